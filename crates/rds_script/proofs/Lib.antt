@@ -2,7 +2,8 @@ pub mod Numbers
 pub mod Commands
 pub mod ReadRecords
 pub mod Changes
-pub mod Lately
+pub mod Stretches
+pub mod AiringLines
 pub mod NotShown
 pub mod Receptions
 pub mod SecondReading

@@ -6,11 +6,12 @@ use Rattle.rds_world.specs.Premise.{Premise}
 use Rattle.rds_world.specs.State.{distance}
 use Rattle.rds_receiver.specs.Shown.{ShownView}
 use Rattle.rds_script.proofs.Changes.{changes_same}
-use Rattle.rds_script.proofs.Lately.{compared_alike}
+use Rattle.rds_script.proofs.AiringLines.{compared_alike}
 use Rattle.rds_view_lines.specs.NoChange.{view_of_none}
 use Rattle.rds_world.specs.Slots.{entries, input_of}
 use Rattle.rds_world.specs.StandsAt.{IsViewOfInput, ShowsStill, tuned_to}
 use Rattle.rds_script.specs.Outcomes.{AreOutcomes, IsOutcome, Outcome, answer_lines, compared_lines, lines_of, newest_views, receiver_changes, slot_lines, view_at, whys_at}
+use Rattle.rds_script.specs.Inside.Compared.{HasRoom}
 use Rattle.rds_script.specs.Inside.Player.{AppendsRow, HasWatched, IsBegun, IsRowRefused, Played, PlayerStandsAt}
 use Rattle.rds_script.specs.Inside.Watched.{AreKept, WatchedStandsAt, WereShown, views_kept}
 use Rattle.rds_script.specs.Notes.{first_of, wait_of}
@@ -101,13 +102,15 @@ none_shown config [] [] are none = refl
 none_shown config [] (o ∷ older) are none = absurd are
 none_shown config (e ∷ before) outcomes are none = absurd (omega (arith, ap length none))
 
--- the world that a row begins with: with as many receivers as the rows before have, or the first row asks for
+-- the world that a row begins with: with as many receivers as the rows before have, or the first row asks for, and with
+-- memory for its slot
 pub record IsReady (played : Played) (events : List Event) (outcomes : List Outcome) (asked : ℕ) (w : Watched) : Type 0 where
   pub receivers : ℕ
   pub allowed : IsAllowed played.form receivers
   pub rows : AreRows played.config.premise receivers played.records events
   pub stands : WatchedStandsAt played.config receivers w events
   pub same : AreKept (views_kept w) (newest_views outcomes)
+  pub room : HasRoom w.compared
   pub how : (0 < length played.records) ⊎ (receivers ≡ asked)
 
 pub is_ready : (before : Option Watched) (w : Watched) (played : Played) (asked : ℕ) (events : List Event) (outcomes : List Outcome) → IsAllowed played.form played.receivers → IsAllowed played.form asked
@@ -119,14 +122,16 @@ is_ready None w played asked events outcomes had allowed rows are none begun = r
   rows = none_played played.config.premise played.receivers asked played.records events rows none;
   stands = rw none begun.0;
   same = rw (none_shown played.config events outcomes are none) begun.1;
+  room = begun.2;
   how = inr refl;
 }
 is_ready (Some before) w played asked events outcomes had allowed rows are has begun = record {
   receivers = played.receivers;
   allowed = had;
   rows = rows;
-  stands = rw begun has.1;
-  same = rw begun has.2;
+  stands = begun.0 played.config played.receivers events has.1;
+  same = λ i. ap (λ (views : List ShownView). view_at views i) begun.1 ∙ has.2 i;
+  room = begun.2;
   how = inl (let counted = as_many_rows played.config.premise played.receivers played.records events rows in omega (arith, has.0, counted));
 }
 

@@ -1,11 +1,11 @@
 -- The outcomes of a station's slots, and their output. `sim` writes the reply, the group, and the changes of each
 -- receiver's view, with the reasons if the lines say why a text or a name is not shown any more. For radios with the
--- flag bit alone it also compares the views with what is on air. `encode` writes the reply as a comment, and the group
+-- flag bit alone it also compares the views with what was on air. `encode` writes the reply as a comment, and the group
 -- as a line of a log. This is the project's own format. Lists have the newest first, so the slot of an outcome is the
 -- number of outcomes behind it.
 use Rattle.std.specs.Prelude.{◌≡◌, ◌<◌, ◌++◌, [], ◌∷◌}
 use Rattle.std.specs.Prelude.{ℕ, zero, suc, Bool, true, false, List, Option, Some, None}
-use Rattle.std.specs.Prelude.{codes, decimal, length, slice_index_or}
+use Rattle.std.specs.Prelude.{bytes_eq, codes, decimal, length, slice_index_or}
 use Rattle.rds_block.specs.declared.group.Group.{Group}
 use Rattle.rds_block.specs.Words.{second_word_of}
 use Rattle.rds_world.specs.State.{distance}
@@ -36,12 +36,13 @@ use Rattle.rds_world.specs.StandsAt.{IsViewOfInput, tuned_to}
 use Rattle.rds_io.specs.Digits.{word_digits}
 use Rattle.rds_view_lines.specs.Output.{air_stamp, change, line_of, nothing_shown}
 use Rattle.rds_view_lines.specs.Output.{receiver_stamp, slot_stamp, unless_same}
-use Rattle.rds_view_lines.specs.declared.parts.Parts.{Parts}
-use Rattle.rds_receiver.specs.Run.{is_same}
 use Rattle.rds_world.specs.OnAir.{air_of}
 use Rattle.rds_world.specs.declared.any_receiver.ReceiverKind.{ReceiverKind}
 use Rattle.rds_world.specs.declared.any_receiver.ReceiverKind.TheVariants.{FlagAlone, WithDwell}
-use Rattle.rds_script.specs.OnAir.{parts_lately}
+use Rattle.rds_script.specs.OnAir.{airings}
+use Rattle.rds_script.specs.declared.airing.Airing.{Airing}
+use Rattle.rds_script.specs.declared.airing.Airing.TheVariants.{Mix, Old, OnAir, Replaced}
+use Rattle.rds_script.specs.declared.airing.Airings.{Airings}
 use Rattle.rds_script.specs.declared.form.Form.{Form}
 use Rattle.rds_script.specs.declared.form.Form.TheVariants.{Simulation, Log}
 
@@ -173,38 +174,41 @@ abbrev pub newest_views : List Outcome → List ShownView
 newest_views [] = []
 newest_views (o ∷ older) = o.views
 
--- whether a part that is shown was on air lately
-abbrev pub air_content : Bool → List ℕ
-air_content true = codes " on air"
-air_content false = codes " off air"
+-- the word for what a part is
+abbrev pub airing_word : Airing → List ℕ
+airing_word OnAir = codes " on air"
+airing_word Replaced = codes " replaced"
+airing_word Old = codes " old"
+airing_word Mix = codes " mix"
 
--- the line of a part that came on air or went off it
-abbrev pub part_moved : List ℕ → List ℕ → Bool → Bool → List ℕ
-part_moved stamp part before now = unless_same (is_same before now) (line_of stamp part (air_content now))
+-- the line of a part whose word changed
+abbrev pub airing_change : List ℕ → List ℕ → Airing → Airing → List ℕ
+airing_change stamp part before now =
+    unless_same (bytes_eq (airing_word before) (airing_word now)) (line_of stamp part (airing_word now))
 
-abbrev pub parts_change : List ℕ → Parts → Parts → List ℕ
-parts_change stamp before now =
-    part_moved stamp (codes "text") before.text now.text ++ part_moved stamp (codes "name") before.name now.name
-    ++ part_moved stamp (codes "tag1") before.one now.one ++ part_moved stamp (codes "tag2") before.two now.two
+abbrev pub airings_change : List ℕ → Airings → Airings → List ℕ
+airings_change stamp before now =
+    airing_change stamp (codes "text") before.text now.text ++ airing_change stamp (codes "name") before.name now.name
+    ++ airing_change stamp (codes "tag1") before.one now.one ++ airing_change stamp (codes "tag2") before.two now.two
 
 -- the lines of the first n receivers, by their numbers
-unfoldable pub parts_changes : ℕ → ℕ → (ℕ → Parts) → (ℕ → Parts) → List ℕ
-parts_changes slot zero before now = []
-parts_changes slot (suc i) before now =
-    parts_changes slot i before now ++ parts_change (receiver_stamp slot i) (before i) (now i)
+unfoldable pub airings_changes : ℕ → ℕ → (ℕ → Airings) → (ℕ → Airings) → List ℕ
+airings_changes slot zero before now = []
+airings_changes slot (suc i) before now =
+    airings_changes slot i before now ++ airings_change (receiver_stamp slot i) (before i) (now i)
 
 -- lines that are written for radios with the flag bit alone
 abbrev pub if_alone : ReceiverKind → List ℕ → List ℕ
 if_alone WithDwell lines = []
 if_alone FlagAlone lines = lines
 
--- how n views of a slot compare with what is on air: what changed on air, and which parts of a view came on air or went
--- off it. A part that was on air in one of the last d slots is on air, and so is one that is not shown
+-- how n views of a slot compare with what was on air: what changed on air, and which parts of the views are something
+-- else than before
 abbrev pub air_lines : Config → ℕ → ℕ → Event → List Event → List ShownView → List ShownView → List ℕ
 air_lines config slot n e before shown_before shown =
     change (air_stamp slot) None (air_of config before) (air_of config (e ∷ before))
-    ++ parts_changes slot n (λ i. parts_lately config before (view_at shown_before i))
-    (λ i. parts_lately config (e ∷ before) (view_at shown i))
+    ++ airings_changes slot n (λ i. airings config before (view_at shown_before i))
+    (λ i. airings config (e ∷ before) (view_at shown i))
 
 abbrev pub compared_lines : Config → ℕ → ℕ → Event → List Event → List ShownView → List ShownView → List ℕ
 compared_lines config slot n e before shown_before shown =

@@ -1,86 +1,201 @@
-//! What a station has on air, and what it had in the last slots.
-ghost use Rattle.std.specs.Prelude.{◌≡◌, ◌≤◌, ◌+◌, ◌-◌, ◌++◌, ◌∷◌, [], IfOk, List, None, length};
+//! What a station has on air, and what it had before.
+ghost use Rattle.std.specs.Prelude.{◌≡◌, ◌≤◌, ◌<◌, ◌+◌, ◌++◌, ◌∷◌, [], ℕ, ◌-◌, ◌^◌, IfOk, List, None, OnOk, length, true};
+ghost use Rattle.std.specs.Option.{option_copied};
 ghost use Rattle.rds_receiver.specs.Borrowed.{view_of};
-ghost use Rattle.rds_receiver.specs.Shown.{ShownView};
 ghost use Rattle.rds_view_lines.specs.KeptView.{view_kept};
 ghost use Rattle.rds_view_lines.specs.Output.{air_stamp, change};
 ghost use Rattle.rds_view_lines.specs.declared.change.TheConstants.{SLOT_ROOM};
-ghost use Rattle.rds_world.specs.State.{distance};
+ghost use Rattle.rds_world.specs.Event.{Event};
+ghost use Rattle.rds_world.specs.OnAir.{air_of};
 ghost use Rattle.rds_world.specs.StandsAt.{WhereItStands};
-ghost use Rattle.rds_script.specs.OnAir.{either, parts_among};
-ghost use Rattle.rds_script.specs.Inside.Compared.{AirsStand, AirsStood, airs_kept};
+ghost use Rattle.rds_world.specs.declared.world.Config.{Config};
+ghost use Rattle.rds_script.specs.OnAir.{airings, either, parts_among};
+ghost use Rattle.rds_script.specs.Inside.Compared.{AirsHaveRoom, AirsStand, airs_in, goes_on, newest_of, reached};
 ghost use Rattle.rds_script.specs.declared.watched.TheConstants.{OUTPUT_ROOM};
 
+use crate::airing::Airings;
 use crate::watched::RowLines;
-use circular_buffer::HeapCircularBuffer;
 use rds_receiver::View;
 use rds_view_lines::{KeptView, Parts, Stamp, push_changes, same_parts};
 use rds_world::{Config, World};
 use std::alloc::{AllocError, Global};
-use std::mem;
 
-/// What is on air, and what was on air at the end of each slot before, as far back as the last d slots go.
+/// What was on air in a row of slots.
+#[derive(Drop)]
+struct Stretch {
+    air: KeptView,
+    /// The number of slots after the first one.
+    more: u64,
+}
+
+/// How far back a part of a view is looked for.
+#[derive(Clone, Copy)]
+enum Reach {
+    /// In the last d slots.
+    Lately,
+    /// In the last d slots, and before them as long as the text was the same.
+    Texts,
+    /// In all slots.
+    Ever,
+}
+
+/// What is on air, and what was on air at the end of each slot before.
 #[derive(Drop)]
 pub(crate) struct Airs {
-    newest: KeptView,
-    /// The newest first.
-    earlier: HeapCircularBuffer<KeptView>,
+    /// The spacing d of the station, in slots.
+    spacing: u64,
+    /// The oldest first.
+    stretches: Vec<Stretch>,
 }
 
 impl Airs {
-    /// Begins before the first slot: nothing is on air.
+    /// Begins before the first slot.
     ///
     /// # Errors
     ///
     /// [`AllocError`] if out of memory.
     pub(crate) fn new(alloc: Global, config: &Config) -> Result<Airs, AllocError>
-        ensures { IfOk result (AirsStand config.now []) }
+        ensures stands { IfOk result (AirsStand config.now []) }
+        ensures room { IfOk result AirsHaveRoom }
     {
-        let dwell = usize::from(config.dwell.get());
-        let slots = dwell - 1 + usize::from(config.premise.lateness().get());
+        let dwell = u64::from(config.dwell.get());
         Ok(Airs {
-            newest: KeptView::new(),
-            earlier: HeapCircularBuffer::with_capacity(alloc, slots)?,
+            spacing: dwell + u64::from(config.premise.lateness().get()),
+            stretches: Vec::with_capacity(alloc, 1)?,
         })
+    }
+
+    /// Takes memory for one more slot.
+    ///
+    /// # Errors
+    ///
+    /// [`AllocError`] if out of memory.
+    pub(crate) fn make_room(&mut self) -> Result<(), AllocError>
+        ensures room { OnOk result (AirsHaveRoom self.new) }
+        ensures spacing { self.new.spacing ≡ self.old.spacing }
+        ensures stretches { self.new.stretches.items ≡ self.old.stretches.items }
+    {
+        self.stretches.reserve(1)
     }
 
     /// Takes what is on air after one more slot, and appends a line for each part of it that changed.
     pub(crate) fn step(&mut self, slot: u64, world: &World, lines: &mut RowLines)
-        requires { length lines.old + SLOT_ROOM ≤ OUTPUT_ROOM }
-        ensures stands { WhereItStands world.now (λ config events. AirsStood config events self.old
-            → AirsStand config events self.new) }
-        ensures lines { lines.new
-            ≡ lines.old ++ change (air_stamp slot) None (view_kept self.old.newest) (view_kept self.new.newest) }
+        requires room { AirsHaveRoom self.old }
+        requires lines { length lines.old + SLOT_ROOM ≤ OUTPUT_ROOM }
+        ensures spacing { self.new.spacing ≡ self.old.spacing }
+        ensures airs { WhereItStands world.now (λ config events.
+            airs_in self.new.stretches.items ≡ air_of config events ∷ airs_in self.old.stretches.items) }
+        ensures lines { WhereItStands world.now (λ config events. lines.new ≡ lines.old ++ change (air_stamp slot) None
+            (newest_of (airs_in self.old.stretches.items)) (air_of config events)) }
         ensures room { length lines.new ≤ length lines.old + SLOT_ROOM }
     {
-        let now = KeptView::of(world.on_air());
-        push_changes(
-            Stamp::OnAir(slot),
-            None,
-            self.newest.view(),
-            now.view(),
-            lines,
-        );
-        let old = mem::replace(&mut self.newest, now);
-        self.earlier.push_front(old);
+        let now = world.on_air();
+        push_changes(Stamp::OnAir(slot), None, self.newest(), now, lines);
+        self.push(now);
     }
 
-    /// Returns which parts of a view were on air in one of the last d slots, or show nothing.
-    pub(crate) fn parts_lately(&self, view: View<'_>) -> Parts
-        ensures { result ≡ parts_among (view_of view.entry) (airs_kept self.now) }
+    /// Returns what was on air last.
+    fn newest(&self) -> View<'_>
+        ensures { view_of result ≡ newest_of (airs_in self.now.stretches.items) }
+    {
+        match self.stretches.last() {
+            Some(stretch) => stretch.air.view(),
+            None => View::of(None, None, None),
+        }
+    }
+
+    /// Adds a slot with this on air.
+    fn push(&mut self, now: View<'_>)
+        requires { AirsHaveRoom self.old }
+        ensures spacing { self.new.spacing ≡ self.old.spacing }
+        ensures airs { airs_in self.new.stretches.items ≡ view_of now.entry ∷ airs_in self.old.stretches.items }
+    {
+        let count = self.stretches.len();
+        if count > 0 && self.stretches[count - 1].goes_on(now) {
+            self.stretches[count - 1].more += 1;
+            return;
+        }
+        self.stretches
+            .push(Stretch {
+                air: KeptView::of(now),
+                more: 0,
+            })
+            .unwrap();
+    }
+
+    /// Returns for each part of a view whether it was on air.
+    pub(crate) fn airings_of(&self, view: View<'_>) -> Airings
+        ensures { (config : Config) (events : List Event) → AirsStand config events self.now
+            → result ≡ airings config events (view_of view.entry) }
     {
         let nothing = KeptView::new();
-        let mut found = either(
+        let lately = either(
             same_parts(view, nothing.view()),
-            same_parts(view, self.newest.view()),
+            self.parts_back(Reach::Lately, view),
         );
-        for i in 0..self.earlier.len() {
-            if let Some(air) = self.earlier.get(i) {
-                found = either(found, same_parts(view, air.view()));
+        if lately.text && lately.name && lately.one && lately.two {
+            return Airings::by(lately, lately, lately);
+        }
+        let for_text = self.parts_back(Reach::Texts, view);
+        let ever = self.parts_back(Reach::Ever, view);
+        Airings::by(lately, for_text, ever)
+    }
+
+    /// Returns which parts of a view were on air, as far back as this reaches.
+    fn parts_back(&self, reach: Reach, view: View<'_>) -> Parts
+        ensures { result ≡ parts_among (view_of view.entry)
+            (reached reach self.now.spacing None (airs_in self.now.stretches.items)) }
+    {
+        let mut found = Parts::default();
+        let mut left = self.spacing;
+        let mut text = None;
+        for i in 0..self.stretches.len() {
+            let stretch = &self.stretches[self.stretches.len() - 1 - i];
+            let air = stretch.air.view();
+            if left == 0 && !reach.goes_on(text, air.text) {
+                return found;
             }
+            found = either(found, same_parts(view, air));
+            left = left.saturating_sub(1).saturating_sub(stretch.more);
+            text = air.text;
         }
         found
     }
+}
+
+impl Stretch {
+    /// Returns whether the next slot with this on air belongs to the stretch.
+    fn goes_on(&self, now: View<'_>) -> bool
+        ensures same { result ≡ true → view_of now.entry ≡ view_kept self.now.air }
+        ensures count { result ≡ true → self.now.more < 2 ^ 64 - 1 }
+    {
+        is_same(self.air.view(), now) && self.more < u64::MAX
+    }
+}
+
+impl Reach {
+    /// Returns whether a search goes on, past the last d slots, from what was on air with this text to what was on air
+    /// before it.
+    fn goes_on(self, text: Option<&[u8]>, before: Option<&[u8]>) -> bool
+        ensures { result ≡ goes_on self (option_copied text.entry) (option_copied before.entry) }
+    {
+        match self {
+            Reach::Lately => false,
+            Reach::Texts => text == before,
+            Reach::Ever => true,
+        }
+    }
+}
+
+/// Returns whether both views show the same.
+fn is_same(view: View<'_>, other: View<'_>) -> bool
+    ensures { result ≡ true → view_of view.entry ≡ view_of other.entry }
+{
+    let same = same_parts(view, other);
+    if same.text && same.name && same.one && same.two {
+        return view.item == other.item;
+    }
+    false
 }
 
 /// Returns yes for each part for which one of these has a yes.

@@ -1,6 +1,5 @@
-//! Which parts of the views of radios with the flag bit alone were on air.
-ghost use Rattle.std.specs.Prelude.{◌≡◌, ◌≤◌, ◌<◌, ◌+◌, ◌*◌, ◌++◌, [], ℕ, IfOk, List, length, map};
-ghost use Rattle.rds_receiver.specs.Run.{is_same};
+//! Whether what radios with the flag bit alone show was on air.
+ghost use Rattle.std.specs.Prelude.{◌≡◌, ◌≤◌, ◌<◌, ◌+◌, ◌*◌, ◌++◌, [], ℕ, IfOk, List, OnErr, OnOk, length, map};
 ghost use Rattle.rds_receiver.specs.Shown.{ShownView};
 ghost use Rattle.rds_view_lines.specs.KeptView.{view_kept};
 ghost use Rattle.rds_view_lines.specs.Output.{line_of, nothing_shown as none_shown, unless_same};
@@ -8,30 +7,34 @@ ghost use Rattle.rds_view_lines.specs.Part.{stamp_of};
 ghost use Rattle.rds_view_lines.specs.declared.change.TheConstants.{SLOT_ROOM};
 ghost use Rattle.rds_world.specs.StandsAt.{WhereItStands};
 ghost use Rattle.rds_world.specs.declared.event.TheConstants.{MOST_RECEIVERS};
-ghost use Rattle.rds_script.specs.Inside.Compared.{AirsStand, Compares, GoesOnCompared, IsCompared, all_parts, airs_kept, parts_at};
-ghost use Rattle.rds_script.specs.OnAir.{parts_among};
-ghost use Rattle.rds_script.specs.Outcomes.{air_content, part_moved, parts_change, parts_changes, view_at};
-ghost use Rattle.rds_script.specs.declared.compared.TheConstants.{COMPARED_ROOM, PARTS_ROOM};
+ghost use Rattle.rds_world.specs.Event.{Event};
+ghost use Rattle.rds_world.specs.declared.any_receiver.ReceiverKind.TheVariants.{FlagAlone};
+ghost use Rattle.rds_world.specs.declared.world.Config.{Config};
+ghost use Rattle.rds_script.specs.Inside.Compared.{AirsHaveRoom, AirsStand, Compares, GoesOnCompared, HasRoom, IsCompared, airings_at, all_on_air};
+ghost use Rattle.rds_script.specs.OnAir.{airings};
+ghost use Rattle.rds_script.specs.Outcomes.{airing_change, airing_word, airings_change, airings_changes, view_at};
+ghost use Rattle.rds_script.specs.declared.compared.TheConstants.{AIRINGS_ROOM, COMPARED_ROOM};
 ghost use Rattle.rds_script.specs.declared.watched.TheConstants.{OUTPUT_ROOM};
 
+use crate::airing::{Airing, Airings};
 use crate::airs::Airs;
 use crate::watched::RowLines;
 use arrayvec::ArrayVec;
-use rds_view_lines::{KeptView, Parts, SLOT_ROOM, Stamp};
+use rds_view_lines::{KeptView, SLOT_ROOM, Stamp};
 use rds_world::{Config, MOST_RECEIVERS, ReceiverKind, World};
 use std::alloc::{AllocError, Global};
 
-/// The most bytes of the lines that say which parts of a view are on air: one line for each of four parts.
-const PARTS_ROOM: usize = 240;
+/// The most bytes of the lines that say what the parts of a view are: one line for each of four parts.
+const AIRINGS_ROOM: usize = 240;
 
 /// The most bytes of the lines of a slot.
-pub(crate) const COMPARED_ROOM: usize = SLOT_ROOM + MOST_RECEIVERS * PARTS_ROOM;
+pub(crate) const COMPARED_ROOM: usize = SLOT_ROOM + MOST_RECEIVERS * AIRINGS_ROOM;
 
-/// What was on air in the last d slots, and for each receiver which parts of its view were.
+/// What was on air, and for each receiver whether the parts of its view were.
 #[derive(Drop)]
 pub(crate) struct Compared {
     airs: Airs,
-    lately: ArrayVec<Parts, MOST_RECEIVERS>,
+    airings: ArrayVec<Airings, MOST_RECEIVERS>,
 }
 
 impl Compared {
@@ -42,25 +45,29 @@ impl Compared {
     /// [`AllocError`] if out of memory.
     fn new(alloc: Global, config: &Config, receivers: usize) -> Result<Compared, AllocError>
         requires few { receivers ≤ MOST_RECEIVERS }
-        ensures count { IfOk result (λ c. length c.lately.items ≡ receivers) }
+        ensures count { IfOk result (λ c. length c.airings.items ≡ receivers) }
         ensures airs { IfOk result (λ c. AirsStand config.now [] c.airs) }
-        ensures each { IfOk result (λ c. (i : ℕ) → parts_at c.lately.items i ≡ all_parts) }
+        ensures each { IfOk result (λ c. (i : ℕ) → airings_at c.airings.items i ≡ all_on_air) }
+        ensures room { IfOk result (λ c. AirsHaveRoom c.airs) }
     {
         Ok(Compared {
             airs: Airs::new(alloc, config)?,
-            lately: nothing_shown(receivers),
+            airings: nothing_shown(receivers),
         })
     }
 
-    /// Goes on by one slot: appends what changed on air, and which parts of the views came on air or went off it.
+    /// Goes on by one slot: appends what changed on air, and which parts of the views are something else than before.
+    // Cold path.
+    #[inline(never)]
     fn push(&mut self, slot: u64, world: &World, shown: &[KeptView], lines: &mut RowLines)
         requires few { length shown.now ≤ MOST_RECEIVERS }
+        requires memory { AirsHaveRoom self.old.airs }
         requires room { length lines.old + COMPARED_ROOM ≤ OUTPUT_ROOM }
         ensures goes_on { WhereItStands world.now (λ config events. GoesOnCompared config slot events
             (map view_kept shown.now) self.old self.new lines.old lines.new) }
     {
         self.airs.step(slot, world, lines);
-        push_lately(slot, &self.airs, shown, self.lately.as_mut_slice(), lines);
+        push_airings(slot, &self.airs, shown, self.airings.as_mut_slice(), lines);
     }
 }
 
@@ -75,12 +82,31 @@ pub(crate) fn new_compared(
     receivers: usize,
 ) -> Result<Option<Compared>, AllocError>
     requires few { receivers ≤ MOST_RECEIVERS }
-    ensures { IfOk result (λ o. (views : List ShownView) → ((i : ℕ) → view_at views i ≡ none_shown)
+    ensures stands { IfOk result (λ o. (views : List ShownView) → ((i : ℕ) → view_at views i ≡ none_shown)
         → IsCompared config.now receivers [] views o) }
+    ensures room { IfOk result HasRoom }
 {
     match config.kind {
         ReceiverKind::WithDwell => Ok(None),
         ReceiverKind::FlagAlone => Ok(Some(Compared::new(alloc, config, receivers)?)),
+    }
+}
+
+/// Takes memory for one more slot if something is compared.
+///
+/// # Errors
+///
+/// [`AllocError`] if out of memory: only for radios with the flag bit alone.
+pub(crate) fn make_room(compared: &mut Option<Compared>) -> Result<(), AllocError>
+    ensures room { OnOk result (HasRoom compared.new) }
+    ensures stands { (config : Config) (n : ℕ) (events : List Event) (views : List ShownView)
+        → IsCompared config n events views compared.old → IsCompared config n events views compared.new }
+    ensures alone { OnErr result ((config : Config) (n : ℕ) (events : List Event) (views : List ShownView)
+        → IsCompared config n events views compared.old → config.kind ≡ FlagAlone) }
+{
+    match compared {
+        Some(compared) => compared.airs.make_room(),
+        None => Ok(()),
     }
 }
 
@@ -93,6 +119,7 @@ pub(crate) fn compare(
     lines: &mut RowLines,
 )
     requires few { length shown.now ≤ MOST_RECEIVERS }
+    requires memory { HasRoom compared.old }
     requires room { length lines.old + COMPARED_ROOM ≤ OUTPUT_ROOM }
     ensures { WhereItStands world.now (λ config events. Compares config slot events
         (map view_kept shown.now) compared.old compared.new lines.old lines.new) }
@@ -102,55 +129,56 @@ pub(crate) fn compare(
     }
 }
 
-/// Returns the parts of this many views that show nothing.
-fn nothing_shown(receivers: usize) -> ArrayVec<Parts, MOST_RECEIVERS>
+/// Returns what the parts of this many views are that show nothing: on air.
+fn nothing_shown(receivers: usize) -> ArrayVec<Airings, MOST_RECEIVERS>
     requires { receivers ≤ MOST_RECEIVERS }
     ensures count { length result.items ≡ receivers }
-    ensures each { (i : ℕ) → parts_at result.items i ≡ all_parts }
+    ensures each { (i : ℕ) → airings_at result.items i ≡ all_on_air }
 {
     let mut all = ArrayVec::new();
     for _ in 0..receivers {
-        all.push(Parts {
-            text: true,
-            name: true,
-            one: true,
-            two: true,
+        all.push(Airings {
+            text: Airing::OnAir,
+            name: Airing::OnAir,
+            one: Airing::OnAir,
+            two: Airing::OnAir,
         });
     }
     all
 }
 
-/// Finds for each view which parts were on air lately, and appends what changed of that.
-fn push_lately(
+/// Finds for each view whether its parts were on air, and appends what changed of that.
+fn push_airings(
     slot: u64,
     airs: &Airs,
     shown: &[KeptView],
-    lately: &mut [Parts],
+    kept: &mut [Airings],
     lines: &mut RowLines,
 )
     requires few { length shown.now ≤ MOST_RECEIVERS }
-    requires room { length lines.old + MOST_RECEIVERS * PARTS_ROOM ≤ OUTPUT_ROOM }
-    ensures lines { length lately.old ≡ length shown.now → lines.new ≡ lines.old
-        ++ parts_changes slot (length shown.now) (parts_at lately.old) (parts_at lately.new) }
-    ensures each { length lately.old ≡ length shown.now → (i : ℕ) → i < length shown.now
-        → parts_at lately.new i ≡ parts_among (view_at (map view_kept shown.now) i) (airs_kept airs.now) }
-    ensures count { length lately.new ≡ length lately.old }
+    requires room { length lines.old + MOST_RECEIVERS * AIRINGS_ROOM ≤ OUTPUT_ROOM }
+    ensures lines { length kept.old ≡ length shown.now → lines.new ≡ lines.old
+        ++ airings_changes slot (length shown.now) (airings_at kept.old) (airings_at kept.new) }
+    ensures each { length kept.old ≡ length shown.now → (config : Config) (events : List Event)
+        → AirsStand config events airs.now → (i : ℕ) → i < length shown.now
+        → airings_at kept.new i ≡ airings config events (view_at (map view_kept shown.now) i) }
+    ensures count { length kept.new ≡ length kept.old }
 {
     for i in 0..shown.len() {
-        if i >= lately.len() {
+        if i >= kept.len() {
             return;
         }
-        let now = airs.parts_lately(shown[i].view());
-        push_parts(Stamp::Receiver(slot, i), lately[i], now, lines);
-        lately[i] = now;
+        let now = airs.airings_of(shown[i].view());
+        push_changed(Stamp::Receiver(slot, i), kept[i], now, lines);
+        kept[i] = now;
     }
 }
 
-/// Appends a line for each part that came on air or went off it.
-fn push_parts(stamp: Stamp, before: Parts, now: Parts, lines: &mut RowLines)
-    requires { length lines.old + PARTS_ROOM ≤ OUTPUT_ROOM }
-    ensures lines { lines.new ≡ lines.old ++ parts_change (stamp_of stamp) before now }
-    ensures room { length lines.new ≤ length lines.old + PARTS_ROOM }
+/// Appends a line for each part that is something else than before.
+fn push_changed(stamp: Stamp, before: Airings, now: Airings, lines: &mut RowLines)
+    requires { length lines.old + AIRINGS_ROOM ≤ OUTPUT_ROOM }
+    ensures lines { lines.new ≡ lines.old ++ airings_change (stamp_of stamp) before now }
+    ensures room { length lines.new ≤ length lines.old + AIRINGS_ROOM }
 {
     push_part(stamp, b"text", before.text, now.text, lines);
     push_part(stamp, b"name", before.name, now.name, lines);
@@ -158,18 +186,32 @@ fn push_parts(stamp: Stamp, before: Parts, now: Parts, lines: &mut RowLines)
     push_part(stamp, b"tag2", before.two, now.two, lines);
 }
 
-/// Appends a line for a part if it came on air or went off it.
-fn push_part(stamp: Stamp, name: &[u8], before: bool, now: bool, lines: &mut RowLines)
+/// Appends a line for a part if it is something else than before.
+fn push_part(stamp: Stamp, name: &[u8], before: Airing, now: Airing, lines: &mut RowLines)
     requires name { length name.now ≡ 4 }
     requires room { length lines.old + 60 ≤ OUTPUT_ROOM }
-    ensures lines { lines.new ≡ lines.old ++ part_moved (stamp_of stamp) name.now before now }
+    ensures lines { lines.new ≡ lines.old ++ airing_change (stamp_of stamp) name.now before now }
     ensures room { length lines.new ≤ length lines.old + 60 }
 {
-    if before == now {
+    let word = airing_word(now);
+    if airing_word(before) == word {
         return;
     }
     stamp.push(lines);
     lines.push(name);
-    lines.push(if now { b" on air" } else { b" off air" });
+    lines.push(word);
     lines.push(b"\n");
+}
+
+/// Returns the word for what a part is.
+fn airing_word(airing: Airing) -> &'static [u8]
+    ensures word { result.now ≡ airing_word airing }
+    ensures short { length result.now ≤ 10 }
+{
+    match airing {
+        Airing::OnAir => b" on air",
+        Airing::Replaced => b" replaced",
+        Airing::Old => b" old",
+        Airing::Mix => b" mix",
+    }
 }

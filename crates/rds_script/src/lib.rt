@@ -2,9 +2,10 @@
 //!
 //! The model of a script is the list of its records. They are rows, and rows write one output (`ScriptWrites`). Only
 //! `simulate` and `encode` write; the other functions turn bytes into rows, and rows into output. Memory is taken for a
-//! record and for the world.
+//! record, for the world, and for what was on air.
 #![tactic(auto)]
 
+mod airing;
 mod airs;
 mod answer_lines;
 mod compared;

@@ -31,8 +31,8 @@ pub const MOST_RECORDS: u64 = 1 << 32;
 ///
 /// # Errors
 ///
-/// The first fault: a record that is not a row, a failed read or write, no memory for the world or for a record, or
-/// 2^32 records, whether or not the script ends there.
+/// The first fault: a record that is not a row, a failed read or write, no memory for the world, for a record or for what
+/// was on air, or 2^32 records, whether or not the script ends there.
 pub fn simulate<R: TellingRead + Drop, W: TellingWrite>(
     alloc: Global,
     reader: R,

@@ -31,7 +31,7 @@ pub(crate) struct Player {
 }
 
 impl Player {
-    ghost use Rattle.rds_script.specs.Inside.Player.{IsBegun, IsRowRefused, PlayerStandsAt};
+    ghost use Rattle.rds_script.specs.Inside.Player.{IsBegun, IsFirstOrAlone, IsRowRefused, PlayerStandsAt};
     ghost use Rattle.rds_script.specs.Inside.Player.{AppendsRow, WherePlayerStands, nothing_played};
 
     /// Starts before the first row, without a world.
@@ -95,18 +95,18 @@ impl Player {
         }
     }
 
-    /// Makes the world with this many receivers, if there is none yet.
+    /// Makes the world with this many receivers if there is none yet, and takes memory for one more slot.
     fn begin(&mut self, receivers: usize) -> Result<(), RowRefused>
         requires few { receivers ≤ MOST_RECEIVERS }
         ensures begins { OnOk result ((w : Watched) × (self.new ≡ record self.old { watched = Some w })
             × IsBegun self.old.config receivers self.old.watched w) }
-        ensures memory { IfErr result (λ why. (why ≡ refused.Memory) × (self.old.watched ≡ None)) }
-        ensures kept { OnErr result (self.new ≡ self.old) }
+        ensures memory { IfErr result (λ why. (why ≡ refused.Memory) × IsFirstOrAlone self.old.watched) }
+        ensures kept { OnErr result (self.new.wait ≡ self.old.wait) }
     {
-        if self.watched.is_some() {
-            return Ok(());
+        match &mut self.watched {
+            Some(watched) => watched.make_room(),
+            None => self.make_world(receivers),
         }
-        self.make_world(receivers)
     }
 
     /// Makes the world of the first row.

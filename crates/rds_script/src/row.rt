@@ -44,7 +44,7 @@ pub(crate) enum Verb {
 pub(crate) enum RowRefused {
     /// It is not a row, for this cause.
     NoRow(RowCause),
-    /// There is no memory for the world.
+    /// There is no memory for the world, or for what was on air.
     Memory,
 }
 

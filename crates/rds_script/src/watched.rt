@@ -8,7 +8,9 @@ ghost use Rattle.rds_world.specs.State.{distance};
 ghost use Rattle.rds_world.specs.Slots.{entries, input_of};
 ghost use Rattle.rds_world.specs.Replies.{CanBeTaken, IsStepRefused, reply_at};
 ghost use Rattle.rds_world.specs.StandsAt.{HasHeard, IsViewOfInput, WhereItStands, tuned_to};
+ghost use Rattle.rds_world.specs.declared.any_receiver.ReceiverKind.TheVariants.{FlagAlone};
 ghost use Rattle.rds_view_lines.specs.KeptView.{view_kept};
+ghost use Rattle.rds_script.specs.Inside.Compared.{HasRoom};
 ghost use Rattle.rds_script.specs.Inside.Watched.{AreKept, WereShown};
 ghost use Rattle.rds_script.specs.Notes.{first_of, wait_of};
 ghost use Rattle.rds_script.specs.Outcomes.{IsOutcome, Outcome, compared_lines, receiver_changes, slot_lines, view_at, whys_after, whys_at, whys_said};
@@ -17,7 +19,7 @@ ghost use Rattle.rds_script.specs.declared.watched.TheConstants.{OUTPUT_ROOM, RO
 ghost use Rattle.rds_view_lines.specs.declared.change.TheConstants.{SLOT_ROOM};
 
 use crate::answer_lines::{ANSWER_ROOM, push_answer};
-use crate::compared::{COMPARED_ROOM, Compared, compare, new_compared};
+use crate::compared::{COMPARED_ROOM, Compared, compare, make_room, new_compared};
 use crate::form::Form;
 use crate::notes::{EarlySet, note_wait};
 use crate::row::RowRefused;
@@ -29,7 +31,7 @@ use rds_world::{AnyReceiver, Config, MOST_RECEIVERS, Reception, SlotEvent, StepR
 use std::alloc::Global;
 
 /// The most bytes of the output of a row: the reply, the group, the changes at each receiver, and how the views compare
-/// with what is on air.
+/// with what was on air.
 pub(crate) const ROW_ROOM: usize = MOST_RECEIVERS * SLOT_ROOM + ANSWER_ROOM + COMPARED_ROOM;
 
 /// The most bytes of output that wait to be written.
@@ -39,7 +41,7 @@ pub(crate) const OUTPUT_ROOM: usize = 65536;
 pub(crate) type RowLines = Lines<OUTPUT_ROOM>;
 
 /// A world, and the view of each of its receivers at the end of the last slot. The views of radios with the flag bit alone
-/// are compared with what is on air.
+/// are compared with what was on air.
 #[derive(Drop)]
 pub(crate) struct Watched {
     world: World,
@@ -59,6 +61,7 @@ impl Watched {
         requires few { receivers ≤ MOST_RECEIVERS }
         ensures stands { IfOk result (λ w. WatchedStandsAt config receivers w []) }
         ensures nothing { IfOk result (λ w. AreKept (views_kept w) []) }
+        ensures room { IfOk result (λ w. HasRoom w.compared) }
         ensures memory { IfErr result (λ why. why ≡ refused.Memory) }
     {
         let Ok(compared) = new_compared(alloc, &config, receivers) else {
@@ -74,6 +77,26 @@ impl Watched {
         }
     }
 
+    /// Takes memory for one more slot.
+    ///
+    /// # Errors
+    ///
+    /// `Memory`: only for radios with the flag bit alone.
+    #[inline(always)]
+    pub(crate) fn make_room(&mut self) -> Result<(), RowRefused>
+        ensures room { OnOk result (HasRoom self.new.compared) }
+        ensures stands { WhereWatchedStands self.old (λ config receivers events.
+            WatchedStandsAt config receivers self.new events) }
+        ensures views { views_kept self.new ≡ views_kept self.old }
+        ensures memory { IfErr result (λ why. (why ≡ refused.Memory)
+            × WhereWatchedStands self.old (λ config _ _. config.kind ≡ FlagAlone)) }
+    {
+        match make_room(&mut self.compared) {
+            Ok(()) => Ok(()),
+            Err(_) => Err(RowRefused::Memory),
+        }
+    }
+
     /// Plays the slot of an event, and appends its lines. Notes the first thing that was set too early.
     pub(crate) fn play(
         &mut self,
@@ -83,6 +106,7 @@ impl Watched {
         lines: &mut RowLines,
         wait: &mut Option<EarlySet>,
     ) -> Result<(), StepRefused>
+        requires memory { HasRoom self.old.compared }
         requires room { length lines.old + ROW_ROOM ≤ OUTPUT_ROOM }
         ensures stands { WhereWatchedStands self.old (λ config receivers events.
             OnOk result (WatchedStandsAt config receivers self.new (event.now ∷ events))) }

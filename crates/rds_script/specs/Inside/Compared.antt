@@ -1,48 +1,71 @@
--- What is kept to compare views with what was on air. Lists have the newest first.
-use Rattle.std.specs.Prelude.{◌≡◌, ◌<◌, ◌-◌, ◌∷◌, ◌++◌, ℕ, [], List, Option, None, Some}
-use Rattle.std.specs.Prelude.{length, map, slice_index_or, take, true}
+-- What is kept to compare views with what was on air. Lists have the newest first, except the stretches, which have the
+-- oldest first.
+use Rattle.std.specs.Prelude.{◌≡◌, ◌<◌, ◌∷◌, ◌++◌, ℕ, zero, suc, [], Bool, true, false, List, Option, None, Some}
+use Rattle.std.specs.Prelude.{if◌then◌else◌, length, replicate, slice_index_or, vec_capacity, vec_len}
 use Rattle.rds_receiver.specs.Shown.{ShownView}
 use Rattle.rds_view_lines.specs.KeptView.{view_kept}
-use Rattle.rds_view_lines.specs.Output.{nothing_shown}
-use Rattle.rds_view_lines.specs.declared.parts.Parts.{Parts}
+use Rattle.rds_view_lines.specs.Output.{is_same_text, nothing_shown}
 use Rattle.rds_world.specs.Event.{Event}
 use Rattle.rds_world.specs.OnAir.{air_of}
 use Rattle.rds_world.specs.State.{distance}
 use Rattle.rds_world.specs.declared.any_receiver.ReceiverKind.TheVariants.{FlagAlone, WithDwell}
 use Rattle.rds_world.specs.declared.world.Config.{Config}
-use Rattle.rds_script.specs.OnAir.{airs_before, parts_lately}
+use Rattle.rds_script.specs.OnAir.{airings, airs}
 use Rattle.rds_script.specs.Outcomes.{air_lines, compared_lines, view_at}
+use Rattle.rds_script.specs.declared.airing.Airing.TheVariants.{OnAir}
+use Rattle.rds_script.specs.declared.airing.Airings.{Airings}
 use Rattle.rds_script.specs.declared.airs.Airs.{Airs}
+use Rattle.rds_script.specs.declared.airs.Reach.{Reach}
+use Rattle.rds_script.specs.declared.airs.Reach.TheVariants.{Ever, Lately, Texts}
+use Rattle.rds_script.specs.declared.airs.Stretch.{Stretch}
 use Rattle.rds_script.specs.declared.compared.Compared.{Compared}
 
--- what is kept is what is on air at the end of these slots, and what was before, for d - 1 slots
+-- what was on air in each slot of these stretches
+abbrev pub airs_in : List Stretch → List ShownView
+airs_in [] = []
+airs_in (stretch ∷ later) = airs_in later ++ view_kept stretch.air ∷ replicate stretch.more (view_kept stretch.air)
+
+-- what was on air last
+abbrev pub newest_of : List ShownView → ShownView
+newest_of [] = nothing_shown
+newest_of (air ∷ older) = air
+
+-- what is kept is what was on air in these slots
 pub record AirsStand (config : Config) (events : List Event) (a : Airs) : Type 0 where
-  pub newest : view_kept a.newest ≡ air_of config events
-  pub earlier : map view_kept a.earlier.items ≡ take (distance config - 1) (airs_before config events)
-  pub room : a.earlier.capacity ≡ distance config - 1
+  pub airs : airs_in a.stretches.items ≡ airs config events
+  pub spacing : a.spacing ≡ distance config
+  pub some : 0 < a.spacing
 
--- what is kept is so before the newest slot
-abbrev pub AirsStood : Config → List Event → Airs → Type 0
-AirsStood config [] a = ⊥
-AirsStood config (e ∷ before) a = AirsStand config before a
+-- there is memory for one more slot
+abbrev pub AirsHaveRoom : Airs → Type 0
+AirsHaveRoom a = vec_len a.stretches < vec_capacity a.stretches
 
--- nothing, and all that is kept
-abbrev pub airs_kept : Airs → List ShownView
-airs_kept a = nothing_shown ∷ view_kept a.newest ∷ map view_kept a.earlier.items
+-- whether a search goes on from what was on air with this text to what was on air before it
+abbrev pub goes_on : Reach → Option (List ℕ) → Option (List ℕ) → Bool
+goes_on Lately text before = false
+goes_on Texts text before = is_same_text text before
+goes_on Ever text before = true
 
--- a yes for each part
-abbrev pub all_parts : Parts
-all_parts = record { text = true; name = true; one = true; two = true }
+-- what a search sees: what was on air in the last n slots, and then what it goes on to
+abbrev pub reached : Reach → ℕ → Option (List ℕ) → List ShownView → List ShownView
+reached reach n text [] = []
+reached reach (suc n) text (air ∷ older) = air ∷ reached reach n air.text older
+reached reach zero text (air ∷ older) =
+    if goes_on reach text air.text then air ∷ reached reach zero air.text older else []
 
-abbrev pub parts_at : List Parts → ℕ → Parts
-parts_at list i = slice_index_or list i all_parts
+-- each part is on air
+abbrev pub all_on_air : Airings
+all_on_air = record { text = OnAir; name = OnAir; one = OnAir; two = OnAir }
+
+abbrev pub airings_at : List Airings → ℕ → Airings
+airings_at list i = slice_index_or list i all_on_air
 
 -- what is kept after these slots, for this many receivers with these views
 pub record ComparedStands (config : Config) (n : ℕ) (events : List Event) (views : List ShownView)
     (c : Compared) : Type 0 where
   pub airs : AirsStand config events c.airs
-  pub count : length c.lately.items ≡ n
-  pub each : (i : ℕ) → i < n → parts_at c.lately.items i ≡ parts_lately config events (view_at views i)
+  pub count : length c.airings.items ≡ n
+  pub each : (i : ℕ) → i < n → airings_at c.airings.items i ≡ airings config events (view_at views i)
 
 -- what is kept goes on by the newest of these slots, after which the receivers have these views: the lines of the slot
 -- are appended
@@ -57,6 +80,11 @@ GoesOnCompared config slot (e ∷ before) shown old new lines after =
 abbrev pub IsCompared : Config → ℕ → List Event → List ShownView → Option Compared → Type 0
 IsCompared config n events views None = config.kind ≡ WithDwell
 IsCompared config n events views (Some c) = (config.kind ≡ FlagAlone) × ComparedStands config n events views c
+
+-- there is memory for one more slot, if something is kept
+abbrev pub HasRoom : Option Compared → Type 0
+HasRoom None = Unit {0}
+HasRoom (Some c) = AirsHaveRoom c.airs
 
 -- the same for what may be kept
 abbrev pub Compares : Config → ℕ → List Event → List ShownView → Option Compared → Option Compared → List ℕ → List ℕ

@@ -5,10 +5,12 @@ use Rattle.std.specs.Io.KnownBytes.{Appends}
 use Rattle.csv.specs.Reading.{Ready, default_config, is_flexible, reader_config, reader_state, reader_trim, source_of}
 use Rattle.csv.specs.declared.reader.Trim.TheVariants.{None as untrimmed}
 use Rattle.rds_io.specs.Told.{IsCalm, Traffic}
+use Rattle.rds_world.specs.declared.any_receiver.ReceiverKind.TheVariants.{FlagAlone}
 use Rattle.rds_world.specs.declared.world.Config.{Config}
 use Rattle.rds_world.specs.Event.{Event}
 use Rattle.rds_script.specs.Inside.FailureFlag.{asked_bytes}
-use Rattle.rds_script.specs.Inside.Watched.{AreKept, WatchedStandsAt, views_kept}
+use Rattle.rds_script.specs.Inside.Compared.{HasRoom}
+use Rattle.rds_script.specs.Inside.Watched.{AreKept, WatchedStandsAt, WhereWatchedStands, views_kept}
 use Rattle.rds_script.specs.RowCauses.{IsRowCause}
 use Rattle.rds_script.specs.Rows.{AreNoRows, AreRows, IsAllowed, Record}
 use Rattle.rds_script.specs.Outcomes.{AreOutcomes, Outcome, lines_of, newest_views}
@@ -90,18 +92,27 @@ PlaysRow p row lines before = (receivers : ℕ) × PlayerStandsAt p (with_row re
 abbrev pub AppendsRow : Player → Record → List ℕ → List ℕ → Played → Type 0
 AppendsRow p row old new before = (lines : List ℕ) × (new ≡ old ++ lines) × PlaysRow p row lines before
 
--- the world that is watched if there was this one or none
+-- the world that is watched if there was this one or none: it stands and shows what it did, and has memory for one more
+-- slot
 abbrev pub IsBegun : Config → ℕ → Option Watched → Watched → Type 0
-IsBegun config receivers None w = WatchedStandsAt config receivers w [] × AreKept (views_kept w) []
-IsBegun config receivers (Some before) w = w ≡ before
+IsBegun config receivers None w =
+    WatchedStandsAt config receivers w [] × AreKept (views_kept w) [] × HasRoom w.compared
+IsBegun config receivers (Some before) w =
+    WhereWatchedStands before (λ c n events. WatchedStandsAt c n w events) × (views_kept w ≡ views_kept before)
+    × HasRoom w.compared
 
--- the reason why a record is not played after these: they are not all rows, for this cause; or it is the first, and
--- there is no memory for a world
+-- there was no world, or its receivers are radios with the flag bit alone
+abbrev pub IsFirstOrAlone : Option Watched → Type 0
+IsFirstOrAlone None = Unit {0}
+IsFirstOrAlone (Some before) = WhereWatchedStands before (λ config n events. config.kind ≡ FlagAlone)
+
+-- the reason why a record is not played after these: they are not all rows, for this cause; or there is no memory: for a
+-- world, if it is the first, or for what was on air, if the receivers are radios with the flag bit alone
 abbrev pub IsRowRefused : Played → Record → RowRefused → Type 0
 IsRowRefused played row (NoRow cause) =
     AreNoRows played.config.premise played.form (row ∷ played.records)
     × IsRowCause played.form played.config.premise played.records row cause
-IsRowRefused played row refused.Memory = length played.records ≡ 0
+IsRowRefused played row refused.Memory = (length played.records ≡ 0) ⊎ (played.config.kind ≡ FlagAlone)
 
 -- after the records that were played, this one, which is number n, is not a row, and its cause is noted
 pub record IsBadRecord (known : Option (List ℕ)) (played : Played) (row : Record) (number n : ℕ)

@@ -3,16 +3,17 @@ use Rattle.std.proofs.lemmas.List.{length-map, take_at}
 use Rattle.arrayvec.specs.ArrayVec.{with_items}
 use Rattle.rds_receiver.specs.Shown.{ShownView}
 use Rattle.rds_view_lines.specs.KeptView.{view_kept}
-use Rattle.rds_view_lines.specs.Output.{air_stamp, change, nothing_shown}
-use Rattle.rds_view_lines.specs.declared.parts.Parts.{Parts}
+use Rattle.rds_view_lines.specs.Output.{air_stamp, change}
 use Rattle.rds_world.specs.Event.{Event}
 use Rattle.rds_world.specs.OnAir.{air_of}
 use Rattle.rds_world.specs.StandsAt.{StandsAt}
 use Rattle.rds_world.specs.declared.world.Config.{Config}
-use Rattle.rds_script.specs.Inside.Compared.{GoesOnCompared, airs_kept, parts_at}
-use Rattle.rds_script.specs.OnAir.{last_airs, parts_among, parts_lately}
-use Rattle.rds_script.specs.Outcomes.{parts_changes, view_at}
-use Rattle.rds_script.proofs.Lately.{parts_alike}
+use Rattle.rds_script.specs.Inside.Compared.{AirsStand, GoesOnCompared, airings_at, newest_of}
+use Rattle.rds_script.specs.OnAir.{airings}
+use Rattle.rds_script.specs.Outcomes.{airings_changes, view_at}
+use Rattle.rds_script.specs.declared.airing.Airings.{Airings}
+use Rattle.rds_script.proofs.Stretches.{newest_air}
+use Rattle.rds_script.proofs.AiringLines.{airings_alike}
 use Rattle.rds_script.proofs.compared.Compared.push.Goals as goal
 
 pub returns : goal.returns
@@ -20,35 +21,38 @@ returns c = record { goes_on = by }
   where
     by : (config : Config) (events : List Event) → StandsAt config c.args.world.now events
         → GoesOnCompared config c.args.slot events (map view_kept c.args.shown.now) c.args.self.now
-        record { airs = c.step.new.self; lately = with_items c.args.self.now.lately c.push_lately.new.lately } c.args.lines.now c.push_lately.new.lines
+        record { airs = c.step.new.self; airings = with_items c.args.self.now.airings c.push_airings.new.kept } c.args.lines.now c.push_airings.new.lines
     by config [] st = tt
     by config (e ∷ before) st = λ views old.
         let slot = c.args.slot in
         let shown = map view_kept c.args.shown.now in
-        let lately = c.args.self.now.lately.items in
-        let new = c.push_lately.new.lately in
+        let had = c.args.self.now.airings.items in
+        let new = c.push_airings.new.kept in
         let value = c.as_mut_slice.ensures.value in
         let long : length shown ≡ length c.args.shown.now = length-map c.args.shown.now view_kept in
         let as_many : length c.as_mut_slice.result.now ≡ length c.args.shown.now = ap length value ∙ old.count ∙ long in
-        let airs = c.step.ensures.stands config (e ∷ before) st old.airs in
-        let kept : airs_kept c.step.new.self ≡ nothing_shown ∷ last_airs config (e ∷ before) =
-        ap₂ (λ (v : ShownView) (vs : List ShownView). nothing_shown ∷ v ∷ vs) airs.newest airs.earlier in
-        let each : (i : ℕ) → i < length shown → parts_at new i ≡ parts_lately config (e ∷ before) (view_at shown i) =
-        λ i below. c.push_lately.ensures.each as_many i (omega (arith, below, long)) ∙ ap (parts_among (view_at shown i)) kept in
-        let was : (i : ℕ) → i < length shown → parts_at c.as_mut_slice.result.now i ≡ parts_lately config before (view_at views i) =
-        λ i below. ap (λ (l : List Parts). parts_at l i) value ∙ old.each i below in
-        let count : length new ≡ length lately = c.push_lately.ensures.count ∙ ap length value in
-        let back = take_at new (drop (length new) lately) (length lately) count in
+        let airs : AirsStand config (e ∷ before) c.step.new.self = record {
+          airs = c.step.ensures.airs config (e ∷ before) st ∙ ap (λ (l : List ShownView). air_of config (e ∷ before) ∷ l) old.airs.airs;
+          spacing = c.step.ensures.spacing ∙ old.airs.spacing;
+          some = let same = c.step.ensures.spacing in let some = old.airs.some in omega (arith, same, some);
+        } in
+        let each : (i : ℕ) → i < length shown → airings_at new i ≡ airings config (e ∷ before) (view_at shown i) =
+        λ i below. c.push_airings.ensures.each as_many config (e ∷ before) airs i (omega (arith, below, long)) in
+        let was : (i : ℕ) → i < length shown → airings_at c.as_mut_slice.result.now i ≡ airings config before (view_at views i) =
+        λ i below. ap (λ (l : List Airings). airings_at l i) value ∙ old.each i below in
+        let count : length new ≡ length had = c.push_airings.ensures.count ∙ ap length value in
+        let back = take_at new (drop (length new) had) (length had) count in
         let air : c.step.new.lines ≡ c.args.lines.now ++ change (air_stamp slot) None (air_of config before) (air_of config (e ∷ before)) =
-        c.step.ensures.lines ∙ ap₂ (λ (v w : ShownView). c.args.lines.now ++ change (air_stamp slot) None v w) old.airs.newest airs.newest in
-        let parts : parts_changes slot (length c.args.shown.now) (parts_at c.as_mut_slice.result.now) (parts_at new)
-        ≡ parts_changes slot (length shown) (λ i. parts_lately config before (view_at views i)) (λ i. parts_lately config (e ∷ before) (view_at shown i)) =
-        ap (λ (n : ℕ). parts_changes slot n (parts_at c.as_mut_slice.result.now) (parts_at new)) (sym long)
-        ∙ parts_alike slot (length shown) _ _ _ _ was each in (
+        c.step.ensures.lines config (e ∷ before) st
+        ∙ ap (λ (v : ShownView). c.args.lines.now ++ change (air_stamp slot) None v (air_of config (e ∷ before))) (ap newest_of old.airs.airs ∙ newest_air config before) in
+        let parts : airings_changes slot (length c.args.shown.now) (airings_at c.as_mut_slice.result.now) (airings_at new)
+        ≡ airings_changes slot (length shown) (λ i. airings config before (view_at views i)) (λ i. airings config (e ∷ before) (view_at shown i)) =
+        ap (λ (n : ℕ). airings_changes slot n (airings_at c.as_mut_slice.result.now) (airings_at new)) (sym long)
+        ∙ airings_alike slot (length shown) _ _ _ _ was each in (
           record {
             airs = airs;
             count = ap length back ∙ count ∙ old.count;
-            each = λ i below. ap (λ (l : List Parts). parts_at l i) back ∙ each i below;
+            each = λ i below. ap (λ (l : List Airings). airings_at l i) back ∙ each i below;
           },
-          c.push_lately.ensures.lines as_many ∙ ap₂ (λ (x y : List ℕ). x ++ y) air parts ∙ append_assoc c.args.lines.now _ _,
+          c.push_airings.ensures.lines as_many ∙ ap₂ (λ (x y : List ℕ). x ++ y) air parts ∙ append_assoc c.args.lines.now _ _,
         )

@@ -1,16 +1,19 @@
-use Rattle.std.proofs.Common.{◌≡◌, ◌⊎◌, ◌<◌, ◌∙◌, ◌+◌, ℕ, None, Option, ap, arith, inr, length, refl, rules, subst, sym}
+use Rattle.std.proofs.Common.{◌≡◌, ◌⊎◌, ◌<◌, ◌∙◌, ◌+◌, ℕ, List, None, Option, Some, ap, arith, inl, inr, length, refl, rules, subst, sym}
 use Rattle.std.proofs.lemmas.Result.{err_from_is_err_and}
 use Rattle.csv.specs.Records.{fields_of}
 use Rattle.std.specs.Prelude.{OnOk}
+use Rattle.rds_world.specs.Event.{Event}
 use Rattle.rds_world.specs.Replies.{reply_at}
 use Rattle.rds_world.specs.Slots.{entries}
 use Rattle.rds_world.specs.State.{distance}
+use Rattle.rds_world.specs.declared.any_receiver.ReceiverKind.TheVariants.{FlagAlone}
 use Rattle.rds_world.specs.declared.reply.Reply.{Reply}
 use Rattle.rds_world.specs.declared.world.Config.{Config}
 use Rattle.rds_script.specs.Notes.{first_of, wait_of}
 use Rattle.rds_script.specs.declared.notes.EarlySet.{EarlySet}
-use Rattle.rds_script.specs.Inside.Player.{HasWatched}
+use Rattle.rds_script.specs.Inside.Player.{HasWatched, IsFirstOrAlone, Played}
 use Rattle.rds_script.specs.Inside.Watched.{WatchedStandsAt, views_kept}
+use Rattle.rds_script.specs.Outcomes.{Outcome}
 use Rattle.rds_script.specs.Rows.{IsAllowed}
 use Rattle.rds_script.specs.declared.player.Player.{Player}
 use Rattle.rds_script.specs.declared.watched.Watched.{Watched}
@@ -33,13 +36,18 @@ returns-then-not-allows-clause-refused c played s =
     let (log, some) = not_allowed played.form (length c.read_event.new.event.receptions) (omega (arith, asked, c.len-receivers.ensures.fits)) none in
     (names_receivers played.config.premise played.form (fields_of c.args.row.now) played.records c.read_event.new.event says none, inr (inr (log, c.read_event.new.event, says, asked, omega (arith, some, asked))))
 
+-- there is no memory: for a world, or for what was on air
+no_memory : (played : Played) (events : List Event) (outcomes : List Outcome) (watched : Option Watched) → length played.records ≡ length events
+    → HasWatched played.config played.receivers watched events outcomes → IsFirstOrAlone watched → (length played.records ≡ 0) ⊎ (played.config.kind ≡ FlagAlone)
+no_memory played events outcomes None counted none first = inl (omega (arith, counted, ap length none))
+no_memory played events outcomes (Some w) counted has alone = inr (alone played.config played.receivers events has.1)
+
 pub returns-in_err-begin-clause-refused : goal.returns-in_err-begin-clause-refused
 returns-in_err-begin-clause-refused c played s =
     let memory = c.in_err-begin.ensures.memory in
-    let none : HasWatched played.config played.receivers None s.events s.outcomes = subst (λ (w : Option Watched). HasWatched played.config played.receivers w s.events s.outcomes) memory.1 s.watched in
     let counted : length played.records ≡ length s.events = as_many_rows played.config.premise played.receivers played.records s.events s.rows in
     let p = err_from_is_err_and c.from_residual.result c.from_residual.ensures.1 in
-    rw (p.1, p.2, memory.0) (omega (arith, counted, ap length none))
+    rw (p.1, p.2, memory.0) (no_memory played s.events s.outcomes c.args.self.now.watched counted s.watched memory.1)
 
 pub returns-in-Ok-clause-stands : goal.returns-in-Ok-clause-stands
 returns-in-Ok-clause-stands c played s =

@@ -1,0 +1,232 @@
+-- What was on air, by stretches of slots, and how far back a search sees it.
+use Rattle.std.proofs.Common.{◌≡◌, ◌∙◌, ◌∷◌, ◌++◌, ◌+◌, ◌-◌, ◌<◌, ◌||◌, [], ℕ, zero, suc, Bool, true, false, List, None, Option, Some, ap, ap₂, append_assoc, append-nil, arith, drop, get_or, length, refl, replicate, set, subst, sym, take}
+use Rattle.std.specs.List.{prefix_len}
+use Rattle.std.specs.Prelude.{◌==◌, bytes_eq, take_while}
+use Rattle.std.proofs.lemmas.Bool.{and_parts, eqb-true}
+use Rattle.std.proofs.lemmas.List.{take_all, take_more}
+use Rattle.std.proofs.lemmas.Slice.Eq.{bytes_eq-Decides}
+use Rattle.rds_receiver.specs.Run.{is_same}
+use Rattle.rds_receiver.specs.Shown.{ShownView}
+use Rattle.rds_view_lines.specs.KeptView.{view_kept}
+use Rattle.rds_view_lines.specs.Output.{is_same_item, is_same_tag, is_same_text, nothing_shown}
+use Rattle.rds_view_lines.specs.Part.{same_parts}
+use Rattle.rds_view_lines.specs.declared.parts.Parts.{Parts}
+use Rattle.rds_script.specs.Inside.Compared.{AirsStand, airs_in, goes_on, newest_of, reached}
+use Rattle.rds_world.specs.Event.{Event}
+use Rattle.rds_world.specs.OnAir.{air_of}
+use Rattle.rds_world.specs.declared.world.Config.{Config}
+use Rattle.rds_world.specs.State.{distance}
+use Rattle.rds_script.specs.OnAir.{airings_by, airs, back_to_their_texts, either, newest_text, parts_among}
+use Rattle.rds_script.specs.declared.airs.Airs.{Airs}
+use Rattle.rds_script.specs.declared.airs.Reach.{Reach}
+use Rattle.rds_script.specs.declared.airs.Reach.TheVariants.{Ever, Lately, Texts}
+use Rattle.rds_script.specs.declared.airs.Stretch.{Stretch}
+
+-- a text is the same as itself, and as no other
+same_text : (text : Option (List ℕ)) → is_same_text text text ≡ true
+same_text None = refl
+same_text (Some x) = (bytes_eq-Decides x x).1 refl
+
+one_text : (text other : Option (List ℕ)) → is_same_text text other ≡ true → text ≡ other
+one_text None None same = refl
+one_text None (Some y) same = cc
+one_text (Some x) None same = cc
+one_text (Some x) (Some y) same = ap Some ((bytes_eq-Decides x y).0 same)
+
+one_tag : (tag other : Option (ℕ × List ℕ)) → is_same_tag tag other ≡ true → tag ≡ other
+one_tag None None same = refl
+one_tag None (Some y) same = cc
+one_tag (Some x) None same = cc
+one_tag (Some (n, x)) (Some (m, y)) same =
+    let both = and_parts (n == m) (bytes_eq x y) same in
+    ap₂ (λ (k : ℕ) (z : List ℕ). Some (k, z)) (eqb-true n m both.0) ((bytes_eq-Decides x y).0 both.1)
+
+one_item : (item other : Option (Bool × Bool)) → is_same_item item other ≡ true → item ≡ other
+one_item None None same = refl
+one_item None (Some y) same = cc
+one_item (Some x) None same = cc
+one_item (Some (a, b)) (Some (c, d)) same = let both = and_parts (is_same a c) (is_same b d) same in ap₂ (λ (x y : Bool). Some (x, y)) (one_bit a c both.0) (one_bit b d both.1)
+  where
+    one_bit : (a b : Bool) → is_same a b ≡ true → a ≡ b
+    one_bit true true same = refl
+    one_bit true false same = cc
+    one_bit false true same = cc
+    one_bit false false same = refl
+
+pub one_view : (view other : ShownView) (parts : Parts) → parts ≡ same_parts view other → parts.text ≡ true → parts.name ≡ true → parts.one ≡ true → parts.two ≡ true → is_same_item view.item other.item ≡ true → view ≡ other
+one_view view other parts is text name one two item =
+    let same : same_parts view other ≡ parts = sym is in
+    λ i. record {
+      text = one_text view.text other.text (ap (λ (p : Parts). p.text) same ∙ text) i;
+      name = one_text view.name other.name (ap (λ (p : Parts). p.name) same ∙ name) i;
+      item = one_item view.item other.item item i;
+      one = one_tag view.one other.one (ap (λ (p : Parts). p.one) same ∙ one) i;
+      two = one_tag view.two other.two (ap (λ (p : Parts). p.two) same ∙ two) i;
+    }
+
+-- yes for each part for which one of them has a yes
+or_false : (b : Bool) → b || false ≡ b
+or_false true = refl
+or_false false = refl
+
+or_assoc : (a b c : Bool) → a || (b || c) ≡ (a || b) || c
+or_assoc true b c = refl
+or_assoc false b c = refl
+
+or_again : (a b : Bool) → a || (a || b) ≡ a || b
+or_again true b = refl
+or_again false b = refl
+
+pub either_none : (view : ShownView) (p : Parts) → either p (parts_among view []) ≡ p
+either_none view p = λ i. record { text = or_false p.text i; name = or_false p.name i; one = or_false p.one i; two = or_false p.two i }
+
+pub either_assoc : (p q r : Parts) → either p (either q r) ≡ either (either p q) r
+either_assoc p q r = λ i. record {
+  text = or_assoc p.text q.text r.text i;
+  name = or_assoc p.name q.name r.name i;
+  one = or_assoc p.one q.one r.one i;
+  two = or_assoc p.two q.two r.two i;
+}
+
+either_again : (p q : Parts) → either p (either p q) ≡ either p q
+either_again p q = λ i. record {
+  text = or_again p.text q.text i;
+  name = or_again p.name q.name i;
+  one = or_again p.one q.one i;
+  two = or_again p.two q.two i;
+}
+
+-- past the last slots a search for what was on air lately sees nothing
+lately_ends : (text : Option (List ℕ)) (all : List ShownView) → reached Lately 0 text all ≡ []
+lately_ends text [] = refl
+lately_ends text (air ∷ older) = refl
+
+-- a search sees all slots of a stretch, or the last of them, which show the same
+more_of_stretch : (reach : Reach) (view air : ShownView) (n more : ℕ) (older : List ShownView)
+    → parts_among view (air ∷ reached reach n air.text (replicate more air ++ older)) ≡ parts_among view (air ∷ reached reach (n - more) air.text older)
+more_of_stretch reach view air n zero older = let same : n ≡ n - 0 = omega arith in ap (λ (m : ℕ). parts_among view (air ∷ reached reach m air.text older)) same
+more_of_stretch reach view air (suc n) (suc more) older =
+    let same : n - more ≡ suc n - suc more = omega arith in
+    either_again (same_parts view air) (parts_among view (reached reach n air.text (replicate more air ++ older)))
+    ∙ more_of_stretch reach view air n more older
+    ∙ ap (λ (m : ℕ). parts_among view (air ∷ reached reach m air.text older)) same
+more_of_stretch Lately view air zero (suc more) older =
+    let none : 0 ≡ 0 - suc more = omega arith in
+    ap (λ (l : List ShownView). parts_among view (air ∷ l)) (sym (lately_ends air.text older) ∙ ap (λ (m : ℕ). reached Lately m air.text older) none)
+more_of_stretch Texts view air zero (suc more) older = rw (same_text air.text)
+    (let none : 0 - more ≡ 0 - suc more = omega arith in
+    either_again (same_parts view air) (parts_among view (reached Texts 0 air.text (replicate more air ++ older)))
+    ∙ more_of_stretch Texts view air 0 more older
+    ∙ ap (λ (m : ℕ). parts_among view (air ∷ reached Texts m air.text older)) none)
+more_of_stretch Ever view air zero (suc more) older =
+    let none : 0 - more ≡ 0 - suc more = omega arith in
+    either_again (same_parts view air) (parts_among view (reached Ever 0 air.text (replicate more air ++ older)))
+    ∙ more_of_stretch Ever view air 0 more older
+    ∙ ap (λ (m : ℕ). parts_among view (air ∷ reached Ever m air.text older)) none
+
+-- a search that sees the last slot of a stretch sees the stretch, and goes on before it
+pub stretch_seen : (reach : Reach) (view air : ShownView) (n more : ℕ) (text : Option (List ℕ)) (older : List ShownView) → (n ≡ 0 → goes_on reach text air.text ≡ true)
+    → parts_among view (reached reach n text ((air ∷ replicate more air) ++ older)) ≡ either (same_parts view air) (parts_among view (reached reach (n - 1 - more) air.text older))
+stretch_seen reach view air zero more text older on = rw (on refl)
+    (let none : 0 - more ≡ 0 - 1 - more = omega arith in
+    more_of_stretch reach view air 0 more older ∙ ap (λ (m : ℕ). parts_among view (air ∷ reached reach m air.text older)) none)
+stretch_seen reach view air (suc n) more text older on =
+    let less : n - more ≡ suc n - 1 - more = omega arith in
+    more_of_stretch reach view air n more older ∙ ap (λ (m : ℕ). parts_among view (air ∷ reached reach m air.text older)) less
+
+-- one that does not go on sees nothing more
+pub none_seen : (reach : Reach) (view air : ShownView) (text : Option (List ℕ)) (older : List ShownView) → goes_on reach text air.text ≡ false → parts_among view (reached reach 0 text (air ∷ older)) ≡ parts_among view []
+none_seen reach view air text older ends = rw ends refl
+
+-- what each search sees
+pub seen_lately : (n : ℕ) (text : Option (List ℕ)) (all : List ShownView) → reached Lately n text all ≡ take n all
+seen_lately zero text [] = refl
+seen_lately zero text (air ∷ older) = refl
+seen_lately (suc n) text [] = refl
+seen_lately (suc n) text (air ∷ older) = ap (λ (l : List ShownView). air ∷ l) (seen_lately n air.text older)
+
+pub seen_ever : (n : ℕ) (text : Option (List ℕ)) (all : List ShownView) → reached Ever n text all ≡ all
+seen_ever n text [] = refl
+seen_ever zero text (air ∷ older) = ap (λ (l : List ShownView). air ∷ l) (seen_ever 0 air.text older)
+seen_ever (suc n) text (air ∷ older) = ap (λ (l : List ShownView). air ∷ l) (seen_ever n air.text older)
+
+abbrev has_text : Option (List ℕ) → ShownView → Bool
+has_text text air = is_same_text text air.text
+
+seen_of_text : (text : Option (List ℕ)) (all : List ShownView) → reached Texts 0 text all ≡ take_while (has_text text) all
+seen_of_text text [] = refl
+seen_of_text text (air ∷ older) = by (is_same_text text air.text) refl (seen_of_text air.text older)
+  where
+    by : (b : Bool) → is_same_text text air.text ≡ b → reached Texts 0 air.text older ≡ take_while (has_text air.text) older → reached Texts 0 text (air ∷ older) ≡ take_while (has_text text) (air ∷ older)
+    by true is more =
+        let k = prefix_len (has_text text) older in
+        let on : suc k ≡ 1 + k = omega arith in
+        rw is (ap (λ (l : List ShownView). air ∷ l) (more ∙ ap (λ (t : Option (List ℕ)). take_while (has_text t) older) (sym (one_text text air.text is))) ∙ ap (λ (n : ℕ). take n (air ∷ older)) on)
+    by false is more = rw is refl
+
+texts_seen : (n : ℕ) (text : Option (List ℕ)) (all : List ShownView) → reached Texts (suc n) text all ≡ take (suc n) all ++ take_while (has_text (newest_text (drop n all))) (drop (suc n) all)
+texts_seen zero text [] = refl
+texts_seen (suc n) text [] = refl
+texts_seen zero text (air ∷ older) = ap (λ (l : List ShownView). air ∷ l) (seen_of_text air.text older)
+texts_seen (suc n) text (air ∷ older) = ap (λ (l : List ShownView). air ∷ l) (texts_seen n air.text older)
+
+pub seen_for_texts : (n : ℕ) (text : Option (List ℕ)) (all : List ShownView) → 0 < n → reached Texts n text all ≡ back_to_their_texts n all
+seen_for_texts zero text all some = absurd (omega (arith, some))
+seen_for_texts (suc n) text all some =
+    let same : n ≡ suc n - 1 = omega arith in
+    texts_seen n text all ∙ ap (λ (m : ℕ). take (suc n) all ++ take_while (has_text (newest_text (drop m all))) (drop (suc n) all)) same
+
+-- one stretch more
+pub airs_of_more : (items : List Stretch) (s : Stretch) → airs_in (items ++ s ∷ []) ≡ (view_kept s.air ∷ replicate s.more (view_kept s.air)) ++ airs_in items
+airs_of_more [] s = sym (append-nil (view_kept s.air ∷ replicate s.more (view_kept s.air)))
+airs_of_more (t ∷ items) s =
+    let own = view_kept t.air ∷ replicate t.more (view_kept t.air) in
+    ap (λ (l : List ShownView). l ++ own) (airs_of_more items s) ∙ append_assoc (view_kept s.air ∷ replicate s.more (view_kept s.air)) (airs_in items) own
+
+-- the last of some stretches
+pub airs_to : (items : List Stretch) (i : ℕ) (d : Stretch) → i < length items
+    → airs_in (take (i + 1) items) ≡ (view_kept (get_or items i d).air ∷ replicate (get_or items i d).more (view_kept (get_or items i d).air)) ++ airs_in (take i items)
+airs_to items i d within = ap airs_in (take_more items i d within) ∙ airs_of_more (take i items) (get_or items i d)
+
+pub newest_is : (items : List Stretch) (i : ℕ) (d : Stretch) → i + 1 ≡ length items → newest_of (airs_in items) ≡ view_kept (get_or items i d).air
+newest_is items i d last =
+    ap (λ (l : List Stretch). newest_of (airs_in l)) (sym (take_all (i + 1) items (omega (arith, last)))) ∙ ap newest_of (airs_to items i d (omega (arith, last)))
+
+-- the last stretch is one slot longer
+pub longer : (items : List Stretch) (i : ℕ) (d s : Stretch) → i + 1 ≡ length items → view_kept s.air ≡ view_kept (get_or items i d).air → s.more ≡ (get_or items i d).more + 1
+    → airs_in (set items i s) ≡ view_kept (get_or items i d).air ∷ airs_in items
+longer [] i d s last same more = absurd (omega (arith, last))
+longer (t ∷ []) zero d s last same more =
+    ap (λ (v : ShownView). v ∷ replicate s.more v) same ∙ ap (λ (n : ℕ). view_kept t.air ∷ replicate n (view_kept t.air)) (more ∙ (let one : t.more + 1 ≡ suc t.more = omega arith in one))
+longer (t ∷ u ∷ items) zero d s last same more = absurd (omega (arith, last))
+longer (t ∷ []) (suc i) d s last same more = absurd (omega (arith, last))
+longer (t ∷ u ∷ items) (suc i) d s last same more =
+    ap (λ (l : List ShownView). l ++ view_kept t.air ∷ replicate t.more (view_kept t.air)) (longer (u ∷ items) i d s (omega (arith, last)) same more)
+
+-- what was on air last is what is on air
+pub newest_air : (config : Config) (events : List Event) → newest_of (airs config events) ≡ air_of config events
+newest_air config [] = refl
+newest_air config (e ∷ before) = refl
+
+-- what was on air in the last slots, for a text of them, and ever
+lately_is : (view : ShownView) (config : Config) (events : List Event) (a : Airs) → AirsStand config events a
+    → parts_among view (reached Lately a.spacing None (airs_in a.stretches.items)) ≡ parts_among view (take (distance config) (airs config events))
+lately_is view config events a stand =
+    ap (parts_among view) (seen_lately a.spacing None (airs_in a.stretches.items) ∙ ap₂ (λ (n : ℕ) (l : List ShownView). take n l) stand.spacing stand.airs)
+
+pub lately_found : (view : ShownView) (config : Config) (events : List Event) (a : Airs) (nothing found lately : Parts) → AirsStand config events a → nothing ≡ same_parts view nothing_shown
+    → found ≡ parts_among view (reached Lately a.spacing None (airs_in a.stretches.items)) → lately ≡ either nothing found → lately ≡ parts_among view (nothing_shown ∷ take (distance config) (airs config events))
+lately_found view config events a nothing found lately stand none some both = both ∙ ap₂ (λ (p q : Parts). either p q) none (some ∙ lately_is view config events a stand)
+
+pub for_texts_is : (view : ShownView) (config : Config) (events : List Event) (a : Airs) → AirsStand config events a
+    → parts_among view (reached Texts a.spacing None (airs_in a.stretches.items)) ≡ parts_among view (back_to_their_texts (distance config) (airs config events))
+for_texts_is view config events a stand =
+    ap (parts_among view) (seen_for_texts a.spacing None (airs_in a.stretches.items) stand.some ∙ ap₂ (λ (n : ℕ) (l : List ShownView). back_to_their_texts n l) stand.spacing stand.airs)
+
+pub ever_is : (view : ShownView) (config : Config) (events : List Event) (a : Airs) → AirsStand config events a
+    → parts_among view (reached Ever a.spacing None (airs_in a.stretches.items)) ≡ parts_among view (airs config events)
+ever_is view config events a stand = ap (parts_among view) (seen_ever a.spacing None (airs_in a.stretches.items) ∙ stand.airs)
+
+-- parts that were all on air lately are so whatever was on air before
+pub all_lately : (lately for_text ever : Parts) → lately.text ≡ true → lately.name ≡ true → lately.one ≡ true → lately.two ≡ true → airings_by lately lately lately ≡ airings_by lately for_text ever
+all_lately lately for_text ever text name one two = rw (text, name, one, two) refl
