@@ -12,3 +12,4 @@ pub mod Playing
 pub mod Plays
 pub mod OneOutcome
 pub mod OneScript
+mod WorkedRows
