@@ -1,14 +1,19 @@
 -- The lines that say what the parts of views are, receiver by receiver.
-use Rattle.std.proofs.Common.{◌≡◌, ◌∙◌, ◌∷◌, ◌++◌, ◌+◌, ◌<◌, add-one, ℕ, zero, suc, List, None, ap, ap₂, append_assoc, append-nil, arith, refl, sym}
+use Rattle.std.proofs.Common.{◌≡◌, ◌∙◌, ◌∷◌, ◌++◌, ◌+◌, ◌<◌, [], add-one, ℕ, zero, suc, List, None, Some, ap, ap₂, append_assoc, append-nil, arith, refl, sym}
 use Rattle.rds_receiver.specs.Shown.{ShownView}
 use Rattle.rds_view_lines.specs.Output.{air_stamp, change, receiver_stamp}
 use Rattle.rds_world.specs.Event.{Event}
 use Rattle.rds_world.specs.OnAir.{air_of}
 use Rattle.rds_world.specs.declared.world.Config.{Config}
+use Rattle.rds_world.specs.Slots.{input_of}
+use Rattle.rds_world.specs.StandsAt.{ShowsStill}
+use Rattle.rds_world.specs.State.{distance}
+use Rattle.rds_script.specs.Inside.Compared.{WereBefore, WereKept, airings_at}
 use Rattle.rds_script.specs.Inside.Watched.{AreKept}
 use Rattle.rds_script.specs.OnAir.{airings}
 use Rattle.rds_script.specs.Outcomes.{compared_lines, if_alone, airings_change, airings_changes, view_at}
 use Rattle.rds_script.specs.declared.airing.Airings.{Airings}
+use Rattle.rds_script.proofs.OneOutcome.{same_view_of_input}
 
 -- the lines depend on the parts of these receivers alone
 pub airings_alike : (slot n : ℕ) (f g h k : ℕ → Airings) → ((i : ℕ) → i < n → f i ≡ g i) → ((i : ℕ) → i < n → h i ≡ k i) → airings_changes slot n f h ≡ airings_changes slot n g k
@@ -41,3 +46,15 @@ compared_alike config slot other n e before kept older shown at same =
     ∙ ap (λ (l : List ℕ). if_alone config.kind (change (air_stamp other) None (air_of config before) (air_of config (e ∷ before)) ++ l))
     (airings_alike other n (λ i. airings config before (view_at kept i)) (λ i. airings config before (view_at older i)) (λ i. airings config (e ∷ before) (view_at shown i)) (λ i. airings config (e ∷ before) (view_at shown i))
     (λ i l. ap (λ (v : ShownView). airings config before v) (same i)) (λ i l. refl))
+
+-- what the parts of a view were before, if that is not known, and if the view stays
+pub none_before : (config : Config) (events : List Event) (view : ShownView) → WereBefore config events view None
+none_before config [] view = tt
+none_before config (e ∷ before) view = tt
+
+pub still_before : (config : Config) (n i : ℕ) (events : List Event) (shown : List ShownView) (kept : List Airings) → ShowsStill config i events → WereKept config n events kept shown → i < n
+    → WereBefore config events (view_at shown i) (Some (airings_at kept i))
+still_before config n i [] shown kept still were within = absurd were
+still_before config n i (e ∷ before) shown kept still (views, had, have, are) within =
+    let input = input_of (distance config) i (e ∷ before) in
+    are i within ∙ ap (airings config before) (same_view_of_input config input (view_at views i) (view_at shown i) (still (view_at views i) (had i within)) (have i within))

@@ -38,7 +38,7 @@ same_sent one head (Some m) (Some g) None other p q = absurd q
 same_sent one head (Some m) (Some g) (Some h) other p q = ap Some (one m head g h (λ e. other (ap Some e)) p q)
 
 -- an input has one view, whichever groups spell it
-same_view_of_input : (config : Config) (input : Input) (v w : ShownView) → IsViewOfInput config input v → IsViewOfInput config input w → v ≡ w
+pub same_view_of_input : (config : Config) (input : Input) (v w : ShownView) → IsViewOfInput config input v → IsViewOfInput config input w → v ≡ w
 same_view_of_input config input v w p q =
     let (heard, are, shows) = q.is in
     let other : heard ≡ input.heard = same_heard config.head.pi q.groups heard input.heard are q.spelled in

@@ -3,7 +3,7 @@ use Rattle.std.proofs.Common.{◌≡◌, ◌∙◌, ◌∷◌, ◌++◌, ◌+◌
 use Rattle.std.specs.List.{prefix_len}
 use Rattle.std.specs.Prelude.{◌==◌, bytes_eq, take_while}
 use Rattle.std.proofs.lemmas.Bool.{and_parts, eqb-true}
-use Rattle.std.proofs.lemmas.List.{take_all, take_more}
+use Rattle.std.proofs.lemmas.List.{take-append-drop, take_all, take_more}
 use Rattle.std.proofs.lemmas.Slice.Eq.{bytes_eq-Decides}
 use Rattle.rds_receiver.specs.Run.{is_same}
 use Rattle.rds_receiver.specs.Shown.{ShownView}
@@ -11,12 +11,13 @@ use Rattle.rds_view_lines.specs.KeptView.{view_kept}
 use Rattle.rds_view_lines.specs.Output.{is_same_item, is_same_tag, is_same_text, nothing_shown}
 use Rattle.rds_view_lines.specs.Part.{same_parts}
 use Rattle.rds_view_lines.specs.declared.parts.Parts.{Parts}
-use Rattle.rds_script.specs.Inside.Compared.{AirsStand, airs_in, goes_on, newest_of, reached}
+use Rattle.rds_script.specs.Inside.Compared.{AirsStand, WereBefore, airs_in, goes_on, newest_of, parts_on_air, reached, was_on_air}
 use Rattle.rds_world.specs.Event.{Event}
 use Rattle.rds_world.specs.OnAir.{air_of}
 use Rattle.rds_world.specs.declared.world.Config.{Config}
 use Rattle.rds_world.specs.State.{distance}
-use Rattle.rds_script.specs.OnAir.{airings_by, airs, back_to_their_texts, either, newest_text, parts_among}
+use Rattle.rds_script.specs.OnAir.{airing_by, airings, airings_among, airings_by, airs, back_to_their_texts, either, newest_text, parts_among}
+use Rattle.rds_script.specs.declared.airing.Airings.{Airings}
 use Rattle.rds_script.specs.declared.airs.Airs.{Airs}
 use Rattle.rds_script.specs.declared.airs.Reach.{Reach}
 use Rattle.rds_script.specs.declared.airs.Reach.TheVariants.{Ever, Lately, Texts}
@@ -226,6 +227,87 @@ for_texts_is view config events a stand =
 pub ever_is : (view : ShownView) (config : Config) (events : List Event) (a : Airs) → AirsStand config events a
     → parts_among view (reached Ever a.spacing None (airs_in a.stretches.items)) ≡ parts_among view (airs config events)
 ever_is view config events a stand = ap (parts_among view) (seen_ever a.spacing None (airs_in a.stretches.items) ∙ stand.airs)
+
+-- what was on air among some slots was on air among all
+among_both : (view : ShownView) (xs ys : List ShownView) → parts_among view (xs ++ ys) ≡ either (parts_among view xs) (parts_among view ys)
+among_both view [] ys = refl
+among_both view (air ∷ xs) ys = ap (either (same_parts view air)) (among_both view xs ys) ∙ either_assoc (same_parts view air) (parts_among view xs) (parts_among view ys)
+
+among_lately : (view : ShownView) (n : ℕ) (all : List ShownView) → parts_among view all ≡ either (parts_among view (take n all)) (parts_among view (drop n all))
+among_lately view n all = ap (parts_among view) (sym (take-append-drop n all)) ∙ among_both view (take n all) (drop n all)
+
+-- this implies that
+abbrev Implies : Bool → Bool → Type 0
+Implies a b = a ≡ true → b ≡ true
+
+not_true : false ≡ true → ⊥
+not_true same = cc
+
+none_implies : (b : Bool) → Implies false b
+none_implies b holds = absurd (not_true holds)
+
+or_left : (a b c : Bool) → c ≡ a || b → Implies a c
+or_left true b c is holds = is
+or_left false b c is holds = absurd (not_true holds)
+
+or_more : (a b c d e : Bool) → d ≡ a || b → c ≡ a || e → Implies b e → Implies d c
+or_more true b c d e is other more holds = other
+or_more false b c d e is other more holds = other ∙ more (sym is ∙ holds)
+
+-- a part of a view that stays: nothing is shown, or it is on air now, or it was before the newest slot
+stays_part : (none here lately for_text ever rest now_for_text : Bool) → Implies lately ever → Implies for_text ever
+    → airing_by (none || (here || rest)) now_for_text (was_on_air (airing_by (none || lately) for_text ever)) ≡ airing_by (none || (here || rest)) now_for_text (here || ever)
+stays_part true here lately for_text ever rest now_for_text p q = refl
+stays_part false true lately for_text ever rest now_for_text p q = refl
+stays_part false false lately for_text ever true now_for_text p q = refl
+stays_part false false lately for_text ever false true p q = refl
+stays_part false false true for_text ever false false p q = ap (airing_by false false) (sym (p refl))
+stays_part false false false true ever false false p q = ap (airing_by false false) (sym (q refl))
+stays_part false false false false true false false p q = refl
+stays_part false false false false false false false p q = refl
+
+-- a view that stays was on air in any slot if it was before the newest one, or is on air now
+pub stays_as : (n : ℕ) (view air : ShownView) (older : List ShownView) → 0 < n
+    → airings_by (parts_among view (nothing_shown ∷ take n (air ∷ older))) (parts_among view (back_to_their_texts n (air ∷ older))) (parts_on_air (airings_among n older view))
+    ≡ airings_among n (air ∷ older) view
+stays_as zero view air older some = absurd (omega (arith, some))
+stays_as (suc m) view air older some =
+    let n = suc m in
+    let now = parts_among view (back_to_their_texts n (air ∷ older)) in
+    let none = same_parts view nothing_shown in
+    let here = same_parts view air in
+    let rest = parts_among view (take m older) in
+    let lately = parts_among view (take n older) in
+    let for_text = parts_among view (back_to_their_texts n older) in
+    let ever = parts_among view older in
+    let run = take_while (λ (a : ShownView). is_same_text (newest_text (drop (n - 1) older)) a.text) (drop n older) in
+    let before = parts_among view (drop n older) in
+    let all : ever ≡ either lately before = among_lately view n older in
+    let texts : for_text ≡ either lately (parts_among view run) = among_both view (take n older) run in
+    let part : before ≡ either (parts_among view run) (parts_among view (drop (prefix_len (λ (a : ShownView). is_same_text (newest_text (drop (n - 1) older)) a.text) (drop n older)) (drop n older))) =
+    among_lately view (prefix_len (λ (a : ShownView). is_same_text (newest_text (drop (n - 1) older)) a.text) (drop n older)) (drop n older) in
+    let lately_one : Implies lately.one ever.one = or_left lately.one before.one ever.one (ap (λ (p : Parts). p.one) all) in
+    let lately_two : Implies lately.two ever.two = or_left lately.two before.two ever.two (ap (λ (p : Parts). p.two) all) in
+    let run_one : Implies (parts_among view run).one before.one = or_left _ _ _ (ap (λ (p : Parts). p.one) part) in
+    let run_two : Implies (parts_among view run).two before.two = or_left _ _ _ (ap (λ (p : Parts). p.two) part) in
+    let text_one : Implies for_text.one ever.one = or_more lately.one (parts_among view run).one ever.one for_text.one before.one (ap (λ (p : Parts). p.one) texts) (ap (λ (p : Parts). p.one) all) run_one in
+    let text_two : Implies for_text.two ever.two = or_more lately.two (parts_among view run).two ever.two for_text.two before.two (ap (λ (p : Parts). p.two) texts) (ap (λ (p : Parts). p.two) all) run_two in
+    λ i. record {
+      text = stays_part none.text here.text lately.text false ever.text rest.text false (or_left lately.text before.text ever.text (ap (λ (p : Parts). p.text) all)) (none_implies ever.text) i;
+      name = stays_part none.name here.name lately.name false ever.name rest.name false (or_left lately.name before.name ever.name (ap (λ (p : Parts). p.name) all)) (none_implies ever.name) i;
+      one = stays_part none.one here.one lately.one for_text.one ever.one rest.one now.one lately_one text_one i;
+      two = stays_part none.two here.two lately.two for_text.two ever.two rest.two now.two lately_two text_two i;
+    }
+
+-- which parts were on air in any slot, if the view stays
+pub ever_before : (view : ShownView) (config : Config) (events : List Event) (a : Airs) (before : Airings) → AirsStand config events a → WereBefore config events view (Some before)
+    → airings_by (parts_among view (nothing_shown ∷ take (distance config) (airs config events))) (parts_among view (back_to_their_texts (distance config) (airs config events))) (parts_on_air before)
+    ≡ airings config events view
+ever_before view config [] a before stand were = absurd were
+ever_before view config (e ∷ older) a before stand were =
+    let some : 0 < distance config = let is = stand.spacing in let some = stand.some in omega (arith, is, some) in
+    ap (λ (x : Airings). airings_by (parts_among view (nothing_shown ∷ take (distance config) (airs config (e ∷ older)))) (parts_among view (back_to_their_texts (distance config) (airs config (e ∷ older)))) (parts_on_air x)) were
+    ∙ stays_as (distance config) view (air_of config (e ∷ older)) (airs config older) some
 
 -- parts that were all on air lately are so whatever was on air before
 pub all_lately : (lately for_text ever : Parts) → lately.text ≡ true → lately.name ≡ true → lately.one ≡ true → lately.two ≡ true → airings_by lately lately lately ≡ airings_by lately for_text ever

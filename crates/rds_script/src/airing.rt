@@ -1,6 +1,7 @@
 //! Whether what a receiver shows was on air.
 ghost use Rattle.std.specs.Prelude.{◌≡◌, Bool, false};
 ghost use Rattle.rds_script.specs.OnAir.{airing_by, airings_by};
+ghost use Rattle.rds_script.specs.Inside.Compared.{parts_on_air, was_on_air};
 
 use rds_view_lines::Parts;
 
@@ -38,6 +39,29 @@ impl Airings {
             name: airing_by(lately.name, false, ever.name),
             one: airing_by(lately.one, for_text.one, ever.one),
             two: airing_by(lately.two, for_text.two, ever.two),
+        }
+    }
+
+    /// Returns which parts were on air in any slot.
+    pub(crate) fn ever(self) -> Parts
+        ensures { result ≡ parts_on_air self }
+    {
+        Parts {
+            text: self.text.was_on_air(),
+            name: self.name.was_on_air(),
+            one: self.one.was_on_air(),
+            two: self.two.was_on_air(),
+        }
+    }
+}
+
+impl Airing {
+    fn was_on_air(self) -> bool
+        ensures { result ≡ was_on_air self }
+    {
+        match self {
+            Airing::OnAir | Airing::Replaced | Airing::Old => true,
+            Airing::Mix => false,
         }
     }
 }

@@ -10,7 +10,7 @@ ghost use Rattle.rds_world.specs.OnAir.{air_of};
 ghost use Rattle.rds_world.specs.StandsAt.{WhereItStands};
 ghost use Rattle.rds_world.specs.declared.world.Config.{Config};
 ghost use Rattle.rds_script.specs.OnAir.{airings, either, parts_among};
-ghost use Rattle.rds_script.specs.Inside.Compared.{AirsHaveRoom, AirsStand, airs_in, goes_on, newest_of, reached};
+ghost use Rattle.rds_script.specs.Inside.Compared.{AirsHaveRoom, AirsStand, WereBefore, airs_in, goes_on, newest_of, reached};
 ghost use Rattle.rds_script.specs.declared.watched.TheConstants.{OUTPUT_ROOM};
 
 use crate::airing::Airings;
@@ -123,9 +123,11 @@ impl Airs {
             .unwrap();
     }
 
-    /// Returns for each part of a view whether it was on air.
-    pub(crate) fn airings_of(&self, view: View<'_>) -> Airings
+    /// Returns for each part of a view whether it was on air. `before` has that for one slot before, if the view was the
+    /// same. Then not all slots are searched.
+    pub(crate) fn airings_of(&self, view: View<'_>, before: Option<Airings>) -> Airings
         ensures { (config : Config) (events : List Event) → AirsStand config events self.now
+            → WereBefore config events (view_of view.entry) before
             → result ≡ airings config events (view_of view.entry) }
     {
         let nothing = KeptView::new();
@@ -137,7 +139,10 @@ impl Airs {
             return Airings::by(lately, lately, lately);
         }
         let for_text = self.parts_back(Reach::Texts, view);
-        let ever = self.parts_back(Reach::Ever, view);
+        let ever = match before {
+            Some(before) => before.ever(),
+            None => self.parts_back(Reach::Ever, view),
+        };
         Airings::by(lately, for_text, ever)
     }
 

@@ -10,7 +10,7 @@ ghost use Rattle.rds_world.specs.declared.event.TheConstants.{MOST_RECEIVERS};
 ghost use Rattle.rds_world.specs.Event.{Event};
 ghost use Rattle.rds_world.specs.declared.any_receiver.ReceiverKind.TheVariants.{FlagAlone};
 ghost use Rattle.rds_world.specs.declared.world.Config.{Config};
-ghost use Rattle.rds_script.specs.Inside.Compared.{AirsHaveRoom, AirsStand, Compares, GoesOnCompared, HasRoom, IsCompared, airings_at, all_on_air};
+ghost use Rattle.rds_script.specs.Inside.Compared.{AirsHaveRoom, AirsStand, Compares, GoesOnCompared, HasRoom, IsCompared, WereKept, airings_at, all_on_air};
 ghost use Rattle.rds_script.specs.OnAir.{airings};
 ghost use Rattle.rds_script.specs.Outcomes.{airing_change, airing_word, airings_change, airings_changes, view_at};
 ghost use Rattle.rds_script.specs.declared.compared.TheConstants.{AIRINGS_ROOM, COMPARED_ROOM};
@@ -67,7 +67,14 @@ impl Compared {
             (map view_kept shown.now) self.old self.new lines.old lines.new) }
     {
         self.airs.step(slot, world, lines);
-        push_airings(slot, &self.airs, shown, self.airings.as_mut_slice(), lines);
+        push_airings(
+            slot,
+            world,
+            &self.airs,
+            shown,
+            self.airings.as_mut_slice(),
+            lines,
+        );
     }
 }
 
@@ -150,6 +157,7 @@ fn nothing_shown(receivers: usize) -> ArrayVec<Airings, MOST_RECEIVERS>
 /// Finds for each view whether its parts were on air, and appends what changed of that.
 fn push_airings(
     slot: u64,
+    world: &World,
     airs: &Airs,
     shown: &[KeptView],
     kept: &mut [Airings],
@@ -159,16 +167,19 @@ fn push_airings(
     requires room { length lines.old + MOST_RECEIVERS * AIRINGS_ROOM ≤ OUTPUT_ROOM }
     ensures lines { length kept.old ≡ length shown.now → lines.new ≡ lines.old
         ++ airings_changes slot (length shown.now) (airings_at kept.old) (airings_at kept.new) }
-    ensures each { length kept.old ≡ length shown.now → (config : Config) (events : List Event)
-        → AirsStand config events airs.now → (i : ℕ) → i < length shown.now
-        → airings_at kept.new i ≡ airings config events (view_at (map view_kept shown.now) i) }
+    ensures each { length kept.old ≡ length shown.now → WhereItStands world.now (λ config events.
+        AirsStand config events airs.now
+        → WereKept config (length shown.now) events kept.old (map view_kept shown.now)
+        → (i : ℕ) → i < length shown.now
+        → airings_at kept.new i ≡ airings config events (view_at (map view_kept shown.now) i)) }
     ensures count { length kept.new ≡ length kept.old }
 {
     for i in 0..shown.len() {
         if i >= kept.len() {
             return;
         }
-        let now = airs.airings_of(shown[i].view());
+        let before = if world.stays(i) { Some(kept[i]) } else { None };
+        let now = airs.airings_of(shown[i].view(), before);
         push_changed(Stamp::Receiver(slot, i), kept[i], now, lines);
         kept[i] = now;
     }

@@ -5,14 +5,18 @@ use Rattle.std.specs.Prelude.{if◌then◌else◌, length, replicate, slice_inde
 use Rattle.rds_receiver.specs.Shown.{ShownView}
 use Rattle.rds_view_lines.specs.KeptView.{view_kept}
 use Rattle.rds_view_lines.specs.Output.{is_same_text, nothing_shown}
+use Rattle.rds_view_lines.specs.declared.parts.Parts.{Parts}
 use Rattle.rds_world.specs.Event.{Event}
 use Rattle.rds_world.specs.OnAir.{air_of}
+use Rattle.rds_world.specs.Slots.{input_of}
+use Rattle.rds_world.specs.StandsAt.{IsViewOfInput}
 use Rattle.rds_world.specs.State.{distance}
 use Rattle.rds_world.specs.declared.any_receiver.ReceiverKind.TheVariants.{FlagAlone, WithDwell}
 use Rattle.rds_world.specs.declared.world.Config.{Config}
 use Rattle.rds_script.specs.OnAir.{airings, airs}
 use Rattle.rds_script.specs.Outcomes.{air_lines, compared_lines, view_at}
-use Rattle.rds_script.specs.declared.airing.Airing.TheVariants.{OnAir}
+use Rattle.rds_script.specs.declared.airing.Airing.{Airing}
+use Rattle.rds_script.specs.declared.airing.Airing.TheVariants.{Mix, Old, OnAir, Replaced}
 use Rattle.rds_script.specs.declared.airing.Airings.{Airings}
 use Rattle.rds_script.specs.declared.airs.Airs.{Airs}
 use Rattle.rds_script.specs.declared.airs.Reach.{Reach}
@@ -53,6 +57,32 @@ reached reach (suc n) text (air ∷ older) = air ∷ reached reach n air.text ol
 reached reach zero text (air ∷ older) =
     if goes_on reach text air.text then air ∷ reached reach zero air.text older else []
 
+-- whether this was on air in any slot
+abbrev pub was_on_air : Airing → Bool
+was_on_air OnAir = true
+was_on_air Replaced = true
+was_on_air Old = true
+was_on_air Mix = false
+
+abbrev pub parts_on_air : Airings → Parts
+parts_on_air a = record {
+  text = was_on_air a.text;
+  name = was_on_air a.name;
+  one = was_on_air a.one;
+  two = was_on_air a.two;
+}
+
+-- this is what the parts of the view were before the newest of these slots, if it is known
+abbrev pub WereBefore : Config → List Event → ShownView → Option Airings → Type 0
+WereBefore config events view None = Unit {0}
+WereBefore config [] view (Some a) = ⊥
+WereBefore config (e ∷ before) view (Some a) = a ≡ airings config before view
+
+-- the views are those of the first n receivers after these slots
+abbrev pub AreShown : Config → ℕ → List Event → List ShownView → Type 0
+AreShown config n events views =
+    (i : ℕ) → i < n → IsViewOfInput config (input_of (distance config) i events) (view_at views i)
+
 -- each part is on air
 abbrev pub all_on_air : Airings
 all_on_air = record { text = OnAir; name = OnAir; one = OnAir; two = OnAir }
@@ -67,12 +97,20 @@ pub record ComparedStands (config : Config) (n : ℕ) (events : List Event) (vie
   pub count : length c.airings.items ≡ n
   pub each : (i : ℕ) → i < n → airings_at c.airings.items i ≡ airings config events (view_at views i)
 
+-- these are the parts of the views of n receivers before the newest of these slots, after which they have these views
+abbrev pub WereKept : Config → ℕ → List Event → List Airings → List ShownView → Type 0
+WereKept config n [] kept shown = ⊥
+WereKept config n (e ∷ before) kept shown =
+    (views : List ShownView) × AreShown config n before views × AreShown config n (e ∷ before) shown
+    × ((i : ℕ) → i < n → airings_at kept i ≡ airings config before (view_at views i))
+
 -- what is kept goes on by the newest of these slots, after which the receivers have these views: the lines of the slot
 -- are appended
 abbrev pub GoesOnCompared : Config → ℕ → List Event → List ShownView → Compared → Compared → List ℕ → List ℕ → Type 0
 GoesOnCompared config slot [] shown old new lines after = Unit {0}
 GoesOnCompared config slot (e ∷ before) shown old new lines after =
-    (views : List ShownView) → ComparedStands config (length shown) before views old
+    (views : List ShownView) → AreShown config (length shown) before views
+    → AreShown config (length shown) (e ∷ before) shown → ComparedStands config (length shown) before views old
     → ComparedStands config (length shown) (e ∷ before) shown new
     × (after ≡ lines ++ air_lines config slot (length shown) e before views shown)
 
@@ -91,6 +129,7 @@ abbrev pub Compares : Config → ℕ → List Event → List ShownView → Optio
     → Type 0
 Compares config slot [] shown old new lines after = Unit {0}
 Compares config slot (e ∷ before) shown old new lines after =
-    (views : List ShownView) → IsCompared config (length shown) before views old
+    (views : List ShownView) → AreShown config (length shown) before views
+    → AreShown config (length shown) (e ∷ before) shown → IsCompared config (length shown) before views old
     → IsCompared config (length shown) (e ∷ before) shown new
     × (after ≡ lines ++ compared_lines config slot (length shown) e before views shown)

@@ -2,12 +2,10 @@
 use Rattle.std.specs.Prelude.{◌≡◌, ◌<◌, ◌∷◌, ℕ, [], List, length, map}
 use Rattle.rds_world.specs.declared.world.Config.{Config}
 use Rattle.rds_world.specs.Event.{Event}
-use Rattle.rds_world.specs.Slots.{input_of}
 use Rattle.rds_world.specs.StandsAt as station
-use Rattle.rds_world.specs.State.{distance}
 use Rattle.rds_receiver.specs.Shown.{ShownView}
 use Rattle.rds_view_lines.specs.KeptView.{view_kept}
-use Rattle.rds_script.specs.Inside.Compared.{IsCompared}
+use Rattle.rds_script.specs.Inside.Compared.{AreShown, IsCompared}
 use Rattle.rds_script.specs.Outcomes.{view_at}
 use Rattle.rds_script.specs.declared.watched.Watched.{Watched}
 
@@ -18,8 +16,7 @@ AreKept kept views = (i : ℕ) → view_at kept i ≡ view_at views i
 -- the views are those of the first n receivers before the newest of these slots
 abbrev pub WereShown : Config → ℕ → List Event → List ShownView → Type 0
 WereShown config n [] views = ⊥
-WereShown config n (e ∷ before) views =
-    (i : ℕ) → i < n → station.IsViewOfInput config (input_of (distance config) i before) (view_at views i)
+WereShown config n (e ∷ before) views = AreShown config n before views
 
 -- the kept view of each receiver
 abbrev pub views_kept : Watched → List ShownView
@@ -30,8 +27,7 @@ pub record WatchedStandsAt (config : Config) (receivers : ℕ) (w : Watched) (ev
   pub world : station.StandsAt config w.world events
   pub count : length w.world.receivers ≡ receivers
   pub kept : length w.shown.items ≡ receivers
-  pub shown : (i : ℕ) → i < receivers
-      → station.IsViewOfInput config (input_of (distance config) i events) (view_at (views_kept w) i)
+  pub shown : AreShown config receivers events (views_kept w)
   pub compared : IsCompared config receivers events (views_kept w) w.compared
 
 -- for each state: this holds of its station, of the number of its receivers and of its slots

@@ -1,25 +1,28 @@
-use Rattle.std.proofs.Common.{◌≡◌, ◌≢◌, ◌<◌, ◌∙◌, ◌++◌, ℕ, List, ap, ap₂, arith, inl, inr, length, map, refl, set, sym, subst}
+use Rattle.std.proofs.Common.{◌≡◌, ◌≢◌, ◌<◌, ◌∙◌, ◌++◌, ℕ, List, Option, Some, ap, ap₂, arith, inl, inr, length, map, refl, set, sym, subst}
 use Rattle.std.proofs.lemmas.Grind.{common_steps, get_or-set_at}
 use Rattle.std.proofs.lemmas.List.{get_or-map, get_or-set_other, get_or_default}
+use Rattle.rds_receiver.specs.Borrowed.{view_of}
 use Rattle.rds_receiver.specs.Shown.{ShownView}
 use Rattle.rds_view_lines.specs.KeptView.{view_kept}
 use Rattle.rds_view_lines.specs.Output.{nothing_shown, receiver_stamp}
 use Rattle.rds_world.specs.Event.{Event}
+use Rattle.rds_world.specs.StandsAt.{StandsAt}
 use Rattle.rds_world.specs.declared.world.Config.{Config}
 use Rattle.rds_script.specs.declared.airing.Airings.{Airings}
-use Rattle.rds_script.specs.Inside.Compared.{AirsStand, airings_at, all_on_air}
+use Rattle.rds_script.specs.Inside.Compared.{AirsStand, WereBefore, WereKept, airings_at, all_on_air}
 use Rattle.rds_script.specs.OnAir.{airings}
 use Rattle.rds_script.specs.Outcomes.{airings_change, view_at}
 use Rattle.rds_script.proofs.Changes.{at_last}
-use Rattle.rds_script.proofs.AiringLines.{next_airings, no_airings}
+use Rattle.rds_script.proofs.AiringLines.{next_airings, no_airings, none_before, still_before}
 use Rattle.rds_script.proofs.compared.push_airings.Goals as goal
+use Rattle.rds_script.proofs.compared.push_airings.Goals.{else-stays, then-stays}
 
 pub loop-i-init : goal.loop-i-init
 loop-i-init c = record {
   count = refl;
   room = omega arith;
   lines = no_airings c.args.slot c.args.lines.now _ _;
-  each = λ config events stand i below. absurd (omega (arith, below));
+  each = λ config events st stand were i below. absurd (omega (arith, below));
   later = λ i l. refl;
 }
 
@@ -33,9 +36,21 @@ loop-i-preserved c =
     let other : (j : ℕ) → j ≢ i → airings_at new j ≡ airings_at old j = λ j ne. get_or-set_other old i j now all_on_air ne in
     let here : airings_at new i ≡ now = get_or-set_at old i i now all_on_air refl within in
     let view = c.view.ensures ∙ ap view_kept c.index-shown-i.is ∙ sym (get_or-map view_kept c.args.shown.now i c.index-shown-i.result nothing_shown (omega (arith, c.loop-i-test.true))) in
-    let shown : (config : Config) (events : List Event) → AirsStand config events c.args.airs.now → now ≡ airings config events (view_at (map view_kept c.args.shown.now) i) =
-    λ config events stand. c.airings_of-now.ensures config events stand ∙ ap (λ (v : ShownView). airings config events v) view in
     let was : airings_at old i ≡ airings_at c.args.kept.now i = c.loop-i.invariant.later i (omega arith) in
+    let kept_before : (config : Config) (events : List Event) → StandsAt config c.args.world.now events → WereKept config (length c.args.shown.now) events c.args.kept.now (map view_kept c.args.shown.now)
+    → WereBefore config events (view_of c.view.result) c.if-stays.before =
+    λ config events st were. elim c.if-stays.branch [
+      | then-stays w ↦ (
+          let at = get_or_default old i _ all_on_air within ∙ was in
+          subst (λ (o : Option Airings). WereBefore config events (view_of c.view.result) o) (sym (w.before-is ∙ ap Some at))
+          (subst (λ (v : ShownView). WereBefore config events v (Some (airings_at c.args.kept.now i))) (sym view)
+          (still_before config (length c.args.shown.now) i events (map view_kept c.args.shown.now) c.args.kept.now (c.stays.ensures w.if-stays.true config events st) were (omega (arith, c.loop-i-test.true))))
+          )
+      | else-stays w ↦ subst (λ (o : Option Airings). WereBefore config events (view_of c.view.result) o) (sym w.before-is) (none_before config events (view_of c.view.result))
+    ] in
+    let shown : (config : Config) (events : List Event) → StandsAt config c.args.world.now events → AirsStand config events c.args.airs.now
+    → WereKept config (length c.args.shown.now) events c.args.kept.now (map view_kept c.args.shown.now) → now ≡ airings config events (view_at (map view_kept c.args.shown.now) i) =
+    λ config events st stand were. c.airings_of-now.ensures config events stand (kept_before config events st were) ∙ ap (λ (v : ShownView). airings config events v) view in
     record {
       count = grind (arith, common_steps);
       room = omega (arith, c.push_changed.ensures.room, c.loop-i.invariant.room);
@@ -43,9 +58,9 @@ loop-i-preserved c =
           (λ j l. sym (other j (λ e. omega (arith, e, l)))) c.loop-i.invariant.lines
           (c.push_changed.ensures.lines
           ∙ ap₂ (λ (p q : Airings). c.loop-i.lines ++ airings_change (receiver_stamp c.args.slot i) p q) (get_or_default old i _ all_on_air within ∙ was) (sym here));
-      each = λ config events stand j below. elim (at_last j i below) [
-        | inl less ↦ other j (λ e. omega (arith, e, less)) ∙ c.loop-i.invariant.each config events stand j less
-        | inr same ↦ subst (λ (n : ℕ). airings_at new n ≡ airings config events (view_at (map view_kept c.args.shown.now) n)) (sym same) (here ∙ shown config events stand)
+      each = λ config events st stand were j below. elim (at_last j i below) [
+        | inl less ↦ other j (λ e. omega (arith, e, less)) ∙ c.loop-i.invariant.each config events st stand were j less
+        | inr same ↦ subst (λ (n : ℕ). airings_at new n ≡ airings config events (view_at (map view_kept c.args.shown.now) n)) (sym same) (here ∙ shown config events st stand were)
       ];
       later = λ j l. other j (λ e. omega (arith, e, l)) ∙ c.loop-i.invariant.later j (omega (arith, l));
     }

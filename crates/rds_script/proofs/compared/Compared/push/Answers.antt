@@ -23,7 +23,7 @@ returns c = record { goes_on = by }
         → GoesOnCompared config c.args.slot events (map view_kept c.args.shown.now) c.args.self.now
         record { airs = c.step.new.self; airings = with_items c.args.self.now.airings c.push_airings.new.kept } c.args.lines.now c.push_airings.new.lines
     by config [] st = tt
-    by config (e ∷ before) st = λ views old.
+    by config (e ∷ before) st = λ views were are old.
         let slot = c.args.slot in
         let shown = map view_kept c.args.shown.now in
         let had = c.args.self.now.airings.items in
@@ -36,10 +36,10 @@ returns c = record { goes_on = by }
           spacing = c.step.ensures.spacing ∙ old.airs.spacing;
           some = let same = c.step.ensures.spacing in let some = old.airs.some in omega (arith, same, some);
         } in
-        let each : (i : ℕ) → i < length shown → airings_at new i ≡ airings config (e ∷ before) (view_at shown i) =
-        λ i below. c.push_airings.ensures.each as_many config (e ∷ before) airs i (omega (arith, below, long)) in
         let was : (i : ℕ) → i < length shown → airings_at c.as_mut_slice.result.now i ≡ airings config before (view_at views i) =
         λ i below. ap (λ (l : List Airings). airings_at l i) value ∙ old.each i below in
+        let each : (i : ℕ) → i < length shown → airings_at new i ≡ airings config (e ∷ before) (view_at shown i) =
+        λ i below. c.push_airings.ensures.each as_many config (e ∷ before) st airs (views, (λ j l. were j (omega (arith, l, long))), (λ j l. are j (omega (arith, l, long))), (λ j l. was j (omega (arith, l, long)))) i (omega (arith, below, long)) in
         let count : length new ≡ length had = c.push_airings.ensures.count ∙ ap length value in
         let back = take_at new (drop (length new) had) (length had) count in
         let air : c.step.new.lines ≡ c.args.lines.now ++ change (air_stamp slot) None (air_of config before) (air_of config (e ∷ before)) =
