@@ -65,7 +65,7 @@ const laneItems = (() => {
     oldOf(i) {
       const { runs } = this, mixTo = runs.mixTo(i);
       if (!runs.isShown(i)) return runs.to(i);
-      return Math.min(runs.to(i), Math.max(mixTo, runs.isOld(i) ? mixTo : this.oldFrom(mixTo)));
+      return Math.min(runs.to(i), Math.max(mixTo, runs.stale(i) ? mixTo : this.oldFrom(mixTo)));
     }
 
     pieces(i) {
@@ -109,7 +109,7 @@ const laneItems = (() => {
       return [{
         from: this.from(i), to: this.to(i), value, label: tags.length ? value.map(parts.labelOf).join(" · ") : null,
         kind: "tags", shade: first ? first.runs.values.shades[first.runs.numbers[first.at]] : 0, mix: this.isMix(i),
-        old: tags.some(({ runs, at }) => runs.isOld(at)),
+        old: tags.some(({ runs, at }) => runs.stale(at)),
       }];
     }
   }

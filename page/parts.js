@@ -96,10 +96,10 @@ const parts = (() => {
   const noneAt = (view, slot) => view?.at("text", slot)?.why ?? "no text";
 
   /* A display as a car has it: the name, the text and its tags at a slot. Parts that nobody sent make it red. */
-  const NOBODY = { led: "nobody sent this", words: "which nobody sent" };
+  const NOBODY = { led: (which) => `nobody sent this ${which}`.trim(), words: "which nobody sent" };
   function radio(root, caption, view, slot, { led: calm = "", none = noneAt(view, slot), mixed = NOBODY } = {}) {
     const mixes = mixesAt(view, slot), bad = mixes.length > 0;
-    const which = mixes.includes("text") ? "" : ` ${mixes.join(" and ")}`, led = bad ? `${mixed.led}${which}` : calm;
+    const led = bad ? mixed.led(mixes.includes("text") ? "" : mixes.join(" and ")) : calm;
     const at = (part) => view?.at(part, slot)?.value ?? null, text = at("text");
     const tags = [at("tag1"), at("tag2")].filter((tag) => tag !== null);
     const line = (className, textContent) => make("div", { className, textContent });
@@ -113,15 +113,24 @@ const parts = (() => {
     root.classList.toggle("mixed", bad);
   }
 
-  /* Puts a display into words. Each part that nobody sent has words of its own. */
+  /* The word for what a display shows that was on air before, with the names of the parts if its text is on air; empty if
+     all is on air. */
+  function staleAt(view, slot) {
+    const all = Object.entries(NAMES).map(([part, name]) => ({ name, word: view?.at(part, slot)?.stale }));
+    const stale = all.filter(({ word }) => word), [first] = stale;
+    if (first?.name === NAMES.text) return first.word;
+    return [...new Set(stale.map(({ name, word }) => `${name}: ${word}`))].join(", ");
+  }
+
+  /* Puts a display into words. Each part that nobody sent, or that was on air before, has words of its own. */
   const WORDS = {
     text: (text) => `“${text}”`, name: (name) => `name ${name.trim()}`, tag1: wordsOfTag, tag2: wordsOfTag,
   };
   function inWords(view, slot, { none = noneAt(view, slot), mixed = NOBODY } = {}) {
     const all = [];
     for (const [part, words] of Object.entries(WORDS)) {
-      const { value = null, mixTo } = view?.at(part, slot) ?? {};
-      if (value !== null) all.push(`${words(value)}${slot < mixTo ? `, ${mixed.words}` : ""}`);
+      const { value = null, mixTo, stale } = view?.at(part, slot) ?? {}, what = slot < mixTo ? mixed.words : stale;
+      if (value !== null) all.push(`${words(value)}${what ? `, ${what}` : ""}`);
       else if (part === "text") all.push(none);
     }
     return all.join(", ");
@@ -171,6 +180,7 @@ const parts = (() => {
 
   const texts = { counted, hex, inWords, isolated, labelOf, nodesOf };
   return {
-    $, ...texts, entitle, fill, goToLine, make, nameFile, problemOf, radio, shows, showsTags, soon, waits, whyNoMix,
+    $, ...texts, entitle, fill, goToLine, make, nameFile, problemOf, radio, shows, showsTags, soon, staleAt, waits,
+    whyNoMix,
   };
 })();

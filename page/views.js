@@ -8,13 +8,14 @@ const views = (() => {
   /* The first letter of a kept value: a text, a name or a tag. */
   const KINDS = { text: "t", name: "n", tag1: "g", tag2: "g" };
   const NOTHING = -1, NEVER = 2 ** 31 - 1;
-  /* Whether what a run shows is on air: it is, it never was while it was shown, or it is not any more. */
-  const ON_AIR = 0, MIX = 1, OLD = 2;
+  /* What a run that shows something is, as the program says: on air, a mix, old or replaced. */
+  const ON_AIR = 0, MIX = 1, OLD = 2, REPLACED = 3;
+  const STATE_WORDS = ["on air", "mix", "old", "replaced"];
   /* Why a run shows nothing, as the program says: nothing was shown before, the segments are incomplete, none came for M
      slots, or the receiver restarted. */
   const NOT_YET = 0, INCOMPLETE = 1, DROPPED = 2, RESTARTED = 3;
   const WHYS = [null, "incomplete", "dropped", "restarted"];
-  const NEWLINE = 10, SPACE = 32, NINE = 57, ZERO = 48, LETTER_A = 97, LETTER_D = 100, LETTER_I = 105, LETTER_N = 110, LETTER_O = 111, LETTER_R = 114;
+  const NEWLINE = 10, SPACE = 32, NINE = 57, ZERO = 48, LETTER_A = 97, LETTER_D = 100, LETTER_I = 105, LETTER_N = 110, LETTER_R = 114;
   const decoder = new TextDecoder();
 
   /* The same numbers in an array of twice the length. */
@@ -124,11 +125,16 @@ const views = (() => {
       return this.until === null ? this.to(i) : Math.min(this.to(i), this.until[this.numbers[i]]);
     }
 
-    isOld(i) { return this.isShown(i) && this.states[i] === OLD; }
+    /* The word for what was on air before; empty for other runs. */
+    stale(i) {
+      const isStale = this.isShown(i) && (this.states[i] === OLD || this.states[i] === REPLACED);
+      return isStale ? STATE_WORDS[this.states[i]] : "";
+    }
+
     mixes() { return [...this.starts.keys()].filter((i) => this.isMix(i)); }
     at(i) {
       const value = this.value(i), why = value === null ? WHYS[this.states[i]] : null;
-      return { from: this.from(i), to: this.to(i), value, why, mixTo: this.mixTo(i), isOld: this.isOld(i) };
+      return { from: this.from(i), to: this.to(i), value, why, mixTo: this.mixTo(i), stale: this.stale(i) };
     }
 
     /* The last run that begins at the slot or before; -1 if there is none. */
@@ -173,7 +179,7 @@ const views = (() => {
   class Writer {
     constructor(values) {
       const none = () => ({
-        length: 0, isOff: false,
+        length: 0, state: ON_AIR,
         starts: new Int32Array(1 << 5), numbers: new Int32Array(1 << 5), states: new Uint8Array(1 << 5),
       });
       this.values = values;
@@ -191,20 +197,18 @@ const views = (() => {
     }
 
     /* Changes a part to a value that is printed so: `none` with a reason or without, a text in quotation marks, or a class
-       and a text. What is shown while the part is off air was not on air before. */
+       and a text. Its state stays. */
     changeTo(part, slot, bytes, from, to) {
-      const state = this.parts[part].isOff ? MIX : ON_AIR;
+      const { state } = this.parts[part];
       if (bytes[from] === LETTER_N) this.change(part, slot, NOTHING, whyOf(bytes, from, to));
       else this.change(part, slot, this.values.numberOf(KINDS[part], bytes.subarray(from, to)), state);
     }
 
-    /* What the part shows went off air in the slot, or came on air. */
-    setOnAir(part, slot, isOnAir) {
+    /* Changes the state of a part, and not its value. */
+    setState(part, slot, state) {
       const runs = this.parts[part], last = runs.length - 1, number = last < 0 ? NOTHING : runs.numbers[last];
-      runs.isOff = !isOnAir;
-      if (number === NOTHING) return;
-      const offAir = runs.starts[last] === slot ? MIX : OLD;
-      this.change(part, slot, number, isOnAir ? ON_AIR : offAir);
+      runs.state = state;
+      if (number !== NOTHING) this.change(part, slot, number, state);
     }
 
     /* The display, whose runs end before this slot. */
@@ -242,10 +246,11 @@ const views = (() => {
   const REASONS = { [LETTER_I]: INCOMPLETE, [LETTER_D]: DROPPED, [LETTER_R]: RESTARTED };
   const whyOf = (bytes, from, to) => to - from > "none ".length ? REASONS[bytes[from + "none ".length]] : NOT_YET;
 
-  /* The second word of a line by its length and its first and its last letter. */
+  /* A word of a line by its length and its first and its last letter. */
   const keyOf = (length, first, last) => (length << 16) | (first << 8) | last;
+  const keyOfWord = (word) => keyOf(word.length, word.charCodeAt(0), word.charCodeAt(word.length - 1));
   const WORDS = new Map(["text", "name", "tag1", "tag2", "item", "sent", "tags", "restart"]
-    .map((word) => [keyOf(word.length, word.charCodeAt(0), word.charCodeAt(word.length - 1)), word]));
+    .map((word) => [keyOfWord(word), word]));
 
   /* Who shows a part, or -1: a receiver, or the station, which has it on air. */
   const STATION = 8;
@@ -275,11 +280,13 @@ const views = (() => {
     return fault;
   }
 
-  /* Writes what a line says of a part: its value, or that it went off air or came on air. */
-  const ON_AIR_LENGTH = "on air".length;
+  /* Writes what a line says of a part: its value, or its state. A value begins with a quotation mark, a digit or a capital
+     letter, or it is `none`, so none is taken for a state. */
+  const STATES = new Map(STATE_WORDS.map((word, state) => [keyOfWord(word), state]));
   function writeLine(writer, part, slot, bytes, from, to) {
-    if (bytes[from] === LETTER_O) writer.setOnAir(part, slot, to - from === ON_AIR_LENGTH);
-    else writer.changeTo(part, slot, bytes, from, to);
+    const state = STATES.get(keyOf(to - from, bytes[from], bytes[to - 1]));
+    if (state === undefined) writer.changeTo(part, slot, bytes, from, to);
+    else writer.setState(part, slot, state);
   }
 
   /* The begin of an output, as much as a page shows of it. */

@@ -5,14 +5,16 @@ import subprocess
 from tests import preload
 from tests.calls import AUDIT, DECODE, ENCODE, FLAGS, SHOWS_HI, SIM, SLOTS, TIMED, WITNESS
 from tests.support import PROGRAM, SECONDS, Case, ProgramCase, path, ran, temporary_folder
-from tests.worked_rows import ENCODED_SCRIPT, HI, TAGS_ON_AIR
+from tests.worked_rows import ENCODED_SCRIPT, HI, TAGS_ON_AIR, radios_and_what_is_on_air
 
+RADIOS = radios_and_what_is_on_air()[3]
 LONG_ROW = b"-,,1,\ntext,HI,1,\n-,,1," + b"x" * 10_000
 # name, arguments, input; whether a fault can be a note, and whether output can come before it
 CALLS = [
     ("decode", DECODE, HI, False, False),
     ("tags_on_air", [*SIM, "--m", "4"], TAGS_ON_AIR, False, False),
     ("tags_on_air with the longest ring", [*SIM, "--m", "4", "--k", "1024"], TAGS_ON_AIR, False, False),
+    ("radios", [*SIM, "--m", "2", "--flag-alone"], RADIOS, False, True),
     ("a long row of sim", [*SIM, "--m", "1"], LONG_ROW, False, True),
     ("encoded_log", [*ENCODE, "--m", "1"], ENCODED_SCRIPT, True, False),
     ("a long row of encode", [*ENCODE, "--m", "1"], LONG_ROW, True, True),

@@ -53,23 +53,22 @@ def on_air(script, sets, dwell):
 
 class Colours:
     def test_red_and_old_bars_are_what_was_not_on_air(self):
-        """Random scripts with escapes and with texts that return. A red bar or an old one was not on air in the last M
-        slots, and each other one was. An old bar is the rest of one that was."""
+        """Random scripts with escapes and with texts that return. A red bar was never on air, an old one was, but not in the
+        last M slots, and each other one was in these."""
         b, red, old, calm = self.b, 0, 0, 0
         for number in range(SCRIPTS):
             rng = random.Random(f"{SEED} {number}")
             dwell, (script, sets) = rng.randrange(2, 6), random_script(rng)
             open_script(b, script, m=dwell, k=0)
-            airs, wrong, before = on_air(script, sets, dwell), [], None
+            airs, wrong = on_air(script, sets, dwell), []
             for name, start, end, value, is_mix, is_old in [run for lane in b.run(BARS) for run in lane]:
-                kind, goes_on = "name" if "name" in name else "text", before == (name, start, value)
-                before = (name, end, value)
+                kind = "name" if "name" in name else "text"
                 if not isinstance(value, str):
                     continue
-                was = {any(air.get(kind) == value for air in airs[max(0, slot + 1 - dwell):slot + 1])
-                       for slot in range(start, end)}
+                was = [[any(air.get(kind) == value for air in airs[first:slot + 1]) for first in (0, max(0, slot + 1 - dwell))]
+                       for slot in range(start, end)]
                 red, old, calm = red + is_mix, old + is_old, calm + (not is_mix and not is_old)
-                if was != {not is_mix and not is_old} or (is_old and not goes_on):
+                if any((is_mix, is_old) != (not ever, ever and not lately) for ever, lately in was):
                     wrong.append((name, start, end, value, is_mix, is_old))
             self.check(f"script {number}, M {dwell}: wrong bars", wrong, [], script.encode())
         self.check_all("red bars, old ones and others", (red > 20, old > 20, calm > 500), (True, True, True))
@@ -90,7 +89,20 @@ class Colours:
                        "With the flag bit alone, receivers show a mix: a text. With the dwell none does.")
             b.run("scriptTab.timeline.move(60)")
             self.check(f"{name}: it is red", (of(b, "#script-alone", "className"), text_of(b, "#script-alone .led")),
-                       ("radio alone mixed", "not on air"))
+                       ("radio alone mixed", "mix"))
+
+    def test_a_replaced_tag_is_not_red(self):
+        """The station replaced the tag before the radio had the text whole. The words name it, and no mix is counted."""
+        b = self.b
+        got = {0, 1, 2, 3, 4, 9, 11, 24, 26}
+        commands = {4: "text,ABCDEFGH", 10: "tags,0 1 1 0 1 0 0 0", 14: "tags,1 0 4 4 3 0 0 0"}
+        rows = "".join(f"{commands.get(slot, '-,')},1,{'G' if slot in got else 'L'}\n" for slot in range(30))
+        open_script(b, rows, m=4, k=0)
+        b.run("scriptTab.timeline.move(27)")
+        words = of(b, "#script-time canvas", "ariaValueText").split("With the flag bit alone: ")[1]
+        self.check("it is old", (of(b, "#script-alone", "className"), text_of(b, "#script-alone .led"), words),
+                   ("radio alone", "tag: replaced", "“ABCDEFGH”, title: AB, replaced."))
+        self.check("no mix is counted", text_of(b, "#script-count").startswith("No receiver shows a mix here."), True)
 
     def test_a_witness_is_red_even_if_its_text_comes_later(self):
         b = self.b

@@ -25,8 +25,8 @@ class Mixes:
         open_script(b, "".join(f"{row}{'L' if slot in lost else 'G'}\n" for slot, row in enumerate(rows)), m=8, k=0)
         log = "".join(f"{sent.get(str(slot), NOTHING)}\n" for slot in range(48))
         call(b, "logTab.open", log, {"pi": "C201", "m": 8, "k": 0, "lost": lost})
-        for tab, led, words in (("script", "not on air tag", "not on air"),
-                                ("log", "nobody sent this tag", "which nobody sent")):
+        for tab, led, text, words in (("script", "tag: mix", ", old", "mix"),
+                                      ("log", "nobody sent this tag", "", "which nobody sent")):
             call(b, "page.tab", tab)
             b.run(f"{tab}Tab.timeline.move(47)")
             self.check(f"{tab}: a mix of tags is red",
@@ -34,7 +34,7 @@ class Mixes:
                        ("radio alone mixed", led))
             told = of(b, f"#{tab}-time canvas", "ariaValueText").split("With the flag bit alone: ")[1]
             self.check(f"{tab}: and is in the words", told,
-                       f"“Édith Piaf, Milord”, artist: Édith Pia, {words}, title:  Milo, {words}.")
+                       f"“Édith Piaf, Milord”{text}, artist: Édith Pia, {words}, title:  Milo, {words}.")
             self.check(f"{tab}: with the dwell there is none", of(b, f"#{tab}-radio", "className"), "radio")
             b.run(f"{tab}Tab.timeline.move(22)")
             self.check(f"{tab}: tags that were sent are not red", of(b, f"#{tab}-alone", "className"), "radio alone")

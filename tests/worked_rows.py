@@ -582,7 +582,7 @@ def radios_and_what_is_on_air():
 8 air text "HO"
 8 air item none
 8 air tag1 none
-9 r0 text off air
+9 r0 text old
 10 sent C201 2150 484F 0D20
 12 sent C201 2150 484F 0D20
 13 name ok
