@@ -269,7 +269,7 @@ class Warnings(ProgramCase):
             name = f"seed {SEED}, log {number}, M {m}, K {k}"
             wanted = end_of([it and it.split() for it in slots], m + k)
             log = "".join(f"{it or '---- ---- ---- ----'}\n" for it in slots).encode()
-            told = noted(f"{AUDIT} --m {m} --k {k}", log)[2]
+            _, answer, told = noted(f"{AUDIT} --m {m} --k {k}", log)
             if wanted is None:
                 self.check(f"{name}: a yes", told.startswith(("rdsrt: judged in 60 slots: ", "rdsrt: no 2A")), True,
                            log)
@@ -279,6 +279,8 @@ class Warnings(ProgramCase):
             may_be_old = fault == "EarlyTag" and (not where or where.startswith(", in slot 0"))
             got = rule and (int(rule[1]), rule[3] or "", "name (PTYN)" in rule[2], told.endswith(RUNNING + "\n"))
             self.check(f"{name}: {fault}", got, (slot, where, is_name, may_be_old), log)
+            running = noted(f"{AUDIT} --m {m} --k {k} --running", log)[1]
+            self.check(f"{name}: --running answers otherwise exactly if the note names it", running != answer, may_be_old, log)
             seen.update(word for word in ("in slot", "earliest", "no segment from") if word in where)
         self.check_all("each kind of slot was named", (len(seen), min(seen.values(), default=0) > 5), (3, True))
 
