@@ -1,6 +1,8 @@
 """The commands that are measured, and their inputs."""
 import os
+import re
 import subprocess
+import tempfile
 
 import logs
 import rows
@@ -30,3 +32,11 @@ def made_input(folder, program, task, receivers, late, slots):
         with open(path, "wb") as made:
             made.writelines(rows.pieces(slots, receivers, late))
     return path
+
+
+def instructions(command, path):
+    """Instructions of the command on its input, by callgrind."""
+    with open(path, "rb") as given, tempfile.NamedTemporaryFile() as counts:
+        call = ["valgrind", "--tool=callgrind", f"--callgrind-out-file={counts.name}", *command]
+        done = subprocess.run(call, stdin=given, stdout=subprocess.DEVNULL, stderr=subprocess.PIPE, check=True)
+    return int(re.search(rb"refs: +([0-9,]+)", done.stderr)[1].replace(b",", b""))
