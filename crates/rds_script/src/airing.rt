@@ -29,8 +29,7 @@ pub(crate) struct Airings {
 }
 
 impl Airings {
-    /// Decides by the parts that were on air in one of the last d slots, those that were on air for a text of these slots,
-    /// and those that were on air in any slot.
+    /// Decides by the parts that were on air in one of the last d slots, for a text of these slots, and in any slot.
     pub(crate) fn by(lately: Parts, for_text: Parts, ever: Parts) -> Airings
         ensures { result ≡ airings_by lately for_text ever }
     {

@@ -123,8 +123,8 @@ impl Airs {
             .unwrap();
     }
 
-    /// Returns for each part of a view whether it was on air. `before` has that for one slot before, if the view was the
-    /// same. Then not all slots are searched.
+    /// Returns for each part of a view whether it was on air. If the view was the same one slot before, `before` has what
+    /// its parts were then. So not all slots are searched again.
     pub(crate) fn airings_of(&self, view: View<'_>, before: Option<Airings>) -> Airings
         ensures { (config : Config) (events : List Event) → AirsStand config events self.now
             → WereBefore config events (view_of view.entry) before

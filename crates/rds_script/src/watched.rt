@@ -40,8 +40,8 @@ pub(crate) const OUTPUT_ROOM: usize = 65536;
 /// The output of rows that waits to be written.
 pub(crate) type RowLines = Lines<OUTPUT_ROOM>;
 
-/// A world, and the view of each of its receivers at the end of the last slot. The views of radios with the flag bit alone
-/// are compared with what was on air.
+/// A world, and the view of each of its receivers at the end of the last slot. The views of radios with the flag bit
+/// alone are compared with what was on air.
 #[derive(Drop)]
 pub(crate) struct Watched {
     world: World,

@@ -106,8 +106,8 @@ abbrev pub IsFirstOrAlone : Option Watched → Type 0
 IsFirstOrAlone None = Unit {0}
 IsFirstOrAlone (Some before) = WhereWatchedStands before (λ config n events. config.kind ≡ FlagAlone)
 
--- the reason why a record is not played after these: they are not all rows, for this cause; or there is no memory: for a
--- world, if it is the first, or for what was on air, if the receivers are radios with the flag bit alone
+-- the reason why a record is not played after these: they are not all rows, for this cause; or there is no memory: for
+-- a world, if it is the first, or for what was on air, if the receivers are radios with the flag bit alone
 abbrev pub IsRowRefused : Played → Record → RowRefused → Type 0
 IsRowRefused played row (NoRow cause) =
     AreNoRows played.config.premise played.form (row ∷ played.records)
