@@ -1,13 +1,26 @@
 """Lines of any length, and bytes of any value."""
+import os
 import random
 import re
+import subprocess
+import tempfile
 
 from tests.calls import DECODE, ENCODE, SHOWS_HI, SIM
-from tests.support import ProgramCase, ran
+from tests.support import PROGRAM, SECONDS, ProgramCase, ran
 from tests.worked_rows import HI
 
 SEED = 20261122
 LONG = b"x" * 100_000_000
+
+
+def read_by(words, given):
+    """Returns the status and the output of the program, and how many bytes of the input it read."""
+    with tempfile.TemporaryFile() as file:
+        file.write(given)
+        file.seek(0)
+        done = subprocess.run([PROGRAM, *words], stdin=file, stdout=subprocess.PIPE, stderr=subprocess.DEVNULL,
+                              timeout=SECONDS)
+        return done.returncode, done.stdout, file.seek(0, os.SEEK_CUR)
 
 
 def noise():
@@ -41,6 +54,16 @@ class Scripts(ProgramCase):
         for name, words, mark, written in self.COMMANDS:
             row = b"-,,1,\n-,,1," + LONG[:30_000_000]
             self.check(name, ran(words, row), (1, written + mark + b"fault row 2\n"))
+
+    def test_commas_without_an_end_are_not_kept(self):
+        """`csv` keeps the place of each comma until its record ends, so the program reads no more of them."""
+        for name, words, mark, written in self.COMMANDS:
+            for rows in (b"", b"-,,1,\n"):
+                status, output, count = read_by(words, rows + b"," * 30_000_000)
+                self.check(f"{name} after {rows}", (status, output),
+                           (1, written * rows.count(b"\n") + mark + b"fault memory\n"))
+                self.check(f"{name} after {rows}: {count} bytes read", count < 100_000, True)
+            self.check(f"{name}: 20,000 commas", ran(words, b"," * 20_000 + b"\n"), (1, mark + b"fault row 1\n"))
 
     def test_a_text_of_10_000_000_lines(self):
         for name, words, mark, _ in self.COMMANDS:

@@ -488,9 +488,7 @@ fn print_fault<N: TellingWrite>(
         ),
         LogFault::Write => push_failed("writing standard output failed", reason, &mut note),
         LogFault::TooLong => push_too_long(task, &mut note),
-        LogFault::Memory => {
-            let _ = write!(note, "fault memory: out of memory");
-        }
+        LogFault::Memory => push_no_memory(task, &mut note),
     }
     print(note, screen);
 }
@@ -516,6 +514,17 @@ fn push_failed(what: &str, reason: Option<&io::Error>, note: &mut Note) {
     let _ = write!(note, "{what}");
     if let Some(error) = reason {
         let _ = write!(note, ": {error}");
+    }
+}
+
+/// Appends that memory is out, and for a script what else it may be.
+fn push_no_memory(task: Task, note: &mut Note) {
+    let _ = write!(note, "fault memory: out of memory");
+    if reads_script(task) {
+        let _ = write!(
+            note,
+            ", or a line of the script has some 65,536 commas or more"
+        );
     }
 }
 

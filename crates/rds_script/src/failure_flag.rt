@@ -1,4 +1,4 @@
-//! A reader that remembers whether one of its reads failed, and what it read.
+//! A reader that remembers whether one of its reads failed, and what it read. It stops at a line with too many commas.
 ghost use Rattle.std.specs.Prelude.{◌≡◌, true};
 ghost use Rattle.rds_io.specs.ReadFailed.{SomeReadFailed};
 
@@ -6,7 +6,8 @@ use crate::line_ends::ReadSoFar;
 use rds_io::TellingRead;
 use std::io::{self, ErrorKind, Read};
 
-/// Wraps a reader, and sets a flag at the first failed read.
+/// Wraps a reader, and sets a flag at the first failed read. It refuses to read on in a line with too many commas, as if
+/// there were no memory for their places.
 #[derive(Drop)]
 pub(crate) struct FailureFlag<R: TellingRead> {
     inner: R,
@@ -51,6 +52,9 @@ impl<R: TellingRead> Read for FailureFlag<R> {
     ghost remaining = { λ asked. R.remaining (flagged_reader asked) };
 
     fn read(&mut self, buf: &mut [u8]) -> io::Result<usize> {
+        if self.read.has_too_many_commas() {
+            return Err(io::Error::from(ErrorKind::OutOfMemory));
+        }
         match self.inner.read_one(buf) {
             Some(count) => {
                 self.read.take(&buf[..count]);

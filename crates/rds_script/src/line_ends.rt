@@ -11,6 +11,9 @@ use memchr::{memchr_iter, memrchr2};
 /// The most bytes that `csv` asks for in one read.
 const PIECE: usize = 8192;
 
+/// The most commas of a line. `csv` keeps the place of each until the record ends, and a row has three.
+const MOST_COMMAS: u64 = 65_536;
+
 /// The lone returns of bytes that come in pieces. A return at the end counts until a line feed follows.
 #[derive(Clone, Copy)]
 struct LoneReturns {
@@ -70,6 +73,8 @@ pub(crate) struct ReadSoFar {
     complete: u64,
     last: ArrayVec<u8, PIECE>,
     before: LoneReturns,
+    /// The commas in the last pieces, if none of these has a line end.
+    commas: u64,
 }
 
 impl ReadSoFar {
@@ -80,6 +85,7 @@ impl ReadSoFar {
             complete: 0,
             last: ArrayVec::new(),
             before: LoneReturns::new(),
+            commas: 0,
         }
     }
 
@@ -89,6 +95,12 @@ impl ReadSoFar {
         self.before.take(self.last.as_slice());
         self.last.clear();
         let _ = self.last.try_extend_from_slice(piece);
+        self.commas = if memrchr2(b'\n', b'\r', piece).is_some() {
+            0
+        } else {
+            let more = memchr_iter(b',', piece).count();
+            self.commas.saturating_add(more as u64)
+        };
         self.complete = self.bytes.saturating_add(complete_in(piece) as u64);
         self.bytes = self.bytes.saturating_add(piece.len() as u64);
     }
@@ -96,6 +108,11 @@ impl ReadSoFar {
     /// Returns how many of these bytes end with a complete line that is not empty, without its line end.
     pub(crate) fn complete(&self) -> u64 {
         self.complete
+    }
+
+    /// Returns whether the line that is read has too many commas to go on.
+    pub(crate) fn has_too_many_commas(&self) -> bool {
+        self.commas > MOST_COMMAS
     }
 
     /// Returns whether the last read found the end.
