@@ -4,7 +4,7 @@ from tests.page_support import (GROUPS, HI, NOTHING, SCHEMES, YO, ChromiumCase, 
 
 # of texts, and of shapes without a text
 CONTRAST, GRAPHIC_CONTRAST = 4.5, 3
-LEGEND = ["text, flag A", "text, flag B", "name (PTYN)", "tags", "other", "no group", "lost", "a mix", "old"]
+LEGEND = ["text, flag A", "text, flag B", "name (PTYN)", "tags", "other", "no group", "lost", "a mix", "old or replaced"]
 
 
 class Timeline:
