@@ -163,9 +163,10 @@ pub untimed_now : (line : Line) (lines : List Line) (slot : Option Group) (n aft
     → (0 < after) ↔ ((0 < n) ⊎ (is_some slot ≡ true)) → (0 < n) ↔ HasUntimed lines → (0 < after) ↔ HasUntimed (line ∷ lines)
 untimed_now line lines (Some group) n after says none count same =
     (λ some. inl (record { group = group; says = says; untimed = none }), λ any. count.1 (inr refl))
-untimed_now line lines None n after says none count same =
-    (λ some. elim (count.0 some) [ inl before ↦ inr (same.0 before) | inr bad ↦ absurd (cc) ],
-    λ any. elim any [ inl here ↦ absurd (said_other line (Slot None) says (λ group bad. absurd (cc)) here) | inr before ↦ count.1 (inl (same.1 before)) ])
+untimed_now line lines None n after says none count same = (
+  λ some. elim (count.0 some) [ inl before ↦ inr (same.0 before) | inr bad ↦ absurd (cc) ],
+  λ any. elim any [ inl here ↦ absurd (said_other line (Slot None) says (λ group bad. absurd (cc)) here) | inr before ↦ count.1 (inl (same.1 before)) ],
+)
 
 pub timed : (line : Line) (stamp : Stamp) (first : List ℕ) → first ≡ take deciding line → time_of first ≡ Some stamp → IsUntimed line → ⊥
 timed line stamp first is found untimed =
