@@ -2,7 +2,7 @@
 use Rattle.std.proofs.Common.{◌≡◌, ◌∙◌, ◌∷◌, ◌++◌, ◌+◌, ◌-◌, ◌<◌, ◌||◌, [], ℕ, zero, suc, Bool, true, false, List, None, Option, Some, ap, ap₂, append_assoc, append-nil, arith, drop, get_or, length, refl, replicate, set, subst, sym, take}
 use Rattle.std.specs.List.{prefix_len}
 use Rattle.std.specs.Prelude.{◌==◌, bytes_eq, take_while}
-use Rattle.std.proofs.lemmas.Bool.{and_parts, eqb-true}
+use Rattle.std.proofs.lemmas.Bool.{and_parts, eq-eqb, eqb-true}
 use Rattle.std.proofs.lemmas.List.{take-append-drop, take_all, take_more}
 use Rattle.std.proofs.lemmas.Slice.Eq.{bytes_eq-Decides}
 use Rattle.rds_receiver.specs.Run.{is_same}
@@ -41,6 +41,22 @@ one_tag (Some x) None same = cc
 one_tag (Some (n, x)) (Some (m, y)) same =
     let both = and_parts (n == m) (bytes_eq x y) same in
     ap₂ (λ (k : ℕ) (z : List ℕ). Some (k, z)) (eqb-true n m both.0) ((bytes_eq-Decides x y).0 both.1)
+
+same_tag : (tag : Option (ℕ × List ℕ)) → is_same_tag tag tag ≡ true
+same_tag None = refl
+same_tag (Some (n, x)) = rw (eq-eqb n n refl, (bytes_eq-Decides x x).1 refl) refl
+
+pub same_item : (item : Option (Bool × Bool)) → is_same_item item item ≡ true
+same_item None = refl
+same_item (Some (true, true)) = refl
+same_item (Some (true, false)) = refl
+same_item (Some (false, true)) = refl
+same_item (Some (false, false)) = refl
+
+pub parts_same : (view other : ShownView) (parts : Parts) → parts ≡ same_parts view other → view ≡ other → parts ≡ record { text = true; name = true; one = true; two = true }
+parts_same view other parts is same =
+    is ∙ ap (same_parts view) (sym same)
+    ∙ (λ i. record { text = same_text view.text i; name = same_text view.name i; one = same_tag view.one i; two = same_tag view.two i })
 
 one_item : (item other : Option (Bool × Bool)) → is_same_item item other ≡ true → item ≡ other
 one_item None None same = refl

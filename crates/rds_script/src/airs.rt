@@ -1,5 +1,5 @@
 //! What a station has on air, and what it had before.
-ghost use Rattle.std.specs.Prelude.{◌≡◌, ◌≤◌, ◌<◌, ◌+◌, ◌++◌, ◌∷◌, [], ℕ, ◌-◌, ◌^◌, IfOk, List, None, OnOk, length, true};
+ghost use Rattle.std.specs.Prelude.{◌≡◌, ◌↔◌, ◌≤◌, ◌<◌, ◌+◌, ◌++◌, ◌∷◌, [], ℕ, ◌-◌, ◌^◌, IfOk, List, None, OnOk, length, true};
 ghost use Rattle.std.specs.Option.{option_copied};
 ghost use Rattle.rds_receiver.specs.Borrowed.{view_of};
 ghost use Rattle.rds_view_lines.specs.KeptView.{view_kept};
@@ -173,6 +173,7 @@ impl Stretch {
     fn goes_on(&self, now: View<'_>) -> bool
         ensures same { result ≡ true → view_of now.entry ≡ view_kept self.now.air }
         ensures count { result ≡ true → self.now.more < 2 ^ 64 - 1 }
+        ensures goes { view_of now.entry ≡ view_kept self.now.air → self.now.more < 2 ^ 64 - 1 → result ≡ true }
     {
         is_same(self.air.view(), now) && self.more < u64::MAX
     }
@@ -194,7 +195,7 @@ impl Reach {
 
 /// Returns whether both views show the same.
 fn is_same(view: View<'_>, other: View<'_>) -> bool
-    ensures { result ≡ true → view_of view.entry ≡ view_of other.entry }
+    ensures { (result ≡ true) ↔ (view_of view.entry ≡ view_of other.entry) }
 {
     let same = same_parts(view, other);
     if same.text && same.name && same.one && same.two {
