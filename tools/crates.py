@@ -8,6 +8,8 @@ import shutil
 ROOT = os.path.dirname(os.path.dirname(os.path.abspath(__file__)))
 LIST = os.path.join(ROOT, "crates.txt")
 KIT = os.path.dirname(os.path.dirname(os.path.realpath(shutil.which("rt"))))
+# where the checks of a crate keep their proofs: in the folder that `rt` uses
+KEPT = ["--incremental", "out/incremental"]
 
 
 def listed():
@@ -120,8 +122,8 @@ def is_stale(made, name, uses):
 
 
 def is_left(name, uses):
-    """Returns whether `rt ci` or tools/build left the library of the crate, which has no stamp then, and no source is newer.
-    The time of its folder counts, since `rt ci` keeps the times of the files in it."""
+    """Returns whether `rt ci` or a build for a target left the library of the crate, which has no stamp then, and no
+    source is newer. The time of its folder counts, since `rt ci` keeps the times of the files in it."""
     made = rlib(name)
     stamp = os.path.join(os.path.dirname(made), "stamp")
     return os.path.exists(made) and os.path.getmtime(made) >= newest_source(name, uses) and not os.path.exists(stamp)
