@@ -5,6 +5,8 @@ RDSRT_CASE=12 makes the tests with cases by chance try case 12 alone.
 """
 import atexit
 import difflib
+import importlib.machinery
+import importlib.util
 import os
 import pprint
 import shutil
@@ -46,6 +48,14 @@ def bytes_of(name):
     """Returns the bytes of a file of the repository."""
     with open(path(name), "rb") as file:
         return file.read()
+
+
+def script(name):
+    """Returns a script of the repository as a module."""
+    loader = importlib.machinery.SourceFileLoader(os.path.basename(name), path(name))
+    found = importlib.util.module_from_spec(importlib.util.spec_from_loader(loader.name, loader))
+    loader.exec_module(found)
+    return found
 
 
 def output(words, given=b"", seconds=300, **more):

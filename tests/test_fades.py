@@ -4,26 +4,15 @@
 the flag bit alone then shows no text that nobody set, also after restarts if the empty text comes first. Without the
 empty text it shows some.
 """
-import importlib.machinery
-import importlib.util
-
-from tests.support import Case, path
+from tests.support import Case, script
 
 LONGEST, RUNS = 240, 1
-
-
-def loaded():
-    """Returns bench/fades as a module."""
-    loader = importlib.machinery.SourceFileLoader("fades_program", path("bench/fades"))
-    fades = importlib.util.module_from_spec(importlib.util.spec_from_loader(loader.name, loader))
-    loader.exec_module(fades)
-    return fades
 
 
 class Fades(Case):
     def play(self, place, is_right):
         """Plays a station of bench/fades with each fade. The rule says how many of its texts may be mixed."""
-        fades = loaded()
+        fades = script("bench/fades")
         name, station = fades.STATIONS[place]
         for fade in (it for it in fades.FADES if it <= LONGEST):
             wrong, count = fades.played(station, fade, RUNS)
