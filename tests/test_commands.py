@@ -77,6 +77,7 @@ NOT_HERE = [
     (r"rt (?!version)", "a command of the kit: the gate runs `rt ci`, and that takes minutes"),
     (r"\./install PREFIX --target (?:aarch64|armv7)$", "it builds for another target; tests/release runs it"),
     (r"tools/(?:release|build)$|tools/release OUT$|tests/release$", "makes or tries all packages, by hand: 30 minutes"),
+    (r"tools/edits(?: NAME)?$", "it proves for minutes; test_edits tests all that needs no prover"),
     (r"bin/rdsrt decode |pip install ", "tests/release runs it in a fresh system"),
     (r"bench/", "measures for minutes, by hand when the code has changed"),
     (r"rtl_fm |(?:examples/)?v4l2 --frequency ", "it needs a tuner"),

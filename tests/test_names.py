@@ -13,7 +13,7 @@ from tests.test_pages import all_pages
 import crates
 
 CRATE = r"(?<![\w/.-])rds_[a-z_]+\b"
-PARTS = "src|specs|proofs|must-fail"
+PARTS = "src|specs|proofs|must-fail|edits"
 FOLDER = rf"(?:crates|docs|tests|tools|bench|examples|experiments|include|page|{PARTS})/[\w./-]*\w"
 # no .log, .csv or .txt: without a folder such a file is a user's
 FILE = r"[\w/-]+(?:\.[\w-]+)*\.(?:rt|antt|py|js|c|h|md|edit|html|css|png)\b"
@@ -22,7 +22,7 @@ PATH = rf"(?<![\w/.$-])(?:\.\./)*({FOLDER}|{FILE})"
 NAMES = r"((?:`?\w+`?(?:, and |, | and )?)+)"
 # files that a command or a user makes
 MADE = {"hi.c", "tests/out", "page/out", "page/out/index.html", "crates/rds_ffi/out/librds_ffi.a",
-        "crates/NAME/must-fail/what_is_wrong.edit"}
+        "crates/NAME/edits/what_is_wrong.edit"}
 # paragraphs that each cite one name that does not exist
 STALE = ["The crate rds_nowhere.", "See `specs/Nowhere`.", "See tests/nowhere.py.", "The edit restores_no_faults.",
          "The test neighbours_in_two_slots.", "By rds_core_tests `latenesses` and `neighbours_in_two_slots`.",

@@ -19,6 +19,13 @@ def listed():
     return {head.split()[0]: libraries.split() for head, _, libraries in rows if head.strip()}
 
 
+def static_libraries():
+    """Returns the crates that crates.txt builds as static libraries."""
+    with open(LIST, encoding="utf-8") as file:
+        heads = [line.partition("#")[0].partition(":")[0].split() for line in file]
+    return {head[0] for head in heads if head[1:] == ["staticlib"]}
+
+
 def layers():
     """Returns the crates under each heading of crates.txt. A heading is a comment `# LAYER: WHAT IT IS`."""
     found, under = {}, []
@@ -129,12 +136,13 @@ def is_left(name, uses):
     return os.path.exists(made) and os.path.getmtime(made) >= newest_source(name, uses) and not os.path.exists(stamp)
 
 
-def compile_words(name, uses, jobs, *more):
-    """Returns the call of the kit's compiler, in the crate's folder, that proves and builds the crate."""
+def compile_words(name, uses, jobs, *more, verb="build"):
+    """Returns the call of the kit's compiler, in the crate's folder, that proves and builds the crate. The verb `check`
+    only proves it."""
     source = next(it for it in ("src/main.rt", "src/lib.rt") if os.path.exists(os.path.join(folder(name), it)))
     made = [(it, rlib(it) if it in uses else f"{KIT}/rlibs/{it}.rlib") for it in ("std", *uses[name])]
     folders = [f"{KIT}/rlibs", *(os.path.dirname(rlib(it)) for it in below(name, uses))]
-    return [f"{KIT}/bin/rattle", "build", "--crate-name", name, source, "--links", f"{name}=", "--jobs", str(jobs),
+    return [f"{KIT}/bin/rattle", verb, "--crate-name", name, source, "--links", f"{name}=", "--jobs", str(jobs),
             "--antt-project", f"{KIT}/rattle/logic/antt-project.json", "--logic-built", f"{KIT}/logic_built",
             *(it for crate, at in made for it in ("--extern", f"{crate}={at}")),
             *(it for at in folders for it in ("-L", f"dependency={at}")), *more]

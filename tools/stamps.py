@@ -14,7 +14,7 @@ import importlib.util
 import os
 import sys
 
-from crates import KIT, ROOT, below, folder, library
+from crates import KIT, ROOT, below, folder, is_stale, library
 
 
 @functools.lru_cache(maxsize=None)
@@ -65,6 +65,12 @@ def is_stamped(made, name):
         return None
     with open(stamp_of(made), encoding="utf-8") as file:
         return file.read() == now
+
+
+def is_built(name, uses):
+    """Returns whether the library of the crate is proved and current. Without a stamp, times decide."""
+    known = is_stamped(library(name), name)
+    return not is_stale(library(name), name, uses) if known is None else known
 
 
 def record(made, name, uses, before):
