@@ -26,7 +26,7 @@ LIMIT = 7200
 # the modules that take longest begin first
 LONGEST = ("test_page_build", "test_arm", "test_microcontrollers", "test_witness", "test_c_library", "test_fm",
            "test_random_scripts", "test_radios", "test_failing_calls", "test_audit", "test_python_package", "test_json",
-           "test_worlds", "test_clocks", "test_monitor", "test_station")
+           "test_worlds", "test_crates", "test_clocks", "test_monitor", "test_station")
 running, printing = set(), threading.Lock()
 
 
@@ -141,6 +141,17 @@ def run_classes(classes, count, folder):
             os.killpg(process.pid, signal.SIGKILL)
 
 
+def turns(classes, cores):
+    """Returns the classes that run in each turn, with how many of them run at a time: first those that may run beside any
+    others, and last those that run alone. Below four cores a browser runs alone."""
+    found = {}
+    for its in classes:
+        most = getattr(its[0], "most", None)
+        count = cores if most is None else min(most, max(cores // 2, 1))
+        found.setdefault(count, []).append(its)
+    return sorted(found.items(), reverse=True, key=lambda it: it[0])
+
+
 def run_all(tests):
     """Runs the tests, and prints the last line. Returns whether none failed."""
     broken = [it for it in tests if isinstance(it, unittest.loader._FailedTest)]
@@ -149,9 +160,8 @@ def run_all(tests):
     classes = classes_of(it for it in tests if it not in broken)
     outcomes = ["failed"] * len(broken)
     with tempfile.TemporaryDirectory() as folder:
-        beside = [it for it in classes if not getattr(it[0], "alone", False)]
-        outcomes += run_classes(beside, os.cpu_count(), folder)
-        outcomes += run_classes([it for it in classes if it not in beside], 1, folder)
+        for count, its in turns(classes, os.cpu_count()):
+            outcomes += run_classes(its, count, folder)
     passed, failed, skipped = (outcomes.count(it) for it in ("passed", "failed", "skipped"))
     print(f"{passed} passed, {failed} failed, {skipped} skipped")
     return failed == 0

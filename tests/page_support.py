@@ -158,8 +158,8 @@ def first_examples(b):
 
 def waited_for(path):
     """Waits for a file that the browser saves. Returns its bytes."""
-    end = time.time() + SECONDS
-    while time.time() < end:
+    end = time.monotonic() + browser.SECONDS
+    while time.monotonic() < end:
         if os.path.exists(path) and os.path.getsize(path):
             with open(path, "rb") as file:
                 return file.read()
@@ -184,8 +184,8 @@ def browsers():
 class PageCase(Case):
     """A test of the page in one browser: `b` drives it."""
 
-    # a page that other tests slow down may need longer than the waits allow
-    alone = True
+    # a browser has several processes and takes two cores or more
+    most = 2
     # whether the console must stay empty, and nothing may be fetched
     is_quiet = True
     driver, name, packages = None, None, None

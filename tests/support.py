@@ -22,11 +22,11 @@ sys.path.insert(1, os.path.join(ROOT, "tools"))
 TARGET = os.environ.get("RDSRT_TARGET")
 # the number of the one case that is tried of those by chance
 ONLY = os.environ.get("RDSRT_CASE")
-# seconds after which a call has failed: much longer than it takes, for a busy machine or an emulator
-SLOWER = 15 if TARGET else 1
-SECONDS = 60 * SLOWER
+# seconds after which a call has failed: much longer than it takes on a busy machine or an emulator, since each wait ends as
+# soon as what it waits for is there
+SECONDS = 900 if TARGET else 300
 # in which a program ends that waits for nothing
-PROMPT = 10 * SLOWER
+PROMPT = 150 if TARGET else 60
 ARCHIVE = os.path.join(ROOT, "crates/rds_ffi/out/librds_ffi.a")
 # the scripts that build, all named here
 BUILD, STATIC_LIBRARY = os.path.join(ROOT, "tools/build"), os.path.join(ROOT, "tools/static_library")
@@ -185,8 +185,8 @@ def line_of_the_check(frames):
 class Case(unittest.TestCase):
     """A test of many checks. It goes on after a check that failed."""
 
-    # whether nothing else may run meanwhile
-    alone = False
+    # how many classes may run at a time, this one included: None is one for each core
+    most = None
     # the number of the case by chance that is tried now
     number = None
 

@@ -1,9 +1,11 @@
-"""What a failed check shows: its line, the lines that differ, and the input; and how one case is tried alone."""
+"""What a failed check shows: its line, the lines that differ, and the input; how one case is tried alone; and which
+classes run at a time."""
 import os
 import re
 import unittest
 from unittest import mock
 
+from tests import __main__ as runner
 from tests import support
 from tests.support import Case, temporary_folder
 
@@ -70,3 +72,11 @@ class Checks(Case):
         self.check("three failures", (len(texts), texts[1].endswith(alone), "RDSRT" in texts[2]), (3, True, False))
         self.check("the last case alone", len(failures("fails_by_chance", "the values", "2")), 1)
         self.check("a case that passes", failures("fails_by_chance", "the values", "1"), [])
+
+    def test_classes_that_may_not_run_together_have_turns(self):
+        many, pair, lone = (type("Some", (), {"most": most})() for most in (None, 2, 1))
+        classes = [[pair], [many], [lone], [many, many]]
+        on_four = [(4, [[many], [many, many]]), (2, [[pair]]), (1, [[lone]])]
+        self.check("on four cores", runner.turns(classes, 4), on_four)
+        self.check("on two", runner.turns(classes, 2), [(2, [[many], [many, many]]), (1, [[pair], [lone]])])
+        self.check("on one", runner.turns(classes, 1), [(1, classes)])
