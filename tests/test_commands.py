@@ -74,6 +74,7 @@ RUN_BY = [
 # a command that nothing runs here, and the reason
 NOT_HERE = [
     (r"\./test$|python3 -m tests|python3 -m unittest ", "the tests themselves"),
+    (r"\(cd crates/rdsrt && rt try ", "it compiles the program anew, for minutes on a busy machine"),
     (r"rt (?!version)", "a command of the kit: the gate runs `rt ci`, and that takes minutes"),
     (r"\./install PREFIX --target (?:aarch64|armv7)$", "it builds for another target; tests/release runs it"),
     (r"tools/(?:release|build)$|tools/release OUT$|tests/release$", "makes or tries all packages, by hand: 30 minutes"),
