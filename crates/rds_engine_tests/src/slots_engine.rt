@@ -4,7 +4,7 @@ use crate::same::same;
 use rds_arrivals::Grain;
 use rds_fields::Dwell;
 use rds_io::Told;
-use rds_log::{Filling, SlotNotes, fill_with_notes};
+use rds_log::{Filling, SlotNotes, Times, fill_with_notes};
 use std::test::Fail;
 
 /// Groups of two programmes. The third has no time. The time of the last is before that of the fourth.
@@ -41,7 +41,7 @@ fn counted_lines(rt: HostRuntime) -> Result<(), Fail> {
             filling(pi)?,
             &mut notes,
         );
-        same(&rt, done, Ok(false));
+        same(&rt, done, Ok(Times::Fine));
         same(&rt, written.as_slice(), output);
         same(
             &rt,
@@ -65,7 +65,7 @@ fn whole_seconds(rt: HostRuntime) -> Result<(), Fail> {
         filling(None)?,
         &mut notes,
     );
-    same(&rt, done, Ok(true));
+    same(&rt, done, Ok(Times::Coarse));
     same(&rt, written.len(), 3 * 22 + 11 * 20);
     let stretch = notes.coarse.ok_or("coarse times are noted")?;
     same(
@@ -74,5 +74,22 @@ fn whole_seconds(rt: HostRuntime) -> Result<(), Fail> {
         (7_000_000, 8_000_000, 13),
     );
     same(&rt, stretch.room(filling(None)?.grain), 11);
+    Ok(())
+}
+
+/// A log whose groups have no time is not understood, and its output is empty. A slot without a group is not counted.
+#[test]
+fn no_times(rt: HostRuntime) -> Result<(), Fail> {
+    let log = b"---- ---- ---- ----\nC201 2140 4849 0D20 07:58:12\n".as_slice();
+    let mut notes = SlotNotes::new();
+    let mut written = Vec::new(rt.alloc());
+    let done = fill_with_notes(
+        &mut Told::new(log),
+        &mut Told::new(&mut written),
+        filling(None)?,
+        &mut notes,
+    );
+    same(&rt, done, Ok(Times::NotUnderstood));
+    same(&rt, (written.len(), notes.untimed), (0, 1));
     Ok(())
 }
