@@ -20,7 +20,7 @@ const logTab = (() => {
   class Superseded extends Error {}
   const NO_CHANGES = { slots: new Int32Array(0), parts: new Uint8Array(0), runs: new Int32Array(0) };
   const NO_EVENTS = { slots: new Int32Array(0), numbers: new Int32Array(0) };
-  const NO_TIMES = { timed: 0, absent: 0, breaks: 0, coarse: "" };
+  const NO_TIMES = { groups: 0, timed: 0, absent: 0, breaks: 0, coarse: "" };
   const empty = () => ({
     log: NO_LOG, times: NO_TIMES, programmes: [], groups: 0, codes: new Uint8Array(0),
     view: new views.View(), alone: new views.View(), events: NO_EVENTS,

@@ -110,13 +110,13 @@ const verdict = (() => {
   // ---- doubts
 
   /* Says that slots are absent by the times of the lines, and offers to add them. */
-  function absent({ log, times }, actions) {
-    if (!(times.absent + times.breaks) || 2 * times.timed < log.count) return [];
+  function absent({ times }, actions) {
+    if (!(times.absent + times.breaks) || 2 * times.timed < times.groups) return [];
     const slots = `${parts.counted(times.absent, "slot")} ${times.absent === 1 ? "is" : "are"} not in this log`;
     const breaks = `${parts.counted(times.breaks, "break")} of unknown length`;
     const lacks = [times.absent && slots, times.breaks && breaks].filter(Boolean).join(", and it has ");
-    const without = log.count - times.timed;
-    const leftOut = without ? `It leaves out ${parts.counted(without, "line")} without a time. ` : "";
+    const without = times.groups - times.timed;
+    const leftOut = without ? `It leaves out ${parts.counted(without, "group")} without a time. ` : "";
     return [sentence(strong("Lost slots:"), ` By the times of the lines, ${lacks}. The audit takes the lines as slots `
       + `without a gap, so this answer may be wrong. ${leftOut}`, button("Add the lost slots", actions.fill))];
   }

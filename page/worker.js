@@ -31,25 +31,31 @@
     state.log = logfile.parse(state.bytes, tell);
   }
 
-  /* Counts the lines that are not empty and are no comment. */
-  const NEWLINE = 10, COMMENT = 35;
+  /* How many groups and how many lost slots the output of `slots` has. */
+  const NEWLINE = 10, COMMENT = 35, DASH = 45;
   function slotsIn(output) {
-    let count = 0;
+    let groups = 0, lost = 0;
     for (let at = 0; at < output.length; at = logfile.endOf(output, at) + 1) {
-      if (output[at] !== NEWLINE && output[at] !== COMMENT) count++;
+      if (output[at] === DASH) lost++; else if (output[at] !== NEWLINE && output[at] !== COMMENT) groups++;
     }
-    return count;
+    return { groups, lost };
   }
 
-  /* What `rdsrt slots` finds: the lines with a time, the slots that the log lacks by them, the breaks of unknown
-     length, and its note on coarse times. With M = 1 one lost slot stands for a break. */
+  /* What `rdsrt slots` finds: the groups of the log, those with a time, the slots that the log lacks by them, the breaks of
+     unknown length, and its note on coarse times. With M = 1 one lost slot stands for a break. */
   function timesOf(bytes, log) {
     const { bytes: output, notes } = rdsrt.runBytes(["slots", "--m", "1"], bytes);
-    const numberIn = (begin) => Number(notes.find((note) => note.startsWith(begin))?.match(/: (\d+)/)[1] ?? 0);
-    const timed = log.count - numberIn("groups without a time"), breaks = numberIn("times that went back");
-    const slots = slotsIn(output);
+    const breaks = Number(/^(\d+) times? went back/m.exec(notes.join("\n"))?.[1] ?? 0);
+    const { groups: timed, lost } = slotsIn(output), absent = lost - breaks - lostIn(log);
     const coarse = notes.find((note) => note.startsWith("the times vary")) ?? "";
-    return { timed, absent: Math.max(0, slots - timed - breaks), breaks, coarse };
+    return { groups: log.count - lostIn(log), timed, absent: Math.max(0, absent), breaks, coarse };
+  }
+
+  /* How many slots of a log have no whole group. */
+  function lostIn({ missing, count }) {
+    let lost = 0;
+    for (let slot = 0; slot < count; slot++) if (missing[slot]) lost++;
+    return lost;
   }
 
   /* Reads a log, and returns copies of its slots, and its programmes. */

@@ -194,6 +194,9 @@ class LogTab:
             idle(b)
             self.check(f"seed {SEED}, times {number}: added as by the program", of(b, "#log-text", "value"), filled,
                        log)
+            settle(b)
+            if "#" not in filled:
+                self.check(f"seed {SEED}, times {number}: offered once", "Add the lost" in text_of(b, "#verdict"), False, log)
         self.check_all("lost slots were offered", offered > 20, True)
         hour = f"{HI} @2026/11/26 10:00:00.00\nC201 2150 4A4F 0D20 @2026/11/26 11:00:00.00\n"
         call(b, "logTab.open", hour, {"pi": "C201", "m": 128, "k": 0})
