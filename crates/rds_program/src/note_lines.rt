@@ -8,7 +8,7 @@ use rds_audit::AuditFault;
 use rds_cli::Task;
 use rds_encoder::Refusal;
 use rds_io::{LogFault, TellingWrite, put};
-use rds_log::{BadStart, NoNote};
+use rds_log::{BadStart, NoNote, comment_of};
 use rds_script::Thing;
 use std::io::{self, ErrorKind, Write};
 
@@ -258,14 +258,12 @@ pub(crate) fn print_lack<N: TellingWrite>(slots: u64, lines: u64, screen: &mut N
 
 /// Prints that nobody knows how many slots were lost at a break of a log, and why.
 pub(crate) fn print_break<N: TellingWrite>(why: Break, screen: &mut N) {
-    let what = match why {
-        Break::Back => "time went back",
-        Break::Day => "more than a day passed",
-    };
+    let comment = comment_of(why);
     let mut note = begun();
+    push(comment.strip_prefix(b"# ").unwrap_or(comment), &mut note);
     let _ = write!(
         note,
-        "{what}: nobody knows how many slots were lost, so M lost slots stand for them"
+        ": nobody knows how many slots were lost, so M lost slots stand for them"
     );
     print(note, screen);
 }
