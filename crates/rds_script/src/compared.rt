@@ -144,12 +144,7 @@ fn nothing_shown(receivers: usize) -> ArrayVec<Airings, MOST_RECEIVERS>
 {
     let mut all = ArrayVec::new();
     for _ in 0..receivers {
-        all.push(Airings {
-            text: Airing::OnAir,
-            name: Airing::OnAir,
-            one: Airing::OnAir,
-            two: Airing::OnAir,
-        });
+        all.push(Airings::default());
     }
     all
 }
