@@ -83,9 +83,19 @@ class Edits(Case):
                            ("old: x\nnew: y\n", "a line new: has no line file: or old: before it"),
                            (text(("slots + 2", "")), "src/dwell.rt has its old line 0 times"),
                            (text(("self.slots", "0")), "src/dwell.rt has its old line 2 times"),
-                           (text(("    slots: u8,", "    slots: u16,")), "it changes no body"),
-                           (text(("d = 2", "d = 3"), file="specs/Dwell.antt"), "it changes no body")):
+                           (text(("    slots: u8,", "    slots: u16,")), "it changes no body and names no law"),
+                           (text(("d = 2", "d = 3"), file="specs/Dwell.antt"), "it changes no body and names no law")):
             self.check(given, self.why(given), why)
+
+    def test_an_edit_of_a_definition_names_laws_and_is_tried_alone(self):
+        self.write("specs/Dwell.antt", "d = 2\n")
+        wrong = self.edit("law: laws::safe\n" + text(("d = 2", "d = 3"), file="specs/Dwell.antt"), "z")
+        self.check("laws", wrong.names, {("src/laws.rt", "safe")})
+        batches = self.edits.batches([self.edit(FMT, "a"), wrong, self.edit(DWELL, "b")], self.crate)
+        self.check("batches", [len(it) for it in batches], [2, 1])
+        refused = "fn low::laws::safe: not proved\n"
+        self.check("a law fails", self.edits.judged(wrong, 1, refused + END)[0], True)
+        self.check("another one", self.edits.judged(wrong, 1, refused.replace("safe", "free") + END)[0], False)
 
     def test_edits_of_one_body_are_tried_one_after_the_other(self):
         edits = [self.edit(it, name) for name, it in (("a", FMT), ("b", DWELL), ("c", BOTH), ("d", LEAST))]
