@@ -9,5 +9,6 @@ pub mod Search
 -- The output lines, and the promise of the call.
 pub mod Lines
 pub mod SomeLines
+pub mod Candidates
 pub mod Witness
 pub mod Prints

@@ -1,11 +1,12 @@
 //! The lines of mixes.
 ghost use Rattle.std.specs.Prelude.{◌≡◌, ◌⊎◌, ◌≤◌, ◌<◌, ◌+◌, ◌++◌, [], IsTrue, false, length};
-ghost use Rattle.rds_log.specs.LogWrites.{tuned};
 ghost use Rattle.rds_receiver.specs.Borrowed.{view_of};
 ghost use Rattle.rds_witness.specs.Borrowed.{IsShortThing, thing_of};
-ghost use Rattle.rds_witness.specs.Lines.{AreMixLines, burst_text, shown_line, tag_name};
-ghost use Rattle.rds_witness.specs.Mix.{AreAround, Has, NeverShows, Shows, until};
-ghost use Rattle.rds_witness.specs.SomeLines.{AddsKind, AreSomeMixLines, kind_of};
+ghost use Rattle.rds_witness.specs.Candidates.{AddsKindOfIt, AreAroundIt, AreItsMixLines, AreSomeOfItsMixLines};
+ghost use Rattle.rds_witness.specs.Candidates.{IsNeverShown};
+ghost use Rattle.rds_witness.specs.Lines.{burst_text, shown_line, tag_name};
+ghost use Rattle.rds_witness.specs.Mix.{Has, Shows};
+ghost use Rattle.rds_witness.specs.SomeLines.{kind_of};
 
 use crate::burst::Burst;
 use crate::candidate::Candidate;
@@ -76,11 +77,9 @@ fn tag_name(which: Which) -> &'static [u8]
 fn is_mix(candidate: &Candidate<'_>, before: View<'_>, thing: Thing<'_>) -> bool
     requires { candidate.now.slot < length candidate.now.log.now }
     ensures new { IsTrue result → Shows (view_of before.entry) (thing_of thing.entry) → ⊥ }
-    ensures never { IsTrue result → NeverShows (tuned candidate.now.pi candidate.now.dwell) candidate.now.log.now
-        (until candidate.now.dwell candidate.now.log.now candidate.now.slot) (thing_of thing.entry) }
+    ensures never { IsTrue result → IsNeverShown candidate.now (thing_of thing.entry) }
     ensures no { result ≡ false → Shows (view_of before.entry) (thing_of thing.entry)
-        ⊎ (NeverShows (tuned candidate.now.pi candidate.now.dwell) candidate.now.log.now
-        (until candidate.now.dwell candidate.now.log.now candidate.now.slot) (thing_of thing.entry) → ⊥) }
+        ⊎ (IsNeverShown candidate.now (thing_of thing.entry) → ⊥) }
 {
     if shows(before, thing) {
         return false;
@@ -97,13 +96,11 @@ fn push_if_mix(
     thing: Thing<'_>,
     lines: &mut Lines<ROOM>,
 )
-    requires around { AreAround (tuned candidate.now.pi candidate.now.dwell) candidate.now.log.now candidate.now.burst candidate.now.slot
-        (view_of before) (view_of after) }
+    requires around { AreAroundIt candidate.now (view_of before) (view_of after) }
     requires has { Has (view_of after) (thing_of thing) }
     requires short { IsShortThing thing }
     requires room { length lines.old + 364 ≤ 2048 }
-    ensures mixes { AddsKind (kind_of (thing_of thing.entry)) (tuned candidate.now.pi candidate.now.dwell) candidate.now.log.now candidate.now.burst
-        candidate.now.slot lines.old lines.new }
+    ensures mixes { AddsKindOfIt (kind_of (thing_of thing.entry)) candidate.now lines.old lines.new }
     ensures room { length lines.new ≤ length lines.old + 364 }
 {
     if is_mix(candidate, before, thing) {
@@ -117,8 +114,7 @@ fn push_if_mix(
 /// Appends the line of each thing that is a mix in the slot.
 pub(crate) fn push_mixes(candidate: &Candidate<'_>, lines: &mut Lines<ROOM>)
     requires { lines.old ≡ [] }
-    ensures { AreMixLines (tuned candidate.now.pi candidate.now.dwell) candidate.now.log.now candidate.now.burst candidate.now.slot
-        lines.new }
+    ensures { AreItsMixLines candidate.now lines.new }
 {
     let burst = candidate.burst;
     if burst.first > burst.last
@@ -151,12 +147,9 @@ fn push_mixes_of(
     after: View<'_>,
     lines: &mut Lines<ROOM>,
 )
-    requires around { AreAround (tuned candidate.now.pi candidate.now.dwell) candidate.now.log.now candidate.now.burst candidate.now.slot
-        (view_of before) (view_of after) }
+    requires around { AreAroundIt candidate.now (view_of before) (view_of after) }
     requires room { length lines.old + 1456 ≤ 2048 }
-    ensures { AreSomeMixLines 0 (tuned candidate.now.pi candidate.now.dwell) candidate.now.log.now candidate.now.burst candidate.now.slot
-        lines.old → AreSomeMixLines 4 (tuned candidate.now.pi candidate.now.dwell) candidate.now.log.now candidate.now.burst
-        candidate.now.slot lines.new }
+    ensures { AreSomeOfItsMixLines 0 candidate.now lines.old → AreSomeOfItsMixLines 4 candidate.now lines.new }
 {
     push_text(candidate, before, after, lines);
     push_name(candidate, before, after, lines);
@@ -166,11 +159,9 @@ fn push_mixes_of(
 
 /// Appends the line of the text, if it is a mix.
 fn push_text(candidate: &Candidate<'_>, before: View<'_>, after: View<'_>, lines: &mut Lines<ROOM>)
-    requires around { AreAround (tuned candidate.now.pi candidate.now.dwell) candidate.now.log.now candidate.now.burst candidate.now.slot
-        (view_of before) (view_of after) }
+    requires around { AreAroundIt candidate.now (view_of before) (view_of after) }
     requires room { length lines.old + 364 ≤ 2048 }
-    ensures mixes { AddsKind 0 (tuned candidate.now.pi candidate.now.dwell) candidate.now.log.now candidate.now.burst
-        candidate.now.slot lines.old lines.new }
+    ensures mixes { AddsKindOfIt 0 candidate.now lines.old lines.new }
     ensures room { length lines.new ≤ length lines.old + 364 }
 {
     if let Some(text) = after.text {
@@ -180,11 +171,9 @@ fn push_text(candidate: &Candidate<'_>, before: View<'_>, after: View<'_>, lines
 
 /// Appends the line of the name, if it is a mix.
 fn push_name(candidate: &Candidate<'_>, before: View<'_>, after: View<'_>, lines: &mut Lines<ROOM>)
-    requires around { AreAround (tuned candidate.now.pi candidate.now.dwell) candidate.now.log.now candidate.now.burst candidate.now.slot
-        (view_of before) (view_of after) }
+    requires around { AreAroundIt candidate.now (view_of before) (view_of after) }
     requires room { length lines.old + 364 ≤ 2048 }
-    ensures mixes { AddsKind 1 (tuned candidate.now.pi candidate.now.dwell) candidate.now.log.now candidate.now.burst
-        candidate.now.slot lines.old lines.new }
+    ensures mixes { AddsKindOfIt 1 candidate.now lines.old lines.new }
     ensures room { length lines.new ≤ length lines.old + 364 }
 {
     if let Some(name) = after.name {
@@ -194,11 +183,9 @@ fn push_name(candidate: &Candidate<'_>, before: View<'_>, after: View<'_>, lines
 
 /// Appends the line of the first tag, if it is a mix.
 fn push_one(candidate: &Candidate<'_>, before: View<'_>, after: View<'_>, lines: &mut Lines<ROOM>)
-    requires around { AreAround (tuned candidate.now.pi candidate.now.dwell) candidate.now.log.now candidate.now.burst candidate.now.slot
-        (view_of before) (view_of after) }
+    requires around { AreAroundIt candidate.now (view_of before) (view_of after) }
     requires room { length lines.old + 364 ≤ 2048 }
-    ensures mixes { AddsKind 2 (tuned candidate.now.pi candidate.now.dwell) candidate.now.log.now candidate.now.burst
-        candidate.now.slot lines.old lines.new }
+    ensures mixes { AddsKindOfIt 2 candidate.now lines.old lines.new }
     ensures room { length lines.new ≤ length lines.old + 364 }
 {
     if let Some((class, piece)) = after.one {
@@ -214,11 +201,9 @@ fn push_one(candidate: &Candidate<'_>, before: View<'_>, after: View<'_>, lines:
 
 /// Appends the line of the second tag, if it is a mix.
 fn push_two(candidate: &Candidate<'_>, before: View<'_>, after: View<'_>, lines: &mut Lines<ROOM>)
-    requires around { AreAround (tuned candidate.now.pi candidate.now.dwell) candidate.now.log.now candidate.now.burst candidate.now.slot
-        (view_of before) (view_of after) }
+    requires around { AreAroundIt candidate.now (view_of before) (view_of after) }
     requires room { length lines.old + 364 ≤ 2048 }
-    ensures mixes { AddsKind 3 (tuned candidate.now.pi candidate.now.dwell) candidate.now.log.now candidate.now.burst
-        candidate.now.slot lines.old lines.new }
+    ensures mixes { AddsKindOfIt 3 candidate.now lines.old lines.new }
     ensures room { length lines.new ≤ length lines.old + 364 }
 {
     if let Some((class, piece)) = after.two {

@@ -1,0 +1,28 @@
+-- What the lines of mixes say of a candidate: a log, the tuning of its receivers, the lost slots, and a slot.
+use Rattle.std.specs.Prelude.{ℕ, List}
+use Rattle.rds_log.specs.LogWrites.{tuned}
+use Rattle.rds_receiver.specs.Shown.{ShownView}
+use Rattle.rds_witness.specs.Lines.{AreMixLines}
+use Rattle.rds_witness.specs.Mix.{AreAround, NeverShows, Thing, until}
+use Rattle.rds_witness.specs.SomeLines.{AddsKind, AreSomeMixLines}
+use Rattle.rds_witness.specs.declared.candidate.Candidate.{Candidate}
+
+-- the views before and after its slot, with its burst lost
+abbrev pub AreAroundIt : Candidate → ShownView → ShownView → Type 0
+AreAroundIt c before after = AreAround (tuned c.pi c.dwell) c.log.now c.burst c.slot before after
+
+-- with nothing lost, no slot up to a dwell after its slot shows the thing
+abbrev pub IsNeverShown : Candidate → Thing → Type 0
+IsNeverShown c thing = NeverShows (tuned c.pi c.dwell) c.log.now (until c.dwell c.log.now c.slot) thing
+
+-- the lines of all its mixes
+abbrev pub AreItsMixLines : Candidate → List ℕ → Type 0
+AreItsMixLines c lines = AreMixLines (tuned c.pi c.dwell) c.log.now c.burst c.slot lines
+
+-- lines of its mixes, with each mix of the first n kinds
+abbrev pub AreSomeOfItsMixLines : ℕ → Candidate → List ℕ → Type 0
+AreSomeOfItsMixLines n c lines = AreSomeMixLines n (tuned c.pi c.dwell) c.log.now c.burst c.slot lines
+
+-- the lines of its mixes of this kind are appended
+abbrev pub AddsKindOfIt : ℕ → Candidate → List ℕ → List ℕ → Type 0
+AddsKindOfIt n c before after = AddsKind n (tuned c.pi c.dwell) c.log.now c.burst c.slot before after
