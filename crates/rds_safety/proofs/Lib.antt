@@ -13,7 +13,6 @@ pub mod OwnClocks
 pub mod Groups
 pub mod Least
 pub mod LeastTwice
-pub mod LeastTwiceAtTwo
 pub mod LooserClocks
 pub mod HeldWhole
 pub mod TwiceDelivery

@@ -1,7 +1,8 @@
 -- Receivers that follow the A/B flag of IEC 62106 alone, like the radios in use: they have no dwell. Such a receiver
 -- starts again when a segment comes with the other flag, and otherwise drops nothing. What the station and the
 -- reception need so that it shows no mix is this project's own rule. Lists have the newest first.
-use Rattle.std.specs.Prelude.{◌≡◌, ◌≢◌, ◌+◌, ◌<◌, ◌≤◌, ◌⊎◌, ℕ, Bool, true, false, List, [], ◌∷◌, Option, Some, if◌then◌else◌}
+use Rattle.std.specs.Prelude.{◌≡◌, ◌≢◌, ◌+◌, ◌<◌, ◌≤◌, ◌⊎◌, ℕ, Bool, true, false, List, [], ◌∷◌, Option, Some}
+use Rattle.std.specs.Prelude.{if◌then◌else◌}
 use Rattle.rds_fields.specs.declared.message.Message.{Message}
 use Rattle.rds_fields.specs.declared.message.Message.TheVariants.{Tags}
 use Rattle.rds_fields.specs.declared.pair.Which.TheVariants.{One, Two}
@@ -89,8 +90,8 @@ pub record IsNews (plan : List Broadcast) (k : ℕ) (b : Broadcast) : Type 0 whe
   pub filled : b.bytes ≢ []
   pub new : (j : ℕ) (a : Broadcast) → HasNumber plan j a → j < k → k ≤ j + 2 → a.flag ≡ b.flag → a.bytes ≡ b.bytes → ⊥
 
--- once the receiver heard a segment, it heard one of each later broadcast whose next one began by slot `now`, if Is holds
--- of the next one: that it is filled, or news. It may miss other broadcasts
+-- once the receiver heard a segment, it heard one of each later broadcast whose next one began by slot `now`, if Is
+-- holds of the next one: that it is filled, or news. It may miss other broadcasts
 abbrev pub HearsEach : (List Broadcast → ℕ → Broadcast → Type 0) → (Message → Option Fragment) → List Broadcast → ℕ
     → Input → Type 0
 HearsEach Is pick plan now input =
@@ -117,7 +118,8 @@ EachLasts Is n plan =
     → b.start + n ≤ b.end + 1
 
 -- a segment was sent in slot `from` or later, and before slot `before`
-pub record SendsOneBetween (pick : Message → Option Fragment) (log : List (Option Message)) (from before : ℕ) : Type 0 where
+pub record SendsOneBetween (pick : Message → Option Fragment) (log : List (Option Message))
+    (from before : ℕ) : Type 0 where
   pub slot : ℕ
   pub message : Message
   pub fragment : Fragment

@@ -12,7 +12,8 @@ use Rattle.rds_safety.specs.Laws.{ShowsAMix}
 use Rattle.rds_safety.specs.Near.{ListensNear}
 use Rattle.rds_safety.specs.Plans.{AreLawful, Plans}
 use Rattle.rds_safety.specs.Safe.{AreSafe, Listener}
-use Rattle.rds_safety.specs.Twice.{IsHeardWithWrong, ListensOnce, ListensTwice, NoneWrongTwice, confirmed_input, lateness_of_two}
+use Rattle.rds_safety.specs.Twice.{IsHeardWithWrong, ListensOnce, ListensTwice, NoneWrongTwice, confirmed_input}
+use Rattle.rds_safety.specs.Twice.{lateness_of_two}
 
 -- the confirmed messages are near the log, for the lateness of two receipts
 abbrev pub WhoHearsTwiceListensNear : Type 0
@@ -32,11 +33,6 @@ LawfulPlansAreSafeTwice =
 abbrev pub OneSlotLessMixesTwice : Type 0
 OneSlotLessMixesTwice =
     (w k m : ℕ) → 1 < w → 2 < m → ShowsAMix (m + lateness_of_two w k - 1) m (ListensTwice w k m)
-
--- nor at a dwell of 2, if the window is longer than that
-abbrev pub OneSlotLessMixesTwiceAtTwo : Type 0
-OneSlotLessMixesTwiceAtTwo =
-    (w k : ℕ) → 2 < w → ShowsAMix (2 + lateness_of_two w k - 1) 2 (ListensTwice w k 2)
 
 -- for a receiver that shows what it heard once, no spacing is enough: one wrong message makes a mix
 abbrev pub OneWrongMessageMixes : Type 0

@@ -6,17 +6,18 @@ ghost use Rattle.rds_safety.specs.FlagLaws.{NamesByFlagAreNew, NamesByFlagAreOfT
 ghost use Rattle.rds_safety.specs.FlagLaws.{NewSourcesAreNear, TextsWithADwellAreNew};
 ghost use Rattle.rds_safety.specs.FlagLaws.{TagsByFlagAreOfTheirText, TextsByFlagAreHeldAlone, TextsByFlagAreNew};
 ghost use Rattle.rds_safety.specs.FlagLaws.{TextsByFlagAreOfTheirSource};
-ghost use Rattle.rds_safety.specs.FlagLaws.{TheFlagAloneIsADwellWhileHeard, TheFlagAloneIsALongDwell, WhoGetsSomeHearsOneIn};
+ghost use Rattle.rds_safety.specs.FlagLaws.{TheFlagAloneIsADwellWhileHeard, TheFlagAloneIsALongDwell};
+ghost use Rattle.rds_safety.specs.FlagLaws.{WhoGetsSomeHearsOneIn};
 ghost use Rattle.rds_safety.specs.FlagLaws.{WhoHearsOneInHearsEach};
 ghost use Rattle.rds_safety.specs.FlagLaws.{WhoHearsOneInHearsTextBeforeTags, WhoLosesFewGetsSome};
 ghost use Rattle.rds_safety.specs.Laws.{ARunHasOneSource, ASlowClockIsAnOwnClock, LateGroupsAreLateMessages};
 ghost use Rattle.rds_safety.specs.Laws.{LateIsBySlowClock, LawfulPlansAreSafe, LawfulPlansAreSafeByOwnClocks};
-ghost use Rattle.rds_safety.specs.Laws.{LawfulPlansAreSafeForSlowClocks, LawfulPlansAreSafeNear, LawfulPlansAreSafeOnTime};
+ghost use Rattle.rds_safety.specs.Laws.{LawfulPlansAreSafeForSlowClocks, LawfulPlansAreSafeNear};
+ghost use Rattle.rds_safety.specs.Laws.{LawfulPlansAreSafeOnTime};
 ghost use Rattle.rds_safety.specs.Laws.{NoSlotLateIsOnTime, OnTimeIsNoSlotLate, OneSlotLessMixes};
 ghost use Rattle.rds_safety.specs.Laws.{OneSlotLessMixesByOwnClock, OneSlotLessMixesForSlowClocks};
 ghost use Rattle.rds_safety.specs.Laws.{OneSlotLessMixesOnTime, PlanLaws, TheTrueClockIsNoSlotLate};
 ghost use Rattle.rds_safety.specs.TwiceLaws.{LawfulPlansAreSafeTwice, OneSlotLessMixesTwice};
-ghost use Rattle.rds_safety.specs.TwiceLaws.{OneSlotLessMixesTwiceAtTwo};
 ghost use Rattle.rds_safety.specs.TwiceLaws.{OneWrongMessageMixes, WhoHearsTwiceListensNear};
 ghost use Rattle.rds_safety.specs.TwiceLaws.{WhoHearsBothSegmentsTwiceShowsTheName};
 ghost use Rattle.rds_safety.specs.TwiceLaws.{WhoHearsEachSegmentTwiceShowsTheText, WhoIsHandedWrongGroupsListens};
@@ -98,8 +99,7 @@ pub fn the_dwell_is_the_least()
 /// States what holds for receivers that get wrong groups and show only what they heard twice within W slots, if no
 /// segment and no pair of tags is wrong twice within W slots:
 ///
-/// - plans lawful for M + K + W - 1 make each slot safe, and one slot less is not enough, if W > 1 and M > 2, or if W > 2
-///   and M = 2;
+/// - plans lawful for M + K + W - 1 make each slot safe, and one slot less is not enough, if W > 1 and M > 2;
 /// - a text or name is shown if each of its segments came twice, less than W slots apart, within M slots of a broadcast
 ///   in which the receiver heard nothing wrong and nothing late.
 ///
@@ -111,7 +111,6 @@ pub fn safe_if_heard_twice()
     ensures text { WhoHearsEachSegmentTwiceShowsTheText }
     ensures name { WhoHearsBothSegmentsTwiceShowsTheName }
     ensures least { OneSlotLessMixesTwice }
-    ensures least_at_two { OneSlotLessMixesTwiceAtTwo }
     ensures once { OneWrongMessageMixes }
 {
     plan_laws();

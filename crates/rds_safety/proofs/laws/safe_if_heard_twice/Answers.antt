@@ -1,6 +1,5 @@
 use Rattle.std.proofs.Common.{refl}
 use Rattle.rds_safety.proofs.LeastTwice.{one_slot_less_twice, one_wrong_mixes}
-use Rattle.rds_safety.proofs.LeastTwiceAtTwo.{one_slot_less_at_two}
 use Rattle.rds_safety.proofs.Safety.{are_safe_twice}
 use Rattle.rds_safety.proofs.Twice.{twice_listens}
 use Rattle.rds_safety.proofs.TwiceDelivery.{name_shown_twice, text_shown_twice}
@@ -18,9 +17,6 @@ returns-clause-safe c = are_safe_twice c.plan_laws.ensures
 
 pub returns-clause-least : goal.returns-clause-least
 returns-clause-least c = one_slot_less_twice
-
-pub returns-clause-least_at_two : goal.returns-clause-least_at_two
-returns-clause-least_at_two c = one_slot_less_at_two
 
 pub returns-clause-once : goal.returns-clause-once
 returns-clause-once c = one_wrong_mixes
