@@ -1,8 +1,7 @@
 -- A counted read or write either passes bytes and keeps the count of failures, or passes none and raises it by one.
 -- Each counted read raises the count of reads.
 -- This is the project's own rule. A count cannot rise above 2^64 - 1: if the failures are there, each call fails.
-use Rattle.std.proofs.Common.{◌∙◌, Bool, add-one, ap, arith, refl, suc, sym, true, zero}
-use Rattle.std.proofs.lemmas.Bool.Decides.{nat_tests}
+use Rattle.std.proofs.Common.{◌∙◌, Bool, add-one, ap, refl, suc, sym, true, zero}
 use Rattle.std.specs.Prelude.{◌≡◌, ◌⊎◌, ◌<◌, ◌≤◌, ◌+◌, ◌^◌, ◌-◌}
 use Rattle.std.specs.Prelude.{ℕ, List, take, length, Option, MatchOption, nat_lt, if◌then◌else◌}
 use Rattle.std.specs.Io.KnownBytes.{Appends, Consumes, IsAtEnd, Keeps}
@@ -87,12 +86,3 @@ pub count_next : (before n now after : ℕ) → now ≡ count_after before n →
     → after ≡ count_after before (n + 1)
 unfolding count_after
 count_next before n now after had more = more ∙ ap next_count had ∙ sym (ap (count_after before) (add-one n))
-
--- a count that stays below its greatest is the number
-pub count_is : (before n : ℕ) → before + n ≤ most_counted → count_after before n ≡ before + n
-unfolding count_after
-count_is before zero room = omega arith
-count_is before (suc n) room =
-    let had : count_after before n ≡ before + n = count_is before n (omega (arith, room)) in
-    let less : nat_lt (before + n) most_counted ≡ true = grind (arith, nat_tests) in
-    ap next_count had ∙ ap (λ (b : Bool). if b then before + n + 1 else before + n) less ∙ omega arith

@@ -18,7 +18,7 @@ use Rattle.rds_arrivals.specs.declared.lost.Break.TheVariants.{Back, Day}
 use Rattle.rds_arrivals.specs.declared.stamp.Stamp.{Stamp}
 use Rattle.rds_log.specs.LogLines.{Line}
 use Rattle.rds_log.specs.LineSays.{LineSays, deciding}
-use Rattle.rds_log.specs.Fill.{AddsNothing, AreFilled, HasUntimed, IsOfAnother, IsUntimed, SoFar, WroteFilled, WroteFilledPart, break_line, gap_lines, lost_lines, more_lines, newest_time, shown, time_of}
+use Rattle.rds_log.specs.Fill.{AddsNothing, AreFilled, HasUntimed, IsOfAnother, IsUntimed, SoFar, WroteFilled, WroteFilledPart, gap_lines, lost_lines, more_lines, newest_time, shown, time_of}
 use Rattle.rds_log.specs.Inside.Filler.{HasFilled, HasOutput, KeepsPace, KeepsTime, LostOutput, last_time, told_after}
 use Rattle.rds_log.specs.Inside.Pace.{PaceStandsAt}
 use Rattle.rds_log.specs.declared.pace.Pace.{Pace}

@@ -4,9 +4,7 @@ use Rattle.std.specs.Prelude.{ℕ, Err, List, Ok, Option, Result}
 use Rattle.rds_io.specs.Told.{Failed, Traffic}
 use Rattle.rds_world.specs.declared.world.Config.{Config}
 use Rattle.rds_io.specs.ReadFailed.{SomeReadFailed}
-use Rattle.rds_script.specs.Notes.{NotesTell}
 use Rattle.rds_script.specs.Play.{Plays}
-use Rattle.rds_script.specs.declared.notes.ScriptNotes.{ScriptNotes}
 use Rattle.rds_io.specs.declared.fault.LogFault.{LogFault}
 use Rattle.rds_io.specs.declared.fault.LogFault.TheVariants.{BadLine, BadRow, Read, Write, TooLong, Memory}
 use Rattle.rds_script.specs.declared.form.Form.{Form}
@@ -31,29 +29,3 @@ plays_by says form config most known w (Err Read) (records, wrote, fewer, failed
 plays_by says form config most known w (Err Write) p = p
 plays_by says form config most known w (Err TooLong) p = p
 plays_by says form config most known w (Err Memory) p = p
-
--- and its notes
-pub notes_by : {P Q : Type 0} → (P → Q)
-    → (form : Form) (config : Config) (most : ℕ) (known : Option (List ℕ)) (w : Traffic)
-    (result : Result (Unit {0}) LogFault) (notes : ScriptNotes)
-    → NotesTell form config most record { known = known; Failed = P } w result notes
-    → NotesTell form config most record { known = known; Failed = Q } w result notes
-notes_by says form config most known w (Ok done) notes n =
-    record { plays = n.plays; bad = n.bad; events = n.events; say = n.say; wait = n.wait }
-notes_by says form config most known w (Err (BadLine line)) notes n =
-    record { plays = n.plays; bad = n.bad; events = n.events; say = n.say; wait = n.wait }
-notes_by says form config most known w (Err (BadRow row)) notes n =
-    record { plays = n.plays; bad = n.bad; events = n.events; say = n.say; wait = n.wait }
-notes_by says form config most known w (Err Read) notes n = record {
-  plays = (n.plays.0, n.plays.1, n.plays.2, says n.plays.3);
-  bad = n.bad;
-  events = n.events;
-  say = n.say;
-  wait = n.wait;
-}
-notes_by says form config most known w (Err Write) notes n =
-    record { plays = n.plays; bad = n.bad; events = n.events; say = n.say; wait = n.wait }
-notes_by says form config most known w (Err TooLong) notes n =
-    record { plays = n.plays; bad = n.bad; events = n.events; say = n.say; wait = n.wait }
-notes_by says form config most known w (Err Memory) notes n =
-    record { plays = n.plays; bad = n.bad; events = n.events; say = n.say; wait = n.wait }

@@ -7,7 +7,6 @@ use Rattle.rds_view_lines.specs.KeptView.{view_kept}
 use Rattle.rds_view_lines.specs.Output.{is_same_text, nothing_shown}
 use Rattle.rds_view_lines.specs.declared.parts.Parts.{Parts}
 use Rattle.rds_world.specs.Event.{Event}
-use Rattle.rds_world.specs.OnAir.{air_of}
 use Rattle.rds_world.specs.Slots.{input_of}
 use Rattle.rds_world.specs.StandsAt.{IsViewOfInput}
 use Rattle.rds_world.specs.State.{distance}
