@@ -9,7 +9,7 @@ use std::marker::Model;
 const MOST: u32 = 87_578;
 
 /// The grain, less than a slot: times may be off by so many microseconds (this project's own rule).
-#[derive(Clone, Copy, Debug, PartialEq, Eq)]
+#[derive(Clone, Copy)]
 pub struct Grain {
     microseconds: u32,
 }

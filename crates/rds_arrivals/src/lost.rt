@@ -12,7 +12,7 @@ pub(crate) const NINETEEN_SLOTS: u64 = 1_664_000;
 const DAY: u64 = 86_400_000_000;
 
 /// Why nobody knows how many slots passed from one time to the next.
-#[derive(Clone, Copy, Debug, PartialEq, Eq)]
+#[derive(Clone, Copy)]
 pub enum Break {
     /// The time went back.
     Back,

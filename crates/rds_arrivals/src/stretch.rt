@@ -6,7 +6,7 @@ use crate::grain::Grain;
 use crate::lost::{NINETEEN_SLOTS, lost_between};
 
 /// A stretch of a log without a break. Its times are in microseconds.
-#[derive(Clone, Copy, Debug, PartialEq, Eq)]
+#[derive(Clone, Copy)]
 pub struct Stretch {
     /// The time of the first group.
     pub first: u64,
@@ -28,9 +28,9 @@ impl Stretch {
         }
     }
 
-    /// Returns the stretch of a group of this time, which follows a group of that stretch. A break begins a new one. The
-    /// lost slots between the two groups are those by their times, and no fewer than `told`: so many were known before the
-    /// group came. The count of slots stops at 2^64 - 1, which only a coarse stretch reaches.
+    /// Returns the stretch of a group of this time, which follows a group of that stretch. A break begins a new one.
+    /// The lost slots between the two groups are those by their times, and no fewer than `told`: so many were known
+    /// before the group came. The count of slots stops at 2^64 - 1, which only a coarse stretch reaches.
     pub fn after(before: Option<Stretch>, told: u32, time: u64, grain: Grain) -> Stretch
         ensures last { result.last ≡ time }
         ensures value { IfSome before (λ s. IsCoarse grain s → ⊥) → result ≡ followed_by grain before told time }

@@ -59,7 +59,7 @@ pub fn read_text(text: &str, into: &mut [u8]) -> Result<usize, TextFault>
 }
 
 /// The first character of a text that cannot be read.
-#[derive(Clone, Copy, Debug, PartialEq, Eq)]
+#[derive(Clone, Copy)]
 pub struct Stop {
     /// Its place, counted in characters from 1.
     pub place: usize,

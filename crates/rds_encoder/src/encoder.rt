@@ -347,7 +347,7 @@ impl Encoder {
         ensures other { turn_in self.old.round ≢ Turn.Text
             → self.new ≡ record self.old { round = (self.old.round + 1) % 8 } }
     {
-        if self.round.turn() == Turn::Text {
+        if matches!(self.round.turn(), Turn::Text) {
             self.text.advance();
         }
         self.round.advance();

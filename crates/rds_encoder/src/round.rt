@@ -5,7 +5,7 @@ ghost use Rattle.rds_encoder.specs.Round.{IsTurn, turn_in};
 use std::marker::Model;
 
 /// What a free slot is used for.
-#[derive(Clone, Copy, PartialEq)]
+#[derive(Clone, Copy)]
 pub(crate) enum Turn {
     /// The next segment of the text.
     Text,

@@ -93,7 +93,7 @@ fn print_warnings<N: TellingWrite>(task: Task, notes: &RunNotes, screen: &mut N)
     }
     // Prover: a value is copied by a new name before its second use (docs/PROVER.md, "Workarounds").
     let asked = task;
-    if notes.end != End::Done || notes.log.no.is_some() || reads_script(asked) {
+    if !matches!(notes.end, End::Done) || notes.log.no.is_some() || reads_script(asked) {
         return;
     }
     if notes.log.heard.wanted {
@@ -335,8 +335,8 @@ fn print_coarse<N: TellingWrite>(task: Task, notes: &RunNotes, screen: &mut N) {
     push_count(slots, "slot was", "slots were", &mut note);
     let _ = write!(
         note,
-        " counted where a station sends {room} at most, so slots may be missing elsewhere. Do not audit this output. If the \
-         recording lost nothing, audit the log itself"
+        " counted where a station sends {room} at most, so slots may be missing elsewhere. Do not audit this output. \
+         If the recording lost nothing, audit the log itself"
     );
     print(note, screen);
 }
@@ -364,8 +364,8 @@ fn print_no<N: TellingWrite>(notes: &RunNotes, screen: &mut N) {
     print(note, screen);
 }
 
-/// Appends the option for a recording if the fault goes with it: tags that came before any text, or soon after slot 0 as
-/// the start of their text.
+/// Appends the option for a recording if the fault goes with it: tags that came before any text, or soon after slot 0
+/// as the start of their text.
 fn push_running(no: NoNote, task: Task, note: &mut Note) {
     let may_be_old = match no.fault {
         AuditFault::EarlyTag => no.earlier.unwrap_or(0) == 0,
@@ -399,8 +399,8 @@ fn push_rule(no: NoNote, note: &mut Note) {
         AuditFault::NotOneText => write!(note, "the segments fit no {thing}"),
         AuditFault::EarlyFlag => write!(
             note,
-            "a {thing} reused the A/B flag less than M + K = {spacing} slots after the last group of the {thing} before \
-             the previous one"
+            "a {thing} reused the A/B flag less than M + K = {spacing} slots after the last group of the {thing} \
+             before the previous one"
         ),
         AuditFault::EarlyTag if no.earlier.is_none() => write!(
             note,

@@ -15,7 +15,7 @@ const REFUSED_ROOM: usize = 4096;
 const PI_ROOM: usize = 60;
 
 /// How a run ended (this project's own rule).
-#[derive(Clone, Copy, Debug, PartialEq, Eq)]
+#[derive(Clone, Copy)]
 pub enum End {
     /// No engine ran: the arguments were refused or asked for help.
     NotRun,

@@ -3,7 +3,7 @@ ghost use Rattle.std.specs.Prelude.{◌≤◌, ◌↔◌, IsTrue};
 ghost use Rattle.rds_world.specs.declared.event.TheConstants.{MOST_RECEIVERS};
 
 /// The output for the slots of a script.
-#[derive(Clone, Copy, PartialEq, Eq)]
+#[derive(Clone, Copy)]
 pub enum Form {
     /// The replies, the groups, and the changes at each receiver (`sim`).
     Simulation {
@@ -22,6 +22,9 @@ impl Form {
         requires { receivers ≤ MOST_RECEIVERS }
         ensures { IsTrue result ↔ IsAllowed self receivers }
     {
-        self != Form::Log || receivers == 0
+        match self {
+            Form::Simulation { .. } => true,
+            Form::Log => receivers == 0,
+        }
     }
 }
