@@ -1,6 +1,7 @@
--- The slots that a log lacks, by the times of its groups (this project's own rule; the time of a slot is the standard's).
--- Times are in microseconds. Lists have the newest first.
-use Rattle.std.specs.Prelude.{◌≡◌, ◌+◌, ◌-◌, ◌*◌, ◌/◌, ◌<◌, ◌≤◌, ◌⊎◌, ◌||◌, ℕ, zero, suc, Bool, List, [], ◌∷◌, Option, Some, None, max, nat_lt, if◌then◌else◌}
+-- The slots that a log lacks, by the times of its groups (this project's own rule; the time of a slot is the
+-- standard's). Times are in microseconds. Lists have the newest first.
+use Rattle.std.specs.Prelude.{◌≡◌, ◌+◌, ◌-◌, ◌*◌, ◌/◌, ◌<◌, ◌≤◌, ◌⊎◌, ◌||◌, ℕ, zero, suc, Bool, List, [], ◌∷◌, Option}
+use Rattle.std.specs.Prelude.{Some, None, max, nat_lt, if◌then◌else◌}
 
 -- 19 slots: a slot has 104 bits at 1187.5 bit/s
 abbrev pub nineteen_slots : ℕ

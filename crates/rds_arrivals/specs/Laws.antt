@@ -11,7 +11,8 @@ use Rattle.rds_safety.specs.OwnClock.{IsHeardByOwnClock}
 use Rattle.rds_safety.specs.Plans.{AreLawful, Plans}
 use Rattle.rds_safety.specs.Safe.{AreSafe}
 use Rattle.rds_arrivals.specs.Arrivals.{AreLost, and_lost, filled, lost_between, lost_within, nineteen_slots}
-use Rattle.rds_arrivals.specs.Delivered.{AreBelowASlot, AreOf, AreToldInTime, Delivery, EachTwo, IsLater, IsOnItsWay, IsUnbroken, KeepsPace, arrivals, input_of, oldest_slot, origins}
+use Rattle.rds_arrivals.specs.Delivered.{AreBelowASlot, AreOf, AreToldInTime, Delivery, EachTwo, IsLater, IsOnItsWay}
+use Rattle.rds_arrivals.specs.Delivered.{IsUnbroken, KeepsPace, arrivals, input_of, oldest_slot, origins}
 
 -- the number of lost slots is the one of the definition
 abbrev pub LostSlotsAreCounted : Type 0
@@ -43,7 +44,8 @@ FilledLogsAreOwnClocks X =
 -- slot of the newest group, and in the lost slots that follow
 abbrev pub FilledLogsAreSafe : Type 0
 FilledLogsAreSafe =
-    (station : Head) (grain spread m first lost : ℕ) (plans : Plans) (log : List (Option Message)) (sent : List (Option Group))
+    (station : Head) (grain spread m first lost : ℕ) (plans : Plans) (log : List (Option Message))
+        (sent : List (Option Group))
     (newest : Delivery Group) (before : List (Delivery Group)) (view : ShownView)
     → AreBelowASlot grain spread → 0 < m
     → AreLawful m plans log → AllZip (IsSent station) log sent → AreDelivered spread sent (newest ∷ before)

@@ -1,6 +1,9 @@
--- The time that a text begins with (this project's own rule): `@YYYY/MM/DD HH:MM:SS.CC`, `YYYY-MM-DDTHH:MM:SS.CC+HH:MM`,
--- or seconds such as `12.5`. Times are in microseconds. Byte i of the text is at place i.
-use Rattle.std.specs.Prelude.{◌+◌, ◌-◌, ◌*◌, ◌/◌, ◌%◌, ◌==◌, ◌&&◌, ◌||◌, ℕ, zero, suc, Bool, List, [], ◌∷◌, Option, Some, None, drop, is_some, length, nat_le, nat_lt, not, option_and_then, option_map, slice_index, if◌then◌else◌}
+-- The time that a text begins with (this project's own rule): `@YYYY/MM/DD HH:MM:SS.CC`,
+-- `YYYY-MM-DDTHH:MM:SS.CC+HH:MM`, or seconds such as `12.5`. Times are in microseconds. Byte i of the text is at place
+-- i.
+use Rattle.std.specs.Prelude.{◌+◌, ◌-◌, ◌*◌, ◌/◌, ◌%◌, ◌==◌, ◌&&◌, ◌||◌, ℕ, zero, suc, Bool, List, [], ◌∷◌, Option}
+use Rattle.std.specs.Prelude.{Some, None, drop, is_some, length, nat_le, nat_lt, not, option_and_then, option_map}
+use Rattle.std.specs.Prelude.{slice_index, if◌then◌else◌}
 use Rattle.std.specs.Option.{option_map_or}
 use Rattle.rds_arrivals.specs.declared.stamp.Stamp.{Stamp}
 
@@ -41,8 +44,11 @@ in_month = 31 ∷ 28 ∷ 31 ∷ 30 ∷ 31 ∷ 30 ∷ 31 ∷ 31 ∷ 30 ∷ 31 ∷
 abbrev pub days_to : ℕ → ℕ → ℕ → Option ℕ
 days_to year month day =
     if (month == 0) || nat_lt 12 month then None
-    else if (day == 0) || nat_lt (slice_index in_month (month - 1) + (if (month == 2) && is_leap year then 1 else 0)) day then None
-    else Some (days_before year + slice_index before_month (month - 1) + (if nat_lt 2 month && is_leap year then 1 else 0) + day - 1)
+    else if (day == 0)
+        || nat_lt (slice_index in_month (month - 1) + (if (month == 2) && is_leap year then 1 else 0)) day
+    then None
+    else Some (days_before year + slice_index before_month (month - 1)
+        + (if nat_lt 2 month && is_leap year then 1 else 0) + day - 1)
 
 -- ---- a date and a time of day
 
@@ -86,14 +92,19 @@ digit_before text place end =
 -- the first six digits of a fraction
 abbrev pub fraction : List ℕ → ℕ → ℕ → ℕ
 fraction text first end =
-    1000 * (100 * digit_before text first end + 10 * digit_before text (first + 1) end + digit_before text (first + 2) end)
-    + (100 * digit_before text (first + 3) end + 10 * digit_before text (first + 4) end + digit_before text (first + 5) end)
+    1000 * (100 * digit_before text first end + 10 * digit_before text (first + 1) end
+        + digit_before text (first + 2) end)
+    + (100 * digit_before text (first + 3) end + 10 * digit_before text (first + 4) end
+        + digit_before text (first + 5) end)
 
 -- the microseconds of a fraction such as `.25`, and the place after it; there may be none
 abbrev pub fraction_at : List ℕ → ℕ → Stamp
 fraction_at text place =
     if has text place 46
-    then record { time = fraction text (place + 1) (after_digits text (place + 1)); end = after_digits text (place + 1) }
+    then record {
+      time = fraction text (place + 1) (after_digits text (place + 1));
+      end = after_digits text (place + 1);
+    }
     else record { time = 0; end = place }
 
 -- a local time with the zone at this place: `Z`, `+01:00`, `-0330` or nothing
@@ -119,7 +130,8 @@ dated text =
     let at = if has text 0 64 then 1 else 0 in
     option_and_then (λ days.
     if has_either text (at + 10) 32 84
-    then option_and_then (λ second. let rest = fraction_at text (at + 19) in zoned text ((days * 86400 + second) * 1000000 + rest.time) rest.end)
+    then option_and_then (λ second. let rest = fraction_at text (at + 19) in
+        zoned text ((days * 86400 + second) * 1000000 + rest.time) rest.end)
     (second_of_day_at text (at + 11))
     else None)
     (date_at text at)
@@ -134,7 +146,8 @@ abbrev pub in_seconds : List ℕ → Option Stamp
 in_seconds text =
     let end = after_digits text 0 in
     if (end == 0) || nat_lt 12 end then None
-    else let rest = fraction_at text end in Some (record { time = 1000000 * number_of text end + rest.time; end = rest.end })
+    else let rest = fraction_at text end in
+        Some (record { time = 1000000 * number_of text end + rest.time; end = rest.end })
 
 -- the time ends with the text, a space or a carriage return
 abbrev pub is_over : List ℕ → ℕ → Bool

@@ -1,5 +1,6 @@
 -- The state of an audit after a log. Lists have the newest first.
-use Rattle.std.specs.Prelude.{◌≡◌, ◌<◌, ℕ, List, [], ◌∷◌, Option, Some, None, Result, Err, IfErr, IfOk, MatchOption, MatchResult, length}
+use Rattle.std.specs.Prelude.{◌≡◌, ◌<◌, ℕ, List, [], ◌∷◌, Option, Some, None, Result, Err, IfErr, IfOk, MatchOption}
+use Rattle.std.specs.Prelude.{MatchResult, length}
 use Rattle.rds_block.specs.declared.group.Group.{Group}
 use Rattle.rds_fields.specs.declared.message.Message.{Message}
 use Rattle.rds_receiver.specs.Receipts.{AreHeard, Fragment}
@@ -74,8 +75,10 @@ WhereTheAuditStands a Holds =
 
 -- the audit took the next slot, with this group or with none: it stands at the log with that slot; the result is its
 -- fault, which is that of the log; after a fault the result is that fault, and nothing changes
-pub record TakesSlot (a after : AuditState) (group : Option Group) (result : Result (Unit {0}) AuditFault) : Type 0 where
-  pub stands : (pi d : ℕ) (log : List (Option Group)) → AuditStandsAt pi d a log → AuditStandsAt pi d after (group ∷ log)
+pub record TakesSlot (a after : AuditState) (group : Option Group)
+    (result : Result (Unit {0}) AuditFault) : Type 0 where
+  pub stands : (pi d : ℕ) (log : List (Option Group)) → AuditStandsAt pi d a log
+      → AuditStandsAt pi d after (group ∷ log)
   pub fault : MatchResult result (λ _. after.fault ≡ None) (λ fault. after.fault ≡ Some fault)
   pub start : after.start ≡ a.start
   pub which : WhereTheAuditStands after
@@ -84,7 +87,8 @@ pub record TakesSlot (a after : AuditState) (group : Option Group) (result : Res
 
 -- the audit took this message in the next slot of a log: without an error its state follows from the log with that
 -- slot; with one, the slot breaks the rule of the fault first
-pub record Judges (a after : AuditState) (message : Option Message) (result : Result (Unit {0}) AuditFault) : Type 0 where
+pub record Judges (a after : AuditState) (message : Option Message)
+    (result : Result (Unit {0}) AuditFault) : Type 0 where
   pub holds : (judged : List (Option Message)) → HoldsLog a.distance judged a
       → IfOk result (λ _. HoldsSlot a.distance (counted_as a.start judged message) judged after)
   pub breaks : (judged : List (Option Message)) → HoldsLog a.distance judged a

@@ -48,7 +48,8 @@ pub record IsSafeByFlag (d : ℕ) (log : List (Option Message)) : Type 0 where
       → HearsEachReign name_fragment now r.input (reigns d (marks name_mark log))
       → IfSome r.view.name (IsOfItsSource plans.name r.input (run_by_flag name_fragment r.input))
   pub tags : AlternateFlags (reigns d (marks text_mark log)) → (now : ℕ) (r : Listener) → ListensByFlag now log r
-      → HearsEachReign text_fragment now r.input (reigns d (marks text_mark log)) → HearsTextBeforeTags plans.text r.input
+      → HearsEachReign text_fragment now r.input (reigns d (marks text_mark log))
+      → HearsTextBeforeTags plans.text r.input
       → ShowsNoTags r.view ⊎ ShowsEmptyText r.view ⊎ ShowsTagsOfText d plans.text (marks text_mark log) r.view
 
 -- some plans of the log are lawful and dense, and a receiver with the flag bit alone that heard a segment of each reign
@@ -61,7 +62,8 @@ pub record TextsAreSafeByFlag (d : ℕ) (log : List (Option Message)) : Type 0 w
       → HearsEachReign text_fragment now r.input (reigns d (marks text_mark log))
       → IfSome r.view.text (IsOfItsSource plans.text r.input (run_by_flag text_fragment r.input))
   pub tags : (now : ℕ) (r : Listener) → ListensByFlag now log r
-      → HearsEachReign text_fragment now r.input (reigns d (marks text_mark log)) → HearsTextBeforeTags plans.text r.input
+      → HearsEachReign text_fragment now r.input (reigns d (marks text_mark log))
+      → HearsTextBeforeTags plans.text r.input
       → ShowsNoTags r.view ⊎ ShowsEmptyText r.view ⊎ ShowsTagsOfText d plans.text (marks text_mark log) r.view
 
 -- the same for names

@@ -1,6 +1,7 @@
 //! The audit: it takes a log slot by slot, and finds the rule that the log breaks first.
 ghost use Rattle.std.specs.Prelude.{◌≡◌, ◌+◌, ◌<◌, ◌≤◌, ◌↔◌, ◌⊎◌, [], ◌∷◌};
-ghost use Rattle.std.specs.Prelude.{ℕ, true, false, List, Option, Some, None, Ok, Err, IsErr, IsTrue, IfOk, IfErr, MatchResult};
+ghost use Rattle.std.specs.Prelude.{ℕ, true, false, List, Option, Some, None, Ok, Err, IsErr, IsTrue, IfOk, IfErr};
+ghost use Rattle.std.specs.Prelude.{MatchResult};
 ghost use Rattle.rds_block.specs.declared.group.Group.{Group};
 ghost use Rattle.rds_fields.specs.declared.message.Message.{Message};
 ghost use Rattle.rds_fields.specs.declared.message.Message.TheVariants.{Tags};
@@ -8,7 +9,8 @@ ghost use Rattle.rds_receiver.specs.Receipts.{Hears};
 ghost use Rattle.rds_audit.specs.declared.audit.AuditFault.{AuditFault};
 ghost use Rattle.rds_audit.specs.declared.log_start.LogStart.TheVariants as LogStart;
 ghost use Rattle.rds_audit.specs.AuditLaws.{IsSafeLog, IsSafeRecording};
-ghost use Rattle.rds_audit.specs.AuditStandsAt.{AuditStandsAt, HoldsLog, HoldsSlot, Judges, TakesSlot, WhereTheAuditStands};
+ghost use Rattle.rds_audit.specs.AuditStandsAt.{AuditStandsAt, HoldsLog, HoldsSlot, Judges, TakesSlot};
+ghost use Rattle.rds_audit.specs.AuditStandsAt.{WhereTheAuditStands};
 ghost use Rattle.rds_audit.specs.AuditState.{KeepsAllElse};
 ghost use Rattle.rds_audit.specs.Dense.{HasPlans};
 ghost use Rattle.rds_audit.specs.FlagLaws.{NamesAreSafeByFlag, TextsAreSafeByFlag};

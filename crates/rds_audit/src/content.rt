@@ -1,6 +1,7 @@
 //! The content of a reign: its segments and tags.
 ghost use Rattle.std.specs.Prelude.{◌≡◌, ◌+◌, ◌<◌, ◌≤◌, ◌↔◌, ℕ, IsOk, IsErr, IsTrue, IfOk, IfErr, Some};
-ghost use Rattle.rds_audit.specs.AuditState.{CanTake, CannotTake, HasRoom, HoldsNoOther, cell_at, no_content, tagged, taken};
+ghost use Rattle.rds_audit.specs.AuditState.{CanTake, CannotTake, HasRoom, HoldsNoOther, cell_at, no_content, tagged};
+ghost use Rattle.rds_audit.specs.AuditState.{taken};
 ghost use Rattle.rds_audit.specs.Lengths.{narrowed, pair_end, tag_end};
 ghost use Rattle.rds_audit.specs.Stored.{ages_stored, content_stored};
 

@@ -5,7 +5,8 @@ ghost use Rattle.clap.specs.declared.builder.command.Command.TheViews.{out-Comma
 ghost use Rattle.rds_cli.specs.CommandLine.{audit_app, confirm_rule, decode_app, dwell_rule, flag_rule, grain_rule};
 ghost use Rattle.rds_cli.specs.CommandLine.{flag_alone_rule, late_app, late_rule};
 ghost use Rattle.rds_cli.specs.CommandLine.{log_app, number_rule, own_pi_rule, pi_rule, pty_rule, quiet_rule};
-ghost use Rattle.rds_cli.specs.CommandLine.{running_rule, sim_app, slots_app, station_app, timed_app, top_app, tp_rule, whole_app, why_rule};
+ghost use Rattle.rds_cli.specs.CommandLine.{running_rule, sim_app, slots_app, station_app, timed_app, top_app, tp_rule};
+ghost use Rattle.rds_cli.specs.CommandLine.{whole_app, why_rule};
 
 use clap::builder::ValueParser;
 use clap::{Arg, ArgAction, Command, value_parser};
@@ -52,8 +53,8 @@ fn number<'a>(
         .help(help)
 }
 
-/// The dwell M of a command that is given none, in slots. include/rdsrt.h has it as `RDSRT_DEFAULT_DWELL`; a test compares
-/// the other places with the help text.
+/// The dwell M of a command that is given none, in slots. include/rdsrt.h has it as `RDSRT_DEFAULT_DWELL`; a test
+/// compares the other places with the help text.
 const DEFAULT_DWELL: &str = "128";
 
 /// Makes the option `-m`, `--m`.

@@ -1,12 +1,14 @@
 //! What the definition of the command line says of written-out arguments.
 ghost use Rattle.std.specs.Prelude.{codes, false, true};
 ghost use Rattle.rds_cli.specs.CommandLine.{AskFor, AskForHelp, default_dwell};
-ghost use Rattle.rds_cli.specs.Examples.{AreNotTaken, CallForHelp, auditing, auditing_running, confirming, decoding, decoding_why, encoding, filling, filling_one, quietly, simulating, simulating_flag_alone, simulating_twice, typed, witnessing};
+ghost use Rattle.rds_cli.specs.Examples.{AreNotTaken, CallForHelp, auditing, auditing_running, confirming, decoding};
+ghost use Rattle.rds_cli.specs.Examples.{decoding_why, encoding, filling, filling_one, quietly, simulating};
+ghost use Rattle.rds_cli.specs.Examples.{simulating_flag_alone, simulating_twice, typed, witnessing};
 
 /// Shows the definition at work. The arguments of README's examples are taken and ask for these tasks. A dwell of 0
 /// slots, a window of 1 or 256 slots, a programme type of 32, an option of another subcommand, a subcommand without a
-/// programme and a missing subcommand are refused. Help and the version are answered. `help` followed by a command is not
-/// taken, and the definition leaves open whether that gives help or is refused.
+/// programme and a missing subcommand are refused. Help and the version are answered. `help` followed by a command is
+/// not taken, and the definition leaves open whether that gives help or is refused.
 pub fn words_of_the_examples()
     ensures decode { AskFor (typed (codes "rdsrt decode --pi C201")) (decoding (codes "C201") default_dwell) }
     ensures decode_other { AskFor (typed (codes "rdsrt decode --pi F201")) (decoding (codes "F201") default_dwell) }
@@ -38,8 +40,10 @@ pub fn words_of_the_examples()
     ensures small_window { AreNotTaken (typed (codes "rdsrt decode --pi C201 --confirm 1")) }
     ensures large_window { AreNotTaken (typed (codes "rdsrt decode --pi C201 --confirm 256")) }
     ensures audit_confirm { AreNotTaken (typed (codes "rdsrt audit --pi C201 --confirm 65")) }
-    ensures sim_flag_alone { AskFor (typed (codes "rdsrt sim --pi C201 --m 8 --flag-alone")) (simulating_flag_alone 8 false) }
-    ensures sim_why { AskFor (typed (codes "rdsrt sim --pi C201 --m 8 --why --flag-alone")) (simulating_flag_alone 8 true) }
+    ensures sim_flag_alone { AskFor (typed (codes "rdsrt sim --pi C201 --m 8 --flag-alone"))
+        (simulating_flag_alone 8 false) }
+    ensures sim_why { AskFor (typed (codes "rdsrt sim --pi C201 --m 8 --why --flag-alone"))
+        (simulating_flag_alone 8 true) }
     ensures sim_confirm { AskFor (typed (codes "rdsrt sim --pi C201 -m 64 --confirm 65")) (simulating_twice 64 65) }
     ensures sim_quiet { AskFor (typed (codes "rdsrt sim --quiet --pi C201 --pty 10 --tp"))
         (quietly (simulating default_dwell 10 true 0)) }

@@ -52,8 +52,8 @@ pub enum Task {
     Audit(Late, bool),
     /// Print which slots of such a log a receiver has to lose to show a mix.
     Witness,
-    /// Print a log with times, and a line for each slot that it lacks. Its times are off by at most so many milliseconds.
-    /// The flag: lines of other programmes are left out.
+    /// Print a log with times, and a line for each slot that it lacks. Its times are off by at most so many
+    /// milliseconds. The flag: lines of other programmes are left out.
     Slots(Place<88>, bool),
 }
 

@@ -44,8 +44,8 @@ fn audited_within(
     Ok((given, output.len()))
 }
 
-/// A log that has no end within the bound is too long, and nothing is written, also where its one line has no end. A log
-/// that ends in the last read is not too long.
+/// A log that has no end within the bound is too long, and nothing is written, also where its one line has no end. A
+/// log that ends in the last read is not too long.
 #[test]
 fn as_many_reads_as_may_be(rt: HostRuntime) -> Result<(), Fail> {
     let too_long = (Err(LogFault::TooLong), 0);

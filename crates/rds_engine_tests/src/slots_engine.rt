@@ -52,8 +52,8 @@ fn counted_lines(rt: HostRuntime) -> Result<(), Fail> {
     Ok(())
 }
 
-/// Groups with times in whole seconds are counted, and noted as coarse: 13 slots are counted, and 11 fit in a second and
-/// the grain.
+/// Groups with times in whole seconds are counted, and noted as coarse: 13 slots are counted, and 11 fit in a second
+/// and the grain.
 #[test]
 fn whole_seconds(rt: HostRuntime) -> Result<(), Fail> {
     let log = b"C201 2140 4849 0D20 7\nC201 2140 4849 0D20 7\nC201 2140 4849 0D20 8\n".as_slice();

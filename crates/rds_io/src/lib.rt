@@ -1,8 +1,8 @@
-//! Input and output: readers and writers that count their failures, output lines in a bounded buffer, hexadecimal words,
-//! and why a command stopped.
+//! Input and output: readers and writers that count their failures, output lines in a bounded buffer, hexadecimal
+//! words, and why a command stopped.
 //!
-//! A [`Told`] counts its calls of `read_one` and `write_one` that failed. So a program can distinguish a failure from an
-//! end. Nothing here allocates memory.
+//! A [`Told`] counts its calls of `read_one` and `write_one` that failed. So a program can distinguish a failure from
+//! an end. Nothing here allocates memory.
 #![tactic(auto)]
 
 mod fault;

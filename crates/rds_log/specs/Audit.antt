@@ -1,9 +1,10 @@
 -- The answer of `audit`, and its state at each end: how much of the reader it read, and what it wrote. Lists of slots
 -- and of lines have the newest first. d is M + K, the number of slots that keeps broadcasts apart; `start` says
--- whether the log begins with its station, and so how it is judged. r is the traffic with the reader, w the traffic with
--- the writer.
+-- whether the log begins with its station, and so how it is judged. r is the traffic with the reader, w the traffic
+-- with the writer.
 use Rattle.std.specs.Prelude.{◌≡◌, ◌↔◌, ◌+◌, ◌++◌, ◌∷◌, []}
-use Rattle.std.specs.Prelude.{ℕ, Bool, true, false, List, IsTrue, Ok, Err, Result, None, Some, codes, decimal, length, Option}
+use Rattle.std.specs.Prelude.{ℕ, Bool, true, false, List, IsTrue, Ok, Err, Result, None, Some, codes, decimal, length}
+use Rattle.std.specs.Prelude.{Option}
 use Rattle.std.specs.Io.KnownBytes.{Appends, Consumes, IsAtEnd}
 use Rattle.rds_block.specs.declared.group.Group.{Group}
 use Rattle.rds_io.specs.Told.{AppendsPrefix, HasFailed, IsCalm, PutsNothing, Traffic}
@@ -97,7 +98,8 @@ pub record AuditStopsAtBadLine (start : LogStart) (pi d n : ℕ) (text : List �
   pub pass : LinesPass start pi d lines
 
 -- the text begins with good lines. The newest slot of these has number t, and the slots before it pass
-pub record AuditStopsAtSlot (start : LogStart) (pi d t : ℕ) (fault : AuditFault) (text : List ℕ) (left : Option (List ℕ)) : Type 0 where
+pub record AuditStopsAtSlot (start : LogStart) (pi d t : ℕ) (fault : AuditFault) (text : List ℕ)
+    (left : Option (List ℕ)) : Type 0 where
   pub lines : List Line
   pub begins : BeginsWith text left lines
   pub slots : List (Option Group)
@@ -152,7 +154,8 @@ Answers (Err given) w (Err fault) = (fault ≡ given) × PutsNothing w
 
 -- the result of `audit` with at most this many reads: it came to a verdict or a fault, and answered it
 abbrev pub Audits : LogStart → ℕ → ℕ → ℕ → Traffic → Traffic → Result Bool LogFault → Type 0
-Audits start pi d reads r w result = (judged : Result Verdict LogFault) × Judges start pi d reads r judged × Answers judged w result
+Audits start pi d reads r w result = (judged : Result Verdict LogFault) × Judges start pi d reads r judged
+    × Answers judged w result
 
 -- the answer is the verdict of the bytes
 pub record AnswersVerdictOf (start : LogStart) (pi d : ℕ) (bytes : List ℕ) (w : Traffic) (passed : Bool) : Type 0 where

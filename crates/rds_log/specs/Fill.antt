@@ -1,5 +1,5 @@
--- What `slots` writes: each group with its time, and before it a line for each slot that the log lacks. Lists of lines and
--- of arrivals have the newest first. r is the traffic with the reader, w the traffic with the writer.
+-- What `slots` writes: each group with its time, and before it a line for each slot that the log lacks. Lists of lines
+-- and of arrivals have the newest first. r is the traffic with the reader, w the traffic with the writer.
 use Rattle.std.specs.Prelude.{◌≡◌, ◌≢◌, ◌⊎◌, ◌+◌, ◌-◌, ◌^◌, ◌++◌, [], ◌∷◌, ℕ, zero, suc, Bool, false, true, List}
 use Rattle.std.specs.Prelude.{Ok, Err, Result, Option, Some, None, codes, drop, length, max, nat_lt, option_and_then}
 use Rattle.std.specs.Prelude.{take, if◌then◌else◌}
@@ -56,13 +56,13 @@ break_line None = []
 break_line (Some Back) = codes "# time went back\n"
 break_line (Some Day) = codes "# more than a day passed\n"
 
--- the output when `lost` slots are lost since the last group and `told` of them are written: the comment of a break, and
--- the lost slots that are not written
+-- the output when `lost` slots are lost since the last group and `told` of them are written: the comment of a break,
+-- and the lost slots that are not written
 abbrev pub more_lines : Option Break → ℕ → ℕ → List ℕ
 more_lines why told lost = break_line why ++ lost_lines (lost - told)
 
--- the output from the time of the last group to this one, if `told` lost slots are written since. A break is told when a
--- group came
+-- the output from the time of the last group to this one, if `told` lost slots are written since. A break is told when
+-- a group came
 abbrev pub gap_lines : Filling → Bool → Option ℕ → ℕ → ℕ → List ℕ
 gap_lines f came None told time = []
 gap_lines f came (Some last) told time =

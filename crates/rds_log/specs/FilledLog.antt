@@ -30,8 +30,8 @@ FilledTextsAreLogs =
     (f : Filling) (lines : List Line) (s : SoFar) → All IsLine lines
     → AreFilled f lines s → IsLogOf s.written (and_lost s.told (filled f.grain f.dwell s.came))
 
--- the view of the newest of the displays is safe in slot `now` of the station, for a receiver of these slots, with these
--- origins
+-- the view of the newest of the displays is safe in slot `now` of the station, for a receiver of these slots, with
+-- these origins
 pub record NewestIsSafe (t : Tuning) (now : ℕ) (plans : Plans) (log : List (Option Message))
     (slots : List (Option Group)) (from : List (Option ℕ)) (displays : List Display) : Type 0 where
   pub display : Display

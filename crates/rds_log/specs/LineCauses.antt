@@ -9,7 +9,8 @@ use Rattle.rds_log.specs.LogLines.{Line, content_length}
 use Rattle.rds_log.specs.LineSays.{IsBlock}
 use Rattle.rds_log.specs.declared.log_line.Block.{Block}
 use Rattle.rds_log.specs.declared.line_cause.LineCause.{LineCause}
-use Rattle.rds_log.specs.declared.line_cause.LineCause.TheVariants.{Json, Mark, Script, NoSpace, EndsAfter, Length, Digit}
+use Rattle.rds_log.specs.declared.line_cause.LineCause.TheVariants.{Json, Mark, Script, NoSpace, EndsAfter, Length}
+use Rattle.rds_log.specs.declared.line_cause.LineCause.TheVariants.{Digit}
 
 abbrev pub brace : ℕ
 brace = 0x7B

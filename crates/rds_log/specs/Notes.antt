@@ -52,7 +52,8 @@ NotesFault r Memory noted = noted ≡ None
 
 -- the note has the slot and the fault of a no
 abbrev pub NotesNo : LogStart → ℕ → ℕ → ℕ → Traffic → Option NoNote → Type 0
-NotesNo start pi d reads r noted = (note : NoNote) × (noted ≡ Some note) × Judges start pi d reads r (Ok (No note.slot note.fault))
+NotesNo start pi d reads r noted = (note : NoNote) × (noted ≡ Some note)
+    × Judges start pi d reads r (Ok (No note.slot note.fault))
 
 -- the notes of an audit with this result: after a yes, the programmes of the log and no note of a no; at a no, its slot
 -- and its fault

@@ -18,8 +18,8 @@ use rds_audit::{Audit, LogStart};
 use rds_fields::{Dwell, Late};
 use rds_io::{Lines, LogFault, TellingRead, TellingWrite, put};
 
-/// Audits the complete log of a station, one slot a line, and writes the answer line: `yes` with the number of slots, or `no`
-/// with the first slot that breaks a rule and the name of the fault.
+/// Audits the complete log of a station, one slot a line, and writes the answer line: `yes` with the number of slots,
+/// or `no` with the first slot that breaks a rule and the name of the fault.
 ///
 /// If the answer is yes, no receiver with this dwell ever shows a mix of the log's texts, provided that its groups come
 /// at most this late. If the answer is no, no station that keeps its texts and names apart by M + K slots, and leaves
@@ -39,7 +39,8 @@ pub fn audit<R: TellingRead, W: TellingWrite>(
     ensures audits { Audits LogStart.Complete pi (dwell + late) (2 ^ 32)
         (traffic R.remaining R.failures reader.old reader.new)
         (traffic W.contents W.failures writer.old writer.new) result }
-    ensures means { Means LogStart.Complete pi dwell late (traffic R.remaining R.failures reader.old reader.new) result }
+    ensures means { Means LogStart.Complete pi dwell late
+        (traffic R.remaining R.failures reader.old reader.new) result }
     ensures reads { MadeReads (2 ^ 32) (R.reads reader.old) (R.reads reader.new) result }
 {
     audit_within(reader, writer, pi, dwell, late, MOST_READS)
@@ -58,7 +59,8 @@ pub fn audit_within<R: TellingRead, W: TellingWrite>(
     ensures audits { Audits LogStart.Complete pi (dwell + late) reads
         (traffic R.remaining R.failures reader.old reader.new)
         (traffic W.contents W.failures writer.old writer.new) result }
-    ensures means { Means LogStart.Complete pi dwell late (traffic R.remaining R.failures reader.old reader.new) result }
+    ensures means { Means LogStart.Complete pi dwell late
+        (traffic R.remaining R.failures reader.old reader.new) result }
     ensures reads { MadeReads reads (R.reads reader.old) (R.reads reader.new) result }
 {
     let start = LogStart::Complete;
@@ -67,9 +69,10 @@ pub fn audit_within<R: TellingRead, W: TellingWrite>(
 }
 
 /// Audits a log that begins so with at most `reads` reads, and takes notes for a person. The new notes replace the old
-/// content of `notes`. For a complete log the output and the answer are those of [`audit_within`]. For the log of a running station the answer is that of the log with M + K lost slots in front, or more,
-/// and without the tags before its first text segment. Slots count from the first line of the log. A yes speaks
-/// of receivers of the log as it is: they may hear these tags.
+/// content of `notes`. For a complete log the output and the answer are those of [`audit_within`]. For the log of a
+/// running station the answer is that of the log with M + K lost slots in front, or more, and without the tags before
+/// its first text segment. Slots count from the first line of the log. A yes speaks of receivers of the log as it is:
+/// they may hear these tags.
 pub fn audit_with_notes<R: TellingRead, W: TellingWrite>(
     reader: &mut R,
     writer: &mut W,
@@ -125,7 +128,8 @@ fn judge<R: TellingRead>(
     requires groups { notes.old.heard.groups ≡ 0 }
     requires heard { HeardLines pi [] notes.old.heard }
     requires no { notes.old.no ≡ None }
-    ensures judges { Judges start pi (dwell + late) reads (traffic R.remaining R.failures reader.old reader.new) result }
+    ensures judges { Judges start pi (dwell + late) reads
+        (traffic R.remaining R.failures reader.old reader.new) result }
     ensures reads { MadeReads reads (R.reads reader.old) (R.reads reader.new) result }
     ensures notes { NotesVerdict pi (traffic R.remaining R.failures reader.old reader.new) notes.new result }
 {

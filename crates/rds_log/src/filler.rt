@@ -1,9 +1,11 @@
 //! The lines of a filled log: each group with its time, and a line for each slot that was lost before it.
 ghost use Rattle.std.specs.Prelude.{◌≡◌, ◌⊎◌, ◌<◌, ◌≤◌, ◌+◌, ◌++◌, ◌∷◌, ◌↔◌, [], ℕ, List, Option};
-ghost use Rattle.std.specs.Prelude.{IfSome, IsOk, IsTrue, MatchResult, None, OnOk, Some, codes, is_some, length, max, take, true};
+ghost use Rattle.std.specs.Prelude.{IfSome, IsOk, IsTrue, MatchResult, None, OnOk, Some, codes, is_some, length, max};
+ghost use Rattle.std.specs.Prelude.{take, true};
 ghost use Rattle.rds_block.specs.declared.group.Group.{Group};
 ghost use Rattle.rds_io.specs.Told.{IsCalm, Traffic, traffic};
-ghost use Rattle.rds_log.specs.Fill.{AreFilled, IsOfAnother, TimesAre, WroteFilledPart, break_line, ended_within, gap_lines, lost_lines, more_lines, time_of};
+ghost use Rattle.rds_log.specs.Fill.{AreFilled, IsOfAnother, TimesAre, WroteFilledPart, break_line, ended_within};
+ghost use Rattle.rds_log.specs.Fill.{gap_lines, lost_lines, more_lines, time_of};
 ghost use Rattle.rds_log.specs.LineSays.{LineSays, deciding};
 ghost use Rattle.rds_log.specs.LogLines.{Line};
 ghost use Rattle.rds_log.specs.declared.filler.TheConstants.{FILLED_ROOM, LINE_ROOM};
@@ -64,7 +66,8 @@ pub(crate) struct Filler {
 }
 
 impl Filler {
-    ghost use Rattle.rds_log.specs.Inside.Filler.{HasFilled, HasOutput, KeepsPace, KeepsTime, LostOutput, last_time, told_after};
+    ghost use Rattle.rds_log.specs.Inside.Filler.{HasFilled, HasOutput, KeepsPace, KeepsTime, LostOutput, last_time};
+    ghost use Rattle.rds_log.specs.Inside.Filler.{told_after};
 
     /// Starts a log.
     pub(crate) fn new(filling: Filling) -> Filler
@@ -166,8 +169,8 @@ impl Filler {
         }
     }
 
-    /// Appends the slots that are lost from the last group to this time and are not written yet, and before them the comment
-    /// of a break, if a group came at this time.
+    /// Appends the slots that are lost from the last group to this time and are not written yet, and before them the
+    /// comment of a break, if a group came at this time.
     fn push_gap<W: TellingWrite>(
         &mut self,
         is_group: bool,
@@ -321,7 +324,8 @@ fn stamp_of(start: &[u8]) -> Option<Stamp>
     ended_within(stamp_in(&start[TIME..]))
 }
 
-/// Returns this time if it ends before the last of the bytes that are kept of a line, so that the line shows where it ends.
+/// Returns this time if it ends before the last of the bytes that are kept of a line, so that the line shows where it
+/// ends.
 fn ended_within(found: Option<Stamp>) -> Option<Stamp>
     ensures value { result ≡ ended_within found }
     ensures same { IfSome result (λ stamp. found ≡ Some stamp) }

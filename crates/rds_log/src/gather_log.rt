@@ -13,8 +13,8 @@ use rds_block::Blocks;
 use rds_io::{LogFault, TellingRead};
 use std::alloc::Global;
 
-/// Reads a log to its end with at most `reads` reads, and returns the group of each of its slots, the oldest first. Takes
-/// notes for a person who asks for this programme. The new notes replace the old content of `notes`.
+/// Reads a log to its end with at most `reads` reads, and returns the group of each of its slots, the oldest first.
+/// Takes notes for a person who asks for this programme. The new notes replace the old content of `notes`.
 ///
 /// # Errors
 ///

@@ -42,7 +42,8 @@ pub fn bytes_have_one_verdict()
     ensures answered { (start : LogStart) (pi d reads : ℕ) (bytes : List ℕ) (r w : Traffic) (passed : Bool)
         → r.before ≡ Some bytes → Audits start pi d reads r w (Ok passed)
         → AnswersVerdictOf start pi d bytes w passed }
-    ensures alike { (start : LogStart) (pi d reads others : ℕ) (bytes : List ℕ) (r w q v : Traffic) (passed other : Bool)
+    ensures alike { (start : LogStart) (pi d reads others : ℕ) (bytes : List ℕ) (r w q v : Traffic)
+        (passed other : Bool)
         → 0 < d → r.before ≡ Some bytes → q.before ≡ Some bytes
         → Audits start pi d reads r w (Ok passed) → Audits start pi d others q v (Ok other)
         → (passed ≡ other) × WriteAlike w v }
@@ -54,7 +55,8 @@ pub fn bytes_have_one_verdict()
 /// whose groups come at most K slots late, and slots that do not pass have no lawful and dense plans. The slots of a
 /// running station are safe as they are, with the tags before their first text segment.
 pub fn what_an_answer_means()
-    ensures safe { (start : LogStart) (pi m k : ℕ) (slots : List (Option Group)) → 0 < m → SlotsPass start pi (m + k) slots
+    ensures safe { (start : LogStart) (pi m k : ℕ) (slots : List (Option Group)) → 0 < m
+        → SlotsPass start pi (m + k) slots
         → SlotsAreSafe start pi m k slots }
     ensures no_plans { (start : LogStart) (pi d t : ℕ) (fault : AuditFault) (slots : List (Option Group)) → 0 < d
         → SlotsFail start pi d t fault slots → SlotsHaveNoPlans start pi d slots }
@@ -71,8 +73,8 @@ pub fn a_line_has_one_cause()
         → IsLineCause line other → one ≡ other }
 {}
 
-/// Shows that the output of `slots` is a log with the lost slots put back. So the headline holds for what `decode` shows
-/// of it, with the same dwell, if the delays of the groups vary by less than a slot less the grain.
+/// Shows that the output of `slots` is a log with the lost slots put back. So the headline holds for what `decode`
+/// shows of it, with the same dwell, if the delays of the groups vary by less than a slot less the grain.
 pub fn filled_texts_are_logs()
     ensures log { FilledTextsAreLogs }
     ensures safe { FilledTextsAreSafe }

@@ -44,8 +44,8 @@ impl SlotNotes {
     }
 }
 
-/// Writes the log with a line for each slot: each group with its time, and the slots that were lost before it. Takes notes
-/// for a person. The new notes replace the old content of `notes`.
+/// Writes the log with a line for each slot: each group with its time, and the slots that were lost before it. Takes
+/// notes for a person. The new notes replace the old content of `notes`.
 ///
 /// Returns whether the slots can be counted by the times. The output is complete in any case. The output for the lines
 /// of one read is written before the next read.

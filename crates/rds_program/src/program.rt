@@ -7,8 +7,10 @@ ghost use Rattle.clap.specs.Words.{kind_of};
 ghost use Rattle.rds_audit.specs.AuditState.{start_if};
 ghost use Rattle.rds_cli.specs.CommandLine.{IsPi};
 ghost use Rattle.rds_program.specs.Run as specs;
-ghost use Rattle.rds_program.specs.Run.{EndsWith, IsUntouched, PutsAfter, PutsLine, RefusesPi, RunsFrom, RunsRead, RunsWords};
-ghost use Rattle.rds_program.specs.Run.{SimulationRuns, TaskRuns, TellsFault, done, mark_of, reader_before, reader_over};
+ghost use Rattle.rds_program.specs.Run.{EndsWith, IsUntouched, PutsAfter, PutsLine, RefusesPi, RunsFrom, RunsRead};
+ghost use Rattle.rds_program.specs.Run.{RunsWords};
+ghost use Rattle.rds_program.specs.Run.{SimulationRuns, TaskRuns, TellsFault, done, mark_of, reader_before};
+ghost use Rattle.rds_program.specs.Run.{reader_over};
 ghost use Rattle.rds_program.specs.Run.{script_in, status_of, times_status};
 ghost use Rattle.rds_script.specs.Play.{Plays};
 
@@ -38,9 +40,9 @@ const FAULT_LINE: usize = 64;
 /// command line).
 ///
 /// `decode` reads a log and writes the view of a receiver. With a window the receiver shows only what it heard twice.
-/// `encode` reads a script and writes the log of a station. `sim` reads a script and writes the station's groups and the
-/// views of its receivers. `audit` reads a log and writes whether it passes. `witness` reads a log and writes which slots
-/// a receiver must lose to show a mix. The line of a fault is the last line of the output.
+/// `encode` reads a script and writes the log of a station. `sim` reads a script and writes the station's groups and
+/// the views of its receivers. `audit` reads a log and writes whether it passes. `witness` reads a log and writes
+/// which slots a receiver must lose to show a mix. The line of a fault is the last line of the output.
 ///
 /// If the arguments are refused or ask for help, `run` writes the text of `clap` and reads nothing: the contract of
 /// [`run_with_notes`] says so of its reader. `clap`'s contract does not promise that a number is in its range: for a
@@ -60,8 +62,8 @@ pub fn run<R: TellingRead + Drop, W: TellingWrite>(
     run_with_notes(alloc, words, &mut reader, writer, &mut RunNotes::new())
 }
 
-/// Does what [`run`] does over a borrowed reader, and takes notes for a person. The new notes replace the old content of
-/// `notes`; [`print_notes`](crate::print_notes) prints them.
+/// Does what [`run`] does over a borrowed reader, and takes notes for a person. The new notes replace the old content
+/// of `notes`; [`print_notes`](crate::print_notes) prints them.
 ///
 /// The contract says the reader's state after the call: if no command ran, its bytes and its counts of reads and
 /// failures are unchanged.

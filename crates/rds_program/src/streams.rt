@@ -15,15 +15,15 @@ use rds_io::{Prompting, Reasoned, TellingWrite, Told, prompt_for};
 use std::alloc::Global;
 use std::io::{Read, Write};
 
-/// The reader of a run. It prints a line before a person types, keeps the system's reasons, counts its failures, and notes
-/// at once that a log lacks slots by its times.
+/// The reader of a run. It prints a line before a person types, keeps the system's reasons, counts its failures, and
+/// notes at once that a log lacks slots by its times.
 pub type Input<R, N> = Timing<Told<Reasoned<Prompting<R, N>>>, N>;
 
 /// The writer of a run. It notes each break of a log at once, keeps the system's reasons, and counts its failures.
 pub type Output<W, N> = Told<Breaks<Reasoned<W>, N>>;
 
-/// Makes the reader of a run with these arguments from standard input. `asks` says that a person types it. `prompt` gets
-/// the line for this person, and `screen` the note on the times.
+/// Makes the reader of a run with these arguments from standard input. `asks` says that a person types it. `prompt`
+/// gets the line for this person, and `screen` the note on the times.
 pub fn input_of<R: Read, N: TellingWrite>(
     reader: R,
     asks: bool,
@@ -48,8 +48,8 @@ pub fn output_of<W: Write, N: TellingWrite>(writer: W, words: &[&str], screen: N
     Told::new(Breaks::new(Reasoned::new(writer), screen, words))
 }
 
-/// Runs the whole program over its arguments and its standard streams, and prints its notes to `screen`. Returns its exit
-/// status. If the arguments are refused, `explains` says whether the notes give the reason too.
+/// Runs the whole program over its arguments and its standard streams, and prints its notes to `screen`. Returns its
+/// exit status. If the arguments are refused, `explains` says whether the notes give the reason too.
 ///
 /// This is [`run_with_notes`] over the reader and the writer inside: the contract speaks of their bytes.
 pub fn run_over<R: Read, W: Write, N: TellingWrite>(

@@ -34,8 +34,8 @@ pub struct LogTimes {
     last: ArrayVec<u8, LONGEST>,
     /// The bytes of the log so far.
     bytes: usize,
-    /// Whether `slots` told a break, or a time went back or on by more than a day from one read to the next. Then only the
-    /// first bytes before it are compared.
+    /// Whether `slots` told a break, or a time went back or on by more than a day from one read to the next. Then only
+    /// the first bytes before it are compared.
     is_broken: bool,
     /// The lines in the first bytes, and the last time in them.
     lines: u64,
@@ -107,8 +107,8 @@ impl LogTimes {
         self.lack_until(self.early, self.lines)
     }
 
-    /// Returns whether so many lines are too few by the times of the log: the slots and the lines. After a break the first
-    /// lines decide.
+    /// Returns whether so many lines are too few by the times of the log: the slots and the lines. After a break the
+    /// first lines decide.
     pub(crate) fn lack(&self, lines: u64) -> Option<(u64, u64)> {
         if self.is_broken {
             return self.early_lack();
@@ -181,8 +181,8 @@ fn time_of(line: &[u8]) -> Option<u64> {
     Some(stamp.time)
 }
 
-/// A reader that keeps the times of a log. Its bytes are those of the reader inside. If a read gives fewer bytes than it
-/// may, the log is short or live: then the reader notes at once on its screen that slots are missing by the times.
+/// A reader that keeps the times of a log. Its bytes are those of the reader inside. If a read gives fewer bytes than
+/// it may, the log is short or live: then the reader notes at once on its screen that slots are missing by the times.
 #[derive(Drop)]
 pub struct Timing<R, N> {
     reader: R,

@@ -1,8 +1,8 @@
 -- Receivers that may get wrong groups and show only what they heard twice (this project's own rule). The window has w
 -- slots. A segment is confirmed if the last segment heard at its address was the same, and came less than w slots
--- before. A pair of tags is confirmed if the last pair heard was the same, came less than w slots before, and came later
--- than the first segment of the run of confirmed text segments. Announcements need no confirmation. Lists have the
--- newest first.
+-- before. A pair of tags is confirmed if the last pair heard was the same, came less than w slots before, and came
+-- later than the first segment of the run of confirmed text segments. Announcements need no confirmation. Lists have
+-- the newest first.
 use Rattle.std.specs.Prelude.{◌+◌, ◌==◌, ◌&&◌, [], ◌∷◌}
 use Rattle.std.specs.Prelude.{ℕ, Bool, true, false, List, Option, Some, None, bytes_eq, length, nat_lt, if◌then◌else◌}
 use Rattle.rds_fields.specs.declared.message.Message.{Message}

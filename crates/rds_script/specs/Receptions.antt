@@ -1,7 +1,7 @@
 -- The reception of each receiver, as the last field of a row spells it: a letter for each receiver, in order. `G`: it
--- gets the group that was sent. `L`: it loses the slot. `W`: it gets a wrong group. `R`: it restarts. Up to four decimal
--- digits may follow a `G`: the number of slots that the group comes late, 0 if there are none. Twelve hexadecimal digits
--- follow a `W`: blocks 2 to 4 of the wrong group. This is the project's own format.
+-- gets the group that was sent. `L`: it loses the slot. `W`: it gets a wrong group. `R`: it restarts. Up to four
+-- decimal digits may follow a `G`: the number of slots that the group comes late, 0 if there are none. Twelve
+-- hexadecimal digits follow a `W`: blocks 2 to 4 of the wrong group. This is the project's own format.
 use Rattle.std.specs.Prelude.{◌≡◌, ◌≤◌, ◌++◌, ℕ, List, [], ◌∷◌, length}
 use Rattle.std.specs.Char.{digit_value}
 use Rattle.std.specs.Str.Parse.{AllDigits, digits_value}

@@ -1,6 +1,6 @@
--- Why a record of a script is not a row, with a clause for each cause. The number of fields comes first, then the fields
--- in their order: a cause in one field requires that the fields before it are good. This is the project's own format.
--- Lists of records and of events have the newest first. Places count from 1.
+-- Why a record of a script is not a row, with a clause for each cause. The number of fields comes first, then the
+-- fields in their order: a cause in one field requires that the fields before it are good. This is the project's own
+-- format. Lists of records and of events have the newest first. Places count from 1.
 use Rattle.std.specs.Prelude.{◌≡◌, ◌≢◌, ◌⊎◌, ◌<◌, ◌≤◌, ◌+◌, ◌-◌, ◌==◌, [], ◌∷◌}
 use Rattle.std.specs.Prelude.{ℕ, Bool, IsSome, List, None, Some, IsUtf8, count_by, length, slice_index, slice_index_or}
 use Rattle.rds_charset.specs.ReadAs.{IsReadAs}
@@ -20,7 +20,8 @@ use Rattle.rds_world.specs.Event.{Event}
 use Rattle.rds_world.specs.Premise.{Premise}
 use Rattle.rds_world.specs.Wrong.{IsFirstWrong}
 use Rattle.rds_script.specs.Receptions.{HasDigits, IsDigitCut, IsLateness, IsWrongGroup, letter}
-use Rattle.rds_script.specs.Rows.{AreNumbers, AreRows, HasNoSpace, IsAllowed, IsCut, IsNumber, Record, SaysCommand, SaysEvent}
+use Rattle.rds_script.specs.Rows.{AreNumbers, AreRows, HasNoSpace, IsAllowed, IsCut, IsNumber, Record, SaysCommand}
+use Rattle.rds_script.specs.Rows.{SaysEvent}
 use Rattle.rds_script.specs.Rows.{free_field}
 use Rattle.rds_script.specs.Verbs.{verb_word}
 use Rattle.rds_script.specs.declared.form.Form.{Form}
@@ -30,7 +31,8 @@ use Rattle.rds_script.specs.declared.row.Verb.TheVariants as verb
 use Rattle.rds_script.specs.declared.row_cause.RowCause.{RowCause}
 use Rattle.rds_script.specs.declared.row_cause.RowCause.TheVariants as cause
 use Rattle.rds_script.specs.declared.row_cause.TagNumber.{TagNumber}
-use Rattle.rds_script.specs.declared.row_cause.TagNumber.TheVariants.{Toggle, Running, ClassOfOne, StartOfOne, LengthOfOne}
+use Rattle.rds_script.specs.declared.row_cause.TagNumber.TheVariants.{Toggle, Running, ClassOfOne, StartOfOne}
+use Rattle.rds_script.specs.declared.row_cause.TagNumber.TheVariants.{LengthOfOne}
 use Rattle.rds_script.specs.declared.row_cause.TagNumber.TheVariants.{ClassOfTwo, StartOfTwo, LengthOfTwo}
 
 -- the number of fields

@@ -91,8 +91,8 @@ abbrev pub IsAllowed : Form → ℕ → Type 0
 IsAllowed (Simulation why) receivers = receivers ≤ MOST_RECEIVERS
 IsAllowed Log receivers = receivers ≡ 0
 
--- the records are rows with these events and this number of receivers, and each slot can be taken: a group comes at most
--- K slots late, and in the order of sending
+-- the records are rows with these events and this number of receivers, and each slot can be taken: a group comes at
+-- most K slots late, and in the order of sending
 abbrev pub AreRows : Premise → ℕ → List Record → List Event → Type 0
 AreRows p receivers [] [] = Unit {0}
 AreRows p receivers [] (e ∷ older) = ⊥

@@ -1,5 +1,6 @@
 //! What a station has on air, and what it had before.
-ghost use Rattle.std.specs.Prelude.{◌≡◌, ◌↔◌, ◌≤◌, ◌<◌, ◌+◌, ◌++◌, ◌∷◌, [], ℕ, ◌-◌, ◌^◌, IfOk, List, None, OnOk, length, true};
+ghost use Rattle.std.specs.Prelude.{◌≡◌, ◌↔◌, ◌≤◌, ◌<◌, ◌+◌, ◌++◌, ◌∷◌, [], ℕ, ◌-◌, ◌^◌, IfOk, List, None, OnOk};
+ghost use Rattle.std.specs.Prelude.{length, true};
 ghost use Rattle.std.specs.Option.{option_copied};
 ghost use Rattle.rds_receiver.specs.Borrowed.{view_of};
 ghost use Rattle.rds_view_lines.specs.KeptView.{view_kept};
@@ -10,7 +11,8 @@ ghost use Rattle.rds_world.specs.OnAir.{air_of};
 ghost use Rattle.rds_world.specs.StandsAt.{WhereItStands};
 ghost use Rattle.rds_world.specs.declared.world.Config.{Config};
 ghost use Rattle.rds_script.specs.OnAir.{airings, either, parts_among};
-ghost use Rattle.rds_script.specs.Inside.Compared.{AirsHaveRoom, AirsStand, WereBefore, airs_in, goes_on, newest_of, reached};
+ghost use Rattle.rds_script.specs.Inside.Compared.{AirsHaveRoom, AirsStand, WereBefore, airs_in, goes_on, newest_of};
+ghost use Rattle.rds_script.specs.Inside.Compared.{reached};
 ghost use Rattle.rds_script.specs.declared.watched.TheConstants.{OUTPUT_ROOM};
 
 use crate::airing::Airings;
@@ -123,8 +125,8 @@ impl Airs {
             .unwrap();
     }
 
-    /// Returns for each part of a view whether it was on air. If the view was the same one slot before, `before` has what
-    /// its parts were then. So not all slots are searched again.
+    /// Returns for each part of a view whether it was on air. If the view was the same one slot before, `before` has
+    /// what its parts were then. So not all slots are searched again.
     pub(crate) fn airings_of(&self, view: View<'_>, before: Option<Airings>) -> Airings
         ensures { (config : Config) (events : List Event) → AirsStand config events self.now
             → WereBefore config events (view_of view.entry) before

@@ -6,8 +6,8 @@ use crate::line_ends::ReadSoFar;
 use rds_io::TellingRead;
 use std::io::{self, ErrorKind, Read};
 
-/// Wraps a reader, and sets a flag at the first failed read. It refuses to read on in a line with too many commas, as if
-/// there were no memory for their places.
+/// Wraps a reader, and sets a flag at the first failed read. It refuses to read on in a line with too many commas, as
+/// if there were no memory for their places.
 #[derive(Drop)]
 pub(crate) struct FailureFlag<R: TellingRead> {
     inner: R,

@@ -1,5 +1,6 @@
 //! The engines of `sim` and `encode`: each row is a slot of a station.
-ghost use Rattle.std.specs.Prelude.{◌≡◌, ◌≢◌, ◌≤◌, ◌<◌, ◌+◌, ◌-◌, ◌^◌, [], ℕ, Bool, List, None, Ok, Option, Result, false, length, true};
+ghost use Rattle.std.specs.Prelude.{◌≡◌, ◌≢◌, ◌≤◌, ◌<◌, ◌+◌, ◌-◌, ◌^◌, [], ℕ, Bool, List, None, Ok, Option, Result};
+ghost use Rattle.std.specs.Prelude.{false, length, true};
 ghost use Rattle.csv.specs.Records.{fields_of};
 ghost use Rattle.rds_io.specs.Told.{traffic};
 ghost use Rattle.rds_io.specs.ReadFailed.{SomeReadFailed};
@@ -31,8 +32,8 @@ pub const MOST_RECORDS: u64 = 1 << 32;
 ///
 /// # Errors
 ///
-/// The first fault: a record that is not a row, a failed read or write, no memory for the world, for a record or for what
-/// was on air, or 2^32 records, whether or not the script ends there.
+/// The first fault: a record that is not a row, a failed read or write, no memory for the world, for a record or for
+/// what was on air, or 2^32 records, whether or not the script ends there.
 pub fn simulate<R: TellingRead + Drop, W: TellingWrite>(
     alloc: Global,
     reader: R,
@@ -110,8 +111,8 @@ pub fn encode_within<R: TellingRead + Drop, W: TellingWrite>(
     )
 }
 
-/// Plays a script in one of its forms with a bound on records, and takes notes: why a record is not a row, and the first
-/// thing that was set too early. [`simulate`] and [`encode`] are its two forms.
+/// Plays a script in one of its forms with a bound on records, and takes notes: why a record is not a row, and the
+/// first thing that was set too early. [`simulate`] and [`encode`] are its two forms.
 ///
 /// The new notes replace the old content of `notes`.
 ///

@@ -34,8 +34,8 @@ impl<R: TellingRead> Records<R> {
 
     /// Returns the line on which the last record starts: 1 + the number of line ends before its first byte.
     ///
-    /// `csv` notes the start of a record before the empty lines in front of it. So this function counts back from the end
-    /// of the record: by the line ends inside its fields, and by the one that ended it, unless the script did.
+    /// `csv` notes the start of a record before the empty lines in front of it. So this function counts back from the
+    /// end of the record: by the line ends inside its fields, and by the one that ended it, unless the script did.
     pub(crate) fn line_of(&self, row: &ByteRecord) -> u64 {
         let read = self.reader.get_ref().read_so_far();
         let end = self.reader.position();

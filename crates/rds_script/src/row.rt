@@ -303,8 +303,8 @@ fn read_receptions(field: &[u8], receptions: &mut ArrayVec<Reception, MOST_RECEI
     true
 }
 
-/// Returns the reception of a letter and the digits after it, and what comes after them. Most letters have no digits, and
-/// pay for none.
+/// Returns the reception of a letter and the digits after it, and what comes after them. Most letters have no digits,
+/// and pay for none.
 #[inline(always)]
 fn next_reception(byte: u8, after: &[u8]) -> Option<(Reception, &[u8])>
     ensures some { IfSome result (λ next. (digits : List ℕ) × IsDigitCut after.now digits next.1.now

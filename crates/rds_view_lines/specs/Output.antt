@@ -34,7 +34,8 @@ name_or_number (Some name) class = name
 abbrev pub quoted : List ℕ → List ℕ
 quoted x = codes " \"" ++ printed x ++ codes "\""
 
--- why a part is not shown: its segments are incomplete, or none came for as long as the dwell, or the receiver restarted
+-- why a part is not shown: its segments are incomplete, or none came for as long as the dwell, or the receiver
+-- restarted
 abbrev pub why_content : WhyNone → List ℕ
 why_content Incomplete = codes " incomplete"
 why_content Dropped = codes " dropped"

@@ -3,7 +3,8 @@ ghost use Rattle.std.specs.Prelude.{◌≡◌, ◌≤◌, ◌+◌, ◌++◌, IfS
 ghost use Rattle.std.specs.Option.{ForSome, option_copied};
 ghost use Rattle.rds_receiver.specs.Borrowed.{borrowed_tag};
 ghost use Rattle.rds_view_lines.specs.Output.{bit_content, change, class_name, item_content};
-ghost use Rattle.rds_view_lines.specs.Output.{name_or_number, none_content, quoted, tag_content, text_content, why_content};
+ghost use Rattle.rds_view_lines.specs.Output.{name_or_number, none_content, quoted, tag_content, text_content};
+ghost use Rattle.rds_view_lines.specs.Output.{why_content};
 ghost use Rattle.rds_view_lines.specs.declared.change.TheConstants.{LINE_ROOM, SLOT_ROOM};
 
 use rds_charset::push_text;

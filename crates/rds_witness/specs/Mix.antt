@@ -29,7 +29,8 @@ Has view (Tag One class piece) = view.one ≡ Some (class, piece)
 Has view (Tag Two class piece) = view.two ≡ Some (class, piece)
 
 -- with these slots lost, the view of slot t has the thing, and that of the slot before does not
-pub record IsNew (t : Tuning) (log : List (Option Group)) (lost : Option Burst) (slot : ℕ) (thing : Thing) : Type 0 where
+pub record IsNew (t : Tuning) (log : List (Option Group)) (lost : Option Burst) (slot : ℕ)
+    (thing : Thing) : Type 0 where
   pub before : ShownView
   pub after : ShownView
   pub was : IsView t (got lost log slot) before

@@ -23,8 +23,8 @@ use std::alloc::Global;
 
 /// Reads a log of all groups of a station, one slot a line, and looks for a burst of lost slots after which a receiver
 /// shows a mix. If there is one, writes the lost slots and the line of each mix of the first slot that has one, and
-/// returns true. If not, writes that no witness was found, and returns false. Then no burst makes a receiver show a mix,
-/// or none before the slot at which the line says that the search stopped.
+/// returns true. If not, writes that no witness was found, and returns false. Then no burst makes a receiver show a
+/// mix, or none before the slot at which the line says that the search stopped.
 ///
 /// A tag of a pair that the station replaced in the run of its text does not count as a mix.
 ///

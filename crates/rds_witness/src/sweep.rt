@@ -53,8 +53,10 @@ impl Sweep {
     ) -> Result<(), AllocError>
         ensures stands { OnOk result ((pi m n : ℕ) (log : List (Option Group)) → group.now ≡ received None log n
             → StandsAfter (tuned pi m) log n self.old → StandsAfter (tuned pi m) log (n + 1) self.new) }
-        ensures checked { OnOk result ((pi m n k : ℕ) (log : List (Option Group)) → StandsAfter (tuned pi m) log n self.old
-            → ShowOnlySeen (tuned pi m) log k self.old.losing.items → ShowOnlySeen (tuned pi m) log k self.old.hearing.items
+        ensures checked { OnOk result ((pi m n k : ℕ) (log : List (Option Group))
+            → StandsAfter (tuned pi m) log n self.old
+            → ShowOnlySeen (tuned pi m) log k self.old.losing.items
+            → ShowOnlySeen (tuned pi m) log k self.old.hearing.items
             → All (IsChecked (tuned pi m) log k) self.new.losing.items
             × All (IsChecked (tuned pi m) log k) self.new.hearing.items) }
     {

@@ -37,8 +37,8 @@ abbrev pub EndsLongWithFlag1 : ℕ → List Broadcast → Type 0
 EndsLongWithFlag1 n [] = ⊥
 EndsLongWithFlag1 n (newest ∷ older) = (newest.flag ≡ true) × (newest.start + n ≤ newest.end + 1)
 
--- a receiver that hears a segment in each 2d slots in a row of a broadcast can join x to what it holds: it is the newest
--- one with flag 0 again, or empty, or the newest one has flag 1 and lasted for 2d slots
+-- a receiver that hears a segment in each 2d slots in a row of a broadcast can join x to what it holds: it is the
+-- newest one with flag 0 again, or empty, or the newest one has flag 1 and lasted for 2d slots
 abbrev pub IsSafeAfter : ℕ → List Broadcast → List ℕ → Type 0
 IsSafeAfter d plan x = IsAgainAfter plan x ⊎ EndsLongWithFlag1 (2 * d) plan
 
@@ -80,8 +80,8 @@ TheStationTurnsTheFlag =
     → (IsFirstAfterRestart IsHarmlessAfter d moves → TurnsTheFlag (plan_of d end moves))
     × (IsFirstAfterRestart (IsSafeAfter d) d moves → IsFirstAfterRestart IsHarmlessAfter d moves)
 
--- If the empty text comes first after each restart, each broadcast lasts for at least 2d slots before one that is filled.
--- If a safe one comes first, each lasts for at least 2d slots before news.
+-- If the empty text comes first after each restart, each broadcast lasts for at least 2d slots before one that is
+-- filled. If a safe one comes first, each lasts for at least 2d slots before news.
 abbrev pub TheStationKeepsEach : Type 0
 TheStationKeepsEach =
     (d end : ℕ) (moves : List Move)
@@ -115,9 +115,9 @@ TagsOfAStationAreOfTheirText =
     → ShowsNoTags r.view ⊎ ShowsEmptyText r.view
     ⊎ ShowsTagsOfText d (station_plans d told).text (marks text_mark (sent_log d told)) r.view
 
--- If it hears a segment in each 2d slots in a row of a text, its source is new. If the empty text comes first after each
--- restart, each text that began by slot `now` is at most the next one after the source, or is empty. If a safe one comes
--- first, each news that began by slot `now` is at most the next one.
+-- If it hears a segment in each 2d slots in a row of a text, its source is new. If the empty text comes first after
+-- each restart, each text that began by slot `now` is at most the next one after the source, or is empty. If a safe
+-- one comes first, each news that began by slot `now` is at most the next one.
 abbrev pub TextsOfAStationAreNew : Type 0
 TextsOfAStationAreNew =
     (d now : ℕ) (told : List Entry) (r : Listener) → 0 < d → AreSlots told → ListensByFlag now (sent_log d told) r

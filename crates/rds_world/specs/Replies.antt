@@ -1,5 +1,6 @@
 -- The replies of a world: to a command, to a slot, and to a list of slots (this project's own rule).
-use Rattle.std.specs.Prelude.{◌≡◌, ◌≢◌, ◌<◌, ◌≤◌, IfSome, IsSome, ℕ, List, None, Option, Ok, Err, length, reverse, slice_get, take}
+use Rattle.std.specs.Prelude.{◌≡◌, ◌≢◌, ◌<◌, ◌≤◌, IfSome, IsSome, ℕ, List, None, Option, Ok, Err, length, reverse}
+use Rattle.std.specs.Prelude.{slice_get, take}
 use Rattle.rds_encoder.specs.Entries.{Entry, name_moves, text_moves}
 use Rattle.rds_encoder.specs.Reply.{reply_to}
 use Rattle.rds_encoder.specs.Reply as encoder
@@ -13,7 +14,8 @@ use Rattle.rds_world.specs.declared.reply.Reply.{Reply}
 use Rattle.rds_world.specs.declared.reply.Reply.TheVariants.{Restarted, Done, Refused}
 use Rattle.rds_world.specs.declared.reply.Reply.TheVariants as reply
 use Rattle.rds_world.specs.declared.slots.PlayRefused.{PlayRefused}
-use Rattle.rds_world.specs.declared.slots.PlayRefused.TheVariants.{TooManyReceivers, Memory, ReceiverCount, Late, Wrong, WrongTwice}
+use Rattle.rds_world.specs.declared.slots.PlayRefused.TheVariants.{TooManyReceivers, Memory, ReceiverCount, Late, Wrong}
+use Rattle.rds_world.specs.declared.slots.PlayRefused.TheVariants.{WrongTwice}
 use Rattle.rds_world.specs.Due.{IsDueToAll, IsFirstLate}
 use Rattle.rds_world.specs.Event.{Event}
 use Rattle.rds_world.specs.Premise.{Premise}

@@ -1,6 +1,6 @@
 -- A station, whatever it sets in its slots (this project's own rule): what follows from the entries of its encoder. In
--- each slot it may restart and then set any number of texts, names and pairs of tags. The slots of a world, each with at
--- most one command, are a case of this. Lists have the newest first, and the station's spacing is d.
+-- each slot it may restart and then set any number of texts, names and pairs of tags. The slots of a world, each with
+-- at most one command, are a case of this. Lists have the newest first, and the station's spacing is d.
 use Rattle.std.specs.Prelude.{◌≡◌, ◌<◌, ◌+◌, ◌-◌, ◌⊎◌, ℕ, true, List, [], ◌∷◌}
 use Rattle.std.specs.List.{All, AllByRecursion}
 use Rattle.rds_assembly.specs.Value.{IsName, IsText}

@@ -1,6 +1,7 @@
 -- Wrong groups (this project's own rule). A receiver with a window may get a wrong message, but none that needs two
 -- receipts twice within the window. A receiver without a window gets none. Lists have the newest first.
-use Rattle.std.specs.Prelude.{◌≡◌, ◌↔◌, ◌<◌, ◌-◌, ℕ, true, Contains, List, [], ◌∷◌, Option, Some, None, slice_index_or, take}
+use Rattle.std.specs.Prelude.{◌≡◌, ◌↔◌, ◌<◌, ◌-◌, ℕ, true, Contains, List, [], ◌∷◌, Option, Some, None, slice_index_or}
+use Rattle.std.specs.Prelude.{take}
 use Rattle.rds_fields.specs.declared.message.Message.{Message}
 use Rattle.rds_receiver.specs.Twice.{needs_two}
 use Rattle.rds_world.specs.declared.event.Reception.{Reception}

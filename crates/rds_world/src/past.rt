@@ -16,8 +16,8 @@ use rds_receiver::Window;
 use std::alloc::{AllocError, Global};
 use std::marker::Model;
 
-/// A ring of the last W - 1 slots of a receiver, the newest first: the wrong message that it got in each. Without a window
-/// the ring has no places. A restart empties it.
+/// A ring of the last W - 1 slots of a receiver, the newest first: the wrong message that it got in each. Without a
+/// window the ring has no places. A restart empties it.
 #[derive(Drop)]
 pub(crate) struct Past {
     wrong: HeapCircularBuffer<Option<Message>>,

@@ -36,8 +36,8 @@ impl Reach {
         Reach { slots: 1 }
     }
 
-    /// Returns the reach in the slot after this reception. A restart or a wrong group counts as `Lost`. `None` if the reception is not
-    /// due.
+    /// Returns the reach in the slot after this reception. A restart or a wrong group counts as `Lost`. `None` if the
+    /// reception is not due.
     pub(crate) fn after(self, reception: Reception, late: Late) -> Option<Reach>
         ensures due { (slot : ℕ) (last : Option ℕ) → self ≡ reach_of late slot last
             → IsSome result ↔ IsDue late slot last reception }

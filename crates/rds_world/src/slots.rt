@@ -29,8 +29,8 @@ pub enum PlayRefused {
     /// the first such receiver.
     #[error("in slot {0} receiver {1} was to get a wrong group, and has no window")]
     Wrong(usize, usize),
-    /// The index of the first event that cannot be taken, if a receiver was to get the same wrong group twice within its
-    /// window, and the first such receiver.
+    /// The index of the first event that cannot be taken, if a receiver was to get the same wrong group twice within
+    /// its window, and the first such receiver.
     #[error("in slot {0} receiver {1} was to get the same wrong group twice within its window")]
     WrongTwice(usize, usize),
 }

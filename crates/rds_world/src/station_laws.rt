@@ -30,8 +30,8 @@ pub fn the_encoder_is_lawful()
     sent_is_of_what_is_on_air();
 }
 
-/// States the headline for each station, with any number of sets in a slot, and for any number of receivers. The slots of
-/// a world are a case of this.
+/// States the headline for each station, with any number of sets in a slot, and for any number of receivers. The slots
+/// of a world are a case of this.
 pub fn a_station_is_safe()
     ensures safe { WhoHearsAStationIsSafe }
     ensures world { SlotsOfAWorldAreSlots }
@@ -49,8 +49,8 @@ pub fn only_what_was_on_air_is_shown()
     safe_if_heard_twice();
 }
 
-/// States that a world refuses exactly the wrong groups that break the premise: any without a window; with a window of W
-/// slots a segment or a pair of tags that was wrong less than W slots before.
+/// States that a world refuses exactly the wrong groups that break the premise: any without a window; with a window of
+/// W slots a segment or a pair of tags that was wrong less than W slots before.
 pub fn what_is_fit_keeps_the_premise()
     ensures { TheFitKeepThePremise }
 {}
@@ -93,8 +93,8 @@ pub fn the_station_turns_the_flag()
 {}
 
 /// States what a receiver with the flag bit alone shows: only texts and names that the station set, if it hears a
-/// segment in each 2d slots of a broadcast; and only tags of the text shown, if it hears one in each d slots. What comes
-/// first after a restart has to be safe, as in `the_station_turns_the_flag`.
+/// segment in each 2d slots of a broadcast; and only tags of the text shown, if it hears one in each d slots. What
+/// comes first after a restart has to be safe, as in `the_station_turns_the_flag`.
 pub fn a_station_is_safe_by_the_flag()
     ensures texts { TextsOfAStationAreOfTheirSource }
     ensures names { NamesOfAStationAreOfTheirSource }

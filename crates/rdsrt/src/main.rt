@@ -1,7 +1,7 @@
 //! `rdsrt` encodes, decodes, simulates and audits the text services of RDS.
 //!
-//! The program is the crate `rds_program`. `main` passes it the arguments of the command line, standard input and standard
-//! output. The contract of `run_over` says what it writes. Notes for a person go to standard error.
+//! The program is the crate `rds_program`. `main` passes it the arguments of the command line, standard input and
+//! standard output. The contract of `run_over` says what it writes. Notes for a person go to standard error.
 //!
 //! ```text
 //! rdsrt decode --pi C201
