@@ -3,7 +3,7 @@
 use crate::same::same;
 use rds_arrivals::Grain;
 use rds_fields::Dwell;
-use rds_io::Told;
+use rds_io::{LogFault, Told};
 use rds_log::{Filling, SlotNotes, Times, fill_with_notes};
 use std::test::Fail;
 
@@ -29,18 +29,29 @@ fn filling(pi: Option<u16>) -> Result<Filling, Fail> {
     })
 }
 
+/// Fills a log. Returns the answer, and the output.
+fn filled(
+    rt: &HostRuntime,
+    log: &[u8],
+    pi: Option<u16>,
+    notes: &mut SlotNotes,
+) -> Result<(Result<Times, LogFault>, Vec<u8>), Fail> {
+    let mut written = Vec::new(rt.alloc());
+    let done = fill_with_notes(
+        &mut Told::new(log),
+        &mut Told::new(&mut written),
+        filling(pi)?,
+        notes,
+    );
+    Ok((done, written))
+}
+
 /// Lines without a time, lines of other programmes and breaks are counted. Notes replace the notes of a run before.
 #[test]
 fn counted_lines(rt: HostRuntime) -> Result<(), Fail> {
     let mut notes = SlotNotes::new();
     for (pi, output, others) in [(Some(0xC201), OF_ONE, 1), (None, OF_ALL, 0)] {
-        let mut written = Vec::new(rt.alloc());
-        let done = fill_with_notes(
-            &mut Told::new(LOG),
-            &mut Told::new(&mut written),
-            filling(pi)?,
-            &mut notes,
-        );
+        let (done, written) = filled(&rt, LOG, pi, &mut notes)?;
         same(&rt, done, Ok(Times::Fine));
         same(&rt, written.as_slice(), output);
         same(
@@ -58,13 +69,7 @@ fn counted_lines(rt: HostRuntime) -> Result<(), Fail> {
 fn whole_seconds(rt: HostRuntime) -> Result<(), Fail> {
     let log = b"C201 2140 4849 0D20 7\nC201 2140 4849 0D20 7\nC201 2140 4849 0D20 8\n".as_slice();
     let mut notes = SlotNotes::new();
-    let mut written = Vec::new(rt.alloc());
-    let done = fill_with_notes(
-        &mut Told::new(log),
-        &mut Told::new(&mut written),
-        filling(None)?,
-        &mut notes,
-    );
+    let (done, written) = filled(&rt, log, None, &mut notes)?;
     same(&rt, done, Ok(Times::Coarse));
     same(&rt, written.len(), 3 * 22 + 11 * 20);
     let stretch = notes.coarse.ok_or("coarse times are noted")?;
@@ -82,13 +87,7 @@ fn whole_seconds(rt: HostRuntime) -> Result<(), Fail> {
 fn no_times(rt: HostRuntime) -> Result<(), Fail> {
     let log = b"---- ---- ---- ----\nC201 2140 4849 0D20 07:58:12\n".as_slice();
     let mut notes = SlotNotes::new();
-    let mut written = Vec::new(rt.alloc());
-    let done = fill_with_notes(
-        &mut Told::new(log),
-        &mut Told::new(&mut written),
-        filling(None)?,
-        &mut notes,
-    );
+    let (done, written) = filled(&rt, log, None, &mut notes)?;
     same(&rt, done, Ok(Times::NotUnderstood));
     same(&rt, (written.len(), notes.untimed), (0, 1));
     Ok(())
