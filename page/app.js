@@ -3,7 +3,8 @@
 const page = (() => {
   const { $ } = parts;
   const TABS = ["log", "script", "dwell"];
-  const state = { ready: false };
+  /* `files` counts the files that were chosen: only the newest one is opened. */
+  const state = { ready: false, files: 0 };
   /* The M and the K of a file: those that the program takes without options. */
   const DEFAULTS = { m: 128, k: 0 };
   const decoder = new TextDecoder("utf-8", { ignoreBOM: true });
@@ -42,15 +43,19 @@ const page = (() => {
   /* A script has a comma in its first line. No line of a log has one before its 20th byte. The content decides before
      the extension does. */
   const SCRIPT = /^\uFEFF?(?:\r?\n)*(?:-|text|name|tags|restart|"[a-z-]+"),/;
-  const LOG = /^\uFEFF?(?:[<#%].*|\s*?)*^(?:[\dA-Fa-f]{4}|----) (?:[\dA-Fa-f]{4}|----) /m;
+  const LOG = /^\uFEFF?(?:(?:[<#%].*|[ \t]*)\r?\n)*(?:[\dA-Fa-f]{4}|----) (?:[\dA-Fa-f]{4}|----) /;
   const isScript = (name, text) => SCRIPT.test(text) || (/\.csv$/i.test(name) && !LOG.test(text));
 
-  /* The bytes of a log without a byte-order mark. Windows writes some text in UTF-16: it becomes UTF-8. */
+  /* The bytes of a file in UTF-8. Windows writes some text in UTF-16. */
+  function inUtf8(bytes) {
+    const encoding = { "255 254": "utf-16le", "254 255": "utf-16be" }[`${bytes[0]} ${bytes[1]}`];
+    return encoding ? new TextEncoder().encode(new TextDecoder(encoding).decode(bytes)) : bytes;
+  }
+
+  /* The bytes of a log without a byte-order mark. */
   function plainLog(bytes) {
     const [first, second, third] = bytes;
-    if (first === 0xEF && second === 0xBB && third === 0xBF) return bytes.subarray(3);
-    const encoding = { "255 254": "utf-16le", "254 255": "utf-16be" }[`${first} ${second}`];
-    return encoding ? new TextEncoder().encode(new TextDecoder(encoding).decode(bytes)) : bytes;
+    return first === 0xEF && second === 0xBB && third === 0xBF ? bytes.subarray(3) : bytes;
   }
 
   const WITH_INPUT = { log: logTab, script: scriptTab };
@@ -71,10 +76,22 @@ const page = (() => {
     return !isUnsaved(name) || await ask(name) ? open() : keep();
   }
 
+  /* Says that a file cannot be read, in place of what was open. */
+  function refuseFile(file) {
+    const why = `The page cannot read ${file.name}.`;
+    return replace("log", async () => {
+      tab("log");
+      await logTab.refuse(why, DEFAULTS);
+      return false;
+    });
+  }
+
   /* Opens a file. The program gets its bytes as they are. The text that the page shows keeps a byte-order mark. */
   async function openFile(file) {
-    const input = new Uint8Array(await file.arrayBuffer());
-    const plain = plainLog(input);
+    const number = ++state.files, bytes = await file.arrayBuffer().catch(() => null);
+    if (state.files !== number) return false;
+    if (!bytes) return refuseFile(file);
+    const input = inUtf8(new Uint8Array(bytes)), plain = plainLog(input);
     const begin = decoder.decode(plain.subarray(0, BEGIN));
     const name = isScript(file.name, begin) ? "script" : "log";
     const options = { ...DEFAULTS, file: file.name };
@@ -85,7 +102,7 @@ const page = (() => {
       document.activeElement?.blur();
       scrollTo({ top: 0 });
       if (name === "script") await scriptTab.open(decoder.decode(input), { ...options, input });
-      else await logTab.open(plain, { ...options, running: true, blob: plain === input ? file : undefined });
+      else await logTab.open(plain, { ...options, running: true });
       return true;
     });
   }
@@ -102,7 +119,7 @@ const page = (() => {
     const example = RDSRT_EXAMPLES[name][number];
     const text = example.from ? rdsrt.run(example.from, example.text).output : example.text;
     $("left-out").replaceChildren();
-    return WITH_INPUT[name].open(text, { ...example, example: number });
+    return WITH_INPUT[name].open(text, { ...DEFAULTS, ...example, example: number });
   }
 
   /* Opens the file that is chosen in a field. An empty field hears the choice of the same file again. */

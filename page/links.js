@@ -9,6 +9,8 @@ const links = (() => {
   const MOST_LOST = 100_000;
   const TOO_LARGE = "too large";
   const CUT = "cut";
+  const DAMAGED = "damaged";
+  const damaged = () => new RangeError(DAMAGED);
   /* A link without it at its end was cut, and may have lost options. */
   const END = "&end";
   const FROM_DISK = "This page was opened from a disk, so its links are of no use to others. Save the file and share "
@@ -114,7 +116,8 @@ const links = (() => {
   /* Finds the tab whose link a hash is. The name of a tab alone is no link. */
   const tabOf = (hash) => ["log", "script"].find((tab) => new URLSearchParams(hash).get(tab));
 
-  /* Reads the text of a link, and its numbers within bounds. */
+  /* Reads the text of a link, and its numbers within bounds. `option` gives a number without which the link is damaged,
+     unless it has another one to take in its place. */
   async function read(tab, hash) {
     if (!hash.endsWith(END)) throw new RangeError(CUT);
     const given = new URLSearchParams(hash);
@@ -122,7 +125,12 @@ const links = (() => {
       const number = /^\d{1,7}$/.test(given.get(name) ?? "") ? Number(given.get(name)) : NaN;
       return number >= low && number <= high ? number : undefined;
     };
-    return { text: await unpack(given.get(tab)), given, within };
+    const option = (name, low, high, other) => {
+      const number = given.has(name) ? within(name, low, high) : other;
+      if (number === undefined) throw damaged();
+      return number;
+    };
+    return { text: await unpack(given.get(tab)), given, option, within };
   }
 
   /* Shows the slot and the zoom of a link. */
@@ -149,10 +157,11 @@ const links = (() => {
     return spans.map(([first, last]) => first === last ? first : `${first}-${last}`).join(".");
   }
 
-  /* The slots of these letters, at most so many. Other letters give none. */
+  /* The slots of these letters, at most so many. Throws at other letters. */
   function slotsOf(letters, most = MOST_LOST) {
     const all = [];
-    if (!/^\d{1,7}(-\d{1,7})?(\.\d{1,7}(-\d{1,7})?)*$/.test(letters ?? "")) return all;
+    if (!letters) return all;
+    if (!/^\d{1,7}(-\d{1,7})?(\.\d{1,7}(-\d{1,7})?)*$/.test(letters)) throw damaged();
     for (const span of letters.split(".")) {
       const [first, last = first] = span.split("-").map(Number);
       for (let slot = first; slot <= last && all.length < most; slot++) all.push(slot);
@@ -163,6 +172,7 @@ const links = (() => {
   /* Why a link was not opened. */
   function whyNot(tab, error) {
     if (error.message === CUT) return "The link was cut: copy the whole link.";
+    if (error.message === DAMAGED) return "The link is damaged: an option of it is wrong.";
     if (error.message === TOO_LARGE) return `The link holds a ${tab} of more than 4 MB. The page does not open it.`;
     return `The link has no ${tab}.`;
   }
@@ -171,7 +181,7 @@ const links = (() => {
   const windowOption = (tab) => $(`${tab}-w`).value ? `&w=${$(`${tab}-w`).value}` : "";
 
   return {
-    MOST_PLAIN, give, hold, inLetters, keep, look, putAddress, read, sightOf, slotsOf, tabOf, tell, whyNot,
+    MOST_PLAIN, damaged, give, hold, inLetters, keep, look, putAddress, read, sightOf, slotsOf, tabOf, tell, whyNot,
     windowOption,
   };
 })();

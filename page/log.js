@@ -20,7 +20,7 @@ const logTab = (() => {
   class Superseded extends Error {}
   const NO_CHANGES = { slots: new Int32Array(0), parts: new Uint8Array(0), runs: new Int32Array(0) };
   const NO_EVENTS = { slots: new Int32Array(0), numbers: new Int32Array(0) };
-  const NO_TIMES = { groups: 0, timed: 0, absent: 0, breaks: 0, coarse: "" };
+  const NO_TIMES = { timed: 0, absent: 0, breaks: 0, coarse: "" };
   const empty = () => ({
     log: NO_LOG, times: NO_TIMES, programmes: [], groups: 0, codes: new Uint8Array(0),
     view: new views.View(), alone: new views.View(), events: NO_EVENTS,
@@ -90,12 +90,12 @@ const logTab = (() => {
     look();
   }
 
-  /* Opens a log: its text, or the bytes of its file, which is `blob`. Returns when its display and its verdict are
-     shown. */
+  /* Opens a log: its text, or the bytes of its file. Returns when its display and its verdict are shown. The workers
+     read the page's own bytes: a file may change while it is open. */
   function open(content, settings = {}) {
-    const { pi, m, k, w = "", running = false, lost = [], example = "", file = "", blob, isEdited = false } = settings;
+    const { pi, m, k, w = "", running = false, lost = [], example = "", file = "", isEdited = false } = settings;
     const bytes = typeof content === "string" ? encoder.encode(content) : content;
-    state.blob = blob ?? new Blob([bytes]);
+    state.blob = new Blob([bytes]);
     $("log").classList.remove("unopened");
     for (const worker of Object.values(workers)) worker.drop();
     Object.assign(state, empty(), { bytes, isEdited, lost: new Set(lost), brush: null });
@@ -115,23 +115,24 @@ const logTab = (() => {
   async function read(pi) {
     const opening = ++state.opening, { blob } = state, done = wait("Reading the log");
     state.turn++;
-    workers.audit.ask("keep", { blob });
-    workers.lossy.ask("read", { blob });
-    const opened = await workers.whole.ask("open", { blob }, (share) => { $("log-progress").value = share; });
+    const [opened] = await Promise.all([
+      workers.whole.ask("open", { blob }, (share) => { $("log-progress").value = share; }),
+      workers.audit.ask("keep", { blob }),
+      workers.lossy.ask("read", { blob }),
+    ]);
     done();
     if (state.opening !== opening || !opened) return;
-    // each programme with the number of its whole groups
-    const groups = opened.programmes.reduce((sum, [, number]) => sum + number, 0);
-    Object.assign(state, opened, { groups });
+    Object.assign(state, opened);
     offerProgrammes(pi);
     await look({ fit: true });
     if (state.opening !== opening) return;
-    if (state.log.count > LONG && !state.lost.size) workers.lossy.ask("warm", asking());
     timeline.move(firstSlot(), { keep: true });
+    if (state.log.count > LONG && !state.lost.size) await workers.lossy.ask("warm", asking());
   }
 
-  /* The slot to look at first: the first mix of a text, or else the last text. */
+  /* The slot to look at first: that of a no if no slot is lost, or else the first mix of a text, or else the last text. */
   function firstSlot() {
+    if (state.no && !state.lost.size) return state.no.slot;
     const { text: shown } = state.view.parts, { text: other } = state.alone.parts;
     for (const runs of [shown, other]) {
       const mix = runs.find((i) => runs.isMix(i));
@@ -267,27 +268,28 @@ const logTab = (() => {
     const end = (slots) => ({ slots, bytes: slots < log.count ? log.starts[slots] : bytes.length });
     const near = end(Math.min(log.count, no.slot + NEAR * m)), far = end(Math.min(log.count, near.slots + FAR));
     const [tell, done] = tellSearch();
-    workers.witness.ask("keep", { blob });
-    const found = await workers.witness.ask("witness", { pi: asked.pi, m, near, far }, tell)
-      .catch((error) => ({ lost: null, shown: [], failure: error.message }));
+    const kept = workers.witness.ask("keep", { blob });
+    const asks = [kept, workers.witness.ask("witness", { pi: asked.pi, m, near, far }, tell)];
+    const [, found] = await Promise.all(asks).catch((error) => [null, { lost: null, shown: [], failure: error.message }]);
     done();
     if (state.turn !== turn || !found) return;
     rest("witness");
     state.witness = found;
-    verdict.showWitness(found, actions);
+    verdict.showWitness({ ...found, k: Number(asked.k) }, actions);
   }
 
   /* Looks for the dwells that pass around the chosen one, and shows their bounds. */
   async function judgeOthers(asked, turn) {
-    if (!state.groups || !state.result.audit || /^fault/m.test(state.result.audit.output)) return;
-    workers.others.ask("keep", { blob: state.blob });
+    if (!state.groups || !state.result.audit || !verdict.isSure()) return;
+    await workers.others.ask("keep", { blob: state.blob });
     const passes = async (m) => {
       const got = state.turn === turn && await audit({ ...asked, m: String(m) }, "others");
       if (state.turn !== turn || !got) throw new Superseded();
       return got.output.startsWith("yes ");
     };
     try {
-      verdict.showDwells(await passing.bounds(Number(asked.m), passes), actions);
+      const m = Number(asked.m);
+      verdict.showDwells(await passing.bounds(m, passes), await passes(m) ? null : m, actions);
       rest("others");
     } catch (error) {
       if (!(error instanceof Superseded)) throw error;
@@ -412,10 +414,11 @@ const logTab = (() => {
 
   /* Opens the log of a link. */
   async function openLink(hash, defaults) {
-    const it = await links.read("log", hash), { text, given, within } = it, lost = links.slotsOf(given.get("lost"));
-    const running = within("running", 0, 1) === 1;
-    const [m, k, w] = [within("m", 1, 65535) ?? defaults.m, within("k", 0, 1024) ?? defaults.k, within("w", 2, 255)];
-    await open(text, { pi: given.get("pi"), m, k, w, running, lost });
+    const it = await links.read("log", hash), { text, given, option } = it, lost = links.slotsOf(given.get("lost"));
+    const running = option("running", 0, 1, 0) === 1, pi = given.get("pi");
+    const [m, k, w] = [option("m", 1, 65535), option("k", 0, 1024, defaults.k), option("w", 2, 255, "")];
+    await open(text, { pi, m, k, w, running, lost });
+    if (pi !== null && pi !== $("log-pi").value) throw links.damaged();
     links.look(timeline, it);
     links.hold("log", { text, options: options() }, hash);
   }

@@ -13,7 +13,16 @@ class ProgramWorker {
     URL.revokeObjectURL(url);
     Object.assign(this, { waiting: new Map(), newest: new Map(), last: 0 });
     this.worker.onmessage = ({ data }) => this.hear(data);
-    this.ask("begin", this.compiled);
+    this.worker.onerror = ({ message }) => this.fail(new Error(`a worker of the page stopped: ${message}`));
+    // whoever asks next hears why the worker did not begin
+    this.ask("begin", this.compiled).catch((error) => this.fail(error));
+  }
+
+  /* Ends the worker with an error for all that was asked. */
+  fail(error) {
+    const { waiting } = this;
+    this.end();
+    for (const { reject } of waiting.values()) reject(error);
   }
 
   hear({ id, done, answer, error }) {

@@ -435,9 +435,9 @@ const scriptTab = (() => {
 
   /* Opens the script of a link, and returns when it is shown. */
   async function openLink(hash, defaults) {
-    const it = await links.read("script", hash), { text, within } = it;
-    const [m, k, w] = [within("m", 1, 65535) ?? defaults.m, within("k", 0, 1024) ?? defaults.k, within("w", 2, 255)];
-    await open(text, { m, k, w, pty: within("pty", 0, 31) });
+    const it = await links.read("script", hash), { text, option, within } = it;
+    const [m, k, w] = [option("m", 1, 65535), option("k", 0, 1024, defaults.k), option("w", 2, 255, "")];
+    await open(text, { m, k, w, pty: option("pty", 0, 31, 10) });
     state.chosen = within("receiver", 0, receivers() - 1) ?? state.chosen;
     timeline.chosen = receivers() ? state.chosen : null;
     links.look(timeline, it);

@@ -25,7 +25,9 @@ const verdict = (() => {
   const strong = (textContent) => make("b", { textContent });
   const code = (textContent) => make("code", { textContent });
   const button = (textContent, onclick) => make("button", { type: "button", textContent, onclick });
-  const withDwell = (m) => `with M = ${format(m)} (${lines.time(m)})`;
+  /* The dwell and the lateness of an answer. A window makes the receiver later by its length less one. */
+  const withDwell = ({ m, k, w }) => `with M = ${format(m)} (${lines.time(m)})`
+    + (k ? ` and K ${w ? "+ W - 1 " : ""}= ${format(k)}` : "");
 
   /* Shows a card, and says its heading to screen readers: the card itself changes often. */
   function showCard(kind, ...elements) {
@@ -49,9 +51,9 @@ const verdict = (() => {
   const empty = (note) => [heading("Nothing to audit"), sentence(`The program answers yes, with a note: ${note}.`)];
 
   /* A yes over a log that does not show enough. */
-  const unsure = ({ audit, m }) => [
+  const unsure = (given) => [
     heading("Cannot say"),
-    sentence(`The program answers yes ${withDwell(m)}, but the log does not show enough. ${covered(audit)}.`),
+    sentence(`The program answers yes ${withDwell(given)}, but the log does not show enough. ${covered(given.audit)}.`),
   ];
 
   function keptBy(count, groups) {
@@ -60,13 +62,14 @@ const verdict = (() => {
   }
 
   /* A yes. It covers the slots that were recorded. */
-  function passed({ audit, log, groups, m }) {
+  function passed(given) {
+    const { audit, log, groups } = given;
     const missing = log.count - groups;
     const texts = missing ? "the recorded texts" : "two texts";
     const have = `${missing === 1 ? "has" : "have"} no whole group.`;
     const few = `${format(missing)} of ${parts.counted(log.count, "slot")} ${have}`;
     return [
-      heading(`✓ Passes ${withDwell(m)}`),
+      heading(`✓ Passes ${withDwell(given)}`),
       sentence(`${keptBy(log.count, groups)} the rules. No receiver with this M shows a mix of ${texts}, whichever `
         + "groups it loses."),
       sentence(`${covered(audit)}.`),
@@ -86,7 +89,7 @@ const verdict = (() => {
     const searching = make("span", { id: "search", textContent: "Looking for lost slots that make a mix …" });
     const stop = Object.assign(button("Stop the search", actions.stopSearch), { id: "search-stop", hidden: true });
     return [
-      heading("✗ ", code(fault), ` ${withDwell(given.m)}`),
+      heading("✗ ", code(fault), ` ${withDwell(given)}`),
       sentence("First in ", button(`slot ${format(slot)}`, () => actions.goTo(slot)), `${rule}. This slot is `
         + `${lines.time(slot)} after the first.`),
       sentence(strong("What the encoder should do:"), ` ${cureOf(given, no)}`),
@@ -110,12 +113,12 @@ const verdict = (() => {
   // ---- doubts
 
   /* Says that slots are absent by the times of the lines, and offers to add them. */
-  function absent({ times }, actions) {
-    if (!(times.absent + times.breaks) || 2 * times.timed < times.groups) return [];
+  function absent({ groups, times }, actions) {
+    if (!(times.absent + times.breaks) || 2 * times.timed < groups) return [];
     const slots = `${parts.counted(times.absent, "slot")} ${times.absent === 1 ? "is" : "are"} not in this log`;
     const breaks = `${parts.counted(times.breaks, "break")} of unknown length`;
     const lacks = [times.absent && slots, times.breaks && breaks].filter(Boolean).join(", and it has ");
-    const without = times.groups - times.timed;
+    const without = groups - times.timed;
     const leftOut = without ? `It leaves out ${parts.counted(without, "group")} without a time. ` : "";
     return [sentence(strong("Lost slots:"), ` By the times of the lines, ${lacks}. The audit takes the lines as slots `
       + `without a gap, so this answer may be wrong. ${leftOut}`, button("Add the lost slots", actions.fill))];
@@ -152,10 +155,10 @@ const verdict = (() => {
   }
 
   /* Shows the answer over a log, which has so many whole groups. Returns the slot and the fault of a no. */
-  function show({ w, k, running, ...given }, actions) {
-    const no = noOf(given.audit);
+  function show(given, actions) {
+    const { m, k, w, running } = given, no = noOf(given.audit);
     const [kind, words, doubts] = answer(given, no, actions);
-    const spacing = given.m + k;
+    const spacing = m + k;
     const about = `The audit reads the log as sent, with M + K${w ? " + W - 1" : ""} = ${spacing} slots `
       + `(${lines.time(spacing)}).${running ? " The station was on air before the log began." : ""}`;
     showCard(kind, ...words, ...doubts, make("p", { className: "dwells", id: "dwells", hidden: true }),
@@ -163,13 +166,24 @@ const verdict = (() => {
     return no;
   }
 
-  /* Shows the dwells that pass, from the least one to the greatest one of those that were tried, as buttons. */
-  function showDwells(found, actions) {
+  /* Whether the card says yes or no. A grey card says neither, and a fault is no answer. */
+  const isSure = () => ["verdict", "verdict no"].includes($("verdict").className);
+
+  /* Numbers and a verb: "7, 12 and 48 do not". */
+  const listed = (numbers, one, more) =>
+    `${new Intl.ListFormat("en-GB").format(numbers.map(format))} ${numbers.length > 1 ? more : one}`;
+
+  /* Shows the least and the greatest dwell that were tried and pass, as buttons, and those that fail: the ones beyond
+     these, and the chosen one if it fails. Between two that pass others may fail. */
+  function showDwells(found, failed, actions) {
     const choose = (m) => Object.assign(button(format(m), () => actions.chooseDwell(m)), { title: lines.time(m) });
     const words = (({ least, greatest }) => {
-      const failing = [least.beyond, greatest.beyond].filter(Boolean).map(format);
-      const beyond = failing.length ? `: ${failing.join(" and ")} ${failing.length > 1 ? "do" : "does"} not.` : ".";
-      return ["from ", choose(least.last), " to ", choose(greatest.last), ` passes, as far as was tried${beyond}`];
+      const ends = [...new Set([least.last, greatest.last])];
+      const failing = [...new Set([least.beyond, failed, greatest.beyond])].filter(Boolean).sort((a, b) => a - b);
+      const [first, last] = ends.map(choose), both = last ? [first, " and ", last, " pass"] : [first, " passes"];
+      const beyond = failing.length ? `; ${listed(failing, "does", "do")} not` : "";
+      const between = greatest.last - least.last > 1 ? " Those between were not all tried." : "";
+      return [...both, `${beyond}.${between}`];
     });
     $("dwells").hidden = false;
     $("dwells").replaceChildren(strong("With other dwells M:"), " ",
@@ -184,10 +198,11 @@ const verdict = (() => {
     element.replaceChildren(`Even a receiver that loses nothing shows in slot ${format(slot)}: `, code(text), ".");
   }
 
-  function whyNoWitness(upto, failure) {
+  function whyNoWitness({ upto = null, failure = "", k = 0 }) {
     if (failure) return `: ${failure}.`;
-    if (upto === null) return ": no burst of lost slots makes a mix. Two bursts may still make one.";
-    return ` up to slot ${format(upto)}: the search stopped there. No burst makes a mix before that slot.`;
+    const late = k ? " The search tries no late group." : "";
+    if (upto === null) return `: no burst of lost slots makes a mix. Two bursts may still make one.${late}`;
+    return ` up to slot ${format(upto)}: the search stopped there. No burst makes a mix before that slot.${late}`;
   }
 
   /* Says for how many seconds a witness was searched, and in how many slots, and shows the button that stops the
@@ -200,11 +215,11 @@ const verdict = (() => {
   }
 
   /* Shows the lost slots that make a mix, or why there are none. */
-  function showWitness({ slot, lost, shown, upto = null, failure = "" }, actions) {
-    const element = $("witness");
+  function showWitness(found, actions) {
+    const { slot, lost, shown } = found, element = $("witness");
     if (!element) return;
     if (!lost || !shown.length) {
-      element.replaceChildren(strong("No witness"), `${whyNoWitness(upto, failure)} ${RULE_BROKEN}`);
+      element.replaceChildren(strong("No witness"), `${whyNoWitness(found)} ${RULE_BROKEN}`);
       return;
     }
     const [first, last] = lost;
@@ -214,5 +229,5 @@ const verdict = (() => {
       + "nothing does not: ", code(shown.join("; ")), ". ", lose);
   }
 
-  return { show, showDwells, showNone, showSearch, showWithoutLoss, showWitness };
+  return { isSure, show, showDwells, showNone, showSearch, showWithoutLoss, showWitness };
 })();

@@ -41,29 +41,23 @@
     return { groups, lost };
   }
 
-  /* What `rdsrt slots` finds: the groups of the log, those with a time, the slots that the log lacks by them, the breaks of
-     unknown length, and its note on coarse times. With M = 1 one lost slot stands for a break. */
-  function timesOf(bytes, log) {
+  /* What `rdsrt slots` finds in a log of which so many slots are lost: the groups with a time, the slots that the log lacks
+     by them, the breaks of unknown length, and its note on coarse times. With M = 1 one lost slot stands for a break. */
+  function timesOf(bytes, known) {
     const { bytes: output, notes } = rdsrt.runBytes(["slots", "--m", "1"], bytes);
     const breaks = Number(/^(\d+) times? went back/m.exec(notes.join("\n"))?.[1] ?? 0);
-    const { groups: timed, lost } = slotsIn(output), absent = lost - breaks - lostIn(log);
+    const { groups: timed, lost } = slotsIn(output), absent = Math.max(0, lost - breaks - known);
     const coarse = notes.find((note) => note.startsWith("the times vary")) ?? "";
-    return { groups: log.count - lostIn(log), timed, absent: Math.max(0, absent), breaks, coarse };
+    return { timed, absent, breaks, coarse };
   }
 
-  /* How many slots of a log have no whole group. */
-  function lostIn({ missing, count }) {
-    let lost = 0;
-    for (let slot = 0; slot < count; slot++) if (missing[slot]) lost++;
-    return lost;
-  }
-
-  /* Reads a log, and returns copies of its slots, and its programmes. */
+  /* Reads a log, and returns copies of its slots, its programmes, and the number of its whole groups. */
   async function open({ blob }, tell) {
     await read({ blob }, tell);
-    const { log } = state, copy = { ...log };
+    const { log } = state, copy = { ...log }, programmes = logfile.programmes(log);
     for (const name of ["words", "missing", "starts", "numbers"]) copy[name] = log[name].slice();
-    return { log: copy, programmes: logfile.programmes(log), times: timesOf(state.bytes, log), moves: arraysIn(copy) };
+    const groups = programmes.reduce((sum, [, number]) => sum + number, 0);
+    return { log: copy, programmes, groups, times: timesOf(state.bytes, log.count - groups), moves: arraysIn(copy) };
   }
 
   /* Returns what does not depend on M, and is kept: what one with the flag bit alone shows, and the codes of the slots.

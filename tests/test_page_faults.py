@@ -156,6 +156,7 @@ class Faults:
             colour = b.run("getComputedStyle(document.querySelector('#verdict')).borderLeftColor")
             self.check(name, [it in said for it in (cannot, *wanted)] + [colour],
                        [True] * (1 + len(wanted)) + [call(b, "probe.colour", "other")], said)
+            self.check(f"{name}: no other dwells", of(b, "#dwells", "hidden"), True)
         nine = "".join(f"{HI} {number * SLOT:.2f}\n" for number in range(9))
         said = verdict_of(b, f"{nine}{NOTHING}\n", 8)
         self.check("nine slots in ten", "✓ Passes with M = 8" in said, True, said)

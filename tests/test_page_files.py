@@ -158,7 +158,7 @@ class Files:
         self.check("an example is complete", of(b, "#log-running", "checked"), False)
 
     def test_a_file_is_read_as_the_program_reads_its_bytes(self):
-        """A log loses its byte-order mark, and one in UTF-16 becomes UTF-8."""
+        """A log loses its byte-order mark, and a file in UTF-16 becomes UTF-8."""
         b = self.b
         mark, log, script = b"\xef\xbb\xbf", example("hi.log"), example("tunnel.csv")
         latin = "text,Édith,1,\n".encode("latin-1")
@@ -176,14 +176,54 @@ class Files:
         self.check("the last one passes, and the program takes no mark",
                    (text_of(b, "#verdict")[:8], program(["audit", "--pi", "C201"], logs[0][0])),
                    ("✓ Passes", [1, "fault line 1\n"]))
-        for data in (mark + script, script.decode().encode("utf-16"), latin, script + latin,
-                     script.replace(b"\n", b"\r\n\r\n")):
+        scripts = [mark + script, latin, script + latin, script.replace(b"\n", b"\r\n\r\n")]
+        for data, plain in [(script.decode().encode("utf-16"), script), *((it, it) for it in scripts)]:
             call(b, "probe.drop", "own.csv", list(data))
             for m in (128, 8):
                 call(b, "probe.choose", "script-m", m)
                 settle(b)
                 self.check(f"sim over a file that begins with {data[:12]}, M {m}", printed(b),
-                           program(["sim", "--pi", "C201", "--pty", "10", "--m", str(m), "--why"], data)[1])
+                           program(["sim", "--pi", "C201", "--pty", "10", "--m", str(m), "--why"], plain)[1])
+
+    def test_a_file_that_cannot_be_read_is_said(self):
+        """A folder that is dropped, for example. Of two files at once the newer one is opened."""
+        b = self.b
+        own = "new File([{}], 'own.log')"
+        slow = ("Object.assign({}, {{ arrayBuffer: async function () {{ await new Promise(done => setTimeout(done, 300));"
+                " return File.prototype.arrayBuffer.call(this); }} }})")
+        b.run("page.openFile({ name: 'a <b>', arrayBuffer: async () => { throw new Error('a folder'); } })")
+        settle(b)
+        self.check("a folder", (text_of(b, "#verdict"), of(b, "#verdict", "className")),
+                   ("The page cannot read a <b>.No log is open.", "verdict no"))
+        b.run(f"page.openFile({slow.format(own.format(repr(EVERY_100)))}); page.openFile({own.format(repr(HI))})")
+        b.until("new Promise(done => setTimeout(() => done(true), 600))")
+        settle(b)
+        self.check("two files", of(b, "#log-text", "value"), HI)
+
+    def test_a_log_that_changes_on_the_disk_stays_as_it_was_opened(self):
+        """The answer, the search for a witness and that for other dwells are over the same bytes."""
+        b = self.b
+        log = example("flags.log").decode()
+        # a file whose bytes are others each time
+        b.run("page.openFile(Object.assign(new File([], 'own.log'), { times: 0, arrayBuffer: async function () { "
+              f"return new TextEncoder().encode(this.times++ ? {HI!r} : {log!r}).buffer; }} }}))")
+        settle(b)
+        call(b, "probe.choose", "log-m", 8)
+        settle(b)
+        idle(b)
+        wanted = program(["witness", "--pi", "C201", "--m", "8"], log.encode())[1]
+        self.check("the witness", text_of(b, "#witness").split(": ", 2)[2].startswith(wanted.split(": ")[1].strip()), True,
+                   text_of(b, "#witness"))
+
+    def test_a_file_with_many_marks_is_soon_told_from_a_log(self):
+        b = self.b
+        for name, text in (("marks", "#" * 9000 + " my script\n"), ("lines", "\n" * 9000), ("blanks", " \t \n" * 9000)):
+            call(b, "probe.drop", "own.csv", f"{text}Slot;Text\n")
+            settle(b)
+            self.check(name, hidden(b), ["log", "dwell"])
+            call(b, "probe.drop", "own.csv", f"{text[:9000]}\n{HI}\n")
+            settle(b)
+            self.check(f"{name} before a log", hidden(b), ["script", "dwell"])
 
     def test_the_name_of_a_file_is_shown_as_long_as_the_file(self):
         """It is beside the field and in the title. The file can be chosen again."""

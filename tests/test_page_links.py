@@ -60,7 +60,7 @@ class Links:
                        (told, (told, "problem no"), ""))
         too_large = "The link holds a script of more than 4 MB. The page does not open it."
         for size, told in ((4_000_000, ""), (4_000_001, too_large), (100_000_000, too_large)):
-            visit(b, f"{URL}#script={packed(b'-,,1,' + bytes(size - 5))}&end")
+            visit(b, f"{URL}#script={packed(b'-,,1,' + bytes(size - 5))}&m=8&end")
             self.check(f"a link that holds {size} bytes", text_of(b, "#script-saved"), told)
         visit(b, f"{URL}#script")
         self.check("a tab by its name", (text_of(b, "#script-saved"), hidden(b)), ("", ["log", "dwell"]))
@@ -132,13 +132,17 @@ class Links:
             self.check("and without it the address has it again", (told(), b.run(address)), ("", True))
             visit(b, link)
             self.check("the link opens all that", [b.run(LOG_STATE), hidden(b)], [before, ["script", "dwell"]])
-            for more in ("&lost=1-9999999.0-9999999", "&lost=1-&m=0&k=1025&pi=FFFF&slot=-1", "&lost=<b>"):
-                visit(b, f"{re.sub('&.*', '', link)}{more}&end")
-                state = b.run(LOG_STATE)
-                self.check(f"a link with {more}", (told(), state[5:], len(state[1]) <= 100_000),
-                           ("", ["C201", "128", "0"], True))
-            for name, broken, why in (("holds none", f"{url}#log=nonsense&end", "The link has no log."),
-                                      ("was cut", link[:200], "The link was cut: copy the whole link.")):
+            bare = re.sub("&.*", "", link)
+            visit(b, f"{bare}&m=128&lost=1-9999999.0-9999999&end")
+            state = b.run(LOG_STATE)
+            self.check("a link with many lost slots", (told(), state[5:], len(state[1])), ("", ["C201", "128", "0"], 100_000))
+            damaged = "The link is damaged: an option of it is wrong."
+            for name, broken, why in (
+                    *((f"has {more}", f"{bare}{more}&end", damaged) for more in
+                      ("", "&m=0", "&m=65536", "&m=x", "&m=8&k=1025", "&m=8&w=1", "&m=8&running=2", "&m=8&lost=1-",
+                       "&m=8&lost=<b>", "&m=8&pi=FFFF", "&m=8&pi=")),
+                    ("holds none", f"{url}#log=nonsense&end", "The link has no log."),
+                    ("was cut", link[:200], "The link was cut: copy the whole link.")):
                 visit(b, broken)
                 card = text_of(b, "#verdict"), of(b, "#verdict", "className"), of(b, "#log-text", "value")
                 self.check(f"a link that {name}", (told(), card), (why, (f"{why}No log is open.", "verdict no", "")))

@@ -7,8 +7,8 @@ from tests.page_support import (EVERY_100, GROUPS, HI, NOTHING, SEED, YO, Chromi
                                 text_of, verdict_of)
 
 POWERS = [*(1 << exponent for exponent in range(16)), 65535]
-PASSING = re.compile(r"With other dwells M: from (\d+) to (\d+) passes, as far as was tried"
-                     r"(?:: (\d+)(?: and (\d+))? does? not)?\.")
+PASSING = re.compile(r"With other dwells M: ([\d,]+)(?: and ([\d,]+))? pass(?:es)?(?:; ([\d, and]+) do(?:es)? not)?\."
+                     r"( Those between were not all tried\.)?")
 GROUP_WORDS = [
     ("C201 2140 4849 0D20", "2A RadioText · flag A · segment 0 · “HI” · C201 2140 4849 0D20"),
     ("C201 2153 6E63 8220", "2A RadioText · flag B · segment 3 · “ncé ” · C201 2153 6E63 8220"),
@@ -128,8 +128,8 @@ class LogTab:
         click(b, "#log-click")
 
     def test_the_dwells_that_pass_are_those_of_the_program(self):
-        """The least and the greatest M that pass around the chosen one. Yes and no are not monotone in M, so this is as
-        far as was tried: both bounds pass, and the dwells beyond them do not."""
+        """The least and the greatest M that pass around the chosen one. Yes and no are not monotone in M, so the page
+        says only what was tried: both pass, and the dwells beyond them and a chosen one that fails do not."""
         b = self.b
         dice = random.Random(SEED)
         logs = [EVERY_100, example("flags.log").decode(),
@@ -145,11 +145,14 @@ class LogTab:
                 self.check(f"{tried}: bounds", found is not None, any(passes.values()), f"{said}\n{log}")
                 if not found:
                     continue
-                least, greatest = int(found[1]), int(found[2])
-                beyond = [int(it) for it in found.groups()[2:] if it]
+                least, greatest = int(found[1]), int(found[2] or found[1])
+                failing = [int(it) for it in re.findall(r"\d+", found[3] or "")]
+                beyond = {it for it in (least - 1, greatest + 1) if 1 <= it <= 65535}
                 self.check(f"{tried}: both", (passes[least], passes[greatest]), (True, True), f"{said}\n{log}")
-                self.check(f"{tried}: beyond", [(it, passes[it]) for it in beyond],
-                           [(it, False) for it in (least - 1, greatest + 1) if 1 <= it <= 65535], f"{said}\n{log}")
+                self.check(f"{tried}: beyond, and the chosen one", [(it, passes[it]) for it in failing],
+                           [(it, False) for it in sorted(beyond | {it for it in [128] if not passes[it]})],
+                           f"{said}\n{log}")
+                self.check(f"{tried}: between", bool(found[4]), greatest - least > 1, said)
         call(b, "logTab.open", EVERY_100, {"pi": "C201", "m": 128, "k": 0})
         click(b, "#dwells button")
         self.check("a button chooses its dwell", (of(b, "#log-m", "value"), text_of(b, "#verdict h2")[:12]),
@@ -328,7 +331,7 @@ class LogTab:
         used = clicks(file)
         told = text_of(b, "#verdict")
         wanted = ["✗ EarlyFlag with M = 128 (11.2 s)", "Keep each text on air for at least M + K slots",
-                  "passes, as far as was tried"]
+                  "Those between were not all tried."]
         self.check("is my encoder safe, and what to change", (used <= 4, [it for it in wanted if it not in told]),
                    (True, []))
         used = clicks(lambda: click(b, "#tab-dwell"), lambda: call(b, "probe.choose", "dwell-s", 15),
