@@ -1,15 +1,21 @@
 """Reads crates.txt: the crates with their layers and libraries. Knows where their files are, which of these are stale, and
-how to call the kit's compiler for a crate.
+how to call the kit's compiler for a crate, or for many side by side.
 """
 import os
 import re
 import shutil
+import sys
+from concurrent.futures import ThreadPoolExecutor
 
 ROOT = os.path.dirname(os.path.dirname(os.path.abspath(__file__)))
 LIST = os.path.join(ROOT, "crates.txt")
 KIT = os.path.dirname(os.path.dirname(os.path.realpath(shutil.which("rt"))))
 # where the checks of a crate keep their proofs: in the folder that `rt` uses
 KEPT = ["--incremental", "out/incremental"]
+# The crates of the longest chain get several jobs, which cost a third more work. Below FEW cores each crate gets one.
+JOBS = {"rds_fields": 4, "rds_assembly": 2, "rds_encoder": 4, "rds_receiver": 3, "rds_log": 4, "rds_witness": 4,
+        "rds_script": 4, "rds_program": 4, "rdsrt": 2}
+FEW = 4
 
 
 def listed():
@@ -56,6 +62,12 @@ def below(name, uses):
     for it in uses[name]:
         found += [dep for dep in [*below(it, uses), it] if dep not in found] if it in uses else []
     return found
+
+
+def needed(ends, uses):
+    """Returns these crates and all below them, lowest first."""
+    found = {it for end in ends for it in [*below(end, uses), end]}
+    return [it for it in uses if it in found]
 
 
 def folder(name):
@@ -146,3 +158,29 @@ def compile_words(name, uses, jobs, *more, verb="build"):
             "--antt-project", f"{KIT}/rattle/logic/antt-project.json", "--logic-built", f"{KIT}/logic_built",
             *(it for crate, at in made for it in ("--extern", f"{crate}={at}")),
             *(it for at in folders for it in ("-L", f"dependency={at}")), *more]
+
+
+def jobs_of(name):
+    """Returns how many jobs the check of the crate gets."""
+    return JOBS.get(name, 1) if len(os.sched_getaffinity(0)) >= FEW else 1
+
+
+def say(line):
+    """Prints a line as a whole, also while other threads print."""
+    sys.stdout.write(f"{line}\n")
+    sys.stdout.flush()
+
+
+def in_layers(names, uses, make):
+    """Makes these crates side by side, each as soon as those below it are made. `make` returns whether it made a crate.
+    Returns whether all are made."""
+    made = {}
+
+    def one(name):
+        return all(made[it].result() for it in below(name, uses) if it in made) and make(name)
+
+    with ThreadPoolExecutor(len(names)) as pool:
+        # the lowest crates come first, so each one finds those below it
+        for name in names:
+            made[name] = pool.submit(one, name)
+    return all(it.result() for it in made.values())
