@@ -5,12 +5,10 @@ usage: experiments/microcontrollers/narrow.py cortex-m4|cortex-m0plus|armv7
 
 The result is out/TARGET/librdsrt.a in this folder.
 
-The kit hands its clang an LLVM module for x86-64. This script keeps that module, changes the forms that differ on 32
+The kit hands its clang an LLVM module for x86-64. This script takes that module, changes the forms that differ on 32
 bits, and compiles it again. In the module a usize has 64 bits, and a pointer has a place of 8 bytes: on 32 bits the
 pointer fills the first 4 bytes. The script stops at every line whose form it does not know.
 """
-import fcntl
-import glob
 import os
 import re
 import subprocess
@@ -21,10 +19,10 @@ sys.dont_write_bytecode = True
 HERE = os.path.dirname(os.path.abspath(__file__))
 ROOT = os.path.dirname(os.path.dirname(HERE))
 sys.path.insert(0, os.path.join(ROOT, "tools"))
-from crates import KIT, compile_words, folder, listed
+from crates import KIT, folder
 
 CLANG, OUT = f"{KIT}/toolchain/bin/clang", os.path.join(HERE, "out")
-HEADER, CRATE = os.path.join(ROOT, "include/rdsrt.h"), folder("rds_ffi")
+HEADER, MODULE = os.path.join(ROOT, "include/rdsrt.h"), os.path.join(folder("rds_ffi"), "out/rds_ffi.bc")
 # the start of the names of the C tools, and their words for the processor
 TARGETS = {"cortex-m4": ("arm-none-eabi", ["-mthumb", "-mcpu=cortex-m4", "-mfloat-abi=soft"]),
            "cortex-m0plus": ("arm-none-eabi", ["-mthumb", "-mcpu=cortex-m0plus", "-mfloat-abi=soft"]),
@@ -89,33 +87,13 @@ def ran(words, at=HERE):
 
 
 def kept_module():
-    """Returns the module as text. Keeps it anew if the archive is newer; the kept proofs make that fast."""
-    ran([os.path.join(ROOT, "tools/static_library"), "rds_ffi"])
-    kept = os.path.join(OUT, "module.ll")
-    with open(os.path.join(CRATE, "out/lock"), "w", encoding="utf-8") as lock:
-        fcntl.flock(lock, fcntl.LOCK_EX)
-        if not os.path.exists(kept) or os.path.getmtime(kept) < os.path.getmtime(f"{CRATE}/out/librds_ffi.a"):
-            with tempfile.TemporaryDirectory() as work:
-                keep(work, kept)
-    with open(kept, encoding="latin-1") as file:
-        return file.read()
-
-
-def keep(work, kept):
-    """Keeps the module as text: builds the archive with a clang that copies the module that it gets."""
-    os.mkdir(f"{work}/bin")
-    for it in (*glob.glob(f"{KIT}/toolchain/*"), *glob.glob(f"{KIT}/toolchain/bin/*")):
-        to = os.path.join(work, os.path.relpath(it, f"{KIT}/toolchain"))
-        if it not in (CLANG, os.path.dirname(CLANG)):
-            os.symlink(it, to)
-    with open(f"{work}/bin/clang", "w", encoding="utf-8") as file:
-        file.write(f'#!/bin/sh\nfor it; do case $it in *.bc) cp "$it" {work}/kept.bc;; esac; done\nexec {CLANG} "$@"\n')
-    os.chmod(f"{work}/bin/clang", 0o755)
-    ran(compile_words("rds_ffi", listed(), 2, "--crate-type", "staticlib", "--toolchain", work, "--backend", "llvm",
-                      "-o", f"{work}/lib.a", "--incremental", "out/incremental"), CRATE)
-    ran([CLANG, "--no-default-config", "-S", "-emit-llvm", "-x", "ir", f"{work}/kept.bc", "-Xclang",
-         "-disable-llvm-passes", "-O0", "-o", f"{kept}.new"])
-    os.replace(f"{kept}.new", kept)
+    """Returns the module as text."""
+    ran([os.path.join(ROOT, "tools/static_library"), "rds_ffi", "--module"])
+    with tempfile.TemporaryDirectory() as work:
+        ran([CLANG, "--no-default-config", "-S", "-emit-llvm", "-x", "ir", MODULE, "-Xclang", "-disable-llvm-passes", "-O0",
+             "-o", f"{work}/module.ll"])
+        with open(f"{work}/module.ll", encoding="latin-1") as file:
+            return file.read()
 
 
 def widened(constant):
