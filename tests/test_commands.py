@@ -65,6 +65,7 @@ RUN_BY = [
     (r"page/build$", "test_page_build"),
     (r"tools/shipped.py$", "test_shipped"),
     (r"tools/static_library ", "test_c_library.Archive"),
+    (r"tools/checked.py$", "test_checked.Records"),
     (r"rt version$", "test_pages.Pages.test_the_kit_and_each_time_are_in_one_page"),
     (r"\./rdsrt (?:decode|audit|witness|encode|sim) .* < examples/[\w.]+$", "test_examples"),
     (r"\./rdsrt audit --running --pi C201 < station.log$", "test_guide.Guide.test_the_lines_of_parallel"),
