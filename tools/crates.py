@@ -12,9 +12,10 @@ LIST = os.path.join(ROOT, "crates.txt")
 KIT = os.path.dirname(os.path.dirname(os.path.realpath(shutil.which("rt"))))
 # where the checks of a crate keep their proofs: in the folder that `rt` uses
 KEPT = ["--incremental", "out/incremental"]
-# The crates of the longest chain get several jobs, which cost a third more work. Below FEW cores each crate gets one.
+# The crates that others wait for longest get several jobs, which cost up to a third more work. The check of rdsrt and that
+# of rds_wasm have a few functions and load many: a second job gains nothing. Below FEW cores each crate gets one.
 JOBS = {"rds_fields": 4, "rds_assembly": 2, "rds_encoder": 4, "rds_receiver": 3, "rds_log": 4, "rds_witness": 4,
-        "rds_script": 4, "rds_program": 4, "rdsrt": 2}
+        "rds_script": 4, "rds_program": 4, "rds_ffi": 2}
 FEW = 4
 
 
