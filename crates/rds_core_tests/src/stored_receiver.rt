@@ -3,7 +3,7 @@
 use crate::same::same;
 use rds_block::Group;
 use rds_fields::{Dwell, StoredPair};
-use rds_receiver::{Receiver, StoredReceiver, StoredSegments};
+use rds_receiver::{Receiver, StoredDisplay, StoredSegments};
 use std::test::Fail;
 
 /// A restored receiver continues where the stored one was.
@@ -29,11 +29,11 @@ fn takes_slots_in_place(rt: HostRuntime) -> Result<(), Fail> {
     let again = stored.slot(Some(group.blocks()));
     let nothing = stored.slot(None);
     let other = stored.slot(Some(clock.blocks()));
-    same(&rt, stored.text.age, 2);
+    same(&rt, stored.display.text.age, 2);
     let dropped = stored.slot(None);
     let answers = (segment, again, nothing, other, dropped);
     same(&rt, answers, (true, false, false, false, true));
-    same(&rt, stored.text.mask, 0);
+    same(&rt, stored.display.text.mask, 0);
     Ok(())
 }
 
@@ -49,16 +49,18 @@ fn restores_any_numbers(rt: HostRuntime) -> Result<(), Fail> {
     let mut pair = StoredPair::none();
     pair.is_held = 9;
     pair.one.class = 255;
-    let receiver = Receiver::restore(&StoredReceiver {
+    let mut stored = Receiver::new(1, Dwell::new(2).ok_or("dwell")?).store();
+    stored.display = StoredDisplay {
         pi: 1,
         dwell: 0,
         text: segments,
         name: segments,
         pair,
         is_known: 3,
-    });
+    };
+    let receiver = Receiver::restore(&stored);
     same(&rt, receiver.text(), Some([b'A'; 64].as_slice()));
     same(&rt, receiver.pair(), None);
-    same(&rt, receiver.store().dwell, 1);
+    same(&rt, receiver.store().display.dwell, 1);
     Ok(())
 }

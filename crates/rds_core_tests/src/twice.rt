@@ -3,7 +3,7 @@
 use crate::same::same;
 use rds_block::Group;
 use rds_fields::Dwell;
-use rds_receiver::{Receiver, TwiceReceiver, Window};
+use rds_receiver::{Receiver, Window};
 use std::test::Fail;
 
 /// The programme that the receivers are of.
@@ -26,10 +26,10 @@ fn wrong_group(rt: HostRuntime) -> Result<(), Fail> {
         (last, right_text, right_text),
     ];
     let mut once = Receiver::new(PI, Dwell::new(8).ok_or("dwell")?);
-    let mut twice = TwiceReceiver::new(
+    let mut twice = Receiver::tuned(
         PI,
         Dwell::new(8).ok_or("dwell")?,
-        Window::new(5).ok_or("window")?,
+        Some(Window::new(5).ok_or("window")?),
     );
     let mut shown = None;
     for (words, by_once, by_twice) in rows {
@@ -58,13 +58,13 @@ fn goes_on_from_what_is_stored(rt: HostRuntime) -> Result<(), Fail> {
         (tags, shown, None),
         (tags, shown, Some((4, b"HI".as_slice()))),
     ];
-    let mut twice = TwiceReceiver::new(
+    let mut twice = Receiver::tuned(
         PI,
         Dwell::new(8).ok_or("dwell")?,
-        Window::new(2).ok_or("window")?,
+        Some(Window::new(2).ok_or("window")?),
     );
     for (words, text, tag) in rows {
-        twice = TwiceReceiver::restore(&twice.store());
+        twice = Receiver::restore(&twice.store());
         twice.slot(Some(Group::from_blocks(words)));
         same(&rt, twice.view().text, text);
         same(&rt, twice.view().one, tag);
@@ -77,14 +77,13 @@ fn goes_on_from_what_is_stored(rt: HostRuntime) -> Result<(), Fail> {
 fn restores_any_numbers(rt: HostRuntime) -> Result<(), Fail> {
     let dwell = Dwell::new(8).ok_or("dwell")?;
     let window = Window::new(2).ok_or("window")?;
-    let mut stored = TwiceReceiver::new(PI, dwell, window).store();
-    stored.window = 0;
+    let mut stored = Receiver::tuned(PI, dwell, Some(window)).store();
     stored.pair.is_held = 9;
     stored.pair.two.extra = 255;
     stored.pair_left = 255;
     stored.segments.flags = 0xFFFF_FFFF;
     stored.segments.left[17] = 255;
-    let mut twice = TwiceReceiver::restore(&stored);
+    let mut twice = Receiver::restore(&stored);
     let group = Some(Group::from_blocks([PI, 0x2140, 0x4849, 0x0D20]));
     twice.slot(group);
     twice.slot(group);

@@ -6,7 +6,6 @@ use arrayvec::ArrayVec;
 use rds_assembly::{Name, Text};
 use rds_block::Place;
 use rds_fields::{Dwell, Head, Late};
-use rds_receiver::Receive;
 use rds_world::{
     Answer, Command, Config, PlayRefused, Premise, ReceiverKind, Reception, Reply, SlotEvent,
     StepRefused, World, WorldRefused, play,
@@ -156,7 +155,7 @@ pub(crate) fn assert_text(
     receiver: usize,
     wanted: Option<&[u8]>,
 ) -> Result<(), Fail> {
-    let shown = world.receiver(receiver).ok_or("receiver")?.view().text;
+    let shown = world.receiver(receiver).ok_or("receiver")?.text();
     same(rt, (receiver, shown), (receiver, wanted));
     Ok(())
 }

@@ -25,15 +25,15 @@ use Rattle.rds_log.specs.declared.source.Source.{Source}
 use Rattle.rds_log.specs.declared.decoder.ViewLines.{ViewLines}
 
 -- the output of the lines
-lines_write : {R : Type 0} (Stands : Tuning → R → List (Option Group) → Type 0) (why : Bool) (t : Tuning) (v : ViewLines R) (lines : List Line) (slots : List (Option Group)) (written : List ℕ) → AreSlots lines slots → ViewsStandAt Stands why t v slots written → LinesWrite why t lines written
-lines_write Stands why t v lines slots written say views = record { slots = slots; say = say; write = record { displays = views.displays; are = views.are; changes = views.changes } }
+lines_write : (why : Bool) (t : Tuning) (v : ViewLines) (lines : List Line) (slots : List (Option Group)) (written : List ℕ) → AreSlots lines slots → ViewsStandAt why t v slots written → LinesWrite why t lines written
+lines_write why t v lines slots written say views = record { slots = slots; say = say; write = record { displays = views.displays; are = views.are; changes = views.changes } }
 
 -- ---- the decoder
 
 -- a line that is a slot
-pub takes_slot : {R : Type 0} (Stands : Tuning → R → List (Option Group) → Type 0) (why : Bool) (t : Tuning) (d after : Decoder R) (w : Traffic) (lines : List Line) (line : Line) (slot : Option Group) → LineSays line (Slot slot)
-    → GivesChange Stands d.views after.views slot d.output after.output → HasDecoded Stands why t d w lines → HasDecoded Stands why t after w (line ∷ lines)
-takes_slot Stands why t d after w lines line slot says gives s =
+pub takes_slot : (why : Bool) (t : Tuning) (d after : Decoder) (w : Traffic) (lines : List Line) (line : Line) (slot : Option Group) → LineSays line (Slot slot)
+    → GivesChange d.views after.views slot d.output after.output → HasDecoded why t d w lines → HasDecoded why t after w (line ∷ lines)
+takes_slot why t d after w lines line slot says gives s =
     let (added, output, views) = gives why t s.slots (s.written ++ d.output) s.views in
     let all : (s.written ++ d.output) ++ added ≡ s.written ++ after.output = append_assoc s.written d.output added ∙ ap (λ (l : List ℕ). s.written ++ l) (sym output) in
     record {
@@ -50,9 +50,9 @@ abbrev pub from : Option (List ℕ) → Option (List ℕ) → ℕ → ℕ → Tr
 from a b f g = record { before = a; after = b; failures_before = f; failures_after = g }
 
 -- the output that waits was written
-writes_all : {R : Type 0} (Stands : Tuning → R → List (Option Group) → Type 0) (why : Bool) (t : Tuning) (d after : Decoder R) (lines : List Line) (a b c : Option (List ℕ)) (f g h : ℕ) → HasDecoded Stands why t d (from a b f g) lines → after.views ≡ d.views → after.output ≡ []
-    → Appends b c d.output → h ≡ g → HasDecoded Stands why t after (from a c f h) lines
-writes_all Stands why t d after lines a b c f g h s views none put calm = record {
+writes_all : (why : Bool) (t : Tuning) (d after : Decoder) (lines : List Line) (a b c : Option (List ℕ)) (f g h : ℕ) → HasDecoded why t d (from a b f g) lines → after.views ≡ d.views → after.output ≡ []
+    → Appends b c d.output → h ≡ g → HasDecoded why t after (from a c f h) lines
+writes_all why t d after lines a b c f g h s views none put calm = record {
   slots = s.slots;
   say = s.say;
   written = s.written ++ d.output;
@@ -62,29 +62,29 @@ writes_all Stands why t d after lines a b c f g h s views none put calm = record
 }
 
 -- or a first part of it
-writes_part : {R : Type 0} (Stands : Tuning → R → List (Option Group) → Type 0) (why : Bool) (t : Tuning) (d : Decoder R) (lines : List Line) (a b c : Option (List ℕ)) (f g h : ℕ) → HasDecoded Stands why t d (from a b f g) lines → AppendsPrefix b c d.output → Failed g h
+writes_part : (why : Bool) (t : Tuning) (d : Decoder) (lines : List Line) (a b c : Option (List ℕ)) (f g h : ℕ) → HasDecoded why t d (from a b f g) lines → AppendsPrefix b c d.output → Failed g h
     → WrotePart why t (from a c f h) lines
-writes_part Stands why t d lines a b c f g h s part failed = record {
+writes_part why t d lines a b c f g h s part failed = record {
   written = s.written ++ d.output;
-  write = lines_write Stands why t d.views lines s.slots (s.written ++ d.output) s.say s.views;
+  write = lines_write why t d.views lines s.slots (s.written ++ d.output) s.say s.views;
   wrote = AppendsPrefix-append a b c s.written d.output s.wrote part;
   failed = rw s.calm at failed;
 }
 
-pub writes : {R : Type 0} (Stands : Tuning → R → List (Option Group) → Type 0) (why : Bool) (t : Tuning) (d after : Decoder R) (lines : List Line) (a b c : Option (List ℕ)) (f g h : ℕ) (r : Result (Unit {0}) WriteFault) → HasDecoded Stands why t d (from a b f g) lines → after.views ≡ d.views → OnOk r (after.output ≡ [])
-    → Puts (from b c g h) d.output r → MatchResult r (λ _. HasDecoded Stands why t after (from a c f h) lines) (λ _. WrotePart why t (from a c f h) lines)
-writes Stands why t d after lines a b c f g h (Ok done) s views none put = writes_all Stands why t d after lines a b c f g h s views none put.0 put.1
-writes Stands why t d after lines a b c f g h (Err fault) s views none put = writes_part Stands why t d lines a b c f g h s put.0 put.1
+pub writes : (why : Bool) (t : Tuning) (d after : Decoder) (lines : List Line) (a b c : Option (List ℕ)) (f g h : ℕ) (r : Result (Unit {0}) WriteFault) → HasDecoded why t d (from a b f g) lines → after.views ≡ d.views → OnOk r (after.output ≡ [])
+    → Puts (from b c g h) d.output r → MatchResult r (λ _. HasDecoded why t after (from a c f h) lines) (λ _. WrotePart why t (from a c f h) lines)
+writes why t d after lines a b c f g h (Ok done) s views none put = writes_all why t d after lines a b c f g h s views none put.0 put.1
+writes why t d after lines a b c f g h (Err fault) s views none put = writes_part why t d lines a b c f g h s put.0 put.1
 
 -- ---- the ends
 
 -- nothing waits: all output was written
-pub wrote_lines : {R : Type 0} (Stands : Tuning → R → List (Option Group) → Type 0) (why : Bool) (t : Tuning) (d : Decoder R) (w : Traffic) (lines : List Line) → HasDecoded Stands why t d w lines → d.output ≡ [] → WroteLines why t w lines
-wrote_lines Stands why t d w lines s none =
+pub wrote_lines : (why : Bool) (t : Tuning) (d : Decoder) (w : Traffic) (lines : List Line) → HasDecoded why t d w lines → d.output ≡ [] → WroteLines why t w lines
+wrote_lines why t d w lines s none =
     let all : s.written ++ d.output ≡ s.written = ap (λ (l : List ℕ). s.written ++ l) none ∙ append-nil s.written in
     record {
       written = s.written;
-      write = rw all at (lines_write Stands why t d.views lines s.slots (s.written ++ d.output) s.say s.views);
+      write = rw all at (lines_write why t d.views lines s.slots (s.written ++ d.output) s.say s.views);
       wrote = s.wrote;
       calm = s.calm;
     }
@@ -100,14 +100,14 @@ begins_with s most start now lines stands = by_end s.ended stands.where_it_is
     by_end false is = (is.text, is.read, inl (is.holds.begun, _, is.holds.cut, is.holds.cutter.lines, is.holds.cutter.line))
 
 -- the source had no further line, and the output was written
-pub ends_by_fault : {R : Type 0} (Stands : Tuning → R → List (Option Group) → Type 0) (why : Bool) (t : Tuning) (d : Decoder R) (reads : ℕ) (start now : ReaderState) (w : Traffic) (lines : List Line) (first : List ℕ) (fault : LogFault) → HasNoNext reads start now lines first fault
-    → HasDecoded Stands why t d w lines → d.output ≡ [] → Decodes why t reads (since start now) w (Err fault)
-ends_by_fault Stands why t d reads start now w lines first (BadLine n) (text, read, (bad, is), calm) h none = (text, read, record { lines = lines; next = bad; wrote = wrote_lines Stands why t d w lines h none }, calm)
-ends_by_fault Stands why t d reads start now w lines first Read (up_to, failed) h none = (record { closed = lines; reads = up_to; wrote = wrote_lines Stands why t d w lines h none }, failed)
-ends_by_fault Stands why t d reads start now w lines first TooLong (up_to, calm) h none = (record { closed = lines; reads = up_to; wrote = wrote_lines Stands why t d w lines h none }, calm)
-ends_by_fault Stands why t d reads start now w lines first (BadRow n) gives h none = absurd gives
-ends_by_fault Stands why t d reads start now w lines first Write gives h none = absurd gives
-ends_by_fault Stands why t d reads start now w lines first Memory gives h none = absurd gives
+pub ends_by_fault : (why : Bool) (t : Tuning) (d : Decoder) (reads : ℕ) (start now : ReaderState) (w : Traffic) (lines : List Line) (first : List ℕ) (fault : LogFault) → HasNoNext reads start now lines first fault
+    → HasDecoded why t d w lines → d.output ≡ [] → Decodes why t reads (since start now) w (Err fault)
+ends_by_fault why t d reads start now w lines first (BadLine n) (text, read, (bad, is), calm) h none = (text, read, record { lines = lines; next = bad; wrote = wrote_lines why t d w lines h none }, calm)
+ends_by_fault why t d reads start now w lines first Read (up_to, failed) h none = (record { closed = lines; reads = up_to; wrote = wrote_lines why t d w lines h none }, failed)
+ends_by_fault why t d reads start now w lines first TooLong (up_to, calm) h none = (record { closed = lines; reads = up_to; wrote = wrote_lines why t d w lines h none }, calm)
+ends_by_fault why t d reads start now w lines first (BadRow n) gives h none = absurd gives
+ends_by_fault why t d reads start now w lines first Write gives h none = absurd gives
+ends_by_fault why t d reads start now w lines first Memory gives h none = absurd gives
 
 -- the writer failed after a line
 pub ends_by_write : (why : Bool) (t : Tuning) (s : Source) (reads : ℕ) (start now : ReaderState) (w : Traffic) (lines : List Line) → SourceStandsAt s reads start now lines → WrotePart why t w lines

@@ -5,6 +5,7 @@ use Rattle.rds_block.specs.declared.group.Group.{Group}
 use Rattle.rds_receiver.specs.NotShown.{whys_of}
 use Rattle.rds_receiver.specs.Receipts.{Tuning}
 use Rattle.rds_receiver.specs.Shown.{IsView, ShownView}
+use Rattle.rds_receiver.specs.StandsAt.{StandsAt}
 use Rattle.rds_receiver.specs.declared.why.Whys.{Whys}
 use Rattle.rds_view_lines.specs.NoChange.{no_change, view_of_none}
 use Rattle.rds_view_lines.specs.Output.{Display, change, newest, slot_stamp}
@@ -14,11 +15,11 @@ use Rattle.rds_log.specs.Inside.ViewLines.{ViewsStandAt}
 use Rattle.rds_log.specs.declared.decoder.ViewLines.{ViewLines}
 
 -- a slot that was handled: its display, and the changes that it appends
-pub slot_given : {R : Type 0} (Stands : Tuning → R → List (Option Group) → Type 0) (why : Bool) (t : Tuning) (v after : ViewLines R) (slots : List (Option Group)) (written before now : List ℕ) (group : Option Group) (display : Display) (s : ViewsStandAt Stands why t v slots written)
-    → Stands t after.receiver (group ∷ slots) → IsDisplay why t (group ∷ slots) display → after.says_why ≡ v.says_why → after.slot ≡ v.slot + 1 → view_kept after.shown ≡ display.view
+pub slot_given : (why : Bool) (t : Tuning) (v after : ViewLines) (slots : List (Option Group)) (written before now : List ℕ) (group : Option Group) (display : Display) (s : ViewsStandAt why t v slots written)
+    → StandsAt t after.receiver (group ∷ slots) → IsDisplay why t (group ∷ slots) display → after.says_why ≡ v.says_why → after.slot ≡ v.slot + 1 → view_kept after.shown ≡ display.view
     → now ≡ before ++ change (slot_stamp v.slot) display.whys (view_kept v.shown) display.view
-    → (added : List ℕ) × (now ≡ before ++ added) × ViewsStandAt Stands why t after (group ∷ slots) (written ++ added)
-slot_given Stands why t v after slots written before now group display s receiver is says slot shown gave =
+    → (added : List ℕ) × (now ≡ before ++ added) × ViewsStandAt why t after (group ∷ slots) (written ++ added)
+slot_given why t v after slots written before now group display s receiver is says slot shown gave =
     let here : change (slot_stamp v.slot) display.whys (view_kept v.shown) display.view ≡ change (slot_stamp (length s.displays)) display.whys (newest s.displays) display.view =
     ap (λ (n : ℕ). change (slot_stamp n) display.whys (view_kept v.shown) display.view) s.slot ∙ ap (λ (x : ShownView). change (slot_stamp (length s.displays)) display.whys x display.view) s.shown in (
       change (slot_stamp v.slot) display.whys (view_kept v.shown) display.view,
@@ -49,13 +50,13 @@ some_whys false t input view is = (None, refl)
 some_whys true t input view (heard, are, shows) = (Some (whys_of t heard), (whys_of t heard, (heard, are, refl), refl))
 
 -- a slot that shows what the one before it showed
-pub slot_same : {R : Type 0} (Stands : Tuning → R → List (Option Group) → Type 0) (why : Bool) (t : Tuning) (v after : ViewLines R) (slots : List (Option Group)) (written before : List ℕ) (group : Option Group) (s : ViewsStandAt Stands why t v slots written)
-    → Stands t after.receiver (group ∷ slots) → ((view : ShownView) → IsView t slots view → IsView t (group ∷ slots) view)
+pub slot_same : (why : Bool) (t : Tuning) (v after : ViewLines) (slots : List (Option Group)) (written before : List ℕ) (group : Option Group) (s : ViewsStandAt why t v slots written)
+    → StandsAt t after.receiver (group ∷ slots) → ((view : ShownView) → IsView t slots view → IsView t (group ∷ slots) view)
     → after.says_why ≡ v.says_why → after.slot ≡ v.slot + 1 → view_kept after.shown ≡ view_kept v.shown
-    → (added : List ℕ) × (before ≡ before ++ added) × ViewsStandAt Stands why t after (group ∷ slots) (written ++ added)
-slot_same Stands why t v after slots written before group s receiver stays says slot kept =
+    → (added : List ℕ) × (before ≡ before ++ added) × ViewsStandAt why t after (group ∷ slots) (written ++ added)
+slot_same why t v after slots written before group s receiver stays says slot kept =
     let is = stays (newest s.displays) (newest_view why t slots s.displays s.are) in
     let (whys, say) = some_whys why t (group ∷ slots) (newest s.displays) is in
     let none : change (slot_stamp v.slot) whys (view_kept v.shown) (newest s.displays) ≡ [] = ap (λ (view : ShownView). change (slot_stamp v.slot) whys view (newest s.displays)) s.shown ∙ no_change (slot_stamp v.slot) whys (newest s.displays) in
-    slot_given Stands why t v after slots written before before group (record { view = newest s.displays; whys = whys }) s receiver (record { view = is; whys = say }) says slot (kept ∙ s.shown)
+    slot_given why t v after slots written before before group (record { view = newest s.displays; whys = whys }) s receiver (record { view = is; whys = say }) says slot (kept ∙ s.shown)
     (sym (append-nil before) ∙ ap (λ (bytes : List ℕ). before ++ bytes) (sym none))

@@ -1,7 +1,6 @@
 //! The engine of `decode`: the view of a receiver of a log.
 ghost use Rattle.std.specs.Prelude.{◌≤◌, ◌^◌, [], IfErr, OnOk, false};
 ghost use Rattle.rds_io.specs.Told.{traffic};
-ghost use Rattle.rds_receiver.specs.Receipts.{Tuning};
 ghost use Rattle.rds_log.specs.Decode.{Decodes};
 ghost use Rattle.rds_log.specs.Heard.{HeardLog};
 ghost use Rattle.rds_log.specs.LogWrites.{tuned, tuned_with};
@@ -14,7 +13,7 @@ use crate::notes::LogNotes;
 use crate::source::Source;
 use rds_fields::Dwell;
 use rds_io::{LogFault, TellingRead, TellingWrite};
-use rds_receiver::{Receive, Receiver, TwiceReceiver, Window};
+use rds_receiver::{Receiver, Window};
 
 /// How a log is decoded.
 #[derive(Clone, Copy)]
@@ -95,52 +94,15 @@ pub fn decode_with_notes<R: TellingRead, W: TellingWrite>(
     ensures fault { IfErr result (λ fault.
         NotesFault (traffic R.remaining R.failures reader.old reader.new) fault notes.new.bad) }
 {
-    let Decoding {
-        pi,
-        dwell,
-        window,
-        says_why,
-    } = decoding;
-    match window {
-        None => {
-            let receiver = Receiver::new(pi, dwell);
-            decode_by(receiver, says_why, reader, writer, pi, reads, notes)
-        }
-        Some(window) => {
-            let receiver = TwiceReceiver::new(pi, dwell, window);
-            decode_by(receiver, says_why, reader, writer, pi, reads, notes)
-        }
-    }
-}
-
-/// Does what [`decode_with_notes`] does with this receiver, which has heard nothing yet.
-fn decode_by<T: Receive + Drop, R: TellingRead, W: TellingWrite>(
-    receiver: T,
-    says_why: bool,
-    reader: &mut R,
-    writer: &mut W,
-    pi: u16,
-    reads: u64,
-    notes: &mut LogNotes,
-) -> Result<(), LogFault>
-    requires { reads ≤ 2 ^ 32 }
-    ensures decodes { (t : Tuning) → T.stands t receiver [] → Decodes says_why t reads
-        (traffic R.remaining R.failures reader.old reader.new)
-        (traffic W.contents W.failures writer.old writer.new) result }
-    ensures reads { MadeReads reads (R.reads reader.old) (R.reads reader.new) result }
-    ensures heard { OnOk result
-        (HeardLog pi (traffic R.remaining R.failures reader.old reader.new) notes.new.heard) }
-    ensures fault { IfErr result (λ fault.
-        NotesFault (traffic R.remaining R.failures reader.old reader.new) fault notes.new.bad) }
-{
-    *notes = LogNotes::new(pi);
+    let receiver = Receiver::tuned(decoding.pi, decoding.dwell, decoding.window);
+    *notes = LogNotes::new(decoding.pi);
     let mut source = Source::new(reads);
-    let mut decoder = Decoder::new(receiver, says_why);
+    let mut decoder = Decoder::new(receiver, decoding.says_why);
     let mut said = LogLine::Skip;
     loop {
         match source.next(reader, &mut said) {
             Ok(true) => {
-                notes.heard.line(pi, said);
+                notes.heard.line(decoding.pi, said);
                 decoder.line(said);
             }
             Ok(false) => {

@@ -4,7 +4,7 @@ ghost use Rattle.std.specs.Prelude.{ℕ, Bool, List, Option, IsOk, IsTrue, Match
 ghost use Rattle.rds_block.specs.declared.group.Group.{Group};
 ghost use Rattle.rds_io.specs.Told.{IsCalm, Traffic, traffic};
 ghost use Rattle.rds_receiver.specs.Receipts.{Tuning};
-ghost use Rattle.rds_receiver.specs.Receive.{WhereStands};
+ghost use Rattle.rds_receiver.specs.StandsAt.{StandsAt, WhereItStands};
 ghost use Rattle.rds_log.specs.LogLines.{Line};
 ghost use Rattle.rds_log.specs.LogWrites.{SayWhys};
 ghost use Rattle.rds_log.specs.LineSays.{LineSays};
@@ -14,26 +14,26 @@ ghost use Rattle.rds_log.specs.declared.decoder.TheConstants.{OUTPUT_ROOM};
 use crate::log_line::LogLine;
 use rds_block::Blocks;
 use rds_io::{Lines, TellingWrite, WriteFault};
-use rds_receiver::{Receive, Whys};
+use rds_receiver::{Receiver, Whys};
 use rds_view_lines::{KeptView, SLOT_ROOM, Stamp, show};
 
 /// Feeds a receiver slot by slot, and appends a line for each part of its view that changed. The line of a text or a name
 /// that is not shown any more may say why.
 #[derive(Drop)]
-pub(crate) struct ViewLines<T> {
-    receiver: T,
+pub(crate) struct ViewLines {
+    receiver: Receiver,
     says_why: bool,
     pub(crate) slot: u64,
     shown: KeptView,
 }
 
-impl<T: Receive> ViewLines<T> {
+impl ViewLines {
     ghost use Rattle.rds_log.specs.Inside.ViewLines.{GivesChange, ViewsStandAt};
 
     /// Starts before the first slot, with nothing shown.
-    pub(crate) fn new(receiver: T, says_why: bool) -> ViewLines<T>
+    pub(crate) fn new(receiver: Receiver, says_why: bool) -> ViewLines
         ensures count { result.slot ≡ 0 }
-        ensures stands { (t : Tuning) → T.stands t receiver [] → ViewsStandAt T.stands says_why t result [] [] }
+        ensures stands { (t : Tuning) → StandsAt t receiver [] → ViewsStandAt says_why t result [] [] }
     {
         ViewLines {
             receiver,
@@ -50,7 +50,7 @@ impl<T: Receive> ViewLines<T> {
         requires room { length lines.old + SLOT_ROOM ≤ N }
         ensures count { self.new.slot ≡ self.old.slot + 1 }
         ensures room { length lines.new ≤ length lines.old + SLOT_ROOM }
-        ensures change { GivesChange T.stands self.old self.new group lines.old lines.new }
+        ensures change { GivesChange self.old self.new group lines.old lines.new }
     {
         if !self.receiver.slot_blocks(group) {
             self.slot += 1;
@@ -68,7 +68,7 @@ impl<T: Receive> ViewLines<T> {
 
     /// Returns why a text and a name are not shown, if the lines say why.
     fn whys(&self) -> Option<Whys>
-        ensures { WhereStands T.stands self.now.receiver (λ t input. SayWhys self.now.says_why t input result) }
+        ensures { WhereItStands self.now.receiver (λ t input. SayWhys self.now.says_why t input result) }
     {
         if self.says_why {
             Some(self.receiver.whys())
@@ -83,21 +83,21 @@ const OUTPUT_ROOM: usize = 8192;
 
 /// Takes the lines of a log, and keeps their output until it is written.
 #[derive(Drop)]
-pub(crate) struct Decoder<T> {
-    pub(crate) views: ViewLines<T>,
+pub(crate) struct Decoder {
+    pub(crate) views: ViewLines,
     output: Lines<OUTPUT_ROOM>,
 }
 
-impl<T: Receive> Decoder<T> {
+impl Decoder {
     ghost use Rattle.rds_log.specs.Decode.{WrotePart};
     ghost use Rattle.rds_log.specs.Inside.Decoder.{HasDecoded};
 
     /// Starts a log with a receiver that has heard nothing yet.
-    pub(crate) fn new(receiver: T, says_why: bool) -> Decoder<T>
+    pub(crate) fn new(receiver: Receiver, says_why: bool) -> Decoder
         ensures slots { result.views.slot ≡ 0 }
         ensures empty { result.output ≡ [] }
-        ensures decoded { (t : Tuning) (w : Traffic) → T.stands t receiver [] → w.after ≡ w.before → IsCalm w
-            → HasDecoded T.stands says_why t result w [] }
+        ensures decoded { (t : Tuning) (w : Traffic) → StandsAt t receiver [] → w.after ≡ w.before → IsCalm w
+            → HasDecoded says_why t result w [] }
     {
         Decoder {
             views: ViewLines::new(receiver, says_why),
@@ -119,7 +119,7 @@ impl<T: Receive> Decoder<T> {
         requires room { length self.old.output + SLOT_ROOM ≤ OUTPUT_ROOM }
         ensures slots { self.new.views.slot ≤ self.old.views.slot + 1 }
         ensures decoded { (why : Bool) (t : Tuning) (w : Traffic) (lines : List Line) (line : Line) → LineSays line said
-            → HasDecoded T.stands why t self.old w lines → HasDecoded T.stands why t self.new w (line ∷ lines) }
+            → HasDecoded why t self.old w lines → HasDecoded why t self.new w (line ∷ lines) }
     {
         match said {
             LogLine::Skip => {}
@@ -133,9 +133,9 @@ impl<T: Receive> Decoder<T> {
         ensures slots { self.new.views ≡ self.old.views }
         ensures nothing { self.old.output ≡ [] → IsOk result }
         ensures wrote { (why : Bool) (t : Tuning) (start : W) (lines : List Line)
-            → HasDecoded T.stands why t self.old (traffic W.contents W.failures start writer.old) lines
+            → HasDecoded why t self.old (traffic W.contents W.failures start writer.old) lines
             → MatchResult result
-            (λ _. HasDecoded T.stands why t self.new (traffic W.contents W.failures start writer.new) lines)
+            (λ _. HasDecoded why t self.new (traffic W.contents W.failures start writer.new) lines)
             (λ _. WrotePart why t (traffic W.contents W.failures start writer.new) lines) }
     {
         self.output.write(writer)

@@ -12,8 +12,8 @@ use Rattle.rds_io.specs.Told.{HasFailed, IsCalm, PutsNothing, Traffic, traffic}
 use Rattle.rds_io.specs.declared.told.WriteFault.{WriteFault}
 use Rattle.rds_receiver.specs.Receipts.{Tuning}
 use Rattle.rds_world.specs.Premise.{Premise, lateness_in}
-use Rattle.rds_world.specs.declared.any_receiver.ReceiverKind.{ReceiverKind}
-use Rattle.rds_world.specs.declared.any_receiver.ReceiverKind.TheVariants.{FlagAlone, WithDwell}
+use Rattle.rds_world.specs.declared.receiver_kind.ReceiverKind.{ReceiverKind}
+use Rattle.rds_world.specs.declared.receiver_kind.ReceiverKind.TheVariants.{FlagAlone, WithDwell}
 use Rattle.rds_world.specs.declared.world.Config.{Config}
 use Rattle.rds_audit.specs.AuditState.{start_if}
 use Rattle.rds_log.specs.Audit.{Audits}

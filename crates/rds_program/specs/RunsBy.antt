@@ -4,7 +4,7 @@ use Rattle.std.proofs.Math.Logic.{∥∥₁_elim}
 use Rattle.std.specs.Prelude.{ℕ, Bool, List, None, Option, Some}
 use Rattle.rds_io.specs.Told.{Failed, Traffic}
 use Rattle.rds_receiver.specs.Receipts.{Tuning}
-use Rattle.rds_world.specs.declared.any_receiver.ReceiverKind.TheVariants.{WithDwell}
+use Rattle.rds_world.specs.declared.receiver_kind.ReceiverKind.TheVariants.{WithDwell}
 use Rattle.rds_world.specs.declared.world.Config.{Config}
 use Rattle.rds_log.specs.LogWrites.{tuned}
 use Rattle.rds_io.specs.ReadFailed.{SomeReadFailed}

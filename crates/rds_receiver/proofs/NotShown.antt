@@ -3,7 +3,7 @@ use Rattle.std.proofs.Common.{◌≡◌, ◌⊎◌, ◌+◌, ◌<◌, ◌≤◌,
 use Rattle.std.proofs.lemmas.Bool.{cases_lt}
 use Rattle.rds_receiver.specs.Receipts.{Segment}
 use Rattle.rds_receiver.specs.Run.{run, run_before}
-use Rattle.rds_receiver.specs.StandsAt.{HoldsRun}
+use Rattle.rds_receiver.specs.Holds.{HoldsRun}
 use Rattle.rds_receiver.specs.State.{HeldSegments}
 use Rattle.rds_receiver.specs.NotShown.{why_of}
 use Rattle.rds_receiver.specs.declared.why.WhyNone.{WhyNone}

@@ -9,7 +9,7 @@ use Rattle.rds_fields.specs.declared.message.Message.TheVariants.{Text, Name, An
 use Rattle.rds_fields.specs.Tag.{PairFields}
 use Rattle.rds_receiver.specs.Receipts.{Fragment, Segment, picked, segments, with_segment}
 use Rattle.rds_receiver.specs.Run.{begins_in, is_same, run, run_before}
-use Rattle.rds_receiver.specs.StandsAt.{HoldsRun}
+use Rattle.rds_receiver.specs.Holds.{HoldsRun}
 use Rattle.rds_receiver.specs.State.{HeldSegments}
 use Rattle.rds_receiver.specs.Tags.{is_known, pair_from, pair_since, says_of_rtplus, unless_contrary}
 use Rattle.rds_receiver.proofs.Runs.{and_false, test_false, test_true}

@@ -6,7 +6,7 @@ use Rattle.std.proofs.lemmas.Bool.Decides.{nat_tests}
 use Rattle.rds_fields.specs.declared.message.Message.{Message}
 use Rattle.rds_receiver.specs.Receipts.{Fragment, Segment, segments}
 use Rattle.rds_receiver.specs.Run.{cells_of, is_same, run, run_at, run_before}
-use Rattle.rds_receiver.specs.StandsAt.{HasFlag, HoldsRun, newest_slot}
+use Rattle.rds_receiver.specs.Holds.{HasFlag, HoldsRun, newest_slot}
 use Rattle.rds_receiver.specs.State.{HeldSegments}
 
 pub test_true : (a b : ℕ) → a < b → nat_lt a b ≡ true

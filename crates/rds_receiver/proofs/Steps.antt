@@ -1,20 +1,19 @@
 -- Lemmas: the state of a receiver follows from its input after each slot.
 use Rattle.std.proofs.Common.{◌≡◌, ◌≢◌, ◌⊎◌, ◌+◌, ◌<◌, ℕ, Bool, true, List, ◌∷◌, Option, Some, None, length, refl, sym, ap, ◌∙◌, subst, inl, inr, arith}
 use Rattle.std.specs.FinMap.{empty, insert}
-use Rattle.rds_block.specs.declared.group.Group.{Group}
 use Rattle.rds_fields.specs.declared.message.Message.{Message}
 use Rattle.rds_fields.specs.declared.message.Message.TheVariants.{Name, Tags, Text}
 use Rattle.rds_fields.specs.Tag.{PairFields}
-use Rattle.rds_receiver.specs.Receipts.{Hears, Fragment, Segment, Tuning, name_fragment, segments, text_fragment}
+use Rattle.rds_receiver.specs.Receipts.{Fragment, Segment, name_fragment, segments, text_fragment}
 use Rattle.rds_receiver.specs.Run.{begins_in, run, run_before}
-use Rattle.rds_receiver.specs.StandsAt.{HasFlag, HoldsAt, HoldsRun, StandsAt}
-use Rattle.rds_receiver.specs.State.{HeldSegments, ReceiverState}
+use Rattle.rds_receiver.specs.Holds.{HasFlag, HoldsAt, HoldsRun}
+use Rattle.rds_receiver.specs.State.{HeldSegments, DisplayState}
 use Rattle.rds_receiver.specs.Tags.{pair_from}
 use Rattle.rds_receiver.proofs.Runs.{before_other, before_same, equal_or_not, held_taken, run_recent}
 use Rattle.rds_receiver.proofs.Pairs.{none_since, pair_goes_on, pair_of_name, pair_of_none, tags_taken}
 
 -- a slot in which nothing is heard
-pub nothing_heard : (m first : ℕ) (r : ReceiverState) (heard : List (Option Message)) → HoldsAt m (first + length heard) first r heard → HoldsAt m (first + length heard) first r (None ∷ heard)
+pub nothing_heard : (m first : ℕ) (r : DisplayState) (heard : List (Option Message)) → HoldsAt m (first + length heard) first r heard → HoldsAt m (first + length heard) first r (None ∷ heard)
 nothing_heard m first r heard st = record {
   dwell = st.dwell;
   lasts = st.lasts;
@@ -32,7 +31,7 @@ pub record Takes (p : Fragment) (h after : HeldSegments) : Type 0 where
   pub age : after.age ≡ 0
 
 -- a slot with a text segment
-pub text_heard : (m first : ℕ) (r after : ReceiverState) (heard : List (Option Message)) (f : Bool) (a : ℕ) (b : List ℕ)
+pub text_heard : (m first : ℕ) (r after : DisplayState) (heard : List (Option Message)) (f : Bool) (a : ℕ) (b : List ℕ)
     → after.dwell ≡ r.dwell → after.is_known ≡ r.is_known → after.name ≡ r.name → Takes record { flag = f; address = a; bytes = b } r.text after.text
     → (f ≡ r.text.flag → after.pair ≡ r.pair) → (f ≢ r.text.flag → after.pair ≡ None)
     → HoldsAt m (first + length heard) first r heard → HoldsAt m (first + length heard) first after (Some (Text f a b) ∷ heard)
@@ -68,7 +67,7 @@ text_heard m first r after heard f a b dwell known name takes stays gone st = re
         ∙ ap (λ (x : List Segment). pair_from first (begins_in (g ∷ x)) (Some (Text f a b) ∷ heard)) (sym begins)
 
 -- a slot with a name segment
-pub name_heard : (m first : ℕ) (r after : ReceiverState) (heard : List (Option Message)) (f : Bool) (a : ℕ) (b : List ℕ)
+pub name_heard : (m first : ℕ) (r after : DisplayState) (heard : List (Option Message)) (f : Bool) (a : ℕ) (b : List ℕ)
     → after.dwell ≡ r.dwell → after.is_known ≡ r.is_known → after.text ≡ r.text → after.pair ≡ r.pair → Takes record { flag = f; address = a; bytes = b } r.name after.name
     → HoldsAt m (first + length heard) first r heard → HoldsAt m (first + length heard) first after (Some (Name f a b) ∷ heard)
 name_heard m first r after heard f a b dwell known text pair takes st = record {
@@ -81,7 +80,7 @@ name_heard m first r after heard f a b dwell known text pair takes st = record {
 }
 
 -- a slot with tags that are held
-pub tags_heard : (m first : ℕ) (r : ReceiverState) (heard : List (Option Message)) (pair : PairFields) → r.is_known ≡ true → r.text.age < m
+pub tags_heard : (m first : ℕ) (r : DisplayState) (heard : List (Option Message)) (pair : PairFields) → r.is_known ≡ true → r.text.age < m
     → HoldsAt m (first + length heard) first r heard → HoldsAt m (first + length heard) first record r { pair = Some pair } (Some (Tags pair) ∷ heard)
 tags_heard m first r heard pair known young st = record {
   dwell = st.dwell;
@@ -92,19 +91,8 @@ tags_heard m first r heard pair known young st = record {
   known = st.known;
 }
 
--- a whole slot
-pub slot_stands : (t : Tuning) (r after : ReceiverState) (input : List (Option Group)) (slot : Option Group) (message : Option Message) (st : StandsAt t r input)
-    → Hears t.programme slot message → after.programme ≡ r.programme → HoldsAt t.dwell (t.first + length st.heard) t.first after (message ∷ st.heard) → StandsAt t after (slot ∷ input)
-slot_stands t r after input slot message st hears programme holds = record {
-  tuned = programme ∙ st.tuned;
-  windowless = st.windowless;
-  heard = message ∷ st.heard;
-  are = (hears, st.are);
-  holds = holds;
-}
-
 -- a slot with a text segment, after the tags of the other flag were dropped
-pub text_heard_by : (m first : ℕ) (r between after : ReceiverState) (heard : List (Option Message)) (f : Bool) (a : ℕ) (b : List ℕ)
+pub text_heard_by : (m first : ℕ) (r between after : DisplayState) (heard : List (Option Message)) (f : Bool) (a : ℕ) (b : List ℕ)
     → (f ≡ r.text.flag → between ≡ r) → (f ≢ r.text.flag → between ≡ record r { pair = None }) → Takes record { flag = f; address = a; bytes = b } between.text after.text
     → after ≡ record between { text = after.text }
     → HoldsAt m (first + length heard) first r heard → HoldsAt m (first + length heard) first after (Some (Text f a b) ∷ heard)
@@ -112,12 +100,12 @@ text_heard_by m first r between after heard f a b same other takes is st = by (e
   where
     by : (f ≡ r.text.flag) ⊎ (f ≢ r.text.flag) → HoldsAt m (first + length heard) first after (Some (Text f a b) ∷ heard)
     by (inl e) =
-        let now : after ≡ record r { text = after.text } = is ∙ ap (λ (x : ReceiverState). record x { text = after.text }) (same e) in
-        let took = subst (λ (x : ReceiverState). Takes record { flag = f; address = a; bytes = b } x.text after.text) (same e) takes in
-        text_heard m first r after heard f a b (ap (λ (x : ReceiverState). x.dwell) now) (ap (λ (x : ReceiverState). x.is_known) now) (ap (λ (x : ReceiverState). x.name) now)
-        took (λ _. ap (λ (x : ReceiverState). x.pair) now) (λ ne. absurd (ne e)) st
+        let now : after ≡ record r { text = after.text } = is ∙ ap (λ (x : DisplayState). record x { text = after.text }) (same e) in
+        let took = subst (λ (x : DisplayState). Takes record { flag = f; address = a; bytes = b } x.text after.text) (same e) takes in
+        text_heard m first r after heard f a b (ap (λ (x : DisplayState). x.dwell) now) (ap (λ (x : DisplayState). x.is_known) now) (ap (λ (x : DisplayState). x.name) now)
+        took (λ _. ap (λ (x : DisplayState). x.pair) now) (λ ne. absurd (ne e)) st
     by (inr ne) =
-        let now : after ≡ record r { text = after.text; pair = None } = is ∙ ap (λ (x : ReceiverState). record x { text = after.text }) (other ne) in
-        let took = subst (λ (x : ReceiverState). Takes record { flag = f; address = a; bytes = b } x.text after.text) (other ne) takes in
-        text_heard m first r after heard f a b (ap (λ (x : ReceiverState). x.dwell) now) (ap (λ (x : ReceiverState). x.is_known) now) (ap (λ (x : ReceiverState). x.name) now)
-        took (λ e. absurd (ne e)) (λ _. ap (λ (x : ReceiverState). x.pair) now) st
+        let now : after ≡ record r { text = after.text; pair = None } = is ∙ ap (λ (x : DisplayState). record x { text = after.text }) (other ne) in
+        let took = subst (λ (x : DisplayState). Takes record { flag = f; address = a; bytes = b } x.text after.text) (other ne) takes in
+        text_heard m first r after heard f a b (ap (λ (x : DisplayState). x.dwell) now) (ap (λ (x : DisplayState). x.is_known) now) (ap (λ (x : DisplayState). x.name) now)
+        took (λ e. absurd (ne e)) (λ _. ap (λ (x : DisplayState). x.pair) now) st

@@ -1,4 +1,4 @@
--- Lemmas: the state of a receiver that shows only what it heard twice follows from its input after each slot.
+-- Lemmas: the state of a receiver follows from its input after each slot, with and without a window.
 use Rattle.std.proofs.Common.{◌≡◌, ◌≢◌, ◌⊎◌, ◌+◌, ◌-◌, ◌<◌, ◌≤◌, ◌&&◌, ◌==◌, ℕ, Bool, true, false, nat_lt, List, [], ◌∷◌, Option, Some, None, length, refl, sym, ap, ◌∙◌, subst, inl, inr, arith}
 use Rattle.std.specs.Prelude.{bytes_eq, if◌then◌else◌}
 use Rattle.std.proofs.lemmas.Bool.{and_parts, cases_eq, cases_lt, cond-false, cond-true, cond_both, eq-eqb, ltb-true, ne_eqb}
@@ -7,24 +7,17 @@ use Rattle.rds_block.specs.declared.group.Group.{Group}
 use Rattle.rds_fields.specs.declared.message.Message.{Message}
 use Rattle.rds_fields.specs.declared.message.Message.TheVariants.{Announce, Name, Other, Tags, Text}
 use Rattle.rds_fields.specs.Tag.{PairFields, TagFields}
-use Rattle.rds_assembly.specs.Whole.{IsWholeName, IsWholeText}
-use Rattle.rds_receiver.specs.OneView.{same_heard}
-use Rattle.rds_receiver.specs.Receipts.{AreHeard, Fragment, Hears, Segment, Tuning, name_fragment, segments, text_fragment}
+use Rattle.rds_receiver.specs.Receipts.{Fragment, Hears, Segment, Tuning, name_fragment, segments, text_fragment}
 use Rattle.rds_receiver.specs.Run.{begins_in, is_same, run, run_before}
-use Rattle.rds_receiver.specs.Shown.{IsView, ShowsView, ShownView}
-use Rattle.rds_receiver.specs.StandsAt.{HasFlag, HoldsAt, HoldsRun, ShowsAlike, StandsAt, newest_slot}
-use Rattle.rds_receiver.specs.State.{HeldSegments, ReceiverState}
-use Rattle.rds_receiver.specs.Twice.{confirmed, counted, if_confirmed, last_at, last_pair, pair_again, same_pair, same_tag, segment_again}
-use Rattle.rds_receiver.specs.TwiceLemmas.{confirmed_counts, confirmed_groups, confirmed_long, one_flag, one_pair}
-use Rattle.rds_receiver.specs.TwiceState.{Confirms, HoldsLast, HoldsLastPair, HoldsTwice, IsLastPair, LastSegment, RepeatsSegment, StandsAtCounted, StandsTwice, TheReceiverStandsAtWhatCounts, TwiceState, cell_in, one_slot_older, pair_left_of, text_begins}
-use Rattle.rds_receiver.proofs.Alike.{makes_itself, view_stays}
+use Rattle.rds_receiver.specs.Holds.{HasFlag, HearsMore, HoldsAt, HoldsRun, newest_slot}
+use Rattle.rds_receiver.specs.StandsAt.{StandsAt}
+use Rattle.rds_receiver.specs.State.{DisplayState, HeldSegments, ReceiverState}
+use Rattle.rds_receiver.specs.Twice.{confirmed, counted_in, if_confirmed, last_at, last_pair, pair_again, same_pair, same_tag, segment_again}
+use Rattle.rds_receiver.specs.TwiceLemmas.{confirmed_long, counted_long, newest_counted, one_flag, one_pair}
+use Rattle.rds_receiver.specs.Confirming.{Counts, HasAged, HoldsBy, HoldsLast, HoldsLastPair, HoldsLasts, HoldsLastsIn, IsLastPair, LastSegment, RepeatsSegment, cell_in, one_slot_older, pair_left_of, text_begins}
 use Rattle.rds_receiver.proofs.Pairs.{AllBelow, run_below, segments_below}
 use Rattle.rds_receiver.proofs.Runs.{before_other, before_same, equal_or_not, run_over, run_recent, same_is, test_false, test_true}
 use Rattle.rds_receiver.proofs.Steps.{nothing_heard}
-
-pub newest : (w m first : ℕ) (heard : List (Option Message)) → newest_slot first (confirmed w m first heard) ≡ newest_slot first heard
-newest w m first [] = refl
-newest w m first (x ∷ before) = ap (λ (n : ℕ). first + n) (confirmed_long w m first before)
 
 -- a test that is not true
 pub not_true : (b : Bool) → b ≡ false → b ≡ true → ⊥
@@ -206,31 +199,26 @@ after_other m n k p segs held here lasts st other =
 
 -- ---- the whole state
 
--- nothing was heard yet
-pub starts : (w m first : ℕ) (s : TwiceState) → s.window ≡ w → 1 < w → HoldsAt m first first s.receiver [] → ((c : ℕ) → c < 18 → (cell_in s.segments c).left ≡ 0) → s.pair_left ≡ 0
-    → HoldsTwice w m first first s []
-starts w m first s window two receiver none pair_left = record {
-  window = window;
-  two = two;
-  receiver = receiver;
-  texts = λ a h. record { left = none a (omega (arith, h)); same = tt };
-  names = λ a h. record { left = none (16 + a) (omega (arith, h)); same = tt };
-  pair = record { left_is = pair_left; same = tt };
-}
+-- the display one slot later
+pub display_grown : (window : Option ℕ) (m first : ℕ) (old new : DisplayState) (heard : List (Option Message))
+    → ((m first : ℕ) (heard : List (Option Message)) → HoldsAt m (newest_slot first heard) first old heard → HoldsAt m (first + length heard) first new heard)
+    → HoldsAt m (newest_slot first heard) first old (counted_in window m first heard) → HoldsAt m (first + length heard) first new (counted_in window m first heard)
+display_grown window m first old new heard grows st =
+    subst (λ (k : ℕ). HoldsAt m (first + k) first new (counted_in window m first heard)) (counted_long window m first heard)
+    (grows m first (counted_in window m first heard) (subst (λ (k : ℕ). HoldsAt m k first old (counted_in window m first heard)) (sym (newest_counted window m first heard)) st))
 
--- one slot later, before anything is heard in it
-pub grown : (w m first : ℕ) (old new : TwiceState) (heard : List (Option Message)) → new.window ≡ old.window → new.pair ≡ old.pair
-    → ((m first : ℕ) (heard : List (Option Message)) → HoldsAt m (newest_slot first heard) first old.receiver heard → HoldsAt m (first + length heard) first new.receiver heard)
+-- the last segments and tags one slot later, before anything is heard in it
+pub grown : (w m first : ℕ) (old new : ReceiverState) (heard : List (Option Message)) → new.window ≡ old.window → new.pair ≡ old.pair
     → ((c : ℕ) → c < 18 → cell_in new.segments c ≡ one_slot_older (cell_in old.segments c))
-    → (new.receiver.text.age < new.receiver.dwell → new.pair_left ≡ old.pair_left - 1) → ((new.receiver.text.age < new.receiver.dwell → ⊥) → new.pair_left ≡ 0)
-    → HoldsTwice w m (newest_slot first heard) first old heard → HoldsTwice w m (first + length heard) first new heard
-grown w m first old new heard window pair receiver cells held over st = record {
+    → (new.display.text.age < new.display.dwell → new.pair_left ≡ old.pair_left - 1) → ((new.display.text.age < new.display.dwell → ⊥) → new.pair_left ≡ 0)
+    → HoldsAt m (first + length heard) first new.display (confirmed w m first heard)
+    → HoldsLasts w m (newest_slot first heard) first old heard → HoldsLasts w m (first + length heard) first new heard
+grown w m first old new heard window pair cells held over received st = record {
   window = window ∙ st.window;
   two = st.two;
-  receiver = received;
   texts = λ a h. last_older w t n (last_at a (segments text_fragment first heard)) (cell_in old.segments a) (cell_in new.segments a) (next_text a heard) (cells a (omega (arith, h))) (st.texts a h);
   names = λ a h. last_older w t n (last_at a (segments name_fragment first heard)) (cell_in old.segments (16 + a)) (cell_in new.segments (16 + a)) (next_name a heard) (cells (16 + a) (omega (arith, h))) (st.names a h);
-  pair = record { left_is = by_age (cases_lt new.receiver.text.age m); same = subst (IsLastPair (last_pair first heard)) (sym pair) st.pair.same };
+  pair = record { left_is = by_age (cases_lt new.display.text.age m); same = subst (IsLastPair (last_pair first heard)) (sym pair) st.pair.same };
 }
   where
     n : ℕ
@@ -250,11 +238,6 @@ grown w m first old new heard window pair receiver cells held over st = record {
     segs : List Segment
     segs = segments text_fragment first (confirmed w m first heard)
 
-    received : HoldsAt m (first + length heard) first new.receiver (confirmed w m first heard)
-    received =
-        subst (λ (k : ℕ). HoldsAt m (first + k) first new.receiver (confirmed w m first heard)) (confirmed_long w m first heard)
-        (receiver m first (confirmed w m first heard) (subst (λ (k : ℕ). HoldsAt m k first old.receiver (confirmed w m first heard)) (sym (newest w m first heard)) st.receiver))
-
     below : AllBelow (first + length heard) (segments text_fragment first (confirmed w m first heard))
     below = subst (λ (k : ℕ). AllBelow (first + k) (segments text_fragment first (confirmed w m first heard))) (confirmed_long w m first heard) (segments_below text_fragment first (confirmed w m first heard))
 
@@ -273,34 +256,36 @@ grown w m first old new heard window pair receiver cells held over st = record {
         ∙ sym (pair_older w t n begin.0 (last_pair first heard) next)
         ∙ ap (λ (o : Option ℕ). pair_left_of w n o (last_pair first heard)) (sym begin.1)
 
-    by_age : (new.receiver.text.age < m) ⊎ (m ≤ new.receiver.text.age) → new.pair_left ≡ pair_left_of w n (begins_in (run m n segs)) (last_pair first heard)
+    by_age : (new.display.text.age < m) ⊎ (m ≤ new.display.text.age) → new.pair_left ≡ pair_left_of w n (begins_in (run m n segs)) (last_pair first heard)
     by_age (inl young) =
-        let held_run = is_held m n segs new.receiver.text received.text young in
+        let held_run = is_held m n segs new.display.text received.text young in
         of_run heard refl held_run.0 held_run.1 held_run.2 (held (omega (arith, young, received.dwell)))
         ∙ ap (λ (gs : List Segment). pair_left_of w n (begins_in gs) (last_pair first heard)) (sym held_run.2)
     by_age (inr old_run) =
-        let none = is_not_held m n segs new.receiver.text received.text (λ y. omega (arith, y, old_run)) in
+        let none = is_not_held m n segs new.display.text received.text (λ y. omega (arith, y, old_run)) in
         over (λ y. omega (arith, y, old_run, received.dwell))
         ∙ ap (λ (gs : List Segment). pair_left_of w n (begins_in gs) (last_pair first heard)) (sym none)
 
 -- a text segment was taken
-pub text_confirmed : (w m first : ℕ) (heard : List (Option Message)) (old new : TwiceState) (f : Bool) (a : ℕ) (b : List ℕ) (is : Bool) → a < 16
-    → new.window ≡ old.window → new.receiver ≡ old.receiver → new.pair ≡ old.pair
+pub text_confirmed : (w m first : ℕ) (heard : List (Option Message)) (old new : ReceiverState) (f : Bool) (a : ℕ) (b : List ℕ) (is : Bool) → a < 16
+    → new.window ≡ old.window → new.display ≡ old.display → new.pair ≡ old.pair
     → cell_in new.segments a ≡ record { flag = f; bytes = b; left = old.window } → ((c : ℕ) → c < 18 → c ≢ a → cell_in new.segments c ≡ cell_in old.segments c)
     → (is ≡ true → RepeatsSegment f b (cell_in old.segments a)) → (RepeatsSegment f b (cell_in old.segments a) → is ≡ true)
-    → (is ≡ false → new.pair_left ≡ old.pair_left) → (is ≡ true → f ≡ old.receiver.text.flag → new.pair_left ≡ old.pair_left) → (is ≡ true → f ≢ old.receiver.text.flag → new.pair_left ≡ 0)
-    → HoldsTwice w m (first + length heard) first old heard → Confirms w m first new heard (Text f a b) is
+    → (is ≡ false → new.pair_left ≡ old.pair_left) → (is ≡ true → f ≡ old.display.text.flag → new.pair_left ≡ old.pair_left) → (is ≡ true → f ≢ old.display.text.flag → new.pair_left ≡ 0)
+    → HoldsBy (Some w) m (first + length heard) first old heard → Counts (Some w) m first new heard (Text f a b) is
 text_confirmed w m first heard old new f a b is within window receiver pair taken others if_again then_again stays same other st = record {
-  window = window ∙ st.window;
-  two = st.two;
-  receiver = subst (λ (r : ReceiverState). HoldsAt m (first + length heard) first r (confirmed w m first heard)) (sym receiver) st.receiver;
-  texts = λ i h. last_taken w n (segments text_fragment first heard) f a b i (cell_in old.segments i) (cell_in new.segments i) (here_at i) (others i (omega (arith, h))) (st.texts i h);
-  names = λ i h. subst (HoldsLast w n (last_at i (segments name_fragment first heard))) (sym (others (16 + i) (omega (arith, h)) (λ e. omega (arith, e, within)))) (st.names i h);
-  kept = kept is refl;
-  pair = record {
-    left_is = by is refl ∙ ap (λ (xs : List (Option Message)). pair_left_of w n (text_begins m n first xs) (last_pair first heard)) (sym (kept is refl));
-    same = subst (IsLastPair (last_pair first heard)) (sym pair) st.pair.same;
+  display = subst (λ (r : DisplayState). HoldsAt m (first + length heard) first r (confirmed w m first heard)) (sym receiver) st.display;
+  lasts = record {
+    window = window ∙ st.lasts.window;
+    two = st.lasts.two;
+    texts = λ i h. last_taken w n (segments text_fragment first heard) f a b i (cell_in old.segments i) (cell_in new.segments i) (here_at i) (others i (omega (arith, h))) (st.lasts.texts i h);
+    names = λ i h. subst (HoldsLast w n (last_at i (segments name_fragment first heard))) (sym (others (16 + i) (omega (arith, h)) (λ e. omega (arith, e, within)))) (st.lasts.names i h);
+    pair = record {
+      left_is = by is refl ∙ ap (λ (xs : List (Option Message)). pair_left_of w n (text_begins m n first xs) (last_pair first heard)) (sym (kept is refl));
+      same = subst (IsLastPair (last_pair first heard)) (sym pair) st.lasts.pair.same;
+    };
   };
+  kept = kept is refl;
 }
   where
     n : ℕ
@@ -310,7 +295,7 @@ text_confirmed w m first heard old new f a b is within window receiver pair take
     segs = segments text_fragment first (confirmed w m first heard)
 
     here_at : (i : ℕ) → i ≡ a → cell_in new.segments i ≡ record { flag = f; bytes = b; left = w }
-    here_at i e = ap (cell_in new.segments) e ∙ taken ∙ ap (λ (k : ℕ). record { flag = f; bytes = b; left = k }) st.window
+    here_at i e = ap (cell_in new.segments) e ∙ taken ∙ ap (λ (k : ℕ). record { flag = f; bytes = b; left = k }) st.lasts.window
 
     here : first + length (confirmed w m first heard) ≡ first + length heard
     here = ap (λ (k : ℕ). first + k) (confirmed_long w m first heard)
@@ -320,64 +305,66 @@ text_confirmed w m first heard old new f a b is within window receiver pair take
 
     kept : (x : Bool) → is ≡ x → confirmed w m first (Some (Text f a b) ∷ heard) ≡ (if x then Some (Text f a b) else None) ∷ confirmed w m first heard
     kept true e =
-        let some = again w n f b (last_at a (segments text_fragment first heard)) (cell_in old.segments a) (st.texts a within) (if_again e) in
+        let some = again w n f b (last_at a (segments text_fragment first heard)) (cell_in old.segments a) (st.lasts.texts a within) (if_again e) in
         ap (λ (r : Option ℕ). if_confirmed r (Some (Text f a b)) ∷ confirmed w m first heard) some.1
     kept false e =
-        let none = not_again w n f b (last_at a (segments text_fragment first heard)) (cell_in old.segments a) (st.texts a within) (λ r. not_true is e (then_again r)) in
+        let none = not_again w n f b (last_at a (segments text_fragment first heard)) (cell_in old.segments a) (st.lasts.texts a within) (λ r. not_true is e (then_again r)) in
         ap (λ (r : Option ℕ). if_confirmed r (Some (Text f a b)) ∷ confirmed w m first heard) none
 
     none_new : pair_left_of w n (Some (first + length (confirmed w m first heard))) (last_pair first heard) ≡ 0
     none_new = no_pair_left w n (first + length (confirmed w m first heard)) (last_pair first heard) (λ u pair e. (let l = pair_below first heard u pair e in omega (arith, l, here)))
 
     joined : (the_run : List Segment) → run m n segs ≡ the_run → old.pair_left ≡ pair_left_of w n (begins_in (record { slot = first + length (confirmed w m first heard); fragment = p } ∷ the_run)) (last_pair first heard)
-    joined [] e = st.pair.left_is ∙ ap (λ (gs : List Segment). pair_left_of w n (begins_in gs) (last_pair first heard)) e ∙ sym none_new
-    joined (g ∷ rest) e = st.pair.left_is ∙ ap (λ (gs : List Segment). pair_left_of w n (begins_in gs) (last_pair first heard)) e
+    joined [] e = st.lasts.pair.left_is ∙ ap (λ (gs : List Segment). pair_left_of w n (begins_in gs) (last_pair first heard)) e ∙ sym none_new
+    joined (g ∷ rest) e = st.lasts.pair.left_is ∙ ap (λ (gs : List Segment). pair_left_of w n (begins_in gs) (last_pair first heard)) e
 
-    by_flag : (f ≡ old.receiver.text.flag) ⊎ (f ≢ old.receiver.text.flag) → is ≡ true
+    by_flag : (f ≡ old.display.text.flag) ⊎ (f ≢ old.display.text.flag) → is ≡ true
         → new.pair_left ≡ pair_left_of w n (text_begins m n first (Some (Text f a b) ∷ confirmed w m first heard)) (last_pair first heard)
     by_flag (inl e) y =
         same y e ∙ joined (run m n segs) refl
-        ∙ ap (λ (gs : List Segment). pair_left_of w n (begins_in gs) (last_pair first heard)) (sym (after_same m n (first + length (confirmed w m first heard)) p segs old.receiver.text here st.receiver.lasts st.receiver.text e))
+        ∙ ap (λ (gs : List Segment). pair_left_of w n (begins_in gs) (last_pair first heard)) (sym (after_same m n (first + length (confirmed w m first heard)) p segs old.display.text here st.display.lasts st.display.text e))
     by_flag (inr ne) y =
         other y ne ∙ sym none_new
-        ∙ ap (λ (gs : List Segment). pair_left_of w n (begins_in gs) (last_pair first heard)) (sym (after_other m n (first + length (confirmed w m first heard)) p segs old.receiver.text here st.receiver.lasts st.receiver.text ne))
+        ∙ ap (λ (gs : List Segment). pair_left_of w n (begins_in gs) (last_pair first heard)) (sym (after_other m n (first + length (confirmed w m first heard)) p segs old.display.text here st.display.lasts st.display.text ne))
 
     by : (x : Bool) → is ≡ x → new.pair_left ≡ pair_left_of w n (text_begins m n first ((if x then Some (Text f a b) else None) ∷ confirmed w m first heard)) (last_pair first heard)
-    by true e = by_flag (equal_or_not f old.receiver.text.flag) e
-    by false e = stays e ∙ st.pair.left_is
+    by true e = by_flag (equal_or_not f old.display.text.flag) e
+    by false e = stays e ∙ st.lasts.pair.left_is
 
 -- a name segment was taken
-pub name_confirmed : (w m first : ℕ) (heard : List (Option Message)) (old new : TwiceState) (f : Bool) (a : ℕ) (b : List ℕ) (is : Bool) → a < 2
+pub name_confirmed : (w m first : ℕ) (heard : List (Option Message)) (old new : ReceiverState) (f : Bool) (a : ℕ) (b : List ℕ) (is : Bool) → a < 2
     → new ≡ record old { segments = new.segments }
     → cell_in new.segments (16 + a) ≡ record { flag = f; bytes = b; left = old.window } → ((c : ℕ) → c < 18 → c ≢ 16 + a → cell_in new.segments c ≡ cell_in old.segments c)
     → (is ≡ true → RepeatsSegment f b (cell_in old.segments (16 + a))) → (RepeatsSegment f b (cell_in old.segments (16 + a)) → is ≡ true)
-    → HoldsTwice w m (first + length heard) first old heard → Confirms w m first new heard (Name f a b) is
+    → HoldsBy (Some w) m (first + length heard) first old heard → Counts (Some w) m first new heard (Name f a b) is
 name_confirmed w m first heard old new f a b is within rest taken others if_again then_again st = record {
-  window = ap (λ (s : TwiceState). s.window) rest ∙ st.window;
-  two = st.two;
-  receiver = subst (λ (s : TwiceState). HoldsAt m (first + length heard) first s.receiver (confirmed w m first heard)) (sym rest) st.receiver;
-  texts = λ i h. subst (HoldsLast w n (last_at i (segments text_fragment first heard))) (sym (others i (omega (arith, h)) (λ e. omega (arith, e, h)))) (st.texts i h);
-  names = λ i h. last_taken w n (segments name_fragment first heard) f a b i (cell_in old.segments (16 + i)) (cell_in new.segments (16 + i)) (here_at i) (λ ne. others (16 + i) (omega (arith, h)) (λ e. ne (omega (arith, e)))) (st.names i h);
-  kept = kept is refl;
-  pair = record {
-    left_is = ap (λ (s : TwiceState). s.pair_left) rest ∙ st.pair.left_is ∙ by is
-        ∙ ap (λ (xs : List (Option Message)). pair_left_of w n (text_begins m n first xs) (last_pair first heard)) (sym (kept is refl));
-    same = subst (λ (s : TwiceState). IsLastPair (last_pair first heard) s.pair) (sym rest) st.pair.same;
+  display = subst (λ (s : ReceiverState). HoldsAt m (first + length heard) first s.display (confirmed w m first heard)) (sym rest) st.display;
+  lasts = record {
+    window = ap (λ (s : ReceiverState). s.window) rest ∙ st.lasts.window;
+    two = st.lasts.two;
+    texts = λ i h. subst (HoldsLast w n (last_at i (segments text_fragment first heard))) (sym (others i (omega (arith, h)) (λ e. omega (arith, e, h)))) (st.lasts.texts i h);
+    names = λ i h. last_taken w n (segments name_fragment first heard) f a b i (cell_in old.segments (16 + i)) (cell_in new.segments (16 + i)) (here_at i) (λ ne. others (16 + i) (omega (arith, h)) (λ e. ne (omega (arith, e)))) (st.lasts.names i h);
+    pair = record {
+      left_is = ap (λ (s : ReceiverState). s.pair_left) rest ∙ st.lasts.pair.left_is ∙ by is
+          ∙ ap (λ (xs : List (Option Message)). pair_left_of w n (text_begins m n first xs) (last_pair first heard)) (sym (kept is refl));
+      same = subst (λ (s : ReceiverState). IsLastPair (last_pair first heard) s.pair) (sym rest) st.lasts.pair.same;
+    };
   };
+  kept = kept is refl;
 }
   where
     n : ℕ
     n = first + length heard
 
     here_at : (i : ℕ) → i ≡ a → cell_in new.segments (16 + i) ≡ record { flag = f; bytes = b; left = w }
-    here_at i e = ap (λ (k : ℕ). cell_in new.segments (16 + k)) e ∙ taken ∙ ap (λ (k : ℕ). record { flag = f; bytes = b; left = k }) st.window
+    here_at i e = ap (λ (k : ℕ). cell_in new.segments (16 + k)) e ∙ taken ∙ ap (λ (k : ℕ). record { flag = f; bytes = b; left = k }) st.lasts.window
 
     kept : (x : Bool) → is ≡ x → confirmed w m first (Some (Name f a b) ∷ heard) ≡ (if x then Some (Name f a b) else None) ∷ confirmed w m first heard
     kept true e =
-        let some = again w n f b (last_at a (segments name_fragment first heard)) (cell_in old.segments (16 + a)) (st.names a within) (if_again e) in
+        let some = again w n f b (last_at a (segments name_fragment first heard)) (cell_in old.segments (16 + a)) (st.lasts.names a within) (if_again e) in
         ap (λ (r : Option ℕ). if_confirmed r (Some (Name f a b)) ∷ confirmed w m first heard) some.1
     kept false e =
-        let none = not_again w n f b (last_at a (segments name_fragment first heard)) (cell_in old.segments (16 + a)) (st.names a within) (λ r. not_true is e (then_again r)) in
+        let none = not_again w n f b (last_at a (segments name_fragment first heard)) (cell_in old.segments (16 + a)) (st.lasts.names a within) (λ r. not_true is e (then_again r)) in
         ap (λ (r : Option ℕ). if_confirmed r (Some (Name f a b)) ∷ confirmed w m first heard) none
 
     by : (x : Bool) → pair_left_of w n (text_begins m n first (confirmed w m first heard)) (last_pair first heard)
@@ -386,23 +373,25 @@ name_confirmed w m first heard old new f a b is within rest taken others if_agai
     by false = refl
 
 -- tags were taken
-pub tags_confirmed : (w m first : ℕ) (heard : List (Option Message)) (old new : TwiceState) (pair : PairFields) (is : Bool)
+pub tags_confirmed : (w m first : ℕ) (heard : List (Option Message)) (old new : ReceiverState) (pair : PairFields) (is : Bool)
     → new ≡ record old { pair = new.pair; pair_left = new.pair_left } → new.pair ≡ Some pair
-    → (old.receiver.text.age < old.receiver.dwell → new.pair_left ≡ old.window) → ((old.receiver.text.age < old.receiver.dwell → ⊥) → new.pair_left ≡ 0)
+    → (old.display.text.age < old.display.dwell → new.pair_left ≡ old.window) → ((old.display.text.age < old.display.dwell → ⊥) → new.pair_left ≡ 0)
     → (is ≡ true → (0 < old.pair_left) × (old.pair ≡ Some pair)) → (is ≡ false → 0 < old.pair_left → old.pair ≡ Some pair → ⊥)
-    → HoldsTwice w m (first + length heard) first old heard → Confirms w m first new heard (Tags pair) is
+    → HoldsBy (Some w) m (first + length heard) first old heard → Counts (Some w) m first new heard (Tags pair) is
 tags_confirmed w m first heard old new pair is rest now held over if_again if_not st = record {
-  window = ap (λ (s : TwiceState). s.window) rest ∙ st.window;
-  two = st.two;
-  receiver = subst (λ (s : TwiceState). HoldsAt m (first + length heard) first s.receiver (confirmed w m first heard)) (sym rest) st.receiver;
-  texts = λ i h. subst (λ (s : TwiceState). HoldsLast w n (last_at i (segments text_fragment first heard)) (cell_in s.segments i)) (sym rest) (st.texts i h);
-  names = λ i h. subst (λ (s : TwiceState). HoldsLast w n (last_at i (segments name_fragment first heard)) (cell_in s.segments (16 + i))) (sym rest) (st.names i h);
-  kept = kept is refl;
-  pair = record {
-    left_is = taken (cases_lt old.receiver.text.age m) ∙ by is
-        ∙ ap (λ (xs : List (Option Message)). pair_left_of w n (text_begins m n first xs) (Some (n, pair))) (sym (kept is refl));
-    same = now;
+  display = subst (λ (s : ReceiverState). HoldsAt m (first + length heard) first s.display (confirmed w m first heard)) (sym rest) st.display;
+  lasts = record {
+    window = ap (λ (s : ReceiverState). s.window) rest ∙ st.lasts.window;
+    two = st.lasts.two;
+    texts = λ i h. subst (λ (s : ReceiverState). HoldsLast w n (last_at i (segments text_fragment first heard)) (cell_in s.segments i)) (sym rest) (st.lasts.texts i h);
+    names = λ i h. subst (λ (s : ReceiverState). HoldsLast w n (last_at i (segments name_fragment first heard)) (cell_in s.segments (16 + i))) (sym rest) (st.lasts.names i h);
+    pair = record {
+      left_is = taken (cases_lt old.display.text.age m) ∙ by is
+          ∙ ap (λ (xs : List (Option Message)). pair_left_of w n (text_begins m n first xs) (Some (n, pair))) (sym (kept is refl));
+      same = now;
+    };
   };
+  kept = kept is refl;
 }
   where
     n : ℕ
@@ -417,10 +406,10 @@ tags_confirmed w m first heard old new pair is rest now held over if_again if_no
     kept : (x : Bool) → is ≡ x → confirmed w m first (Some (Tags pair) ∷ heard) ≡ (if x then Some (Tags pair) else None) ∷ confirmed w m first heard
     kept true e =
         let l = if_again e in
-        let some = pair_is_again w n pair (begins_in (run m n segs)) (last_pair first heard) old.pair old.pair_left st.pair l.0 l.1 in
+        let some = pair_is_again w n pair (begins_in (run m n segs)) (last_pair first heard) old.pair old.pair_left st.lasts.pair l.0 l.1 in
         ap (λ (r : Option ℕ). if_confirmed r (Some (Tags pair)) ∷ confirmed w m first heard) some.1
     kept false e =
-        let none = pair_not_again w n pair (begins_in (run m n segs)) (last_pair first heard) old.pair old.pair_left st.pair (if_not e) in
+        let none = pair_not_again w n pair (begins_in (run m n segs)) (last_pair first heard) old.pair old.pair_left st.lasts.pair (if_not e) in
         ap (λ (r : Option ℕ). if_confirmed r (Some (Tags pair)) ∷ confirmed w m first heard) none
 
     by : (x : Bool) → pair_left_of w n (begins_in (run m n segs)) (Some (n, pair))
@@ -428,155 +417,98 @@ tags_confirmed w m first heard old new pair is rest now held over if_again if_no
     by true = refl
     by false = refl
 
-    taken : (old.receiver.text.age < m) ⊎ (m ≤ old.receiver.text.age) → new.pair_left ≡ pair_left_of w n (begins_in (run m n segs)) (Some (n, pair))
+    taken : (old.display.text.age < m) ⊎ (m ≤ old.display.text.age) → new.pair_left ≡ pair_left_of w n (begins_in (run m n segs)) (Some (n, pair))
     taken (inl young) =
-        let held_run = is_held m n segs old.receiver.text st.receiver.text young in
+        let held_run = is_held m n segs old.display.text st.display.text young in
         let begin = some_begin n held_run.0 held_run.1 (subst (AllBelow n) held_run.2 (run_below m n n segs below)) in
         let window_left : pair_left_of w n (Some begin.0) (Some (n, pair)) ≡ n + w - n = cond-true (nat_lt begin.0 n) (n + w - n) 0 (test_true begin.0 n begin.2) in
-        held (omega (arith, young, st.receiver.dwell)) ∙ st.window
+        held (omega (arith, young, st.display.dwell)) ∙ st.lasts.window
         ∙ (let all : w ≡ n + w - n = omega arith in all) ∙ sym window_left
         ∙ ap (λ (o : Option ℕ). pair_left_of w n o (Some (n, pair))) (sym begin.1)
         ∙ ap (λ (gs : List Segment). pair_left_of w n (begins_in gs) (Some (n, pair))) (sym held_run.2)
     taken (inr old_run) =
-        let none = is_not_held m n segs old.receiver.text st.receiver.text (λ y. omega (arith, y, old_run)) in
-        over (λ y. omega (arith, y, old_run, st.receiver.dwell))
+        let none = is_not_held m n segs old.display.text st.display.text (λ y. omega (arith, y, old_run)) in
+        over (λ y. omega (arith, y, old_run, st.display.dwell))
         ∙ ap (λ (gs : List Segment). pair_left_of w n (begins_in gs) (Some (n, pair))) (sym none)
 
 -- an announcement or another message needs no confirmation
-pub announcement_confirmed : (w m first : ℕ) (heard : List (Option Message)) (s : TwiceState) (code bits aid : ℕ)
-    → HoldsTwice w m (first + length heard) first s heard → Confirms w m first s heard (Announce code bits aid) true
+pub announcement_confirmed : (w m first : ℕ) (heard : List (Option Message)) (s : ReceiverState) (code bits aid : ℕ)
+    → HoldsBy (Some w) m (first + length heard) first s heard → Counts (Some w) m first s heard (Announce code bits aid) true
 announcement_confirmed w m first heard s code bits aid st = record {
-  window = st.window;
-  two = st.two;
-  receiver = st.receiver;
-  texts = st.texts;
-  names = st.names;
+  display = st.display;
+  lasts = record { window = st.lasts.window; two = st.lasts.two; texts = st.lasts.texts; names = st.lasts.names; pair = st.lasts.pair };
   kept = refl;
-  pair = st.pair;
 }
 
-pub other_confirmed : (w m first : ℕ) (heard : List (Option Message)) (s : TwiceState)
-    → HoldsTwice w m (first + length heard) first s heard → Confirms w m first s heard Other true
+pub other_confirmed : (w m first : ℕ) (heard : List (Option Message)) (s : ReceiverState)
+    → HoldsBy (Some w) m (first + length heard) first s heard → Counts (Some w) m first s heard Other true
 other_confirmed w m first heard s st = record {
-  window = st.window;
-  two = st.two;
-  receiver = st.receiver;
-  texts = st.texts;
-  names = st.names;
+  display = st.display;
+  lasts = record { window = st.lasts.window; two = st.lasts.two; texts = st.lasts.texts; names = st.lasts.names; pair = st.lasts.pair };
   kept = refl;
-  pair = st.pair;
 }
 
--- a message that is confirmed was handled by the receiver; one that is not was not
-pub message_heard : (w m first : ℕ) (heard : List (Option Message)) (between new : TwiceState) (message : Message)
-    → new ≡ record between { receiver = new.receiver }
-    → ((m first : ℕ) (heard : List (Option Message)) → HoldsAt m (first + length heard) first between.receiver heard → HoldsAt m (first + length heard) first new.receiver (Some message ∷ heard))
-    → Confirms w m first between heard message true → HoldsTwice w m (first + length heard) first new (Some message ∷ heard)
-message_heard w m first heard between new message rest hears st = record {
-  window = ap (λ (s : TwiceState). s.window) rest ∙ st.window;
-  two = st.two;
-  receiver =
-      subst (HoldsAt m (first + length heard) first new.receiver) (sym st.kept)
-      (subst (λ (k : ℕ). HoldsAt m (first + k) first new.receiver (Some message ∷ confirmed w m first heard)) (confirmed_long w m first heard)
-      (hears m first (confirmed w m first heard) (subst (λ (k : ℕ). HoldsAt m (first + k) first between.receiver (confirmed w m first heard)) (sym (confirmed_long w m first heard)) st.receiver)));
-  texts = λ a h. subst (λ (s : TwiceState). HoldsLast w (first + length heard) (last_at a (segments text_fragment first (Some message ∷ heard))) (cell_in s.segments a)) (sym rest) (st.texts a h);
-  names = λ a h. subst (λ (s : TwiceState). HoldsLast w (first + length heard) (last_at a (segments name_fragment first (Some message ∷ heard))) (cell_in s.segments (16 + a))) (sym rest) (st.names a h);
-  pair = subst (λ (s : TwiceState). HoldsLastPair w (first + length heard) (text_begins m (first + length heard) first (confirmed w m first (Some message ∷ heard))) (last_pair first (Some message ∷ heard)) s.pair s.pair_left)
-      (sym rest) st.pair;
+-- ---- with or without a window
+
+-- without a window each message counts
+pub each_counts : (m first : ℕ) (heard : List (Option Message)) (s : ReceiverState) (message : Message) → HoldsBy None m (first + length heard) first s heard → Counts None m first s heard message true
+each_counts m first heard s message st = record { display = st.display; lasts = st.lasts; kept = refl }
+
+-- the last segments and tags do not depend on the display
+pub with_display : (window : Option ℕ) (m t first : ℕ) (s : ReceiverState) (heard : List (Option Message)) (d : DisplayState) → HoldsLastsIn window m t first s heard
+    → HoldsLastsIn window m t first (record s { display = d }) heard
+with_display None m t first s heard d st = st
+with_display (Some w) m t first s heard d st = record { window = st.window; two = st.two; texts = st.texts; names = st.names; pair = st.pair }
+
+-- the last segments and tags aged after the display
+pub lasts_aged : (w m first : ℕ) (heard : List (Option Message)) (old between : ReceiverState) → between.display ≡ old.display
+    → (HoldsAt m (first + length heard) first old.display (counted_in (Some w) m first heard) → HoldsLastsIn (Some w) m (newest_slot first heard) first old heard → HoldsLastsIn (Some w) m (first + length heard) first between heard)
+    → HasAged (Some w) m first old heard → HoldsBy (Some w) m (first + length heard) first between heard
+lasts_aged w m first heard old between same ages aged = record {
+  display = subst (λ (d : DisplayState). HoldsAt m (first + length heard) first d (counted_in (Some w) m first heard)) (sym same) aged.display;
+  lasts = ages aged.display aged.lasts;
 }
 
-nothing_received : (w m first : ℕ) (heard : List (Option Message)) (r : ReceiverState) → HoldsAt m (first + length heard) first r (confirmed w m first heard)
-    → HoldsAt m (first + length heard) first r (None ∷ confirmed w m first heard)
-nothing_received w m first heard r st =
-    subst (λ (k : ℕ). HoldsAt m (first + k) first r (None ∷ confirmed w m first heard)) (confirmed_long w m first heard)
-    (nothing_heard m first r (confirmed w m first heard) (subst (λ (k : ℕ). HoldsAt m (first + k) first r (confirmed w m first heard)) (sym (confirmed_long w m first heard)) st))
+-- what a display takes from what counts, it takes from what was heard
+taken_in : (window : Option ℕ) (m first : ℕ) (heard : List (Option Message)) (r after : DisplayState) (entry : Option Message)
+    → ((heard : List (Option Message)) → HoldsAt m (first + length heard) first r heard → HoldsAt m (first + length heard) first after (entry ∷ heard))
+    → HoldsAt m (first + length heard) first r (counted_in window m first heard) → HoldsAt m (first + length heard) first after (entry ∷ counted_in window m first heard)
+taken_in window m first heard r after entry takes st =
+    subst (λ (k : ℕ). HoldsAt m (first + k) first after (entry ∷ counted_in window m first heard)) (counted_long window m first heard)
+    (takes (counted_in window m first heard) (subst (λ (k : ℕ). HoldsAt m (first + k) first r (counted_in window m first heard)) (sym (counted_long window m first heard)) st))
 
-pub message_not_heard : (w m first : ℕ) (heard : List (Option Message)) (s : TwiceState) (message : Message) → Confirms w m first s heard message false → HoldsTwice w m (first + length heard) first s (Some message ∷ heard)
-message_not_heard w m first heard s message st = record {
-  window = st.window;
-  two = st.two;
-  receiver = subst (HoldsAt m (first + length heard) first s.receiver) (sym st.kept) (nothing_received w m first heard s.receiver st.receiver);
-  texts = st.texts;
-  names = st.names;
-  pair = st.pair;
+-- a message that counts was handled by the display; one that does not was not
+pub message_counted : (window : Option ℕ) (m first : ℕ) (heard : List (Option Message)) (between new : ReceiverState) (message : Message) → new ≡ record between { display = new.display }
+    → HearsMore between.display new.display message → Counts window m first between heard message true → HoldsBy window m (first + length heard) first new (Some message ∷ heard)
+message_counted window m first heard between new message rest hears st = record {
+  display = subst (HoldsAt m (first + length heard) first new.display) (sym st.kept) (taken_in window m first heard between.display new.display (Some message) (hears m first) st.display);
+  lasts = subst (λ (s : ReceiverState). HoldsLastsIn window m (first + length heard) first s (Some message ∷ heard)) (sym rest)
+      (with_display window m (first + length heard) first between (Some message ∷ heard) new.display st.lasts);
+}
+
+pub message_not_counted : (window : Option ℕ) (m first : ℕ) (heard : List (Option Message)) (s : ReceiverState) (message : Message) → Counts window m first s heard message false
+    → HoldsBy window m (first + length heard) first s (Some message ∷ heard)
+message_not_counted window m first heard s message st = record {
+  display = subst (HoldsAt m (first + length heard) first s.display) (sym st.kept) (taken_in window m first heard s.display s.display None (nothing_heard m first s.display) st.display);
+  lasts = st.lasts;
 }
 
 -- a slot in which nothing is heard
-pub nothing_twice : (w m first : ℕ) (heard : List (Option Message)) (s : TwiceState) → HoldsTwice w m (first + length heard) first s heard → HoldsTwice w m (first + length heard) first s (None ∷ heard)
-nothing_twice w m first heard s st = record {
-  window = st.window;
-  two = st.two;
-  receiver = nothing_received w m first heard s.receiver st.receiver;
-  texts = st.texts;
-  names = st.names;
-  pair = st.pair;
+pub nothing_taken : (window : Option ℕ) (m first : ℕ) (heard : List (Option Message)) (s : ReceiverState) → HoldsBy window m (first + length heard) first s heard
+    → HoldsBy window m (first + length heard) first s (None ∷ heard)
+nothing_taken None m first heard s st = record { display = nothing_heard m first s.display heard st.display; lasts = st.lasts }
+nothing_taken (Some w) m first heard s st = record {
+  display = taken_in (Some w) m first heard s.display s.display None (nothing_heard m first s.display) st.display;
+  lasts = record { window = st.lasts.window; two = st.lasts.two; texts = st.lasts.texts; names = st.lasts.names; pair = st.lasts.pair };
 }
 
--- ---- the view
-
--- the receiver stands at the groups of the confirmed messages
-pub stands_at_counted : TheReceiverStandsAtWhatCounts
-stands_at_counted t s input st =
-    let its = confirmed_groups t.programme st.window t.dwell t.first input st.heard st.are in
-    record {
-      groups = its.groups;
-      are = subst (AreHeard t.programme its.groups) (sym (confirmed_counts st.window t st.heard st.windowed)) its.are;
-      stands = record {
-        tuned = st.tuned;
-        windowless = refl;
-        heard = confirmed st.window t.dwell t.first st.heard;
-        are = its.are;
-        holds = subst (λ (k : ℕ). HoldsAt t.dwell k t.first s.receiver (confirmed st.window t.dwell t.first st.heard)) (sym (newest st.window t.dwell t.first st.heard)) st.holds.receiver;
-      };
-    }
-
--- its view is that of the confirmed messages, and the other way round
-from_view : (t : Tuning) (s : TwiceState) (input : List (Option Group)) (view : ShownView) → (st : StandsTwice t s input) → (at : StandsAtCounted t s st.heard) → IsView (record t { window = None }) at.groups view
-    → IsView t input view
-from_view t s input view st at (heard, are, shown) = (
-  st.heard,
-  st.are,
-  subst (λ (h : List (Option Message)). ShowsView t.dwell t.first h view) (same_heard t.programme at.groups heard (counted t st.heard) are at.are) shown,
-)
-
-to_view : (t : Tuning) (s : TwiceState) (input : List (Option Group)) (view : ShownView) → (st : StandsTwice t s input) → (at : StandsAtCounted t s st.heard) → IsView t input view
-    → IsView (record t { window = None }) at.groups view
-to_view t s input view st at (heard, are, shown) = (
-  counted t st.heard,
-  at.are,
-  subst (λ (h : List (Option Message)). ShowsView t.dwell t.first (counted t h) view) (same_heard t.programme input heard st.heard are st.are) shown,
-)
-
-pub view_of_twice : (t : Tuning) (s : TwiceState) (input : List (Option Group)) (view : ShownView) → StandsTwice t s input
-    → ((t : Tuning) (groups : List (Option Group)) → StandsAt t s.receiver groups → IsView t groups view) → IsView t input view
-view_of_twice t s input view st shows = (let at = stands_at_counted t s input st in from_view t s input view st at (shows (record t { window = None }) at.groups at.stands))
-
--- it stays if the receiver shows the same
-pub twice_stays : (t : Tuning) (s after : TwiceState) (input more : List (Option Group)) (view : ShownView) → StandsTwice t s input → StandsTwice t after more
-    → ShowsAlike s.receiver after.receiver → IsView t input view → IsView t more view
-twice_stays t s after input more view st now alike shown =
-    let at = stands_at_counted t s input st in
-    let then_at = stands_at_counted t after more now in
-    from_view t after more view now then_at (view_stays (record t { window = None }) s.receiver after.receiver at.groups then_at.groups view at.stands then_at.stands alike (to_view t s input view st at shown))
-
--- a receiver shows the same as itself
-pub alike_itself : (r after : ReceiverState) → after ≡ r → ShowsAlike r after
-alike_itself r after same = subst (ShowsAlike r) (sym same) record { text = makes_itself IsWholeText r.text.cells; name = makes_itself IsWholeName r.name.cells; pair = inl refl }
-
--- a receiver that stands at no input holds nothing
-pub holds_nothing : (t : Tuning) (r : ReceiverState) → StandsAt t r [] → HoldsAt t.dwell t.first t.first r []
-holds_nothing t r st =
-    subst (λ (h : List (Option Message)). HoldsAt t.dwell (newest_slot t.first h) t.first r h) (same_heard t.programme [] st.heard [] st.are tt) st.holds
-
--- a slot with a group, of which this is heard
-pub slot_twice : (t : Tuning) (s after : TwiceState) (input : List (Option Group)) (pi : ℕ) (group : Option Group) (message : Option Message) → (st : StandsTwice t s input)
-    → pi ≡ s.receiver.programme → Hears pi group message → after.receiver.programme ≡ s.receiver.programme
-    → HoldsTwice st.window t.dwell (t.first + length st.heard) t.first after (message ∷ st.heard) → StandsTwice t after (group ∷ input)
-slot_twice t s after input pi group message st own hears programme holds = record {
+-- a whole slot
+pub slot_stands : (t : Tuning) (s after : ReceiverState) (input : List (Option Group)) (slot : Option Group) (message : Option Message) (st : StandsAt t s input)
+    → Hears t.programme slot message → after.display.programme ≡ s.display.programme → HoldsBy t.window t.dwell (t.first + length st.heard) t.first after (message ∷ st.heard)
+    → StandsAt t after (slot ∷ input)
+slot_stands t s after input slot message st hears programme holds = record {
   tuned = programme ∙ st.tuned;
-  window = st.window;
-  windowed = st.windowed;
   heard = message ∷ st.heard;
-  are = (subst (λ (n : ℕ). Hears n group message) (own ∙ st.tuned) hears, st.are);
+  are = (hears, st.are);
   holds = holds;
 }

@@ -6,8 +6,7 @@ use Rattle.std.specs.FinMap.{code}
 use Rattle.rds_fields.specs.Codes.{pair_code}
 use Rattle.rds_fields.specs.Tag.{PairFields}
 use Rattle.rds_assembly.specs.Cells.{Cells}
-use Rattle.rds_receiver.specs.State.{HeldSegments, ReceiverState}
-use Rattle.rds_receiver.specs.TwiceState.{TwiceState}
+use Rattle.rds_receiver.specs.State.{DisplayState, HeldSegments, ReceiverState}
 use Rattle.rds_receiver.specs.declared.last.StoredLastSegments.{StoredLastSegments}
 
 abbrev pub held_code : Coded HeldSegments
@@ -15,8 +14,8 @@ held_code =
     code_by (Cells × (Bool × ℕ)) (coded× (code coded_ℕ (coded_list coded_ℕ)) (coded× coded_bool coded_ℕ))
     (λ h. (h.cells, (h.flag, h.age))) (λ p. record { cells = p.0; flag = p.1.0; age = p.1.1 }) (λ _. refl)
 
-abbrev pub receiver_code : Coded ReceiverState
-receiver_code =
+abbrev pub display_code : Coded DisplayState
+display_code =
     code_by ((ℕ × ℕ) × ((HeldSegments × HeldSegments) × (Option PairFields × Bool)))
     (coded× (coded× coded_ℕ coded_ℕ) (coded× (coded× held_code held_code) (coded× (coded_option pair_code) coded_bool)))
     (λ r. ((r.programme, r.dwell), ((r.text, r.name), (r.pair, r.is_known))))
@@ -36,10 +35,10 @@ last_segments_code =
     (coded× coded_ℕ (coded× (coded_list (coded_list coded_ℕ)) (coded_list coded_ℕ)))
     (λ s. (s.flags, (s.bytes, s.left))) (λ p. record { flags = p.0; bytes = p.1.0; left = p.1.1 }) (λ _. refl)
 
-abbrev pub twice_code : Coded TwiceState
-twice_code =
-    code_by ((ℕ × ReceiverState) × (StoredLastSegments × (Option PairFields × ℕ)))
-    (coded× (coded× coded_ℕ receiver_code) (coded× last_segments_code (coded× (coded_option pair_code) coded_ℕ)))
-    (λ s. ((s.window, s.receiver), (s.segments, (s.pair, s.pair_left))))
-    (λ p. record { window = p.0.0; receiver = p.0.1; segments = p.1.0; pair = p.1.1.0; pair_left = p.1.1.1 })
+abbrev pub receiver_code : Coded ReceiverState
+receiver_code =
+    code_by ((ℕ × DisplayState) × (StoredLastSegments × (Option PairFields × ℕ)))
+    (coded× (coded× coded_ℕ display_code) (coded× last_segments_code (coded× (coded_option pair_code) coded_ℕ)))
+    (λ s. ((s.window, s.display), (s.segments, (s.pair, s.pair_left))))
+    (λ p. record { window = p.0.0; display = p.0.1; segments = p.1.0; pair = p.1.1.0; pair_left = p.1.1.1 })
     (λ _. refl)

@@ -4,7 +4,7 @@ use Rattle.rds_block.specs.declared.group.Group.{Group}
 use Rattle.rds_fields.specs.declared.message.Message.{Message}
 use Rattle.rds_receiver.specs.Receipts.{AreHeard, Segment, Tuning, name_fragment, segments, text_fragment}
 use Rattle.rds_receiver.specs.Run.{run}
-use Rattle.rds_receiver.specs.StandsAt.{newest_slot}
+use Rattle.rds_receiver.specs.Holds.{newest_slot}
 use Rattle.rds_receiver.specs.Twice.{counted}
 use Rattle.rds_receiver.specs.declared.why.WhyNone.{WhyNone}
 use Rattle.rds_receiver.specs.declared.why.WhyNone.TheVariants.{Dropped, Incomplete}

@@ -5,10 +5,10 @@ ghost use Rattle.std.specs.Option.{option_copied};
 ghost use Rattle.rds_fields.specs.Stored.{is_set};
 ghost use Rattle.rds_assembly.specs.Held.{held_cells};
 ghost use Rattle.rds_receiver.specs.Shown.{IsShown};
-ghost use Rattle.rds_receiver.specs.StandsAt.{MakeAlike};
+ghost use Rattle.rds_receiver.specs.Holds.{MakeAlike};
 ghost use Rattle.rds_receiver.specs.Stored.{segments_stored};
 
-use crate::stored::StoredSegments;
+use crate::display::StoredSegments;
 use rds_assembly::{LONGEST_TEXT, Service, hold, is_held, whole};
 
 impl StoredSegments {

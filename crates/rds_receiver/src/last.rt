@@ -1,7 +1,7 @@
 //! The last segment heard at each address.
 ghost use Rattle.std.specs.Prelude.{◌≡◌, ◌≢◌, ◌-◌, ◌<◌, ◌==◌, ◌↔◌, ℕ, IsTrue, map};
 ghost use Rattle.std.specs.Int.{bit_at};
-ghost use Rattle.rds_receiver.specs.TwiceState.{RepeatsSegment, cell_in, one_slot_older};
+ghost use Rattle.rds_receiver.specs.Confirming.{RepeatsSegment, cell_in, one_slot_older};
 
 use rds_assembly::is_same_segment;
 

@@ -5,7 +5,6 @@ ghost use Rattle.rds_receiver.specs.Chained.{IsChained};
 ghost use Rattle.rds_receiver.specs.Receipts.{Segment, Tuning};
 ghost use Rattle.rds_receiver.specs.Run.{run};
 ghost use Rattle.rds_receiver.specs.Shown.{IsView, ShownView};
-ghost use Rattle.rds_receiver.specs.TwiceState.{TheReceiverStandsAtWhatCounts};
 
 /// States that the run is the longest last part of the received segments that is chained: with one flag, with
 /// neighbours less than the dwell apart, and with the newest one less than the dwell ago.
@@ -21,10 +20,4 @@ pub fn run_is_the_longest()
 pub fn one_view()
     ensures { (t : Tuning) (input : List (Option Group)) (v w : ShownView)
         → IsView t input v → IsView t input w → v ≡ w }
-{}
-
-/// States that a receiver that shows only what it heard twice shows what a receiver of the confirmed messages shows:
-/// inside it, such a receiver stands at groups that carry these messages.
-pub fn confirmed_messages_have_a_receiver()
-    ensures { TheReceiverStandsAtWhatCounts }
 {}

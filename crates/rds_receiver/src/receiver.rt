@@ -11,9 +11,11 @@ ghost use Rattle.rds_receiver.specs.Stored.{IsStored, receiver_stored};
 ghost use Rattle.rds_receiver.specs.Tags.{pair_held};
 ghost use Rattle.rds_receiver.specs.NotShown.{AreWhys};
 
+use crate::display::{StoredDisplay, StoredSegments};
+use crate::last::StoredLastSegments;
 use crate::shown::{shown_item, shown_tag};
-use crate::stored::{StoredReceiver, StoredSegments};
-use crate::{View, Whys};
+use crate::stored::StoredReceiver;
+use crate::{View, Whys, Window};
 use rds_block::{Blocks, Group};
 use rds_fields::{Dwell, Message, StoredPair, TagPair, Which};
 use std::marker::Model;
@@ -60,20 +62,35 @@ impl Model for Receiver {
 }
 
 impl Receiver {
-    /// Makes a receiver of this programme that has heard nothing yet.
+    /// Makes a receiver of this programme that has heard nothing yet. Each message counts at once.
     pub fn new(pi: u16, dwell: Dwell) -> Receiver
         ensures stands { (first : ℕ)
             → StandsAt record { programme = pi; dwell = dwell; window = None; first = first } result [] }
     {
+        Receiver::tuned(pi, dwell, None)
+    }
+
+    /// Makes a receiver of this programme that has heard nothing yet. With a window it shows only what it heard twice
+    /// within it, and may get wrong groups, for example groups with corrected bits.
+    pub fn tuned(pi: u16, dwell: Dwell, window: Option<Window>) -> Receiver
+        ensures stands { (first : ℕ)
+            → StandsAt record { programme = pi; dwell = dwell; window = window; first = first } result [] }
+    {
         let slots = dwell.get();
         Receiver {
             state: StoredReceiver {
-                pi,
-                dwell: slots,
-                text: StoredSegments::none(slots),
-                name: StoredSegments::none(slots),
+                display: StoredDisplay {
+                    pi,
+                    dwell: slots,
+                    text: StoredSegments::none(slots),
+                    name: StoredSegments::none(slots),
+                    pair: StoredPair::none(),
+                    is_known: 0,
+                },
+                segments: StoredLastSegments::none(),
                 pair: StoredPair::none(),
-                is_known: 0,
+                pair_left: 0,
+                window: slots_of(window),
             },
         }
     }
@@ -81,10 +98,11 @@ impl Receiver {
     /// Rebuilds a stored receiver. Invalid numbers give an arbitrary valid receiver of the stored programme.
     pub fn restore(stored: &StoredReceiver) -> Receiver
         ensures same { IsStored stored.now → result ≡ receiver_stored stored.now }
-        ensures programme { result.programme ≡ stored.now.pi }
+        ensures programme { result.display.programme ≡ stored.now.display.pi }
     {
         let mut state = *stored;
-        state.dwell = Dwell::at_least_one(stored.dwell).get();
+        state.display.dwell = Dwell::at_least_one(stored.display.dwell).get();
+        state.display.pair = StoredPair::of(stored.display.pair.pair());
         state.pair = StoredPair::of(stored.pair.pair());
         Receiver { state }
     }
@@ -119,14 +137,14 @@ impl Receiver {
     pub fn view(&self) -> View<'_>
         ensures { WhereItStands self.now (λ t input. IsView t input (view_of result)) }
     {
-        self.state.view()
+        self.state.display.view()
     }
 
     /// Returns why a text and a name are not shown, if they are not.
     pub fn whys(&self) -> Whys
         ensures { WhereItStands self.now (λ t input. AreWhys t input result) }
     {
-        self.state.whys()
+        self.state.display.whys()
     }
 
     /// Returns the text shown, at most 64 bytes, borrowed from the receiver. `None` if no text is shown; `Some` of no
@@ -136,7 +154,7 @@ impl Receiver {
             (λ m first heard. IsTextShown m first heard (option_copied result)) }
         ensures short { IfSome result (λ x. length x.now ≤ 64) }
     {
-        self.state.shown_text()
+        self.state.display.shown_text()
     }
 
     /// Returns the programme type name shown, eight bytes, borrowed from the receiver. `None` if no name is shown.
@@ -145,7 +163,7 @@ impl Receiver {
             (λ m first heard. IsNameShown m first heard (option_copied result)) }
         ensures short { IfSome result (λ x. length x.now ≡ 8) }
     {
-        self.state.shown_name()
+        self.state.display.shown_name()
     }
 
     /// Returns the item toggle bit and the item running bit. `None` if no text is shown or no pair of tags is held.
@@ -170,6 +188,17 @@ impl Receiver {
     pub fn pair(&self) -> Option<TagPair>
         ensures { WhatItHeard self.now (λ m first heard. result ≡ pair_held m first heard) }
     {
-        self.state.pair.pair()
+        self.state.display.pair.pair()
+    }
+}
+
+/// Returns the slots of a window, or 0 without one.
+fn slots_of(window: Option<Window>) -> u8
+    ensures none { window ≡ None → result ≡ 0 }
+    ensures some { IfSome window (λ w. (result ≡ w) × (1 < w)) }
+{
+    match window {
+        None => 0,
+        Some(window) => window.get(),
     }
 }

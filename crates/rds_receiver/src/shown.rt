@@ -2,13 +2,13 @@
 ghost use Rattle.std.specs.Prelude.{◌≡◌, ◌<◌, ◌≤◌, IfSome, length};
 ghost use Rattle.std.specs.Option.{option_copied};
 ghost use Rattle.rds_receiver.specs.Borrowed.{borrowed_tag, view_of};
-ghost use Rattle.rds_receiver.specs.Shown.{IsNameShown, IsShortText, IsTextShown, IsView, view_with};
-ghost use Rattle.rds_receiver.specs.StandsAt.{WhatItHeard, WhereItStands};
-ghost use Rattle.rds_receiver.specs.Stored.{IsStored, receiver_stored};
+ghost use Rattle.rds_receiver.specs.Holds.{WhatItShows};
+ghost use Rattle.rds_receiver.specs.Shown.{IsNameShown, IsShortText, IsTextShown, ShowsView, view_with};
+ghost use Rattle.rds_receiver.specs.Stored.{IsStoredDisplay, display_stored};
 ghost use Rattle.rds_receiver.specs.Tags.{item_of, tag_of};
 
 use crate::View;
-use crate::stored::StoredReceiver;
+use crate::display::StoredDisplay;
 use rds_assembly::{RadioText, TypeName};
 use rds_fields::{TagPair, Which};
 
@@ -31,18 +31,18 @@ impl<'a> View<'a> {
     }
 }
 
-impl StoredReceiver {
+impl StoredDisplay {
     /// Returns all that is shown, borrowed from the numbers.
     pub(crate) fn view(&self) -> View<'_>
-        ensures { IsStored self.now → WhereItStands (receiver_stored self.now)
-            (λ t input. IsView t input (view_of result)) }
+        ensures { IsStoredDisplay self.now → WhatItShows (display_stored self.now)
+            (λ m first heard. ShowsView m first heard (view_of result)) }
     {
         View::of(self.shown_text(), self.shown_name(), self.pair.pair())
     }
 
     /// Returns the text shown, borrowed from the numbers. `None` if no text is shown.
     pub(crate) fn shown_text(&self) -> Option<&[u8]>
-        ensures shown { WhatItHeard (receiver_stored self.now)
+        ensures shown { WhatItShows (display_stored self.now)
             (λ m first heard. IsTextShown m first heard (option_copied result)) }
         ensures short { IfSome result (λ x. length x.now ≤ 64) }
     {
@@ -51,7 +51,7 @@ impl StoredReceiver {
 
     /// Returns the programme type name shown, borrowed from the numbers. `None` if no name is shown.
     pub(crate) fn shown_name(&self) -> Option<&[u8]>
-        ensures shown { WhatItHeard (receiver_stored self.now)
+        ensures shown { WhatItShows (display_stored self.now)
             (λ m first heard. IsNameShown m first heard (option_copied result)) }
         ensures short { IfSome result (λ x. length x.now ≡ 8) }
     {

@@ -1,40 +1,32 @@
 //! The state of a receiver, as plain numbers: a program may store it, and a slot changes it in place.
-ghost use Rattle.std.specs.Prelude.{◌≡◌, ◌+◌, ◌<◌, ℕ, IsFalse, List, Option, length};
+ghost use Rattle.std.specs.Prelude.{◌≡◌, ◌+◌, ◌<◌, ℕ, IsFalse, List, Option, Some, length};
 ghost use Rattle.rds_fields.specs.declared.message.Message.{Message};
-ghost use Rattle.rds_fields.specs.Stored.{is_set, pair_stored};
-ghost use Rattle.rds_receiver.specs.StandsAt.{HearsMore, HoldsAt, KeepsView, ShowsAlike, TakesSlot, newest_slot};
-ghost use Rattle.rds_receiver.specs.Tags.{or_before, says_of_rtplus, unless_contrary};
-ghost use Rattle.rds_receiver.specs.Stored.{IsStored, receiver_stored};
+ghost use Rattle.rds_receiver.specs.Confirming.{ConfirmsIf, HearsSlot, HoldsLastsIn};
+ghost use Rattle.rds_receiver.specs.Holds.{HoldsAt, ShowsAlike, newest_slot};
+ghost use Rattle.rds_receiver.specs.StandsAt.{KeepsView, TakesSlot};
+ghost use Rattle.rds_receiver.specs.Stored.{IsStored, display_stored, receiver_stored};
+ghost use Rattle.rds_receiver.specs.Twice.{counted_in};
 
+use crate::display::StoredDisplay;
+use crate::last::{StoredLastSegments, TEXT_CELLS};
 use crate::receiver::heard_blocks;
-use rds_assembly::{LONGEST_TEXT, RadioText, TypeName};
 use rds_block::Blocks;
-use rds_fields::{Message, RTPLUS_AID, RTPLUS_CODE, StoredPair, TagPair};
+use rds_fields::{Message, StoredPair, TagPair};
 
-/// The held segments of one service. Segment a has the bytes at the places 4 * a to 4 * a + 3. It is held if bit a of
-/// the mask is 1. The flag is 0 for no and any other number for yes.
-#[repr(C)]
-#[derive(Clone, Copy)]
-pub struct StoredSegments {
-    pub bytes: [u8; LONGEST_TEXT],
-    pub mask: u16,
-    /// The slots since the newest segment came, or the dwell if no segment is held.
-    pub age: u16,
-    pub flag: u8,
-}
-
-/// All that a receiver holds, as plain numbers. Whether a value is whole is not stored: each call that asks finds out.
+/// The plain numbers of a receiver.
 #[repr(C)]
 #[derive(Clone, Copy)]
 pub struct StoredReceiver {
-    pub pi: u16,
-    /// The dwell in slots.
-    pub dwell: u16,
-    pub text: StoredSegments,
-    pub name: StoredSegments,
+    /// What it holds of the messages that count.
+    pub display: StoredDisplay,
+    /// The last segments heard.
+    pub segments: StoredLastSegments,
+    /// The last pair of tags heard.
     pub pair: StoredPair,
-    /// Whether RadioText Plus is known: 0 for no and any other number for yes.
-    pub is_known: u8,
+    /// For how many more slots, the current one included, the last pair confirms the same one.
+    pub pair_left: u8,
+    /// The window in slots. If it is 0, each message counts; else a message counts if it came twice within the window.
+    pub window: u8,
 }
 
 impl StoredReceiver {
@@ -46,40 +38,68 @@ impl StoredReceiver {
         ensures same { IsStored self.old → IsFalse result → KeepsView (receiver_stored self.old) group }
         ensures good { IsStored self.old → IsStored self.new }
     {
-        let aged = self.grow_older();
-        let Some(message) = heard_blocks(self.pi, group) else {
-            return aged;
-        };
-        let is_new = self.hear(message);
+        let aged = self.display.grow_older();
+        let is_new = self.hear(group);
         is_new || aged
     }
 
-    /// Ages the segments by one slot. Drops the pair if no segment of a text is held any more. If it returns false, all
-    /// that is shown stays the same.
-    pub(crate) fn grow_older(&mut self) -> bool
-        ensures programme { self.new.pi ≡ self.old.pi }
-        ensures holds { (m first : ℕ) (heard : List (Option Message))
-            → HoldsAt m (newest_slot first heard) first (receiver_stored self.old) heard
-            → HoldsAt m (first + length heard) first (receiver_stored self.new) heard }
-        ensures same { IsFalse result → ShowsAlike (receiver_stored self.old) (receiver_stored self.new) }
+    /// Handles the group of a slot after the display aged. If it returns false, all that is shown stays the same.
+    #[inline(always)]
+    fn hear(&mut self, group: Option<Blocks>) -> bool
+        ensures programme { self.new.display.pi ≡ self.old.display.pi }
+        ensures holds { IsStored self.old → HearsSlot (receiver_stored self.old) (receiver_stored self.new) group }
+        ensures same { IsFalse result → ShowsAlike (display_stored self.old.display) (display_stored self.new.display) }
         ensures good { IsStored self.old → IsStored self.new }
     {
-        let dwell = self.dwell;
-        let text = self.text.grow_older::<RadioText>(dwell);
-        let name = self.name.grow_older::<TypeName>(dwell);
-        if self.text.is_held(dwell) || self.pair.is_held == 0 {
-            return text || name;
+        if self.window > 0 {
+            return self.hear_if_confirmed(group);
         }
-        self.pair = StoredPair::none();
-        true
+        let Some(message) = heard_blocks(self.display.pi, group) else {
+            return false;
+        };
+        self.display.hear(message)
     }
 
-    /// Handles a message of the programme. If it returns false, all that is shown stays the same.
-    #[inline(always)]
-    pub(crate) fn hear(&mut self, message: Message) -> bool
-        ensures programme { self.new.pi ≡ self.old.pi }
-        ensures holds { IsStored self.old → HearsMore (receiver_stored self.old) (receiver_stored self.new) message }
-        ensures same { IsFalse result → ShowsAlike (receiver_stored self.old) (receiver_stored self.new) }
+    /// Does the same with a window: a message that is not confirmed does not count.
+    // Reads the message itself. With one handed over, `hear` would put it together in each slot without a window too.
+    #[inline(never)]
+    fn hear_if_confirmed(&mut self, group: Option<Blocks>) -> bool
+        requires { 0 < self.old.window }
+        ensures programme { self.new.display.pi ≡ self.old.display.pi }
+        ensures holds { IsStored self.old → HearsSlot (receiver_stored self.old) (receiver_stored self.new) group }
+        ensures same { IsFalse result → ShowsAlike (display_stored self.old.display) (display_stored self.new.display) }
+        ensures good { IsStored self.old → IsStored self.new }
+    {
+        self.age_lasts();
+        let Some(message) = heard_blocks(self.display.pi, group) else {
+            return false;
+        };
+        // Prover: a new name before the second use (docs/PROVER.md, "Workarounds").
+        let confirmed = message;
+        if !self.confirm(message) {
+            return false;
+        }
+        self.display.hear(confirmed)
+    }
+
+    /// Ages the last segments and the last pair by one slot, after the display.
+    fn age_lasts(&mut self)
+        ensures display { self.new.display ≡ self.old.display }
+        ensures lasts { (w m first : ℕ) (heard : List (Option Message))
+            → HoldsAt m (first + length heard) first (display_stored self.old.display) (counted_in (Some w) m first heard)
+            → HoldsLastsIn (Some w) m (newest_slot first heard) first (receiver_stored self.old) heard
+            → HoldsLastsIn (Some w) m (first + length heard) first (receiver_stored self.new) heard }
+        ensures good { IsStored self.old → IsStored self.new }
+    {
+        self.segments.grow_older();
+        self.pair_left = self.while_text_is_held(self.pair_left.saturating_sub(1));
+    }
+
+    /// Returns whether the message is confirmed, and keeps it as the last one heard.
+    fn confirm(&mut self, message: Message) -> bool
+        ensures display { self.new.display ≡ self.old.display }
+        ensures confirms { IsStored self.old
+            → ConfirmsIf (receiver_stored self.old) (receiver_stored self.new) message result }
         ensures good { IsStored self.old → IsStored self.new }
     {
         match message {
@@ -87,71 +107,66 @@ impl StoredReceiver {
                 flag,
                 address,
                 bytes,
-            } => self.hear_text(flag, address.get(), bytes),
+            } => self.confirm_text(flag, address.get(), bytes),
             Message::Name {
                 flag,
                 address,
                 bytes,
-            } => self.name.take::<TypeName>(flag, address.get(), bytes),
-            Message::Announce { code, aid, .. } => self.hear_announcement(code.get(), aid),
-            Message::Tags(pair) => self.hear_tags(pair),
-            Message::Other => false,
+            } => self.confirm_name(flag, address.get(), bytes),
+            Message::Tags(pair) => self.confirm_tags(pair),
+            Message::Announce { .. } | Message::Other => true,
         }
     }
 
-    /// Takes a text segment. Drops the pair of tags first if the flag changed.
-    fn hear_text(&mut self, flag: bool, address: u8, bytes: [u8; 4]) -> bool
+    /// Does the same for a text segment. If it begins a new run, the last pair of tags confirms nothing.
+    fn confirm_text(&mut self, flag: bool, address: u8, bytes: [u8; 4]) -> bool
         requires { address < 16 }
-        ensures programme { self.new.pi ≡ self.old.pi }
-        ensures holds { HearsMore (receiver_stored self.old) (receiver_stored self.new)
-            (Message.Text flag address bytes) }
-        ensures same { IsFalse result → ShowsAlike (receiver_stored self.old) (receiver_stored self.new) }
+        ensures display { self.new.display ≡ self.old.display }
+        ensures confirms { ConfirmsIf (receiver_stored self.old) (receiver_stored self.new)
+            (Message.Text flag address bytes) result }
         ensures good { IsStored self.old → IsStored self.new }
     {
-        if !self.text.has_flag(flag) {
-            self.pair = StoredPair::none();
+        let again = self.segments.take(address, flag, bytes, self.window);
+        if again && !self.display.text.has_flag(flag) {
+            self.pair_left = 0;
         }
-        self.text.take::<RadioText>(flag, address, bytes)
+        again
     }
 
-    /// Takes an announcement. One of RadioText Plus makes it known; a contrary one makes it unknown and drops the pair.
-    fn hear_announcement(&mut self, code: u8, aid: u16) -> bool
-        ensures known { is_set self.new.is_known ≡ or_before (says_of_rtplus code aid) (is_set self.old.is_known) }
-        ensures pair { pair_stored self.new.pair
-            ≡ unless_contrary (says_of_rtplus code aid) (pair_stored self.old.pair) }
-        ensures rest { self.new ≡ record self.old { pair = self.new.pair; is_known = self.new.is_known } }
-        ensures same { IsFalse result → ShowsAlike (receiver_stored self.old) (receiver_stored self.new) }
+    /// Does the same for a segment of a name.
+    fn confirm_name(&mut self, flag: bool, address: u8, bytes: [u8; 4]) -> bool
+        requires { address < 2 }
+        ensures display { self.new.display ≡ self.old.display }
+        ensures confirms { ConfirmsIf (receiver_stored self.old) (receiver_stored self.new)
+            (Message.Name flag address bytes) result }
         ensures good { IsStored self.old → IsStored self.new }
     {
-        let fits_code = code == RTPLUS_CODE;
-        let fits_aid = aid == RTPLUS_AID;
-        if fits_code && fits_aid {
-            self.is_known = 1;
-            return false;
-        }
-        if fits_code || fits_aid {
-            self.is_known = 0;
-            self.pair = StoredPair::none();
-            return true;
-        }
-        false
+        self.segments
+            .take(TEXT_CELLS + address, flag, bytes, self.window)
     }
 
-    /// Takes a pair of tags if RadioText Plus is known and segments of a text are held. Ignores it otherwise.
-    fn hear_tags(&mut self, pair: TagPair) -> bool
-        ensures programme { self.new.pi ≡ self.old.pi }
-        ensures holds { IsStored self.old
-            → HearsMore (receiver_stored self.old) (receiver_stored self.new) (Message.Tags pair) }
-        ensures same { IsFalse result → ShowsAlike (receiver_stored self.old) (receiver_stored self.new) }
+    /// Does the same for a pair of tags. It confirms the same one only if segments of a text are held.
+    fn confirm_tags(&mut self, pair: TagPair) -> bool
+        ensures display { self.new.display ≡ self.old.display }
+        ensures confirms { IsStored self.old
+            → ConfirmsIf (receiver_stored self.old) (receiver_stored self.new) (Message.Tags pair) result }
         ensures good { IsStored self.old → IsStored self.new }
     {
-        if self.is_known != 0 && self.text.is_held(self.dwell) {
-            if self.pair.pair() == Some(pair) {
-                return false;
-            }
-            self.pair = StoredPair::of(Some(pair));
-            return true;
+        let again = self.pair_left > 0 && self.pair.pair() == Some(pair);
+        self.pair = StoredPair::of(Some(pair));
+        self.pair_left = self.while_text_is_held(self.window);
+        again
+    }
+
+    /// Returns this number if segments of a text are held, or else 0.
+    fn while_text_is_held(&self, left: u8) -> u8
+        ensures held { self.now.display.text.age < self.now.display.dwell → result ≡ left }
+        ensures none { (self.now.display.text.age < self.now.display.dwell → ⊥) → result ≡ 0 }
+    {
+        if self.display.text.is_held(self.display.dwell) {
+            left
+        } else {
+            0
         }
-        false
     }
 }

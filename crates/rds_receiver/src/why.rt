@@ -1,12 +1,12 @@
 //! Why a text or a name is not shown.
 ghost use Rattle.std.specs.Prelude.{◌≡◌, ◌<◌, ℕ, List, Option};
 ghost use Rattle.rds_fields.specs.declared.message.Message.{Message};
-ghost use Rattle.rds_receiver.specs.StandsAt.{HoldsAt};
-ghost use Rattle.rds_receiver.specs.Stored.{receiver_stored};
+ghost use Rattle.rds_receiver.specs.Holds.{HoldsAt};
+ghost use Rattle.rds_receiver.specs.Stored.{display_stored};
 ghost use Rattle.rds_receiver.specs.NotShown.{whys_in};
 ghost use Rattle.rds_receiver.specs.declared.why.WhyNone.TheVariants.{Dropped, Incomplete};
 
-use crate::stored::{StoredReceiver, StoredSegments};
+use crate::display::{StoredDisplay, StoredSegments};
 
 /// Why a text or a name is not shown (this project's own rule).
 #[derive(Clone, Copy, Debug, PartialEq, Eq)]
@@ -40,11 +40,11 @@ impl StoredSegments {
     }
 }
 
-impl StoredReceiver {
+impl StoredDisplay {
     /// Returns why a text and a name are not shown, if they are not.
     pub(crate) fn whys(&self) -> Whys
         ensures { (m t first : ℕ) (heard : List (Option Message))
-            → HoldsAt m t first (receiver_stored self.now) heard → result ≡ whys_in m t first heard }
+            → HoldsAt m t first (display_stored self.now) heard → result ≡ whys_in m t first heard }
     {
         Whys {
             text: self.text.why(self.dwell),

@@ -32,16 +32,6 @@ impl Window {
         Some(Window { slots: slots as u8 })
     }
 
-    /// Makes the window of this many slots, or of two slots for 0 and 1.
-    pub fn at_least_two(slots: u8) -> Self
-        ensures same { 1 < slots → result ≡ slots }
-        ensures two { slots < 2 → result ≡ 2 }
-    {
-        Window {
-            slots: slots.max(2),
-        }
-    }
-
     /// Returns the number of slots.
     pub fn get(self) -> u8
         ensures value { result ≡ self }

@@ -11,7 +11,7 @@ use Rattle.rds_encoder.specs.Spaced.{IsSpaced}
 use Rattle.rds_receiver.specs.Receipts.{Fragment, Segment, name_fragment, segments, text_fragment}
 use Rattle.rds_receiver.specs.Run.{begins_in, cells_of, is_same, run, run_at, run_before}
 use Rattle.rds_receiver.specs.Shown.{IsShown, ShowsView}
-use Rattle.rds_receiver.specs.StandsAt.{newest_slot}
+use Rattle.rds_receiver.specs.Holds.{newest_slot}
 use Rattle.rds_receiver.proofs.Runs.{run_at_newest}
 use Rattle.rds_receiver.specs.Tags.{item_of, pair_from, pair_held, tag_of}
 use Rattle.rds_fields.specs.declared.pair.Which.TheVariants.{One, Two}

@@ -7,7 +7,7 @@ use Rattle.rds_encoder.specs.Plan.{Broadcast, HasNumber}
 use Rattle.rds_encoder.specs.Spaced.{IsSpaced}
 use Rattle.rds_receiver.specs.Receipts.{Fragment, Segment, name_fragment, segments, text_fragment}
 use Rattle.rds_receiver.specs.Shown.{ShowsView, ShownView}
-use Rattle.rds_receiver.specs.StandsAt.{newest_slot}
+use Rattle.rds_receiver.specs.Holds.{newest_slot}
 use Rattle.rds_safety.specs.FlagAlone.{EachLasts, GetsSome, HearsEach, HearsOneIn, HearsTextBeforeTags, IsFilled}
 use Rattle.rds_safety.specs.FlagAlone.{IsNews, ListensByFlag, LosesInARow, SendsOneIn, ShowsByFlag, TurnsTheFlag}
 use Rattle.rds_safety.specs.FlagAlone.{run_by_flag}

@@ -4,7 +4,7 @@ use Rattle.rds_fields.specs.Tag.{PairFields, TagFields}
 use Rattle.rds_fields.specs.declared.head.Head.{Head}
 use Rattle.rds_receiver.specs.Shown.{ShownView}
 use Rattle.rds_world.specs.Event.{Event}
-use Rattle.rds_world.specs.declared.any_receiver.ReceiverKind.TheVariants.{FlagAlone}
+use Rattle.rds_world.specs.declared.receiver_kind.ReceiverKind.TheVariants.{FlagAlone}
 use Rattle.rds_world.specs.declared.event.Command.{Command}
 use Rattle.rds_world.specs.declared.event.Command.TheVariants.{Quiet, SetTags, SetText}
 use Rattle.rds_world.specs.declared.world.Config.{Config}

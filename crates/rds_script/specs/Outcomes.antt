@@ -37,8 +37,8 @@ use Rattle.rds_io.specs.Digits.{word_digits}
 use Rattle.rds_view_lines.specs.Output.{air_stamp, change, line_of, nothing_shown}
 use Rattle.rds_view_lines.specs.Output.{receiver_stamp, slot_stamp, unless_same}
 use Rattle.rds_world.specs.OnAir.{air_of}
-use Rattle.rds_world.specs.declared.any_receiver.ReceiverKind.{ReceiverKind}
-use Rattle.rds_world.specs.declared.any_receiver.ReceiverKind.TheVariants.{FlagAlone, WithDwell}
+use Rattle.rds_world.specs.declared.receiver_kind.ReceiverKind.{ReceiverKind}
+use Rattle.rds_world.specs.declared.receiver_kind.ReceiverKind.TheVariants.{FlagAlone, WithDwell}
 use Rattle.rds_script.specs.OnAir.{airings}
 use Rattle.rds_script.specs.declared.airing.Airing.{Airing}
 use Rattle.rds_script.specs.declared.airing.Airing.TheVariants.{Mix, Old, OnAir, Replaced}

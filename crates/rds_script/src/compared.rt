@@ -8,7 +8,7 @@ ghost use Rattle.rds_view_lines.specs.declared.change.TheConstants.{SLOT_ROOM};
 ghost use Rattle.rds_world.specs.StandsAt.{WhereItStands};
 ghost use Rattle.rds_world.specs.declared.event.TheConstants.{MOST_RECEIVERS};
 ghost use Rattle.rds_world.specs.Event.{Event};
-ghost use Rattle.rds_world.specs.declared.any_receiver.ReceiverKind.TheVariants.{FlagAlone};
+ghost use Rattle.rds_world.specs.declared.receiver_kind.ReceiverKind.TheVariants.{FlagAlone};
 ghost use Rattle.rds_world.specs.declared.world.Config.{Config};
 ghost use Rattle.rds_script.specs.Inside.Compared.{AirsHaveRoom, AirsStand, Compares, GoesOnCompared, HasRoom, IsCompared, WereKept, airings_at, all_on_air};
 ghost use Rattle.rds_script.specs.OnAir.{airings};

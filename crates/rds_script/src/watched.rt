@@ -8,7 +8,7 @@ ghost use Rattle.rds_world.specs.State.{distance};
 ghost use Rattle.rds_world.specs.Slots.{entries, input_of};
 ghost use Rattle.rds_world.specs.Replies.{CanBeTaken, IsStepRefused, reply_at};
 ghost use Rattle.rds_world.specs.StandsAt.{HasHeard, IsViewOfInput, WhereItStands, tuned_to};
-ghost use Rattle.rds_world.specs.declared.any_receiver.ReceiverKind.TheVariants.{FlagAlone};
+ghost use Rattle.rds_world.specs.declared.receiver_kind.ReceiverKind.TheVariants.{FlagAlone};
 ghost use Rattle.rds_view_lines.specs.KeptView.{view_kept};
 ghost use Rattle.rds_script.specs.Inside.Compared.{HasRoom};
 ghost use Rattle.rds_script.specs.Inside.Watched.{AreKept, WereShown};
@@ -25,9 +25,9 @@ use crate::notes::{EarlySet, note_wait};
 use crate::row::RowRefused;
 use arrayvec::ArrayVec;
 use rds_io::Lines;
-use rds_receiver::{Receive, WhyNone, Whys};
+use rds_receiver::{Receiver, WhyNone, Whys};
 use rds_view_lines::{KeptView, SLOT_ROOM, Stamp, show};
-use rds_world::{AnyReceiver, Config, MOST_RECEIVERS, Reception, SlotEvent, StepRefused, World};
+use rds_world::{Config, MOST_RECEIVERS, Reception, SlotEvent, StepRefused, World};
 use std::alloc::Global;
 
 /// The most bytes of the output of a row: the reply, the group, the changes at each receiver, and how the views compare
@@ -212,7 +212,7 @@ fn push_views(
 }
 
 /// Returns why receiver i shows no text and no name after the slot of this event, if the lines say why.
-fn whys_of(form: Form, event: &SlotEvent, i: usize, receiver: &AnyReceiver) -> Option<Whys>
+fn whys_of(form: Form, event: &SlotEvent, i: usize, receiver: &Receiver) -> Option<Whys>
     ensures { (config : Config) (input : Input) → HasHeard config input receiver.now
         → result ≡ whys_said form (slice_index_or event.now.receptions i Lost) config input }
 {
@@ -223,7 +223,7 @@ fn whys_of(form: Form, event: &SlotEvent, i: usize, receiver: &AnyReceiver) -> O
 }
 
 /// Returns why a receiver shows no text and no name after a slot with this reception.
-fn whys_after(reception: Reception, receiver: &AnyReceiver) -> Whys
+fn whys_after(reception: Reception, receiver: &Receiver) -> Whys
     ensures { (config : Config) (input : Input) → HasHeard config input receiver.now
         → result ≡ whys_after reception (tuned_to config input) input.heard }
 {

@@ -1,8 +1,8 @@
 //! The lines for a view that may have changed.
 ghost use Rattle.std.specs.Prelude.{◌≡◌, ◌≤◌, ◌+◌, ◌++◌, length};
 ghost use Rattle.rds_view_lines.specs.declared.change.TheConstants.{SLOT_ROOM};
-ghost use Rattle.rds_receiver.specs.Receive.{WhereStands};
 ghost use Rattle.rds_receiver.specs.Shown.{IsView};
+ghost use Rattle.rds_receiver.specs.StandsAt.{WhereItStands};
 ghost use Rattle.rds_view_lines.specs.KeptView.{view_kept};
 ghost use Rattle.rds_view_lines.specs.Output.{change};
 ghost use Rattle.rds_view_lines.specs.Part.{stamp_of};
@@ -10,23 +10,23 @@ ghost use Rattle.rds_view_lines.specs.Part.{stamp_of};
 use crate::change::{Stamp, push_changes};
 use crate::kept::KeptView;
 use rds_io::Lines;
-use rds_receiver::{Receive, Whys};
+use rds_receiver::{Receiver, Whys};
 
 /// Appends the line of each part that differs from the view that was shown, and keeps the receiver's view. With `whys`
 /// the line of a text or a name that is not shown any more says why.
 // Cold path: few slots change a view.
 #[inline(never)]
-pub fn show<T: Receive, const N: usize>(
+pub fn show<const N: usize>(
     stamp: Stamp,
     whys: Option<Whys>,
     shown: &mut KeptView,
-    receiver: &T,
+    receiver: &Receiver,
     lines: &mut Lines<N>,
 )
     requires { length lines.old + SLOT_ROOM ≤ N }
     ensures changes { lines.new
         ≡ lines.old ++ change (stamp_of stamp) whys (view_kept shown.old) (view_kept shown.new) }
-    ensures shows { WhereStands T.stands receiver.now (λ t input. IsView t input (view_kept shown.new)) }
+    ensures shows { WhereItStands receiver.now (λ t input. IsView t input (view_kept shown.new)) }
     ensures room { length lines.new ≤ length lines.old + SLOT_ROOM }
 {
     let now = receiver.view();

@@ -14,11 +14,12 @@ use Rattle.rds_log.specs.LogWrites.{tuned}
 use Rattle.rds_receiver.specs.OneView.{same_heard}
 use Rattle.rds_receiver.specs.Receipts.{AreHeard, Fragment, Segment, name_fragment, segments, text_fragment}
 use Rattle.rds_receiver.specs.Run.{cells_of, run, run_at}
-use Rattle.rds_receiver.specs.StandsAt.{HoldsRun, StandsAt, newest_slot}
-use Rattle.rds_receiver.specs.Stored.{receiver_stored, segments_stored}
+use Rattle.rds_receiver.specs.Holds.{HoldsRun, newest_slot}
+use Rattle.rds_receiver.specs.StandsAt.{StandsAt}
+use Rattle.rds_receiver.specs.Stored.{display_stored, receiver_stored, segments_stored}
 use Rattle.rds_receiver.specs.Tags.{pair_held}
 use Rattle.rds_receiver.specs.declared.stored.StoredReceiver.{StoredReceiver}
-use Rattle.rds_receiver.specs.declared.stored.StoredSegments.{StoredSegments}
+use Rattle.rds_receiver.specs.declared.display.StoredSegments.{StoredSegments}
 use Rattle.rds_receiver.proofs.Runs.{run_at_newest}
 use Rattle.rds_receiver.proofs.Shows.{pair_is}
 use Rattle.rds_witness.specs.Covered.{IsInputPart}
@@ -89,21 +90,21 @@ heard_part pick pi m one other input more h k part mine theirs long holds other_
 
 -- what `is_receiver_part` finds
 pub record HoldsPartOf (one other : StoredReceiver) : Type 0 where
-  pub text : HoldsPart one.text other.text
-  pub name : HoldsPart one.name other.name
-  pub pair : IsPairPart (pair_stored one.pair) (pair_stored other.pair)
-  pub known : is_set one.is_known ≡ true → is_set other.is_known ≡ true
+  pub text : HoldsPart one.display.text other.display.text
+  pub name : HoldsPart one.display.name other.display.name
+  pub pair : IsPairPart (pair_stored one.display.pair) (pair_stored other.display.pair)
+  pub known : is_set one.display.is_known ≡ true → is_set other.display.is_known ≡ true
 
 holds_itself : (s : StoredSegments) → HoldsPart s s
 holds_itself s = record { cells = λ a b held. held; newer = inr (refl, omega arith) }
 
 module _ (pi m : ℕ) (one other : StoredReceiver) (part : HoldsPartOf one other) (input more : List (Option Group)) (mine : StandsAt (tuned pi m) (receiver_stored one) input) (theirs : StandsAt (tuned pi m) (receiver_stored other) more) (long : length input ≡ length more) where
   tags_part : IsTagPart m 0 mine.heard theirs.heard
-  tags_part = (by_pair part.pair, λ is. sym theirs.holds.known ∙ part.known (mine.holds.known ∙ is))
+  tags_part = (by_pair part.pair, λ is. sym theirs.holds.display.known ∙ part.known (mine.holds.display.known ∙ is))
     where
-      by_pair : IsPairPart (pair_stored one.pair) (pair_stored other.pair) → IsPairPart (pair_held m 0 mine.heard) (pair_held m 0 theirs.heard)
-      by_pair (inl none) = inl (sym (pair_is (tuned pi m) (receiver_stored one) input mine.heard mine mine.are) ∙ none)
-      by_pair (inr same) = inr (sym (pair_is (tuned pi m) (receiver_stored one) input mine.heard mine mine.are) ∙ same ∙ pair_is (tuned pi m) (receiver_stored other) more theirs.heard theirs theirs.are)
+      by_pair : IsPairPart (pair_stored one.display.pair) (pair_stored other.display.pair) → IsPairPart (pair_held m 0 mine.heard) (pair_held m 0 theirs.heard)
+      by_pair (inl none) = inl (sym (pair_is (display_stored one.display) m 0 mine.heard mine.holds.display) ∙ none)
+      by_pair (inr same) = inr (sym (pair_is (display_stored one.display) m 0 mine.heard mine.holds.display) ∙ same ∙ pair_is (display_stored other.display) m 0 theirs.heard theirs.holds.display)
 
   pub holds_part : IsInputPart (tuned pi m) input more
   holds_part = record {
@@ -111,11 +112,11 @@ module _ (pi m : ℕ) (one other : StoredReceiver) (part : HoldsPartOf one other
     texts = λ h k heard others.
         let same = same_heard pi input h mine.heard heard mine.are in
         let same_other = same_heard pi more k theirs.heard others theirs.are in
-        rw (same, same_other) (heard_part text_fragment pi m one.text other.text input more mine.heard theirs.heard part.text mine.are theirs.are long mine.holds.text theirs.holds.text);
+        rw (same, same_other) (heard_part text_fragment pi m one.display.text other.display.text input more mine.heard theirs.heard part.text mine.are theirs.are long mine.holds.display.text theirs.holds.display.text);
     names = λ h k heard others.
         let same = same_heard pi input h mine.heard heard mine.are in
         let same_other = same_heard pi more k theirs.heard others theirs.are in
-        rw (same, same_other) (heard_part name_fragment pi m one.name other.name input more mine.heard theirs.heard part.name mine.are theirs.are long mine.holds.name theirs.holds.name);
+        rw (same, same_other) (heard_part name_fragment pi m one.display.name other.display.name input more mine.heard theirs.heard part.name mine.are theirs.are long mine.holds.display.name theirs.holds.display.name);
     tags = λ h k heard others.
         let same = same_heard pi input h mine.heard heard mine.are in
         let same_other = same_heard pi more k theirs.heard others theirs.are in
@@ -126,4 +127,4 @@ module _ (pi m : ℕ) (one other : StoredReceiver) (part : HoldsPartOf one other
 pub same_part : (pi m : ℕ) (s : StoredReceiver) (input more : List (Option Group)) → StandsAt (tuned pi m) (receiver_stored s) input → StandsAt (tuned pi m) (receiver_stored s) more → length input ≡ length more
     → IsInputPart (tuned pi m) input more
 same_part pi m s input more mine theirs long =
-    holds_part pi m s s record { text = holds_itself s.text; name = holds_itself s.name; pair = inr refl; known = λ is. is } input more mine theirs long
+    holds_part pi m s s record { text = holds_itself s.display.text; name = holds_itself s.display.name; pair = inr refl; known = λ is. is } input more mine theirs long

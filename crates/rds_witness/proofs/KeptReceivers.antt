@@ -10,6 +10,7 @@ use Rattle.rds_receiver.specs.Receipts.{AreHeard, Fragment, Tuning, name_fragmen
 use Rattle.rds_receiver.specs.Run.{run_at}
 use Rattle.rds_receiver.specs.StandsAt.{StandsAt, WhereItStands}
 use Rattle.rds_receiver.specs.Tags.{pair_held}
+use Rattle.rds_receiver.specs.Twice.{counted}
 use Rattle.rds_receiver.specs.Stored.{IsStored, receiver_stored}
 use Rattle.rds_receiver.specs.State.{ReceiverState}
 use Rattle.rds_witness.specs.Covered.{Covers, IsAt, IsCovered, IsInputPart, IsRunPart, Keeps}
@@ -35,7 +36,7 @@ input_through t r one two three stands p q = record {
   long = p.long ∙ q.long;
   texts = λ h k heard others. part_through _ _ _ (p.texts h stands.heard heard stands.are) (q.texts stands.heard k stands.are others);
   names = λ h k heard others. part_through _ _ _ (p.names h stands.heard heard stands.are) (q.names stands.heard k stands.are others);
-  tags = λ h k heard others. tags_through t.dwell t.first h stands.heard k (p.tags h stands.heard heard stands.are) (q.tags stands.heard k stands.are others);
+  tags = λ h k heard others. tags_through t.dwell t.first (counted t h) (counted t stands.heard) (counted t k) (p.tags h stands.heard heard stands.are) (q.tags stands.heard k stands.are others);
 }
 
 -- one that is kept holds all that is offered
@@ -109,7 +110,7 @@ covers_next pi m s later group input stands good covers = record {
   other = group ∷ covers.other;
   stands = stands covers.stored (tuned pi m) covers.other covers.stands;
   stored = good covers.stored;
-  part = input_next pi m group input covers.other covers.stands.holds.lasts covers.part;
+  part = input_next pi m group input covers.other covers.stands.holds.display.lasts covers.part;
 }
 
 -- what a receiver holds that got the input covers the input

@@ -8,7 +8,8 @@ use Rattle.rds_log.specs.LogWrites.{tuned}
 use Rattle.rds_receiver.specs.OneView.{same_heard}
 use Rattle.rds_receiver.specs.Receipts.{AreHeard, Segment, segments, text_fragment}
 use Rattle.rds_receiver.specs.Run.{begins_in, run, run_at, run_before}
-use Rattle.rds_receiver.specs.StandsAt.{HasAge, HasFlag, HoldsRun, StandsAt, newest_slot}
+use Rattle.rds_receiver.specs.Holds.{HasAge, HasFlag, HoldsRun, newest_slot}
+use Rattle.rds_receiver.specs.StandsAt.{StandsAt}
 use Rattle.rds_receiver.specs.State.{HeldSegments, ReceiverState}
 use Rattle.rds_receiver.proofs.Runs.{run_over, run_recent}
 use Rattle.rds_witness.specs.Lost.{got, got-more, received}
@@ -57,24 +58,24 @@ newest_flag m heard f a b held some holds =
     subst (λ (r : List Segment). HasFlag r held.flag) (run_recent m (0 + length heard) s (segments text_fragment 0 heard) (omega (arith, some))) holds.flag
 
 -- the run begins in the same slot before and after the next one
-pub same_run : (pi m : ℕ) (old new : ReceiverState) (group : Option Group) (input : List (Option Group)) → old.text.age + 1 < old.dwell → old.text.flag ≡ new.text.flag → StandsAt (tuned pi m) old input → StandsAt (tuned pi m) new (group ∷ input)
+pub same_run : (pi m : ℕ) (old new : ReceiverState) (group : Option Group) (input : List (Option Group)) → old.display.text.age + 1 < old.display.dwell → old.display.text.flag ≡ new.display.text.flag → StandsAt (tuned pi m) old input → StandsAt (tuned pi m) new (group ∷ input)
     → (h k : List (Option Message)) → AreHeard pi input h → AreHeard pi (group ∷ input) k → begins_in (run_at text_fragment m 0 h) ≡ begins_in (run_at text_fragment m 0 k)
 same_run pi m old new group input young flag was is h [] heard now = absurd now
 same_run pi m old new group input young flag was is h (x ∷ k) heard now =
     let same : was.heard ≡ h = same_heard pi input was.heard h was.are heard in
     let same_now : k ≡ h = same_heard pi input k h now.1 heard in
     let whole : is.heard ≡ x ∷ h = same_heard pi (group ∷ input) is.heard (x ∷ k) is.are now ∙ ap (λ (l : List (Option Message)). x ∷ l) same_now in
-    let held : HoldsRun m (newest_slot 0 h) (run m (newest_slot 0 h) (segments text_fragment 0 h)) old.text = subst (λ (l : List (Option Message)). HoldsRun m (newest_slot 0 l) (run m (newest_slot 0 l) (segments text_fragment 0 l)) old.text) same was.holds.text in
-    let after : HoldsRun m (0 + length h) (run m (0 + length h) (segments text_fragment 0 (x ∷ h))) new.text =
-    subst (λ (l : List (Option Message)). HoldsRun m (newest_slot 0 l) (run m (newest_slot 0 l) (segments text_fragment 0 l)) new.text) whole is.holds.text in
-    let dwell : old.dwell ≡ m = was.holds.dwell in
-    let it : Goes m h old.text.flag = goes m h old.text held (omega (arith, young, dwell)) in
-    begins_on m x h it.g it.older was.holds.lasts it.is
-    (λ f a b text. sym (newest_flag m h f a b new.text was.holds.lasts (subst (λ (y : Option Message). HoldsRun m (0 + length h) (run m (0 + length h) (segments text_fragment 0 (y ∷ h))) new.text) text after)) ∙ sym flag ∙ it.same)
+    let held : HoldsRun m (newest_slot 0 h) (run m (newest_slot 0 h) (segments text_fragment 0 h)) old.display.text = subst (λ (l : List (Option Message)). HoldsRun m (newest_slot 0 l) (run m (newest_slot 0 l) (segments text_fragment 0 l)) old.display.text) same was.holds.display.text in
+    let after : HoldsRun m (0 + length h) (run m (0 + length h) (segments text_fragment 0 (x ∷ h))) new.display.text =
+    subst (λ (l : List (Option Message)). HoldsRun m (newest_slot 0 l) (run m (newest_slot 0 l) (segments text_fragment 0 l)) new.display.text) whole is.holds.display.text in
+    let dwell : old.display.dwell ≡ m = was.holds.display.dwell in
+    let it : Goes m h old.display.text.flag = goes m h old.display.text held (omega (arith, young, dwell)) in
+    begins_on m x h it.g it.older was.holds.display.lasts it.is
+    (λ f a b text. sym (newest_flag m h f a b new.display.text was.holds.display.lasts (subst (λ (y : Option Message). HoldsRun m (0 + length h) (run m (0 + length h) (segments text_fragment 0 (y ∷ h))) new.display.text) text after)) ∙ sym flag ∙ it.same)
     ∙ ap (λ (l : List (Option Message)). begins_in (run_at text_fragment m 0 (x ∷ l))) (sym same_now)
 
 -- the same over the slots of a log
-pub same_run_of_log : (pi m n : ℕ) (log : List (Option Group)) (old new : ReceiverState) → old.text.age + 1 < old.dwell → old.text.flag ≡ new.text.flag → StandsAt (tuned pi m) old (got None log n) → StandsAt (tuned pi m) new (got None log (n + 1))
+pub same_run_of_log : (pi m n : ℕ) (log : List (Option Group)) (old new : ReceiverState) → old.display.text.age + 1 < old.display.dwell → old.display.text.flag ≡ new.display.text.flag → StandsAt (tuned pi m) old (got None log n) → StandsAt (tuned pi m) new (got None log (n + 1))
     → (h k : List (Option Message)) → AreHeard pi (got None log n) h → AreHeard pi (got None log (n + 1)) k → begins_in (run_at text_fragment m 0 h) ≡ begins_in (run_at text_fragment m 0 k)
 same_run_of_log pi m n log old new young flag was is h k heard now =
     same_run pi m old new (received None log n) (got None log n) young flag was (subst (StandsAt (tuned pi m) new) (got-more None log n) is) h k heard (subst (λ (l : List (Option Group)). AreHeard pi l k) (got-more None log n) now)

@@ -15,7 +15,7 @@ use Rattle.rds_receiver.specs.Shown.{IsNameShown, IsShown, IsTextShown, IsView, 
 use Rattle.rds_receiver.specs.Stored.{receiver_stored}
 use Rattle.rds_fields.specs.Tag.{tag_in}
 use Rattle.rds_receiver.specs.Tags.{cut_by, pair_held, tag_of}
-use Rattle.rds_receiver.specs.TwiceLemmas.{shows_all}
+use Rattle.rds_receiver.specs.Twice.{counted}
 use Rattle.rds_witness.specs.Covered.{Covers, IsCovered, IsInputPart}
 use Rattle.rds_witness.specs.Lost.{got}
 use Rattle.rds_witness.specs.Mix.{Has, IsMix, Name, Tag, Text, Thing, until}
@@ -57,25 +57,25 @@ shown_name : (cells : Cells) (shown : Option (List ℕ)) (x : List ℕ) → IsSh
 shown_name cells None x p q = absurd (p x q)
 shown_name cells (Some y) x p q = ap Some (one_name cells y x p q)
 
-module _ (t : Tuning) (one other : List (Option Group)) (part : IsInputPart t one other) (v w : ShownView) (alone : t.window ≡ None) (is : IsView t one v) (is_other : IsView t other w) where
-  view_of_one : ShowsView t.dwell t.first is.0 v
-  view_of_one = shows_all t one v alone is
+module _ (t : Tuning) (one other : List (Option Group)) (part : IsInputPart t one other) (v w : ShownView) (is : IsView t one v) (is_other : IsView t other w) where
+  view_of_one : ShowsView t.dwell t.first (counted t is.0) v
+  view_of_one = is.2
 
-  view_of_other : ShowsView t.dwell t.first is_other.0 w
-  view_of_other = shows_all t other w alone is_other
+  view_of_other : ShowsView t.dwell t.first (counted t is_other.0) w
+  view_of_other = is_other.2
 
   text_part : (x : List ℕ) → v.text ≡ Some x → w.text ≡ Some x
   text_part x has =
       let (h, are, counts) = is in
       let (k, k_are, k_counts) = is_other in
-      let shown : IsTextShown t.dwell t.first h (Some x) = subst (IsTextShown t.dwell t.first h) has view_of_one.text in
-      same_text_shown t.dwell t.first k w.text (Some x) view_of_other.text (whole_text _ _ x (part_cells _ _ (part.texts h k are k_are)) shown)
+      let shown : IsTextShown t.dwell t.first (counted t h) (Some x) = subst (IsTextShown t.dwell t.first (counted t h)) has view_of_one.text in
+      same_text_shown t.dwell t.first (counted t k) w.text (Some x) view_of_other.text (whole_text _ _ x (part_cells _ _ (part.texts h k are k_are)) shown)
 
   name_part : (x : List ℕ) → v.name ≡ Some x → w.name ≡ Some x
   name_part x has =
       let (h, are, counts) = is in
       let (k, k_are, k_counts) = is_other in
-      let shown : IsNameShown t.dwell t.first h (Some x) = subst (IsNameShown t.dwell t.first h) has view_of_one.name in
+      let shown : IsNameShown t.dwell t.first (counted t h) (Some x) = subst (IsNameShown t.dwell t.first (counted t h)) has view_of_one.name in
       shown_name _ w.name x view_of_other.name (whole_name _ _ x (part_cells _ _ (part.names h k are k_are)) shown)
 
   pub view_part : (thing : Thing) → Has v thing → Has w thing
@@ -84,19 +84,19 @@ module _ (t : Tuning) (one other : List (Option Group)) (part : IsInputPart t on
   view_part (Tag One class piece) has =
       let (h, are, counts) = is in
       let (k, k_are, k_counts) = is_other in
-      view_of_other.one ∙ cuts_again One v.text w.text (pair_held t.dwell t.first h) (pair_held t.dwell t.first k) class piece text_part (part.tags h k are k_are).0 (sym view_of_one.one ∙ has)
+      view_of_other.one ∙ cuts_again One v.text w.text (pair_held t.dwell t.first (counted t h)) (pair_held t.dwell t.first (counted t k)) class piece text_part (part.tags h k are k_are).0 (sym view_of_one.one ∙ has)
   view_part (Tag Two class piece) has =
       let (h, are, counts) = is in
       let (k, k_are, k_counts) = is_other in
-      view_of_other.two ∙ cuts_again Two v.text w.text (pair_held t.dwell t.first h) (pair_held t.dwell t.first k) class piece text_part (part.tags h k are k_are).0 (sym view_of_one.two ∙ has)
+      view_of_other.two ∙ cuts_again Two v.text w.text (pair_held t.dwell t.first (counted t h)) (pair_held t.dwell t.first (counted t k)) class piece text_part (part.tags h k are k_are).0 (sym view_of_one.two ∙ has)
 
 -- ---- the receiver that loses nothing
 
 -- it shows its own things in this slot
 own_tag : (t : Tuning) (log : List (Option Group)) (n slots : ℕ) (which : Which) (class : ℕ) (piece : List ℕ) (view : ShownView) → n < slots → (is : IsView t (got None log (n + 1)) view)
-    → tag_of which view.text (pair_held t.dwell t.first is.0) ≡ Some (class, piece) → IsTagOfRun t log slots class piece
+    → tag_of which view.text (pair_held t.dwell t.first (counted t is.0)) ≡ Some (class, piece) → IsTagOfRun t log slots class piece
 own_tag t log n slots which class piece view less is has =
-    let c = cuts which view.text (pair_held t.dwell t.first is.0) class piece has in
+    let c = cuts which view.text (pair_held t.dwell t.first (counted t is.0)) class piece has in
     record {
       slot = n;
       before = less;
@@ -110,13 +110,13 @@ own_tag t log n slots which class piece view less is has =
       cut = c.cut;
     }
 
-pub own_things : (t : Tuning) (log : List (Option Group)) (n slots : ℕ) (view : ShownView) (thing : Thing) → t.window ≡ None → n < slots → IsView t (got None log (n + 1)) view → Has view thing → IsSeenBefore t log slots thing
-own_things t log n slots view (Text x) alone less is has = record { slot = n; view = view; before = less; is = is; shows = has }
-own_things t log n slots view (Name x) alone less is has = record { slot = n; view = view; before = less; is = is; shows = has }
-own_things t log n slots view (Tag One class piece) alone less is has =
-    own_tag t log n slots One class piece view less is (sym (shows_all t (got None log (n + 1)) view alone is).one ∙ has)
-own_things t log n slots view (Tag Two class piece) alone less is has =
-    own_tag t log n slots Two class piece view less is (sym (shows_all t (got None log (n + 1)) view alone is).two ∙ has)
+pub own_things : (t : Tuning) (log : List (Option Group)) (n slots : ℕ) (view : ShownView) (thing : Thing) → n < slots → IsView t (got None log (n + 1)) view → Has view thing → IsSeenBefore t log slots thing
+own_things t log n slots view (Text x) less is has = record { slot = n; view = view; before = less; is = is; shows = has }
+own_things t log n slots view (Name x) less is has = record { slot = n; view = view; before = less; is = is; shows = has }
+own_things t log n slots view (Tag One class piece) less is has =
+    own_tag t log n slots One class piece view less is (sym is.2.one ∙ has)
+own_things t log n slots view (Tag Two class piece) less is has =
+    own_tag t log n slots Two class piece view less is (sym is.2.two ∙ has)
 
 -- ---- a slot without a mix
 
@@ -137,13 +137,13 @@ no_mix t log n slots is soon views whole receivers same_whole hold show burst th
     by_whole : Covers t (got (Some burst) log (n + 1)) whole → IsSeenBefore t log slots thing
     by_whole covers =
         let (view, here) = views n mix.place.inside in
-        own_things t log n slots view thing covers.stands.windowless soon here (view_part t (got (Some burst) log (n + 1)) (got None log (n + 1)) (same_whole (got (Some burst) log (n + 1)) (got_long (Some burst) log (n + 1)) covers) mix.new.after view covers.stands.windowless mix.new.is here thing mix.new.has)
+        own_things t log n slots view thing soon here (view_part t (got (Some burst) log (n + 1)) (got None log (n + 1)) (same_whole (got (Some burst) log (n + 1)) (got_long (Some burst) log (n + 1)) covers) mix.new.after view mix.new.is here thing mix.new.has)
 
     by_other : IsCovered t receivers (got (Some burst) log (n + 1)) → IsSeenBefore t log slots thing
     by_other covered =
         let shows : ShowsOnlySeen t log slots (receiver_stored covered.by.receiver) = All-contains (λ s. ShowsOnlySeen t log slots (receiver_stored s.receiver)) receivers covered.by show covered.is_there in
         let only = shows covered.covers.other covered.covers.stands in
-        only.seen thing (view_part t (got (Some burst) log (n + 1)) covered.covers.other covered.covers.part mix.new.after only.view covered.covers.stands.windowless mix.new.is only.is thing mix.new.has)
+        only.seen thing (view_part t (got (Some burst) log (n + 1)) covered.covers.other covered.covers.part mix.new.after only.view mix.new.is only.is thing mix.new.has)
 
 pub now_before_until : (dwell : ℕ) (log : List (Option Group)) (n : ℕ) → 0 < dwell → n < length log → n < until dwell log n
 now_before_until dwell log n some inside = by_end (nat_le (n + dwell) (length log))

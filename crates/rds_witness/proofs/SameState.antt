@@ -1,37 +1,19 @@
 -- What a receiver shows wherever it stands, and in later slots.
-use Rattle.std.proofs.Common.{◌≡◌, ◌∙◌, ◌+◌, ◌≤◌, ◌∷◌, ℕ, Bool, false, true, List, Option, ap, arith, length, refl, subst, sym}
+use Rattle.std.proofs.Common.{◌≡◌, ◌+◌, ◌≤◌, ◌∷◌, ℕ, Bool, false, true, List, Option, arith, length, refl}
 use Rattle.std.specs.Prelude.{nat_le, if◌then◌else◌}
 use Rattle.std.proofs.lemmas.Bool.Decides.{nat_tests}
 use Rattle.rds_block.specs.declared.group.Group.{Group}
-use Rattle.rds_fields.specs.declared.pair.Which.TheVariants.{One, Two}
-use Rattle.rds_assembly.specs.Cells.{Cells}
-use Rattle.rds_assembly.specs.Whole.{IsWholeName, IsWholeText}
 use Rattle.rds_receiver.specs.Receipts.{Tuning}
-use Rattle.rds_receiver.specs.Shown.{IsShown, IsView, ShownView}
+use Rattle.rds_receiver.specs.Shown.{IsView, ShownView}
 use Rattle.rds_receiver.specs.StandsAt.{StandsAt}
 use Rattle.rds_receiver.specs.State.{ReceiverState}
-use Rattle.rds_receiver.specs.Tags.{item_of, tag_of}
-use Rattle.rds_receiver.specs.TwiceLemmas.{shows_all, view_of_all}
-use Rattle.rds_receiver.proofs.Shows.{name_cells, pair_is, text_cells}
+use Rattle.rds_receiver.proofs.Alike.{alike_itself, stays_shown}
 use Rattle.rds_witness.specs.Mix.{Name, Tag, Text, Thing, until}
 use Rattle.rds_witness.specs.Search.{HasOnlySeen, IsSeenBefore, ShowsOnlySeen}
 
 -- the view of a state at two inputs
 view_at : (t : Tuning) (r : ReceiverState) (one other : List (Option Group)) (v : ShownView) → StandsAt t r one → StandsAt t r other → IsView t one v → IsView t other v
-view_at t r one other v mine theirs is =
-    let (h, are, counts) = is in
-    let view = shows_all t one v mine.windowless is in
-    let k = theirs.heard in
-    let texts = sym (text_cells t r one h mine are) ∙ text_cells t r other k theirs theirs.are in
-    let names = sym (name_cells t r one h mine are) ∙ name_cells t r other k theirs theirs.are in
-    let pairs = sym (pair_is t r one h mine are) ∙ pair_is t r other k theirs theirs.are in
-    view_of_all t other k v theirs.windowless theirs.are record {
-      text = subst (λ (cells : Cells). IsShown IsWholeText cells v.text) texts view.text;
-      name = subst (λ (cells : Cells). IsShown IsWholeName cells v.name) names view.name;
-      item = view.item ∙ ap (item_of v.text) pairs;
-      one = view.one ∙ ap (tag_of One v.text) pairs;
-      two = view.two ∙ ap (tag_of Two v.text) pairs;
-    }
+view_at t r one other v mine theirs = stays_shown t r r one other v mine theirs (alike_itself r.display)
 
 only_everywhere : (t : Tuning) (log : List (Option Group)) (n : ℕ) (r : ReceiverState) (input : List (Option Group)) → StandsAt t r input → HasOnlySeen t log n input → ShowsOnlySeen t log n r
 only_everywhere t log n r input stands only other there = record { view = only.view; is = view_at t r input other only.view stands there only.is; seen = only.seen }

@@ -8,6 +8,7 @@ use Rattle.rds_receiver.specs.Receipts.{AreHeard, Fragment, Tuning, name_fragmen
 use Rattle.rds_receiver.specs.Run.{run_at}
 use Rattle.rds_receiver.specs.StandsAt.{StandsAt}
 use Rattle.rds_receiver.specs.Stored.{IsStored, receiver_stored}
+use Rattle.rds_receiver.specs.Twice.{counted}
 use Rattle.rds_witness.specs.Part.{IsPart, IsTagPart}
 use Rattle.rds_witness.specs.declared.covering.Lossy.{Lossy}
 
@@ -15,7 +16,7 @@ use Rattle.rds_witness.specs.declared.covering.Lossy.{Lossy}
 abbrev pub IsRunPart : (Message → Option Fragment) → Tuning → List (Option Group) → List (Option Group) → Type 0
 IsRunPart pick t one other =
     (h k : List (Option Message)) → AreHeard t.programme one h → AreHeard t.programme other k
-    → IsPart (run_at pick t.dwell t.first h) (run_at pick t.dwell t.first k)
+    → IsPart (run_at pick t.dwell t.first (counted t h)) (run_at pick t.dwell t.first (counted t k))
 
 -- the inputs have as many slots, and what a receiver holds after the first is a part of what one holds after the second
 pub record IsInputPart (t : Tuning) (one other : List (Option Group)) : Type 0 where
@@ -23,7 +24,7 @@ pub record IsInputPart (t : Tuning) (one other : List (Option Group)) : Type 0 w
   pub texts : IsRunPart text_fragment t one other
   pub names : IsRunPart name_fragment t one other
   pub tags : (h k : List (Option Message)) → AreHeard t.programme one h → AreHeard t.programme other k
-      → IsTagPart t.dwell t.first h k
+      → IsTagPart t.dwell t.first (counted t h) (counted t k)
 
 -- the stored receiver stands at the end of an input of n slots
 pub record IsAt (t : Tuning) (n : ℕ) (s : Lossy) : Type 0 where

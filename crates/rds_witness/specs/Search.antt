@@ -12,6 +12,7 @@ use Rattle.rds_receiver.specs.State.{ReceiverState}
 use Rattle.rds_receiver.specs.Stored.{IsStored, receiver_stored}
 use Rattle.rds_fields.specs.Tag.{tag_in}
 use Rattle.rds_receiver.specs.Tags.{cut_by, pair_held}
+use Rattle.rds_receiver.specs.Twice.{counted}
 use Rattle.rds_witness.specs.Covered.{IsAt, IsCovered}
 use Rattle.rds_witness.specs.Lost.{got}
 use Rattle.rds_witness.specs.Mix.{Has, IsMix, Name, Shows, Tag, Text, Thing, until}
@@ -32,8 +33,9 @@ pub record IsOfRun (t : Tuning) (log : List (Option Group)) (n : ℕ) (pair : Pa
   pub new : List (Option Message)
   pub were : AreHeard t.programme (got None log (slot + 1)) old
   pub are : AreHeard t.programme (got None log n) new
-  pub held : pair_held t.dwell t.first old ≡ Some pair
-  pub same : begins_in (run_at text_fragment t.dwell t.first old) ≡ begins_in (run_at text_fragment t.dwell t.first new)
+  pub held : pair_held t.dwell t.first (counted t old) ≡ Some pair
+  pub same : begins_in (run_at text_fragment t.dwell t.first (counted t old))
+      ≡ begins_in (run_at text_fragment t.dwell t.first (counted t new))
 
 -- a receiver that loses nothing shows a text in one of the first n slots, and a pair of tags of its run of texts, which
 -- may have been replaced, makes the tag of this text

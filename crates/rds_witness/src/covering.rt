@@ -109,9 +109,10 @@ fn is_pair_part(one: &StoredPair, other: &StoredPair) -> bool
 
 /// Returns whether the first receiver does not know RadioText Plus, or the second one knows it too.
 fn is_known_part(one: &StoredReceiver, other: &StoredReceiver) -> bool
-    ensures { IsTrue result → is_set one.now.is_known ≡ true → is_set other.now.is_known ≡ true }
+    ensures { IsTrue result → is_set one.now.display.is_known ≡ true
+        → is_set other.now.display.is_known ≡ true }
 {
-    one.is_known == 0 || other.is_known != 0
+    one.display.is_known == 0 || other.display.is_known != 0
 }
 
 /// Returns whether the first receiver holds a part of what the second one holds, if both heard as many slots.
@@ -124,10 +125,11 @@ pub(crate) fn is_receiver_part(one: &StoredReceiver, other: &StoredReceiver) -> 
     if !is_known_part(one, other) {
         return false;
     }
-    if !is_pair_part(&one.pair, &other.pair) {
+    if !is_pair_part(&one.display.pair, &other.display.pair) {
         return false;
     }
-    is_part(&one.text, &other.text) && is_part(&one.name, &other.name)
+    is_part(&one.display.text, &other.display.text)
+        && is_part(&one.display.name, &other.display.name)
 }
 
 /// Returns the receiver one slot later. `lost` is the number of the slot if the receiver lost it.

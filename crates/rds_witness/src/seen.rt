@@ -112,12 +112,12 @@ fn is_of_pair(pair: Option<TagPair>, text: Option<&[u8]>, class: u8, piece: &[u8
 
 /// Returns whether the run of texts of a receiver goes on in the next slot.
 fn goes_on(old: &StoredReceiver, new: &StoredReceiver) -> bool
-    ensures age { IsTrue result → old.now.text.age + 1 < old.now.dwell }
-    ensures flag { IsTrue result → is_set old.now.text.flag ≡ is_set new.now.text.flag }
+    ensures age { IsTrue result → old.now.display.text.age + 1 < old.now.display.dwell }
+    ensures flag { IsTrue result → is_set old.now.display.text.flag ≡ is_set new.now.display.text.flag }
 {
-    let flag = old.text.flag != 0;
-    let new_flag = new.text.flag != 0;
-    flag == new_flag && u32::from(old.text.age) + 1 < u32::from(old.dwell)
+    let flag = old.display.text.flag != 0;
+    let new_flag = new.display.text.flag != 0;
+    flag == new_flag && u32::from(old.display.text.age) + 1 < u32::from(old.display.dwell)
 }
 
 impl Seen {

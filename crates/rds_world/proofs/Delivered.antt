@@ -18,7 +18,7 @@ use Rattle.rds_world.specs.declared.event.Command.TheVariants as command
 use Rattle.rds_world.specs.declared.event.Reception.{Reception}
 use Rattle.rds_world.specs.declared.event.Reception.TheVariants.{Got, Lost, Wrong}
 use Rattle.rds_world.specs.declared.event.Reception.TheVariants as reception
-use Rattle.rds_world.specs.declared.any_receiver.ReceiverKind.TheVariants.{WithDwell}
+use Rattle.rds_world.specs.declared.receiver_kind.ReceiverKind.TheVariants.{WithDwell}
 use Rattle.rds_world.specs.Delivery.{ANameIsDelivered, AStationDeliversAName, AStationDeliversAText, AStationDeliversAnyText, ATextIsDelivered, AnyTextIsDelivered, GetsEachFree, GetsIfFree, GotOfStation, GotRecently, LieIn, LieInBroadcast, free_slots}
 use Rattle.rds_world.specs.Event.{Event}
 use Rattle.rds_world.specs.Slots.{commanded, entries, input_of, log, plans_of, received}

@@ -8,11 +8,11 @@ use Rattle.rds_encoder.specs.Sent.{IsSent}
 use Rattle.rds_receiver.specs.Receipts.{Hears}
 use Rattle.rds_receiver.specs.OneView.{same_heard}
 use Rattle.rds_receiver.specs.Shown.{IsView, ShowsView}
-use Rattle.rds_receiver.specs.Receive.{GoesOn, KeepsViews}
+use Rattle.rds_receiver.specs.StandsAt.{KeepsView, TakesSlot}
 use Rattle.rds_receiver.specs.Twice.{counted}
 use Rattle.rds_safety.specs.Late.{Input}
-use Rattle.rds_world.specs.AnyReceiver.{StandsAny, dwell_of}
-use Rattle.rds_world.specs.declared.any_receiver.AnyReceiver.{AnyReceiver}
+use Rattle.rds_world.specs.ReceiverKind.{dwell_of}
+use Rattle.rds_receiver.specs.State.{ReceiverState}
 use Rattle.rds_world.specs.StandsAt.{HasHeard, IsNew, StaysShown, tuned_to}
 use Rattle.rds_world.specs.declared.world.Config.{Config}
 
@@ -27,8 +27,8 @@ abbrev input_from : ℕ → List (Option Message) → List (Option ℕ) → Inpu
 input_from first heard origins = record { first = first; heard = heard; origins = origins }
 
 -- one more group was handled, so one more entry was heard
-pub hears_more : (config : Config) (input : Input) (old new : AnyReceiver) (group : Option Group) (heard : Option Message) (origin : Option ℕ)
-    → Hears config.head.pi group heard → GoesOn StandsAny old new group
+pub hears_more : (config : Config) (input : Input) (old new : ReceiverState) (group : Option Group) (heard : Option Message) (origin : Option ℕ)
+    → Hears config.head.pi group heard → TakesSlot old new group
     → HasHeard config input old → HasHeard config (input_from input.first (heard ∷ input.heard) (origin ∷ input.origins)) new
 hears_more config input old new group heard origin hears goes_on has = record {
   groups = group ∷ has.groups;
@@ -37,8 +37,8 @@ hears_more config input old new group heard origin hears goes_on has = record {
 }
 
 -- one more group was handled, and the view did not change
-pub stays_shown : (config : Config) (input : Input) (old : AnyReceiver) (group : Option Group) (heard : Option Message) (origin : Option ℕ)
-    → Hears config.head.pi group heard → KeepsViews StandsAny old group
+pub stays_shown : (config : Config) (input : Input) (old : ReceiverState) (group : Option Group) (heard : Option Message) (origin : Option ℕ)
+    → Hears config.head.pi group heard → KeepsView old group
     → HasHeard config input old → StaysShown config input (input_from input.first (heard ∷ input.heard) (origin ∷ input.origins))
 stays_shown config input old group heard origin hears stays has view shown =
     let (other, are, shows) = shown.is in
@@ -50,7 +50,7 @@ stays_shown config input old group heard origin hears stays has view shown =
       is = stays view (tuned_to config input) has.groups has.stands by_own;
     }
 
-pub heard_nothing : (config : Config) (first : ℕ) (r : AnyReceiver) → IsNew config r
+pub heard_nothing : (config : Config) (first : ℕ) (r : ReceiverState) → IsNew config r
     → HasHeard config (input_from first [] []) r
 heard_nothing config first r begins = record { groups = []; spelled = tt; stands = begins first }
 

@@ -8,9 +8,9 @@ use Rattle.rds_receiver.specs.OneView.{same_heard}
 use Rattle.rds_receiver.specs.Receipts.{Tuning}
 use Rattle.rds_receiver.specs.Shown.{IsView, ShowsView, ShownView}
 use Rattle.rds_receiver.specs.Twice.{counted_in}
-use Rattle.rds_world.specs.AnyReceiver.{dwell_of, window_of}
-use Rattle.rds_world.specs.declared.any_receiver.AnyReceiver.{AnyReceiver}
-use Rattle.rds_world.specs.declared.any_receiver.ReceiverKind.TheVariants.{WithDwell}
+use Rattle.rds_world.specs.ReceiverKind.{dwell_of, window_of}
+use Rattle.rds_receiver.specs.State.{ReceiverState}
+use Rattle.rds_world.specs.declared.receiver_kind.ReceiverKind.TheVariants.{WithDwell}
 use Rattle.rds_world.specs.Due.{AreDue}
 use Rattle.rds_world.specs.Event.{Event}
 use Rattle.rds_world.specs.Premise.{counted_input, lateness_in}
@@ -43,7 +43,7 @@ tuned_alike config input kind = λ i. record {
 }
 
 -- the view of a receiver is that of what counts of its input
-pub shows_view : (config : Config) (input : Input) (r : AnyReceiver) (view : ShownView) → config.kind ≡ WithDwell → HasHeard config input r → Shows r view
+pub shows_view : (config : Config) (input : Input) (r : ReceiverState) (view : ShownView) → config.kind ≡ WithDwell → HasHeard config input r → Shows r view
     → ShowsView config.dwell input.first (counted_in config.premise.window config.dwell input.first input.heard) view
 shows_view config input r view kind has shows =
     let v = subst (λ (t : Tuning). IsView t has.groups view) (tuned_alike config input kind) (shows (tuned_to config input) has.groups has.stands) in
@@ -68,7 +68,7 @@ listens_in (Some w) k m t log input view heard keeps now shows = record {
   shows = shows;
 }
 
-pub listens : (config : Config) (e : Event) (before : List Event) (i : ℕ) (r : AnyReceiver) (view : ShownView)
+pub listens : (config : Config) (e : Event) (before : List Event) (i : ℕ) (r : ReceiverState) (view : ShownView)
     → config.kind ≡ WithDwell → AreDue config.premise.late (e ∷ before) → AreFit config.premise.window (e ∷ before) → HasHeard config (input_of (distance config) i (e ∷ before)) r → Shows r view
     → ListensIn config.premise.window config.premise.late config.dwell (length before) (log (distance config) (e ∷ before)) record { input = input_that_counts config i (e ∷ before); view = view }
 listens config e before i r view kind due fit has shows =
@@ -76,9 +76,9 @@ listens config e before i r view kind due fit has shows =
     listens_in config.premise.window config.premise.late config.dwell (length before) (log (distance config) (e ∷ before)) input view
     (in_time (distance config) config.premise.late i (e ∷ before) due) (keeps_premise (distance config) i config.premise.window (e ∷ before) fit) (input_reaches (distance config) i (e ∷ before) ∙ omega arith) (shows_view config input r view kind has shows)
 
-all_listen : (config : Config) (e : Event) (before : List Event) (i : ℕ) (receivers : List AnyReceiver) (views : List ShownView) → config.kind ≡ WithDwell → AreDue config.premise.late (e ∷ before)
+all_listen : (config : Config) (e : Event) (before : List Event) (i : ℕ) (receivers : List ReceiverState) (views : List ShownView) → config.kind ≡ WithDwell → AreDue config.premise.late (e ∷ before)
     → AreFit config.premise.window (e ∷ before)
-    → ((n : ℕ) (r : AnyReceiver) → slice_get receivers n ≡ Some r → HasHeard config (input_of (distance config) (i + n) (e ∷ before)) r) → AllZip Shows receivers views
+    → ((n : ℕ) (r : ReceiverState) → slice_get receivers n ≡ Some r → HasHeard config (input_of (distance config) (i + n) (e ∷ before)) r) → AllZip Shows receivers views
     → AllByRecursion (ListensIn config.premise.window config.premise.late config.dwell (length before) (log (distance config) (e ∷ before))) (listeners config (e ∷ before) i views)
 all_listen config e before i [] [] kind due fit has shows = tt
 all_listen config e before i [] (view ∷ views) kind due fit has shows = absurd shows

@@ -12,8 +12,8 @@ use Rattle.rds_encoder.specs.Sent.{one_if, sent_log}
 use Rattle.rds_receiver.specs.Shown.{ShownView}
 use Rattle.rds_safety.specs.Late.{CameFrom}
 use Rattle.rds_safety.specs.Safe.{Listener, ListensTo}
-use Rattle.rds_world.specs.declared.any_receiver.ReceiverKind.TheVariants.{WithDwell}
-use Rattle.rds_world.specs.declared.any_receiver.AnyReceiver.{AnyReceiver}
+use Rattle.rds_world.specs.declared.receiver_kind.ReceiverKind.TheVariants.{WithDwell}
+use Rattle.rds_receiver.specs.State.{ReceiverState}
 use Rattle.rds_world.specs.declared.event.Reception.{Reception}
 use Rattle.rds_world.specs.declared.event.Reception.TheVariants.{Got, Lost, Wrong, Restart}
 use Rattle.rds_world.specs.Event.{Event}
@@ -60,7 +60,7 @@ pub record GotRecently (config : Config) (recent before : List Event) (view : Sh
   pub stands : StandsAt config world (recent ++ before)
   pub within : length recent ≤ config.dwell
   pub number : ℕ
-  pub receiver : AnyReceiver
+  pub receiver : ReceiverState
   pub there : slice_get world.receivers number ≡ Some receiver
   pub got : GetsEachFree number recent
   pub shows : Shows receiver view

@@ -3,7 +3,7 @@
 -- a station to receivers with the flag bit alone.
 pub mod Event
 pub mod Premise
-pub mod AnyReceiver
+pub mod ReceiverKind
 pub mod Due
 pub mod Wrong
 pub mod Slots

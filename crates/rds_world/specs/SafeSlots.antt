@@ -4,8 +4,8 @@ use Rattle.std.specs.List.{AllZip}
 use Rattle.rds_receiver.specs.Shown.{ShownView}
 use Rattle.rds_world.specs.Event.{Event}
 use Rattle.rds_world.specs.Premise.{counted_input}
-use Rattle.rds_world.specs.declared.any_receiver.AnyReceiver.{AnyReceiver}
-use Rattle.rds_world.specs.declared.any_receiver.ReceiverKind.TheVariants.{WithDwell}
+use Rattle.rds_receiver.specs.State.{ReceiverState}
+use Rattle.rds_world.specs.declared.receiver_kind.ReceiverKind.TheVariants.{WithDwell}
 use Rattle.rds_safety.specs.Late.{Input}
 use Rattle.rds_safety.specs.Safe.{AreSafe, Listener}
 use Rattle.rds_world.specs.Slots.{input_of, log, plans_of}
@@ -30,7 +30,7 @@ listeners config events i (view ∷ views) =
 -- newest slot, each text or name that these receivers show was on air in one of the last d slots, the tags shown were
 -- sent for the text shown, and any two receivers show one broadcast or two that follow each other. Here d is M + K, and
 -- M + K + W - 1 for receivers with a window of W slots.
-abbrev pub OnlyWhatWasOnAirIsShown : Config → List Event → List AnyReceiver → Type 0
+abbrev pub OnlyWhatWasOnAirIsShown : Config → List Event → List ReceiverState → Type 0
 OnlyWhatWasOnAirIsShown config [] receivers = Unit {0}
 OnlyWhatWasOnAirIsShown config (newest ∷ before) receivers =
     config.kind ≡ WithDwell → (views : List ShownView) → AllZip Shows receivers views

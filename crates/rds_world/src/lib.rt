@@ -5,11 +5,11 @@
 //! the last d slots: M + K slots, or M + K + W - 1 if the receivers have a window of W slots.
 #![tactic(auto)]
 
-mod any_receiver;
 mod event;
 mod past;
 mod premise;
 mod reach;
+mod receiver_kind;
 mod receivers;
 mod recent;
 mod reply;
@@ -18,9 +18,9 @@ mod station;
 mod station_laws;
 mod world;
 
-pub use any_receiver::{AnyReceiver, ReceiverKind};
 pub use event::{Command, MOST_RECEIVERS, Reception, SlotEvent};
 pub use premise::Premise;
+pub use receiver_kind::ReceiverKind;
 pub use reply::{Answer, Reply, StepRefused, WorldRefused};
 pub use slots::{PlayRefused, play};
 pub use station_laws::{

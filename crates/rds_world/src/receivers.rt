@@ -12,14 +12,14 @@ ghost use Rattle.rds_world.specs.StandsAt.{AllHaveHeard, AreLastSent, HasHeard, 
 ghost use Rattle.rds_world.specs.StandsAt.{StaysShown, WhereTheyListen, all_received};
 
 use crate::recent::Recent;
-use crate::{AnyReceiver, Config, MOST_RECEIVERS, Reception};
+use crate::{Config, MOST_RECEIVERS, Reception};
 use rds_block::{Blocks, Group};
 use rds_fields::{Head, Message};
-use rds_receiver::Receive;
+use rds_receiver::Receiver;
 
 /// Makes eight receivers that have heard nothing yet.
 // Prover: all eight are written out, without `array::from_fn` (docs/PROVER.md, "Workarounds").
-pub(crate) fn eight_receivers(config: &Config) -> [AnyReceiver; MOST_RECEIVERS]
+pub(crate) fn eight_receivers(config: &Config) -> [Receiver; MOST_RECEIVERS]
     ensures new { AllByRecursion (IsNew config.now) result }
     ensures some { 0 < config.now.dwell }
 {
@@ -36,19 +36,19 @@ pub(crate) fn eight_receivers(config: &Config) -> [AnyReceiver; MOST_RECEIVERS]
 }
 
 /// Makes a receiver that has heard nothing yet.
-fn new_receiver(config: &Config) -> AnyReceiver
+fn new_receiver(config: &Config) -> Receiver
     ensures new { IsNew config.now result }
     ensures some { 0 < config.now.dwell }
 {
     let kind = config.kind;
     let dwell = kind.dwell(config.dwell);
-    AnyReceiver::new(config.head.pi, dwell, kind.window(config.premise.window()))
+    Receiver::tuned(config.head.pi, dwell, kind.window(config.premise.window()))
 }
 
 /// Gives each receiver its reception of a slot from the recent groups. Returns a mark for each: if it is true, the
 /// view of that receiver did not change.
 pub(crate) fn hand_out(
-    receivers: &mut [AnyReceiver],
+    receivers: &mut [Receiver],
     config: &Config,
     receptions: &[Reception],
     recent: &Recent,
@@ -76,7 +76,7 @@ pub(crate) fn hand_out(
 
 /// Gives one receiver its reception of a slot. If it returns true, the view did not change.
 fn receive(
-    receiver: &mut AnyReceiver,
+    receiver: &mut Receiver,
     config: &Config,
     reception: Reception,
     recent: &Recent,

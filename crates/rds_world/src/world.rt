@@ -20,13 +20,13 @@ use crate::receivers::{eight_receivers, hand_out};
 use crate::recent::Recent;
 use crate::station::{new_encoder, obey};
 use crate::{
-    Answer, AnyReceiver, MOST_RECEIVERS, Premise, ReceiverKind, SlotEvent, StepRefused,
-    WorldRefused, only_what_was_on_air_is_shown,
+    Answer, MOST_RECEIVERS, Premise, ReceiverKind, SlotEvent, StepRefused, WorldRefused,
+    only_what_was_on_air_is_shown,
 };
 use rds_block::Blocks;
 use rds_encoder::Encoder;
 use rds_fields::{Dwell, Head};
-use rds_receiver::View;
+use rds_receiver::{Receiver, View};
 use std::alloc::Global;
 use std::marker::Model;
 
@@ -48,7 +48,7 @@ pub struct Config {
 pub struct World {
     config: Config,
     encoder: Encoder,
-    receivers: [AnyReceiver; MOST_RECEIVERS],
+    receivers: [Receiver; MOST_RECEIVERS],
     stays: [bool; MOST_RECEIVERS],
     reaches: [Reach; MOST_RECEIVERS],
     pasts: Vec<Past>,
@@ -59,13 +59,13 @@ pub struct World {
 impl Model for World {
     ghost use Rattle.std.specs.Prelude.{◌≡◌, ◌≤◌, ◌+◌, length, take};
     ghost use Rattle.std.specs.Coded.{codes};
-    ghost use Rattle.rds_receiver.specs.Codes.{receiver_code, twice_code};
+    ghost use Rattle.rds_receiver.specs.Codes.{receiver_code};
     ghost use Rattle.rds_world.specs.State.{WorldState};
     ghost use Rattle.rds_world.specs.declared.event.TheConstants.{MOST_RECEIVERS};
 
     ghost Value = { WorldState };
 
-    ghost coded = { Prim.hlevel (codes, receiver_code, twice_code) };
+    ghost coded = { Prim.hlevel (codes, receiver_code) };
 
     ghost view = { λ w. record {
       config = w.config;
@@ -185,7 +185,7 @@ impl World {
     }
 
     /// Returns receiver i, counted from 0, borrowed from the world. `None` if there are no more than i receivers.
-    pub fn receiver(&self, i: usize) -> Option<&AnyReceiver>
+    pub fn receiver(&self, i: usize) -> Option<&Receiver>
         ensures there { IsSome result ↔ (i < length self.now.receivers) }
         ensures same { option_copied result ≡ slice_get self.now.receivers i }
         ensures heard { WhereItStands self.now (λ config events.

@@ -10,11 +10,10 @@ use Rattle.rds_log.specs.Inside.ViewLines.{ViewsStandAt}
 use Rattle.rds_log.specs.declared.decoder.Decoder.{Decoder}
 
 -- the decoder took these lines; a part of their output was written, and the rest waits
-pub record HasDecoded {R : Type 0} (Stands : Tuning → R → List (Option Group) → Type 0) (why : Bool) (t : Tuning)
-    (d : Decoder R) (w : Traffic) (lines : List Line) : Type 0 where
+pub record HasDecoded (why : Bool) (t : Tuning) (d : Decoder) (w : Traffic) (lines : List Line) : Type 0 where
   pub slots : List (Option Group)
   pub say : AreSlots lines slots
   pub written : List ℕ
-  pub views : ViewsStandAt Stands why t d.views slots (written ++ d.output)
+  pub views : ViewsStandAt why t d.views slots (written ++ d.output)
   pub wrote : Appends w.before w.after written
   pub calm : IsCalm w

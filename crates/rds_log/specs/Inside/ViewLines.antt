@@ -2,15 +2,16 @@
 use Rattle.std.specs.Prelude.{◌≡◌, ◌++◌, ◌∷◌, ℕ, Bool, List, Option, length}
 use Rattle.rds_block.specs.declared.group.Group.{Group}
 use Rattle.rds_receiver.specs.Receipts.{Tuning}
+use Rattle.rds_receiver.specs.StandsAt.{StandsAt}
 use Rattle.rds_view_lines.specs.Output.{Display, changes_of, newest}
 use Rattle.rds_log.specs.LogWrites.{AreDisplays}
 use Rattle.rds_view_lines.specs.KeptView.{view_kept}
 use Rattle.rds_log.specs.declared.decoder.ViewLines.{ViewLines}
 
--- a receiver of this kind handled these slots, and their output is the changes of their displays
-pub record ViewsStandAt {R : Type 0} (Stands : Tuning → R → List (Option Group) → Type 0) (why : Bool) (t : Tuning)
-    (v : ViewLines R) (slots : List (Option Group)) (written : List ℕ) : Type 0 where
-  pub receiver : Stands t v.receiver slots
+-- the receiver handled these slots, and their output is the changes of their displays
+pub record ViewsStandAt (why : Bool) (t : Tuning) (v : ViewLines) (slots : List (Option Group))
+    (written : List ℕ) : Type 0 where
+  pub receiver : StandsAt t v.receiver slots
   pub says_why : v.says_why ≡ why
   pub displays : List Display
   pub are : AreDisplays why t slots displays
@@ -19,9 +20,7 @@ pub record ViewsStandAt {R : Type 0} (Stands : Tuning → R → List (Option Gro
   pub changes : written ≡ changes_of displays
 
 -- a slot with this group appends the changes of its display
-abbrev pub GivesChange : {R : Type 0} → (Tuning → R → List (Option Group) → Type 0) → ViewLines R → ViewLines R
-    → Option Group → List ℕ → List ℕ → Type 0
-GivesChange Stands old new group before after =
-    (why : Bool) (t : Tuning) (slots : List (Option Group)) (written : List ℕ)
-    → ViewsStandAt Stands why t old slots written
-    → (added : List ℕ) × (after ≡ before ++ added) × ViewsStandAt Stands why t new (group ∷ slots) (written ++ added)
+abbrev pub GivesChange : ViewLines → ViewLines → Option Group → List ℕ → List ℕ → Type 0
+GivesChange old new group before after =
+    (why : Bool) (t : Tuning) (slots : List (Option Group)) (written : List ℕ) → ViewsStandAt why t old slots written
+    → (added : List ℕ) × (after ≡ before ++ added) × ViewsStandAt why t new (group ∷ slots) (written ++ added)

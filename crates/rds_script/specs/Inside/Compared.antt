@@ -10,7 +10,7 @@ use Rattle.rds_world.specs.Event.{Event}
 use Rattle.rds_world.specs.Slots.{input_of}
 use Rattle.rds_world.specs.StandsAt.{IsViewOfInput}
 use Rattle.rds_world.specs.State.{distance}
-use Rattle.rds_world.specs.declared.any_receiver.ReceiverKind.TheVariants.{FlagAlone, WithDwell}
+use Rattle.rds_world.specs.declared.receiver_kind.ReceiverKind.TheVariants.{FlagAlone, WithDwell}
 use Rattle.rds_world.specs.declared.world.Config.{Config}
 use Rattle.rds_script.specs.OnAir.{airings, airs}
 use Rattle.rds_script.specs.Outcomes.{air_lines, compared_lines, view_at}

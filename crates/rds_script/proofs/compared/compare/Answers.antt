@@ -1,6 +1,6 @@
 use Rattle.std.proofs.Common.{◌∙◌, ◌∷◌, ◌++◌, [], Option, ap, length, map, subst, sym}
 use Rattle.rds_view_lines.specs.KeptView.{view_kept}
-use Rattle.rds_world.specs.declared.any_receiver.ReceiverKind.{ReceiverKind}
+use Rattle.rds_world.specs.declared.receiver_kind.ReceiverKind.{ReceiverKind}
 use Rattle.rds_script.specs.Inside.Compared.{IsCompared}
 use Rattle.rds_script.specs.Outcomes.{air_lines, if_alone}
 use Rattle.rds_script.specs.declared.compared.Compared.{Compared}

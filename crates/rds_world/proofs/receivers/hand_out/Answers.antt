@@ -3,7 +3,7 @@ use Rattle.std.specs.Prelude.{slice_get, slice_index_or, slice_set}
 use Rattle.std.proofs.lemmas.Bool.{cases_lt}
 use Rattle.std.proofs.lemmas.List.{get_or_default, length-set}
 use Rattle.std.proofs.lemmas.Option.{slice_get_read, slice_get_within}
-use Rattle.rds_world.specs.declared.any_receiver.AnyReceiver.{AnyReceiver}
+use Rattle.rds_receiver.specs.State.{ReceiverState}
 use Rattle.rds_world.specs.declared.event.Reception.TheVariants.{Lost}
 use Rattle.rds_world.specs.declared.event.Reception.{Reception}
 use Rattle.rds_world.specs.Due.{IsDue}
@@ -53,7 +53,7 @@ loop-i-preserved c =
             let has = c.receive.ensures.heard slot sent (inputs i) (last i) kept (subst (λ (x : Reception). IsDue c.args.config.now.premise.late slot (last i) x) told (due i)) (rw (← c.index-receivers-i.is) old) in
             let same : new ≡ r = written rs i new r (subst (λ n. slice_get (slice_set rs i new) n ≡ Some r) here e) in
             subst (λ n. HasHeard config (received (slice_index_or c.args.receptions.now n Lost) slot sent (inputs n)) r) (sym here)
-            (subst (λ (x : AnyReceiver). HasHeard config (received (slice_index_or c.args.receptions.now i Lost) slot sent (inputs i)) x) same
+            (subst (λ (x : ReceiverState). HasHeard config (received (slice_index_or c.args.receptions.now i Lost) slot sent (inputs i)) x) same
             (subst (λ (x : Reception). HasHeard config (received x slot sent (inputs i)) new) (sym told) has))
             )
       ];

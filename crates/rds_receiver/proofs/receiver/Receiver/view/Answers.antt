@@ -1,11 +1,8 @@
-use Rattle.std.proofs.Common.{subst}
-use Rattle.rds_receiver.specs.Borrowed.{view_of}
-use Rattle.rds_receiver.specs.Shown.{IsView}
-use Rattle.rds_receiver.specs.StandsAt.{WhereItStands}
-use Rattle.rds_receiver.specs.State.{ReceiverState}
+use Rattle.rds_receiver.specs.Twice.{counted}
+use Rattle.rds_receiver.proofs.Shows.{shows_counted}
 use Rattle.rds_receiver.proofs.receiver.Receiver.view.Goals as goal
 
 pub returns : goal.returns
-returns c =
-    subst (λ (r : ReceiverState). WhereItStands r (λ t input. IsView t input (view_of c.view.result))) c.self.view_is
-    (c.view.ensures c.self.invariant)
+returns c t input s =
+    let at = rw (← c.self.view_is) at s in
+    (at.heard, at.are, c.view.ensures c.self.invariant.display t.dwell t.first (counted t at.heard) (shows_counted t _ input at))

@@ -1,7 +1,6 @@
-use Rattle.std.proofs.Common.{ap, ◌∙◌, sym}
-use Rattle.rds_receiver.specs.NotShown.{whys_in}
-use Rattle.rds_receiver.specs.StandsAt.{newest_slot}
-use Rattle.rds_receiver.specs.TwiceLemmas.{all_counts}
+use Rattle.rds_receiver.specs.Holds.{newest_slot}
+use Rattle.rds_receiver.specs.Twice.{counted}
+use Rattle.rds_receiver.proofs.Shows.{shows_counted}
 use Rattle.rds_receiver.proofs.receiver.Receiver.whys.Goals as goal
 
 pub returns : goal.returns
@@ -9,6 +8,5 @@ returns c t input s =
     let at = rw (← c.self.view_is) at s in (
       at.heard,
       at.are,
-      c.whys.ensures t.dwell (newest_slot t.first at.heard) t.first at.heard at.holds
-          ∙ ap (λ heard. whys_in t.dwell (newest_slot t.first heard) t.first heard) (sym (all_counts t at.heard at.windowless)),
+      c.whys.ensures t.dwell (newest_slot t.first (counted t at.heard)) t.first (counted t at.heard) (shows_counted t _ input at),
     )

@@ -6,7 +6,7 @@ use Rattle.rds_world.specs.Event.{Event}
 use Rattle.rds_world.specs.Replies.{reply_at}
 use Rattle.rds_world.specs.Slots.{entries}
 use Rattle.rds_world.specs.State.{distance}
-use Rattle.rds_world.specs.declared.any_receiver.ReceiverKind.TheVariants.{FlagAlone}
+use Rattle.rds_world.specs.declared.receiver_kind.ReceiverKind.TheVariants.{FlagAlone}
 use Rattle.rds_world.specs.declared.reply.Reply.{Reply}
 use Rattle.rds_world.specs.declared.world.Config.{Config}
 use Rattle.rds_script.specs.Notes.{first_of, wait_of}

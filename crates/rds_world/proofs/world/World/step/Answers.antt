@@ -4,7 +4,7 @@ use Rattle.circular_buffer.specs.Buffer.{Buffer}
 use Rattle.std.proofs.Math.Seq.{take-append_seam}
 use Rattle.rds_block.specs.declared.group.Group.{Group}
 use Rattle.rds_fields.specs.declared.message.Message.{Message}
-use Rattle.rds_world.specs.declared.any_receiver.AnyReceiver.{AnyReceiver}
+use Rattle.rds_receiver.specs.State.{ReceiverState}
 use Rattle.rds_world.specs.declared.event.Reception.{Reception}
 use Rattle.rds_world.specs.declared.event.Reception.TheVariants.{Lost}
 use Rattle.rds_world.specs.Due.{IsDue, IsDueToAll, last_named}
@@ -72,7 +72,7 @@ returns-clause-stands c config events st =
     } in
     let inputs : ℕ → Input = λ i. received (slice_index_or now.receptions i Lost) (length events) all_sent (input_of apart i events) in
     let all : AllHaveHeard set inputs new.receivers =
-    subst (λ (rs : List AnyReceiver). AllHaveHeard set inputs rs)
+    subst (λ (rs : List ReceiverState). AllHaveHeard set inputs rs)
     (front_is c.hand_out-self-inside.new.receivers world.receivers world.count c.hand_out-self-inside.ensures.count c.self.invariant.0 c.self.invariant.1)
     (rw c.as_slice-receptions.ensures.value at heard) in
     let many : length (take world.count world.reaches) ≡ world.count = length-take-le world.count world.reaches (omega (arith, c.self.invariant.0, c.self.invariant.2)) in

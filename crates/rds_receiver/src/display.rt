@@ -1,0 +1,139 @@
+//! The display of a receiver, as plain numbers: all that it holds of the messages that count.
+ghost use Rattle.std.specs.Prelude.{◌≡◌, ◌+◌, ◌<◌, ℕ, IsFalse, List, Option, length};
+ghost use Rattle.rds_fields.specs.declared.message.Message.{Message};
+ghost use Rattle.rds_fields.specs.Stored.{is_set, pair_stored};
+ghost use Rattle.rds_receiver.specs.Holds.{HearsMore, HoldsAt, ShowsAlike, newest_slot};
+ghost use Rattle.rds_receiver.specs.Tags.{or_before, says_of_rtplus, unless_contrary};
+ghost use Rattle.rds_receiver.specs.Stored.{IsStoredDisplay, display_stored};
+
+use rds_assembly::{LONGEST_TEXT, RadioText, TypeName};
+use rds_fields::{Message, RTPLUS_AID, RTPLUS_CODE, StoredPair, TagPair};
+
+/// The held segments of one service. Segment a has the bytes at the places 4 * a to 4 * a + 3. It is held if bit a of
+/// the mask is 1. The flag is 0 for no and any other number for yes.
+#[repr(C)]
+#[derive(Clone, Copy)]
+pub struct StoredSegments {
+    pub bytes: [u8; LONGEST_TEXT],
+    pub mask: u16,
+    /// The slots since the newest segment came, or the dwell if no segment is held.
+    pub age: u16,
+    pub flag: u8,
+}
+
+/// All that a display follows from, as plain numbers. Whether a value is whole is not stored: each call that asks finds out.
+#[repr(C)]
+#[derive(Clone, Copy)]
+pub struct StoredDisplay {
+    pub pi: u16,
+    /// The dwell in slots.
+    pub dwell: u16,
+    pub text: StoredSegments,
+    pub name: StoredSegments,
+    pub pair: StoredPair,
+    /// Whether RadioText Plus is known: 0 for no and any other number for yes.
+    pub is_known: u8,
+}
+
+impl StoredDisplay {
+    /// Ages the segments by one slot. Drops the pair if no segment of a text is held any more. If it returns false, all
+    /// that is shown stays the same.
+    pub(crate) fn grow_older(&mut self) -> bool
+        ensures programme { self.new.pi ≡ self.old.pi }
+        ensures holds { (m first : ℕ) (heard : List (Option Message))
+            → HoldsAt m (newest_slot first heard) first (display_stored self.old) heard
+            → HoldsAt m (first + length heard) first (display_stored self.new) heard }
+        ensures same { IsFalse result → ShowsAlike (display_stored self.old) (display_stored self.new) }
+        ensures good { IsStoredDisplay self.old → IsStoredDisplay self.new }
+    {
+        let dwell = self.dwell;
+        let text = self.text.grow_older::<RadioText>(dwell);
+        let name = self.name.grow_older::<TypeName>(dwell);
+        if self.text.is_held(dwell) || self.pair.is_held == 0 {
+            return text || name;
+        }
+        self.pair = StoredPair::none();
+        true
+    }
+
+    /// Handles a message of the programme. If it returns false, all that is shown stays the same.
+    #[inline(always)]
+    pub(crate) fn hear(&mut self, message: Message) -> bool
+        ensures programme { self.new.pi ≡ self.old.pi }
+        ensures holds { IsStoredDisplay self.old → HearsMore (display_stored self.old) (display_stored self.new) message }
+        ensures same { IsFalse result → ShowsAlike (display_stored self.old) (display_stored self.new) }
+        ensures good { IsStoredDisplay self.old → IsStoredDisplay self.new }
+    {
+        match message {
+            Message::Text {
+                flag,
+                address,
+                bytes,
+            } => self.hear_text(flag, address.get(), bytes),
+            Message::Name {
+                flag,
+                address,
+                bytes,
+            } => self.name.take::<TypeName>(flag, address.get(), bytes),
+            Message::Announce { code, aid, .. } => self.hear_announcement(code.get(), aid),
+            Message::Tags(pair) => self.hear_tags(pair),
+            Message::Other => false,
+        }
+    }
+
+    /// Takes a text segment. Drops the pair of tags first if the flag changed.
+    fn hear_text(&mut self, flag: bool, address: u8, bytes: [u8; 4]) -> bool
+        requires { address < 16 }
+        ensures programme { self.new.pi ≡ self.old.pi }
+        ensures holds { HearsMore (display_stored self.old) (display_stored self.new)
+            (Message.Text flag address bytes) }
+        ensures same { IsFalse result → ShowsAlike (display_stored self.old) (display_stored self.new) }
+        ensures good { IsStoredDisplay self.old → IsStoredDisplay self.new }
+    {
+        if !self.text.has_flag(flag) {
+            self.pair = StoredPair::none();
+        }
+        self.text.take::<RadioText>(flag, address, bytes)
+    }
+
+    /// Takes an announcement. One of RadioText Plus makes it known; a contrary one makes it unknown and drops the pair.
+    fn hear_announcement(&mut self, code: u8, aid: u16) -> bool
+        ensures known { is_set self.new.is_known ≡ or_before (says_of_rtplus code aid) (is_set self.old.is_known) }
+        ensures pair { pair_stored self.new.pair
+            ≡ unless_contrary (says_of_rtplus code aid) (pair_stored self.old.pair) }
+        ensures rest { self.new ≡ record self.old { pair = self.new.pair; is_known = self.new.is_known } }
+        ensures same { IsFalse result → ShowsAlike (display_stored self.old) (display_stored self.new) }
+        ensures good { IsStoredDisplay self.old → IsStoredDisplay self.new }
+    {
+        let fits_code = code == RTPLUS_CODE;
+        let fits_aid = aid == RTPLUS_AID;
+        if fits_code && fits_aid {
+            self.is_known = 1;
+            return false;
+        }
+        if fits_code || fits_aid {
+            self.is_known = 0;
+            self.pair = StoredPair::none();
+            return true;
+        }
+        false
+    }
+
+    /// Takes a pair of tags if RadioText Plus is known and segments of a text are held. Ignores it otherwise.
+    fn hear_tags(&mut self, pair: TagPair) -> bool
+        ensures programme { self.new.pi ≡ self.old.pi }
+        ensures holds { IsStoredDisplay self.old
+            → HearsMore (display_stored self.old) (display_stored self.new) (Message.Tags pair) }
+        ensures same { IsFalse result → ShowsAlike (display_stored self.old) (display_stored self.new) }
+        ensures good { IsStoredDisplay self.old → IsStoredDisplay self.new }
+    {
+        if self.is_known != 0 && self.text.is_held(self.dwell) {
+            if self.pair.pair() == Some(pair) {
+                return false;
+            }
+            self.pair = StoredPair::of(Some(pair));
+            return true;
+        }
+        false
+    }
+}
