@@ -13,7 +13,7 @@ ghost use Rattle.rds_receiver.specs.NotShown.{AreWhys};
 
 use crate::display::{StoredDisplay, StoredSegments};
 use crate::last::StoredLastSegments;
-use crate::shown::{shown_item, shown_tag};
+use crate::shown::shown_tag;
 use crate::stored::StoredReceiver;
 use crate::{View, Whys, Window};
 use rds_block::{Blocks, Group};
@@ -137,7 +137,7 @@ impl Receiver {
     pub fn view(&self) -> View<'_>
         ensures { WhereItStands self.now (λ t input. IsView t input (view_of result)) }
     {
-        self.state.display.view()
+        self.state.view()
     }
 
     /// Returns why a text and a name are not shown, if they are not.
@@ -154,7 +154,7 @@ impl Receiver {
             (λ m first heard. IsTextShown m first heard (option_copied result)) }
         ensures short { IfSome result (λ x. length x.now ≤ 64) }
     {
-        self.state.display.shown_text()
+        self.state.text()
     }
 
     /// Returns the programme type name shown, eight bytes, borrowed from the receiver. `None` if no name is shown.
@@ -163,14 +163,14 @@ impl Receiver {
             (λ m first heard. IsNameShown m first heard (option_copied result)) }
         ensures short { IfSome result (λ x. length x.now ≡ 8) }
     {
-        self.state.display.shown_name()
+        self.state.name()
     }
 
     /// Returns the item toggle bit and the item running bit. `None` if no text is shown or no pair of tags is held.
     pub fn item(&self) -> Option<(bool, bool)>
         ensures { WhatItHeard self.now (λ m first heard. IsItemShown m first heard result) }
     {
-        shown_item(self.text(), self.pair())
+        self.state.item()
     }
 
     /// Returns the class of one of the two tags and its piece of the text, borrowed from the receiver. `None` if no
@@ -188,7 +188,7 @@ impl Receiver {
     pub fn pair(&self) -> Option<TagPair>
         ensures { WhatItHeard self.now (λ m first heard. result ≡ pair_held m first heard) }
     {
-        self.state.display.pair.pair()
+        self.state.pair()
     }
 }
 

@@ -2,13 +2,13 @@
 ghost use Rattle.std.specs.Prelude.{◌≡◌, ◌<◌, ◌≤◌, IfSome, length};
 ghost use Rattle.std.specs.Option.{option_copied};
 ghost use Rattle.rds_receiver.specs.Borrowed.{borrowed_tag, view_of};
-ghost use Rattle.rds_receiver.specs.Holds.{WhatItShows};
-ghost use Rattle.rds_receiver.specs.Shown.{IsNameShown, IsShortText, IsTextShown, ShowsView, view_with};
-ghost use Rattle.rds_receiver.specs.Stored.{IsStoredDisplay, display_stored};
-ghost use Rattle.rds_receiver.specs.Tags.{item_of, tag_of};
+ghost use Rattle.rds_receiver.specs.Shown.{IsItemShown, IsNameShown, IsShortText, IsTextShown, IsView, view_with};
+ghost use Rattle.rds_receiver.specs.StandsAt.{WhatItHeard, WhereItStands};
+ghost use Rattle.rds_receiver.specs.Stored.{IsStored, receiver_stored};
+ghost use Rattle.rds_receiver.specs.Tags.{item_of, pair_held, tag_of};
 
 use crate::View;
-use crate::display::StoredDisplay;
+use crate::stored::StoredReceiver;
 use rds_assembly::{RadioText, TypeName};
 use rds_fields::{TagPair, Which};
 
@@ -31,36 +31,53 @@ impl<'a> View<'a> {
     }
 }
 
-impl StoredDisplay {
+impl StoredReceiver {
     /// Returns all that is shown, borrowed from the numbers.
-    pub(crate) fn view(&self) -> View<'_>
-        ensures { IsStoredDisplay self.now → WhatItShows (display_stored self.now)
-            (λ m first heard. ShowsView m first heard (view_of result)) }
+    pub fn view(&self) -> View<'_>
+        ensures { IsStored self.now → WhereItStands (receiver_stored self.now)
+            (λ t input. IsView t input (view_of result)) }
     {
-        View::of(self.shown_text(), self.shown_name(), self.pair.pair())
+        View::of(self.text(), self.name(), self.pair())
     }
 
     /// Returns the text shown, borrowed from the numbers. `None` if no text is shown.
-    pub(crate) fn shown_text(&self) -> Option<&[u8]>
-        ensures shown { WhatItShows (display_stored self.now)
+    pub fn text(&self) -> Option<&[u8]>
+        ensures shown { WhatItHeard (receiver_stored self.now)
             (λ m first heard. IsTextShown m first heard (option_copied result)) }
         ensures short { IfSome result (λ x. length x.now ≤ 64) }
     {
-        self.text.whole::<RadioText>()
+        self.display.text.whole::<RadioText>()
     }
 
     /// Returns the programme type name shown, borrowed from the numbers. `None` if no name is shown.
-    pub(crate) fn shown_name(&self) -> Option<&[u8]>
-        ensures shown { WhatItShows (display_stored self.now)
+    pub fn name(&self) -> Option<&[u8]>
+        ensures shown { WhatItHeard (receiver_stored self.now)
             (λ m first heard. IsNameShown m first heard (option_copied result)) }
         ensures short { IfSome result (λ x. length x.now ≡ 8) }
     {
-        self.name.whole::<TypeName>()
+        self.display.name.whole::<TypeName>()
+    }
+
+    /// Returns the item toggle bit and the item running bit. `None` if no text is shown or no pair of tags is held.
+    pub fn item(&self) -> Option<(bool, bool)>
+        ensures { IsStored self.now → WhatItHeard (receiver_stored self.now)
+            (λ m first heard. IsItemShown m first heard result) }
+    {
+        shown_item(self.text(), self.pair())
+    }
+
+    /// Returns the pair of tags that is held for the text being received. `None` if no pair is held, and if its numbers
+    /// are invalid.
+    pub fn pair(&self) -> Option<TagPair>
+        ensures { IsStored self.now → WhatItHeard (receiver_stored self.now)
+            (λ m first heard. result ≡ pair_held m first heard) }
+    {
+        self.display.pair.pair()
     }
 }
 
 /// Returns the item bits of a pair. `None` without a text or a pair.
-pub(crate) fn shown_item(text: Option<&[u8]>, pair: Option<TagPair>) -> Option<(bool, bool)>
+fn shown_item(text: Option<&[u8]>, pair: Option<TagPair>) -> Option<(bool, bool)>
     ensures { result ≡ item_of (option_copied text.entry) pair }
 {
     text?;

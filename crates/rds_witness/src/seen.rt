@@ -126,8 +126,7 @@ impl Seen {
         ensures { IsTrue result → (t : Tuning) (log : List (Option Group)) (n : ℕ) → IsSeen t log self.now
             → self.now.slot < n → IsSeenBefore t log n (thing_of thing.entry) }
     {
-        let receiver = Receiver::restore(&self.receiver);
-        let view = receiver.view();
+        let view = self.receiver.view();
         match thing {
             Thing::Text(text) => is_text(view.text, text),
             Thing::Name(name) => is_text(view.name, name),
@@ -185,9 +184,8 @@ impl AllSeen {
             → All (IsSeen t log) self.new.seen.items × All (IsOfRun t log (slot + 1)) self.new.pairs.items
             × ((view : ShownView) × IsView t (got None log (slot + 1)) view)) }
     {
-        let receiver = Receiver::restore(whole);
-        let view = receiver.view();
-        self.keep_pair(receiver.pair())?;
+        let view = whole.view();
+        self.keep_pair(whole.pair())?;
         self.note_with(whole, view, slot, None)?;
         self.note_tags(whole, view, slot)?;
         Ok(())
@@ -351,8 +349,7 @@ impl AllSeen {
         if !one.changed {
             return true;
         }
-        let receiver = Receiver::restore(&one.receiver);
-        let view = receiver.view();
+        let view = one.receiver.view();
         if !self.has_text(slots, view.text) {
             return false;
         }

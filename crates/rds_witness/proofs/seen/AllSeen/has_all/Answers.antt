@@ -1,8 +1,5 @@
-use Rattle.std.proofs.Common.{subst, sym}
 use Rattle.rds_fields.specs.declared.pair.Which.TheVariants.{One, Two}
 use Rattle.rds_receiver.specs.Borrowed.{view_of}
-use Rattle.rds_receiver.specs.StandsAt.{StandsAt}
-use Rattle.rds_receiver.specs.State.{ReceiverState}
 use Rattle.rds_witness.specs.Mix.{Has, Name, Tag, Text, Thing}
 use Rattle.rds_witness.specs.Search.{IsSeenBefore}
 use Rattle.rds_witness.proofs.seen.AllSeen.has_all.Goals as goal
@@ -10,7 +7,7 @@ use Rattle.rds_witness.proofs.seen.AllSeen.has_all.Goals as goal
 pub returns-then-has_tag : goal.returns-then-has_tag
 returns-then-has_tag c holds stored t log all checked input stands = record {
   view = view_of c.view-view.result;
-  is = c.view-view.ensures t input (subst (λ (r : ReceiverState). StandsAt t r input) (sym (c.restore-receiver.ensures.same stored)) stands);
+  is = c.view-view.ensures stored t input stands;
   seen = seen;
 }
   where

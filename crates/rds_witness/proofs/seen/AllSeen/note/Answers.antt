@@ -1,6 +1,4 @@
 use Rattle.std.proofs.Common.{◌∙◌, ◌+◌, All, None, arith, refl, subst, sym}
-use Rattle.rds_receiver.specs.StandsAt.{StandsAt}
-use Rattle.rds_receiver.specs.State.{ReceiverState}
 use Rattle.rds_witness.specs.Lost.{got}
 use Rattle.rds_witness.specs.Search.{IsOfRun, IsSeen}
 use Rattle.rds_witness.proofs.seen.AllSeen.note.Goals as goal
@@ -8,18 +6,17 @@ use Rattle.rds_witness.proofs.seen.AllSeen.note.Goals as goal
 pub returns : goal.returns
 returns c t log inside stored stands seen pairs =
     let n = c.args.slot + 1 in
-    let here : StandsAt t c.restore-receiver.result (got None log n) = subst (λ (r : ReceiverState). StandsAt t r (got None log n)) (sym (c.restore-receiver.ensures.same stored)) stands in
     let with_pair = c.in_ok-keep_pair.ensures.pairs t log n (λ held is. record {
       slot = c.args.slot;
       before = omega arith;
-      old = here.heard;
-      new = here.heard;
-      were = here.are;
-      are = here.are;
-      held = sym (c.pair.ensures t (got None log n) here here.heard here.are) ∙ is;
+      old = stands.heard;
+      new = stands.heard;
+      were = stands.are;
+      are = stands.are;
+      held = sym (c.pair.ensures stored t (got None log n) stands stands.heard stands.are) ∙ is;
       same = refl;
     }) pairs in
     let seen_one = c.in_ok-note_with.ensures.seen t log inside stored stands (λ held is. absurd (cc)) (subst (λ v. All (IsSeen t log) v.items) (sym c.keep_pair.ensures.seen) seen) in
     let pairs_one = subst (λ v. All (IsOfRun t log n) v.items) (sym c.note_with.ensures.pairs) with_pair in
     let all = c.in_ok-note_tags.ensures t log inside stored stands seen_one pairs_one in
-    (all.0, all.1, (_, c.view-view.ensures t (got None log n) here))
+    (all.0, all.1, (_, c.view-view.ensures stored t (got None log n) stands))
