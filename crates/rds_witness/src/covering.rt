@@ -132,37 +132,34 @@ pub(crate) fn is_receiver_part(one: &StoredReceiver, other: &StoredReceiver) -> 
         && is_part(&one.display.name, &other.display.name)
 }
 
-/// Returns the receiver one slot later. `lost` is the number of the slot if the receiver lost it.
-pub(crate) fn after_slot(one: &Lossy, group: Option<Blocks>, lost: Option<usize>) -> Lossy
-    ensures stands { IsStored one.now.receiver → WhereItStands (receiver_stored one.now.receiver)
-        (λ t input. StandsAt t (receiver_stored result.receiver) (group ∷ input)) }
-    ensures good { IsStored one.now.receiver → IsStored result.receiver }
-    ensures same { IsStored one.now.receiver → (t : Tuning) (log : List (Option Group)) (k : ℕ)
-        (input : List (Option Group)) → StandsAt t (receiver_stored one.now.receiver) input
-        → ShowsOnlySeen t log k (receiver_stored one.now.receiver) → IsChecked t log k result }
+/// Lets the receiver handle a slot. `lost` is the number of the slot if the receiver lost it.
+pub(crate) fn take_slot(one: &mut Lossy, group: Option<Blocks>, lost: Option<usize>)
+    ensures stands { IsStored one.old.receiver → WhereItStands (receiver_stored one.old.receiver)
+        (λ t input. StandsAt t (receiver_stored one.new.receiver) (group ∷ input)) }
+    ensures good { IsStored one.old.receiver → IsStored one.new.receiver }
+    ensures same { IsStored one.old.receiver → (t : Tuning) (log : List (Option Group)) (k : ℕ)
+        (input : List (Option Group)) → StandsAt t (receiver_stored one.old.receiver) input
+        → ShowsOnlySeen t log k (receiver_stored one.old.receiver) → IsChecked t log k one.new }
 {
-    let mut lossy = *one;
-    lossy.changed = lossy.receiver.slot(group);
+    one.changed = one.receiver.slot(group);
     if let Some(last) = lost {
-        lossy.burst.last = last;
+        one.burst.last = last;
     }
-    lossy
 }
 
-/// Returns the receiver without a loss after it lost this slot.
-pub(crate) fn after_first_loss(whole: &Lossy, slot: usize) -> Lossy
-    ensures stands { IsStored whole.now.receiver → WhereItStands (receiver_stored whole.now.receiver)
-        (λ t input. StandsAt t (receiver_stored result.receiver) (None ∷ input)) }
-    ensures good { IsStored whole.now.receiver → IsStored result.receiver }
-    ensures changed { IsTrue result.changed }
+/// Lets the receiver without a loss lose this slot.
+pub(crate) fn lose_first(whole: &mut Lossy, slot: usize)
+    ensures stands { IsStored whole.old.receiver → WhereItStands (receiver_stored whole.old.receiver)
+        (λ t input. StandsAt t (receiver_stored whole.new.receiver) (None ∷ input)) }
+    ensures good { IsStored whole.old.receiver → IsStored whole.new.receiver }
+    ensures changed { IsTrue whole.new.changed }
 {
-    let mut lossy = after_slot(whole, None, None);
-    lossy.burst = Burst {
+    take_slot(whole, None, None);
+    whole.burst = Burst {
         first: slot,
         last: slot,
     };
-    lossy.changed = true;
-    lossy
+    whole.changed = true;
 }
 
 /// Returns the receiver at this place.
@@ -174,12 +171,12 @@ pub(crate) fn receiver_at(receivers: &[Lossy], place: usize) -> &Lossy
 }
 
 /// Keeps a receiver, unless the one without a loss or a kept one holds all that it holds.
-pub(crate) fn keep(whole: &Lossy, kept: &mut Vec<Lossy>, one: Lossy) -> Result<(), AllocError>
+pub(crate) fn keep(whole: &Lossy, kept: &mut Vec<Lossy>, one: &Lossy) -> Result<(), AllocError>
     ensures covers { OnOk result ((pi m n : ℕ) → All (IsAt (tuned pi m) n) (whole.now ∷ kept.old.items)
-        → IsAt (tuned pi m) n one
-        → Keeps (tuned pi m) n one (whole.now ∷ kept.old.items) (whole.now ∷ kept.new.items)) }
+        → IsAt (tuned pi m) n one.now
+        → Keeps (tuned pi m) n one.now (whole.now ∷ kept.old.items) (whole.now ∷ kept.new.items)) }
     ensures checked { OnOk result ((t : Tuning) (log : List (Option Group)) (k : ℕ)
-        → All (IsChecked t log k) kept.old.items → IsChecked t log k one → All (IsChecked t log k) kept.new.items) }
+        → All (IsChecked t log k) kept.old.items → IsChecked t log k one.now → All (IsChecked t log k) kept.new.items) }
 {
     if is_receiver_part(&one.receiver, &whole.receiver) {
         return Ok(());
@@ -189,11 +186,11 @@ pub(crate) fn keep(whole: &Lossy, kept: &mut Vec<Lossy>, one: Lossy) -> Result<(
             return Ok(());
         }
     }
-    kept.push(one)?;
+    kept.push(*one)?;
     Ok(())
 }
 
-/// Keeps each of the receivers one slot later.
+/// Lets each of the receivers handle a slot, and keeps it.
 pub(crate) fn keep_after_slot(
     whole: &Lossy,
     receivers: &[Lossy],
@@ -209,8 +206,9 @@ pub(crate) fn keep_after_slot(
         → All (IsChecked (tuned pi m) log k) kept.new.items) }
 {
     for place in 0..receivers.len() {
-        let later = after_slot(receiver_at(receivers, place), *group, lost);
-        keep(whole, kept, later)?;
+        let mut later = *receiver_at(receivers, place);
+        take_slot(&mut later, *group, lost);
+        keep(whole, kept, &later)?;
     }
     Ok(())
 }

@@ -6,7 +6,7 @@ ghost use Rattle.rds_witness.specs.Lost.{received};
 ghost use Rattle.rds_witness.specs.Search.{IsChecked, ShowOnlySeen, StandsAfter};
 
 use crate::burst::Burst;
-use crate::covering::{Lossy, after_first_loss, after_slot, keep, keep_after_slot};
+use crate::covering::{Lossy, keep, keep_after_slot, lose_first, take_slot};
 use rds_block::Blocks;
 use rds_fields::Dwell;
 use rds_receiver::Receiver;
@@ -60,24 +60,36 @@ impl Sweep {
             → All (IsChecked (tuned pi m) log k) self.new.losing.items
             × All (IsChecked (tuned pi m) log k) self.new.hearing.items) }
     {
-        let whole = after_slot(&self.whole, *group, None);
-        let begins = after_first_loss(&self.whole, slot);
+        let mut begins = self.whole;
+        lose_first(&mut begins, slot);
+        take_slot(&mut self.whole, *group, None);
         let mut hearing = mem::replace(&mut self.spare, Vec::new(alloc));
         hearing.clear();
-        keep_after_slot(&whole, self.hearing.as_slice(), group, None, &mut hearing)?;
-        keep_after_slot(&whole, self.losing.as_slice(), group, None, &mut hearing)?;
+        keep_after_slot(
+            &self.whole,
+            self.hearing.as_slice(),
+            group,
+            None,
+            &mut hearing,
+        )?;
+        keep_after_slot(
+            &self.whole,
+            self.losing.as_slice(),
+            group,
+            None,
+            &mut hearing,
+        )?;
         let mut losing = mem::replace(&mut self.hearing, hearing);
         losing.clear();
-        keep(&whole, &mut losing, begins)?;
+        keep(&self.whole, &mut losing, &begins)?;
         keep_after_slot(
-            &whole,
+            &self.whole,
             self.losing.as_slice(),
             &None,
             Some(slot),
             &mut losing,
         )?;
         self.spare = mem::replace(&mut self.losing, losing);
-        self.whole = whole;
         Ok(())
     }
 

@@ -22,8 +22,8 @@ pub loop-place-preserved : goal.loop-place-preserved
 loop-place-preserved c =
     let now = c.loop-place.place in
     let one = c.receiver_at.result.now in
-    let later = c.after_slot-later.result in
-    let step = c.after_slot-later.ensures in
+    let later = c.take_slot.new.one in
+    let step = c.take_slot.ensures in
     record {
       covers = λ pi m n at kept_at.
           let so_far = c.loop-place.invariant.covers pi m n at kept_at in

@@ -19,10 +19,10 @@ returns-clause-stands c pi m n log is old =
     let t = tuned pi m in
     let group = c.args.group.now in
     let was = c.args.self.now.whole in
-    let whole = c.after_slot-whole.result in
-    let step = c.after_slot-whole.ensures in
-    let begins = c.after_first_loss-begins.result in
-    let loses = c.after_first_loss-begins.ensures in
+    let whole = c.take_slot.new.one in
+    let step = c.take_slot.ensures in
+    let begins = c.lose_first.new.whole in
+    let loses = c.lose_first.ensures in
     let more : got None log (n + 1) ≡ group ∷ got None log n = got-more None log n ∙ ap (λ (g : Option Group). g ∷ got None log n) (sym is) in
     let after : StandsAt t (receiver_stored whole.receiver) (got None log (n + 1)) = subst (StandsAt t (receiver_stored whole.receiver)) (sym more) (step.stands old.stored t (got None log n) old.whole) in
     let its : IsAt t (n + 1) whole = record { input = got None log (n + 1); long = got_long None log (n + 1); stands = after; stored = step.good old.stored } in
@@ -88,6 +88,6 @@ returns-clause-checked c pi m n k log old losing hearing =
     let still_losing = c.as_slice-3.ensures.value in
     let go_on = c.in_ok-keep_after_slot.ensures.checked pi m n k log (subst (All (IsAt t n)) (sym were_hearing) old.hearing_at) (subst (ShowOnlySeen t log k) (sym were_hearing) hearing) (none _ c.clear.ensures.items) in
     let begin = c.in_ok-keep_after_slot-2.ensures.checked pi m n k log (subst (All (IsAt t n)) (sym were_losing) old.losing_at) (subst (ShowOnlySeen t log k) (sym were_losing) losing) go_on in
-    let one_more = c.in_ok-keep.ensures.checked t log k (none _ c.clear-2.ensures.items) (λ alike. let changed = c.after_first_loss-begins.ensures.changed in absurd (cc)) in
+    let one_more = c.in_ok-keep.ensures.checked t log k (none _ c.clear-2.ensures.items) (λ alike. let changed = c.lose_first.ensures.changed in absurd (cc)) in
     let lose_more = c.in_ok-keep_after_slot-3.ensures.checked pi m n k log (subst (All (IsAt t n)) (sym still_losing) old.losing_at) (subst (ShowOnlySeen t log k) (sym still_losing) losing) one_more in
     (subst (All (IsChecked t log k)) (sym (ap (λ v. v.items) c.replace.ensures.after)) lose_more, subst (All (IsChecked t log k)) (sym (ap (λ v. v.items) c.replace-losing.ensures.after)) begin)
