@@ -43,11 +43,11 @@
  * The encoder here is silent for M + K slots after a start, and keeps each text for 2 (M + K), so that tags fit.
  * A receiver works with any station. If the station keeps no dwell, texts can be mixed, as in every other receiver.
  *
- * BITS. The guarantee needs groups that are whole and unchanged. Give rdsrt_receiver no group in which your decoder
- * corrected bits. If it corrects bits, use the second kind of receiver, rdsrt_twice. It shows only what it received twice
- * within W slots, its window. Its guarantee needs that no segment and no pair of tags is wrong in the same way twice
- * within W slots. The station has to space its texts by M + K + W - 1 slots. For example, for a station with M = 128 and
- * groups that come on time, give the receiver M = 64 and W = 65.
+ * BITS. The guarantee needs groups that are whole and unchanged. Give a receiver no group in which your decoder
+ * corrected bits. If it corrects bits, make the receiver with rdsrt_receiver_init_confirming. It then shows only what it
+ * received twice within W slots, its window. Its guarantee needs that no segment and no pair of tags is wrong in the same
+ * way twice within W slots. The station has to space its texts by M + K + W - 1 slots. For example, for a station with M
+ * = 128 and groups that come on time, give the receiver M = 64 and W = 65.
  *
  * MEMORY. You hold each struct. It has no pointers: copy it, move it, save it, drop it. Its saved bytes belong to one
  * RDSRT_ABI and one byte order. No call allocates, waits, prints, keeps a pointer or has a state of its own. Threads may
@@ -61,19 +61,18 @@
  *
  *     rdsrt_version                      8    0    rdsrt_encoder_on_air             600  672
  *     rdsrt_receiver_init                8    0    rdsrt_encoder_wait               424  480
- *     rdsrt_receiver_slot              152  176    rdsrt_audit_init                 638  656
- *     rdsrt_receiver_view              552  496    rdsrt_audit_init_running         638  656
- *     rdsrt_twice_init                   8    0    rdsrt_audit_slot                 916  768
- *     rdsrt_twice_slot                 200  176    rdsrt_audit_passed               708  736
- *     rdsrt_twice_view                 552  496    rdsrt_audit_texts_turn_the_flag  708  736
- *     rdsrt_encoder_init                16    0    rdsrt_audit_names_turn_the_flag  708  736
- *     rdsrt_encoder_set_text           696  720    rdsrt_text_to_display            296  304
- *     rdsrt_encoder_set_name           632  656    rdsrt_text_to_utf8               360  368
- *     rdsrt_encoder_set_tags           664  704    rdsrt_text_from_utf8             128  128
- *     rdsrt_encoder_tick               872  928    rdsrt_lost_slots                   8    0
- *     rdsrt_slot_time                    8    0    rdsrt_time_in                     88   80
- *     rdsrt_receiver_held                8    0    rdsrt_twice_held                   8    0
- *     rdsrt_type_name                   72   64    rdsrt_code_name                   72   64
+ *     rdsrt_receiver_init_confirming     8    0    rdsrt_audit_init                 638  656
+ *     rdsrt_receiver_slot              264  208    rdsrt_audit_init_running         638  656
+ *     rdsrt_receiver_view              232  208    rdsrt_audit_slot                 916  768
+ *     rdsrt_receiver_held                8    0    rdsrt_audit_passed               708  736
+ *     rdsrt_slot_time                    8    0    rdsrt_audit_texts_turn_the_flag  708  736
+ *     rdsrt_time_in                     88   80    rdsrt_audit_names_turn_the_flag  708  736
+ *     rdsrt_lost_slots                   8    0    rdsrt_text_to_display            296  304
+ *     rdsrt_encoder_init                16    0    rdsrt_text_to_utf8               360  368
+ *     rdsrt_encoder_set_text           696  720    rdsrt_text_from_utf8             128  128
+ *     rdsrt_encoder_set_name           632  656    rdsrt_type_name                   72   64
+ *     rdsrt_encoder_set_tags           664  704    rdsrt_code_name                   72   64
+ *     rdsrt_encoder_tick               872  928
  *
  * YOU PROMISE for every call:
  *  - You call _init first. No call notices that you did not: a struct of zeros has PI 0000, so it shows nothing of your
@@ -99,7 +98,7 @@ extern "C" {
 #endif
 
 /* The number of this interface. It changes with every size, offset, code or call below. */
-#define RDSRT_ABI 3
+#define RDSRT_ABI 4
 
 /* The version of this header. rdsrt_version() returns the version of the linked library. */
 #define RDSRT_VERSION_MAJOR 0
@@ -153,9 +152,8 @@ enum rdsrt_code {
     RDSRT_FAULT_TAG_OUTSIDE = 21
 };
 
-/* Two kinds of receivers, an encoder and an audit. Only the library reads and writes the numbers in them. */
-struct rdsrt_receiver { uint16_t own_[77]; };
-struct rdsrt_twice { uint32_t own_[66]; };
+/* A receiver, an encoder and an audit. Only the library reads and writes the numbers in them. */
+struct rdsrt_receiver { uint32_t own_[66]; };
 struct rdsrt_encoder { uint32_t own_[29]; };
 struct rdsrt_audit { uint32_t own_[52]; };
 
@@ -202,6 +200,14 @@ struct rdsrt_wait { uint32_t silent, text, name; };
  * Returns RDSRT_OK, or RDSRT_BAD_ARGUMENT if the dwell is 0. */
 uint32_t rdsrt_receiver_init(struct rdsrt_receiver *receiver, uint16_t pi, uint16_t dwell);
 
+/* Does the same for a receiver that shows only what it received twice. Its groups may have corrected bits. window: W, 2
+ * to 255 slots. A segment of a text or name counts only if the last one with its address was the same and came less than
+ * W slots before. RT+ tags count only if the last ones were the same, came less than W slots before, and came later than
+ * the first segment of the text that counted. The window has to be longer than the station's round, the time from a
+ * segment to the same one: for example 64 slots, if one group in four is a segment of a text of 16 segments.
+ * Returns RDSRT_OK, or RDSRT_BAD_ARGUMENT if a number is out of range. */
+uint32_t rdsrt_receiver_init_confirming(struct rdsrt_receiver *receiver, uint16_t pi, uint16_t dwell, uint16_t window);
+
 /* Ends a slot. count is 4 if these four blocks were received, and 0 if not (blocks may be NULL). A group with a lost
  * block is a lost slot: pass count 0. A group of another programme counts as a lost slot.
  * Returns RDSRT_CHANGED if the view may have changed, RDSRT_OK if it did not, and RDSRT_BAD_ARGUMENT for any other
@@ -217,28 +223,10 @@ void rdsrt_receiver_view(const struct rdsrt_receiver *receiver, struct rdsrt_vie
 struct rdsrt_segments { uint16_t held, age; };
 struct rdsrt_held { struct rdsrt_segments text, name; };
 
-/* Writes all of *held, at the end of the last slot. A display can show the progress of a text that is not complete, or
- * grey out one whose last segment came long ago. It shows no text of these segments: the view has it once it is complete. */
+/* Writes all of *held, at the end of the last slot: with a window, the segments that counted. A display can show the
+ * progress of a text that is not complete, or grey out one whose last segment came long ago. It shows no text of these
+ * segments: the view has it once it is complete. */
 void rdsrt_receiver_held(const struct rdsrt_receiver *receiver, struct rdsrt_held *held);
-
-/* ---- Receiver that shows only what it received twice ---- */
-
-/* Makes a receiver of the programme `pi` that has heard nothing yet. dwell: M, 1 to 65535 slots; window: W, 2 to 255
- * slots. A segment of a text or name counts only if the last one with its address was the same and came less than W
- * slots before. RT+ tags count only if the last ones were the same, came less than W slots before, and came later than
- * the first segment of the text that counted. The window has to be longer than the station's round, the time from a
- * segment to the same one: for example 64 slots, if one group in four is a segment of a text of 16 segments.
- * Returns RDSRT_OK, or RDSRT_BAD_ARGUMENT if a number is out of range. */
-uint32_t rdsrt_twice_init(struct rdsrt_twice *receiver, uint16_t pi, uint16_t dwell, uint16_t window);
-
-/* Does what rdsrt_receiver_slot does, with the same codes. The blocks may have corrected bits. */
-uint32_t rdsrt_twice_slot(struct rdsrt_twice *receiver, const uint16_t *blocks, size_t count);
-
-/* Writes all of *view: the display of the receiver at the end of its last slot. */
-void rdsrt_twice_view(const struct rdsrt_twice *receiver, struct rdsrt_view *view);
-
-/* Does what rdsrt_receiver_held does, of the segments that counted. */
-void rdsrt_twice_held(const struct rdsrt_twice *receiver, struct rdsrt_held *held);
 
 /* ---- Times and slots ---- */
 
@@ -365,8 +353,7 @@ void rdsrt_code_name(uint32_t code, struct rdsrt_label *name);
 /* The layout that the library was built with. */
 RDSRT_IS_(sizeof(struct rdsrt_version) == 16 && offsetof(struct rdsrt_version, major) == 4);
 RDSRT_IS_(offsetof(struct rdsrt_version, minor) == 8 && offsetof(struct rdsrt_version, patch) == 12);
-RDSRT_IS_(sizeof(struct rdsrt_receiver) == 154);
-RDSRT_IS_(sizeof(struct rdsrt_twice) == 264);
+RDSRT_IS_(sizeof(struct rdsrt_receiver) == 264);
 RDSRT_IS_(sizeof(struct rdsrt_encoder) == 116);
 RDSRT_IS_(sizeof(struct rdsrt_audit) == 208);
 RDSRT_IS_(sizeof(struct rdsrt_text) == 66 && offsetof(struct rdsrt_text, length) == 64);

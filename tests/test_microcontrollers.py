@@ -62,7 +62,7 @@ class Microcontrollers(Case):
             words = ["qemu-system-arm", "-M", board, "-display", "none", "-monitor", "none", "-serial", "none",
                      "-semihosting-config", arguments, "-kernel", program]
             self.check(name, output(words, given), (0, wanted))
-        self.check(f"flash of a receiver alone for {target}, in KB", self.flash(compiler, library, folder), 5)
+        self.check(f"flash of a receiver alone for {target}, in KB", self.flash(compiler, library, folder), 6)
 
     def flash(self, compiler, library, folder):
         """Returns how much flash a receiver alone takes, as docs/GUIDE.md says it."""

@@ -9,8 +9,8 @@
  *
  * Biphase symbols are decided one by one, and a bit says whether a symbol differs from the one before. The station is an
  * encoder with M = 128. It sets a text of 64 characters each 4000 slots. One slot in two is free, so a segment of the text
- * goes each four slots, and its round is 64 slots. The receivers are rdsrt_receiver with M = 128, and rdsrt_twice with
- * M = 64 and W = 65. A text that is shown is wrong if it was on air in none of the last 128 slots.
+ * goes each four slots, and its round is 64 slots. One receiver has M = 128 and no window, and the other one M = 64 and
+ * W = 65. A text that is shown is wrong if it was on air in none of the last 128 slots.
  *
  * Prints one line of numbers: slots, received groups, wrong groups, and for each receiver wrong texts and the mean slots
  * from the set of a text to its display. */
@@ -161,13 +161,12 @@ int main(int count, char **words) {
     seeds[1] = UINT64_C(88172645463325252);
     set_decibels(channel.decibels);
     struct rdsrt_encoder encoder;
-    struct rdsrt_receiver once;
-    struct rdsrt_twice twice;
+    struct rdsrt_receiver once, twice;
     struct display of_once = {.is_right = 0}, of_twice = {.is_right = 0};
     struct rdsrt_view view;
     rdsrt_encoder_init(&encoder, PI, 0, 10, SPACING, 0);
     rdsrt_receiver_init(&once, PI, SPACING);
-    rdsrt_twice_init(&twice, PI, 64, 65);
+    rdsrt_receiver_init_confirming(&twice, PI, 64, 65);
     uint16_t last[4] = {0};
     long slots = (long)(hours * 3.6e12 / (double)rdsrt_slot_time(1000000) * 1000), received = 0, wrong = 0;
     for (long slot = 0; slot < slots; slot++) {
@@ -195,8 +194,8 @@ int main(int count, char **words) {
             rdsrt_receiver_view(&once, &view);
             look(&of_once, &view, slot);
         }
-        if (rdsrt_twice_slot(&twice, blocks, words) == RDSRT_CHANGED) {
-            rdsrt_twice_view(&twice, &view);
+        if (rdsrt_receiver_slot(&twice, blocks, words) == RDSRT_CHANGED) {
+            rdsrt_receiver_view(&twice, &view);
             look(&of_twice, &view, slot);
         }
     }

@@ -1,5 +1,5 @@
-/* Hands a log of received groups to a receiver of the C library (with a window where TWICE is defined), or to libv4l2rds
- * where V4L2RDS is defined, one slot a line. What is counted is the call of a slot alone.   ./slots < log */
+/* Hands a log of received groups to a receiver of the C library (with a window if CONFIRMING is defined), or to
+ * libv4l2rds if V4L2RDS is defined, one slot a line. Only the call of a slot is counted.   ./slots < log */
 #include <inttypes.h>
 #include <stdio.h>
 
@@ -33,17 +33,14 @@ int main(void) {
     printf("%lu slots, %lu changes, %zu bytes of heap\n", slots, changes, malloc_usable_size(rds));
     v4l2_rds_destroy(rds);
 #else
-#ifdef TWICE
-#define SLOT rdsrt_twice_slot
-    struct rdsrt_twice receiver;
-    rdsrt_twice_init(&receiver, 0xC201, 64, 65);
-#else
-#define SLOT rdsrt_receiver_slot
     struct rdsrt_receiver receiver;
+#ifdef CONFIRMING
+    rdsrt_receiver_init_confirming(&receiver, 0xC201, 64, 65);
+#else
     rdsrt_receiver_init(&receiver, 0xC201, 128);
 #endif
     for (; next_slot(blocks, &is_received); slots++) {
-        changes += SLOT(&receiver, blocks, is_received ? 4 : 0) == RDSRT_CHANGED;
+        changes += rdsrt_receiver_slot(&receiver, blocks, is_received ? 4 : 0) == RDSRT_CHANGED;
     }
     printf("%lu slots, %lu changes, %zu bytes of the caller's\n", slots, changes, sizeof receiver);
 #endif

@@ -18,10 +18,7 @@
 #define GRAIN 20000 /* how far the times can be off, in microseconds */
 
 struct radio {
-    union {
-        struct rdsrt_receiver once; /* if the window is 0 */
-        struct rdsrt_twice twice;
-    } receiver;
+    struct rdsrt_receiver receiver;
     struct rdsrt_view view; /* the text, the name and the tags that are shown */
     /* Yours: shows `view`, which may have changed. `was` is the view before. */
     void (*show)(const struct radio *radio, const struct rdsrt_view *was);
@@ -40,26 +37,15 @@ static inline bool radio_init(struct radio *radio, uint16_t pi, uint16_t dwell, 
     radio->dwell = dwell;
     radio->window = window;
     radio->show = show;
-    if (window) return rdsrt_twice_init(&radio->receiver.twice, pi, dwell, window) == RDSRT_OK;
-    return rdsrt_receiver_init(&radio->receiver.once, pi, dwell) == RDSRT_OK;
-}
-
-/* Ends a slot in the library: the four blocks that came, or NULL. */
-static inline uint32_t slot_code(struct radio *radio, const uint16_t *blocks) {
-    const size_t count = blocks ? 4 : 0;
-    if (radio->window) return rdsrt_twice_slot(&radio->receiver.twice, blocks, count);
-    return rdsrt_receiver_slot(&radio->receiver.once, blocks, count);
+    if (window) return rdsrt_receiver_init_confirming(&radio->receiver, pi, dwell, window) == RDSRT_OK;
+    return rdsrt_receiver_init(&radio->receiver, pi, dwell) == RDSRT_OK;
 }
 
 /* One slot: the four blocks that came, or NULL. */
 static inline void end_slot(struct radio *radio, const uint16_t *blocks) {
-    if (slot_code(radio, blocks) == RDSRT_CHANGED) {
+    if (rdsrt_receiver_slot(&radio->receiver, blocks, blocks ? 4 : 0) == RDSRT_CHANGED) {
         const struct rdsrt_view was = radio->view;
-        if (radio->window) {
-            rdsrt_twice_view(&radio->receiver.twice, &radio->view);
-        } else {
-            rdsrt_receiver_view(&radio->receiver.once, &radio->view);
-        }
+        rdsrt_receiver_view(&radio->receiver, &radio->view);
         radio->show(radio, &was);
     }
     radio->slot++;

@@ -38,7 +38,6 @@ REPLY(rdsrt_encoder_set_tags, (struct rdsrt_encoder * it, const struct rdsrt_tag
 SET(rdsrt_encoder_set_text)
 SET(rdsrt_encoder_set_name)
 SLOT(rdsrt_receiver_slot, rdsrt_receiver)
-SLOT(rdsrt_twice_slot, rdsrt_twice)
 SLOT(rdsrt_audit_slot, rdsrt_audit)
 
 uint32_t wide_rdsrt_time_in(const uint8_t *, uint64_t, uint64_t *);

@@ -65,8 +65,13 @@ static void check_held(const struct rdsrt_held *one, const struct rdsrt_held *ot
 static void receiver(void) {
     struct rdsrt_receiver *r = (struct rdsrt_receiver *)any(sizeof *r);
     struct rdsrt_view *v = (struct rdsrt_view *)any(sizeof *v);
-    uint16_t dwell = (uint16_t)roll(3);
-    if (roll(4) == 0) CHECK(rdsrt_receiver_init(r, 0xC201, dwell) == (dwell ? RDSRT_OK : RDSRT_BAD_ARGUMENT));
+    unsigned dwell = roll(3), window = roll(300);
+    if (roll(4) == 0) {
+        CHECK(rdsrt_receiver_init(r, 0xC201, (uint16_t)dwell) == (dwell ? RDSRT_OK : RDSRT_BAD_ARGUMENT));
+    } else if (roll(3) == 0) {
+        uint32_t code = rdsrt_receiver_init_confirming(r, 0xC201, (uint16_t)dwell, (uint16_t)window);
+        CHECK(code == (dwell && window > 1 && window < 256 ? RDSRT_OK : RDSRT_BAD_ARGUMENT));
+    }
     for (int i = 0; i < 8; i++) {
         size_t count = roll(3) ? 4 : roll(7);
         uint16_t *blocks = any_blocks(count, r);
@@ -79,36 +84,6 @@ static void receiver(void) {
         struct rdsrt_held *h = (struct rdsrt_held *)any(sizeof *h), *other = (struct rdsrt_held *)any(sizeof *h);
         rdsrt_receiver_held(r, h);
         rdsrt_receiver_held(r, other);
-        check_held(h, other);
-        free(h);
-        free(other);
-        free(before);
-        free(blocks);
-    }
-    free(r);
-    free(v);
-}
-
-static void twice(void) {
-    struct rdsrt_twice *r = (struct rdsrt_twice *)any(sizeof *r);
-    struct rdsrt_view *v = (struct rdsrt_view *)any(sizeof *v);
-    unsigned dwell = roll(3), window = roll(300);
-    if (roll(4) == 0) {
-        uint32_t code = rdsrt_twice_init(r, 0xC201, (uint16_t)dwell, (uint16_t)window);
-        CHECK(code == (dwell && window > 1 && window < 256 ? RDSRT_OK : RDSRT_BAD_ARGUMENT));
-    }
-    for (int i = 0; i < 8; i++) {
-        size_t count = roll(3) ? 4 : roll(7);
-        uint16_t *blocks = any_blocks(count, r);
-        void *before = copy(r, sizeof *r);
-        uint32_t code = rdsrt_twice_slot(r, count ? blocks : NULL, count);
-        CHECK((code == RDSRT_BAD_ARGUMENT) == (count != 0 && count != 4) && code <= RDSRT_BAD_ARGUMENT);
-        CHECK(code != RDSRT_BAD_ARGUMENT || memcmp(r, before, sizeof *r) == 0);
-        rdsrt_twice_view(r, v);
-        check_view(v);
-        struct rdsrt_held *h = (struct rdsrt_held *)any(sizeof *h), *other = (struct rdsrt_held *)any(sizeof *h);
-        rdsrt_twice_held(r, h);
-        rdsrt_twice_held(r, other);
         check_held(h, other);
         free(h);
         free(other);
@@ -225,7 +200,6 @@ int main(int count, char **words) {
     long rounds = count > 1 ? atol(words[1]) : 10000;
     for (long i = 0; i < rounds; i++) {
         receiver();
-        twice();
         encoder();
         audit();
         texts();

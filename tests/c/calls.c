@@ -55,24 +55,24 @@ static void tags_shown(void) {
     CHECK(view.tag2.content_type == 0 && view.tag2.start == 0 && view.tag2.length == 0);
 }
 
-/* A text is shown once it came twice less than a window apart, and so are its tags. */
-static void twice(void) {
-    struct rdsrt_twice it;
+/* With a window a text is shown once it came twice less than a window apart, and so are its tags. */
+static void confirming(void) {
+    struct rdsrt_receiver it;
     struct rdsrt_view view;
-    CHECK(rdsrt_twice_init(&it, 0xC201, 0, 3) == RDSRT_BAD_ARGUMENT);
-    CHECK(rdsrt_twice_init(&it, 0xC201, 8, 1) == RDSRT_BAD_ARGUMENT);
-    CHECK(rdsrt_twice_init(&it, 0xC201, 8, 256) == RDSRT_BAD_ARGUMENT);
-    CHECK(rdsrt_twice_init(&it, 0xC201, 8, 255) == RDSRT_OK);
-    CHECK(rdsrt_twice_init(&it, 0xC201, 8, 3) == RDSRT_OK);
-    CHECK(rdsrt_twice_slot(&it, hi, 3) == RDSRT_BAD_ARGUMENT);
-    CHECK(rdsrt_twice_slot(&it, hi, 4) == RDSRT_OK && rdsrt_twice_slot(&it, NULL, 0) == RDSRT_OK);
-    CHECK(rdsrt_twice_slot(&it, NULL, 0) == RDSRT_OK && rdsrt_twice_slot(&it, hi, 4) == RDSRT_OK);
-    rdsrt_twice_view(&it, &view);
+    CHECK(rdsrt_receiver_init_confirming(&it, 0xC201, 0, 3) == RDSRT_BAD_ARGUMENT);
+    CHECK(rdsrt_receiver_init_confirming(&it, 0xC201, 8, 1) == RDSRT_BAD_ARGUMENT);
+    CHECK(rdsrt_receiver_init_confirming(&it, 0xC201, 8, 256) == RDSRT_BAD_ARGUMENT);
+    CHECK(rdsrt_receiver_init_confirming(&it, 0xC201, 8, 255) == RDSRT_OK);
+    CHECK(rdsrt_receiver_init_confirming(&it, 0xC201, 8, 3) == RDSRT_OK);
+    CHECK(rdsrt_receiver_slot(&it, hi, 3) == RDSRT_BAD_ARGUMENT);
+    CHECK(rdsrt_receiver_slot(&it, hi, 4) == RDSRT_OK && rdsrt_receiver_slot(&it, NULL, 0) == RDSRT_OK);
+    CHECK(rdsrt_receiver_slot(&it, NULL, 0) == RDSRT_OK && rdsrt_receiver_slot(&it, hi, 4) == RDSRT_OK);
+    rdsrt_receiver_view(&it, &view);
     CHECK(!view.text.is_shown && !view.name.is_shown && !view.item.is_shown && !view.tag1.content_type);
-    CHECK(rdsrt_twice_slot(&it, NULL, 0) == RDSRT_OK && rdsrt_twice_slot(&it, hi, 4) == RDSRT_CHANGED);
-    CHECK(rdsrt_twice_slot(&it, announcement, 4) == RDSRT_OK && rdsrt_twice_slot(&it, tags_of_hi, 4) == RDSRT_OK);
-    CHECK(rdsrt_twice_slot(&it, tags_of_hi, 4) == RDSRT_CHANGED);
-    rdsrt_twice_view(&it, &view);
+    CHECK(rdsrt_receiver_slot(&it, NULL, 0) == RDSRT_OK && rdsrt_receiver_slot(&it, hi, 4) == RDSRT_CHANGED);
+    CHECK(rdsrt_receiver_slot(&it, announcement, 4) == RDSRT_OK && rdsrt_receiver_slot(&it, tags_of_hi, 4) == RDSRT_OK);
+    CHECK(rdsrt_receiver_slot(&it, tags_of_hi, 4) == RDSRT_CHANGED);
+    rdsrt_receiver_view(&it, &view);
     CHECK(view.text.is_shown == 1 && view.text.length == 2 && memcmp(view.text.bytes, "HI", 2) == 0);
     CHECK(view.item.is_shown == 1 && view.tag1.content_type == 4 && view.tag1.start == 0 && view.tag1.length == 2);
 }
@@ -80,8 +80,7 @@ static void twice(void) {
 /* Which segments are held, and how long ago the newest one came. */
 static void held(void) {
     static const uint16_t last[4] = {0xC201, 0x214F, 0x4142, 0x4344}, name[4] = {0xC201, 0xA141, 0x4142, 0x4344};
-    struct rdsrt_receiver it;
-    struct rdsrt_twice other;
+    struct rdsrt_receiver it, other;
     struct rdsrt_held is;
     CHECK(rdsrt_receiver_init(&it, 0xC201, 3) == RDSRT_OK);
     rdsrt_receiver_held(&it, &is);
@@ -99,12 +98,12 @@ static void held(void) {
     rdsrt_receiver_slot(&it, NULL, 0);
     rdsrt_receiver_held(&it, &is);
     CHECK(is.text.held == 1 && is.text.age == 2 && is.name.held == 0 && is.name.age == 3);
-    CHECK(rdsrt_twice_init(&other, 0xC201, 8, 3) == RDSRT_OK);
-    rdsrt_twice_slot(&other, hi, 4);
-    rdsrt_twice_held(&other, &is);
+    CHECK(rdsrt_receiver_init_confirming(&other, 0xC201, 8, 3) == RDSRT_OK);
+    rdsrt_receiver_slot(&other, hi, 4);
+    rdsrt_receiver_held(&other, &is);
     CHECK(is.text.held == 0 && is.text.age == 8);
-    rdsrt_twice_slot(&other, hi, 4);
-    rdsrt_twice_held(&other, &is);
+    rdsrt_receiver_slot(&other, hi, 4);
+    rdsrt_receiver_held(&other, &is);
     CHECK(is.text.held == 1 && is.text.age == 0 && is.name.held == 0 && is.name.age == 8);
 }
 
@@ -324,7 +323,7 @@ int main(void) {
     never_initialised();
     receiver();
     tags_shown();
-    twice();
+    confirming();
     held();
     names();
     encoder();

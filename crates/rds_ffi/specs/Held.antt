@@ -6,7 +6,7 @@ use Rattle.rds_block.specs.declared.group.Group.{Group}
 use Rattle.rds_fields.specs.declared.message.Message.{Message}
 use Rattle.rds_receiver.specs.Receipts.{AreHeard, Fragment, Segment, Tuning, name_fragment, segments, text_fragment}
 use Rattle.rds_receiver.specs.Run.{cells_of, run}
-use Rattle.rds_receiver.specs.StandsAt.{HasAge, newest_slot}
+use Rattle.rds_receiver.specs.Holds.{HasAge, newest_slot}
 use Rattle.rds_receiver.specs.Twice.{counted}
 use Rattle.rds_ffi.specs.declared.held.RdsrtHeld.{RdsrtHeld}
 use Rattle.rds_ffi.specs.declared.held.RdsrtSegments.{RdsrtSegments}

@@ -5,7 +5,6 @@ pub mod Held
 pub mod Names
 pub mod Labels
 pub mod ReceiverInMemory
-pub mod TwiceInMemory
 pub mod EncoderInMemory
 pub mod Sent
 pub mod Texts

@@ -2,9 +2,8 @@
 ghost use Rattle.std.specs.Prelude.{◌≡◌};
 ghost use Rattle.rds_ffi.specs.Held.{IsHeld};
 ghost use Rattle.rds_ffi.specs.ReceiverInMemory.{WhereItIs};
-ghost use Rattle.rds_ffi.specs.TwiceInMemory as twice;
 
-use rds_receiver::{StoredReceiver, StoredTwice};
+use rds_receiver::{StoredReceiver, StoredSegments};
 
 /// The held segments of a text or a name. Bit a of `held` is 1 if segment a is held. `age` is the number of slots since
 /// the newest one came, or the dwell if none is held.
@@ -23,35 +22,23 @@ pub struct RdsrtHeld {
     pub name: RdsrtSegments,
 }
 
-/// Writes which segments the receiver holds.
+/// Writes which segments of what counts the receiver holds.
 #[unsafe(no_mangle)]
 pub extern "C" fn rdsrt_receiver_held(receiver: &StoredReceiver, held: &mut RdsrtHeld)
     ensures { WhereItIs receiver.now (λ t input. IsHeld t input held.new) }
 {
-    *held = held_in(receiver);
-}
-
-/// Does the same for a receiver that shows only what it heard twice, of the segments that it heard twice.
-#[unsafe(no_mangle)]
-pub extern "C" fn rdsrt_twice_held(receiver: &StoredTwice, held: &mut RdsrtHeld)
-    ensures { twice.WhereItIs receiver.now (λ t input. IsHeld t input held.new) }
-{
-    *held = held_in(&receiver.receiver);
+    *held = RdsrtHeld {
+        text: held_in(&receiver.display.text),
+        name: held_in(&receiver.display.name),
+    };
 }
 
 /// Returns the numbers of the held segments.
-fn held_in(receiver: &StoredReceiver) -> RdsrtHeld
-    ensures text { result.text ≡ record { held = receiver.now.text.mask; age = receiver.now.text.age } }
-    ensures name { result.name ≡ record { held = receiver.now.name.mask; age = receiver.now.name.age } }
+fn held_in(segments: &StoredSegments) -> RdsrtSegments
+    ensures { result ≡ record { held = segments.now.mask; age = segments.now.age } }
 {
-    RdsrtHeld {
-        text: RdsrtSegments {
-            held: receiver.text.mask,
-            age: receiver.text.age,
-        },
-        name: RdsrtSegments {
-            held: receiver.name.mask,
-            age: receiver.name.age,
-        },
+    RdsrtSegments {
+        held: segments.mask,
+        age: segments.age,
     }
 }

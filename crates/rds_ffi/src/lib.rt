@@ -15,14 +15,11 @@ mod reply;
 mod slots;
 mod tags;
 mod text;
-mod twice;
 mod version;
 mod view;
 
 // The sizes that the C header states.
-const _: () = prove!(size_of::<rds_receiver::StoredReceiver>() == 154);
-
-const _: () = prove!(size_of::<rds_receiver::StoredTwice>() == 264);
+const _: () = prove!(size_of::<rds_receiver::StoredReceiver>() == 264);
 
 const _: () = prove!(size_of::<rds_encoder::StoredEncoder>() == 116);
 

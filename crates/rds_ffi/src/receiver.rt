@@ -1,10 +1,11 @@
 //! A receiver in the caller's memory.
-ghost use Rattle.std.specs.Prelude.{◌≡◌, ◌≢◌, ◌<◌, ◌↔◌, ◌⊎◌, ℕ, List, [], ◌∷◌, None, Option};
+ghost use Rattle.std.specs.Prelude.{◌≡◌, ◌≢◌, ◌<◌, ◌↔◌, ◌⊎◌, ℕ, List, [], ◌∷◌, None, Option, Some};
 ghost use Rattle.rds_block.specs.declared.group.Group.{Group};
 ghost use Rattle.rds_fields.specs.declared.message.Message.{Message};
 ghost use Rattle.rds_receiver.specs.Receipts.{AreHeard};
 ghost use Rattle.rds_receiver.specs.Shown.{IsView, ShownView};
 ghost use Rattle.rds_receiver.specs.Tags.{pair_held};
+ghost use Rattle.rds_receiver.specs.Twice.{counted};
 ghost use Rattle.rds_ffi.specs.Codes.{RDSRT_BAD_ARGUMENT, RDSRT_CHANGED, RDSRT_OK};
 ghost use Rattle.rds_ffi.specs.ReceiverInMemory.{ReceiverInMemory, WhereItIs};
 ghost use Rattle.rds_ffi.specs.Slots.{Bring, IsCount};
@@ -14,7 +15,7 @@ use crate::codes;
 use crate::slots::slot_of;
 use crate::view::{RdsrtView, seen};
 use rds_fields::Dwell;
-use rds_receiver::{Receiver, StoredReceiver};
+use rds_receiver::{Receiver, StoredReceiver, Window};
 
 /// Makes a receiver of this programme that heard nothing yet. The dwell is in slots.
 ///
@@ -34,6 +35,35 @@ pub extern "C" fn rdsrt_receiver_init(receiver: &mut StoredReceiver, pi: u16, dw
         return codes::BAD_ARGUMENT;
     };
     *receiver = Receiver::new(pi, dwell).store();
+    codes::OK
+}
+
+/// Does the same for a receiver that shows only what it heard twice within a window. The window is in slots, too.
+///
+/// # Errors
+///
+/// `RDSRT_BAD_ARGUMENT` and no change if the dwell is 0, or if the window is below 2 or above 255.
+#[unsafe(no_mangle)]
+pub extern "C" fn rdsrt_receiver_init_confirming(
+    receiver: &mut StoredReceiver,
+    pi: u16,
+    dwell: u16,
+    window: u16,
+) -> u32
+    ensures code { result ≡ RDSRT_OK ↔ ((0 < dwell) × (1 < window) × (window < 256)) }
+    ensures bad { result ≢ RDSRT_OK → result ≡ RDSRT_BAD_ARGUMENT }
+    ensures stands { result ≡ RDSRT_OK → (first : ℕ)
+        → ReceiverInMemory record { programme = pi; dwell = dwell; window = Some window; first = first }
+        receiver.new [] }
+    ensures kept { result ≢ RDSRT_OK → receiver.new ≡ receiver.old }
+{
+    let Some(dwell) = Dwell::new(dwell) else {
+        return codes::BAD_ARGUMENT;
+    };
+    let Some(window) = Window::new(window) else {
+        return codes::BAD_ARGUMENT;
+    };
+    *receiver = Receiver::tuned(pi, dwell, Some(window)).store();
     codes::OK
 }
 
@@ -68,8 +98,8 @@ pub extern "C" fn rdsrt_receiver_slot(receiver: &mut StoredReceiver, blocks: &[u
 pub extern "C" fn rdsrt_receiver_view(receiver: &StoredReceiver, view: &mut RdsrtView)
     ensures shown { WhereItIs receiver.now (λ t input. IsView t input (viewed view.new)) }
     ensures tags { WhereItIs receiver.now (λ t input. (heard : List (Option Message))
-        → AreHeard t.programme input heard → AreTagsOf (pair_held t.dwell t.first heard) view.new) }
+        → AreHeard t.programme input heard → AreTagsOf (pair_held t.dwell t.first (counted t heard)) view.new) }
     ensures plain { IsPlainView view.new }
 {
-    *view = seen(&Receiver::restore(receiver));
+    *view = seen(receiver);
 }

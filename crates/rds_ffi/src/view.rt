@@ -1,16 +1,19 @@
 //! The view of a receiver as a plain struct.
-ghost use Rattle.std.specs.Prelude.{◌≡◌, ◌≢◌, ◌+◌, ◌≤◌, ℕ, List, None, Some, length};
+ghost use Rattle.std.specs.Prelude.{◌≡◌, ◌≢◌, ◌+◌, ◌≤◌, ℕ, List, None, Option, Some, length};
 ghost use Rattle.std.specs.Option.{ForSome, option_copied};
+ghost use Rattle.rds_fields.specs.declared.message.Message.{Message};
+ghost use Rattle.rds_receiver.specs.Receipts.{AreHeard};
 ghost use Rattle.rds_receiver.specs.Shown.{IsShortText, IsView};
-ghost use Rattle.rds_receiver.specs.StandsAt.{WhatItHeard, WhereItStands};
 ghost use Rattle.rds_receiver.specs.Tags.{cut_by, pair_held, tag_of};
+ghost use Rattle.rds_receiver.specs.Twice.{counted};
+ghost use Rattle.rds_ffi.specs.ReceiverInMemory.{WhereItIs};
 ghost use Rattle.rds_ffi.specs.Viewed as specs;
 ghost use Rattle.rds_ffi.specs.Viewed.{AreTagsOf, IsPlainItem, IsPlainName, IsPlainText, IsPlainView, IsTagOf};
 ghost use Rattle.rds_ffi.specs.Viewed.{count_of, item_viewed, name_viewed, tag_plain, tag_viewed, text_viewed, viewed};
 
 use rds_assembly::LONGEST_TEXT;
 use rds_fields::{TagPair, Which};
-use rds_receiver::Receiver;
+use rds_receiver::StoredReceiver;
 
 /// A text, its first `length` bytes. `is_shown` is 0 if there is none.
 #[repr(C)]
@@ -59,9 +62,10 @@ pub struct RdsrtView {
 }
 
 /// Returns the view of the receiver.
-pub(crate) fn seen(receiver: &Receiver) -> RdsrtView
-    ensures shown { WhereItStands receiver.now (λ t input. IsView t input (viewed result)) }
-    ensures tags { WhatItHeard receiver.now (λ m first heard. AreTagsOf (pair_held m first heard) result) }
+pub(crate) fn seen(receiver: &StoredReceiver) -> RdsrtView
+    ensures shown { WhereItIs receiver.now (λ t input. IsView t input (viewed result)) }
+    ensures tags { WhereItIs receiver.now (λ t input. (heard : List (Option Message))
+        → AreHeard t.programme input heard → AreTagsOf (pair_held t.dwell t.first (counted t heard)) result) }
     ensures plain { IsPlainView result }
 {
     let text = receiver.text();

@@ -5,7 +5,7 @@ import functools
 import os
 from typing import Any, Dict, Iterator, List, Tuple
 
-ABI = 3
+ABI = 4
 NAME = f"librdsrt.so.{ABI}"
 DEFAULT_DWELL = 128
 OK, DONE, BAD_ARGUMENT, SILENT, HELD, NO_TEXT, OUT_OF_TEXT_1, OUT_OF_TEXT_2 = 0, 1, 2, 3, 4, 5, 6, 7
@@ -72,20 +72,17 @@ class Version(ctypes.Structure):
     _fields_ = [("abi", u32), ("major", u32), ("minor", u32), ("patch", u32)]
 
 
-Receiver, Twice, Encoder, Audit = u16 * 77, u32 * 66, u32 * 29, u32 * 52
-SIZES: Dict[Any, int] = {Receiver: 154, Twice: 264, Encoder: 116, Audit: 208, View: 84, OnAir: 75, Tags: 8, Reply: 8, Wait: 12,
+Receiver, Encoder, Audit = u32 * 66, u32 * 29, u32 * 52
+SIZES: Dict[Any, int] = {Receiver: 264, Encoder: 116, Audit: 208, View: 84, OnAir: 75, Tags: 8, Reply: 8, Wait: 12,
                          HeldSegments: 8, Label: 32}
 ANY = ctypes.c_void_p
 CALLS: Dict[str, Tuple[Any, List[Any]]] = {
     "version": (Version, []),
     "receiver_init": (u32, [ANY, u16, u16]),
+    "receiver_init_confirming": (u32, [ANY, u16, u16, u16]),
     "receiver_slot": (u32, [ANY, ANY, size_t]),
     "receiver_view": (None, [ANY, ANY]),
     "receiver_held": (None, [ANY, ANY]),
-    "twice_init": (u32, [ANY, u16, u16, u16]),
-    "twice_slot": (u32, [ANY, ANY, size_t]),
-    "twice_view": (None, [ANY, ANY]),
-    "twice_held": (None, [ANY, ANY]),
     "slot_time": (u64, [u32]),
     "time_in": (u32, [ANY, size_t, ANY]),
     "lost_slots": (u32, [u64, u64, u32]),

@@ -109,18 +109,15 @@ class _Plain:
         """The dwell in slots."""
         return self._dwell
 
-    def _struct(self) -> Any:
-        return self._type
-
     def __getstate__(self) -> Dict[str, Any]:
         return {**self.__dict__, "_its": bytes(self._its), "_abi": c.ABI}
 
     def __setstate__(self, state: Dict[str, Any]) -> None:
         its = state["_its"]
         self.__dict__.update({name: it for name, it in state.items() if name not in ("_its", "_abi")})
-        if state["_abi"] != c.ABI or len(its) != ctypes.sizeof(self._struct()):
+        if state["_abi"] != c.ABI or len(its) != ctypes.sizeof(self._type):
             raise ValueError("this state is of another version of the library")
-        self._its = self._struct().from_buffer_copy(its)
+        self._its = self._type.from_buffer_copy(its)
 
     def __copy__(self: _Any) -> _Any:
         other = type(self).__new__(type(self))
@@ -142,20 +139,18 @@ class Receiver(_Plain):
 
     With a `window`, 2 to 255 slots, it shows only what it received twice less than so many slots apart. Its groups may
     have corrected bits."""
+    _type = c.Receiver
     _window: Optional[int]
 
     def __init__(self, pi: SupportsIndex, dwell: SupportsIndex = c.DEFAULT_DWELL, *,
                  window: Optional[SupportsIndex] = None):
         self._pi, self._dwell = in_range("pi", pi, 0, 0xFFFF), in_range("dwell", dwell, 1, 0xFFFF)
         self._window = None if window is None else in_range("window", window, 2, 0xFF)
-        self._its = self._struct()()
+        self._its = self._type()
         if self._window is None:
             c.library().rdsrt_receiver_init(self._its, self.pi, self.dwell)
         else:
-            c.library().rdsrt_twice_init(self._its, self.pi, self.dwell, self._window)
-
-    def _struct(self) -> Any:
-        return c.Receiver if self._window is None else c.Twice
+            c.library().rdsrt_receiver_init_confirming(self._its, self.pi, self.dwell, self._window)
 
     def __repr__(self) -> str:
         window = "" if self._window is None else f", window {self._window}"
@@ -170,16 +165,13 @@ class Receiver(_Plain):
         """Ends a slot with this group, or with None if no whole group arrived. Returns whether the view may have
         changed."""
         blocks, count = _blocks(group)
-        library = c.library()
-        call = library.rdsrt_receiver_slot if self._window is None else library.rdsrt_twice_slot
-        return bool(call(self._its, blocks, count) == c.DONE)
+        return bool(c.library().rdsrt_receiver_slot(self._its, blocks, count) == c.DONE)
 
     @property
     def view(self) -> View:
         """Everything that the receiver shows at the end of its last slot."""
-        it, library = c.View(), c.library()
-        call = library.rdsrt_receiver_view if self._window is None else library.rdsrt_twice_view
-        call(self._its, ctypes.byref(it))
+        it = c.View()
+        c.library().rdsrt_receiver_view(self._its, ctypes.byref(it))
         text = bytes(it.text.bytes)
         tags = tuple(Tag(content_type_of(tag.content_type), shown(text[tag.start:tag.start + tag.length]), tag.start,
                          tag.length) for tag in (it.tag1, it.tag2) if tag.length)
@@ -189,9 +181,8 @@ class Receiver(_Plain):
     @property
     def segments(self) -> Tuple[Segments, Segments]:
         """The segments that are held of the text and of the name, complete or not."""
-        it, library = c.HeldSegments(), c.library()
-        call = library.rdsrt_receiver_held if self._window is None else library.rdsrt_twice_held
-        call(self._its, ctypes.byref(it))
+        it = c.HeldSegments()
+        c.library().rdsrt_receiver_held(self._its, ctypes.byref(it))
         text, name = (Segments(tuple(a for a in range(16) if of.held >> a & 1), of.age) for of in (it.text, it.name))
         return text, name
 

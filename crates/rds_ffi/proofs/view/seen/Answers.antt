@@ -2,26 +2,29 @@ use Rattle.std.proofs.Common.{◌∙◌, ap, subst}
 use Rattle.std.specs.Option.{option_copied}
 use Rattle.rds_fields.specs.declared.pair.Which.TheVariants.{One, Two}
 use Rattle.rds_receiver.specs.Tags.{tag_of}
-use Rattle.rds_receiver.specs.TwiceLemmas.{view_of_all}
 use Rattle.rds_ffi.specs.Viewed.{IsTagOf}
 use Rattle.rds_ffi.proofs.view.seen.Goals as goal
 
 pub returns-clause-shown : goal.returns-clause-shown
-returns-clause-shown c t input s =
+returns-clause-shown c t input is =
+    let s = is.at in
     let text = c.text-text.ensures.shown t input s s.heard s.are in
-    let shown = option_copied c.text-text.result in
-    view_of_all t input s.heard _ s.windowless s.are record {
-      text = rw c.plain_text.ensures.same text;
-      name = rw c.plain_name.ensures.same (c.name.ensures.shown t input s s.heard s.are);
-      item = c.plain_item.ensures.same ∙ rw c.plain_text.ensures.same (c.item.ensures t input s s.heard s.are _ text);
-      one = rw c.plain_text.ensures.same (c.plain_tag.ensures.same ∙ ap (tag_of One shown) (c.pair.ensures t input s s.heard s.are));
-      two = rw c.plain_text.ensures.same (c.plain_tag-2.ensures.same ∙ ap (tag_of Two shown) (c.pair-2.ensures t input s s.heard s.are));
-    }
+    let shown = option_copied c.text-text.result in (
+      s.heard,
+      s.are,
+      record {
+        text = rw c.plain_text.ensures.same text;
+        name = rw c.plain_name.ensures.same (c.name.ensures.shown t input s s.heard s.are);
+        item = c.plain_item.ensures.same ∙ rw c.plain_text.ensures.same (c.item.ensures is.good t input s s.heard s.are _ text);
+        one = rw c.plain_text.ensures.same (c.plain_tag.ensures.same ∙ ap (tag_of One shown) (c.pair.ensures is.good t input s s.heard s.are));
+        two = rw c.plain_text.ensures.same (c.plain_tag-2.ensures.same ∙ ap (tag_of Two shown) (c.pair-2.ensures is.good t input s s.heard s.are));
+      },
+    )
 
 pub returns-clause-tags : goal.returns-clause-tags
-returns-clause-tags c t input s heard are = record {
-  one = subst (λ p. IsTagOf One p c.plain_tag.result) (c.pair.ensures t input s heard are) c.plain_tag.ensures.of_pair;
-  two = subst (λ p. IsTagOf Two p c.plain_tag-2.result) (c.pair-2.ensures t input s heard are) c.plain_tag-2.ensures.of_pair;
+returns-clause-tags c t input is heard are = record {
+  one = subst (λ p. IsTagOf One p c.plain_tag.result) (c.pair.ensures is.good t input is.at heard are) c.plain_tag.ensures.of_pair;
+  two = subst (λ p. IsTagOf Two p c.plain_tag-2.result) (c.pair-2.ensures is.good t input is.at heard are) c.plain_tag-2.ensures.of_pair;
 }
 
 pub returns-clause-plain : goal.returns-clause-plain
