@@ -22,4 +22,5 @@ pub use laws::{
     text_is_read_one_way,
 };
 pub use printing::{push_text, write_text};
+pub use rds_io::{TellingRead, TellingWrite, Told, WriteFault, put};
 pub use reading::{Stop, TextFault, measure_text, read_text};
