@@ -9,7 +9,8 @@ use std::test::Fail;
 /// The programme that the receivers are of.
 const PI: u16 = 0xC201;
 
-/// After a wrong group, a receiver that shows what it heard once shows a mix. The other one shows the text a round later.
+/// After a wrong group, a receiver that shows what it heard once shows a mix. The other one shows the text a round
+/// later.
 #[test]
 fn wrong_group(rt: HostRuntime) -> Result<(), Fail> {
     let first = [PI, 0x2140, 0x4141, 0x4141];

@@ -17,8 +17,8 @@ use rds_io::{Lines, TellingWrite, WriteFault};
 use rds_receiver::{Receiver, Whys};
 use rds_view_lines::{KeptView, SLOT_ROOM, Stamp, show};
 
-/// Feeds a receiver slot by slot, and appends a line for each part of its view that changed. The line of a text or a name
-/// that is not shown any more may say why.
+/// Feeds a receiver slot by slot, and appends a line for each part of its view that changed. The line of a text or a
+/// name that is not shown any more may say why.
 #[derive(Drop)]
 pub(crate) struct ViewLines {
     receiver: Receiver,

@@ -126,7 +126,8 @@ pub record Runs {X : Type 0} (Engine : Traffic → Result X LogFault → Type 0)
 abbrev pub once : ℕ → Premise
 once late = record { late = late; window = None }
 
--- the same for receivers with this window or none; there is none such if the lateness of what counts is above 1024 slots
+-- the same for receivers with this window or none; there is none such if the lateness of what counts is above 1024
+-- slots
 abbrev pub premise_of : ℕ → Option ℕ → Option Premise
 premise_of late window =
     if nat_le (lateness_in window late) 1024 then Some (record { late = late; window = window }) else None
@@ -167,8 +168,8 @@ pub record RefusesWindow (task : Task) (w : Traffic) (status : ℕ) : Type 0 whe
   pub status_is : status ≡ 2
   pub told : TellsFault task (codes "fault confirm") w
 
--- the simulation of this station ran, with reasons or without; without a station its window was refused, and nothing was
--- read
+-- the simulation of this station ran, with reasons or without; without a station its window was refused, and nothing
+-- was read
 abbrev pub SimulationRuns : Bool → Option Config → Task → ReaderOver → Traffic → ℕ → Type 0
 SimulationRuns why None task r w status = RefusesWindow task w status × r.Untouched
 SimulationRuns why (Some station) task r w status =

@@ -47,7 +47,8 @@ runs_without_memory words Engine w status memory rests = record {
 
 -- the run of a script, with another statement about its reads
 script_by : {P Q : Type 0} → (P → Q) → (form : Form) (config : Config) (task : Task) (known : Option (List ℕ))
-    (w : Traffic) (status : ℕ) → Runs (Plays form config (2 ^ 32) record { known = known; Failed = P }) done task w status
+    (w : Traffic) (status : ℕ)
+    → Runs (Plays form config (2 ^ 32) record { known = known; Failed = P }) done task w status
     → Runs (Plays form config (2 ^ 32) record { known = known; Failed = Q }) done task w status
 script_by says form config task known w status ran = record {
   outcome = ran.outcome;

@@ -1,5 +1,5 @@
--- How the state of a receiver follows from what was heard: the display from what counts of it, and with a window the last
--- segments and tags, which confirm others. Lists have the newest first.
+-- How the state of a receiver follows from what was heard: the display from what counts of it, and with a window the
+-- last segments and tags, which confirm others. Lists have the newest first.
 use Rattle.std.specs.Prelude.{◌≡◌, ◌+◌, ◌-◌, ◌<◌, ◌==◌, ℕ, Bool, List, [], ◌∷◌, Option, Some, None}
 use Rattle.std.specs.Prelude.{length, nat_lt, slice_index_or, if◌then◌else◌}
 use Rattle.std.specs.Int.{bit_at}

@@ -43,7 +43,8 @@ pub record HoldsAt (m t first : ℕ) (r : DisplayState) (heard : List (Option Me
 -- this holds of the dwell, the first slot and what was heard, for each list that the display may follow from
 abbrev pub WhatItShows : DisplayState → (ℕ → ℕ → List (Option Message) → Type 0) → Type 0
 WhatItShows r Holds =
-    (m first : ℕ) (heard : List (Option Message)) → HoldsAt m (newest_slot first heard) first r heard → Holds m first heard
+    (m first : ℕ) (heard : List (Option Message)) → HoldsAt m (newest_slot first heard) first r heard
+    → Holds m first heard
 
 -- the receiver took a message in a slot: whatever was heard before, if the old state follows from it in this slot, the
 -- new one follows from it and the message

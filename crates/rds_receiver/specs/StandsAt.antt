@@ -29,8 +29,8 @@ abbrev pub KeepsView : ReceiverState → Option Group → Type 0
 KeepsView r group =
     (view : ShownView) → WhereItStands r (λ t input. IsView t input view → IsView t (group ∷ input) view)
 
--- this holds of the dwell, the first slot and what counts of what was heard, for each tuning and input that the receiver
--- stands at
+-- this holds of the dwell, the first slot and what counts of what was heard, for each tuning and input that the
+-- receiver stands at
 abbrev pub WhatItHeard : ReceiverState → (ℕ → ℕ → List (Option Message) → Type 0) → Type 0
 WhatItHeard r Holds = WhereItStands r (λ t input.
     (heard : List (Option Message)) → AreHeard t.programme input heard → Holds t.dwell t.first (counted t heard))

@@ -1,5 +1,6 @@
 -- Lemmas about confirmed messages. Lists have the newest first.
-use Rattle.std.proofs.Common.{◌≡◌, ◌&&◌, ◌==◌, ◌+◌, ℕ, suc, Bool, true, false, List, [], ◌∷◌, Option, Some, None, length, refl, ap}
+use Rattle.std.proofs.Common.{◌≡◌, ◌&&◌, ◌==◌, ◌+◌, ℕ, suc, Bool, true, false, List, [], ◌∷◌, Option, Some, None}
+use Rattle.std.proofs.Common.{length, refl, ap}
 use Rattle.std.proofs.lemmas.Bool.{and_parts, eqb-true}
 use Rattle.rds_fields.specs.declared.message.Message.{Message}
 use Rattle.rds_fields.specs.Tag.{PairFields, TagFields}
@@ -13,12 +14,14 @@ confirmed_long w m first [] = refl
 confirmed_long w m first (x ∷ before) = ap suc (confirmed_long w m first before)
 
 -- as many entries were heard as count or not
-pub counted_long : (window : Option ℕ) (m first : ℕ) (heard : List (Option Message)) → length (counted_in window m first heard) ≡ length heard
+pub counted_long : (window : Option ℕ) (m first : ℕ) (heard : List (Option Message))
+    → length (counted_in window m first heard) ≡ length heard
 counted_long None m first heard = refl
 counted_long (Some w) m first heard = confirmed_long w m first heard
 
 -- so the newest slot is the same
-pub newest_counted : (window : Option ℕ) (m first : ℕ) (heard : List (Option Message)) → newest_slot first (counted_in window m first heard) ≡ newest_slot first heard
+pub newest_counted : (window : Option ℕ) (m first : ℕ) (heard : List (Option Message))
+    → newest_slot first (counted_in window m first heard) ≡ newest_slot first heard
 newest_counted None m first heard = refl
 newest_counted (Some w) m first [] = refl
 newest_counted (Some w) m first (x ∷ before) = ap (λ (n : ℕ). first + n) (confirmed_long w m first before)
@@ -41,7 +44,8 @@ one_tag x y t =
 
 pub one_pair : (p q : PairFields) → same_pair p q ≡ true → p ≡ q
 one_pair p q t =
-    let parts = and_parts (is_same p.toggle q.toggle && is_same p.running q.running) (same_tag p.one q.one && same_tag p.two q.two) t in
+    let parts = and_parts (is_same p.toggle q.toggle && is_same p.running q.running)
+          (same_tag p.one q.one && same_tag p.two q.two) t in
     let bits = and_parts (is_same p.toggle q.toggle) (is_same p.running q.running) parts.0 in
     let tags = and_parts (same_tag p.one q.one) (same_tag p.two q.two) parts.1 in
     let toggle : p.toggle ≡ q.toggle = one_flag p.toggle q.toggle bits.0 in

@@ -21,7 +21,8 @@ pub struct StoredSegments {
     pub flag: u8,
 }
 
-/// All that a display follows from, as plain numbers. Whether a value is whole is not stored: each call that asks finds out.
+/// All that a display follows from, as plain numbers. Whether a value is whole is not stored: each call that asks
+/// finds out.
 #[repr(C)]
 #[derive(Clone, Copy)]
 pub struct StoredDisplay {
@@ -60,7 +61,8 @@ impl StoredDisplay {
     #[inline(always)]
     pub(crate) fn hear(&mut self, message: Message) -> bool
         ensures programme { self.new.pi ≡ self.old.pi }
-        ensures holds { IsStoredDisplay self.old → HearsMore (display_stored self.old) (display_stored self.new) message }
+        ensures holds { IsStoredDisplay self.old
+            → HearsMore (display_stored self.old) (display_stored self.new) message }
         ensures same { IsFalse result → ShowsAlike (display_stored self.old) (display_stored self.new) }
         ensures good { IsStoredDisplay self.old → IsStoredDisplay self.new }
     {

@@ -86,7 +86,8 @@ impl StoredReceiver {
     fn age_lasts(&mut self)
         ensures display { self.new.display ≡ self.old.display }
         ensures lasts { (w m first : ℕ) (heard : List (Option Message))
-            → HoldsAt m (first + length heard) first (display_stored self.old.display) (counted_in (Some w) m first heard)
+            → HoldsAt m (first + length heard) first (display_stored self.old.display)
+            (counted_in (Some w) m first heard)
             → HoldsLastsIn (Some w) m (newest_slot first heard) first (receiver_stored self.old) heard
             → HoldsLastsIn (Some w) m (first + length heard) first (receiver_stored self.new) heard }
         ensures good { IsStored self.old → IsStored self.new }

@@ -35,8 +35,8 @@ abbrev pub HearsWithin : ℕ → (Message → Option Fragment) → Input → Typ
 HearsWithin m pick input =
     CameWithin m (newest_slot input.first input.heard) (segments pick input.first input.heard)
 
--- it shows the same as a receiver with a dwell of m slots, if no m slots went by without a segment of a text, nor without
--- one of a name, since the first one of each
+-- it shows the same as a receiver with a dwell of m slots, if no m slots went by without a segment of a text, nor
+-- without one of a name, since the first one of each
 abbrev pub TheFlagAloneIsADwellWhileHeard : Type 0
 TheFlagAloneIsADwellWhileHeard =
     (m : ℕ) (input : Input) (view : ShownView) → HearsWithin m text_fragment input → HearsWithin m name_fragment input

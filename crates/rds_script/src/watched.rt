@@ -1,5 +1,6 @@
 //! A world, and the changes of its receivers' views.
-ghost use Rattle.std.specs.Prelude.{◌≡◌, ◌≤◌, ◌<◌, ◌+◌, ◌*◌, ◌++◌, ◌∷◌, [], ℕ, IfErr, IfOk, OnErr, OnOk, length, map, slice_index_or};
+ghost use Rattle.std.specs.Prelude.{◌≡◌, ◌≤◌, ◌<◌, ◌+◌, ◌*◌, ◌++◌, ◌∷◌, [], ℕ, IfErr, IfOk, OnErr, OnOk, length, map};
+ghost use Rattle.std.specs.Prelude.{slice_index_or};
 ghost use Rattle.rds_safety.specs.Late.{Input};
 ghost use Rattle.rds_world.specs.declared.event.Reception.TheVariants.{Lost};
 ghost use Rattle.rds_world.specs.declared.event.TheConstants.{MOST_RECEIVERS};
@@ -13,7 +14,8 @@ ghost use Rattle.rds_view_lines.specs.KeptView.{view_kept};
 ghost use Rattle.rds_script.specs.Inside.Compared.{HasRoom};
 ghost use Rattle.rds_script.specs.Inside.Watched.{AreKept, WereShown};
 ghost use Rattle.rds_script.specs.Notes.{first_of, wait_of};
-ghost use Rattle.rds_script.specs.Outcomes.{IsOutcome, Outcome, compared_lines, receiver_changes, slot_lines, view_at, whys_after, whys_at, whys_said};
+ghost use Rattle.rds_script.specs.Outcomes.{IsOutcome, Outcome, compared_lines, receiver_changes, slot_lines, view_at};
+ghost use Rattle.rds_script.specs.Outcomes.{whys_after, whys_at, whys_said};
 ghost use Rattle.rds_script.specs.declared.row.RowRefused.TheVariants as refused;
 ghost use Rattle.rds_script.specs.declared.watched.TheConstants.{OUTPUT_ROOM, ROW_ROOM};
 ghost use Rattle.rds_view_lines.specs.declared.change.TheConstants.{SLOT_ROOM};

@@ -1,5 +1,6 @@
 //! Drops each receiver that holds only a part of what another kept one holds.
-ghost use Rattle.std.specs.Prelude.{◌≡◌, ◌≤◌, ◌<◌, ◌⊎◌, ◌↔◌, ◌∷◌, ◌+◌, All, IsFalse, IsTrue, List, None, OnOk, Option, Some, length, slice_index_or, true, ℕ};
+ghost use Rattle.std.specs.Prelude.{◌≡◌, ◌≤◌, ◌<◌, ◌⊎◌, ◌↔◌, ◌∷◌, ◌+◌, All, IsFalse, IsTrue, List, None, OnOk, Option};
+ghost use Rattle.std.specs.Prelude.{Some, length, slice_index_or, true, ℕ};
 ghost use Rattle.std.specs.FinMap.{get};
 ghost use Rattle.rds_assembly.specs.Body.{segment_of};
 ghost use Rattle.rds_assembly.specs.Held.{held_cells};

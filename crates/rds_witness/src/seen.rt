@@ -1,5 +1,6 @@
 //! The parts that a receiver without a loss shows, and the first slot of each.
-ghost use Rattle.std.specs.Prelude.{◌≡◌, ◌+◌, ◌<◌, All, Bool, IfOk, IsTrue, List, None, OnOk, Option, Some, ℕ, length, slice_index_or, true};
+ghost use Rattle.std.specs.Prelude.{◌≡◌, ◌+◌, ◌<◌, All, Bool, IfOk, IsTrue, List, None, OnOk, Option, Some, ℕ, length};
+ghost use Rattle.std.specs.Prelude.{slice_index_or, true};
 ghost use Rattle.std.specs.Option.{option_copied};
 ghost use Rattle.rds_block.specs.declared.group.Group.{Group};
 ghost use Rattle.rds_fields.specs.declared.pair.Which.{Which};
@@ -339,8 +340,8 @@ impl AllSeen {
         }
     }
 
-    /// Returns whether a receiver that loses nothing shows all parts of this one in some of the first slots. If the view
-    /// did not change, it does.
+    /// Returns whether a receiver that loses nothing shows all parts of this one in some of the first slots. If the
+    /// view did not change, it does.
     pub(crate) fn has_all(&self, slots: usize, one: &Lossy) -> bool
         ensures { IsTrue result → IsStored one.now.receiver → (t : Tuning) (log : List (Option Group))
             → AreSeen t log self.now → IsChecked t log slots one.now

@@ -46,11 +46,12 @@ IsNew config r =
 pub record AllHaveHeard (config : Config) (inputs : ℕ → Input) (receivers : List ReceiverState) : Type 0 where
   pub each : (i : ℕ) (r : ReceiverState) → slice_get receivers i ≡ Some r → HasHeard config (inputs i) r
 
--- these are the groups of the last K + 1 slots, the newest first: receivers of the programme hear the messages of the log
--- from them
+-- these are the groups of the last K + 1 slots, the newest first: receivers of the programme hear the messages of the
+-- log from them
 abbrev pub AreLastSent : Config → List (Option Message) → List (Option Group) → Type 0
 AreLastSent config sent groups =
-    (back : ℕ) → back ≤ config.premise.late → Hears config.head.pi (slice_index_or groups back None) (sent_back back sent)
+    (back : ℕ) → back ≤ config.premise.late
+    → Hears config.head.pi (slice_index_or groups back None) (sent_back back sent)
 
 -- the inputs of all receivers after one more slot, with the log up to this slot
 abbrev pub all_received : List Reception → ℕ → List (Option Message) → (ℕ → Input) → ℕ → Input

@@ -172,8 +172,8 @@ impl World {
         Ok(Answer { reply, sent })
     }
 
-    /// Returns what is on air, borrowed from the encoder: the text, the name, and the tags of the text, even if they have
-    /// not been sent yet.
+    /// Returns what is on air, borrowed from the encoder: the text, the name, and the tags of the text, even if they
+    /// have not been sent yet.
     pub fn on_air(&self) -> View<'_>
         ensures { WhereItStands self.now (λ config events. view_of result ≡ air_of config events) }
     {

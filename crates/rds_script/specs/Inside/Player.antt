@@ -1,6 +1,7 @@
 -- The state of the parts of a script's engine: its reader after these records, and its station after their slots. Lists
 -- have the newest first.
-use Rattle.std.specs.Prelude.{◌≡◌, ◌⊎◌, ◌<◌, ◌++◌, ◌∷◌, ℕ, [], Bool, Err, List, None, Ok, Option, Result, Some, false, length, true}
+use Rattle.std.specs.Prelude.{◌≡◌, ◌⊎◌, ◌<◌, ◌++◌, ◌∷◌, ℕ, [], Bool, Err, List, None, Ok, Option, Result, Some, false}
+use Rattle.std.specs.Prelude.{length, true}
 use Rattle.std.specs.Io.KnownBytes.{Appends}
 use Rattle.csv.specs.Reading.{Ready, default_config, is_flexible, reader_config, reader_state, reader_trim, source_of}
 use Rattle.csv.specs.declared.reader.Trim.TheVariants.{None as untrimmed}
