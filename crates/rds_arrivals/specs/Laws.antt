@@ -45,7 +45,7 @@ FilledLogsAreOwnClocks X =
 abbrev pub FilledLogsAreSafe : Type 0
 FilledLogsAreSafe =
     (station : Head) (grain spread m first lost : ℕ) (plans : Plans) (log : List (Option Message))
-        (sent : List (Option Group))
+    (sent : List (Option Group))
     (newest : Delivery Group) (before : List (Delivery Group)) (view : ShownView)
     → AreBelowASlot grain spread → 0 < m
     → AreLawful m plans log → AllZip (IsSent station) log sent → AreDelivered spread sent (newest ∷ before)

@@ -45,10 +45,10 @@ abbrev pub days_to : ℕ → ℕ → ℕ → Option ℕ
 days_to year month day =
     if (month == 0) || nat_lt 12 month then None
     else if (day == 0)
-        || nat_lt (slice_index in_month (month - 1) + (if (month == 2) && is_leap year then 1 else 0)) day
+    || nat_lt (slice_index in_month (month - 1) + (if (month == 2) && is_leap year then 1 else 0)) day
     then None
     else Some (days_before year + slice_index before_month (month - 1)
-        + (if nat_lt 2 month && is_leap year then 1 else 0) + day - 1)
+    + (if nat_lt 2 month && is_leap year then 1 else 0) + day - 1)
 
 -- ---- a date and a time of day
 
@@ -93,9 +93,9 @@ digit_before text place end =
 abbrev pub fraction : List ℕ → ℕ → ℕ → ℕ
 fraction text first end =
     1000 * (100 * digit_before text first end + 10 * digit_before text (first + 1) end
-        + digit_before text (first + 2) end)
+    + digit_before text (first + 2) end)
     + (100 * digit_before text (first + 3) end + 10 * digit_before text (first + 4) end
-        + digit_before text (first + 5) end)
+    + digit_before text (first + 5) end)
 
 -- the microseconds of a fraction such as `.25`, and the place after it; there may be none
 abbrev pub fraction_at : List ℕ → ℕ → Stamp
@@ -131,7 +131,7 @@ dated text =
     option_and_then (λ days.
     if has_either text (at + 10) 32 84
     then option_and_then (λ second. let rest = fraction_at text (at + 19) in
-        zoned text ((days * 86400 + second) * 1000000 + rest.time) rest.end)
+    zoned text ((days * 86400 + second) * 1000000 + rest.time) rest.end)
     (second_of_day_at text (at + 11))
     else None)
     (date_at text at)
@@ -147,7 +147,7 @@ in_seconds text =
     let end = after_digits text 0 in
     if (end == 0) || nat_lt 12 end then None
     else let rest = fraction_at text end in
-        Some (record { time = 1000000 * number_of text end + rest.time; end = rest.end })
+    Some (record { time = 1000000 * number_of text end + rest.time; end = rest.end })
 
 -- the time ends with the text, a space or a carriage return
 abbrev pub is_over : List ℕ → ℕ → Bool

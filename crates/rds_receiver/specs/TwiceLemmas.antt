@@ -45,7 +45,7 @@ one_tag x y t =
 pub one_pair : (p q : PairFields) → same_pair p q ≡ true → p ≡ q
 one_pair p q t =
     let parts = and_parts (is_same p.toggle q.toggle && is_same p.running q.running)
-          (same_tag p.one q.one && same_tag p.two q.two) t in
+    (same_tag p.one q.one && same_tag p.two q.two) t in
     let bits = and_parts (is_same p.toggle q.toggle) (is_same p.running q.running) parts.0 in
     let tags = and_parts (same_tag p.one q.one) (same_tag p.two q.two) parts.1 in
     let toggle : p.toggle ≡ q.toggle = one_flag p.toggle q.toggle bits.0 in
