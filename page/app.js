@@ -174,6 +174,13 @@ const page = (() => {
     if (keys) keys.open = !keys.open;
   }
 
+  /* The link before all else leads over the road to the log: to its field for a file, or to its timeline. */
+  function skip(event) {
+    event.preventDefault();
+    tab("log");
+    [$("log-start-file"), logTab.timeline.canvas].find((it) => it.checkVisibility()).focus();
+  }
+
   function noEngine(error) {
     $("no-engine").hidden = false;
     $("no-engine").textContent = "This browser cannot run the program. It needs WebAssembly with 64-bit memory: "
@@ -209,6 +216,11 @@ const page = (() => {
     for (const opened of [logTab, scriptTab, dwellTab]) opened.begin(compiled);
     for (const name of Object.keys(WITH_INPUT)) beginInput(name);
     beginStart();
+    $("skip").onclick = skip;
+    road.begin(compiled, (...script) => replace("script", () => {
+      tab("script", true);
+      return scriptTab.open(...script);
+    }));
     await openExample("script", 0);
     for (const answer of ["yes", "no"]) $(`ask-${answer}`).onclick = () => $("ask").close(answer);
     for (const form of document.forms) form.onsubmit = (event) => event.preventDefault();
@@ -216,6 +228,7 @@ const page = (() => {
     drops();
     document.addEventListener("keydown", toggleKeys);
     tab(await openAddress());
+    road.greet();
     window.onhashchange = async () => { if (links.tabOf(location.hash.slice(1))) tab(await openAddress()); };
     window.onbeforeunload = (event) => { if (Object.keys(WITH_INPUT).some(isUnsaved)) event.preventDefault(); };
     state.ready = true;

@@ -95,8 +95,11 @@ const parts = (() => {
   /* What stands in place of a text that is not shown: why, if the program says so. */
   const noneAt = (view, slot) => view?.at("text", slot)?.why ?? "no text";
 
-  /* A display as a car has it: the name, the text and its tags at a slot. Parts that nobody sent make it red. */
+  /* The words for what a display shows that was never on air: in a script, where the program says so, and in a log. */
+  const MIXED = { led: (which) => which ? `${which}: mix` : "mix", words: "mix" };
   const NOBODY = { led: (which) => `nobody sent this ${which}`.trim(), words: "which nobody sent" };
+
+  /* A display as a car has it: the name, the text and its tags at a slot. Parts that nobody sent make it red. */
   function radio(root, caption, view, slot, { led: calm = "", none = noneAt(view, slot), mixed = NOBODY } = {}) {
     const mixes = mixesAt(view, slot), bad = mixes.length > 0;
     const led = bad ? mixed.led(mixes.includes("text") ? "" : mixes.join(" and ")) : calm;
@@ -147,7 +150,7 @@ const parts = (() => {
     const runs = view?.parts.text, next = runs ? runs.find((i) => runs.isShown(i), runs.indexAt(slot) + 1) : -1;
     const none = `The receiver with the dwell shows no text${run?.why ? ` (${run.why})` : ""}.`;
     if (next < 0) return none;
-    return `${none} It shows the next one when it is whole: in slot ${runs.from(next).toLocaleString("en")}.`;
+    return `${none} It shows the next one when it is complete: in slot ${runs.from(next).toLocaleString("en")}.`;
   }
 
   const later = new Map();
@@ -180,7 +183,7 @@ const parts = (() => {
 
   const texts = { counted, hex, inWords, isolated, labelOf, nodesOf };
   return {
-    $, ...texts, entitle, fill, goToLine, make, nameFile, problemOf, radio, shows, showsTags, soon, staleAt, waits,
+    $, ...texts, MIXED, entitle, fill, goToLine, make, nameFile, problemOf, radio, shows, showsTags, soon, staleAt, waits,
     whyNoMix,
   };
 })();

@@ -5,8 +5,6 @@ const scriptTab = (() => {
   const COMMANDS = ["-", "text", "name", "tags", "restart"], PI = "C201";
   const HINTS = { text: "the text", name: "the name", tags: "1 1 4 0 3 1 7 7" };
   const UNPLAYED = "not played";
-  /* What a display shows that was never on air, as the program says. */
-  const MIXED = { led: (which) => which ? `${which}: mix` : "mix", words: "mix" };
   /* The most letters of an argument that the form takes: a text has 64 characters, and an escape is four letters. */
   const LONG_ARGUMENT = 400;
   const NOTHING_SENT = { count: 0, words: [], missing: [], kinds: [], codes: new Uint8Array(0) };
@@ -380,7 +378,7 @@ const scriptTab = (() => {
     const view = state.shown.views[i], radio = state.alone[i], none = isPlayed ? undefined : UNPLAYED;
     const named = (what) => n ? `Receiver ${i}, ${what}` : "No receiver";
     const airLed = reply ? `${reply.what} ${reply.reply}` : sent;
-    const radioOptions = { led: orUnplayed(parts.staleAt(radio, slot)), none, mixed: MIXED };
+    const radioOptions = { led: orUnplayed(parts.staleAt(radio, slot)), none, mixed: parts.MIXED };
     parts.radio($("script-air"), "On air", state.air, slot, { led: airLed, none: orUnplayed("silence") });
     parts.radio($("script-radio"), named("with the dwell"), view, slot, { led: got, none });
     parts.radio($("script-alone"), named("flag bit alone"), radio, slot, radioOptions);

@@ -154,7 +154,7 @@ class Chromium(Access, ChromiumCase):
             for tab in TABS[:2]:
                 call(b, "page.tab", tab)
                 settle(b)
-                for part in (f"#{tab} .look" if tab == "log" else "#script-time", f"#{tab} .stage"):
+                for part in (f"#{tab} .look" if tab == "log" else "#script-time", f"#{tab} .stage:not(#road *)"):
                     self.check(f"{part} in {width} px", b.run(f"{box.format(part)}.width") >= width - 60, True)
                 self.check(f"the end of {tab}'s timeline in {width} px",
                            b.run(f"scrollTo(0, 0), {box.format(f'#{tab}-time')}.bottom <= 900"), True)

@@ -12,20 +12,23 @@ TURNS = "\u061c\u200e\u200f\u202a\u202b\u202c\u202d\u202e\u2066\u2067\u2068\u206
 
 class Files:
     def test_the_log_tab_starts_with_a_field_for_a_log(self):
-        """No answer over an example is shown before a choice. The keys reach the field and the examples."""
+        """No answer over an example is shown before a choice. The keys reach the road, the field and the examples."""
         b = self.b
         seen = lambda query: b.run(f"[...document.querySelectorAll({query!r})].filter(it => it.checkVisibility())"
                                    ".map(it => it.textContent.trim())")
-        result = "#log-form, #verdict, #log .radio, #log-time"
+        result = "#log-form, #verdict, #log-radio, #log-alone, #log-time"
         names = b.run("RDSRT_EXAMPLES.log.map(it => it.name)")
-        self.check("the field alone", (seen("#log h2"), seen(result)), (["Drop a log of your station"], []))
+        titles = ["A car leaves a tunnel. What does its display say?", "Drop a log of your station"]
+        self.check("the road and the field alone", (seen("#log h2"), seen(result)), (titles, []))
         self.check("the examples", (seen("#log-start-examples button"), len(names) > 4), (names, True))
         b.run("document.querySelector('#tab-log').focus()")
         reached = []
-        for _ in range(1 + len(names)):
+        on_road = [f"{it} tunnel, its {part}" for it in ("First", "Second") for part in ("place", "exit")]
+        on_road += ["road-car", "road-play", "road-speed", "road-open"]
+        for _ in range(len(on_road) + 1 + len(names)):
             b.key("Tab")
-            reached.append(b.run("(e => e.id || e.textContent)(document.activeElement)"))
-        self.check("the tab key reaches them", reached, ["log-start-file", *names])
+            reached.append(b.run("(e => e.id || e.ariaLabel || e.textContent)(document.activeElement)"))
+        self.check("the tab key reaches them", reached, [*on_road, "log-start-file", *names])
         # a key presses no button in the window of a headless Firefox, which has no focus
         if b.run("document.hasFocus()"):
             b.key("Enter")

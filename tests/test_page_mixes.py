@@ -69,7 +69,7 @@ class Mixes:
         example_of(b, "log", "A long tunnel")
         lines = program(["sim", "--pi", "C201", "--m", "8"], example("mix.csv"))[1]
         slot = re.search("^(\\d+) r1 text", lines, re.M)[1]
-        told = f"The receiver with the dwell shows no text. It shows the next one when it is whole: in slot {slot}."
+        told = f"The receiver with the dwell shows no text. It shows the next one when it is complete: in slot {slot}."
         for tab in ("log", "script"):
             call(b, "page.tab", tab)
             kinds = [of(b, f"#{tab}-{it}", "classList.contains('mixed')") for it in ("radio", "alone")]

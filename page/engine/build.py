@@ -20,7 +20,7 @@ BOTH = ["lines.js", "rdsrt.js", "views.js", "records.js", "logfile.js", "player.
 WORKER = [*BOTH, "witness.js", "worker.js"]
 PAGE = [*BOTH, "painter.js", "parts.js", "lane-items.js", "picture.js", "timeline.js", "undo.js", "links.js",
         "program-worker.js", "log-text.js", "groups.js", "changes.js", "verdict.js", "passing.js", "log.js", "script.js",
-        "dwell.js", "app.js"]
+        "dwell.js", "road.js", "app.js"]
 DEFINED = re.compile(r"^(?:const|class) (\w+)", re.M)
 
 ENCODE = ["encode", "--pi", "C201", "--pty", "10", "--m", "8"]
