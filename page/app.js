@@ -227,6 +227,7 @@ const page = (() => {
     $("command-form").addEventListener("submit", scriptTab.commandChanged);
     drops();
     document.addEventListener("keydown", toggleKeys);
+    document.addEventListener("keydown", Play.space);
     tab(await openAddress());
     road.greet();
     window.onhashchange = async () => { if (links.tabOf(location.hash.slice(1))) tab(await openAddress()); };

@@ -133,8 +133,8 @@ const links = (() => {
     return { text: await unpack(given.get(tab)), given, option, within };
   }
 
-  /* Shows the slot and the zoom of a link. */
-  function look(timeline, { within }) {
+  /* Shows the slot and the zoom of a link. A link with `&play` plays from there. */
+  function look(timeline, { given, within }) {
     const { count } = timeline;
     const slot = within("slot", 0, count - 1);
     const from = within("from", 0, count - 1);
@@ -143,6 +143,7 @@ const links = (() => {
     if (from !== undefined) timeline.from = timeline.within(from);
     if (slot !== undefined) timeline.move(slot, { keep: true });
     else timeline.draw();
+    if (given.has("play")) timeline.play.greet();
   }
 
   // ---- lost slots

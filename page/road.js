@@ -6,9 +6,10 @@ const road = (() => {
   /* The receiver of the example whose lost slots are the first tunnels. */
   const RECEIVER = 1, PI = "C201";
   const STEPS = { ...Timeline.STEPS, ArrowUp: 1, ArrowDown: -1 };
-  const state = { rows: [], tunnels: [], text: "", slot: 0, views: {}, frame: 0, work: Promise.resolve(), held: null };
+  const state = { rows: [], tunnels: [], text: "", slot: 0, views: {}, work: Promise.resolve(), held: null };
   let worker = null, ink = null, words = [];
   const count = () => state.rows.length;
+  const drive = new Play({ button: $("road-play"), speed: $("road-speed"), at: () => state.slot, show, count });
   const within = (low, slot, high) => Math.max(low, Math.min(slot, high));
   const percent = (slot) => `${100 * slot / count()}%`;
 
@@ -104,38 +105,6 @@ const road = (() => {
     Object.assign(slider, { ariaValueMax: count(), ariaValueNow: now, ariaValueText: text });
   }
 
-  /* Drives in real time, or so many times as fast, up to a slot. */
-  function drive(end = count() - 1) {
-    stop();
-    let at = state.slot < end ? state.slot : 0, last = performance.now();
-    const step = (now) => {
-      at += Number($("road-speed").value) * (now - last) / 1000 / lines.SLOT;
-      last = now;
-      if (Math.floor(at) !== state.slot) show(Math.floor(at));
-      if (at < end && $("road").checkVisibility()) state.frame = requestAnimationFrame(step);
-      else stop();
-    };
-    state.frame = requestAnimationFrame(step);
-    showPlay();
-  }
-
-  function stop() {
-    cancelAnimationFrame(state.frame);
-    state.frame = 0;
-    showPlay();
-  }
-
-  const toggle = () => state.frame ? stop() : drive();
-  const showPlay = () => { $("road-play").textContent = state.frame ? "❚❚ Pause" : "▶ Play"; };
-
-  /* The space bar drives and stops, unless it belongs to a control. */
-  function space(event) {
-    if (event.key !== " " || event.target.closest("button, input, select, textarea, summary, a, dialog")) return;
-    if (!$("road").checkVisibility()) return;
-    event.preventDefault();
-    toggle();
-  }
-
   // ---- pointer and keys
 
   const slotAt = ({ clientX }) => {
@@ -149,7 +118,7 @@ const road = (() => {
       if (event.button || !event.isPrimary) return;
       event.preventDefault();
       event.stopPropagation();
-      stop();
+      drive.stop();
       focus.focus({ preventScroll: true, focusVisible: false });
       const grabbed = jumps ? 0.5 : slotAt(event) - value();
       const go = (moved) => move(Math.round(slotAt(moved) - grabbed));
@@ -162,7 +131,7 @@ const road = (() => {
       if (!(event.key in STEPS) || event.altKey || event.ctrlKey || event.metaKey) return;
       event.preventDefault();
       event.stopPropagation();
-      stop();
+      drive.stop();
       move(value() + STEPS[event.key]);
     };
   }
@@ -225,9 +194,7 @@ const road = (() => {
     const car = $("road-car"), slot = () => state.slot;
     slider(car, slot, show);
     for (const id of ["road-lanes", "road-band"]) slider($(id), slot, show, { focus: car, jumps: true });
-    $("road-play").onclick = toggle;
     $("road-open").onclick = () => open(state.text, { m, k, pty });
-    document.addEventListener("keydown", space);
     const recolour = () => { ink = painter.inks($("road")); paint(); };
     for (const mode of Timeline.MODES) matchMedia(mode).addEventListener("change", recolour);
     recolour();
@@ -240,11 +207,11 @@ const road = (() => {
   /* Drives up to the first mix, once. Who wants no motion sees the car there at once. */
   async function greet() {
     await state.work;
-    const isCalm = matchMedia("(prefers-reduced-motion: reduce)").matches, mix = state.views.alone && firstMix();
-    if (!mix || isCalm || !$("road").checkVisibility()) return;
-    show(0);
-    drive(mix.from);
+    const mix = state.views.alone && firstMix();
+    if (!mix || !$("road").checkVisibility()) return;
+    show(mix.from);
+    drive.greet(mix.from);
   }
 
-  return { begin, greet, show, state, stop };
+  return { begin, drive, greet, show, state };
 })();

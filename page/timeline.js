@@ -21,6 +21,10 @@ class Timeline {
     this.canvas.setAttribute("aria-label", label);
     this.output = root.querySelector("output");
     this.scroll = root.querySelector(".scroll");
+    this.play = new Play({
+      button: root.querySelector(".play"), speed: root.querySelector("select"), at: () => this.cursor,
+      show: (slot) => this.move(slot), count: () => this.count,
+    });
     this.listen();
     this.measure();
     this.recolour();
@@ -28,7 +32,7 @@ class Timeline {
 
   listen() {
     const { canvas, scroll } = this;
-    for (const button of this.root.querySelectorAll("button")) button.onclick = () => this.act(button.dataset.do);
+    for (const button of this.root.querySelectorAll("[data-do]")) button.onclick = () => this.act(button.dataset.do);
     scroll.oninput = () => this.showFrom(Number(scroll.value));
     canvas.addEventListener("pointerdown", (event) => this.press(event));
     canvas.addEventListener("pointermove", (event) => canvas.classList.toggle("axis", this.isAxis(event)));

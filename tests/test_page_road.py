@@ -2,7 +2,8 @@
 import random
 import re
 
-from tests.page_support import SEED, URL, ChromiumCase, FirefoxCase, call, click, hidden, of, program, text_of, visit
+from tests.page_support import (EVERY_100, SEED, URL, ChromiumCase, FirefoxCase, call, click, hidden, of, packed, program,
+                                settle, text_of, visit)
 
 SLOTS, DRAGS = 96, 20
 WORDS = ["sim", "--pi", "C201", "--pty", "10", "--m", "8", "--k", "0"]
@@ -43,7 +44,7 @@ def shown(b):
 class Road:
     def test_the_displays_follow_each_drag_as_the_program_says(self):
         b, dice, mixes = self.b, random.Random(SEED), 0
-        b.run("road.state.work.then(() => road.stop())")
+        b.run("road.state.work.then(() => road.drive.stop())")
         for number in range(DRAGS + 1):
             script, got = b.run("road.state.text"), shown(b)
             self.check(f"drag {number}", got, wanted(script), script.encode())
@@ -60,7 +61,7 @@ class Road:
     def test_the_first_road_shows_the_mix(self):
         """The car drives up to it. Who asks for reduced motion sees it at once."""
         b = self.b
-        self.check("it stops at the mix", b.until("road.state.slot === 52 && !road.state.frame"), True)
+        self.check("it stops at the mix", b.until("road.state.slot === 52 && !road.drive.frame"), True)
         self.check("displays", [text_of(b, f"#road-{it} .text") for it in ("air", "dwell", "alone")],
                    ["B7: closed today", "— no text —", "A1: closed today"])
         self.check("words", text_of(b, "#road-says"), "“A1: closed today” was never on air. The receiver with the dwell "
@@ -72,7 +73,7 @@ class Road:
 
     def test_keys_move_tunnels_and_car(self):
         b = self.b
-        b.run("road.state.work.then(() => road.stop())")
+        b.run("road.state.work.then(() => road.drive.stop())")
         before = b.run(TUNNELS)
         b.run("document.querySelector('#road-band .tunnel').focus()")
         b.key("ArrowRight")
@@ -84,7 +85,33 @@ class Road:
         call(b, "probe.choose", "road-speed", 32)
         click(b, "#road-play")
         self.check("it plays from the start", b.until("road.state.slot > 0 && road.state.slot < 95"), True)
-        self.check("and stops at the end", b.until("road.state.slot === 95 && !road.state.frame"), True)
+        self.check("and stops at the end", b.until("road.state.slot === 95 && !road.drive.frame"), True)
+
+    def test_a_log_and_a_script_play(self):
+        """A button and the space bar run the cursor. A link with `&play` plays at once."""
+        b = self.b
+        call(b, "logTab.open", EVERY_100, {"pi": "C201", "m": 8})
+        settle(b)
+        for tab, opened in (("log", "logTab"), ("script", "scriptTab")):
+            call(b, "page.tab", tab)
+            timeline = f"{opened}.timeline"
+            b.run(f"document.querySelector('#{tab}-time select').value = 32; {timeline}.move(3)")
+            click(b, f"#{tab}-time .play")
+            self.check(f"{tab}: it plays", b.until(f"{timeline}.cursor > 5"), True)
+            b.run(f"{timeline}.canvas.focus()")
+            b.key(" ")
+            stopped = b.run(f"[{timeline}.play.frame, {timeline}.cursor]")
+            self.check(f"{tab}: the space bar stops it", (stopped[0], b.run(f"{timeline}.cursor")), (0, stopped[1]))
+            b.run(f"{timeline}.move({timeline}.count - 9)")
+            b.key(" ")
+            self.check(f"{tab}: it stops at the end",
+                       b.until(f"{timeline}.cursor === {timeline}.count - 1 && !{timeline}.play.frame"), True)
+        script = packed("".join(f"text,{it},1,G\n" for it in range(40)).encode())
+        visit(b, f"{URL}#script={script}&m=8&slot=4&play&end")
+        if b.run("matchMedia('(prefers-reduced-motion: reduce)').matches"):
+            self.check("but not for who wants no motion", b.run("scriptTab.timeline.cursor"), 4)
+        else:
+            self.check("a link plays", b.until("scriptTab.timeline.cursor > 6"), True)
 
     def test_a_link_leads_over_the_road(self):
         b = self.b
@@ -99,7 +126,7 @@ class Chromium(Road, ChromiumCase):
         b.scheme("light", **{"prefers-reduced-motion": "reduce"})
         visit(b, URL)
         b.run("road.state.work")
-        self.check("the car stands at the mix", b.run("[road.state.slot, road.state.frame]"), [52, 0])
+        self.check("the car stands at the mix", b.run("[road.state.slot, road.drive.frame]"), [52, 0])
 
 
 class Firefox(Road, FirefoxCase):

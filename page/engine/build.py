@@ -18,7 +18,7 @@ PAGE_FOLDER = os.path.dirname(os.path.dirname(os.path.abspath(__file__)))
 # Each script uses only names of scripts before it. A worker runs those of WORKER.
 BOTH = ["lines.js", "rdsrt.js", "views.js", "records.js", "logfile.js", "player.js"]
 WORKER = [*BOTH, "witness.js", "worker.js"]
-PAGE = [*BOTH, "painter.js", "parts.js", "lane-items.js", "picture.js", "timeline.js", "undo.js", "links.js",
+PAGE = [*BOTH, "painter.js", "parts.js", "lane-items.js", "picture.js", "play.js", "timeline.js", "undo.js", "links.js",
         "program-worker.js", "log-text.js", "groups.js", "changes.js", "verdict.js", "passing.js", "log.js", "script.js",
         "dwell.js", "road.js", "app.js"]
 DEFINED = re.compile(r"^(?:const|class) (\w+)", re.M)
