@@ -36,7 +36,12 @@ class Play {
   }
 
   toggle() { if (this.frame) this.stop(); else this.start(); }
-  tell() { this.button.textContent = this.frame ? "❚❚ Pause" : "▶ Play"; }
+  /* A button with a name of its own shows a sign alone. */
+  tell() {
+    const sign = this.frame ? "❚❚" : "▶", word = this.frame ? " Pause" : " Play";
+    this.button.textContent = this.button.ariaLabel ? sign : sign + word;
+    this.button.ariaPressed = this.frame !== 0;
+  }
 
   /* Starts without being asked for by a hand: not if the reader wants no motion. */
   greet(end) { if (!matchMedia("(prefers-reduced-motion: reduce)").matches) this.start(end); }
