@@ -189,13 +189,13 @@ class Gate(WithoutKit):
         for name in ("test", ".ci/run"):
             os.makedirs(os.path.dirname(self.path(name)), exist_ok=True)
             shutil.copy2(os.path.join(ROOT, name), self.path(name))
-        for name in ("rt", "python3"):
-            self.write(f"kit/bin/{name}", '#!/bin/sh\necho "${RDSRT_CHECKED-none}"\n')
-            os.chmod(self.path(f"kit/bin/{name}"), 0o755)
+        for name in ("kit/bin/rt", "tools/edits", "kit/bin/python3"):
+            self.write(name, '#!/bin/sh\necho "${RDSRT_CHECKED-none}"\n')
+            os.chmod(self.path(name), 0o755)
         for name in ("test", ".ci/run"):
             done = subprocess.run([self.path(name)], capture_output=True, text=True, timeout=60,
                                   env={**os.environ, "PATH": self.found, "RDSRT_CHECKED": "a record"})
-            self.check(name, (done.returncode, done.stdout), (0, "none\nnone\n"))
+            self.check(name, (done.returncode, done.stdout), (0, "none\n" * 3))
 
     def test_no_test_takes_one(self):
         self.check("the variable of the tests", os.environ.get(checked.NAME), None)

@@ -12,10 +12,10 @@ SOME_ROWS = ["-,,1,G"] * 6 + ['"-","",1,G', '""', "", "", '-,"a\n,b",1,G', '-,"a
 
 
 def results(b, tab):
-    """Returns all that a tab shows of a result: texts, marks of a mix, lanes and lines."""
-    texts = b.run(f"[...document.querySelectorAll('#{tab} .lcd .text:not(.none)')].map(it => it.textContent)")
+    """Returns all that a tab shows of a result: texts, marks of a mix, lanes and lines. The road has its own displays."""
+    found = lambda query: b.run(f"[...document.querySelectorAll('#{tab} {query}:not(#road *)')].map(it => it.textContent)")
     lanes = b.run(f"{tab}Tab.timeline.lanes.length")
-    return texts, b.run(f"document.querySelectorAll('#{tab} .mixed').length"), lanes, text_of(b, f"#{tab}-lines")
+    return found(".lcd .text:not(.none)"), len(found(".mixed")), lanes, text_of(b, f"#{tab}-lines")
 
 
 class Faults:
