@@ -3,10 +3,12 @@
    bar. It stops at the end, and when its button goes out of sight. */
 class Play {
   static all = [];
+  static SPEEDS = [1, 8, 32];
 
   /* `at` returns the slot, `show` goes to one, and `count` returns how many there are. */
   constructor({ button, speed, at, show, count }) {
     Object.assign(this, { button, speed, at, show, count, frame: 0 });
+    speed.replaceChildren(...Play.SPEEDS.map((it) => new Option(`×${it}`, it)));
     button.onclick = () => this.toggle();
     Play.all.push(this);
   }
