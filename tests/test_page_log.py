@@ -318,6 +318,22 @@ class LogTab:
         self.check("a witness far behind the no",
                    'loses slots 65 to 66 shows what a receiver that loses nothing does not: 67 text "POP  FM"' in said, True)
 
+    def test_a_no_is_in_sight_and_says_what_was_not_tried(self):
+        """The cursor of a log that was opened stands at the fault. With K the search for a witness says that it tries no
+        late group. An example begins with the K of no option."""
+        b = self.b
+        log = example("flags.log").decode()
+        call(b, "logTab.open", log + f"{NOTHING}\n" * 40, {"pi": "C201", "m": 8, "k": 0})
+        settled_verdict(b)
+        self.check("the cursor", (b.run("logTab.timeline.cursor"), b.run("logTab.state.no.slot")), (4, 4))
+        call(b, "logTab.open", log, {"pi": "C201", "m": 2, "k": 3})
+        settled_verdict(b)
+        idle(b)
+        self.check("the heading", text_of(b, "#verdict h2"), "✗ EarlyFlag with M = 2 (0.18 s) and K = 3")
+        self.check("no witness", "The search tries no late group." in text_of(b, "#witness"), True, text_of(b, "#witness"))
+        call(b, "probe.choose", "log-example", 0)
+        self.check("an example after it", of(b, "#log-k", "value"), "0")
+
     def test_each_task_takes_at_most_four_clicks(self):
         """Is my encoder safe, what M for 15 s, when did the text change?"""
         b = self.b
