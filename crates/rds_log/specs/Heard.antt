@@ -1,13 +1,18 @@
 -- The programmes of a log's groups. This is the project's own rule. Lists have the newest first.
 use Rattle.std.specs.Prelude.{◌≡◌, ◌<◌, ◌+◌, ◌↔◌, ◌==◌, ◌∷◌, [], if◌then◌else◌}
-use Rattle.std.specs.Prelude.{ℕ, Bool, List, Option, Some, None, IsTrue, MatchOption, false}
+use Rattle.std.specs.Prelude.{ℕ, Bool, List, Option, Some, None, IsTrue, MatchOption, false, slice_index_or}
 use Rattle.std.specs.Option.{option_map_or, option_or}
 use Rattle.std.specs.Io.KnownBytes.{Consumes, IsAtEnd}
 use Rattle.rds_block.specs.declared.group.Group.{Group}
 use Rattle.rds_io.specs.Told.{Traffic}
 use Rattle.rds_log.specs.LogLines.{AreLines, Line}
 use Rattle.rds_log.specs.LogWrites.{AreSlots}
+use Rattle.rds_log.specs.declared.heard.GroupCounts.{GroupCounts}
 use Rattle.rds_log.specs.declared.heard.Heard.{Heard}
+
+-- the number that was counted of a group type, given as five bits
+abbrev pub count_of : GroupCounts → ℕ → ℕ
+count_of c kind = slice_index_or c.counts kind 0
 
 -- whether the slot has a group of this programme
 abbrev pub is_of : ℕ → Option Group → Bool

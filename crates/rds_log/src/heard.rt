@@ -7,13 +7,16 @@ ghost use Rattle.rds_log.specs.LogLines.{Line};
 use crate::log_line::LogLine;
 use rds_block::Blocks;
 
-/// How many groups of each type the wanted programme has, for a person. No contract speaks of it.
+/// How many groups of each type the wanted programme has, for a person. No contract says that these are the groups of
+/// the log.
 #[derive(Clone, Copy)]
 pub struct GroupCounts {
     counts: [u64; 32],
 }
 
 impl GroupCounts {
+    ghost use Rattle.rds_log.specs.Heard.{count_of};
+
     /// Starts before the first group.
     pub(crate) fn new() -> GroupCounts {
         GroupCounts { counts: [0; 32] }
@@ -27,10 +30,14 @@ impl GroupCounts {
         }
     }
 
-    /// Returns the number of groups of this number, in version A or B.
-    pub fn of(&self, number: u8, version: char) -> u64 {
-        let kind = usize::from(number & 0x0F) * 2 + usize::from(version == 'B');
-        self.counts.get(kind).copied().unwrap_or(0)
+    /// Returns the number that was counted of a group type, given as five bits: the number, and 1 for version B.
+    pub fn of(&self, kind: u8) -> u64
+        ensures { result ≡ count_of self.now kind }
+    {
+        match self.counts.get(usize::from(kind)) {
+            Some(count) => *count,
+            None => 0,
+        }
     }
 }
 

@@ -1,6 +1,7 @@
 //! Prints the notes of a run as lines. Each begins with `rdsrt: ` and goes out in one write.
 
-use crate::notes::{End, RunNotes};
+use crate::note::{Note, notes_of, short_texts};
+use crate::notes::{End, Options, RunNotes};
 use arrayvec::ArrayVec;
 use memchr::memchr;
 use rds_arrivals::{Break, Grain};
@@ -25,7 +26,7 @@ const NO_OPTION: &[u8] = b"error: unexpected argument '";
 const LONGEST_NAME: usize = 200;
 
 /// The bytes of an unfinished note.
-type Note = ArrayVec<u8, ROOM>;
+type Line = ArrayVec<u8, ROOM>;
 
 /// Prints why the arguments were refused, as `clap` says it.
 pub fn print_refusal<N: TellingWrite>(notes: &RunNotes, screen: &mut N) {
@@ -49,13 +50,13 @@ pub fn print_input<N: TellingWrite>(notes: &RunNotes, words: &[&str], screen: &m
     if memchr(b'.', name).is_none() || name.starts_with(b"-") {
         return;
     }
-    let mut note = begun();
+    let mut line = begun();
     let _ = write!(
-        note,
+        line,
         "{command} reads standard input: rdsrt {command} .. < "
     );
-    push(name, &mut note);
-    print(note, screen);
+    push(name, &mut line);
+    print(line, screen);
 }
 
 /// Returns the bytes before a quotation mark, up to `LONGEST_NAME` of them.
@@ -64,114 +65,88 @@ fn name_in(quoted: &[u8]) -> &[u8] {
     &quoted[..end.min(LONGEST_NAME)]
 }
 
-/// Prints the notes of a run: its warnings and its fault. `reason` is the system's error of a failed read or write.
-pub fn print_notes<N: TellingWrite>(notes: &RunNotes, reason: Option<&io::Error>, screen: &mut N) {
-    let Some(options) = notes.options else {
-        return;
+/// Prints the notes of a run. `reason` is the system's error of a failed read or write.
+pub fn print_notes<N: TellingWrite>(run: &RunNotes, reason: Option<&io::Error>, screen: &mut N) {
+    let notes = notes_of(run, lack_of(run).is_some(), is_gone(reason));
+    for note in notes.as_slice() {
+        print(line_of(*note, run, reason), screen);
+    }
+}
+
+/// Returns the words of a note.
+fn line_of(note: Note, run: &RunNotes, reason: Option<&io::Error>) -> Line {
+    let mut line = begun();
+    let Some(options) = run.options else {
+        return line;
     };
-    if !options.quiet {
-        print_warnings(options.task, notes, screen);
+    match note {
+        Note::SetTooEarly => push_wait(run, &mut line),
+        Note::BrokenRule => push_no(run, options, &mut line),
+        Note::Lacking => push_lack(lack_of(run), &mut line),
+        Note::Untimed => push_untimed(run.slots.untimed, &mut line),
+        Note::OthersLeftOut => push_others(run, &mut line),
+        Note::Coarse => push_coarse(options.task, run, &mut line),
+        Note::Breaks => push_breaks(run.slots.breaks, &mut line),
+        Note::NoGroup => push_no_group(options.task, run, &mut line),
+        Note::NothingToRead => push_nothing(options.task, run, &mut line),
+        Note::Judged => push_judged(run, &mut line),
+        Note::ShortTexts => push_short(run, "", "read", &mut line),
+        Note::BadPi => push_pi(run.pi.as_slice(), &mut line),
+        Note::BadWindow => push_window(&mut line),
+        Note::Fault => push_fault(options.task, run, reason, &mut line),
     }
-    match notes.end {
-        End::NotRun | End::Done => {}
-        End::BadPi => print_pi(notes.pi.as_slice(), screen),
-        End::BadWindow => print_window(screen),
-        End::Fault(fault) => print_fault(options.task, fault, notes, reason, screen),
-    }
+    line
 }
 
-/// Prints the warnings of a run.
-fn print_warnings<N: TellingWrite>(task: Task, notes: &RunNotes, screen: &mut N) {
-    print_wait(notes, screen);
-    print_no(notes, screen);
-    print_times(notes, screen);
-    // Prover: a value is copied by a new name before its second use (docs/PROVER.md, "Workarounds").
-    let filled = task;
-    print_slots(filled, notes, screen);
-    if let Task::Slots(..) = task {
-        return;
-    }
-    // Prover: a value is copied by a new name before its second use (docs/PROVER.md, "Workarounds").
-    let asked = task;
-    if !matches!(notes.end, End::Done) || notes.log.no.is_some() || reads_script(asked) {
-        return;
-    }
-    if notes.log.heard.wanted {
-        print_covered(task, notes, screen);
-    } else {
-        print_no_group(task, notes, screen);
-    }
-}
-
-/// Prints what was judged, and which groups of the programme were not read.
-fn print_covered<N: TellingWrite>(task: Task, notes: &RunNotes, screen: &mut N) {
+/// Appends that the programme has no group of a text, a name or tags.
+fn push_nothing(task: Task, run: &RunNotes, line: &mut Line) {
     // Prover: a value is copied by a new name before its second use (docs/PROVER.md, "Workarounds").
     let asked = task;
-    let judges = is_audit(asked);
-    let second = notes.log.heard.counts.of(2, 'B');
-    let mut note = begun();
-    if reads_nothing(notes) {
-        let _ = write!(note, "no 2A, 10A or 11A group of ");
-        push(notes.pi.as_slice(), &mut note);
-        let _ = write!(note, "{}", nothing_said(task));
-    } else if judges {
-        push_judged(notes, &mut note);
-    }
-    let is_begun = note.len() > BEGUN.len();
-    if second > 0 {
-        push_second(second, judges, is_begun, &mut note);
-    }
-    if is_begun || second > 0 {
-        print(note, screen);
-    }
-}
-
-/// Returns whether the command judges a log.
-fn is_audit(task: Task) -> bool {
-    match task {
-        Task::Audit(..) => true,
+    let _ = write!(line, "no 2A, 10A or 11A group of ");
+    push(run.pi.as_slice(), line);
+    let _ = write!(line, "{}", nothing_said(task));
+    let verb = match asked {
+        Task::Audit(..) => "judged",
         Task::Decode { .. }
         | Task::Encode(..)
         | Task::Simulate { .. }
         | Task::Witness
-        | Task::Slots(..) => false,
+        | Task::Slots(..) => "read",
+    };
+    push_short(run, "; ", verb, line);
+}
+
+/// Appends, after these words, that groups 2B were not read or judged, if there were some.
+fn push_short(run: &RunNotes, join: &str, verb: &str, line: &mut Line) {
+    let count = short_texts(&run.log.heard.counts);
+    if count == 0 {
+        return;
     }
-}
-
-/// Returns whether the programme has no group of a text, a name or tags.
-fn reads_nothing(notes: &RunNotes) -> bool {
-    let counts = notes.log.heard.counts;
-    counts.of(2, 'A') == 0 && counts.of(10, 'A') == 0 && counts.of(11, 'A') == 0
-}
-
-/// Appends how many groups 2B there were.
-fn push_second(count: u64, judges: bool, is_begun: bool, note: &mut Note) {
-    let join = if is_begun { "; " } else { "" };
-    let verb = if judges { "judged" } else { "read" };
-    let _ = write!(note, "{join}");
-    push_count(count, "group 2B was", "groups 2B were", note);
-    let _ = write!(note, " not {verb}");
+    let _ = write!(line, "{join}");
+    push_count(count, "group 2B was", "groups 2B were", line);
+    let _ = write!(line, " not {verb}");
 }
 
 /// Appends what an audit judged.
-fn push_judged(notes: &RunNotes, note: &mut Note) {
-    let texts = notes.log.texts;
-    let names = notes.log.names;
-    let slots = notes.log.slots;
-    let _ = write!(note, "judged in ");
-    push_count(slots, "slot", "slots", note);
-    let _ = write!(note, ": ");
-    push_count(texts.values, "text", "texts", note);
-    let _ = write!(note, ", ");
-    push_count(names.values, "name", "names", note);
-    let _ = write!(note, ", ");
-    push_count(texts.tags, "pair of tags", "pairs of tags", note);
+fn push_judged(run: &RunNotes, line: &mut Line) {
+    let texts = run.log.texts;
+    let names = run.log.names;
+    let slots = run.log.slots;
+    let _ = write!(line, "judged in ");
+    push_count(slots, "slot", "slots", line);
+    let _ = write!(line, ": ");
+    push_count(texts.values, "text", "texts", line);
+    let _ = write!(line, ", ");
+    push_count(names.values, "name", "names", line);
+    let _ = write!(line, ", ");
+    push_count(texts.tags, "pair of tags", "pairs of tags", line);
+    push_short(run, "; ", "judged", line);
 }
 
 /// Appends a number of things.
-fn push_count(count: u64, one: &str, more: &str, note: &mut Note) {
+fn push_count(count: u64, one: &str, more: &str, line: &mut Line) {
     let thing = if count == 1 { one } else { more };
-    let _ = write!(note, "{count} {thing}");
+    let _ = write!(line, "{count} {thing}");
 }
 
 /// Returns the end of a note on a log with nothing to read: what the answer is worth.
@@ -183,9 +158,9 @@ fn nothing_said(task: Task) -> &'static str {
     }
 }
 
-/// Prints that something was set too early, and from when it is accepted.
-fn print_wait<N: TellingWrite>(notes: &RunNotes, screen: &mut N) {
-    let Some(wait) = notes.script.wait else {
+/// Appends that something was set too early, and from when it is accepted.
+fn push_wait(run: &RunNotes, line: &mut Line) {
+    let Some(wait) = run.script.wait else {
         return;
     };
     let thing = match wait.thing {
@@ -200,129 +175,114 @@ fn print_wait<N: TellingWrite>(notes: &RunNotes, screen: &mut N) {
     };
     let slot = wait.slot;
     let from = slot.saturating_add(u64::from(slots));
-    let mut note = begun();
-    let _ = write!(note, "slot {slot}: {thing} refused, {why} for ");
-    push_count(u64::from(slots), "slot more", "slots more", &mut note);
-    let _ = write!(note, "; accepted from slot {from} on");
-    print(note, screen);
+    let _ = write!(line, "slot {slot}: {thing} refused, {why} for ");
+    push_count(u64::from(slots), "slot more", "slots more", line);
+    let _ = write!(line, "; accepted from slot {from} on");
 }
 
-/// Prints that the log has no group of the wanted programme, and which programmes it has.
-fn print_no_group<N: TellingWrite>(task: Task, notes: &RunNotes, screen: &mut N) {
-    let heard = notes.log.heard;
-    if heard.wanted {
-        return;
-    }
-    let slots = notes.log.slots;
-    let mut note = begun();
-    let _ = write!(note, "no group of ");
-    push(notes.pi.as_slice(), &mut note);
-    let _ = write!(note, " in ");
-    push_count(slots, "slot", "slots", &mut note);
+/// Appends that the log has no group of the wanted programme, and which programmes it has.
+fn push_no_group(task: Task, run: &RunNotes, line: &mut Line) {
+    let heard = run.log.heard;
+    let slots = run.log.slots;
+    let _ = write!(line, "no group of ");
+    push(run.pi.as_slice(), line);
+    let _ = write!(line, " in ");
+    push_count(slots, "slot", "slots", line);
     let count = heard.of_first;
     let others = heard.groups.saturating_sub(count);
     if let Some(first) = heard.first {
-        let _ = write!(note, " ({first:04X}: {count}");
+        let _ = write!(line, " ({first:04X}: {count}");
         if others > 0 {
-            let _ = write!(note, ", others: {others}");
+            let _ = write!(line, ", others: {others}");
         }
-        let _ = write!(note, ")");
+        let _ = write!(line, ")");
     }
-    let _ = write!(note, "{}", nothing_said(task));
-    print(note, screen);
+    let _ = write!(line, "{}", nothing_said(task));
 }
 
-/// Prints that the log lacks slots by its times. After a no the first lines decide: the log was not read to its end.
-fn print_times<N: TellingWrite>(notes: &RunNotes, screen: &mut N) {
-    let Some(times) = &notes.times else {
-        return;
-    };
-    let found = match notes.end {
-        End::Done if notes.log.no.is_none() => times.lack(notes.log.slots),
+/// Returns the slots of a log by its times and its lines, if these are too few. After a no the first lines decide: the
+/// log was not read to its end.
+fn lack_of(run: &RunNotes) -> Option<(u64, u64)> {
+    let times = run.times.as_ref()?;
+    match run.end {
+        End::Done if run.log.no.is_none() => times.lack(run.log.slots),
         End::Done => times.early_lack(),
         End::NotRun | End::BadPi | End::BadWindow | End::Fault(_) => None,
-    };
-    if let Some((slots, lines)) = found {
-        print_lack(slots, lines, screen);
     }
 }
 
 /// Prints that a log spans more slots by its times than it has lines.
 pub(crate) fn print_lack<N: TellingWrite>(slots: u64, lines: u64, screen: &mut N) {
-    let mut note = begun();
-    let _ = write!(note, "the log spans {slots} slots by its times and has ");
-    push_count(lines, "line", "lines", &mut note);
-    let _ = write!(note, ": put rdsrt slots before this command");
-    print(note, screen);
+    let mut line = begun();
+    push_lack(Some((slots, lines)), &mut line);
+    print(line, screen);
+}
+
+/// Appends that a log spans more slots by its times than it has lines.
+fn push_lack(lack: Option<(u64, u64)>, line: &mut Line) {
+    let Some((slots, lines)) = lack else {
+        return;
+    };
+    let _ = write!(line, "the log spans {slots} slots by its times and has ");
+    push_count(lines, "line", "lines", line);
+    let _ = write!(line, ": put rdsrt slots before this command");
 }
 
 /// Prints that nobody knows how many slots were lost at a break of a log, and why.
 pub(crate) fn print_break<N: TellingWrite>(why: Break, screen: &mut N) {
     let comment = comment_of(why);
-    let mut note = begun();
-    push(comment.strip_prefix(b"# ").unwrap_or(comment), &mut note);
+    let mut line = begun();
+    push(comment.strip_prefix(b"# ").unwrap_or(comment), &mut line);
     let _ = write!(
-        note,
+        line,
         ": nobody knows how many slots were lost, so M lost slots stand for them"
     );
-    print(note, screen);
+    print(line, screen);
 }
 
-/// Prints how many lines were left out, and how often nobody knows how many slots were lost.
-fn print_slots<N: TellingWrite>(task: Task, notes: &RunNotes, screen: &mut N) {
-    print_untimed(notes.slots.untimed, screen);
-    let others = notes.slots.others;
-    if others > 0 {
-        let mut note = begun();
-        push_count(
-            others,
-            "line of another programme than ",
-            "lines of other programmes than ",
-            &mut note,
-        );
-        push(notes.pi.as_slice(), &mut note);
-        push_left_out(others, &mut note);
-        print(note, screen);
-    }
-    print_coarse(task, notes, screen);
-    let breaks = notes.slots.breaks;
-    if breaks > 0 {
-        let mut note = begun();
-        push_count(breaks, "time", "times", &mut note);
-        let _ = write!(
-            note,
-            " went back, or on by more than a day: M lost slots stand for each"
-        );
-        print(note, screen);
-    }
+/// Appends how many lines of other programmes were left out.
+fn push_others(run: &RunNotes, line: &mut Line) {
+    let others = run.slots.others;
+    push_count(
+        others,
+        "line of another programme than ",
+        "lines of other programmes than ",
+        line,
+    );
+    push(run.pi.as_slice(), line);
+    push_left_out(others, line);
 }
 
-/// Prints how many groups have no time, and what a time looks like.
-fn print_untimed<N: TellingWrite>(untimed: u64, screen: &mut N) {
-    if untimed == 0 {
-        return;
-    }
-    let mut note = begun();
+/// Appends how often nobody knows how many slots were lost.
+fn push_breaks(breaks: u64, line: &mut Line) {
+    push_count(breaks, "time", "times", line);
+    let _ = write!(
+        line,
+        " went back, or on by more than a day: M lost slots stand for each"
+    );
+}
+
+/// Appends how many groups have no time, and what a time looks like.
+fn push_untimed(untimed: u64, line: &mut Line) {
     push_count(
         untimed,
         "group without a time",
         "groups without a time",
-        &mut note,
+        line,
     );
-    push_left_out(untimed, &mut note);
-    let _ = write!(note, ". A time looks like @2024/06/01 07:58:12.08 or 12.5");
-    print(note, screen);
+    push_left_out(untimed, line);
+    let _ = write!(line, ". A time looks like @2024/06/01 07:58:12.08 or 12.5");
 }
 
 /// Appends that so many things were left out.
-fn push_left_out(count: u64, note: &mut Note) {
+fn push_left_out(count: u64, line: &mut Line) {
     let verb = if count == 1 { "was" } else { "were" };
-    let _ = write!(note, " {verb} left out");
+    let _ = write!(line, " {verb} left out");
 }
 
-/// Prints that the times of a log are too coarse, with the slots of the newest stretch that shows it.
-fn print_coarse<N: TellingWrite>(task: Task, notes: &RunNotes, screen: &mut N) {
-    let Some(stretch) = notes.slots.coarse else {
+/// Appends that the times of a log are too coarse, with the slots of the newest stretch that shows it.
+fn push_coarse(task: Task, run: &RunNotes, line: &mut Line) {
+    let Some(stretch) = run.slots.coarse else {
         return;
     };
     let Task::Slots(grain, _) = task else {
@@ -330,43 +290,35 @@ fn print_coarse<N: TellingWrite>(task: Task, notes: &RunNotes, screen: &mut N) {
     };
     let slots = stretch.slots;
     let room = stretch.room(Grain::of_milliseconds(grain));
-    let mut note = begun();
-    let _ = write!(note, "the times vary by more than the grain: ");
-    push_count(slots, "slot was", "slots were", &mut note);
+    let _ = write!(line, "the times vary by more than the grain: ");
+    push_count(slots, "slot was", "slots were", line);
     let _ = write!(
-        note,
+        line,
         " counted where a station sends {room} at most, so slots may be missing elsewhere. Do not audit this output. \
          If the recording lost nothing, audit the log itself"
     );
-    print(note, screen);
 }
 
-/// Prints which rule the log breaks first, and what to try next.
-fn print_no<N: TellingWrite>(notes: &RunNotes, screen: &mut N) {
-    let Some(no) = notes.log.no else {
+/// Appends which rule the log breaks first, and what to try next.
+fn push_no(run: &RunNotes, options: Options, line: &mut Line) {
+    let Some(no) = run.log.no else {
         return;
     };
     let slot = no.slot;
-    let line = no.line;
-    let mut note = begun();
-    let _ = write!(note, "slot {slot} (line {line}): ");
-    push_rule(no, &mut note);
+    let _ = write!(line, "slot {slot} (line {}): ", no.line);
+    push_rule(no, line);
     let _ = write!(
-        note,
+        line,
         ". To look for lost slots that make a mix: rdsrt witness --pi "
     );
-    push(notes.pi.as_slice(), &mut note);
-    if let Some(options) = notes.options {
-        let slots = options.dwell.get();
-        let _ = write!(note, " --m {slots}");
-        push_running(no, options.task, &mut note);
-    }
-    print(note, screen);
+    push(run.pi.as_slice(), line);
+    let _ = write!(line, " --m {}", options.dwell.get());
+    push_running(no, options.task, line);
 }
 
 /// Appends the option for a recording if the fault goes with it: tags that came before any text, or soon after slot 0
 /// as the start of their text.
-fn push_running(no: NoNote, task: Task, note: &mut Note) {
+fn push_running(no: NoNote, task: Task, line: &mut Line) {
     let may_be_old = match no.fault {
         AuditFault::EarlyTag => no.earlier.unwrap_or(0) == 0,
         AuditFault::EarlyFlag
@@ -384,46 +336,46 @@ fn push_running(no: NoNote, task: Task, note: &mut Note) {
     };
     if takes_it && may_be_old {
         let _ = write!(
-            note,
+            line,
             ". If the station was on air before the log began: --running"
         );
     }
 }
 
 /// Appends the broken rule, in a sentence.
-fn push_rule(no: NoNote, note: &mut Note) {
+fn push_rule(no: NoNote, line: &mut Line) {
     let thing = if no.of_name { "name (PTYN)" } else { "text" };
     let spacing = no.spacing;
     let _ = match no.fault {
-        AuditFault::Changed => write!(note, "a {thing} changed without a flip of the A/B flag"),
-        AuditFault::NotOneText => write!(note, "the segments fit no {thing}"),
+        AuditFault::Changed => write!(line, "a {thing} changed without a flip of the A/B flag"),
+        AuditFault::NotOneText => write!(line, "the segments fit no {thing}"),
         AuditFault::EarlyFlag => write!(
-            note,
+            line,
             "a {thing} reused the A/B flag less than M + K = {spacing} slots after the last group of the {thing} \
              before the previous one"
         ),
         AuditFault::EarlyTag if no.earlier.is_none() => write!(
-            note,
+            line,
             "RT+ tags came before any text"
         ),
         AuditFault::EarlyTag => write!(
-            note,
+            line,
             "RT+ tags came less than M + K = {spacing} slots after their text started"
         ),
-        AuditFault::TagOutside => write!(note, "an RT+ tag ends past the end of its text"),
+        AuditFault::TagOutside => write!(line, "an RT+ tag ends past the end of its text"),
     };
     if let Some(slot) = no.earlier {
-        let _ = write!(note, ", in slot {slot}");
-        push_first(slot, no, note);
+        let _ = write!(line, ", in slot {slot}");
+        push_first(slot, no, line);
     }
 }
 
 /// Appends where the first group of the text is, if the text can have started before it, and the pause before it.
-fn push_first(start: u64, no: NoNote, note: &mut Note) {
+fn push_first(start: u64, no: NoNote, line: &mut Line) {
     if let Some(first) = no.first
         && first != start
     {
-        let _ = write!(note, " at the earliest; its first group is in slot {first}");
+        let _ = write!(line, " at the earliest; its first group is in slot {first}");
     }
     let Some(pause) = no.paused else {
         return;
@@ -431,72 +383,55 @@ fn push_first(start: u64, no: NoNote, note: &mut Note) {
     let until = pause.until.saturating_sub(1);
     let _ = match pause.from {
         Some(from) => write!(
-            note,
+            line,
             "; no segment from slot {from} to {until}, so the text began anew"
         ),
         None => write!(
-            note,
+            line,
             "; no segment for M + K slots or more up to slot {until}, so the text began anew"
         ),
     };
 }
 
-/// Prints why a PI code was refused.
-fn print_pi<N: TellingWrite>(given: &[u8], screen: &mut N) {
-    let mut note = begun();
-    let _ = write!(note, "fault pi: --pi ");
-    push_shown(given, &mut note);
+/// Appends why a PI code was refused.
+fn push_pi(given: &[u8], line: &mut Line) {
+    let _ = write!(line, "fault pi: --pi ");
+    push_shown(given, line);
     let _ = write!(
-        note,
+        line,
         ": a PI code has four hexadecimal digits and no 0x, for example C201"
     );
-    print(note, screen);
 }
 
-/// Prints why the window of `sim` is refused.
-fn print_window<N: TellingWrite>(screen: &mut N) {
-    let mut note = begun();
+/// Appends why the window of `sim` is refused.
+fn push_window(line: &mut Line) {
     let _ = write!(
-        note,
+        line,
         "fault confirm: K + W - 1 is above 1024 slots, the longest lateness of a station"
     );
-    print(note, screen);
 }
 
-/// Prints a fault of the log or script, of the input or of the output. Prints nothing if the reader of a pipe has gone,
-/// as in `| head`.
-fn print_fault<N: TellingWrite>(
-    task: Task,
-    fault: LogFault,
-    notes: &RunNotes,
-    reason: Option<&io::Error>,
-    screen: &mut N,
-) {
-    if is_gone(reason) {
+/// Appends a fault of the log or script, of the input or of the output.
+fn push_fault(task: Task, run: &RunNotes, reason: Option<&io::Error>, line: &mut Line) {
+    let End::Fault(fault) = run.end else {
         return;
-    }
-    let mut note = begun();
+    };
     match fault {
-        LogFault::BadLine(number) => push_bad_line(number, bad_of(notes), &mut note),
-        LogFault::BadRow(number) => push_bad_row(number, notes, &mut note),
-        LogFault::Read => push_failed(
-            "fault read: reading standard input failed",
-            reason,
-            &mut note,
-        ),
-        LogFault::Write => push_failed("writing standard output failed", reason, &mut note),
-        LogFault::TooLong => push_too_long(task, &mut note),
-        LogFault::Memory => push_no_memory(task, &mut note),
+        LogFault::BadLine(number) => push_bad_line(number, bad_of(run), line),
+        LogFault::BadRow(number) => push_bad_row(number, run, line),
+        LogFault::Read => push_failed("fault read: reading standard input failed", reason, line),
+        LogFault::Write => push_failed("writing standard output failed", reason, line),
+        LogFault::TooLong => push_too_long(task, line),
+        LogFault::Memory => push_no_memory(task, line),
     }
-    print(note, screen);
 }
 
 /// Returns the note on the malformed line.
-fn bad_of(notes: &RunNotes) -> &Option<BadStart> {
-    if notes.slots.bad.is_some() {
-        return &notes.slots.bad;
+fn bad_of(run: &RunNotes) -> &Option<BadStart> {
+    if run.slots.bad.is_some() {
+        return &run.slots.bad;
     }
-    &notes.log.bad
+    &run.log.bad
 }
 
 /// Returns whether the reader of a pipe has gone.
@@ -508,69 +443,69 @@ fn is_gone(reason: Option<&io::Error>) -> bool {
 }
 
 /// Appends a failure with the system's reason.
-fn push_failed(what: &str, reason: Option<&io::Error>, note: &mut Note) {
-    let _ = write!(note, "{what}");
+fn push_failed(what: &str, reason: Option<&io::Error>, line: &mut Line) {
+    let _ = write!(line, "{what}");
     if let Some(error) = reason {
-        let _ = write!(note, ": {error}");
+        let _ = write!(line, ": {error}");
     }
 }
 
 /// Appends that memory is out, and for a script what else it may be.
-fn push_no_memory(task: Task, note: &mut Note) {
-    let _ = write!(note, "fault memory: out of memory");
+fn push_no_memory(task: Task, line: &mut Line) {
+    let _ = write!(line, "fault memory: out of memory");
     if reads_script(task) {
         let _ = write!(
-            note,
+            line,
             ", or a line of the script has some 65,536 commas or more"
         );
     }
 }
 
 /// Appends that the input is too long.
-fn push_too_long(task: Task, note: &mut Note) {
+fn push_too_long(task: Task, line: &mut Line) {
     let unit = if reads_script(task) { "rows" } else { "reads" };
     let _ = write!(
-        note,
+        line,
         "fault too long: the input has 4294967296 {unit} or more"
     );
 }
 
 /// Appends which line is bad, why, and what a line looks like.
-fn push_bad_line(number: u64, bad: &Option<BadStart>, note: &mut Note) {
-    let _ = write!(note, "fault line {number}: ");
+fn push_bad_line(number: u64, bad: &Option<BadStart>, line: &mut Line) {
+    let _ = write!(line, "fault line {number}: ");
     if let Some(bad) = bad {
-        push_shown(bad.start.as_slice(), note);
+        push_shown(bad.start.as_slice(), line);
         if let Some(cause) = bad.cause {
-            let _ = write!(note, ": {cause}");
+            let _ = write!(line, ": {cause}");
         }
     }
-    let _ = write!(note, "; a log line looks like C201 2140 4849 0D20");
+    let _ = write!(line, "; a log line looks like C201 2140 4849 0D20");
 }
 
 /// Appends which row is bad, and why.
-fn push_bad_row(number: u64, notes: &RunNotes, note: &mut Note) {
-    let _ = write!(note, "fault row {number}");
-    if let Some(bad) = &notes.script.bad {
-        let _ = write!(note, " (line {}): {}", bad.line, bad.cause);
+fn push_bad_row(number: u64, run: &RunNotes, line: &mut Line) {
+    let _ = write!(line, "fault row {number}");
+    if let Some(bad) = &run.script.bad {
+        let _ = write!(line, " (line {}): {}", bad.line, bad.cause);
     }
 }
 
 /// Appends bytes unchanged.
-fn push(bytes: &[u8], note: &mut Note) {
-    let _ = note.write(bytes);
+fn push(bytes: &[u8], line: &mut Line) {
+    let _ = line.write(bytes);
 }
 
 /// Appends the first bytes of a text between quotation marks, with `\xHH` for a byte that is not printable ASCII.
-fn push_shown(bytes: &[u8], note: &mut Note) {
-    let _ = write!(note, "\"");
+fn push_shown(bytes: &[u8], line: &mut Line) {
+    let _ = write!(line, "\"");
     for &byte in bytes {
         let _ = if byte.is_ascii_graphic() || byte == b' ' {
-            write!(note, "{}", char::from(byte))
+            write!(line, "{}", char::from(byte))
         } else {
-            write!(note, "\\x{byte:02X}")
+            write!(line, "\\x{byte:02X}")
         };
     }
-    let _ = write!(note, "\"");
+    let _ = write!(line, "\"");
 }
 
 /// Returns whether the command reads a script instead of a log.
@@ -582,14 +517,14 @@ fn reads_script(task: Task) -> bool {
 }
 
 /// Returns the beginning of a note.
-fn begun() -> Note {
-    let mut note = Note::new();
-    push(BEGUN, &mut note);
-    note
+fn begun() -> Line {
+    let mut line = Line::new();
+    push(BEGUN, &mut line);
+    line
 }
 
 /// Ends a note, and prints it as far as the writer takes it.
-fn print<N: TellingWrite>(mut note: Note, screen: &mut N) {
-    let _ = writeln!(note);
-    let _ = put(note.as_slice(), screen);
+fn print<N: TellingWrite>(mut line: Line, screen: &mut N) {
+    let _ = writeln!(line);
+    let _ = put(line.as_slice(), screen);
 }
