@@ -4,7 +4,8 @@ use rds_audit::{AuditFault, LogStart};
 use rds_fields::{Dwell, Late};
 use rds_io::{LogFault, Told};
 use rds_log::{
-    Decoding, LineCause, LogNotes, MOST_READS, NoNote, audit_with_notes, decode_with_notes, gather,
+    Auditing, Decoding, LineCause, LogNotes, MOST_READS, NoNote, audit_with_notes,
+    decode_with_notes, gather,
 };
 use rds_receiver::Window;
 use rds_witness::witness_with_notes;
@@ -139,10 +140,12 @@ fn slot_of_a_no(rt: HostRuntime) -> Result<(), Fail> {
         let passed = audit_with_notes(
             &mut Told::new(log),
             &mut Told::new(&mut output),
-            0xC201,
-            dwell(m)?,
-            Late::new(k).ok_or("late")?,
-            LogStart::Complete,
+            Auditing {
+                pi: 0xC201,
+                dwell: dwell(m)?,
+                late: Late::new(k).ok_or("late")?,
+                start: LogStart::Complete,
+            },
             MOST_READS,
             &mut notes,
         );

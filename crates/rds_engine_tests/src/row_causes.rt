@@ -8,7 +8,7 @@ use rds_fields::Late;
 use rds_io::{LogFault, Told};
 use rds_receiver::Window;
 use rds_script::{
-    BadRow, EarlySet, MOST_RECORDS, RowCause, ScriptNotes, Thing, encode, play_script, simulate,
+    BadRow, EarlySet, MOST_RECORDS, Playing, RowCause, ScriptNotes, Thing, encode, play_script, simulate,
 };
 use rds_world::Premise;
 use std::alloc::Global;
@@ -60,15 +60,11 @@ fn played(alloc: Global, form: Form, script: &[u8]) -> Result<Ended, Fail> {
     };
     let script = Told::new(script);
     let records = MOST_RECORDS;
-    let done = play_script(
+    let playing = Playing {
         form,
-        alloc,
-        script,
-        &mut writer,
-        station,
-        records,
-        &mut notes,
-    );
+        config: station,
+    };
+    let done = play_script(playing, alloc, script, &mut writer, records, &mut notes);
     Ok((done, notes))
 }
 
@@ -686,17 +682,12 @@ fn notes_at_a_stop(rt: HostRuntime) -> Result<(), Fail> {
         with_error: true,
         writes: &writes,
     });
-    let form = rds_script::Form::Log;
+    let playing = Playing {
+        form: rds_script::Form::Log,
+        config: config(1)?,
+    };
     let script = Told::new(ENCODED);
-    let done = play_script(
-        form,
-        rt.alloc(),
-        script,
-        &mut writer,
-        config(1)?,
-        2,
-        &mut notes,
-    );
+    let done = play_script(playing, rt.alloc(), script, &mut writer, 2, &mut notes);
     same(&rt, done, Err(LogFault::Write));
     same(&rt, notes, ScriptNotes { bad: None, wait });
     Ok(())
@@ -716,16 +707,18 @@ fn same_output(rt: HostRuntime) -> Result<(), Fail> {
             &mut Told::new(&mut output),
             config(1)?,
         );
-        let form = rds_script::Form::Simulation { says_why: false };
+        let playing = Playing {
+            form: rds_script::Form::Simulation { says_why: false },
+            config: config(1)?,
+        };
         let script = Told::new(script);
         let mut writer = Told::new(&mut other);
         let records = MOST_RECORDS;
         let noted = play_script(
-            form,
+            playing,
             rt.alloc(),
             script,
             &mut writer,
-            config(1)?,
             records,
             &mut notes,
         );

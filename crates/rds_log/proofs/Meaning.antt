@@ -12,6 +12,7 @@ use Rattle.rds_audit.specs.declared.audit.AuditFault.{AuditFault}
 use Rattle.rds_audit.specs.declared.log_start.LogStart.{LogStart}
 use Rattle.rds_audit.specs.declared.log_start.LogStart.TheVariants.{Complete, Running}
 use Rattle.rds_log.specs.Audit.{Audits, IsSafe, Means, SlotsAreSafe, SlotsFail, SlotsHaveNoPlans, SlotsPass}
+use Rattle.rds_log.specs.declared.audit_log.Auditing.{Auditing}
 use Rattle.rds_log.specs.declared.verdict.Verdict.TheVariants.{Yes, No}
 use Rattle.rds_io.specs.declared.fault.LogFault.{LogFault}
 
@@ -23,12 +24,12 @@ safe_as_it_is complete running Running m k heard pos passes =
     running m k heard pos (passes (from_first_text (preceded (m + k) heard)) (m + k, le_refl (m + k), refl))
 
 -- a yes goes with slots that pass, and a no with slots that fail
-pub meaning : (start : LogStart) (pi m k reads : ℕ) (r w : Traffic) (result : Result Bool LogFault)
-    → ((slots : List (Option Group)) → SlotsPass start pi (m + k) slots → SlotsAreSafe start pi m k slots)
-    → ((t : ℕ) (fault : AuditFault) (slots : List (Option Group)) → SlotsFail start pi (m + k) t fault slots → SlotsHaveNoPlans start pi (m + k) slots)
-    → Audits start pi (m + k) reads r w result → Means start pi m k r result
-meaning start pi m k reads r w (Err fault) safe none audits = tt
-meaning start pi m k reads r w (Ok true) safe none (Ok (Yes n), (text, read, end, whole, calm), answer) = record {
+pub meaning : (a : Auditing) (reads : ℕ) (r w : Traffic) (result : Result Bool LogFault)
+    → ((slots : List (Option Group)) → SlotsPass a slots → SlotsAreSafe a slots)
+    → ((t : ℕ) (fault : AuditFault) (slots : List (Option Group)) → SlotsFail a t fault slots → SlotsHaveNoPlans a slots)
+    → Audits a reads r w result → Means a r result
+meaning a reads r w (Err fault) safe none audits = tt
+meaning a reads r w (Ok true) safe none (Ok (Yes n), (text, read, end, whole, calm), answer) = record {
   text = text;
   read = read;
   end = end;
@@ -38,10 +39,10 @@ meaning start pi m k reads r w (Ok true) safe none (Ok (Yes n), (text, read, end
   say = whole.say;
   safe = safe whole.slots whole.pass;
 }
-meaning start pi m k reads r w (Ok true) safe none (Ok (No t fault), judged, answer) = absurd (answer.0.0 refl)
-meaning start pi m k reads r w (Ok true) safe none (Err fault, judged, answer) = absurd answer
-meaning start pi m k reads r w (Ok false) safe none (Ok (Yes n), judged, answer) = absurd (let bad : false ≡ true = answer.0.1 tt in cc)
-meaning start pi m k reads r w (Ok false) safe none (Ok (No t fault), (text, read, stops, calm), answer) = record {
+meaning a reads r w (Ok true) safe none (Ok (No t fault), judged, answer) = absurd (answer.0.0 refl)
+meaning a reads r w (Ok true) safe none (Err fault, judged, answer) = absurd answer
+meaning a reads r w (Ok false) safe none (Ok (Yes n), judged, answer) = absurd (let bad : false ≡ true = answer.0.1 tt in cc)
+meaning a reads r w (Ok false) safe none (Ok (No t fault), (text, read, stops, calm), answer) = record {
   text = text;
   read = read;
   lines = stops.lines;
@@ -50,4 +51,4 @@ meaning start pi m k reads r w (Ok false) safe none (Ok (No t fault), (text, rea
   say = stops.say;
   none = none t fault stops.slots stops.fail;
 }
-meaning start pi m k reads r w (Ok false) safe none (Err fault, judged, answer) = absurd answer
+meaning a reads r w (Ok false) safe none (Err fault, judged, answer) = absurd answer

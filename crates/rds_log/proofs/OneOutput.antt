@@ -15,8 +15,9 @@ use Rattle.rds_receiver.specs.declared.why.Whys.{Whys}
 use Rattle.rds_view_lines.specs.Output.{Display, changes_of}
 use Rattle.rds_io.specs.Told.{Traffic}
 use Rattle.rds_io.specs.Alike.{WriteAlike}
-use Rattle.rds_log.specs.LogWrites.{AreDisplays, AreSlots, IsDisplay, LogWrites, SayWhys}
+use Rattle.rds_log.specs.LogWrites.{AreDisplays, AreSlots, IsDisplay, LogWrites, SayWhys, tuning_of}
 use Rattle.rds_log.specs.Decode.{DecodesAll}
+use Rattle.rds_log.specs.declared.decode_log.Decoding.{Decoding}
 use Rattle.rds_log.proofs.WholeBytes.{read_whole}
 use Rattle.rds_log.specs.declared.log_line.Block.{Block}
 use Rattle.rds_log.specs.declared.log_line.Block.TheVariants.{Word, Missing}
@@ -153,17 +154,17 @@ same_displays why t (slot ∷ before) (d ∷ displays) (e ∷ other) p q =
     (cc)
 
 -- the bytes of a log write one output
-pub same_output : (why : Bool) (t : Tuning) (text written other : List ℕ) → LogWrites why t text written → LogWrites why t text other → written ≡ other
-same_output why t text written other p q =
+pub same_output : (how : Decoding) (text written other : List ℕ) → LogWrites how text written → LogWrites how text other → written ≡ other
+same_output how text written other p q =
     let lines : p.cut ≡ q.cut = same_lines text p.cut q.cut p.are q.are in
     let slots : p.write.slots ≡ q.write.slots = same_slots q.cut p.write.slots q.write.slots (rw lines at p.write.say) q.write.say in
-    let displays : p.write.write.displays ≡ q.write.write.displays = same_displays why t q.write.slots p.write.write.displays q.write.write.displays (rw slots at p.write.write.are) q.write.write.are in
+    let displays : p.write.write.displays ≡ q.write.write.displays = same_displays how.says_why (tuning_of how) q.write.slots p.write.write.displays q.write.write.displays (rw slots at p.write.write.are) q.write.write.are in
     p.write.write.changes ∙ ap changes_of displays ∙ sym q.write.write.changes
 
 -- two calls over the same bytes
-pub alike : (why : Bool) (t : Tuning) (text : List ℕ) (r w q v : Traffic) → r.before ≡ Some text → q.before ≡ Some text → DecodesAll why t r w → DecodesAll why t q v → WriteAlike w v
-alike why t text r w q v given same a b =
+pub alike : (how : Decoding) (text : List ℕ) (r w q v : Traffic) → r.before ≡ Some text → q.before ≡ Some text → DecodesAll how r w → DecodesAll how q v → WriteAlike w v
+alike how text r w q v given same a b =
     let first : a.text ≡ text = read_whole r.before r.after text a.text given a.read a.end in
     let second : b.text ≡ text = read_whole q.before q.after text b.text same b.read b.end in
-    let one : a.written ≡ b.written = same_output why t text a.written b.written (rw first at a.write) (rw second at b.write) in
+    let one : a.written ≡ b.written = same_output how text a.written b.written (rw first at a.write) (rw second at b.write) in
     record { written = b.written; one = rw one at a.wrote; other = b.wrote }

@@ -14,13 +14,13 @@ use Rattle.rds_audit.specs.AuditLaws.{ALogHasOneFault, WhatHasAFaultDoesNotPass}
 use Rattle.rds_audit.specs.Recording.{IsJudgedAs}
 use Rattle.rds_audit.specs.Judging.{judged_more, some_judged}
 use Rattle.rds_audit.specs.Rules.{IsFaultOf}
-use Rattle.rds_audit.specs.declared.log_start.LogStart.{LogStart}
 use Rattle.rds_audit.specs.declared.audit.AuditFault.{AuditFault}
 use Rattle.rds_io.specs.Alike.{WriteAlike}
-use Rattle.rds_log.specs.Audit.{AnswersVerdictOf, Audits, IsVerdictOf, IsYes, SlotsFail, SlotsPass, AuditStopsAtSlot, WholePasses, verdict_line}
+use Rattle.rds_log.specs.Audit.{AnswersVerdictOf, Audits, IsVerdictOf, IsYes, SlotsFail, SlotsPass, AuditStopsAtSlot, WholePasses, spacing, verdict_line}
 use Rattle.rds_log.specs.LogWrites.{AreSlots}
 use Rattle.rds_log.specs.Reads.{BeginsWith}
 use Rattle.rds_log.specs.LogLines.{AreLines, IsLine, Line, line_feed, text_of}
+use Rattle.rds_log.specs.declared.audit_log.Auditing.{Auditing}
 use Rattle.rds_log.specs.declared.verdict.Verdict.{Verdict}
 use Rattle.rds_log.specs.declared.verdict.Verdict.TheVariants.{No, Yes}
 use Rattle.rds_log.proofs.Cutting.{text_of-more}
@@ -105,60 +105,60 @@ fault_stays d [] log fault p = p
 fault_stays d (m ∷ newer) log fault p = inr (fault_stays d newer log fault p)
 
 -- slots that go on after a fault do not pass
-fails_for_good : WhatHasAFaultDoesNotPass → (start : LogStart) (pi d t : ℕ) (fault : AuditFault) (more slots : List (Option Group)) → 0 < d → SlotsFail start pi d t fault slots → SlotsPass start pi d (more ++ slots) → ⊥
-fails_for_good fails start pi d t fault more slots some fail pass =
-    let (newer, same) = more_heard pi more slots pass.heard fail.heard pass.are fail.are in
-    let (judged, is) = some_judged start d pass.heard in
-    let (later, before, was, e) = judged_more start d newer fail.heard judged (subst (λ (x : List (Option Message)). IsJudgedAs start d x judged) same is) in
-    fails d judged fault some (rw e (fault_stays d later before fault (fail.fault_is before was))) (pass.passes judged is)
+fails_for_good : WhatHasAFaultDoesNotPass → (a : Auditing) (t : ℕ) (fault : AuditFault) (more slots : List (Option Group)) → 0 < spacing a → SlotsFail a t fault slots → SlotsPass a (more ++ slots) → ⊥
+fails_for_good fails a t fault more slots some fail pass =
+    let (newer, same) = more_heard a.pi more slots pass.heard fail.heard pass.are fail.are in
+    let (judged, is) = some_judged a.start (spacing a) pass.heard in
+    let (later, before, was, e) = judged_more a.start (spacing a) newer fail.heard judged (subst (λ (x : List (Option Message)). IsJudgedAs a.start (spacing a) x judged) same is) in
+    fails (spacing a) judged fault some (rw e (fault_stays (spacing a) later before fault (fail.fault_is before was))) (pass.passes judged is)
 
 -- and those that do not pass fail at one slot, with one fault
-fails_once : WhatHasAFaultDoesNotPass → ALogHasOneFault → (start : LogStart) (pi d t u : ℕ) (f g : AuditFault) (more slots all : List (Option Group)) → 0 < d → all ≡ more ++ slots → SlotsFail start pi d t f slots → SlotsFail start pi d u g all
+fails_once : WhatHasAFaultDoesNotPass → ALogHasOneFault → (a : Auditing) (t u : ℕ) (f g : AuditFault) (more slots all : List (Option Group)) → 0 < spacing a → all ≡ more ++ slots → SlotsFail a t f slots → SlotsFail a u g all
     → No t f ≡ No u g
-fails_once fails one start pi d t u f g [] slots all some same p q =
+fails_once fails one a t u f g [] slots all some same p q =
     let count : length all ≡ length slots = ap length same in
     let first : length slots ≡ length (p.newest ∷ p.before) = ap length p.cut in
     let second : length all ≡ length (q.newest ∷ q.before) = ap length q.cut in
     let number : t ≡ u = omega (arith, count, first, second, p.number, q.number) in
-    let heard : p.heard ≡ q.heard = same_heard pi slots p.heard q.heard p.are (rw same at q.are) in
-    let (judged, is) = some_judged start d q.heard in
-    let fault : f ≡ g = one d judged f g some ((rw heard at p.fault_is) judged is) (q.fault_is judged is) in
+    let heard : p.heard ≡ q.heard = same_heard a.pi slots p.heard q.heard p.are (rw same at q.are) in
+    let (judged, is) = some_judged a.start (spacing a) q.heard in
+    let fault : f ≡ g = one (spacing a) judged f g some ((rw heard at p.fault_is) judged is) (q.fault_is judged is) in
     (cc)
-fails_once fails one start pi d t u f g (s ∷ more) slots all some same p q =
+fails_once fails one a t u f g (s ∷ more) slots all some same p q =
     let cut : s ∷ (more ++ slots) ≡ q.newest ∷ q.before = sym same ∙ q.cut in
     let before : q.before ≡ more ++ slots = (cc) in
-    absurd (fails_for_good fails start pi d t f more slots some p (rw before at q.passed))
+    absurd (fails_for_good fails a t f more slots some p (rw before at q.passed))
 
 -- ---- the verdict
 
 -- all lines are good and pass, or some of them fail
-not_both : WhatHasAFaultDoesNotPass → (start : LogStart) (pi d n t : ℕ) (fault : AuditFault) (bytes : List ℕ) → 0 < d → WholePasses start pi d n bytes → AuditStopsAtSlot start pi d t fault bytes (Some []) → ⊥
-not_both fails start pi d n t fault bytes some p q =
+not_both : WhatHasAFaultDoesNotPass → (a : Auditing) (n t : ℕ) (fault : AuditFault) (bytes : List ℕ) → 0 < spacing a → WholePasses a n bytes → AuditStopsAtSlot a t fault bytes (Some []) → ⊥
+not_both fails a n t fault bytes some p q =
     let (newer, are) = all_lines bytes q.lines q.begins in
     let lines : p.lines ≡ newer ++ q.lines = same_lines bytes p.lines (newer ++ q.lines) p.are are in
     let (more, slots) = more_slots newer q.lines p.slots q.slots (rw lines at p.say) q.say in
-    fails_for_good fails start pi d t fault more q.slots some q.fail (rw slots at p.pass)
+    fails_for_good fails a t fault more q.slots some q.fail (rw slots at p.pass)
 
 -- the lines that fail last go on after those that fail first
-stops_once : WhatHasAFaultDoesNotPass → ALogHasOneFault → (start : LogStart) (pi d t u : ℕ) (f g : AuditFault) (bytes : List ℕ) → 0 < d → (p : AuditStopsAtSlot start pi d t f bytes (Some [])) (q : AuditStopsAtSlot start pi d u g bytes (Some []))
+stops_once : WhatHasAFaultDoesNotPass → ALogHasOneFault → (a : Auditing) (t u : ℕ) (f g : AuditFault) (bytes : List ℕ) → 0 < spacing a → (p : AuditStopsAtSlot a t f bytes (Some [])) (q : AuditStopsAtSlot a u g bytes (Some []))
     → (c : List Line) × (q.lines ≡ c ++ p.lines) → No t f ≡ No u g
-stops_once fails one start pi d t u f g bytes some p q (c, lines) =
+stops_once fails one a t u f g bytes some p q (c, lines) =
     let (more, slots) = more_slots c p.lines q.slots p.slots (rw lines at q.say) p.say in
-    fails_once fails one start pi d t u f g more p.slots q.slots some slots p.fail q.fail
+    fails_once fails one a t u f g more p.slots q.slots some slots p.fail q.fail
 
-pub same_verdict : WhatHasAFaultDoesNotPass → ALogHasOneFault → (start : LogStart) (pi d : ℕ) (bytes : List ℕ) (v u : Verdict) → 0 < d → IsVerdictOf start pi d bytes v → IsVerdictOf start pi d bytes u → v ≡ u
-same_verdict fails one start pi d bytes (Yes n) (Yes m) some p q =
+pub same_verdict : WhatHasAFaultDoesNotPass → ALogHasOneFault → (a : Auditing) (bytes : List ℕ) (v u : Verdict) → 0 < spacing a → IsVerdictOf a bytes v → IsVerdictOf a bytes u → v ≡ u
+same_verdict fails one a bytes (Yes n) (Yes m) some p q =
     let lines : p.lines ≡ q.lines = same_lines bytes p.lines q.lines p.are q.are in
     let slots : p.slots ≡ q.slots = same_slots q.lines p.slots q.slots (rw lines at p.say) q.say in
     ap Yes (p.number ∙ ap length slots ∙ sym q.number)
-same_verdict fails one start pi d bytes (Yes n) (No t fault) some p q = absurd (not_both fails start pi d n t fault bytes some p q)
-same_verdict fails one start pi d bytes (No t fault) (Yes n) some p q = absurd (not_both fails start pi d n t fault bytes some q p)
-same_verdict fails one start pi d bytes (No t f) (No u g) some p q =
+same_verdict fails one a bytes (Yes n) (No t fault) some p q = absurd (not_both fails a n t fault bytes some p q)
+same_verdict fails one a bytes (No t fault) (Yes n) some p q = absurd (not_both fails a n t fault bytes some q p)
+same_verdict fails one a bytes (No t f) (No u g) some p q =
     let (newer, are) = all_lines bytes p.lines p.begins in
     let (newer', are') = all_lines bytes q.lines q.begins in
     elim (two_ends newer newer' p.lines q.lines (same_lines bytes (newer ++ p.lines) (newer' ++ q.lines) are are')) [
-      | inl later ↦ sym (stops_once fails one start pi d u t g f bytes some q p later)
-      | inr later ↦ stops_once fails one start pi d t u f g bytes some p q later
+      | inl later ↦ sym (stops_once fails one a u t g f bytes some q p later)
+      | inr later ↦ stops_once fails one a t u f g bytes some p q later
     ]
 
 -- ---- calls
@@ -172,11 +172,11 @@ begins_all before after bytes text lines given read (inr (end, are)) =
     inr (refl, rw (read_whole before after bytes text given read end) at are)
 
 -- the verdict that was answered is that of the bytes
-pub answers : (start : LogStart) (pi d reads : ℕ) (bytes : List ℕ) (r w : Traffic) (passed : Bool) → r.before ≡ Some bytes → Audits start pi d reads r w (Ok passed) → AnswersVerdictOf start pi d bytes w passed
-answers start pi d reads bytes r w passed given (Err fault, judged, said) = absurd said
-answers start pi d reads bytes r w passed given (Ok (Yes n), (text, read, end, whole, calm), (answer, put, kept)) =
+pub answers : (a : Auditing) (reads : ℕ) (bytes : List ℕ) (r w : Traffic) (passed : Bool) → r.before ≡ Some bytes → Audits a reads r w (Ok passed) → AnswersVerdictOf a bytes w passed
+answers a reads bytes r w passed given (Err fault, judged, said) = absurd said
+answers a reads bytes r w passed given (Ok (Yes n), (text, read, end, whole, calm), (answer, put, kept)) =
     record { verdict = Yes n; is = rw (read_whole r.before r.after bytes text given read end) at whole; answer = answer; wrote = put }
-answers start pi d reads bytes r w passed given (Ok (No t fault), (text, read, stops, calm), (answer, put, kept)) =
+answers a reads bytes r w passed given (Ok (No t fault), (text, read, stops, calm), (answer, put, kept)) =
     record {
       verdict = No t fault;
       is = record {
@@ -197,10 +197,10 @@ same_answer verdict false true p q = p.1 (q.0 refl)
 same_answer verdict false false p q = refl
 
 -- two calls over the same bytes
-pub alike : WhatHasAFaultDoesNotPass → ALogHasOneFault → (start : LogStart) (pi d reads others : ℕ) (bytes : List ℕ) (r w q v : Traffic) (passed other : Bool) → 0 < d → r.before ≡ Some bytes → q.before ≡ Some bytes
-    → Audits start pi d reads r w (Ok passed) → Audits start pi d others q v (Ok other) → (passed ≡ other) × WriteAlike w v
-alike fails one start pi d reads others bytes r w q v passed other some given same a b =
-    let p = answers start pi d reads bytes r w passed given a in
-    let u = answers start pi d others bytes q v other same b in
-    let is : p.verdict ≡ u.verdict = same_verdict fails one start pi d bytes p.verdict u.verdict some p.is u.is in
+pub alike : WhatHasAFaultDoesNotPass → ALogHasOneFault → (a : Auditing) (reads others : ℕ) (bytes : List ℕ) (r w q v : Traffic) (passed other : Bool) → 0 < spacing a → r.before ≡ Some bytes → q.before ≡ Some bytes
+    → Audits a reads r w (Ok passed) → Audits a others q v (Ok other) → (passed ≡ other) × WriteAlike w v
+alike fails one a reads others bytes r w q v passed other some given same first second =
+    let p = answers a reads bytes r w passed given first in
+    let u = answers a others bytes q v other same second in
+    let is : p.verdict ≡ u.verdict = same_verdict fails one a bytes p.verdict u.verdict some p.is u.is in
     (same_answer u.verdict passed other (rw is at p.answer) u.answer, record { written = verdict_line u.verdict; one = rw is at p.wrote; other = u.wrote })

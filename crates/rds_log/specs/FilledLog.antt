@@ -1,5 +1,5 @@
 -- The output of `slots` as a log, and what a receiver of it shows. Lists have the newest first.
-use Rattle.std.specs.Prelude.{◌≡◌, ◌+◌, ◌<◌, ◌∷◌, [], ℕ, false, List, Option}
+use Rattle.std.specs.Prelude.{◌≡◌, ◌+◌, ◌<◌, ◌∷◌, [], ℕ, List, Option}
 use Rattle.std.specs.List.{All, AllZip}
 use Rattle.rds_block.specs.declared.group.Group.{Group}
 use Rattle.rds_fields.specs.declared.head.Head.{Head}
@@ -15,7 +15,7 @@ use Rattle.rds_arrivals.specs.Delivered.{AreBelowASlot, Delivery, arrivals, orig
 use Rattle.rds_arrivals.specs.Laws.{AreDelivered}
 use Rattle.rds_log.specs.Fill.{AreFilled, SoFar}
 use Rattle.rds_log.specs.LogLines.{AreLines, IsLine, Line}
-use Rattle.rds_log.specs.LogWrites.{AreSlots, LogWrites, tuned}
+use Rattle.rds_log.specs.LogWrites.{AreSlots, LogWrites, plain, tuned}
 use Rattle.rds_log.specs.declared.filler.Filling.{Filling}
 
 -- all lines of the text are good, and these are its slots
@@ -53,6 +53,6 @@ FilledTextsAreSafe =
     → AreBelowASlot f.grain spread → 0 < f.dwell
     → AreLawful f.dwell plans log → AllZip (IsSent station) log sent → AreDelivered spread sent (newest ∷ before)
     → All IsLine lines → AreFilled f lines s → s.came ≡ arrivals (newest ∷ before)
-    → (decoded : LogWrites false (tuned station.pi f.dwell) s.written shown)
+    → (decoded : LogWrites (plain station.pi f.dwell) s.written shown)
     → NewestIsSafe (tuned station.pi f.dwell) (newest.slot + s.told) plans log decoded.write.slots
     (and_lost s.told (filled f.grain f.dwell (origins (newest ∷ before)))) decoded.write.write.displays

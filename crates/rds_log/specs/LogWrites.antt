@@ -9,15 +9,20 @@ use Rattle.rds_receiver.specs.declared.why.Whys.{Whys}
 use Rattle.rds_log.specs.LogLines.{AreLines, Line}
 use Rattle.rds_log.specs.LineSays.{LineSays}
 use Rattle.rds_view_lines.specs.Output.{Display, changes_of}
+use Rattle.rds_log.specs.declared.decode_log.Decoding.{Decoding}
 use Rattle.rds_log.specs.declared.log_line.LogLine.TheVariants.{Skip, Slot}
 
--- a receiver of this programme, this dwell and this window, if it has one, that hears a log from its first slot on
-abbrev pub tuned_with : ℕ → ℕ → Option ℕ → Tuning
-tuned_with pi m window = record { programme = pi; dwell = m; window = window; first = 0 }
+-- a receiver that decodes so hears a log from its first slot on
+abbrev pub tuning_of : Decoding → Tuning
+tuning_of how = record { programme = how.pi; dwell = how.dwell; window = how.window; first = 0 }
 
--- the same without a window
+-- the settings without a window and without reasons
+abbrev pub plain : ℕ → ℕ → Decoding
+plain pi m = record { pi = pi; dwell = m; window = None; says_why = false }
+
+-- a receiver of this programme and this dwell without a window
 abbrev pub tuned : ℕ → ℕ → Tuning
-tuned pi m = tuned_with pi m None
+tuned pi m = tuning_of (plain pi m)
 
 -- the lines are good, and these are their slots
 abbrev pub AreSlots : List Line → List (Option Group) → Type 0
@@ -45,19 +50,19 @@ AreDisplays why t (slot ∷ before) (display ∷ older) =
     IsDisplay why t (slot ∷ before) display × AreDisplays why t before older
 
 -- the slots write the changes of their displays
-pub record SlotsWrite (why : Bool) (t : Tuning) (slots : List (Option Group)) (written : List ℕ) : Type 0 where
+pub record SlotsWrite (how : Decoding) (slots : List (Option Group)) (written : List ℕ) : Type 0 where
   pub displays : List Display
-  pub are : AreDisplays why t slots displays
+  pub are : AreDisplays how.says_why (tuning_of how) slots displays
   pub changes : written ≡ changes_of displays
 
 -- the lines are good, and this is their output
-pub record LinesWrite (why : Bool) (t : Tuning) (lines : List Line) (written : List ℕ) : Type 0 where
+pub record LinesWrite (how : Decoding) (lines : List Line) (written : List ℕ) : Type 0 where
   pub slots : List (Option Group)
   pub say : AreSlots lines slots
-  pub write : SlotsWrite why t slots written
+  pub write : SlotsWrite how slots written
 
 -- this is the output of the bytes of a log, all of whose lines are good
-pub record LogWrites (why : Bool) (t : Tuning) (text : List ℕ) (written : List ℕ) : Type 0 where
+pub record LogWrites (how : Decoding) (text written : List ℕ) : Type 0 where
   pub cut : List Line
   pub are : AreLines text cut
-  pub write : LinesWrite why t cut written
+  pub write : LinesWrite how cut written

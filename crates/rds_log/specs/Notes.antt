@@ -1,7 +1,6 @@
 -- The notes on a log. This is the project's own rule. r is the traffic with the reader.
 use Rattle.std.specs.Prelude.{◌≡◌, ◌⊎◌, ℕ, List, Option, Some, None, Ok, Err, Result, IfNone, IfSome, take}
 use Rattle.std.specs.Io.KnownBytes.{Consumes}
-use Rattle.rds_audit.specs.declared.log_start.LogStart.{LogStart}
 use Rattle.rds_io.specs.Told.{Traffic}
 use Rattle.rds_log.specs.Audit.{Judges}
 use Rattle.rds_log.specs.Heard.{HeardLog}
@@ -9,6 +8,7 @@ use Rattle.rds_log.specs.LineCauses.{AreGoodBlocks, IsLineCause}
 use Rattle.rds_log.specs.LineSays.{IsSkipped, deciding}
 use Rattle.rds_log.specs.LogLines.{Line}
 use Rattle.rds_log.specs.Reads.{NextIsBad}
+use Rattle.rds_log.specs.declared.audit_log.Auditing.{Auditing}
 use Rattle.rds_log.specs.declared.notes.BadStart.{BadStart}
 use Rattle.rds_log.specs.declared.notes.NoNote.{NoNote}
 use Rattle.rds_log.specs.declared.notes.LogNotes.{LogNotes}
@@ -51,9 +51,9 @@ NotesFault r TooLong noted = noted ≡ None
 NotesFault r Memory noted = noted ≡ None
 
 -- the note has the slot and the fault of a no
-abbrev pub NotesNo : LogStart → ℕ → ℕ → ℕ → Traffic → Option NoNote → Type 0
-NotesNo start pi d reads r noted = (note : NoNote) × (noted ≡ Some note)
-    × Judges start pi d reads r (Ok (No note.slot note.fault))
+abbrev pub NotesNo : Auditing → ℕ → Traffic → Option NoNote → Type 0
+NotesNo a reads r noted = (note : NoNote) × (noted ≡ Some note)
+    × Judges a reads r (Ok (No note.slot note.fault))
 
 -- the notes of an audit with this result: after a yes, the programmes of the log and no note of a no; at a no, its slot
 -- and its fault

@@ -1,8 +1,7 @@
 //! The engine of `audit`: whether the groups of a station pass.
 ghost use Rattle.std.specs.Prelude.{◌≡◌, ◌≢◌, ◌≤◌, ◌+◌, ◌^◌, [], IfErr, None, Ok, false, true};
 ghost use Rattle.rds_io.specs.Told.{traffic};
-ghost use Rattle.rds_audit.specs.declared.log_start.LogStart.TheVariants as LogStart;
-ghost use Rattle.rds_log.specs.Audit.{Answers, Audits, Judges, Means};
+ghost use Rattle.rds_log.specs.Audit.{Answers, Audits, Judges, Means, complete};
 ghost use Rattle.rds_log.specs.Heard.{HeardLines, HeardLog};
 ghost use Rattle.rds_log.specs.Notes.{NotesFault, NotesNo, NotesVerdict};
 ghost use Rattle.rds_log.specs.Reads.{MadeReads};
@@ -17,6 +16,19 @@ use crate::verdict::Verdict;
 use rds_audit::{Audit, LogStart};
 use rds_fields::{Dwell, Late};
 use rds_io::{Lines, LogFault, TellingRead, TellingWrite, put};
+
+/// How a log is audited.
+#[derive(Clone, Copy)]
+pub struct Auditing {
+    /// The programme.
+    pub pi: u16,
+    /// The dwell M of the receivers.
+    pub dwell: Dwell,
+    /// The number K of slots by which their groups may come late.
+    pub late: Late,
+    /// Whether the log begins with its station.
+    pub start: LogStart,
+}
 
 /// Audits the complete log of a station, one slot a line, and writes the answer line: `yes` with the number of slots,
 /// or `no` with the first slot that breaks a rule and the name of the fault.
@@ -36,10 +48,10 @@ pub fn audit<R: TellingRead, W: TellingWrite>(
     dwell: Dwell,
     late: Late,
 ) -> Result<bool, LogFault>
-    ensures audits { Audits LogStart.Complete pi (dwell + late) (2 ^ 32)
+    ensures audits { Audits (complete pi dwell late) (2 ^ 32)
         (traffic R.remaining R.failures reader.old reader.new)
         (traffic W.contents W.failures writer.old writer.new) result }
-    ensures means { Means LogStart.Complete pi dwell late
+    ensures means { Means (complete pi dwell late)
         (traffic R.remaining R.failures reader.old reader.new) result }
     ensures reads { MadeReads (2 ^ 32) (R.reads reader.old) (R.reads reader.new) result }
 {
@@ -56,19 +68,23 @@ pub fn audit_within<R: TellingRead, W: TellingWrite>(
     reads: u64,
 ) -> Result<bool, LogFault>
     requires { reads ≤ 2 ^ 32 }
-    ensures audits { Audits LogStart.Complete pi (dwell + late) reads
+    ensures audits { Audits (complete pi dwell late) reads
         (traffic R.remaining R.failures reader.old reader.new)
         (traffic W.contents W.failures writer.old writer.new) result }
-    ensures means { Means LogStart.Complete pi dwell late
+    ensures means { Means (complete pi dwell late)
         (traffic R.remaining R.failures reader.old reader.new) result }
     ensures reads { MadeReads reads (R.reads reader.old) (R.reads reader.new) result }
 {
-    let start = LogStart::Complete;
-    let notes = &mut LogNotes::new(pi);
-    audit_with_notes(reader, writer, pi, dwell, late, start, reads, notes)
+    let auditing = Auditing {
+        pi,
+        dwell,
+        late,
+        start: LogStart::Complete,
+    };
+    audit_with_notes(reader, writer, auditing, reads, &mut LogNotes::new(pi))
 }
 
-/// Audits a log that begins so with at most `reads` reads, and takes notes for a person. The new notes replace the old
+/// Audits a log in this way with at most `reads` reads, and takes notes for a person. The new notes replace the old
 /// content of `notes`. For a complete log the output and the answer are those of [`audit_within`]. For the log of a
 /// running station the answer is that of the log with M + K lost slots in front, or more, and without the tags before
 /// its first text segment. Slots count from the first line of the log. A yes speaks of receivers of the log as it is:
@@ -76,30 +92,27 @@ pub fn audit_within<R: TellingRead, W: TellingWrite>(
 pub fn audit_with_notes<R: TellingRead, W: TellingWrite>(
     reader: &mut R,
     writer: &mut W,
-    pi: u16,
-    dwell: Dwell,
-    late: Late,
-    start: LogStart,
+    auditing: Auditing,
     reads: u64,
     notes: &mut LogNotes,
 ) -> Result<bool, LogFault>
     requires { reads ≤ 2 ^ 32 }
-    ensures audits { Audits start pi (dwell + late) reads
+    ensures audits { Audits auditing reads
         (traffic R.remaining R.failures reader.old reader.new)
         (traffic W.contents W.failures writer.old writer.new) result }
-    ensures means { Means start pi dwell late (traffic R.remaining R.failures reader.old reader.new) result }
+    ensures means { Means auditing (traffic R.remaining R.failures reader.old reader.new) result }
     ensures reads { MadeReads reads (R.reads reader.old) (R.reads reader.new) result }
     ensures heard { result ≡ Ok true
-        → HeardLog pi (traffic R.remaining R.failures reader.old reader.new) notes.new.heard }
+        → HeardLog auditing.pi (traffic R.remaining R.failures reader.old reader.new) notes.new.heard }
     ensures yes { result ≡ Ok true → notes.new.no ≡ None }
-    ensures no { result ≡ Ok false → NotesNo start pi (dwell + late) reads
+    ensures no { result ≡ Ok false → NotesNo auditing reads
         (traffic R.remaining R.failures reader.old reader.new) notes.new.no }
     ensures fault { IfErr result (λ fault. fault ≢ faults.Write
         → NotesFault (traffic R.remaining R.failures reader.old reader.new) fault notes.new.bad) }
 {
     what_an_answer_means();
-    *notes = LogNotes::new(pi);
-    let verdict = judge(reader, pi, dwell, late, start, reads, notes)?;
+    *notes = LogNotes::new(auditing.pi);
+    let verdict = judge(reader, auditing, reads, notes)?;
     write_verdict(verdict, writer)
 }
 
@@ -117,29 +130,26 @@ fn write_verdict<W: TellingWrite>(verdict: Verdict, writer: &mut W) -> Result<bo
 /// empty before.
 fn judge<R: TellingRead>(
     reader: &mut R,
-    pi: u16,
-    dwell: Dwell,
-    late: Late,
-    start: LogStart,
+    auditing: Auditing,
     reads: u64,
     notes: &mut LogNotes,
 ) -> Result<Verdict, LogFault>
     requires reads { reads ≤ 2 ^ 32 }
     requires groups { notes.old.heard.groups ≡ 0 }
-    requires heard { HeardLines pi [] notes.old.heard }
+    requires heard { HeardLines auditing.pi [] notes.old.heard }
     requires no { notes.old.no ≡ None }
-    ensures judges { Judges start pi (dwell + late) reads
+    ensures judges { Judges auditing reads
         (traffic R.remaining R.failures reader.old reader.new) result }
     ensures reads { MadeReads reads (R.reads reader.old) (R.reads reader.new) result }
-    ensures notes { NotesVerdict pi (traffic R.remaining R.failures reader.old reader.new) notes.new result }
+    ensures notes { NotesVerdict auditing.pi (traffic R.remaining R.failures reader.old reader.new) notes.new result }
 {
     let mut source = Source::new(reads);
-    let mut audit = Audit::starting(pi, dwell, late, start);
+    let mut audit = Audit::starting(auditing.pi, auditing.dwell, auditing.late, auditing.start);
     let mut slots = 0;
     let mut said = LogLine::Skip;
     loop {
         match source.next(reader, &mut said) {
-            Ok(true) => notes.heard.line(pi, said),
+            Ok(true) => notes.heard.line(auditing.pi, said),
             Ok(false) => {
                 notes.slots = slots;
                 notes.texts = audit.texts();

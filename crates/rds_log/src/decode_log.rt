@@ -3,7 +3,7 @@ ghost use Rattle.std.specs.Prelude.{◌≤◌, ◌^◌, [], IfErr, OnOk, false};
 ghost use Rattle.rds_io.specs.Told.{traffic};
 ghost use Rattle.rds_log.specs.Decode.{Decodes};
 ghost use Rattle.rds_log.specs.Heard.{HeardLog};
-ghost use Rattle.rds_log.specs.LogWrites.{tuned, tuned_with};
+ghost use Rattle.rds_log.specs.LogWrites.{plain};
 ghost use Rattle.rds_log.specs.Notes.{NotesFault};
 ghost use Rattle.rds_log.specs.Reads.{MadeReads};
 
@@ -44,7 +44,7 @@ pub fn decode<R: TellingRead, W: TellingWrite>(
     pi: u16,
     dwell: Dwell,
 ) -> Result<(), LogFault>
-    ensures decodes { Decodes false (tuned pi dwell) (2 ^ 32)
+    ensures decodes { Decodes (plain pi dwell) (2 ^ 32)
         (traffic R.remaining R.failures reader.old reader.new)
         (traffic W.contents W.failures writer.old writer.new) result }
     ensures reads { MadeReads (2 ^ 32) (R.reads reader.old) (R.reads reader.new) result }
@@ -61,7 +61,7 @@ pub fn decode_within<R: TellingRead, W: TellingWrite>(
     reads: u64,
 ) -> Result<(), LogFault>
     requires { reads ≤ 2 ^ 32 }
-    ensures decodes { Decodes false (tuned pi dwell) reads
+    ensures decodes { Decodes (plain pi dwell) reads
         (traffic R.remaining R.failures reader.old reader.new)
         (traffic W.contents W.failures writer.old writer.new) result }
     ensures reads { MadeReads reads (R.reads reader.old) (R.reads reader.new) result }
@@ -85,7 +85,7 @@ pub fn decode_with_notes<R: TellingRead, W: TellingWrite>(
     notes: &mut LogNotes,
 ) -> Result<(), LogFault>
     requires { reads ≤ 2 ^ 32 }
-    ensures decodes { Decodes decoding.says_why (tuned_with decoding.pi decoding.dwell decoding.window) reads
+    ensures decodes { Decodes decoding reads
         (traffic R.remaining R.failures reader.old reader.new)
         (traffic W.contents W.failures writer.old writer.new) result }
     ensures reads { MadeReads reads (R.reads reader.old) (R.reads reader.new) result }

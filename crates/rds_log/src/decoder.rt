@@ -6,9 +6,10 @@ ghost use Rattle.rds_io.specs.Told.{IsCalm, Traffic, traffic};
 ghost use Rattle.rds_receiver.specs.Receipts.{Tuning};
 ghost use Rattle.rds_receiver.specs.StandsAt.{StandsAt, WhereItStands};
 ghost use Rattle.rds_log.specs.LogLines.{Line};
-ghost use Rattle.rds_log.specs.LogWrites.{SayWhys};
+ghost use Rattle.rds_log.specs.LogWrites.{SayWhys, tuning_of};
 ghost use Rattle.rds_log.specs.LineSays.{LineSays};
 ghost use Rattle.rds_view_lines.specs.declared.change.TheConstants.{SLOT_ROOM};
+ghost use Rattle.rds_log.specs.declared.decode_log.Decoding.{Decoding};
 ghost use Rattle.rds_log.specs.declared.decoder.TheConstants.{OUTPUT_ROOM};
 
 use crate::log_line::LogLine;
@@ -96,8 +97,8 @@ impl Decoder {
     pub(crate) fn new(receiver: Receiver, says_why: bool) -> Decoder
         ensures slots { result.views.slot ≡ 0 }
         ensures empty { result.output ≡ [] }
-        ensures decoded { (t : Tuning) (w : Traffic) → StandsAt t receiver [] → w.after ≡ w.before → IsCalm w
-            → HasDecoded says_why t result w [] }
+        ensures decoded { (how : Decoding) (w : Traffic) → how.says_why ≡ says_why
+            → StandsAt (tuning_of how) receiver [] → w.after ≡ w.before → IsCalm w → HasDecoded how result w [] }
     {
         Decoder {
             views: ViewLines::new(receiver, says_why),
@@ -118,8 +119,8 @@ impl Decoder {
         requires slots { self.old.views.slot < 2 ^ 64 - 1 }
         requires room { length self.old.output + SLOT_ROOM ≤ OUTPUT_ROOM }
         ensures slots { self.new.views.slot ≤ self.old.views.slot + 1 }
-        ensures decoded { (why : Bool) (t : Tuning) (w : Traffic) (lines : List Line) (line : Line) → LineSays line said
-            → HasDecoded why t self.old w lines → HasDecoded why t self.new w (line ∷ lines) }
+        ensures decoded { (how : Decoding) (w : Traffic) (lines : List Line) (line : Line) → LineSays line said
+            → HasDecoded how self.old w lines → HasDecoded how self.new w (line ∷ lines) }
     {
         match said {
             LogLine::Skip => {}
@@ -132,11 +133,11 @@ impl Decoder {
         ensures empty { OnOk result (self.new.output ≡ []) }
         ensures slots { self.new.views ≡ self.old.views }
         ensures nothing { self.old.output ≡ [] → IsOk result }
-        ensures wrote { (why : Bool) (t : Tuning) (start : W) (lines : List Line)
-            → HasDecoded why t self.old (traffic W.contents W.failures start writer.old) lines
+        ensures wrote { (how : Decoding) (start : W) (lines : List Line)
+            → HasDecoded how self.old (traffic W.contents W.failures start writer.old) lines
             → MatchResult result
-            (λ _. HasDecoded why t self.new (traffic W.contents W.failures start writer.new) lines)
-            (λ _. WrotePart why t (traffic W.contents W.failures start writer.new) lines) }
+            (λ _. HasDecoded how self.new (traffic W.contents W.failures start writer.new) lines)
+            (λ _. WrotePart how (traffic W.contents W.failures start writer.new) lines) }
     {
         self.output.write(writer)
     }

@@ -1,22 +1,22 @@
 //! The laws of logs.
-ghost use Rattle.std.specs.Prelude.{◌≡◌, ◌+◌, ◌<◌, ℕ, Bool, List, Ok, Option, Some};
+ghost use Rattle.std.specs.Prelude.{◌≡◌, ◌<◌, ℕ, Bool, List, Ok, Option, Some};
 ghost use Rattle.rds_block.specs.declared.group.Group.{Group};
 ghost use Rattle.rds_io.specs.Told.{Traffic};
-ghost use Rattle.rds_receiver.specs.Receipts.{Tuning};
 ghost use Rattle.rds_io.specs.Alike.{WriteAlike};
 ghost use Rattle.rds_log.specs.Audit.{AnswersVerdictOf, Audits, IsVerdictOf, SlotsAreSafe};
-ghost use Rattle.rds_log.specs.Audit.{SlotsFail, SlotsHaveNoPlans, SlotsPass};
+ghost use Rattle.rds_log.specs.Audit.{SlotsFail, SlotsHaveNoPlans, SlotsPass, spacing};
 ghost use Rattle.rds_log.specs.FilledLog.{FilledTextsAreLogs, FilledTextsAreSafe};
 ghost use Rattle.rds_log.specs.LineCauses.{IsLineCause};
 ghost use Rattle.rds_log.specs.LogLines.{Line};
 ghost use Rattle.rds_log.specs.LineSays.{LineSays};
 ghost use Rattle.rds_log.specs.LogWrites.{LogWrites};
 ghost use Rattle.rds_log.specs.Decode.{DecodesAll};
+ghost use Rattle.rds_log.specs.declared.audit_log.Auditing.{Auditing};
+ghost use Rattle.rds_log.specs.declared.decode_log.Decoding.{Decoding};
 ghost use Rattle.rds_log.specs.declared.line_cause.LineCause.{LineCause};
 ghost use Rattle.rds_log.specs.declared.log_line.LogLine.{LogLine};
 ghost use Rattle.rds_log.specs.declared.verdict.Verdict.{Verdict};
 ghost use Rattle.rds_audit.specs.declared.audit.AuditFault.{AuditFault};
-ghost use Rattle.rds_audit.specs.declared.log_start.LogStart.{LogStart};
 
 use rds_arrivals::filled_logs_are_safe;
 use rds_audit::{
@@ -28,24 +28,22 @@ use rds_audit::{
 pub fn bytes_write_one_output()
     ensures one_said { (line : Line) (said other : LogLine) → LineSays line said
         → LineSays line other → said ≡ other }
-    ensures one_output { (why : Bool) (t : Tuning) (text written other : List ℕ) → LogWrites why t text written
-        → LogWrites why t text other → written ≡ other }
-    ensures alike { (why : Bool) (t : Tuning) (text : List ℕ) (r w q v : Traffic) → r.before ≡ Some text
-        → q.before ≡ Some text → DecodesAll why t r w → DecodesAll why t q v → WriteAlike w v }
+    ensures one_output { (how : Decoding) (text written other : List ℕ) → LogWrites how text written
+        → LogWrites how text other → written ≡ other }
+    ensures alike { (how : Decoding) (text : List ℕ) (r w q v : Traffic) → r.before ≡ Some text
+        → q.before ≡ Some text → DecodesAll how r w → DecodesAll how q v → WriteAlike w v }
 {}
 
 /// Shows that the answer to a log is a function of its bytes: they have one verdict, a call of `audit` that ends
 /// without a fault answers it and writes its line, and two such calls answered and wrote the same.
 pub fn bytes_have_one_verdict()
-    ensures one_verdict { (start : LogStart) (pi d : ℕ) (bytes : List ℕ) (v u : Verdict) → 0 < d
-        → IsVerdictOf start pi d bytes v → IsVerdictOf start pi d bytes u → v ≡ u }
-    ensures answered { (start : LogStart) (pi d reads : ℕ) (bytes : List ℕ) (r w : Traffic) (passed : Bool)
-        → r.before ≡ Some bytes → Audits start pi d reads r w (Ok passed)
-        → AnswersVerdictOf start pi d bytes w passed }
-    ensures alike { (start : LogStart) (pi d reads others : ℕ) (bytes : List ℕ) (r w q v : Traffic)
-        (passed other : Bool)
-        → 0 < d → r.before ≡ Some bytes → q.before ≡ Some bytes
-        → Audits start pi d reads r w (Ok passed) → Audits start pi d others q v (Ok other)
+    ensures one_verdict { (a : Auditing) (bytes : List ℕ) (v u : Verdict) → 0 < spacing a
+        → IsVerdictOf a bytes v → IsVerdictOf a bytes u → v ≡ u }
+    ensures answered { (a : Auditing) (reads : ℕ) (bytes : List ℕ) (r w : Traffic) (passed : Bool)
+        → r.before ≡ Some bytes → Audits a reads r w (Ok passed) → AnswersVerdictOf a bytes w passed }
+    ensures alike { (a : Auditing) (reads others : ℕ) (bytes : List ℕ) (r w q v : Traffic) (passed other : Bool)
+        → 0 < spacing a → r.before ≡ Some bytes → q.before ≡ Some bytes
+        → Audits a reads r w (Ok passed) → Audits a others q v (Ok other)
         → (passed ≡ other) × WriteAlike w v }
 {
     one_fault();
@@ -55,11 +53,10 @@ pub fn bytes_have_one_verdict()
 /// whose groups come at most K slots late, and slots that do not pass have no lawful and dense plans. The slots of a
 /// running station are safe as they are, with the tags before their first text segment.
 pub fn what_an_answer_means()
-    ensures safe { (start : LogStart) (pi m k : ℕ) (slots : List (Option Group)) → 0 < m
-        → SlotsPass start pi (m + k) slots
-        → SlotsAreSafe start pi m k slots }
-    ensures no_plans { (start : LogStart) (pi d t : ℕ) (fault : AuditFault) (slots : List (Option Group)) → 0 < d
-        → SlotsFail start pi d t fault slots → SlotsHaveNoPlans start pi d slots }
+    ensures safe { (a : Auditing) (slots : List (Option Group)) → 0 < a.dwell → SlotsPass a slots
+        → SlotsAreSafe a slots }
+    ensures no_plans { (a : Auditing) (t : ℕ) (fault : AuditFault) (slots : List (Option Group)) → 0 < spacing a
+        → SlotsFail a t fault slots → SlotsHaveNoPlans a slots }
 {
     one_fault();
     passes_by_plans();

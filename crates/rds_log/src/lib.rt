@@ -27,7 +27,7 @@ mod slots_log;
 mod source;
 mod verdict;
 
-pub use audit_log::{audit, audit_with_notes, audit_within};
+pub use audit_log::{Auditing, audit, audit_with_notes, audit_within};
 pub use decode_log::{Decoding, MOST_READS, decode, decode_with_notes, decode_within};
 pub use filler::{Filling, Times, comment_of};
 pub use gather_log::gather;

@@ -20,11 +20,13 @@ use Rattle.rds_log.specs.Audit.{Audits}
 use Rattle.rds_log.specs.Decode.{Decodes}
 use Rattle.rds_log.specs.Fill.{Fills}
 use Rattle.rds_log.specs.LogWrites.{tuned}
+use Rattle.rds_log.specs.declared.audit_log.Auditing.{Auditing}
+use Rattle.rds_log.specs.declared.decode_log.Decoding.{Decoding}
 use Rattle.rds_log.specs.declared.filler.Filling.{Filling}
 use Rattle.rds_log.specs.declared.filler.Times.{Times}
 use Rattle.rds_log.specs.declared.filler.Times.TheVariants.{Coarse, Fine, NotUnderstood}
 use Rattle.rds_io.specs.ReadFailed.{SomeReadFailed}
-use Rattle.rds_script.specs.Play.{Plays, Reading}
+use Rattle.rds_script.specs.Play.{Plays, Reading, with_form}
 use Rattle.rds_io.specs.declared.fault.LogFault.{LogFault}
 use Rattle.rds_io.specs.declared.fault.LogFault.TheVariants.{BadLine, BadRow, Read, Write, TooLong, Memory}
 use Rattle.rds_script.specs.declared.form.Form.TheVariants.{Log, Simulation}
@@ -151,6 +153,16 @@ abbrev pub simulated_station : Tuning → Programme → ℕ → Option ℕ → B
 simulated_station t programme late window alone =
     option_map (λ premise. station_of t programme premise (kind_for alone)) (premise_of late window)
 
+-- how `decode` decodes a log: with this window or none, and with reasons or without
+abbrev pub decoding_of : Tuning → Option ℕ → Bool → Decoding
+decoding_of t window why = record { pi = t.programme; dwell = t.dwell; window = window; says_why = why }
+
+-- how `audit` judges a log: for receivers that are tuned so and whose groups come at most so late. With `running` the
+-- log begins inside the output of its station
+abbrev pub auditing_of : Tuning → ℕ → Bool → Auditing
+auditing_of t late running =
+    record { pi = t.programme; dwell = t.dwell; late = late; start = start_if running }
+
 -- how `slots` fills a log for receivers that are tuned so: by this grain in microseconds, and by the lines of their
 -- programme alone or of all
 abbrev pub filling_of : Tuning → ℕ → Bool → Filling
@@ -173,21 +185,20 @@ pub record RefusesWindow (task : Task) (w : Traffic) (status : ℕ) : Type 0 whe
 abbrev pub SimulationRuns : Bool → Option Config → Task → ReaderOver → Traffic → ℕ → Type 0
 SimulationRuns why None task r w status = RefusesWindow task w status × r.Untouched
 SimulationRuns why (Some station) task r w status =
-    Runs (Plays (Simulation why) station (2 ^ 32) (script_in r)) done task w status
+    Runs (Plays (with_form (Simulation why) station) (2 ^ 32) (script_in r)) done task w status
 
 -- the engine of the task ran, with receivers that are tuned so; the receiver of `decode` has the window of the task
 abbrev pub TaskRuns : Task → Tuning → ReaderOver → Traffic → ℕ → Type 0
 TaskRuns (Decode window why) t r w status =
-    Runs (Decodes why (record t { window = window }) (2 ^ 32) r.traffic) done (Decode window why) w status
+    Runs (Decodes (decoding_of t window why) (2 ^ 32) r.traffic) done (Decode window why) w status
 TaskRuns (Encode programme late) t r w status =
-    Runs (Plays Log (station_of t programme (once late) WithDwell) (2 ^ 32) (script_in r)) done
+    Runs (Plays (with_form Log (station_of t programme (once late) WithDwell)) (2 ^ 32) (script_in r)) done
     (Encode programme late) w status
 TaskRuns (Simulate programme late window alone why) t r w status =
     SimulationRuns why (simulated_station t programme late window alone) (Simulate programme late window alone why) r w
     status
 TaskRuns (Audit late running) t r w status =
-    Runs (Audits (start_if running) t.programme (t.dwell + late) (2 ^ 32) r.traffic) verdict_status
-    (Audit late running) w status
+    Runs (Audits (auditing_of t late running) (2 ^ 32) r.traffic) verdict_status (Audit late running) w status
 TaskRuns Witness t r w status = Runs (Witnesses t r.traffic) witness_status Witness w status
 TaskRuns (Slots grain only) t r w status =
     Runs (Fills (filling_of t (1000 * grain) only) r.traffic) times_status (Slots grain only) w status

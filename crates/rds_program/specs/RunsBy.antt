@@ -9,7 +9,8 @@ use Rattle.rds_world.specs.declared.world.Config.{Config}
 use Rattle.rds_log.specs.LogWrites.{tuned}
 use Rattle.rds_io.specs.ReadFailed.{SomeReadFailed}
 use Rattle.rds_script.specs.BorrowedReads.{plays_by}
-use Rattle.rds_script.specs.Play.{Plays}
+use Rattle.rds_script.specs.Play.{Plays, with_form}
+use Rattle.rds_script.specs.declared.play.Playing.{Playing}
 use Rattle.rds_script.specs.declared.form.Form.{Form}
 use Rattle.rds_script.specs.declared.form.Form.TheVariants.{Log, Simulation}
 use Rattle.rds_cli.specs.declared.request.Task.{Task}
@@ -46,15 +47,15 @@ runs_without_memory words Engine w status memory rests = record {
 }
 
 -- the run of a script, with another statement about its reads
-script_by : {P Q : Type 0} → (P → Q) → (form : Form) (config : Config) (task : Task) (known : Option (List ℕ))
+script_by : {P Q : Type 0} → (P → Q) → (how : Playing) (task : Task) (known : Option (List ℕ))
     (w : Traffic) (status : ℕ)
-    → Runs (Plays form config (2 ^ 32) record { known = known; Failed = P }) done task w status
-    → Runs (Plays form config (2 ^ 32) record { known = known; Failed = Q }) done task w status
-script_by says form config task known w status ran = record {
+    → Runs (Plays how (2 ^ 32) record { known = known; Failed = P }) done task w status
+    → Runs (Plays how (2 ^ 32) record { known = known; Failed = Q }) done task w status
+script_by says how task known w status ran = record {
   outcome = ran.outcome;
   mid = ran.mid;
   failures = ran.failures;
-  ran = plays_by says form config (2 ^ 32) known (record w { after = ran.mid; failures_after = ran.failures })
+  ran = plays_by says how (2 ^ 32) known (record w { after = ran.mid; failures_after = ran.failures })
       ran.outcome ran.ran;
   ended = ran.ended;
 }
@@ -66,7 +67,7 @@ simulation_by : {P Q U V : Type 0} → (P → Q) → (U → V) → (why : Bool) 
     → SimulationRuns why station task (record { traffic = r; ReadFailed = Q; Untouched = V }) w status
 simulation_by says rests why None task r w status ran = (ran.0, rests ran.1)
 simulation_by says rests why (Some station) task r w status ran =
-    script_by says (Simulation why) station task r.before w status ran
+    script_by says (with_form (Simulation why) station) task r.before w status ran
 
 -- the run of a task, with other statements about its reads
 pub task_by : {P Q U V : Type 0} → (P → Q) → (U → V) → (task : Task) (t : Tuning) (r w : Traffic) (status : ℕ)
@@ -77,7 +78,7 @@ task_by says rests (Audit late running) t r w status ran = ran
 task_by says rests Witness t r w status ran = ran
 task_by says rests (Slots grain only) t r w status ran = ran
 task_by says rests (Encode programme late) t r w status ran =
-    script_by says Log (station_of t programme (once late) WithDwell) (Encode programme late) r.before w status ran
+    script_by says (with_form Log (station_of t programme (once late) WithDwell)) (Encode programme late) r.before w status ran
 task_by says rests (Simulate programme late window alone why) t r w status ran =
     simulation_by says rests why (simulated_station t programme late window alone)
     (Simulate programme late window alone why) r w status ran

@@ -24,10 +24,11 @@ use rds_cli::{Programme, Request, Task, identification_of, read_words};
 use rds_fields::{Dwell, Head, Late};
 use rds_io::{Lines, LogFault, TellingRead, TellingWrite, put};
 use rds_log::{
-    Decoding, Filling, MOST_READS, Times, audit_with_notes, decode_with_notes, fill_with_notes,
+    Auditing, Decoding, Filling, MOST_READS, Times, audit_with_notes, decode_with_notes,
+    fill_with_notes,
 };
 use rds_receiver::Window;
-use rds_script::{Form, MOST_RECORDS, play_script};
+use rds_script::{Form, MOST_RECORDS, Playing, play_script};
 use rds_witness::witness_with_notes;
 use rds_world::{Config, Premise, ReceiverKind};
 use std::alloc::Global;
@@ -193,8 +194,11 @@ fn run_task<R: TellingRead, W: TellingWrite>(
         }
         Task::Encode(programme, late) => {
             let premise = Premise::once(late);
-            let station = station_of(pi, dwell, programme, premise, ReceiverKind::WithDwell);
-            let encoded = run_script(Form::Log, alloc, station, reader, writer, notes);
+            let playing = Playing {
+                form: Form::Log,
+                config: station_of(pi, dwell, programme, premise, ReceiverKind::WithDwell),
+            };
+            let encoded = run_script(playing, alloc, reader, writer, notes);
             end_with(asked, encoded, writer, &mut notes.end)
         }
         Task::Simulate {
@@ -208,9 +212,14 @@ fn run_task<R: TellingRead, W: TellingWrite>(
             simulate(alloc, asked, says_why, station, reader, writer, notes)
         }
         Task::Audit(late, running) => {
-            let start = start_of(running);
+            let auditing = Auditing {
+                pi,
+                dwell,
+                late,
+                start: start_of(running),
+            };
             let log = &mut notes.log;
-            match audit_with_notes(reader, writer, pi, dwell, late, start, MOST_READS, log) {
+            match audit_with_notes(reader, writer, auditing, MOST_READS, log) {
                 Ok(passed) => answer_by(passed, OK, NO, &mut notes.end),
                 Err(fault) => fail_with(asked, fault, writer, &mut notes.end),
             }
@@ -252,25 +261,28 @@ fn simulate<R: TellingRead, W: TellingWrite>(
         return REFUSED;
     };
     let form = Form::Simulation { says_why };
-    let simulated = run_script(form, alloc, station, reader, writer, notes);
+    let playing = Playing {
+        form,
+        config: station,
+    };
+    let simulated = run_script(playing, alloc, reader, writer, notes);
     end_with(task, simulated, writer, &mut notes.end)
 }
 
 /// Plays a script.
 fn run_script<R: TellingRead, W: TellingWrite>(
-    form: Form,
+    playing: Playing,
     alloc: Global,
-    station: Config,
     reader: &mut R,
     writer: &mut W,
     notes: &mut RunNotes,
 ) -> Result<(), LogFault>
-    ensures { Plays form station (2 ^ 32)
+    ensures { Plays playing (2 ^ 32)
         (script_in (reader_over R.remaining R.failures R.reads reader.old reader.new))
         (traffic W.contents W.failures writer.old writer.new) result }
 {
     let notes_on = &mut notes.script;
-    play_script(form, alloc, reader, writer, station, MOST_RECORDS, notes_on)
+    play_script(playing, alloc, reader, writer, MOST_RECORDS, notes_on)
 }
 
 /// Returns the station of these options.

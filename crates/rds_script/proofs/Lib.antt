@@ -8,7 +8,7 @@ pub mod NotShown
 pub mod Receptions
 pub mod SecondReading
 pub mod OneEvent
-pub mod Playing
+pub mod PlayedRows
 pub mod Plays
 pub mod OneOutcome
 pub mod OneScript

@@ -19,10 +19,10 @@ use Rattle.rds_world.specs.Slots.{commanded, entries, input_of, sent_at}
 use Rattle.rds_world.specs.StandsAt.{IsViewOfInput, tuned_to}
 use Rattle.rds_world.specs.State.{distance}
 use Rattle.rds_script.specs.Rows.{Record}
+use Rattle.rds_script.specs.declared.play.Playing.{Playing}
 use Rattle.rds_script.specs.Play.{RowsWrite}
 use Rattle.rds_script.proofs.OneEvent.{same_events}
 use Rattle.rds_script.specs.Outcomes.{AreOutcomes, IsOutcome, Outcome, lines_of, view_at}
-use Rattle.rds_script.specs.declared.form.Form.{Form}
 use Rattle.rds_world.specs.declared.world.Config.{Config}
 
 -- one group is written for a message that is no other
@@ -77,8 +77,8 @@ same_outcomes one config (e ∷ before) (o ∷ outcomes) (o' ∷ other) p q =
     (cc)
 
 -- rows write one output
-pub same_written : TextIsReadOneWay → OneGroup → (form : Form) (config : Config) (records : List Record) (written other : List ℕ) → RowsWrite form config records written → RowsWrite form config records other → written ≡ other
-same_written text one form config records written other p q =
-    let events : p.events ≡ q.events = same_events text config.premise p.say.receivers q.say.receivers records p.events q.events p.say.rows q.say.rows in
-    let outcomes : p.write.outcomes ≡ q.write.outcomes = same_outcomes one config q.events p.write.outcomes q.write.outcomes (subst (λ (l : List Event). AreOutcomes config l p.write.outcomes) events p.write.are) q.write.are in
-    p.write.lines ∙ ap₂ (λ (l : List Event) (os : List Outcome). lines_of form config l os) events outcomes ∙ sym q.write.lines
+pub same_written : TextIsReadOneWay → OneGroup → (how : Playing) (records : List Record) (written other : List ℕ) → RowsWrite how records written → RowsWrite how records other → written ≡ other
+same_written text one how records written other p q =
+    let events : p.events ≡ q.events = same_events text how.config.premise p.say.receivers q.say.receivers records p.events q.events p.say.rows q.say.rows in
+    let outcomes : p.write.outcomes ≡ q.write.outcomes = same_outcomes one how.config q.events p.write.outcomes q.write.outcomes (subst (λ (l : List Event). AreOutcomes how.config l p.write.outcomes) events p.write.are) q.write.are in
+    p.write.lines ∙ ap₂ (λ (l : List Event) (os : List Outcome). lines_of how.form how.config l os) events outcomes ∙ sym q.write.lines

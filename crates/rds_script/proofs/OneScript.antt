@@ -9,11 +9,10 @@ use Rattle.csv.specs.declared.parser.State.{State}
 use Rattle.csv.specs.declared.parser.State.TheVariants.{StartRecord}
 use Rattle.rds_charset.specs.Laws.{TextIsReadOneWay}
 use Rattle.rds_io.specs.Told.{Traffic}
-use Rattle.rds_world.specs.declared.world.Config.{Config}
 use Rattle.rds_io.specs.Alike.{WriteAlike}
 use Rattle.rds_script.specs.Rows.{Record}
+use Rattle.rds_script.specs.declared.play.Playing.{Playing}
 use Rattle.rds_script.specs.Play.{PlaysAll, RowsWrite, ScriptWrites}
-use Rattle.rds_script.specs.declared.form.Form.{Form}
 use Rattle.rds_script.proofs.OneOutcome.{OneGroup, same_written}
 
 -- no record, and a record
@@ -43,22 +42,22 @@ same_records script records other (a, ys, p, end) (b, zs, q, end') =
     sym (reverse-reverse records) ∙ ap reverse turned ∙ reverse-reverse other
 
 -- the bytes of a script write one output
-pub same_script : TextIsReadOneWay → OneGroup → (form : Form) (config : Config) (script written other : List ℕ) → ScriptWrites form config script written → ScriptWrites form config script other → written ≡ other
-same_script text one form config script written other p q =
+pub same_script : TextIsReadOneWay → OneGroup → (how : Playing) (script written other : List ℕ) → ScriptWrites how script written → ScriptWrites how script other → written ≡ other
+same_script text one how script written other p q =
     let records : p.records ≡ q.records = same_records script p.records q.records p.are q.are in
-    same_written text one form config q.records written other (subst (λ (l : List Record). RowsWrite form config l written) records p.write) q.write
+    same_written text one how q.records written other (subst (λ (l : List Record). RowsWrite how l written) records p.write) q.write
 
 -- a script that was played to its end: the output of its bytes was written
-pub plays_bytes : (form : Form) (config : Config) (most : ℕ) (script : List ℕ) (w : Traffic) → PlaysAll form config most (Some script) w → (written : List ℕ) × ScriptWrites form config script written × Appends w.before w.after written
-plays_bytes form config most script w p =
+pub plays_bytes : (how : Playing) (most : ℕ) (script : List ℕ) (w : Traffic) → PlaysAll how most (Some script) w → (written : List ℕ) × ScriptWrites how script written × Appends w.before w.after written
+plays_bytes how most script w p =
     let (state, rest, upto, end) = p.all script refl in
     (p.wrote.written, record { records = p.records; are = (state, rest, upto.reached, end); write = p.wrote.write }, p.wrote.wrote)
 
 -- two calls over the same bytes
-pub alike : TextIsReadOneWay → OneGroup → (form : Form) (config : Config) (most others : ℕ) (script : List ℕ) (w v : Traffic) → PlaysAll form config most (Some script) w → PlaysAll form config others (Some script) v
+pub alike : TextIsReadOneWay → OneGroup → (how : Playing) (most others : ℕ) (script : List ℕ) (w v : Traffic) → PlaysAll how most (Some script) w → PlaysAll how others (Some script) v
     → WriteAlike w v
-alike text one form config most others script w v p q =
-    let (written, writes, put) = plays_bytes form config most script w p in
-    let (other, writes', put') = plays_bytes form config others script v q in
-    let same : written ≡ other = same_script text one form config script written other writes writes' in
+alike text one how most others script w v p q =
+    let (written, writes, put) = plays_bytes how most script w p in
+    let (other, writes', put') = plays_bytes how others script v q in
+    let same : written ≡ other = same_script text one how script written other writes writes' in
     record { written = other; one = rw same at put; other = put' }

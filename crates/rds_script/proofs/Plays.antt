@@ -7,16 +7,15 @@ use Rattle.std.proofs.KnownBytes.{Appends-trans}
 use Rattle.csv.specs.Reading.{reader_state}
 use Rattle.rds_io.specs.Puts.{AppendsPrefix-append}
 use Rattle.rds_io.specs.Told.{AppendsPrefix, HasFailed, Traffic}
-use Rattle.rds_world.specs.declared.world.Config.{Config}
-use Rattle.rds_script.specs.Inside.Player.{Played, PlayedSoFar, PlayerStandsAt, PlaysNext, ScriptStandsAt}
+use Rattle.rds_script.specs.Inside.Player.{Played, PlayedSoFar, PlayerStandsAt, PlaysNext, ScriptStandsAt, played_by}
 use Rattle.rds_script.specs.Notes.{NotesTell}
 use Rattle.rds_script.specs.Rows.{Record, RowsSay}
 use Rattle.rds_script.specs.declared.notes.BadRow.{BadRow as BadRecord}
 use Rattle.rds_script.specs.declared.notes.ScriptNotes.{ScriptNotes}
-use Rattle.rds_script.specs.Play.{HasAllRecords, HasRecords, Reading, RowsWrite, WroteRows}
+use Rattle.rds_script.specs.Play.{HasAllRecords, HasRecords, Reading, RowsWrite, WroteRows, with_form}
 use Rattle.rds_io.specs.declared.fault.LogFault.{LogFault}
 use Rattle.rds_io.specs.declared.fault.LogFault.TheVariants.{BadLine, BadRow, Memory, Read, TooLong, Write}
-use Rattle.rds_script.specs.declared.form.Form.{Form}
+use Rattle.rds_script.specs.declared.play.Playing.{Playing}
 use Rattle.rds_script.specs.declared.player.Player.{Player}
 use Rattle.rds_script.specs.declared.records.Records.{Records}
 
@@ -25,7 +24,7 @@ pub has_records : {R : Type 0} {g h : _} (remaining : R → Option (List ℕ)) (
 has_records remaining known s records stands = λ script k. let (rest, source, upto) = stands.gave script k in (reader_state s.reader, rest, upto)
 
 -- what a player played, its rows write
-pub rows_write : (p : Player) (played : Played) → PlayerStandsAt p played → RowsWrite played.form played.config played.records played.written
+pub rows_write : (p : Player) (played : Played) → PlayerStandsAt p played → RowsWrite (with_form played.form played.config) played.records played.written
 rows_write p played s = record {
   events = s.events;
   say = record { receivers = played.receivers; allowed = s.allowed; rows = s.rows };
@@ -33,10 +32,10 @@ rows_write p played s = record {
 }
 
 -- the lines that waited were written too
-pub all_wrote : (form : Form) (config : Config) (p : Player) (records : List Record) (start now after : Option (List ℕ)) (v w w' : ℕ) (waiting : List ℕ)
-    → PlayedSoFar form config p records record { before = start; after = now; failures_before = v; failures_after = w } waiting
-    → Appends now after waiting → w' ≡ w → PlayedSoFar form config p records record { before = start; after = after; failures_before = v; failures_after = w' } []
-all_wrote form config p records start now after v w w' waiting played wrote same = record {
+pub all_wrote : (how : Playing) (p : Player) (records : List Record) (start now after : Option (List ℕ)) (v w w' : ℕ) (waiting : List ℕ)
+    → PlayedSoFar how p records record { before = start; after = now; failures_before = v; failures_after = w } waiting
+    → Appends now after waiting → w' ≡ w → PlayedSoFar how p records record { before = start; after = after; failures_before = v; failures_after = w' } []
+all_wrote how p records start now after v w w' waiting played wrote same = record {
   receivers = played.receivers;
   written = played.written ++ waiting;
   player = rw (append-nil (played.written ++ waiting)) played.player;
@@ -44,9 +43,9 @@ all_wrote form config p records start now after v w w' waiting played wrote same
   calm = same ∙ played.calm;
 }
 
-pub wrote_rows : {R : Type 0} {g h : _} (remaining : R → Option (List ℕ)) (form : Form) (config : Config) (known : Option (List ℕ)) (w : Traffic) (s : Records R g h) (p : Player) (records : List Record)
-    → ScriptStandsAt remaining known s records → PlayedSoFar form config p records w [] → WroteRows form config known w records
-wrote_rows remaining form config known w s p records stands played = record {
+pub wrote_rows : {R : Type 0} {g h : _} (remaining : R → Option (List ℕ)) (how : Playing) (known : Option (List ℕ)) (w : Traffic) (s : Records R g h) (p : Player) (records : List Record)
+    → ScriptStandsAt remaining known s records → PlayedSoFar how p records w [] → WroteRows how known w records
+wrote_rows remaining how known w s p records stands played = record {
   begins = has_records remaining known s records stands;
   written = played.written;
   write = rw (append-nil played.written) at (rows_write p _ played.player);
@@ -62,14 +61,14 @@ pub rows_say : (p : Player) (played : Played) (s : PlayerStandsAt p played) → 
 rows_say p played s = record { receivers = played.receivers; allowed = s.allowed; rows = s.rows }
 
 -- what a player played is where its next record begins
-abbrev pub where_next : (form : Form) (config : Config) (p : Player) (records : List Record) (w : Traffic) (waiting : List ℕ) → PlayedSoFar form config p records w waiting → Played
-where_next form config p records w waiting played = record { form = form; config = config; receivers = played.receivers; records = records; written = played.written ++ waiting }
+abbrev pub where_next : (how : Playing) (p : Player) (records : List Record) (w : Traffic) (waiting : List ℕ) → PlayedSoFar how p records w waiting → Played
+where_next how p records w waiting played = played_by how played.receivers records (played.written ++ waiting)
 
 -- the lines of one more row wait
-pub played_on : {R : Type 0} {g h : _} (remaining : R → Option (List ℕ)) (ReadFailed : Type 0) (form : Form) (config : Config) (known : Option (List ℕ)) (s : Records R g h) (p now : Player) (row : Record) (number : ℕ) (records : List Record) (w : Traffic) (waiting more : List ℕ) (bad : Option BadRecord) (result : Result Bool LogFault)
-    → (played : PlayedSoFar form config p records w waiting) → PlaysNext remaining ReadFailed known s now row number waiting more bad (where_next form config p records w waiting played) result → result ≡ Ok true
-    → ScriptStandsAt remaining known s (row ∷ records) × PlayedSoFar form config now (row ∷ records) w more
-played_on remaining ReadFailed form config known s p now row number records w waiting more bad result played next is =
+pub played_on : {R : Type 0} {g h : _} (remaining : R → Option (List ℕ)) (ReadFailed : Type 0) (how : Playing) (known : Option (List ℕ)) (s : Records R g h) (p now : Player) (row : Record) (number : ℕ) (records : List Record) (w : Traffic) (waiting more : List ℕ) (bad : Option BadRecord) (result : Result Bool LogFault)
+    → (played : PlayedSoFar how p records w waiting) → PlaysNext remaining ReadFailed known s now row number waiting more bad (where_next how p records w waiting played) result → result ≡ Ok true
+    → ScriptStandsAt remaining known s (row ∷ records) × PlayedSoFar how now (row ∷ records) w more
+played_on remaining ReadFailed how known s p now row number records w waiting more bad result played next is =
     let (stands, (lines, grew, (count, player))) = rw is at next in (
       stands,
       record {
@@ -87,11 +86,11 @@ not_more true result is none same = cc
 not_more false result is none same = cc
 
 -- the script has no more records
-pub ends_all : {R : Type 0} {g h : _} (remaining : R → Option (List ℕ)) (form : Form) (config : Config) (most : ℕ) (r : Reading) (w : Traffic) (s : Records R g h) (p now : Player) (records : List Record) (bad : Option BadRecord)
-    → ScriptStandsAt remaining r.known s records → PlayedSoFar form config p records w [] → length records < most → HasAllRecords r.known records → now.wait ≡ p.wait → bad ≡ None
-    → NotesTell form config most r w (Ok tt) (noted bad now)
-ends_all remaining form config most r w s p now records bad stands played fewer all kept none = record {
-  plays = record { records = records; all = all; fewer = fewer; wrote = wrote_rows remaining form config r.known w s p records stands played };
+pub ends_all : {R : Type 0} {g h : _} (remaining : R → Option (List ℕ)) (how : Playing) (most : ℕ) (r : Reading) (w : Traffic) (s : Records R g h) (p now : Player) (records : List Record) (bad : Option BadRecord)
+    → ScriptStandsAt remaining r.known s records → PlayedSoFar how p records w [] → length records < most → HasAllRecords r.known records → now.wait ≡ p.wait → bad ≡ None
+    → NotesTell how most r w (Ok tt) (noted bad now)
+ends_all remaining how most r w s p now records bad stands played fewer all kept none = record {
+  plays = record { records = records; all = all; fewer = fewer; wrote = wrote_rows remaining how r.known w s p records stands played };
   bad = none;
   events = played.player.events;
   say = rows_say p _ played.player;
@@ -99,17 +98,17 @@ ends_all remaining form config most r w s p now records bad stands played fewer 
 }
 
 -- the next record is not a row, or it was not read
-pub ends_by_fault : {R : Type 0} {g h : _} (remaining : R → Option (List ℕ)) (form : Form) (config : Config) (most : ℕ) (r : Reading) (w before : Traffic) (s now : Records R g h) (p after : Player) (row : Record) (records : List Record) (waiting more : List ℕ) (turn : ℕ) (bad : Option BadRecord) (fault : LogFault)
-    → ScriptStandsAt remaining r.known s records → PlayedSoFar form config p records w [] → length records ≡ turn → turn < most → after.wait ≡ p.wait
-    → (played : PlayedSoFar form config p records before waiting) → PlaysNext remaining r.Failed r.known now after row (turn + 1) waiting more bad (where_next form config p records before waiting played) (Err fault)
-    → NotesTell form config most r w (Err fault) (noted bad after)
-ends_by_fault remaining form config most r w before s now p after row records waiting more turn bad (BadLine n) stands wrote number fewer kept played next = absurd next
-ends_by_fault remaining form config most r w before s now p after row records waiting more turn bad (BadRow n) stands wrote number fewer kept played next = rw next.noted record {
+pub ends_by_fault : {R : Type 0} {g h : _} (remaining : R → Option (List ℕ)) (how : Playing) (most : ℕ) (r : Reading) (w before : Traffic) (s now : Records R g h) (p after : Player) (row : Record) (records : List Record) (waiting more : List ℕ) (turn : ℕ) (bad : Option BadRecord) (fault : LogFault)
+    → ScriptStandsAt remaining r.known s records → PlayedSoFar how p records w [] → length records ≡ turn → turn < most → after.wait ≡ p.wait
+    → (played : PlayedSoFar how p records before waiting) → PlaysNext remaining r.Failed r.known now after row (turn + 1) waiting more bad (where_next how p records before waiting played) (Err fault)
+    → NotesTell how most r w (Err fault) (noted bad after)
+ends_by_fault remaining how most r w before s now p after row records waiting more turn bad (BadLine n) stands wrote number fewer kept played next = absurd next
+ends_by_fault remaining how most r w before s now p after row records waiting more turn bad (BadRow n) stands wrote number fewer kept played next = rw next.noted record {
   plays = (
     record {
       records = records;
       bad = row;
-      wrote = wrote_rows remaining form config r.known w s p records stands wrote;
+      wrote = wrote_rows remaining how r.known w s p records stands wrote;
       begins = next.begins;
       none = next.none;
       number = next.number_is ∙ ap (λ (x : ℕ). x + 1) (sym number);
@@ -121,17 +120,17 @@ ends_by_fault remaining form config most r w before s now p after row records wa
   say = rows_say p _ wrote.player;
   wait = kept ∙ wrote.player.wait;
 }
-ends_by_fault remaining form config most r w before s now p after row records waiting more turn bad Read stands wrote number fewer kept played next = record {
-  plays = (records, wrote_rows remaining form config r.known w s p records stands wrote, omega (arith, number, fewer), next.0);
+ends_by_fault remaining how most r w before s now p after row records waiting more turn bad Read stands wrote number fewer kept played next = record {
+  plays = (records, wrote_rows remaining how r.known w s p records stands wrote, omega (arith, number, fewer), next.0);
   bad = next.1;
   events = wrote.player.events;
   say = rows_say p _ wrote.player;
   wait = kept ∙ wrote.player.wait;
 }
-ends_by_fault remaining form config most r w before s now p after row records waiting more turn bad Write stands wrote number fewer kept played next = absurd next
-ends_by_fault remaining form config most r w before s now p after row records waiting more turn bad TooLong stands wrote number fewer kept played next = absurd next
-ends_by_fault remaining form config most r w before s now p after row records waiting more turn bad Memory stands wrote number fewer kept played next = record {
-  plays = (records, wrote_rows remaining form config r.known w s p records stands wrote, omega (arith, number, fewer));
+ends_by_fault remaining how most r w before s now p after row records waiting more turn bad Write stands wrote number fewer kept played next = absurd next
+ends_by_fault remaining how most r w before s now p after row records waiting more turn bad TooLong stands wrote number fewer kept played next = absurd next
+ends_by_fault remaining how most r w before s now p after row records waiting more turn bad Memory stands wrote number fewer kept played next = record {
+  plays = (records, wrote_rows remaining how r.known w s p records stands wrote, omega (arith, number, fewer));
   bad = next;
   events = wrote.player.events;
   say = rows_say p _ wrote.player;
@@ -139,10 +138,10 @@ ends_by_fault remaining form config most r w before s now p after row records wa
 }
 
 -- the script has as many records as may be
-pub ends_too_long : {R : Type 0} {g h : _} (remaining : R → Option (List ℕ)) (form : Form) (config : Config) (most : ℕ) (r : Reading) (w : Traffic) (s : Records R g h) (p : Player) (records : List Record) (bad : Option BadRecord)
-    → ScriptStandsAt remaining r.known s records → PlayedSoFar form config p records w [] → length records ≡ most → bad ≡ None → NotesTell form config most r w (Err TooLong) (noted bad p)
-ends_too_long remaining form config most r w s p records bad stands played number none = record {
-  plays = (records, wrote_rows remaining form config r.known w s p records stands played, number);
+pub ends_too_long : {R : Type 0} {g h : _} (remaining : R → Option (List ℕ)) (how : Playing) (most : ℕ) (r : Reading) (w : Traffic) (s : Records R g h) (p : Player) (records : List Record) (bad : Option BadRecord)
+    → ScriptStandsAt remaining r.known s records → PlayedSoFar how p records w [] → length records ≡ most → bad ≡ None → NotesTell how most r w (Err TooLong) (noted bad p)
+ends_too_long remaining how most r w s p records bad stands played number none = record {
+  plays = (records, wrote_rows remaining how r.known w s p records stands played, number);
   bad = none;
   events = played.player.events;
   say = rows_say p _ played.player;
@@ -150,11 +149,11 @@ ends_too_long remaining form config most r w s p records bad stands played numbe
 }
 
 -- the writer failed at the lines that waited
-pub ends_by_write : {R : Type 0} {g h : _} (remaining : R → Option (List ℕ)) (form : Form) (config : Config) (most : ℕ) (r : Reading) (s : Records R g h) (p now : Player) (records : List Record) (start mid after : Option (List ℕ)) (v w w' : ℕ) (waiting : List ℕ) (bad : Option BadRecord)
-    → ScriptStandsAt remaining r.known s records → length records ≤ most → PlayedSoFar form config p records record { before = start; after = mid; failures_before = v; failures_after = w } waiting
+pub ends_by_write : {R : Type 0} {g h : _} (remaining : R → Option (List ℕ)) (how : Playing) (most : ℕ) (r : Reading) (s : Records R g h) (p now : Player) (records : List Record) (start mid after : Option (List ℕ)) (v w w' : ℕ) (waiting : List ℕ) (bad : Option BadRecord)
+    → ScriptStandsAt remaining r.known s records → length records ≤ most → PlayedSoFar how p records record { before = start; after = mid; failures_before = v; failures_after = w } waiting
     → AppendsPrefix mid after waiting → HasFailed record { before = mid; after = after; failures_before = w; failures_after = w' } → now.wait ≡ p.wait
-    → bad ≡ None → NotesTell form config most r record { before = start; after = after; failures_before = v; failures_after = w' } (Err Write) (noted bad now)
-ends_by_write remaining form config most r s p now records start mid after v w w' waiting bad stands within played gave failed kept none = record {
+    → bad ≡ None → NotesTell how most r record { before = start; after = after; failures_before = v; failures_after = w' } (Err Write) (noted bad now)
+ends_by_write remaining how most r s p now records start mid after v w w' waiting bad stands within played gave failed kept none = record {
   plays = record {
     records = records;
     begins = has_records remaining r.known s records stands;

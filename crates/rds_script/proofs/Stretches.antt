@@ -1,5 +1,5 @@
 -- What was on air, by stretches of slots, and how far back a search sees it.
-use Rattle.std.proofs.Common.{◌≡◌, ◌∙◌, ◌∷◌, ◌++◌, ◌+◌, ◌-◌, ◌<◌, ◌||◌, [], ℕ, zero, suc, Bool, true, false, List, None, Option, Some, ap, ap₂, append_assoc, append-nil, arith, drop, get_or, length, refl, replicate, set, subst, sym, take}
+use Rattle.std.proofs.Common.{◌≡◌, ◌∙◌, ◌∷◌, ◌++◌, ◌+◌, ◌-◌, ◌<◌, ◌||◌, [], ℕ, zero, suc, Bool, true, false, List, None, Option, Some, ap, ap₂, append_assoc, append-nil, arith, drop, get_or, length, refl, replicate, set, sym, take}
 use Rattle.std.specs.List.{prefix_len}
 use Rattle.std.specs.Prelude.{◌==◌, bytes_eq, take_while}
 use Rattle.std.proofs.lemmas.Bool.{and_parts, eq-eqb, eqb-true}

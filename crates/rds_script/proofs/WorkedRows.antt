@@ -1,6 +1,6 @@
 -- Worked examples of what a radio shows beside what was on air, calculated by hand. Lists have the newest first.
 use Rattle.std.proofs.Common.{◌≡◌, ◌∷◌, ◌++◌, [], ℕ, List, None, Option, Some, false, refl, replicate, true}
-use Rattle.rds_fields.specs.Tag.{PairFields, TagFields}
+use Rattle.rds_fields.specs.Tag.{TagFields}
 use Rattle.rds_fields.specs.declared.head.Head.{Head}
 use Rattle.rds_receiver.specs.Shown.{ShownView}
 use Rattle.rds_world.specs.Event.{Event}

@@ -2,12 +2,11 @@
 use Rattle.std.proofs.Math.Logic.{∥∥₁_map}
 use Rattle.std.specs.Prelude.{ℕ, Err, List, Ok, Option, Result}
 use Rattle.rds_io.specs.Told.{Failed, Traffic}
-use Rattle.rds_world.specs.declared.world.Config.{Config}
 use Rattle.rds_io.specs.ReadFailed.{SomeReadFailed}
 use Rattle.rds_script.specs.Play.{Plays}
 use Rattle.rds_io.specs.declared.fault.LogFault.{LogFault}
 use Rattle.rds_io.specs.declared.fault.LogFault.TheVariants.{BadLine, BadRow, Read, Write, TooLong, Memory}
-use Rattle.rds_script.specs.declared.form.Form.{Form}
+use Rattle.rds_script.specs.declared.play.Playing.{Playing}
 
 -- a read that failed behind the view
 pub failed_behind : {A B : Type 0} (view : A → B) (failures : B → ℕ) → SomeReadFailed (λ (a : A). failures (view a))
@@ -18,14 +17,14 @@ failed_behind {A} {B} view failures some =
 
 -- a script that was played, with another statement about its reads
 pub plays_by : {P Q : Type 0} → (P → Q)
-    → (form : Form) (config : Config) (most : ℕ) (known : Option (List ℕ)) (w : Traffic)
-    (result : Result (Unit {0}) LogFault) → Plays form config most record { known = known; Failed = P } w result
-    → Plays form config most record { known = known; Failed = Q } w result
-plays_by says form config most known w (Ok done) p = p
-plays_by says form config most known w (Err (BadLine n)) p = p
-plays_by says form config most known w (Err (BadRow n)) p = p
-plays_by says form config most known w (Err Read) (records, wrote, fewer, failed) =
+    → (how : Playing) (most : ℕ) (known : Option (List ℕ)) (w : Traffic)
+    (result : Result (Unit {0}) LogFault) → Plays how most record { known = known; Failed = P } w result
+    → Plays how most record { known = known; Failed = Q } w result
+plays_by says how most known w (Ok done) p = p
+plays_by says how most known w (Err (BadLine n)) p = p
+plays_by says how most known w (Err (BadRow n)) p = p
+plays_by says how most known w (Err Read) (records, wrote, fewer, failed) =
     (records, wrote, fewer, says failed)
-plays_by says form config most known w (Err Write) p = p
-plays_by says form config most known w (Err TooLong) p = p
-plays_by says form config most known w (Err Memory) p = p
+plays_by says how most known w (Err Write) p = p
+plays_by says how most known w (Err TooLong) p = p
+plays_by says how most known w (Err Memory) p = p

@@ -18,12 +18,12 @@ use Rattle.rds_world.specs.State.{distance}
 use Rattle.rds_script.specs.Play.{Plays, Reading}
 use Rattle.rds_script.specs.RowCauses.{IsRowCause}
 use Rattle.rds_script.specs.Rows.{Record, RowsSay}
-use Rattle.rds_script.specs.declared.form.Form.{Form}
 use Rattle.rds_script.specs.declared.notes.BadRow.{BadRow}
 use Rattle.rds_script.specs.declared.notes.ScriptNotes.{ScriptNotes}
 use Rattle.rds_script.specs.declared.notes.Thing.{Thing}
 use Rattle.rds_script.specs.declared.notes.Thing.TheVariants.{Text, Name, Tags}
 use Rattle.rds_script.specs.declared.notes.EarlySet.{EarlySet}
+use Rattle.rds_script.specs.declared.play.Playing.{Playing}
 
 -- the note of a refusal: only `Silent` and `Held` end after some slots
 abbrev pub wait_for : ℕ → Thing → Refusal → Option EarlySet
@@ -60,35 +60,39 @@ first_wait config (e ∷ before) =
     (first_wait config before)
 
 -- the rows that were played
-abbrev pub rows_played : (form : Form) (config : Config) (most : ℕ) (r : Reading) (w : Traffic)
-    (result : Result (Unit {0}) LogFault) → Plays form config most r w result → List Record
-rows_played form config most r w (Ok done) plays = plays.records
-rows_played form config most r w (Err (fault.BadLine n)) plays = []
-rows_played form config most r w (Err (fault.BadRow n)) plays = plays.0.records
-rows_played form config most r w (Err fault.Read) plays = plays.0
-rows_played form config most r w (Err fault.Memory) plays = plays.0
-rows_played form config most r w (Err fault.TooLong) plays = plays.0
-rows_played form config most r w (Err fault.Write) plays = plays.records
+abbrev pub rows_played : (how : Playing) (most : ℕ) (r : Reading) (w : Traffic) (result : Result (Unit {0}) LogFault)
+    → Plays how most r w result → List Record
+rows_played how most r w (Ok done) plays = plays.records
+rows_played how most r w (Err (fault.BadLine n)) plays = []
+rows_played how most r w (Err (fault.BadRow n)) plays = plays.0.records
+rows_played how most r w (Err fault.Read) plays = plays.0
+rows_played how most r w (Err fault.Memory) plays = plays.0
+rows_played how most r w (Err fault.TooLong) plays = plays.0
+rows_played how most r w (Err fault.Write) plays = plays.records
 
--- a malformed record is noted with its cause; without one nothing is noted
-abbrev pub TellsBad : (form : Form) (config : Config) (most : ℕ) (r : Reading) (w : Traffic)
-    (result : Result (Unit {0}) LogFault) → Plays form config most r w result → Option BadRow → Type 0
-TellsBad form config most r w (Ok done) plays bad = bad ≡ None
-TellsBad form config most r w (Err (fault.BadLine n)) plays bad = bad ≡ None
-TellsBad form config most r w (Err (fault.BadRow n)) plays None = ⊥
-TellsBad form config most r w (Err (fault.BadRow n)) plays (Some bad) =
-    IsRowCause form config.premise plays.0.records plays.0.bad bad.cause
-TellsBad form config most r w (Err fault.Read) plays bad = bad ≡ None
-TellsBad form config most r w (Err fault.Memory) plays bad = bad ≡ None
-TellsBad form config most r w (Err fault.TooLong) plays bad = bad ≡ None
-TellsBad form config most r w (Err fault.Write) plays bad = bad ≡ None
+-- the record after them that is not a row, if the script stopped there
+abbrev pub bad_record : (how : Playing) (most : ℕ) (r : Reading) (w : Traffic) (result : Result (Unit {0}) LogFault)
+    → Plays how most r w result → Option Record
+bad_record how most r w (Ok done) plays = None
+bad_record how most r w (Err (fault.BadLine n)) plays = None
+bad_record how most r w (Err (fault.BadRow n)) plays = Some plays.0.bad
+bad_record how most r w (Err fault.Read) plays = None
+bad_record how most r w (Err fault.Memory) plays = None
+bad_record how most r w (Err fault.TooLong) plays = None
+bad_record how most r w (Err fault.Write) plays = None
+
+-- a record that is not a row after these is noted with its cause; without one nothing is noted
+abbrev pub TellsBad : Playing → List Record → Option Record → Option BadRow → Type 0
+TellsBad how played None noted = noted ≡ None
+TellsBad how played (Some bad) None = ⊥
+TellsBad how played (Some bad) (Some note) = IsRowCause how.form how.config.premise played bad note.cause
 
 -- playing a script did this, and the notes hold the cause of a malformed record, and the first wait of the slots that
 -- were played
-pub record NotesTell (form : Form) (config : Config) (most : ℕ) (r : Reading) (w : Traffic)
-    (result : Result (Unit {0}) LogFault) (notes : ScriptNotes) : Type 0 where
-  pub plays : Plays form config most r w result
-  pub bad : TellsBad form config most r w result plays notes.bad
+pub record NotesTell (how : Playing) (most : ℕ) (r : Reading) (w : Traffic) (result : Result (Unit {0}) LogFault)
+    (notes : ScriptNotes) : Type 0 where
+  pub plays : Plays how most r w result
+  pub bad : TellsBad how (rows_played how most r w result plays) (bad_record how most r w result plays) notes.bad
   pub events : List Event
-  pub say : RowsSay config.premise form (rows_played form config most r w result plays) events
-  pub wait : notes.wait ≡ first_wait config events
+  pub say : RowsSay how.config.premise how.form (rows_played how most r w result plays) events
+  pub wait : notes.wait ≡ first_wait how.config events

@@ -17,6 +17,11 @@ use Rattle.rds_script.specs.Outcomes.{EventsWrite}
 use Rattle.rds_io.specs.declared.fault.LogFault.{LogFault}
 use Rattle.rds_io.specs.declared.fault.LogFault.TheVariants.{BadLine, BadRow, Read, Write, TooLong, Memory}
 use Rattle.rds_script.specs.declared.form.Form.{Form}
+use Rattle.rds_script.specs.declared.play.Playing.{Playing}
+
+-- a script is played in this form with this station
+abbrev pub with_form : Form → Config → Playing
+with_form form config = record { form = form; config = config }
 
 -- the script begins with these records, and continues like this
 pub record RecordsUpTo (script : List ℕ) (records : List Record) (state : State) (rest : List ℕ) : Type 0 where
@@ -34,53 +39,53 @@ HasAllRecords known records = (script : List ℕ) → known ≡ Some script
     × (next_record default_config state [] [] rest ≡ None)
 
 -- the records are rows, and this is their output
-pub record RowsWrite (form : Form) (config : Config) (records : List Record) (written : List ℕ) : Type 0 where
+pub record RowsWrite (how : Playing) (records : List Record) (written : List ℕ) : Type 0 where
   pub events : List Event
-  pub say : RowsSay config.premise form records events
-  pub write : EventsWrite form config events written
+  pub say : RowsSay how.config.premise how.form records events
+  pub write : EventsWrite how.form how.config events written
 
 -- this is the output of the bytes of a script, all of whose records are rows
-pub record ScriptWrites (form : Form) (config : Config) (script written : List ℕ) : Type 0 where
+pub record ScriptWrites (how : Playing) (script written : List ℕ) : Type 0 where
   pub records : List Record
   pub are : AreRecords default_config StartRecord (strip_bom script) (reverse records)
-  pub write : RowsWrite form config records written
+  pub write : RowsWrite how records written
 
 -- the output of the first records of the script was written
-pub record WroteRows (form : Form) (config : Config) (known : Option (List ℕ)) (w : Traffic)
+pub record WroteRows (how : Playing) (known : Option (List ℕ)) (w : Traffic)
     (records : List Record) : Type 0 where
   pub begins : HasRecords known records
   pub written : List ℕ
-  pub write : RowsWrite form config records written
+  pub write : RowsWrite how records written
   pub wrote : Appends w.before w.after written
   pub calm : IsCalm w
 
 -- the record after these is not a row, and the output of these was written
-pub record PlayStopsAtBadRow (form : Form) (config : Config) (known : Option (List ℕ)) (w : Traffic)
+pub record PlayStopsAtBadRow (how : Playing) (known : Option (List ℕ)) (w : Traffic)
     (n : ℕ) : Type 0 where
   pub records : List Record
   pub bad : List (List ℕ)
-  pub wrote : WroteRows form config known w records
+  pub wrote : WroteRows how known w records
   pub begins : HasRecords known (bad ∷ records)
-  pub none : AreNoRows config.premise form (bad ∷ records)
+  pub none : AreNoRows how.config.premise how.form (bad ∷ records)
   pub number : n ≡ length records + 1
 
 -- the writer failed: some first part of the output of these records, at most as many as the bound, was written
-pub record PlayStopsAtWrite (form : Form) (config : Config) (most : ℕ) (known : Option (List ℕ))
+pub record PlayStopsAtWrite (how : Playing) (most : ℕ) (known : Option (List ℕ))
     (w : Traffic) : Type 0 where
   pub records : List Record
   pub begins : HasRecords known records
   pub within : length records ≤ most
   pub written : List ℕ
-  pub write : RowsWrite form config records written
+  pub write : RowsWrite how records written
   pub wrote : AppendsPrefix w.before w.after written
   pub failed : HasFailed w
 
 -- the script was read to its end, it has fewer records than the bound, and their output was written
-pub record PlaysAll (form : Form) (config : Config) (most : ℕ) (known : Option (List ℕ)) (w : Traffic) : Type 0 where
+pub record PlaysAll (how : Playing) (most : ℕ) (known : Option (List ℕ)) (w : Traffic) : Type 0 where
   pub records : List Record
   pub all : HasAllRecords known records
   pub fewer : length records < most
-  pub wrote : WroteRows form config known w records
+  pub wrote : WroteRows how known w records
 
 -- the reader of a script: its remaining bytes, and the statement that one of its reads failed
 pub record Reading : Type 1 where
@@ -92,14 +97,14 @@ reading remaining failures reader = record { known = remaining reader; Failed = 
 
 -- the result of a script with this bound on its records: each fault has its cause. If it ends without a fault, at a
 -- failed read or out of memory, there are fewer records than the bound. It is too long at as many
-abbrev pub Plays : Form → Config → ℕ → Reading → Traffic → Result (Unit {0}) LogFault → Type 0
-Plays form config most r w (Ok done) = PlaysAll form config most r.known w
-Plays form config most r w (Err (BadLine n)) = ⊥
-Plays form config most r w (Err (BadRow n)) = PlayStopsAtBadRow form config r.known w n × (n ≤ most)
-Plays form config most r w (Err Read) =
-    (records : List Record) × WroteRows form config r.known w records × (length records < most) × r.Failed
-Plays form config most r w (Err Memory) =
-    (records : List Record) × WroteRows form config r.known w records × (length records < most)
-Plays form config most r w (Err TooLong) =
-    (records : List Record) × WroteRows form config r.known w records × (length records ≡ most)
-Plays form config most r w (Err Write) = PlayStopsAtWrite form config most r.known w
+abbrev pub Plays : Playing → ℕ → Reading → Traffic → Result (Unit {0}) LogFault → Type 0
+Plays how most r w (Ok done) = PlaysAll how most r.known w
+Plays how most r w (Err (BadLine n)) = ⊥
+Plays how most r w (Err (BadRow n)) = PlayStopsAtBadRow how r.known w n × (n ≤ most)
+Plays how most r w (Err Read) =
+    (records : List Record) × WroteRows how r.known w records × (length records < most) × r.Failed
+Plays how most r w (Err Memory) =
+    (records : List Record) × WroteRows how r.known w records × (length records < most)
+Plays how most r w (Err TooLong) =
+    (records : List Record) × WroteRows how r.known w records × (length records ≡ most)
+Plays how most r w (Err Write) = PlayStopsAtWrite how most r.known w

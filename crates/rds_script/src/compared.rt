@@ -64,8 +64,9 @@ impl Compared {
         requires few { length shown.now ≤ MOST_RECEIVERS }
         requires memory { AirsHaveRoom self.old.airs }
         requires room { length lines.old + COMPARED_ROOM ≤ OUTPUT_ROOM }
-        ensures goes_on { WhereItStands world.now (λ config events. GoesOnCompared config slot events
-            (map view_kept shown.now) self.old self.new lines.old lines.new) }
+        ensures goes_on { WhereItStands world.now (λ config events. GoesOnCompared
+            (record { config = config; slot = slot; shown = map view_kept shown.now }) events self.old self.new
+            lines.old lines.new) }
     {
         self.airs.step(slot, world, lines);
         push_airings(
@@ -129,8 +130,9 @@ pub(crate) fn compare(
     requires few { length shown.now ≤ MOST_RECEIVERS }
     requires memory { HasRoom compared.old }
     requires room { length lines.old + COMPARED_ROOM ≤ OUTPUT_ROOM }
-    ensures { WhereItStands world.now (λ config events. Compares config slot events
-        (map view_kept shown.now) compared.old compared.new lines.old lines.new) }
+    ensures { WhereItStands world.now (λ config events. Compares
+        (record { config = config; slot = slot; shown = map view_kept shown.now }) events compared.old compared.new
+        lines.old lines.new) }
 {
     if let Some(compared) = compared {
         compared.push(slot, world, shown, lines);

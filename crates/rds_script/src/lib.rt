@@ -25,5 +25,7 @@ mod watched;
 pub use form::Form;
 pub use laws::{rows_write_one_output, script_writes_one_output};
 pub use notes::{BadRow, EarlySet, ScriptNotes, Thing};
-pub use play::{MOST_RECORDS, encode, encode_within, play_script, simulate, simulate_within};
+pub use play::{
+    MOST_RECORDS, Playing, encode, encode_within, play_script, simulate, simulate_within,
+};
 pub use row_cause::{RowCause, TagNumber};

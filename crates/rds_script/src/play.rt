@@ -6,7 +6,7 @@ ghost use Rattle.rds_io.specs.Told.{traffic};
 ghost use Rattle.rds_io.specs.ReadFailed.{SomeReadFailed};
 ghost use Rattle.rds_script.specs.Inside.Player.{Played, PlayerStandsAt, PlaysNext, ScriptStandsAt, nothing_played};
 ghost use Rattle.rds_script.specs.Notes.{NotesTell};
-ghost use Rattle.rds_script.specs.Play.{Plays, reading};
+ghost use Rattle.rds_script.specs.Play.{Plays, reading, with_form};
 ghost use Rattle.rds_script.specs.declared.form.Form.TheVariants as forms;
 ghost use Rattle.rds_script.specs.declared.watched.TheConstants.{OUTPUT_ROOM, ROW_ROOM};
 
@@ -20,6 +20,15 @@ use csv::ByteRecord;
 use rds_io::{LogFault, TellingRead, TellingWrite};
 use rds_world::Config;
 use std::alloc::Global;
+
+/// How a script is played.
+#[derive(Clone, Copy)]
+pub struct Playing {
+    /// What is written for its slots.
+    pub form: Form,
+    /// The station, and which receivers hear it.
+    pub config: Config,
+}
 
 /// The most records of a script. A script with as many is too long.
 pub const MOST_RECORDS: u64 = 1 << 32;
@@ -40,7 +49,7 @@ pub fn simulate<R: TellingRead + Drop, W: TellingWrite>(
     writer: &mut W,
     config: Config,
 ) -> Result<(), LogFault>
-    ensures { Plays (forms.Simulation false) config (2 ^ 32) (reading R.remaining R.failures reader)
+    ensures { Plays (with_form (forms.Simulation false) config) (2 ^ 32) (reading R.remaining R.failures reader)
         (traffic W.contents W.failures writer.old writer.new) result }
 {
     simulate_within(alloc, reader, writer, config, MOST_RECORDS)
@@ -56,15 +65,16 @@ pub fn simulate_within<R: TellingRead + Drop, W: TellingWrite>(
     records: u64,
 ) -> Result<(), LogFault>
     requires { records ≤ 2 ^ 32 }
-    ensures { Plays (forms.Simulation false) config records (reading R.remaining R.failures reader)
+    ensures { Plays (with_form (forms.Simulation false) config) records (reading R.remaining R.failures reader)
         (traffic W.contents W.failures writer.old writer.new) result }
 {
+    let form = Form::Simulation { says_why: false };
+    let playing = Playing { form, config };
     play_script(
-        Form::Simulation { says_why: false },
+        playing,
         alloc,
         reader,
         writer,
-        config,
         records,
         &mut ScriptNotes::new(),
     )
@@ -82,7 +92,7 @@ pub fn encode<R: TellingRead + Drop, W: TellingWrite>(
     writer: &mut W,
     config: Config,
 ) -> Result<(), LogFault>
-    ensures { Plays forms.Log config (2 ^ 32) (reading R.remaining R.failures reader)
+    ensures { Plays (with_form forms.Log config) (2 ^ 32) (reading R.remaining R.failures reader)
         (traffic W.contents W.failures writer.old writer.new) result }
 {
     encode_within(alloc, reader, writer, config, MOST_RECORDS)
@@ -97,21 +107,22 @@ pub fn encode_within<R: TellingRead + Drop, W: TellingWrite>(
     records: u64,
 ) -> Result<(), LogFault>
     requires { records ≤ 2 ^ 32 }
-    ensures { Plays forms.Log config records (reading R.remaining R.failures reader)
+    ensures { Plays (with_form forms.Log config) records (reading R.remaining R.failures reader)
         (traffic W.contents W.failures writer.old writer.new) result }
 {
+    let form = Form::Log;
+    let playing = Playing { form, config };
     play_script(
-        Form::Log,
+        playing,
         alloc,
         reader,
         writer,
-        config,
         records,
         &mut ScriptNotes::new(),
     )
 }
 
-/// Plays a script in one of its forms with a bound on records, and takes notes: why a record is not a row, and the
+/// Plays a script in this way with a bound on records, and takes notes: why a record is not a row, and the
 /// first thing that was set too early. [`simulate`] and [`encode`] are its two forms.
 ///
 /// The new notes replace the old content of `notes`.
@@ -120,22 +131,21 @@ pub fn encode_within<R: TellingRead + Drop, W: TellingWrite>(
 ///
 /// As for [`simulate`]. A script with `records` records is too long, whether or not it ends there.
 pub fn play_script<R: TellingRead + Drop, W: TellingWrite>(
-    form: Form,
+    playing: Playing,
     alloc: Global,
     reader: R,
     writer: &mut W,
-    config: Config,
     records: u64,
     notes: &mut ScriptNotes,
 ) -> Result<(), LogFault>
     requires { records ≤ 2 ^ 32 }
-    ensures plays { Plays form config records (reading R.remaining R.failures reader)
+    ensures plays { Plays playing records (reading R.remaining R.failures reader)
         (traffic W.contents W.failures writer.old writer.new) result }
-    ensures notes { NotesTell form config records (reading R.remaining R.failures reader)
+    ensures notes { NotesTell playing records (reading R.remaining R.failures reader)
         (traffic W.contents W.failures writer.old writer.new) result notes.new }
 {
     let mut script = Records::new(alloc, reader);
-    let mut player = Player::new(alloc, form, config);
+    let mut player = Player::new(alloc, playing.form, playing.config);
     let mut row = ByteRecord::new(alloc);
     let mut bad = None;
     let done = play_rows(
@@ -167,9 +177,9 @@ fn play_rows<R: TellingRead, W: TellingWrite>(
     requires bound { records ≤ 2 ^ 32 }
     requires first { player.old.slot ≡ 0 }
     requires good { bad.old ≡ None }
-    ensures { (form : Form) (config : Config) (known : Option (List ℕ))
-        → PlayerStandsAt player.old (nothing_played form config) → ScriptStandsAt R.remaining known script.old []
-        → NotesTell form config records (record { known = known; Failed = SomeReadFailed R.failures })
+    ensures { (how : Playing) (known : Option (List ℕ))
+        → PlayerStandsAt player.old (nothing_played how) → ScriptStandsAt R.remaining known script.old []
+        → NotesTell how records (record { known = known; Failed = SomeReadFailed R.failures })
         (traffic W.contents W.failures writer.old writer.new) result
         (record { bad = bad.new; wait = player.new.wait }) }
 {

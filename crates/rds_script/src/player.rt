@@ -32,12 +32,13 @@ pub(crate) struct Player {
 
 impl Player {
     ghost use Rattle.rds_script.specs.Inside.Player.{IsBegun, IsFirstOrAlone, IsRowRefused, PlayerStandsAt};
+    ghost use Rattle.rds_script.specs.Play.{with_form};
     ghost use Rattle.rds_script.specs.Inside.Player.{AppendsRow, WherePlayerStands, nothing_played};
 
     /// Starts before the first row, without a world.
     pub(crate) fn new(alloc: Global, form: Form, config: Config) -> Player
         ensures slot { result.slot ≡ 0 }
-        ensures stands { PlayerStandsAt result (nothing_played form config) }
+        ensures stands { PlayerStandsAt result (nothing_played (with_form form config)) }
     {
         Player {
             alloc,

@@ -29,12 +29,20 @@ pub record Begun (printed output : List ℕ) (number : ℕ) : Type 0 where
   pub number_is : number ≡ length printed
   pub shown : take number output ≡ take (length output) printed
 
--- a run in a page. `lines` are its notes: the contract leaves them open, except after arguments that are not UTF-8
-pub record RunsInPage (words input output notes : List ℕ) (number failures noted status : ℕ) : Type 0 where
+-- the numbers at the end of a run: of printed bytes, of failed writes, of bytes of notes, and the status
+pub record Ending : Type 0 where
+  pub length : ℕ
+  pub failures : ℕ
+  pub noted : ℕ
+  pub status : ℕ
+
+-- a run in a page that ended so. `lines` are its notes: the contract leaves them open, except after arguments that are
+-- not UTF-8
+pub record RunsInPage (words input output notes : List ℕ) (ended : Ending) : Type 0 where
   pub printed : List ℕ
-  pub begun : Begun printed output number
-  pub prints : IsUtf8 words → Prints (words_in words) input (writing printed failures) status
-  pub no_text : (IsUtf8 words → ⊥) → Refuses (writing printed failures) status
+  pub begun : Begun printed output ended.length
+  pub prints : IsUtf8 words → Prints (words_in words) input (writing printed ended.failures) ended.status
+  pub no_text : (IsUtf8 words → ⊥) → Refuses (writing printed ended.failures) ended.status
   pub lines : List ℕ
-  pub notes_begun : Begun lines notes noted
+  pub notes_begun : Begun lines notes ended.noted
   pub unnoted : (IsUtf8 words → ⊥) → lines ≡ []

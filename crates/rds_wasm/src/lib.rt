@@ -36,8 +36,12 @@ pub extern "C" fn rdsrt_run(
     output: &mut [u8],
     notes: &mut [u8],
 ) -> Ended
-    ensures { RunsInPage words.now input.now output.new notes.new
-        result.length result.failures result.noted result.status }
+    ensures { RunsInPage words.now input.now output.new notes.new (record {
+      length = result.length;
+      failures = result.failures;
+      noted = result.noted;
+      status = result.status;
+    }) }
 {
     let mut printed = empty(alloc);
     let mut screen = empty(alloc);

@@ -11,7 +11,7 @@ use Rattle.rds_receiver.specs.Shown.{ShownView}
 use Rattle.rds_witness.specs.Lines.{AreMixLines, burst_text, mix_line, shown_line}
 use Rattle.rds_witness.specs.Lost.{got}
 use Rattle.rds_witness.specs.Mix.{AreAround, Has, IsMix, Name, NeverShows, Shows, Tag, Text, Thing, until}
-use Rattle.rds_witness.specs.SomeLines.{AddsKind, AreSomeMixLines, kind_of}
+use Rattle.rds_witness.specs.SomeLines.{AreSomeMixLines, kind_of}
 use Rattle.rds_witness.specs.declared.burst.Burst.{Burst}
 
 -- ---- things
@@ -93,7 +93,7 @@ module _ (t : Tuning) (log : List (Option Group)) (burst : Burst) (slot : ℕ) w
   no_place lines none not = record { things = []; mixes = All-nil (IsMix t log burst slot); all = λ thing is. absurd (not thing is); are = none }
 
   -- no thing of the kind is a mix
-  pub adds_none : (n : ℕ) (lines : List ℕ) → ((thing : Thing) → kind_of thing ≡ n → IsMix t log burst slot thing → ⊥) → AddsKind n t log burst slot lines lines
+  pub adds_none : (n : ℕ) (lines : List ℕ) → ((thing : Thing) → kind_of thing ≡ n → IsMix t log burst slot thing → ⊥) → AreSomeMixLines n t log burst slot lines → AreSomeMixLines (n + 1) t log burst slot lines
   adds_none n lines none had = record { things = had.things; mixes = had.mixes; all = all; are = had.are }
     where
       all : (thing : Thing) → kind_of thing < n + 1 → IsMix t log burst slot thing → Contains had.things thing
@@ -110,11 +110,11 @@ module _ (t : Tuning) (log : List (Option Group)) (burst : Burst) (slot : ℕ) w
     not_before thing is = subst (λ (v : ShownView). Shows v thing → ⊥) (same_view t (got (Some burst) log slot) is.new.before before is.new.was around.was) is.new.not_shown
 
     -- the view has no thing of the kind
-    pub adds_nothing : (n : ℕ) (lines : List ℕ) → ((thing : Thing) → kind_of thing ≡ n → Has after thing → ⊥) → AddsKind n t log burst slot lines lines
+    pub adds_nothing : (n : ℕ) (lines : List ℕ) → ((thing : Thing) → kind_of thing ≡ n → Has after thing → ⊥) → AreSomeMixLines n t log burst slot lines → AreSomeMixLines (n + 1) t log burst slot lines
     adds_nothing n lines none = adds_none n lines (λ thing kind is. none thing kind (has_after thing is))
 
     -- the thing of the kind is no mix
-    pub adds_no_mix : (thing : Thing) (lines : List ℕ) → Has after thing → Shows before thing ⊎ (NeverShows t log (until t.dwell log slot) thing → ⊥) → AddsKind (kind_of thing) t log burst slot lines lines
+    pub adds_no_mix : (thing : Thing) (lines : List ℕ) → Has after thing → Shows before thing ⊎ (NeverShows t log (until t.dwell log slot) thing → ⊥) → AreSomeMixLines (kind_of thing) t log burst slot lines → AreSomeMixLines (kind_of thing + 1) t log burst slot lines
     adds_no_mix thing lines has isnt = adds_none (kind_of thing) lines (λ other kind is.
         not (subst (IsMix t log burst slot) (one_thing after other thing kind (has_after other is) has) is))
       where
@@ -126,7 +126,7 @@ module _ (t : Tuning) (log : List (Option Group)) (burst : Burst) (slot : ℕ) w
 
     -- the line of a mix, part by part
     pub adds_mix : (thing : Thing) (lines a b c more : List ℕ) → a ≡ lines ++ codes "lose " → b ≡ a ++ burst_text burst → c ≡ b ++ codes ": "
-        → more ≡ c ++ shown_line slot thing → Has after thing → IsMix t log burst slot thing → AddsKind (kind_of thing) t log burst slot lines more
+        → more ≡ c ++ shown_line slot thing → Has after thing → IsMix t log burst slot thing → AreSomeMixLines (kind_of thing) t log burst slot lines → AreSomeMixLines (kind_of thing + 1) t log burst slot more
     adds_mix thing lines a b c more first second third fourth has is had =
         let lose = codes "lose " in
         let text = burst_text burst in

@@ -1,10 +1,10 @@
 -- What the lines of mixes say of a candidate: a log, the tuning of its receivers, the lost slots, and a slot.
-use Rattle.std.specs.Prelude.{ℕ, List}
+use Rattle.std.specs.Prelude.{◌+◌, ℕ, List}
 use Rattle.rds_log.specs.LogWrites.{tuned}
 use Rattle.rds_receiver.specs.Shown.{ShownView}
 use Rattle.rds_witness.specs.Lines.{AreMixLines}
 use Rattle.rds_witness.specs.Mix.{AreAround, NeverShows, Thing, until}
-use Rattle.rds_witness.specs.SomeLines.{AddsKind, AreSomeMixLines}
+use Rattle.rds_witness.specs.SomeLines.{AreSomeMixLines}
 use Rattle.rds_witness.specs.declared.candidate.Candidate.{Candidate}
 
 -- the views before and after its slot, with its burst lost
@@ -25,4 +25,4 @@ AreSomeOfItsMixLines n c lines = AreSomeMixLines n (tuned c.pi c.dwell) c.log.no
 
 -- the lines of its mixes of this kind are appended
 abbrev pub AddsKindOfIt : ℕ → Candidate → List ℕ → List ℕ → Type 0
-AddsKindOfIt n c before after = AddsKind n (tuned c.pi c.dwell) c.log.now c.burst c.slot before after
+AddsKindOfIt n c before after = AreSomeOfItsMixLines n c before → AreSomeOfItsMixLines (n + 1) c after

@@ -1,5 +1,5 @@
 -- The lines of mixes on the way: those of the texts, then also of the names, and so on.
-use Rattle.std.specs.Prelude.{◌≡◌, ◌<◌, ◌+◌, ℕ, All, List, Option}
+use Rattle.std.specs.Prelude.{◌≡◌, ◌<◌, ℕ, All, List, Option}
 use Rattle.std.specs.List.{Contains}
 use Rattle.rds_block.specs.declared.group.Group.{Group}
 use Rattle.rds_fields.specs.declared.pair.Which.TheVariants.{One, Two}
@@ -22,8 +22,3 @@ pub record AreSomeMixLines (n : ℕ) (t : Tuning) (log : List (Option Group)) (b
   pub mixes : All (IsMix t log burst slot) things
   pub all : (thing : Thing) → kind_of thing < n → IsMix t log burst slot thing → Contains things thing
   pub are : lines ≡ mix_lines burst slot things
-
--- the lines of the mixes of this kind are appended
-abbrev pub AddsKind : ℕ → Tuning → List (Option Group) → Burst → ℕ → List ℕ → List ℕ → Type 0
-AddsKind n t log burst slot before after =
-    AreSomeMixLines n t log burst slot before → AreSomeMixLines (n + 1) t log burst slot after

@@ -103,15 +103,21 @@ WereKept config n (e ∷ before) kept shown =
     (views : List ShownView) × AreShown config n before views × AreShown config n (e ∷ before) shown
     × ((i : ℕ) → i < n → airings_at kept i ≡ airings config before (view_at views i))
 
--- what is kept goes on by the newest of these slots, after which the receivers have these views: the lines of the slot
--- are appended
-abbrev pub GoesOnCompared : Config → ℕ → List Event → List ShownView → Compared → Compared → List ℕ → List ℕ → Type 0
-GoesOnCompared config slot [] shown old new lines after = Unit {0}
-GoesOnCompared config slot (e ∷ before) shown old new lines after =
-    (views : List ShownView) → AreShown config (length shown) before views
-    → AreShown config (length shown) (e ∷ before) shown → ComparedStands config (length shown) before views old
-    → ComparedStands config (length shown) (e ∷ before) shown new
-    × (after ≡ lines ++ air_lines config slot (length shown) e before views shown)
+-- the number of a slot of this station, and the views of the receivers after it
+pub record SlotViews : Type 0 where
+  pub config : Config
+  pub slot : ℕ
+  pub shown : List ShownView
+
+-- what is kept goes on by the newest of these slots: the lines of the slot are appended
+abbrev pub GoesOnCompared : SlotViews → List Event → Compared → Compared → List ℕ → List ℕ → Type 0
+GoesOnCompared at [] old new lines after = Unit {0}
+GoesOnCompared at (e ∷ before) old new lines after =
+    (views : List ShownView) → AreShown at.config (length at.shown) before views
+    → AreShown at.config (length at.shown) (e ∷ before) at.shown
+    → ComparedStands at.config (length at.shown) before views old
+    → ComparedStands at.config (length at.shown) (e ∷ before) at.shown new
+    × (after ≡ lines ++ air_lines at.config at.slot (length at.shown) e before views at.shown)
 
 -- something is kept for radios with the flag bit alone
 abbrev pub IsCompared : Config → ℕ → List Event → List ShownView → Option Compared → Type 0
@@ -124,11 +130,11 @@ HasRoom None = Unit {0}
 HasRoom (Some c) = AirsHaveRoom c.airs
 
 -- the same for what may be kept
-abbrev pub Compares : Config → ℕ → List Event → List ShownView → Option Compared → Option Compared → List ℕ → List ℕ
-    → Type 0
-Compares config slot [] shown old new lines after = Unit {0}
-Compares config slot (e ∷ before) shown old new lines after =
-    (views : List ShownView) → AreShown config (length shown) before views
-    → AreShown config (length shown) (e ∷ before) shown → IsCompared config (length shown) before views old
-    → IsCompared config (length shown) (e ∷ before) shown new
-    × (after ≡ lines ++ compared_lines config slot (length shown) e before views shown)
+abbrev pub Compares : SlotViews → List Event → Option Compared → Option Compared → List ℕ → List ℕ → Type 0
+Compares at [] old new lines after = Unit {0}
+Compares at (e ∷ before) old new lines after =
+    (views : List ShownView) → AreShown at.config (length at.shown) before views
+    → AreShown at.config (length at.shown) (e ∷ before) at.shown
+    → IsCompared at.config (length at.shown) before views old
+    → IsCompared at.config (length at.shown) (e ∷ before) at.shown new
+    × (after ≡ lines ++ compared_lines at.config at.slot (length at.shown) e before views at.shown)

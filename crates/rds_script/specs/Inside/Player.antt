@@ -21,6 +21,7 @@ use Rattle.rds_io.specs.declared.fault.LogFault.{LogFault}
 use Rattle.rds_io.specs.declared.fault.LogFault.TheVariants.{BadLine, BadRow, Memory, Read, TooLong, Write}
 use Rattle.rds_script.specs.declared.notes.BadRow.{BadRow as BadRecord}
 use Rattle.rds_script.specs.declared.form.Form.{Form}
+use Rattle.rds_script.specs.declared.play.Playing.{Playing}
 use Rattle.rds_script.specs.declared.player.Player.{Player}
 use Rattle.rds_script.specs.declared.row.RowRefused.{RowRefused}
 use Rattle.rds_script.specs.declared.row.RowRefused.TheVariants.{NoRow}
@@ -58,9 +59,14 @@ pub record Played : Type 0 where
   pub records : List Record
   pub written : List ℕ
 
+-- the player plays in this way, and its records have these lines
+abbrev pub played_by : Playing → ℕ → List Record → List ℕ → Played
+played_by how receivers records written =
+    record { form = how.form; config = how.config; receivers = receivers; records = records; written = written }
+
 -- before the first row
-abbrev pub nothing_played : Form → Config → Played
-nothing_played form config = record { form = form; config = config; receivers = 0; records = []; written = [] }
+abbrev pub nothing_played : Playing → Played
+nothing_played how = played_by how 0 [] []
 
 -- one more row with these lines; the first row fixes the number of receivers
 abbrev pub with_row : ℕ → Record → List ℕ → Played → Played
@@ -143,11 +149,10 @@ PlaysNext remaining ReadFailed known s p row number old new bad played (Err Writ
 PlaysNext remaining ReadFailed known s p row number old new bad played (Err TooLong) = ⊥
 
 -- the station played these records; a part of their output was written, and the rest waits
-pub record PlayedSoFar (form : Form) (config : Config) (p : Player) (records : List Record) (w : Traffic)
+pub record PlayedSoFar (how : Playing) (p : Player) (records : List Record) (w : Traffic)
     (waiting : List ℕ) : Type 0 where
   pub receivers : ℕ
   pub written : List ℕ
-  pub player : PlayerStandsAt p
-      record { form = form; config = config; receivers = receivers; records = records; written = written ++ waiting }
+  pub player : PlayerStandsAt p (played_by how receivers records (written ++ waiting))
   pub wrote : Appends w.before w.after written
   pub calm : IsCalm w

@@ -1,5 +1,5 @@
 -- The state of a world and of the kept views of its receivers after these slots. Lists have the newest first.
-use Rattle.std.specs.Prelude.{◌≡◌, ◌<◌, ◌∷◌, ℕ, [], List, length, map}
+use Rattle.std.specs.Prelude.{◌≡◌, ◌∷◌, ℕ, [], List, length, map}
 use Rattle.rds_world.specs.declared.world.Config.{Config}
 use Rattle.rds_world.specs.Event.{Event}
 use Rattle.rds_world.specs.StandsAt as station

@@ -5,10 +5,10 @@ use Rattle.rds_log.proofs.audit_log.audit_with_notes.Goals as goal
 
 pub returns-clause-means : goal.returns-clause-means
 returns-clause-means g c =
-    meaning c.args.start c.args.pi c.args.dwell c.args.late c.args.reads
+    meaning c.args.auditing c.args.reads
     (traffic g.R.Read.remaining g.R.TellingRead.failures c.args.reader.now c.judge.new.reader)
     (traffic g.W.Write.contents g.W.TellingWrite.failures c.args.writer.now c.write_verdict.new.writer)
     c.write_verdict.result
-    (λ slots pass. c.what_an_answer_means.ensures.safe c.args.start c.args.pi c.args.dwell c.args.late slots (omega arith) pass)
-    (λ t fault slots fail. c.what_an_answer_means.ensures.no_plans c.args.start c.args.pi _ t fault slots (omega arith) fail)
+    (λ slots pass. c.what_an_answer_means.ensures.safe c.args.auditing slots (omega arith) pass)
+    (λ t fault slots fail. c.what_an_answer_means.ensures.no_plans c.args.auditing t fault slots (omega arith) fail)
     (search rules)

@@ -1,4 +1,5 @@
-use Rattle.std.proofs.Common.{[], ◌+◌, ◌∷◌, arith, refl}
+use Rattle.std.proofs.Common.{[], ◌∷◌, arith, refl}
+use Rattle.rds_log.specs.Audit.{spacing}
 use Rattle.rds_log.specs.Inside.Source.{state_of}
 use Rattle.rds_log.proofs.Audits.{audits_said, audits_skip, stops_at_slot}
 use Rattle.rds_log.proofs.Noting.{fault_noted}
@@ -31,8 +32,8 @@ pub returns-in-Err-slot_blocks-clause-judges : goal.returns-in-Err-slot_blocks-c
 returns-in-Err-slot_blocks-clause-judges g c =
     let (lines, stands, audited, heard) = c.loop-notes.invariant.stands in
     let (line, says, further) = rw (c.in-Ok-true.field-0-test, c.in-Slot.is) at (c.in-Ok-true.ensures.gives _ _ lines stands) in
-    let after = c.slot_blocks.ensures.stands c.args.pi (c.args.dwell + c.args.late) audited.slots audited.audit in
-    stops_at_slot c.args.start c.args.pi (c.args.dwell + c.args.late) c.args.reads c.next.new.self c.loop-notes.audit c.slot_blocks.new.self c.loop-notes.slots
+    let after = c.slot_blocks.ensures.stands c.args.auditing.pi (spacing c.args.auditing) audited.slots audited.audit in
+    stops_at_slot c.args.auditing c.args.reads c.next.new.self c.loop-notes.audit c.slot_blocks.new.self c.loop-notes.slots
     (state_of g.R.Read.remaining g.R.TellingRead.failures g.R.TellingRead.reads c.args.reader.now) (state_of g.R.Read.remaining g.R.TellingRead.failures g.R.TellingRead.reads c.next.new.reader)
     lines line c.in-Slot.group c.in-Err-slot_blocks.fault says audited after c.in-Err-slot_blocks.ensures.start (c.in-Err-slot_blocks.ensures.which _ _ _ after) further
 
@@ -44,7 +45,7 @@ loop-notes-preserved g c =
     let before = c.loop-notes.invariant.slots in
     let groups = c.line.ensures.groups in
     let counted = c.loop-notes.invariant.groups in
-    let after = c.slot_blocks.ensures.stands c.args.pi (c.args.dwell + c.args.late) audited.slots audited.audit in
+    let after = c.slot_blocks.ensures.stands c.args.auditing.pi (spacing c.args.auditing) audited.slots audited.audit in
     record {
       slots = omega (arith, before, less);
       groups = omega (arith, counted, less, groups);
@@ -52,7 +53,7 @@ loop-notes-preserved g c =
       stands = (
         line ∷ lines,
         further,
-        audits_said c.args.start c.args.pi (c.args.dwell + c.args.late) c.loop-notes.audit c.slot_blocks.new.self c.loop-notes.slots lines line _ c.in-Slot.group said c.in-Slot.is audited after c.in_default-slot_blocks.ensures.start c.in_default-slot_blocks.ensures.fault,
+        audits_said c.args.auditing c.loop-notes.audit c.slot_blocks.new.self c.loop-notes.slots lines line _ c.in-Slot.group said c.in-Slot.is audited after c.in_default-slot_blocks.ensures.start c.in_default-slot_blocks.ensures.fault,
         c.line.ensures.heard lines line said heard,
       );
     }
@@ -72,7 +73,7 @@ loop-notes-preserved-in_default g c =
       stands = (
         line ∷ lines,
         further,
-        audits_skip c.args.start c.args.pi (c.args.dwell + c.args.late) c.loop-notes.audit c.loop-notes.slots lines line _ said c.in_default.is audited,
+        audits_skip c.args.auditing c.loop-notes.audit c.loop-notes.slots lines line _ said c.in_default.is audited,
         c.line.ensures.heard lines line said heard,
       );
     }

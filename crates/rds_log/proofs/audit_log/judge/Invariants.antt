@@ -12,7 +12,7 @@ invariant-loop-notes g l = record {
   no : l.notes.no ≡ None;
   stands : (lines : List Line) × SourceStandsAt l.source l.fn.reads (state_of g.R.Read.remaining g.R.TellingRead.failures g.R.TellingRead.reads l.initial.reader)
       (state_of g.R.Read.remaining g.R.TellingRead.failures g.R.TellingRead.reads l.reader) lines
-      × HasAudited l.fn.start l.fn.pi (l.fn.dwell + l.fn.late) l.audit l.slots lines × HeardLines l.fn.pi lines l.notes.heard;
+      × HasAudited l.fn.auditing l.audit l.slots lines × HeardLines l.fn.auditing.pi lines l.notes.heard;
 }
 
 abbrev pub decreases-loop-notes : goal.decreases-loop-notes

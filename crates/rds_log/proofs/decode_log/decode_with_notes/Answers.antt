@@ -18,7 +18,7 @@ loop-notes-init g c =
       slots = omega (arith, slots, few);
       groups = omega (arith, groups, few);
       bad = c.new.ensures.bad;
-      stands = ([], c.new-source.ensures.stands _, c.new-decoder.ensures.decoded _ _ (c.tuned-receiver.ensures.stands 0) refl refl, c.new.ensures.heard);
+      stands = ([], c.new-source.ensures.stands _, c.new-decoder.ensures.decoded c.args.decoding _ refl (c.tuned-receiver.ensures.stands 0) refl refl, c.new.ensures.heard);
     }
 
 pub returns-in_err-write-in-Err-clause-decodes : goal.returns-in_err-write-in-Err-clause-decodes
@@ -26,28 +26,28 @@ returns-in_err-write-in-Err-clause-decodes g c =
     let (lines, stands, decoded, heard) = c.loop-notes.invariant.stands in
     let some : c.loop-notes.source.line ≢ None = λ e. (let fine = c.in_err-write-in-Err.ensures.nothing (c.loop-notes.invariant.empty e) in cc) in
     let p = err_from_is_err_and c.from_residual.result c.from_residual.ensures.1 in
-    rw (p.1, p.2) (ends_at_fault c.args.decoding.says_why _ c.loop-notes.source.line c.args.reads
+    rw (p.1, p.2) (ends_at_fault c.args.decoding c.loop-notes.source.line c.args.reads
     (state_of g.R.Read.remaining g.R.TellingRead.failures g.R.TellingRead.reads c.args.reader.now) (state_of g.R.Read.remaining g.R.TellingRead.failures g.R.TellingRead.reads c.next.new.reader)
     (traffic g.W.Write.contents g.W.TellingWrite.failures c.args.writer.now c.write.new.writer) lines _ c.in-Err.fault
-    c.in-Err.ensures.there some (c.in-Err.ensures.gives _ _ lines stands) (c.in_err-write-in-Err.ensures.wrote _ _ _ lines decoded))
+    c.in-Err.ensures.there some (c.in-Err.ensures.gives _ _ lines stands) (c.in_err-write-in-Err.ensures.wrote _ _ lines decoded))
 
 pub returns-in-Err-clause-decodes : goal.returns-in-Err-clause-decodes
 returns-in-Err-clause-decodes g c =
     let (lines, stands, decoded, heard) = c.loop-notes.invariant.stands in
-    ends_by_fault c.args.decoding.says_why _ c.write.new.self c.args.reads
+    ends_by_fault c.args.decoding c.write.new.self c.args.reads
     (state_of g.R.Read.remaining g.R.TellingRead.failures g.R.TellingRead.reads c.args.reader.now) (state_of g.R.Read.remaining g.R.TellingRead.failures g.R.TellingRead.reads c.next.new.reader)
     (traffic g.W.Write.contents g.W.TellingWrite.failures c.args.writer.now c.write.new.writer) lines _ c.in-Err.fault
-    (c.in-Err.ensures.gives _ _ lines stands) (c.in_ok-write-in-Err.ensures.wrote _ _ _ lines decoded) c.in_ok-write-in-Err.ensures.empty
+    (c.in-Err.ensures.gives _ _ lines stands) (c.in_ok-write-in-Err.ensures.wrote _ _ lines decoded) c.in_ok-write-in-Err.ensures.empty
 
 pub returns-in_err-write-clause-decodes : goal.returns-in_err-write-clause-decodes
 returns-in_err-write-clause-decodes g c =
     let (lines, stands, decoded, heard) = c.loop-notes.invariant.stands in
     let (line, says, further) = rw c.in-Ok-true.field-0-test at (c.in-Ok-true.ensures.gives _ _ lines stands) in
     let p = err_from_is_err_and c.from_residual-in_err-write.result c.from_residual-in_err-write.ensures.1 in
-    rw (p.1, p.2) (ends_by_write c.args.decoding.says_why _ c.next.new.self c.args.reads
+    rw (p.1, p.2) (ends_by_write c.args.decoding c.next.new.self c.args.reads
     (state_of g.R.Read.remaining g.R.TellingRead.failures g.R.TellingRead.reads c.args.reader.now) (state_of g.R.Read.remaining g.R.TellingRead.failures g.R.TellingRead.reads c.next.new.reader)
     (traffic g.W.Write.contents g.W.TellingWrite.failures c.args.writer.now c.write-then-not-has_line.new.writer) (line ∷ lines) further
-    (c.in_err-write.ensures.wrote _ _ _ (line ∷ lines) (c.line-in-Ok-true.ensures.decoded _ _ _ lines line says decoded)))
+    (c.in_err-write.ensures.wrote _ _ (line ∷ lines) (c.line-in-Ok-true.ensures.decoded _ _ lines line says decoded)))
 
 pub loop-notes-preserved : goal.loop-notes-preserved
 loop-notes-preserved g c =
@@ -64,7 +64,7 @@ loop-notes-preserved g c =
       slots = omega (arith, before, less, slots);
       groups = omega (arith, counted, less, groups);
       bad = c.loop-notes.invariant.bad;
-      stands = (line ∷ lines, further, c.line-in-Ok-true.ensures.decoded _ _ _ lines line says decoded, c.line.ensures.heard lines line says heard);
+      stands = (line ∷ lines, further, c.line-in-Ok-true.ensures.decoded _ _ lines line says decoded, c.line.ensures.heard lines line says heard);
     }
 
 pub returns-in-Err-clause-fault : goal.returns-in-Err-clause-fault
@@ -90,5 +90,5 @@ loop-notes-preserved-in-loop-notes g c =
       slots = rw c.in_ok-write.ensures.slots (omega (arith, before, less, slots));
       groups = omega (arith, counted, less, groups);
       bad = c.loop-notes.invariant.bad;
-      stands = (line ∷ lines, further, c.in_ok-write.ensures.wrote _ _ _ (line ∷ lines) (c.line-in-Ok-true.ensures.decoded _ _ _ lines line says decoded), c.line.ensures.heard lines line says heard);
+      stands = (line ∷ lines, further, c.in_ok-write.ensures.wrote _ _ (line ∷ lines) (c.line-in-Ok-true.ensures.decoded _ _ lines line says decoded), c.line.ensures.heard lines line says heard);
     }

@@ -1,6 +1,5 @@
 use Rattle.std.proofs.Common.{◌≡◌, ◌+◌, ◌^◌, ◌≤◌, [], List, None, length}
 use Rattle.rds_io.specs.Told.{traffic}
-use Rattle.rds_log.specs.LogWrites.{tuned_with}
 use Rattle.rds_log.specs.Inside.Decoder.{HasDecoded}
 use Rattle.rds_log.specs.Heard.{HeardLines}
 use Rattle.rds_log.specs.LogLines.{Line}
@@ -16,7 +15,7 @@ invariant-loop-notes g l = record {
   bad : l.notes.bad ≡ None;
   stands : (lines : List Line) × SourceStandsAt l.source l.fn.reads (state_of g.R.Read.remaining g.R.TellingRead.failures g.R.TellingRead.reads l.initial.reader)
       (state_of g.R.Read.remaining g.R.TellingRead.failures g.R.TellingRead.reads l.reader) lines
-      × HasDecoded l.fn.decoding.says_why (tuned_with l.fn.decoding.pi l.fn.decoding.dwell l.fn.decoding.window) l.decoder (traffic g.W.Write.contents g.W.TellingWrite.failures l.initial.writer l.writer) lines
+      × HasDecoded l.fn.decoding l.decoder (traffic g.W.Write.contents g.W.TellingWrite.failures l.initial.writer l.writer) lines
       × HeardLines l.fn.decoding.pi lines l.notes.heard;
 }
 

@@ -1,16 +1,17 @@
+use Rattle.rds_log.specs.Audit.{spacing}
 use Rattle.rds_log.proofs.Meaning.{safe_as_it_is}
 use Rattle.rds_log.proofs.laws.what_an_answer_means.Goals as goal
 
 pub returns-clause-safe : goal.returns-clause-safe
-returns-clause-safe c start pi m k slots some pass = record {
+returns-clause-safe c a slots some pass = record {
   heard = pass.heard;
   are = pass.are;
-  safe = safe_as_it_is c.what_passes_is_safe.ensures.late c.what_passes_as_a_recording_is_safe.ensures start m k pass.heard some pass.passes;
+  safe = safe_as_it_is c.what_passes_is_safe.ensures.late c.what_passes_as_a_recording_is_safe.ensures a.start a.dwell a.late pass.heard some pass.passes;
 }
 
 pub returns-clause-no_plans : goal.returns-clause-no_plans
-returns-clause-no_plans c start pi d t fault slots some fail = record {
+returns-clause-no_plans c a t fault slots some fail = record {
   heard = fail.heard;
   are = fail.are;
-  none = λ judged is plans. c.one_fault.ensures.fails d judged fault some (fail.fault_is judged is) ((c.passes_by_plans.ensures d judged some).1 plans);
+  none = λ judged is plans. c.one_fault.ensures.fails (spacing a) judged fault some (fail.fault_is judged is) ((c.passes_by_plans.ensures (spacing a) judged some).1 plans);
 }

@@ -1,8 +1,7 @@
 use Rattle.std.proofs.Common.{◌≡◌, ◌+◌, ◌≤◌, [], List, None, length}
 use Rattle.rds_io.specs.Told.{traffic}
 use Rattle.std.specs.Prelude.{ℕ, Option}
-use Rattle.rds_world.specs.declared.world.Config.{Config}
-use Rattle.rds_script.specs.declared.form.Form.{Form}
+use Rattle.rds_script.specs.declared.play.Playing.{Playing}
 use Rattle.rds_script.specs.Inside.Player.{PlayedSoFar, PlayerStandsAt, ScriptStandsAt, nothing_played}
 use Rattle.rds_script.specs.Rows.{Record}
 use Rattle.rds_script.proofs.play.play_rows.Given as goal
@@ -12,7 +11,7 @@ invariant-loop-turn g l = record {
   room : length l.lines + 17592 ≤ 65536;
   good : l.bad ≡ None;
   slot : l.player.slot ≡ l.turn;
-  played : (form : Form) (config : Config) (known : Option (List ℕ)) → PlayerStandsAt l.initial.player (nothing_played form config) → ScriptStandsAt g.R.Read.remaining known l.initial.script []
+  played : (how : Playing) (known : Option (List ℕ)) → PlayerStandsAt l.initial.player (nothing_played how) → ScriptStandsAt g.R.Read.remaining known l.initial.script []
       → (records : List Record) × ScriptStandsAt g.R.Read.remaining known l.script records × (length records ≡ l.turn)
-      × PlayedSoFar form config l.player records (traffic g.W.Write.contents g.W.TellingWrite.failures l.initial.writer l.writer) l.lines;
+      × PlayedSoFar how l.player records (traffic g.W.Write.contents g.W.TellingWrite.failures l.initial.writer l.writer) l.lines;
 }

@@ -1,7 +1,7 @@
 use Rattle.std.proofs.Common.{◌≡◌, ◌≤◌, arith, length, subst}
 use Rattle.rds_world.specs.declared.event.Reception.{Reception}
 use Rattle.rds_world.specs.Due.{IsDue, last_named}
-use Rattle.rds_script.proofs.Playing.{as_many_rows}
+use Rattle.rds_script.proofs.PlayedRows.{as_many_rows}
 use Rattle.rds_script.proofs.SecondReading.{named_before}
 use Rattle.rds_script.proofs.second_reading.late_cause.Goals as goal
 

@@ -6,7 +6,7 @@ use Rattle.rds_world.specs.State.{distance}
 use Rattle.rds_view_lines.specs.KeptView.{view_kept}
 use Rattle.rds_script.specs.Outcomes.{view_at, whys_at}
 use Rattle.rds_script.proofs.Changes.{at_last, at_set, next_changes, no_changes, other_set, stay_changes}
-use Rattle.rds_script.proofs.Playing.{still_shown}
+use Rattle.rds_script.proofs.PlayedRows.{still_shown}
 use Rattle.rds_script.proofs.watched.push_views.Goals as goal
 
 pub loop-i-init : goal.loop-i-init

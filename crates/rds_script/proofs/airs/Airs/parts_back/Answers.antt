@@ -1,4 +1,4 @@
-use Rattle.std.proofs.Common.{◌≡◌, ◌∙◌, ◌∷◌, ◌++◌, ◌+◌, ◌-◌, ◌<◌, ℕ, Bool, true, false, List, Option, ap, ap₂, arith, get_or, length, replicate, rules, sym, take}
+use Rattle.std.proofs.Common.{◌≡◌, ◌∙◌, ◌∷◌, ◌++◌, ◌+◌, ◌-◌, ◌<◌, ℕ, true, false, List, Option, ap, ap₂, arith, get_or, length, replicate, rules, sym, take}
 use Rattle.std.specs.Option.{option_copied}
 use Rattle.rds_receiver.specs.Borrowed.{view_of}
 use Rattle.rds_receiver.specs.Shown.{ShownView}

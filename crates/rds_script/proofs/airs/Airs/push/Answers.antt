@@ -1,4 +1,4 @@
-use Rattle.std.proofs.Common.{◌≡◌, ◌∙◌, ◌∷◌, ◌++◌, ◌+◌, ◌-◌, ◌<◌, [], Bool, true, List, ap, arith, get_or, length, refl, rules, sym}
+use Rattle.std.proofs.Common.{◌≡◌, ◌∙◌, ◌∷◌, ◌++◌, ◌+◌, ◌-◌, ◌<◌, [], Bool, true, ap, arith, get_or, length, refl, sym}
 use Rattle.std.specs.Prelude.{if◌then◌else◌, is_ok}
 use Rattle.std.proofs.lemmas.List.{get_or_read}
 use Rattle.rds_receiver.specs.Borrowed.{view_of}

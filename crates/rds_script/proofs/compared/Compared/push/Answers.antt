@@ -20,7 +20,7 @@ pub returns : goal.returns
 returns c = record { goes_on = by }
   where
     by : (config : Config) (events : List Event) → StandsAt config c.args.world.now events
-        → GoesOnCompared config c.args.slot events (map view_kept c.args.shown.now) c.args.self.now
+        → GoesOnCompared (record { config = config; slot = c.args.slot; shown = map view_kept c.args.shown.now }) events c.args.self.now
         record { airs = c.step.new.self; airings = with_items c.args.self.now.airings c.push_airings.new.kept } c.args.lines.now c.push_airings.new.lines
     by config [] st = tt
     by config (e ∷ before) st = λ views were are old.

@@ -17,7 +17,7 @@ use Rattle.rds_script.specs.Outcomes.{Outcome}
 use Rattle.rds_script.specs.Rows.{IsAllowed}
 use Rattle.rds_script.specs.declared.player.Player.{Player}
 use Rattle.rds_script.specs.declared.watched.Watched.{Watched}
-use Rattle.rds_script.proofs.Playing.{IsReady, as_many_outcomes, as_many_rows, is_ready, names_receivers, plays_on, not_allowed, refused_on, says_none}
+use Rattle.rds_script.proofs.PlayedRows.{IsReady, as_many_outcomes, as_many_rows, is_ready, names_receivers, plays_on, not_allowed, refused_on, says_none}
 use Rattle.rds_script.proofs.player.Player.row.Goals as goal
 
 pub returns-then-not-read_event-clause-refused : goal.returns-then-not-read_event-clause-refused

@@ -1,4 +1,4 @@
-use Rattle.std.proofs.Common.{map, refl}
+use Rattle.std.proofs.Common.{refl}
 use Rattle.rds_script.specs.Inside.Watched.{views_kept}
 use Rattle.rds_script.proofs.watched.Watched.make_room.Goals as goal
 

@@ -1,6 +1,6 @@
 use Rattle.std.proofs.Common.{map}
 use Rattle.rds_view_lines.specs.KeptView.{view_kept}
-use Rattle.rds_script.proofs.Playing.{nothing_yet}
+use Rattle.rds_script.proofs.PlayedRows.{nothing_yet}
 use Rattle.rds_script.proofs.watched.Watched.new.Goals as goal
 
 pub returns-in-Ok-new-clause-stands : goal.returns-in-Ok-new-clause-stands
