@@ -47,6 +47,7 @@ RUN = [
 ]
 # a command, and the test or the script that runs it
 RUN_BY = [
+    (r"ls logs/\*\.log \| xargs ", "test_guide.Guide.test_the_line_of_xargs"),
     (r"parallel -k --tag ", "test_guide.Guide.test_the_lines_of_parallel"),
     (r"examples/station --m 128 now.txt \\|", "test_guide.Guide.test_the_pipe_to_another_encoder"),
     (r"(?:examples/)?station --m 128 ", "test_guide.Guide.test_the_pipe_of_a_station"),

@@ -131,14 +131,24 @@ class Guide(Case):
         slots = [int(it.split(" ")[0]) for it in lines]
         self.check("their spacing", [b - a for a, b in itertools.pairwise(slots) if b - a < 256 - 62], [])
 
-    @needs("parallel", package="parallel")
-    def test_the_lines_of_parallel(self):
-        audit, decode = re.search(r"^ +(parallel .* audit .*)\n +(parallel .* decode .*)$", self.text, re.M).groups()
+    def folder_of_logs(self):
         folder = temporary_folder(self)
         os.mkdir(os.path.join(folder, "logs"))
         for name, log in LOGS.items():
             with open(os.path.join(folder, f"logs/{name}.log"), "w", encoding="ascii") as file:
                 file.write(log)
+        return folder
+
+    def test_the_line_of_xargs(self):
+        call = re.search(r"^ +(ls .* xargs .*)$", self.text, re.M)[1]
+        run = done(call, at=self.folder_of_logs())
+        self.check("the answers", sorted(run.stdout.decode().splitlines()),
+                   [f"logs/{name}.log: {line}" for name in sorted(LOGS) for line in ANSWERS[name]])
+
+    @needs("parallel", package="parallel")
+    def test_the_lines_of_parallel(self):
+        audit, decode = re.search(r"^ +(parallel .* audit .*)\n +(parallel .* decode .*)$", self.text, re.M).groups()
+        folder = self.folder_of_logs()
         run = done(audit, at=folder)
         self.check("the answers", run.stdout.decode().splitlines(),
                    [f"logs/{name}.log\t{line}" for name in sorted(LOGS) for line in ANSWERS[name]])
