@@ -29,7 +29,7 @@ fn takes_slots_in_place(rt: HostRuntime) -> Result<(), Fail> {
     let again = stored.slot(Some(group.blocks()));
     let nothing = stored.slot(None);
     let other = stored.slot(Some(clock.blocks()));
-    same(&rt, stored.display.text.age, 2);
+    same(&rt, stored.display.text_age(), 2);
     let dropped = stored.slot(None);
     let answers = (segment, again, nothing, other, dropped);
     same(&rt, answers, (true, false, false, false, true));
@@ -43,7 +43,7 @@ fn restores_any_numbers(rt: HostRuntime) -> Result<(), Fail> {
     let segments = StoredSegments {
         bytes: [b'A'; 64],
         mask: 0xFFFF,
-        age: 0xFFFF,
+        later: 0xFFFF,
         flag: 7,
     };
     let mut pair = StoredPair::none();
@@ -53,6 +53,7 @@ fn restores_any_numbers(rt: HostRuntime) -> Result<(), Fail> {
     stored.display = StoredDisplay {
         pi: 1,
         dwell: 0,
+        rest: 0xFFFF,
         text: segments,
         name: segments,
         pair,

@@ -28,17 +28,17 @@ pub extern "C" fn rdsrt_receiver_held(receiver: &StoredReceiver, held: &mut Rdsr
     ensures { WhereItIs receiver.now (λ t input. IsHeld t input held.new) }
 {
     *held = RdsrtHeld {
-        text: held_in(&receiver.display.text),
-        name: held_in(&receiver.display.name),
+        text: held_in(&receiver.display.text, receiver.display.text_age()),
+        name: held_in(&receiver.display.name, receiver.display.name_age()),
     };
 }
 
-/// Returns the numbers of the held segments.
-fn held_in(segments: &StoredSegments) -> RdsrtSegments
-    ensures { result ≡ record { held = segments.now.mask; age = segments.now.age } }
+/// Returns the numbers of held segments of this age.
+fn held_in(segments: &StoredSegments, age: u16) -> RdsrtSegments
+    ensures { result ≡ record { held = segments.now.mask; age = age } }
 {
     RdsrtSegments {
         held: segments.mask,
-        age: segments.age,
+        age,
     }
 }

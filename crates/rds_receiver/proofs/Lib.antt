@@ -7,3 +7,4 @@ pub mod WorkedRows
 pub mod Alike
 pub mod NotShown
 pub mod TwiceSteps
+pub mod Ages

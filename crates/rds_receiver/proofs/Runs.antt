@@ -4,6 +4,7 @@ use Rattle.std.specs.FinMap.{empty, insert}
 use Rattle.std.proofs.lemmas.Bool.{cases_lt}
 use Rattle.std.proofs.lemmas.Bool.Decides.{nat_tests}
 use Rattle.rds_fields.specs.declared.message.Message.{Message}
+use Rattle.rds_receiver.specs.Older.{AreOlder}
 use Rattle.rds_receiver.specs.Receipts.{Fragment, Segment, segments}
 use Rattle.rds_receiver.specs.Run.{cells_of, is_same, run, run_at, run_before}
 use Rattle.rds_receiver.specs.Holds.{HasFlag, HoldsRun, newest_slot}
@@ -94,3 +95,25 @@ held_taken m n segs p h after some same other flag age st =
     by_flag (inr ne) =
         let begins = before_other m n p.flag h.flag segs st.flag ne in
         other ne ∙ ap (λ (r : List Segment). insert (cells_of r) p.address p.bytes) (sym begins)
+
+-- the held segments one slot later
+pub run_older : (m t n : ℕ) (segs : List Segment) (h after : HeldSegments) → n ≡ t + 1 → AreOlder m h after → HoldsRun m t (run m t segs) h → HoldsRun m n (run m n segs) after
+run_older m t n [] h after next older st = subst (λ (x : HeldSegments). HoldsRun m n [] x) (sym (older.gone (omega (arith, st.age)))) record { cells = st.cells; flag = tt; age = st.age }
+run_older m t n (g ∷ earlier) h after next older st = by_age (cases_lt t (g.slot + m))
+  where
+    by_next : (t < g.slot + m) → HoldsRun m t (g ∷ run_before m g.fragment.flag g.slot earlier) h → (n < g.slot + m) ⊎ (g.slot + m ≤ n) → HoldsRun m n (run m n (g ∷ earlier)) after
+    by_next l now (inl soon) =
+        let then_h : HoldsRun m n (g ∷ run_before m g.fragment.flag g.slot earlier) (record h { age = h.age + 1 }) = record { cells = now.cells; flag = now.flag; age = omega (arith, now.age, next) } in
+        subst (λ (r : List Segment). HoldsRun m n r after) (sym (run_recent m n g earlier soon))
+        (subst (λ (x : HeldSegments). HoldsRun m n (g ∷ run_before m g.fragment.flag g.slot earlier) x) (sym (older.older (omega (arith, now.age, next, soon)))) then_h)
+    by_next l now (inr over) =
+        let then_h : HoldsRun m n [] (record h { cells = empty; age = m }) = record { cells = refl; flag = tt; age = refl } in
+        subst (λ (r : List Segment). HoldsRun m n r after) (sym (run_over m n g earlier over))
+        (subst (λ (x : HeldSegments). HoldsRun m n [] x) (sym (older.over (omega (arith, now.age, next, over, l)))) then_h)
+
+    by_age : (t < g.slot + m) ⊎ (g.slot + m ≤ t) → HoldsRun m n (run m n (g ∷ earlier)) after
+    by_age (inl l) = by_next l (subst (λ (r : List Segment). HoldsRun m t r h) (run_recent m t g earlier l) st) (cases_lt n (g.slot + m))
+    by_age (inr l) =
+        let now = subst (λ (r : List Segment). HoldsRun m t r h) (run_over m t g earlier l) st in
+        subst (λ (r : List Segment). HoldsRun m n r after) (sym (run_over m n g earlier (omega (arith, l, next))))
+        (subst (λ (x : HeldSegments). HoldsRun m n [] x) (sym (older.gone (omega (arith, now.age)))) record { cells = now.cells; flag = tt; age = now.age })

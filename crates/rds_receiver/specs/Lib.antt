@@ -10,6 +10,7 @@ pub mod NotShown
 pub mod Confirming
 pub mod StandsAt
 pub mod Stored
+pub mod Older
 pub mod Codes
 pub mod Borrowed
 pub mod OneView

@@ -1,7 +1,8 @@
 //! The display of a receiver, as plain numbers: all that it holds of the messages that count.
-ghost use Rattle.std.specs.Prelude.{◌≡◌, ◌+◌, ◌<◌, ℕ, IsFalse, List, Option, length};
+ghost use Rattle.std.specs.Prelude.{◌≡◌, ◌+◌, ◌-◌, ◌<◌, ℕ, IsFalse, List, Option, length};
 ghost use Rattle.rds_fields.specs.declared.message.Message.{Message};
 ghost use Rattle.rds_fields.specs.Stored.{is_set, pair_stored};
+ghost use Rattle.rds_receiver.specs.Older.{IsOlder};
 ghost use Rattle.rds_receiver.specs.Holds.{HearsMore, HoldsAt, ShowsAlike, newest_slot};
 ghost use Rattle.rds_receiver.specs.Tags.{or_before, says_of_rtplus, unless_contrary};
 ghost use Rattle.rds_receiver.specs.Stored.{IsStoredDisplay, display_stored};
@@ -16,8 +17,8 @@ use rds_fields::{Message, RTPLUS_AID, RTPLUS_CODE, StoredPair, TagPair};
 pub struct StoredSegments {
     pub bytes: [u8; LONGEST_TEXT],
     pub mask: u16,
-    /// The slots since the newest segment came, or the dwell if no segment is held.
-    pub age: u16,
+    /// How many slots after the next look held segments are dropped, if no segment comes until then.
+    pub later: u16,
     pub flag: u8,
 }
 
@@ -29,6 +30,9 @@ pub struct StoredDisplay {
     pub pi: u16,
     /// The dwell in slots.
     pub dwell: u16,
+    /// The slots until the next look at the ages, at least 1. Nothing is dropped before it, so a slot only counts this
+    /// number down.
+    pub rest: u16,
     pub text: StoredSegments,
     pub name: StoredSegments,
     pub pair: StoredPair,
@@ -41,20 +45,61 @@ impl StoredDisplay {
     /// that is shown stays the same.
     pub(crate) fn grow_older(&mut self) -> bool
         ensures programme { self.new.pi ≡ self.old.pi }
-        ensures holds { (m first : ℕ) (heard : List (Option Message))
+        ensures holds { IsStoredDisplay self.old → (m first : ℕ) (heard : List (Option Message))
             → HoldsAt m (newest_slot first heard) first (display_stored self.old) heard
             → HoldsAt m (first + length heard) first (display_stored self.new) heard }
         ensures same { IsFalse result → ShowsAlike (display_stored self.old) (display_stored self.new) }
         ensures good { IsStoredDisplay self.old → IsStoredDisplay self.new }
     {
-        let dwell = self.dwell;
-        let text = self.text.grow_older::<RadioText>(dwell);
-        let name = self.name.grow_older::<TypeName>(dwell);
-        if self.text.is_held(dwell) || self.pair.is_held == 0 {
+        self.rest = self.rest.wrapping_sub(1);
+        if self.rest > 0 {
+            return false;
+        }
+        self.look()
+    }
+
+    /// Does the same in the slot of a look, and finds the slot of the next one.
+    // Cold path.
+    #[inline(never)]
+    fn look(&mut self) -> bool
+        ensures programme { self.new.pi ≡ self.old.pi }
+        ensures older { IsStoredDisplay (record self.old { rest = 1 })
+            → IsOlder (display_stored (record self.old { rest = 1 })) (display_stored self.new) }
+        ensures same { IsFalse result → ShowsAlike (display_stored self.old) (display_stored self.new) }
+        ensures good { IsStoredDisplay (record self.old { rest = 1 }) → IsStoredDisplay self.new }
+    {
+        let text = self.text.drop_if_due::<RadioText>();
+        let name = self.name.drop_if_due::<TypeName>();
+        let rest = self.text.wait(self.dwell).min(self.name.wait(self.dwell));
+        self.text.later = self.text.later.saturating_sub(rest);
+        self.name.later = self.name.later.saturating_sub(rest);
+        self.rest = rest;
+        if self.text.is_held() || self.pair.is_held == 0 {
             return text || name;
         }
         self.pair = StoredPair::none();
         true
+    }
+
+    /// Returns the slots since the newest segment of a text came, or the dwell if none is held.
+    pub fn text_age(&self) -> u16
+        ensures { result ≡ (display_stored self.now).text.age }
+    {
+        self.text.age(self.dwell, self.rest)
+    }
+
+    /// Returns the slots since the newest segment of a name came, or the dwell if none is held.
+    pub fn name_age(&self) -> u16
+        ensures { result ≡ (display_stored self.now).name.age }
+    {
+        self.name.age(self.dwell, self.rest)
+    }
+
+    /// Returns how many slots after the next look the segments are dropped that get a segment now.
+    fn later(&self) -> u16
+        ensures { result ≡ self.now.dwell - self.now.rest }
+    {
+        self.dwell.saturating_sub(self.rest)
     }
 
     /// Handles a message of the programme. If it returns false, all that is shown stays the same.
@@ -76,7 +121,11 @@ impl StoredDisplay {
                 flag,
                 address,
                 bytes,
-            } => self.name.take::<TypeName>(flag, address.get(), bytes),
+            } => {
+                let later = self.later();
+                self.name
+                    .take::<TypeName>(flag, address.get(), bytes, later)
+            }
             Message::Announce { code, aid, .. } => self.hear_announcement(code.get(), aid),
             Message::Tags(pair) => self.hear_tags(pair),
             Message::Other => false,
@@ -87,7 +136,7 @@ impl StoredDisplay {
     fn hear_text(&mut self, flag: bool, address: u8, bytes: [u8; 4]) -> bool
         requires { address < 16 }
         ensures programme { self.new.pi ≡ self.old.pi }
-        ensures holds { HearsMore (display_stored self.old) (display_stored self.new)
+        ensures holds { IsStoredDisplay self.old → HearsMore (display_stored self.old) (display_stored self.new)
             (Message.Text flag address bytes) }
         ensures same { IsFalse result → ShowsAlike (display_stored self.old) (display_stored self.new) }
         ensures good { IsStoredDisplay self.old → IsStoredDisplay self.new }
@@ -95,7 +144,8 @@ impl StoredDisplay {
         if !self.text.has_flag(flag) {
             self.pair = StoredPair::none();
         }
-        self.text.take::<RadioText>(flag, address, bytes)
+        let later = self.later();
+        self.text.take::<RadioText>(flag, address, bytes, later)
     }
 
     /// Takes an announcement. One of RadioText Plus makes it known; a contrary one makes it unknown and drops the pair.
@@ -129,7 +179,7 @@ impl StoredDisplay {
         ensures same { IsFalse result → ShowsAlike (display_stored self.old) (display_stored self.new) }
         ensures good { IsStoredDisplay self.old → IsStoredDisplay self.new }
     {
-        if self.is_known != 0 && self.text.is_held(self.dwell) {
+        if self.is_known != 0 && self.text.is_held() {
             if self.pair.pair() == Some(pair) {
                 return false;
             }

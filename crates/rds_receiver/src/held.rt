@@ -1,44 +1,38 @@
 //! The held segments of one service, with flag and age.
-ghost use Rattle.std.specs.Prelude.{◌≡◌, ◌≢◌, ◌+◌, ◌<◌, ◌≤◌, ◌↔◌, ◌⊎◌, None, IsFalse, IsTrue};
+ghost use Rattle.std.specs.Prelude.{◌≡◌, ◌≢◌, ◌<◌, ◌≤◌, ◌↔◌, ◌⊎◌, None, IsFalse, IsTrue};
 ghost use Rattle.std.specs.FinMap.{empty, insert};
 ghost use Rattle.std.specs.Option.{option_copied};
 ghost use Rattle.rds_fields.specs.Stored.{is_set};
 ghost use Rattle.rds_assembly.specs.Held.{held_cells};
 ghost use Rattle.rds_receiver.specs.Shown.{IsShown};
 ghost use Rattle.rds_receiver.specs.Holds.{MakeAlike};
-ghost use Rattle.rds_receiver.specs.Stored.{segments_stored};
+ghost use Rattle.rds_receiver.specs.Stored.{age_stored};
 
 use crate::display::StoredSegments;
 use rds_assembly::{LONGEST_TEXT, Service, hold, is_held, whole};
 
 impl StoredSegments {
-    /// Makes a `StoredSegments` without segments. The dwell is in slots.
-    pub(crate) fn none(dwell: u16) -> StoredSegments
+    /// Makes a `StoredSegments` without segments.
+    pub(crate) fn none() -> StoredSegments
         ensures cells { held_cells result.mask result.bytes ≡ empty }
-        ensures age { result.age ≡ dwell }
+        ensures mask { result.mask ≡ 0 }
     {
         StoredSegments {
             bytes: [0; LONGEST_TEXT],
             mask: 0,
-            age: dwell,
+            later: 0,
             flag: 0,
         }
     }
 
-    /// Ages the segments by one slot and drops them at the dwell, in slots. Returns whether a whole value was dropped.
-    pub(crate) fn grow_older<S: Service>(&mut self, dwell: u16) -> bool
-        ensures gone { dwell ≤ self.old.age → self.new ≡ self.old }
-        ensures older { self.old.age + 1 < dwell → self.new ≡ record self.old { age = self.old.age + 1 } }
-        ensures over { self.old.age + 1 ≡ dwell
-            → segments_stored self.new ≡ record (segments_stored self.old) { cells = empty; age = dwell } }
+    /// Drops the segments if they are due in the slot of a look. Returns whether a whole value was dropped.
+    pub(crate) fn drop_if_due<S: Service>(&mut self) -> bool
+        ensures later { 0 < self.old.later → self.new ≡ self.old }
+        ensures due { self.old.later ≡ 0 → self.new ≡ record self.old { mask = 0 } }
         ensures same { IsFalse result
-            → MakeAlike S.is_whole (segments_stored self.old).cells (segments_stored self.new).cells }
+            → MakeAlike S.is_whole (held_cells self.old.mask self.old.bytes) (held_cells self.new.mask self.new.bytes) }
     {
-        if self.age >= dwell {
-            return false;
-        }
-        self.age += 1;
-        if self.age < dwell {
+        if self.later > 0 {
             return false;
         }
         let was_whole = self.is_whole::<S>();
@@ -48,39 +42,46 @@ impl StoredSegments {
 
     /// Takes a segment. Segments with the other flag are dropped first. Returns false if exactly this segment was held,
     /// or if no value was whole before and none is now.
-    pub(crate) fn take<S: Service>(&mut self, flag: bool, address: u8, bytes: [u8; 4]) -> bool
+    /// `later` says how many slots after the next look the segments are dropped.
+    pub(crate) fn take<S: Service>(
+        &mut self,
+        flag: bool,
+        address: u8,
+        bytes: [u8; 4],
+        later: u16,
+    ) -> bool
         requires { address < 16 }
-        ensures same { flag ≡ is_set self.old.flag
-            → (segments_stored self.new).cells ≡ insert (segments_stored self.old).cells address bytes }
+        ensures same { flag ≡ is_set self.old.flag → held_cells self.new.mask self.new.bytes
+            ≡ insert (held_cells self.old.mask self.old.bytes) address bytes }
         ensures other { flag ≢ is_set self.old.flag
-            → (segments_stored self.new).cells ≡ insert empty address bytes }
+            → held_cells self.new.mask self.new.bytes ≡ insert empty address bytes }
         ensures flag { is_set self.new.flag ≡ flag }
-        ensures age { self.new.age ≡ 0 }
+        ensures later { self.new.later ≡ later }
         ensures kept { IsFalse result
-            → MakeAlike S.is_whole (segments_stored self.old).cells (segments_stored self.new).cells }
+            → MakeAlike S.is_whole (held_cells self.old.mask self.old.bytes) (held_cells self.new.mask self.new.bytes) }
         ensures one_flag { IsFalse result
-            → (flag ≡ is_set self.old.flag) ⊎ IsShown S.is_whole (segments_stored self.old).cells None }
+            → (flag ≡ is_set self.old.flag) ⊎ IsShown S.is_whole (held_cells self.old.mask self.old.bytes) None }
     {
-        self.age = 0;
+        self.later = later;
         if self.has_flag(flag) && is_held(&self.bytes, self.mask, address, bytes) {
             return false;
         }
         self.add::<S>(flag, address, bytes)
     }
 
-    /// Takes a segment that may not be held yet. The age stays.
+    /// Takes a segment that may not be held yet.
     // Cold path.
     #[inline(never)]
     fn add<S: Service>(&mut self, flag: bool, address: u8, bytes: [u8; 4]) -> bool
         requires { address < 16 }
-        ensures same { flag ≡ is_set self.old.flag
-            → (segments_stored self.new).cells ≡ insert (segments_stored self.old).cells address bytes }
+        ensures same { flag ≡ is_set self.old.flag → held_cells self.new.mask self.new.bytes
+            ≡ insert (held_cells self.old.mask self.old.bytes) address bytes }
         ensures other { flag ≢ is_set self.old.flag
-            → (segments_stored self.new).cells ≡ insert empty address bytes }
+            → held_cells self.new.mask self.new.bytes ≡ insert empty address bytes }
         ensures flag { is_set self.new.flag ≡ flag }
-        ensures age { self.new.age ≡ self.old.age }
-        ensures before { IsFalse result → IsShown S.is_whole (segments_stored self.old).cells None }
-        ensures now { IsFalse result → IsShown S.is_whole (segments_stored self.new).cells None }
+        ensures later { self.new.later ≡ self.old.later }
+        ensures before { IsFalse result → IsShown S.is_whole (held_cells self.old.mask self.old.bytes) None }
+        ensures now { IsFalse result → IsShown S.is_whole (held_cells self.new.mask self.new.bytes) None }
     {
         let was_whole = self.is_whole::<S>();
         let mask = if self.has_flag(flag) { self.mask } else { 0 };
@@ -89,11 +90,31 @@ impl StoredSegments {
         was_whole || self.is_whole::<S>()
     }
 
-    /// Returns whether segments are held. The dwell is in slots.
-    pub(crate) fn is_held(&self, dwell: u16) -> bool
-        ensures { IsTrue result ↔ (self.now.age < dwell) }
+    /// Returns whether segments are held.
+    pub(crate) fn is_held(&self) -> bool
+        ensures { IsTrue result ↔ (self.now.mask ≢ 0) }
     {
-        self.age < dwell
+        self.mask != 0
+    }
+
+    /// Returns how many slots the next look may wait. The dwell is in slots.
+    pub(crate) fn wait(&self, dwell: u16) -> u16
+        ensures held { self.now.mask ≢ 0 → result ≡ self.now.later }
+        ensures none { self.now.mask ≡ 0 → result ≡ dwell }
+    {
+        if self.is_held() { self.later } else { dwell }
+    }
+
+    /// Returns the age: the slots since the newest segment came, or the dwell if no segment is held. `rest` is the
+    /// number of slots until the next look.
+    pub(crate) fn age(&self, dwell: u16, rest: u16) -> u16
+        ensures { result ≡ age_stored dwell rest self.now }
+    {
+        if self.is_held() {
+            dwell.saturating_sub(rest).saturating_sub(self.later)
+        } else {
+            dwell
+        }
     }
 
     /// Returns whether the flag is this one.
@@ -105,14 +126,14 @@ impl StoredSegments {
 
     /// Returns whether the segments make a value whole.
     fn is_whole<S: Service>(&self) -> bool
-        ensures { IsFalse result → IsShown S.is_whole (segments_stored self.now).cells None }
+        ensures { IsFalse result → IsShown S.is_whole (held_cells self.now.mask self.now.bytes) None }
     {
         self.whole::<S>().is_some()
     }
 
     /// Returns the value that the segments make whole, borrowed from them.
     pub(crate) fn whole<S: Service>(&self) -> Option<&[u8]>
-        ensures { IsShown S.is_whole (segments_stored self.now).cells (option_copied result) }
+        ensures { IsShown S.is_whole (held_cells self.now.mask self.now.bytes) (option_copied result) }
     {
         whole::<S>(&self.bytes, self.mask)
     }

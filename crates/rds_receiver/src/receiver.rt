@@ -82,8 +82,9 @@ impl Receiver {
                 display: StoredDisplay {
                     pi,
                     dwell: slots,
-                    text: StoredSegments::none(slots),
-                    name: StoredSegments::none(slots),
+                    rest: slots,
+                    text: StoredSegments::none(),
+                    name: StoredSegments::none(),
                     pair: StoredPair::none(),
                     is_known: 0,
                 },
@@ -101,7 +102,12 @@ impl Receiver {
         ensures programme { result.display.programme ≡ stored.now.display.pi }
     {
         let mut state = *stored;
-        state.display.dwell = Dwell::at_least_one(stored.display.dwell).get();
+        let dwell = Dwell::at_least_one(stored.display.dwell).get();
+        let rest = stored.display.rest.max(1).min(dwell);
+        state.display.dwell = dwell;
+        state.display.rest = rest;
+        state.display.text.later = stored.display.text.later.min(dwell - rest);
+        state.display.name.later = stored.display.name.later.min(dwell - rest);
         state.display.pair = StoredPair::of(stored.display.pair.pair());
         state.pair = StoredPair::of(stored.pair.pair());
         Receiver { state }

@@ -1,5 +1,5 @@
 //! The state of a receiver, as plain numbers: a program may store it, and a slot changes it in place.
-ghost use Rattle.std.specs.Prelude.{◌≡◌, ◌+◌, ◌<◌, ℕ, IsFalse, List, Option, Some, length};
+ghost use Rattle.std.specs.Prelude.{◌≡◌, ◌≢◌, ◌+◌, ◌<◌, ℕ, IsFalse, List, Option, Some, length};
 ghost use Rattle.rds_fields.specs.declared.message.Message.{Message};
 ghost use Rattle.rds_receiver.specs.Confirming.{ConfirmsIf, HearsSlot, HoldsLastsIn};
 ghost use Rattle.rds_receiver.specs.Holds.{HoldsAt, ShowsAlike, newest_slot};
@@ -85,7 +85,7 @@ impl StoredReceiver {
     /// Ages the last segments and the last pair by one slot, after the display.
     fn age_lasts(&mut self)
         ensures display { self.new.display ≡ self.old.display }
-        ensures lasts { (w m first : ℕ) (heard : List (Option Message))
+        ensures lasts { IsStored self.old → (w m first : ℕ) (heard : List (Option Message))
             → HoldsAt m (first + length heard) first (display_stored self.old.display)
             (counted_in (Some w) m first heard)
             → HoldsLastsIn (Some w) m (newest_slot first heard) first (receiver_stored self.old) heard
@@ -161,13 +161,9 @@ impl StoredReceiver {
 
     /// Returns this number if segments of a text are held, or else 0.
     fn while_text_is_held(&self, left: u8) -> u8
-        ensures held { self.now.display.text.age < self.now.display.dwell → result ≡ left }
-        ensures none { (self.now.display.text.age < self.now.display.dwell → ⊥) → result ≡ 0 }
+        ensures held { self.now.display.text.mask ≢ 0 → result ≡ left }
+        ensures none { self.now.display.text.mask ≡ 0 → result ≡ 0 }
     {
-        if self.display.text.is_held(self.display.dwell) {
-            left
-        } else {
-            0
-        }
+        if self.display.text.is_held() { left } else { 0 }
     }
 }

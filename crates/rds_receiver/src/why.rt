@@ -1,8 +1,8 @@
 //! Why a text or a name is not shown.
-ghost use Rattle.std.specs.Prelude.{◌≡◌, ◌<◌, ℕ, List, Option};
+ghost use Rattle.std.specs.Prelude.{◌≡◌, ◌≢◌, ℕ, List, Option};
 ghost use Rattle.rds_fields.specs.declared.message.Message.{Message};
 ghost use Rattle.rds_receiver.specs.Holds.{HoldsAt};
-ghost use Rattle.rds_receiver.specs.Stored.{display_stored};
+ghost use Rattle.rds_receiver.specs.Stored.{IsStoredDisplay, display_stored};
 ghost use Rattle.rds_receiver.specs.NotShown.{whys_in};
 ghost use Rattle.rds_receiver.specs.declared.why.WhyNone.TheVariants.{Dropped, Incomplete};
 
@@ -27,12 +27,12 @@ pub struct Whys {
 }
 
 impl StoredSegments {
-    /// Returns why no value is shown, if none is. The dwell is in slots.
-    fn why(&self, dwell: u16) -> WhyNone
-        ensures held { self.now.age < dwell → result ≡ Incomplete }
-        ensures none { (self.now.age < dwell → ⊥) → result ≡ Dropped }
+    /// Returns why no value is shown, if none is.
+    fn why(&self) -> WhyNone
+        ensures held { self.now.mask ≢ 0 → result ≡ Incomplete }
+        ensures none { self.now.mask ≡ 0 → result ≡ Dropped }
     {
-        if self.is_held(dwell) {
+        if self.is_held() {
             WhyNone::Incomplete
         } else {
             WhyNone::Dropped
@@ -43,12 +43,12 @@ impl StoredSegments {
 impl StoredDisplay {
     /// Returns why a text and a name are not shown, if they are not.
     pub(crate) fn whys(&self) -> Whys
-        ensures { (m t first : ℕ) (heard : List (Option Message))
+        ensures { IsStoredDisplay self.now → (m t first : ℕ) (heard : List (Option Message))
             → HoldsAt m t first (display_stored self.now) heard → result ≡ whys_in m t first heard }
     {
         Whys {
-            text: self.text.why(self.dwell),
-            name: self.name.why(self.dwell),
+            text: self.text.why(),
+            name: self.name.why(),
         }
     }
 }

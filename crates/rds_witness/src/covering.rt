@@ -64,19 +64,24 @@ fn segment_at(stored: &StoredSegments, address: u8) -> &[u8]
 }
 
 /// Returns whether the first receiver holds a part of what the second one holds, and heard its newest segment at the
-/// same time or earlier. An empty receiver is a part of every other.
-pub(crate) fn is_part(one: &StoredSegments, other: &StoredSegments) -> bool
+/// same time or earlier, by the ages of both. An empty receiver is a part of every other.
+pub(crate) fn is_part(
+    one: &StoredSegments,
+    other: &StoredSegments,
+    one_age: u16,
+    other_age: u16,
+) -> bool
     ensures cells { IsTrue result
         → HasCells (held_cells one.now.mask one.now.bytes) (held_cells other.now.mask other.now.bytes) }
     ensures newer { IsTrue result → (one.now.mask ≡ 0)
-        ⊎ ((is_set one.now.flag ≡ is_set other.now.flag) × (other.now.age ≤ one.now.age)) }
+        ⊎ ((is_set one.now.flag ≡ is_set other.now.flag) × (other_age ≤ one_age)) }
 {
     if one.mask == 0 {
         return true;
     }
     let flag = one.flag != 0;
     let other_flag = other.flag != 0;
-    if flag != other_flag || one.age < other.age {
+    if flag != other_flag || one_age < other_age {
         return false;
     }
     for address in 0..SEGMENTS {
@@ -129,8 +134,9 @@ pub(crate) fn is_receiver_part(one: &StoredReceiver, other: &StoredReceiver) -> 
     if !is_pair_part(&one.display.pair, &other.display.pair) {
         return false;
     }
-    is_part(&one.display.text, &other.display.text)
-        && is_part(&one.display.name, &other.display.name)
+    let (one, other) = (&one.display, &other.display);
+    is_part(&one.text, &other.text, one.text_age(), other.text_age())
+        && is_part(&one.name, &other.name, one.name_age(), other.name_age())
 }
 
 /// Lets the receiver handle a slot. `lost` is the number of the slot if the receiver lost it.

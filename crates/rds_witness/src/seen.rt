@@ -11,7 +11,7 @@ ghost use Rattle.rds_receiver.specs.Borrowed.{borrowed_tag, view_of};
 ghost use Rattle.rds_receiver.specs.Receipts.{Tuning};
 ghost use Rattle.rds_receiver.specs.Shown.{IsView, ShownView};
 ghost use Rattle.rds_receiver.specs.StandsAt.{StandsAt};
-ghost use Rattle.rds_receiver.specs.Stored.{IsStored, receiver_stored};
+ghost use Rattle.rds_receiver.specs.Stored.{IsStored, display_stored, receiver_stored};
 ghost use Rattle.rds_fields.specs.Tag.{tag_in};
 ghost use Rattle.rds_receiver.specs.Tags.{cut_by};
 ghost use Rattle.rds_witness.specs.Borrowed.{thing_of};
@@ -113,12 +113,12 @@ fn is_of_pair(pair: Option<TagPair>, text: Option<&[u8]>, class: u8, piece: &[u8
 
 /// Returns whether the run of texts of a receiver goes on in the next slot.
 fn goes_on(old: &StoredReceiver, new: &StoredReceiver) -> bool
-    ensures age { IsTrue result → old.now.display.text.age + 1 < old.now.display.dwell }
+    ensures age { IsTrue result → (display_stored old.now.display).text.age + 1 < old.now.display.dwell }
     ensures flag { IsTrue result → is_set old.now.display.text.flag ≡ is_set new.now.display.text.flag }
 {
     let flag = old.display.text.flag != 0;
     let new_flag = new.display.text.flag != 0;
-    flag == new_flag && u32::from(old.display.text.age) + 1 < u32::from(old.display.dwell)
+    flag == new_flag && u32::from(old.display.text_age()) + 1 < u32::from(old.display.dwell)
 }
 
 impl Seen {

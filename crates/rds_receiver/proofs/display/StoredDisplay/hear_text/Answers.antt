@@ -1,12 +1,15 @@
-use Rattle.std.proofs.Common.{◌≡◌, ◌≢◌, ◌∙◌, Option, None, true, false, refl, sym, ap}
+use Rattle.std.proofs.Common.{◌≡◌, ◌≢◌, ◌∙◌, Option, None, true, false, refl, sym, ap, inl, inr}
 use Rattle.rds_fields.specs.Tag.{PairFields}
-use Rattle.rds_receiver.specs.Stored.{display_stored}
+use Rattle.rds_receiver.specs.State.{DisplayState}
+use Rattle.rds_receiver.specs.Stored.{age_stored, display_stored}
+use Rattle.rds_receiver.proofs.Ages.{age_taken}
+use Rattle.rds_receiver.proofs.Runs.{equal_or_not}
 use Rattle.rds_receiver.proofs.Steps.{text_heard_by}
 use Rattle.rds_receiver.proofs.display.StoredDisplay.hear_text.Goals as goal
 use Rattle.rds_receiver.proofs.display.StoredDisplay.hear_text.Goals.{then-not-has_flag, else-not-has_flag}
 
 pub returns-clause-holds : goal.returns-clause-holds
-returns-clause-holds c m first heard st =
+returns-clause-holds c stored m first heard st =
     let r = display_stored c.args.self.now in
     let between = display_stored c.if-not-has_flag.self in
     let same : c.args.flag ≡ r.text.flag → between ≡ r =
@@ -22,5 +25,9 @@ returns-clause-holds c m first heard st =
       | then-not-has_flag w ↦ ap display_stored w.self-is ∙ ap (λ (p : Option PairFields). record r { pair = p }) w.none-self.ensures.same
       | else-not-has_flag w ↦ absurd (ne (sym (c.has_flag.ensures.0 w.if-not-has_flag.false)))
     ] in
+    let age : age_stored between.dwell c.if-not-has_flag.self.rest c.take.new.self ≡ 0 = elim (equal_or_not c.args.flag r.text.flag) [
+      | inl e ↦ age_taken _ _ c.take.new.self _ _ _ (c.take.ensures.same (e ∙ ap (λ (x : DisplayState). x.text.flag) (sym (same e)))) (c.take.ensures.later ∙ c.later-later.ensures)
+      | inr ne ↦ age_taken _ _ c.take.new.self _ _ _ (c.take.ensures.other (λ e. ne (e ∙ ap (λ (x : DisplayState). x.text.flag) (other ne)))) (c.take.ensures.later ∙ c.later-later.ensures)
+    ] in
     text_heard_by m first r between _ heard c.args.flag c.args.address c.args.bytes same other
-    record { same = c.take.ensures.same; other = c.take.ensures.other; flag = c.take.ensures.flag; age = c.take.ensures.age } refl st
+    record { same = c.take.ensures.same; other = c.take.ensures.other; flag = c.take.ensures.flag; age = age } refl st

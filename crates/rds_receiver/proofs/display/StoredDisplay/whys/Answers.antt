@@ -1,14 +1,9 @@
-use Rattle.std.proofs.Common.{◌≡◌, arith}
 use Rattle.rds_receiver.specs.Receipts.{name_fragment, segments, text_fragment}
-use Rattle.rds_receiver.proofs.NotShown.{why_held}
+use Rattle.rds_receiver.proofs.Ages.{why_stored}
 use Rattle.rds_receiver.proofs.display.StoredDisplay.whys.Goals as goal
 
 pub returns : goal.returns
-returns c m t first heard st =
-    let dwell : c.args.self.now.dwell ≡ m = st.dwell in
-    λ i. record {
-      text = why_held m t (segments text_fragment first heard) _ _ st.lasts st.text
-          (λ l. c.why.ensures.held (omega (arith, l, dwell))) (λ none. c.why.ensures.none (λ l. none (omega (arith, l, dwell)))) i;
-      name = why_held m t (segments name_fragment first heard) _ _ st.lasts st.name
-          (λ l. c.why-2.ensures.held (omega (arith, l, dwell))) (λ none. c.why-2.ensures.none (λ l. none (omega (arith, l, dwell)))) i;
-    }
+returns c stored m t first heard st = λ i. record {
+  text = why_stored m t _ _ (segments text_fragment first heard) c.args.self.now.text _ stored.rests stored.soon st.dwell st.text c.why.ensures.held c.why.ensures.none i;
+  name = why_stored m t _ _ (segments name_fragment first heard) c.args.self.now.name _ stored.rests stored.soon st.dwell st.name c.why-2.ensures.held c.why-2.ensures.none i;
+}

@@ -1,6 +1,7 @@
 use Rattle.std.proofs.Common.{◌≡◌, ◌<◌, ◌∙◌, Some, true, false, refl, sym, arith}
 use Rattle.std.proofs.lemmas.Bool.{ltb-true}
 use Rattle.rds_fields.specs.Stored.{pair_stored}
+use Rattle.rds_receiver.proofs.Ages.{none_held, some_held}
 use Rattle.rds_receiver.proofs.Pairs.{held_pair_is, is_held_pair}
 use Rattle.rds_receiver.proofs.TwiceSteps.{not_true, tags_confirmed}
 use Rattle.rds_receiver.proofs.stored.StoredReceiver.confirm_tags.Goals as goal
@@ -8,7 +9,9 @@ use Rattle.rds_receiver.proofs.stored.StoredReceiver.confirm_tags.Goals.{then-se
 
 pub returns-clause-confirms : goal.returns-clause-confirms
 returns-clause-confirms c stored w m first heard st =
-    tags_confirmed w m first heard _ _ c.args.pair _ refl c.of-self.ensures.same c.while_text_is_held-self.ensures.held c.while_text_is_held-self.ensures.none if_again if_not st
+    tags_confirmed w m first heard _ _ c.args.pair _ refl c.of-self.ensures.same
+    (λ young. c.while_text_is_held-self.ensures.held (some_held _ _ c.args.self.now.display.text young))
+    (λ old. c.while_text_is_held-self.ensures.none (none_held _ _ c.args.self.now.display.text stored.display.rests stored.display.soon old)) if_again if_not st
   where
     if_again : c.if-self-gt0.again ≡ true → (0 < c.args.self.now.pair_left) × (pair_stored c.args.self.now.pair ≡ Some c.args.pair)
     if_again e = elim c.if-self-gt0.branch [

@@ -17,7 +17,7 @@ returns-in_default-clause-holds c stored = (None, hears, by)
     by : (window : Option ℕ) (m first : ℕ) (heard : List (Option Message)) → HasAged window m first (receiver_stored c.args.self.now) heard
         → HoldsBy window m (first + length heard) first (receiver_stored c.age_lasts.new.self) (None ∷ heard)
     by None m first heard aged = absurd (omega (arith, c.requires, aged.lasts))
-    by (Some w) m first heard aged = nothing_taken (Some w) m first heard _ (lasts_aged w m first heard _ _ (ap display_stored c.age_lasts.ensures.display) (c.age_lasts.ensures.lasts w m first heard) aged)
+    by (Some w) m first heard aged = nothing_taken (Some w) m first heard _ (lasts_aged w m first heard _ _ (ap display_stored c.age_lasts.ensures.display) (c.age_lasts.ensures.lasts stored w m first heard) aged)
 
 pub returns-then-not-confirm-clause-holds : goal.returns-then-not-confirm-clause-holds
 returns-then-not-confirm-clause-holds c stored = (Some c.in-Some.message, hears, by)
@@ -29,7 +29,7 @@ returns-then-not-confirm-clause-holds c stored = (Some c.in-Some.message, hears,
         → HoldsBy window m (first + length heard) first (receiver_stored c.confirm.new.self) (Some c.in-Some.message ∷ heard)
     by None m first heard aged = absurd (omega (arith, c.requires, aged.lasts))
     by (Some w) m first heard aged =
-        let before = lasts_aged w m first heard (receiver_stored c.args.self.now) (receiver_stored c.age_lasts.new.self) (ap display_stored c.age_lasts.ensures.display) (c.age_lasts.ensures.lasts w m first heard) aged in
+        let before = lasts_aged w m first heard (receiver_stored c.args.self.now) (receiver_stored c.age_lasts.new.self) (ap display_stored c.age_lasts.ensures.display) (c.age_lasts.ensures.lasts stored w m first heard) aged in
         message_not_counted (Some w) m first heard _ c.in-Some.message
         (subst (λ (b : Bool). Counts (Some w) m first (receiver_stored c.confirm.new.self) heard c.in-Some.message b) c.if-not-confirm.true
         (c.confirm.ensures.confirms (c.age_lasts.ensures.good stored) w m first heard before))
@@ -48,7 +48,7 @@ returns-clause-holds c stored = (Some c.in-Some.message, hears, by)
         → HoldsBy window m (first + length heard) first (receiver_stored record c.confirm.new.self { display = c.hear.new.self }) (Some c.in-Some.message ∷ heard)
     by None m first heard aged = absurd (omega (arith, c.requires, aged.lasts))
     by (Some w) m first heard aged =
-        let before = lasts_aged w m first heard (receiver_stored c.args.self.now) (receiver_stored c.age_lasts.new.self) (ap display_stored c.age_lasts.ensures.display) (c.age_lasts.ensures.lasts w m first heard) aged in
+        let before = lasts_aged w m first heard (receiver_stored c.args.self.now) (receiver_stored c.age_lasts.new.self) (ap display_stored c.age_lasts.ensures.display) (c.age_lasts.ensures.lasts stored w m first heard) aged in
         message_counted (Some w) m first heard _ _ c.in-Some.message refl (c.hear.ensures.holds (c.confirm.ensures.good (c.age_lasts.ensures.good stored)).display)
         (subst (λ (b : Bool). Counts (Some w) m first (receiver_stored c.confirm.new.self) heard c.in-Some.message b) c.if-not-confirm.false
         (c.confirm.ensures.confirms (c.age_lasts.ensures.good stored) w m first heard before))

@@ -13,7 +13,7 @@ returns-then-is_new-clause-stands c stored t input st =
     let here : grown.new.self.pi ≡ t.programme = grown.ensures.programme ∙ st.tuned in
     slot_stands t _ _ input c.args.group entry st (subst (λ pi. Hears pi c.args.group entry) here hears) (c.hear-is_new.ensures.programme ∙ grown.ensures.programme)
     (takes t.window t.dwell t.first st.heard record {
-      display = display_grown t.window t.dwell t.first _ _ st.heard grown.ensures.holds st.holds.display;
+      display = display_grown t.window t.dwell t.first _ _ st.heard (grown.ensures.holds stored.display) st.holds.display;
       lasts = with_display t.window t.dwell (newest_slot t.first st.heard) t.first (receiver_stored c.args.self.now) st.heard (display_stored grown.new.self) st.holds.lasts;
     })
 
@@ -24,7 +24,7 @@ returns-else-is_new-clause-stands c stored t input st =
     let here : grown.new.self.pi ≡ t.programme = grown.ensures.programme ∙ st.tuned in
     slot_stands t _ _ input c.args.group entry st (subst (λ pi. Hears pi c.args.group entry) here hears) (c.hear-is_new.ensures.programme ∙ grown.ensures.programme)
     (takes t.window t.dwell t.first st.heard record {
-      display = display_grown t.window t.dwell t.first _ _ st.heard grown.ensures.holds st.holds.display;
+      display = display_grown t.window t.dwell t.first _ _ st.heard (grown.ensures.holds stored.display) st.holds.display;
       lasts = with_display t.window t.dwell (newest_slot t.first st.heard) t.first (receiver_stored c.args.self.now) st.heard (display_stored grown.new.self) st.holds.lasts;
     })
 
