@@ -1,6 +1,7 @@
 -- How a source of lines goes on: from line to line, and from chunk to chunk.
-use Rattle.std.proofs.Common.{◌≡◌, ◌≢◌, ◌+◌, ◌-◌, ◌<◌, ◌≤◌, ℕ, Bool, List, [], ◌∷◌, ◌++◌, take, drop, length, length-append, Option, Some, None, Ok, Err, true, false, append_assoc, add-one, ap, sym, ◌∙◌, refl, arith, inl, inr}
+use Rattle.std.proofs.Common.{◌≡◌, ◌≢◌, ◌+◌, ◌-◌, ◌<◌, ◌≤◌, ◌⊎◌, ℕ, Bool, List, [], ◌∷◌, ◌++◌, take, drop, length, length-append, Option, Some, None, Ok, Err, true, false, append_assoc, add-one, ap, sym, ◌∙◌, refl, arith, inl, inr, nat_lt}
 use Rattle.std.specs.Prelude.{IfErr, IfNone, IfSome, MatchBool, MatchOption, MatchResult, Result}
+use Rattle.std.proofs.lemmas.Bool.Decides.{nat_tests}
 use Rattle.std.proofs.lemmas.List.{append-nil, drop-drop, drop-take, take-append-drop, take-take}
 use Rattle.std.proofs.lemmas.List.Elements.{All-append}
 use Rattle.std.proofs.Math.Seq.{drop-cons}
@@ -11,7 +12,7 @@ use Rattle.rds_log.specs.LogLines.{EndsAt, IsLine, Line, line_feed, text_of}
 use Rattle.rds_log.specs.LineSays.{LineSays}
 use Rattle.rds_log.specs.Inside.Cutter.{Closes, CutterStandsAt, IsBadLine}
 use Rattle.rds_log.specs.Reads.{MadeReads, ReadsUpTo}
-use Rattle.rds_log.specs.Inside.Source.{GivesNext, GivesStart, HasLine, HasNoNext, HasMade, IsAtLast, IsInside, IsThrough, ReaderState, SourceStandsAt, since, start_with, waiting}
+use Rattle.rds_log.specs.Inside.Source.{GivesNext, HasLine, HasNoNext, HasMade, IsAtLast, IsInside, IsThrough, ReaderState, SourceStandsAt, since, start_of, start_with, waiting}
 use Rattle.rds_io.specs.declared.fault.BadLine as fault
 use Rattle.rds_io.specs.declared.fault.LogFault.{LogFault}
 use Rattle.rds_io.specs.declared.fault.LogFault.TheVariants.{BadLine, TooLong}
@@ -97,12 +98,32 @@ line_of chunk at count n less =
 start_is : (s : Source) (lines : List Line) (begun last : Line) → CutterStandsAt s.cutter lines begun → start_with s last ≡ take 60 (begun ++ last)
 start_is s lines begun last cutter = ap (λ (l : Line). take 60 (l ++ last)) cutter.kept ∙ kept_of_more begun last
 
+-- where the newest line starts is known, or its first bytes were copied
+abbrev pub IsStartKept : Source → Source → ℕ → Type 0
+IsStartKept s after n = ((after.begun ≡ s.at) × (s.cutter.kept.items ≡ [])) ⊎ ((after.begun ≡ 65536) × (after.spanned.items ≡ start_with s (take n (waiting s))))
+
+starts : (s after : Source) (n : ℕ) → s.at + n < s.count → s.count ≤ 65536 → after.chunk ≡ s.chunk → after.at ≡ s.at + n + 1
+    → IsStartKept s after n → start_of after ≡ start_with s (take n (waiting s))
+starts s after n less room chunk at (inl (here, none)) =
+    let before : nat_lt after.begun after.at ≡ true = grind (arith, nat_tests, here, at) in
+    let count : after.at - 1 - after.begun ≡ s.at + n - s.at = omega (arith, here, at) in
+    rw (before, count, here, chunk, none) (ap (take 60) (sym (line_of s.chunk s.at s.count n less)))
+starts s after n less room chunk at (inr (elsewhere, copied)) =
+    let behind : nat_lt after.begun after.at ≡ false = grind (arith, nat_tests, elsewhere, at, less, room) in
+    rw behind copied
+
+-- the first bytes were copied
+starts_elsewhere : (after : Source) (first : List ℕ) → after.begun ≡ 65536 → after.at ≤ 65536 → after.spanned.items ≡ first → start_of after ≡ first
+starts_elsewhere after first elsewhere room copied =
+    let behind : nat_lt after.begun after.at ≡ false = grind (arith, nat_tests, elsewhere, room) in
+    rw behind copied
+
 -- the next line was closed, and says this
 gives_line : (s after : Source) (most n : ℕ) (start now : ReaderState) (lines : List Line) (said : LogLine) → SourceStandsAt s most start now lines → s.line ≡ Some n
     → s.at + n < s.count → ((begun : Line) → CutterStandsAt s.cutter lines begun → IsLine (take n (waiting s)) → Closes after.cutter lines (begun ++ take n (waiting s)) said)
     → after.chunk ≡ s.chunk → after.at ≡ s.at + n + 1 → after.count ≡ s.count → after.left ≡ s.left → after.ended ≡ s.ended
-    → MatchOption after.line (IsLine (waiting after)) (EndsAt (waiting after)) → GivesStart after most start now lines (start_with s (take n (waiting s))) (Some said)
-gives_line s after most n start now lines said stands line less closes chunk at count left ended next =
+    → MatchOption after.line (IsLine (waiting after)) (EndsAt (waiting after)) → start_of after ≡ start_with s (take n (waiting s)) → GivesNext after most start now lines (Some said)
+gives_line s after most n start now lines said stands line less closes chunk at count left ended next first =
     let not_ended = goes_on s most n start now lines line stands in
     let is = inside s most start now lines not_ended stands in
     let ends = an_end (waiting s) s.line n line is.holds.line in
@@ -130,7 +151,7 @@ gives_line s after most n start now lines said stands line less closes chunk at 
           };
         };
       },
-      start_is s lines is.holds.begun (take n (waiting s)) is.holds.cutter,
+      first ∙ start_is s lines is.holds.begun (take n (waiting s)) is.holds.cutter,
     )
 
 -- the next line is bad
@@ -162,11 +183,11 @@ pub gives_either : (s after : Source) (most n : ℕ) (start now : ReaderState) (
     → MatchResult result (Closes after.cutter lines (begun ++ take n (waiting s))) (λ bad. IsBadLine bad.number lines (begun ++ take n (waiting s))))
     → ((begun : Line) → CutterStandsAt s.cutter lines begun → IfErr result (λ _. after.cutter.kept.items ≡ take 60 (begun ++ take n (waiting s))))
     → after.chunk ≡ s.chunk → after.at ≡ s.at + n + 1 → after.count ≡ s.count → after.left ≡ s.left → after.ended ≡ s.ended
-    → MatchOption after.line (IsLine (waiting after)) (EndsAt (waiting after))
-    → MatchResult result (λ said. GivesStart after most start now lines (start_with s (take n (waiting s))) (Some said)) (λ bad. HasNoNext most start now lines after.cutter.kept.items (BadLine bad.number))
-gives_either s after most n start now lines (Ok said) stands line less closes first chunk at count left ended next =
-    gives_line s after most n start now lines said stands line less closes chunk at count left ended next
-gives_either s after most n start now lines (Err bad) stands line less closes first chunk at count left ended next =
+    → MatchOption after.line (IsLine (waiting after)) (EndsAt (waiting after)) → s.count ≤ 65536 → IsStartKept s after n
+    → MatchResult result (λ said. GivesNext after most start now lines (Some said)) (λ bad. HasNoNext most start now lines after.cutter.kept.items (BadLine bad.number))
+gives_either s after most n start now lines (Ok said) stands line less closes first chunk at count left ended next room kept =
+    gives_line s after most n start now lines said stands line less closes chunk at count left ended next (starts s after n less room chunk at kept)
+gives_either s after most n start now lines (Err bad) stands line less closes first chunk at count left ended next room kept =
     gives_bad s after most n bad.number start now lines stands line closes first
 
 -- all of the chunk is of the line that is begun
@@ -279,8 +300,8 @@ ends_between s after most start now lines last empty left ended none =
 
 -- the end, which closes a line
 pub ends_line : (s after : Source) (most : ℕ) (start now : ReaderState) (lines : List Line) (said : LogLine) (last : IsAtLast s most start now lines) → last.begun ≢ []
-    → Closes after.cutter lines (last.begun ++ []) said → after.left ≡ s.left → after.ended ≡ true → after.line ≡ None → GivesStart after most start now lines (start_with s []) (Some said)
-ends_line s after most start now lines said last some closed left ended none =
+    → Closes after.cutter lines (last.begun ++ []) said → after.left ≡ s.left → after.ended ≡ true → after.line ≡ None → after.begun ≡ 65536 → after.at ≤ 65536 → after.spanned.items ≡ start_with s [] → GivesNext after most start now lines (Some said)
+ends_line s after most start now lines said last some closed left ended none elsewhere room copied =
     let says : LineSays last.begun said = rw (append-nil last.begun) at closed.says in
     let through : IsThrough start now (last.begun ∷ lines) = record {
       text = text_of lines last.begun;
@@ -295,7 +316,7 @@ ends_line s after most start now lines said last some closed left ended none =
         reads = made_so_far s after most start now left reads;
         where_it_is = from_through after most start now (last.begun ∷ lines) after.ended ended through none;
       },
-      start_is s lines last.begun [] last.cutter ∙ ap (take 60) (append-nil last.begun),
+      starts_elsewhere after (start_with s []) elsewhere room copied ∙ start_is s lines last.begun [] last.cutter ∙ ap (take 60) (append-nil last.begun),
     )
 
 -- the end closes a bad line

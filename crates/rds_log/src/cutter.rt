@@ -1,5 +1,6 @@
 //! Cuts the bytes of a log into lines. Keeps the first 60 bytes of a line that spans two reads or is malformed.
-ghost use Rattle.std.specs.Prelude.{◌≡◌, ◌≤◌, ◌<◌, ◌+◌, ◌-◌, ◌^◌, ◌++◌, ◌↔◌, []};
+ghost use Rattle.std.specs.Prelude.{◌≡◌, ◌⊎◌, ◌≤◌, ◌<◌, ◌+◌, ◌-◌, ◌^◌, ◌++◌, ◌↔◌, []};
+ghost use Rattle.rds_log.specs.declared.cutter.TheConstants.{ELSEWHERE};
 ghost use Rattle.std.specs.Prelude.{IfErr, IfNone, IfSome, IsTrue, MatchResult, take};
 ghost use Rattle.rds_log.specs.LineSays.{IsBad, LineSays, deciding};
 ghost use Rattle.rds_log.specs.LogLines.{EndsAt, IsLine, Line};
@@ -15,6 +16,9 @@ use std::simd::prelude::*;
 
 /// How many bytes are searched for a line feed at once.
 const LANES: usize = 64;
+
+/// No place in a chunk, which is behind its last byte: the first bytes of the line are elsewhere.
+pub(crate) const ELSEWHERE: usize = 65536;
 
 /// Takes the bytes of a log, whatever the reads that they come in, and returns the meaning of each complete line.
 ///
@@ -68,7 +72,23 @@ impl Cutter {
         Ok(said)
     }
 
+    /// Returns where the line starts that ends with these bytes, which lie at this place of a chunk. If it does not
+    /// start there, the first bytes of the line are copied.
+    #[inline(always)]
+    pub(crate) fn begun_at(&self, place: usize, last: &[u8], start: &mut LineStart) -> usize
+        ensures { ((result ≡ place) × (self.now.kept.items ≡ [])) ⊎ ((result ≡ ELSEWHERE)
+            × (start.new.items ≡ take deciding (self.now.kept.items ++ last.now))) }
+    {
+        if self.kept.is_empty() {
+            return place;
+        }
+        self.copy_start(last, start);
+        ELSEWHERE
+    }
+
     /// Copies the first bytes of the line that ends with these bytes.
+    // Cold path.
+    #[inline(never)]
     pub(crate) fn copy_start(&self, last: &[u8], start: &mut LineStart)
         ensures { start.new.items ≡ take deciding (self.now.kept.items ++ last.now) }
     {

@@ -7,10 +7,9 @@ ghost use Rattle.rds_log.specs.Reads.{MadeReads};
 
 use crate::decode_log::MOST_READS;
 use crate::filler::{Filler, Filling, Times};
-use crate::log_line::{LineStart, LogLine};
+use crate::log_line::LogLine;
 use crate::notes::BadStart;
 use crate::source::Source;
-use arrayvec::ArrayVec;
 use rds_arrivals::Stretch;
 use rds_io::{LogFault, TellingRead, TellingWrite};
 
@@ -69,10 +68,9 @@ pub fn fill_with_notes<R: TellingRead, W: TellingWrite>(
     let mut source = Source::new(MOST_READS);
     let mut filler = Filler::new(filling);
     let mut said = LogLine::Skip;
-    let mut first: LineStart = ArrayVec::new();
     loop {
-        match source.next_with_start(reader, &mut said, &mut first) {
-            Ok(true) => filler.line(said, first.as_slice(), writer)?,
+        match source.next(reader, &mut said) {
+            Ok(true) => filler.line(said, source.start(), writer)?,
             Ok(false) => {
                 notes.untimed = filler.untimed;
                 notes.others = filler.others;

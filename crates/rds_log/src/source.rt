@@ -1,14 +1,15 @@
 //! Reads the lines of a log.
 ghost use Rattle.std.specs.Prelude.{◌≡◌, ◌≢◌, ◌≤◌, ◌<◌, ◌+◌, ◌-◌, ◌*◌, ◌^◌, ◌↔◌, []};
-ghost use Rattle.std.specs.Prelude.{ℕ, List, None, Some, IfErr, IfOk, IsTrue, MatchResult, OnOk, false, take, true};
+ghost use Rattle.std.specs.Prelude.{ℕ, List, None, Some, IfErr, IfOk, IsTrue, MatchResult, OnOk, false, length, take, true};
 ghost use Rattle.rds_log.specs.LogLines.{Line};
 ghost use Rattle.rds_log.specs.Notes.{HasNote};
 ghost use Rattle.rds_log.specs.Reads.{MadeReads, to_come};
 ghost use Rattle.rds_io.specs.declared.fault.LogFault.TheVariants as faults;
 
-use crate::cutter::{Cutter, line_end};
-use crate::log_line::{LineStart, LogLine};
+use crate::cutter::{Cutter, ELSEWHERE, line_end};
+use crate::log_line::{DECIDING, LineStart, LogLine};
 use crate::notes::BadStart;
+use arrayvec::ArrayVec;
 use rds_io::{BadLine, LogFault, TellingRead};
 
 /// The number of bytes of one read.
@@ -25,6 +26,10 @@ pub(crate) struct Source {
     count: usize,
     /// The length of the next line in these bytes. `None` if it does not end in them.
     line: Option<usize>,
+    /// Where the newest line starts in `chunk`, if all of it is there. If not, it is after its end.
+    begun: usize,
+    /// The first bytes of the newest line that was not all in one chunk.
+    spanned: LineStart,
     /// The number of lines so far, and the first bytes of a line that spans two reads.
     cutter: Cutter,
     /// The number of reads that are left.
@@ -38,9 +43,9 @@ pub(crate) struct Source {
 }
 
 impl Source {
-    ghost use Rattle.rds_log.specs.Inside.Source.{GivesNext, GivesStart, HasNoNext, IsAtLast, IsBadLineFault, ReadsOn};
+    ghost use Rattle.rds_log.specs.Inside.Source.{GivesNext, HasNoNext, IsAtLast, IsBadLineFault, ReadsOn, start_of};
     ghost use Rattle.rds_log.specs.Inside.Source.{ReaderState, SourceStandsAt, WhereItReads, budget, given_if};
-    ghost use Rattle.rds_log.specs.Inside.Source.{start_with, state_of, waiting};
+    ghost use Rattle.rds_log.specs.Inside.Source.{state_of};
 
     /// Starts a log of at most this many reads.
     pub(crate) fn new(reads: u64) -> Source
@@ -54,6 +59,8 @@ impl Source {
             at: 0,
             count: 0,
             line: None,
+            begun: ELSEWHERE,
+            spanned: ArrayVec::new(),
             cutter: Cutter::new(),
             left: reads,
             ended: false,
@@ -107,46 +114,18 @@ impl Source {
         }
     }
 
-    /// Reads the next line as `next` does, and copies its first bytes.
-    ///
-    /// # Errors
-    ///
-    /// A malformed line, a failed read, or no end within the reads that are left.
-    pub(crate) fn next_with_start<R: TellingRead>(
-        &mut self,
-        reader: &mut R,
-        said: &mut LogLine,
-        first: &mut LineStart,
-    ) -> Result<bool, LogFault>
-        ensures budget { IfOk result (λ given. given ≡ true → budget self.new < budget self.old) }
-        ensures there { self.old.line ≢ None → MatchResult result (λ given. given ≡ true) IsBadLineFault }
-        ensures reads { WhereItReads self.old (state_of R.remaining R.failures R.reads reader.old)
-            (λ most start _. MadeReads most start.reads (R.reads reader.new) result) }
-        ensures gives { WhereItReads self.old (state_of R.remaining R.failures R.reads reader.old)
-            (λ most start lines. MatchResult result
-            (λ given. GivesStart self.new most start (state_of R.remaining R.failures R.reads reader.new) lines
-            first.new.items (given_if given said.new))
-            (HasNoNext most start (state_of R.remaining R.failures R.reads reader.new) lines
-            self.new.cutter.kept.items)) }
+    /// Returns the first bytes of the line that was read last: those that decide its meaning.
+    pub(crate) fn start(&self) -> &[u8]
+        ensures bytes { result.now ≡ start_of self.now }
+        ensures short { length result.now ≤ 60 }
     {
-        loop {
-            if let Some(count) = self.line {
-                self.copy_start(count, first);
-                *said = self.close(count)?;
-                return Ok(true);
-            }
-            if self.ended {
-                return Ok(false);
-            }
-            if !self.read(reader)? {
-                self.cutter.copy_start(&[], first);
-                let Some(last) = self.last()? else {
-                    return Ok(false);
-                };
-                *said = last;
-                return Ok(true);
-            }
+        if self.begun >= self.at {
+            return self.spanned.as_slice();
         }
+        let end = self.at - 1;
+        let chunk: &[u8] = &self.chunk;
+        let line = &chunk[self.begun..end];
+        &line[..DECIDING.min(line.len())]
     }
 
     /// Returns how many lines were read, including skipped ones.
@@ -170,29 +149,19 @@ impl Source {
         }
     }
 
-    /// Copies the first bytes of the line with this many of the unread bytes.
-    fn copy_start(&self, count: usize, first: &mut LineStart)
-        requires { self.now.line ≡ Some count }
-        ensures { first.new.items ≡ start_with self.now (take count (waiting self.now)) }
-    {
-        let end = self.at + count;
-        let chunk: &[u8] = &self.chunk;
-        self.cutter.copy_start(&chunk[self.at..end], first);
-    }
-
     /// Returns the meaning of the line with this many of the unread bytes.
     #[inline(always)]
     fn close(&mut self, count: usize) -> Result<LogLine, BadLine>
         requires { self.old.line ≡ Some count }
         ensures budget { budget self.new < budget self.old }
         ensures gives { (now : ReaderState) → WhereItReads self.old now (λ most start lines.
-            MatchResult result (λ said. GivesStart self.new most start now lines
-            (start_with self.old (take count (waiting self.old))) (Some said))
+            MatchResult result (λ said. GivesNext self.new most start now lines (Some said))
             (λ bad. HasNoNext most start now lines self.new.cutter.kept.items (faults.BadLine bad.number))) }
     {
         let end = self.at + count;
         let chunk: &[u8] = &self.chunk;
         let last = &chunk[self.at..end];
+        self.begun = self.cutter.begun_at(self.at, last, &mut self.spanned);
         self.at = end + 1;
         self.line = line_end(&chunk[self.at..self.count]);
         self.cutter.close(last)
@@ -240,13 +209,15 @@ impl Source {
         ensures budget { budget self.new < budget self.old }
         ensures gives { (most : ℕ) (start now : ReaderState) (lines : List Line)
             → IsAtLast self.old most start now lines → MatchResult result
-            (GivesStart self.new most start now lines (start_with self.old []))
+            (GivesNext self.new most start now lines)
             (λ bad. HasNoNext most start now lines self.new.cutter.kept.items (faults.BadLine bad.number)) }
     {
         self.ended = true;
         if self.cutter.is_between() {
             return Ok(None);
         }
+        self.begun = ELSEWHERE;
+        self.cutter.copy_start(&[], &mut self.spanned);
         let said = self.cutter.close(&[])?;
         Ok(Some(said))
     }

@@ -2,7 +2,7 @@
 -- newest first. A source makes at most `most` reads. Its reader was in the state `start` before the first of them.
 use Rattle.std.specs.Prelude.{◌≡◌, ◌≤◌, ◌+◌, ◌-◌, ◌++◌, ◌∷◌}
 use Rattle.std.specs.Prelude.{ℕ, Bool, List, MatchBool, MatchOption, None, Ok, Err}
-use Rattle.std.specs.Prelude.{Option, Result, Some, drop, false, length, take, true}
+use Rattle.std.specs.Prelude.{Option, Result, Some, drop, false, if◌then◌else◌, length, nat_lt, take, true}
 use Rattle.std.specs.Io.KnownBytes.{Consumes, IsAtEnd}
 use Rattle.rds_io.specs.Told.{HasFailed, IsCalm, Traffic, count_after}
 use Rattle.rds_log.specs.LogLines.{AreLines, EndsAt, IsLine, Line, text_of}
@@ -95,17 +95,17 @@ HasNoNext most start now lines first (BadRow n) = ⊥
 HasNoNext most start now lines first Write = ⊥
 HasNoNext most start now lines first Memory = ⊥
 
--- the meaning of the line after these; there is none if the log ends with them
+-- the first bytes of the newest line: of the bytes before its line feed if all of it is in the chunk, and else a copy
+abbrev pub start_of : Source → List ℕ
+start_of s =
+    if nat_lt s.begun s.at then take deciding (take (s.at - 1 - s.begun) (drop s.begun s.chunk)) else s.spanned.items
+
+-- the meaning of the line after these, and its first bytes; there is none if the log ends with them
 abbrev pub GivesNext : Source → ℕ → ReaderState → ReaderState → List Line → Option LogLine → Type 0
 GivesNext s most start now lines None = SourceStandsAt s most start now lines × IsThrough start now lines
 GivesNext s most start now lines (Some said) =
     (line : Line) × LineSays line said × SourceStandsAt s most start now (line ∷ lines)
-
--- the same, and the first bytes of that line
-abbrev pub GivesStart : Source → ℕ → ReaderState → ReaderState → List Line → List ℕ → Option LogLine → Type 0
-GivesStart s most start now lines first None = GivesNext s most start now lines None
-GivesStart s most start now lines first (Some said) =
-    (line : Line) × LineSays line said × SourceStandsAt s most start now (line ∷ lines) × (first ≡ take deciding line)
+    × (start_of s ≡ take deciding line)
 
 -- the first bytes of the next line, if these bytes end it
 abbrev pub start_with : Source → Line → List ℕ

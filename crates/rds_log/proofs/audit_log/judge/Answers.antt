@@ -31,7 +31,7 @@ returns-in-Err-clause-notes g c =
 pub returns-in-Err-slot_blocks-clause-judges : goal.returns-in-Err-slot_blocks-clause-judges
 returns-in-Err-slot_blocks-clause-judges g c =
     let (lines, stands, audited, heard) = c.loop-notes.invariant.stands in
-    let (line, says, further) = rw (c.in-Ok-true.field-0-test, c.in-Slot.is) at (c.in-Ok-true.ensures.gives _ _ lines stands) in
+    let (line, says, further, starts) = rw (c.in-Ok-true.field-0-test, c.in-Slot.is) at (c.in-Ok-true.ensures.gives _ _ lines stands) in
     let after = c.slot_blocks.ensures.stands c.args.auditing.pi (spacing c.args.auditing) audited.slots audited.audit in
     stops_at_slot c.args.auditing c.args.reads c.next.new.self c.loop-notes.audit c.slot_blocks.new.self c.loop-notes.slots
     (state_of g.R.Read.remaining g.R.TellingRead.failures g.R.TellingRead.reads c.args.reader.now) (state_of g.R.Read.remaining g.R.TellingRead.failures g.R.TellingRead.reads c.next.new.reader)
@@ -40,7 +40,7 @@ returns-in-Err-slot_blocks-clause-judges g c =
 pub loop-notes-preserved : goal.loop-notes-preserved
 loop-notes-preserved g c =
     let (lines, stands, audited, heard) = c.loop-notes.invariant.stands in
-    let (line, said, further) = rw c.in-Ok-true.field-0-test at (c.in-Ok-true.ensures.gives _ _ lines stands) in
+    let (line, said, further, starts) = rw c.in-Ok-true.field-0-test at (c.in-Ok-true.ensures.gives _ _ lines stands) in
     let less = c.in-Ok-true.ensures.budget c.in-Ok-true.field-0-test in
     let before = c.loop-notes.invariant.slots in
     let groups = c.line.ensures.groups in
@@ -61,7 +61,7 @@ loop-notes-preserved g c =
 pub loop-notes-preserved-in_default : goal.loop-notes-preserved-in_default
 loop-notes-preserved-in_default g c =
     let (lines, stands, audited, heard) = c.loop-notes.invariant.stands in
-    let (line, said, further) = rw c.in-Ok-true.field-0-test at (c.in-Ok-true.ensures.gives _ _ lines stands) in
+    let (line, said, further, starts) = rw c.in-Ok-true.field-0-test at (c.in-Ok-true.ensures.gives _ _ lines stands) in
     let less = c.in-Ok-true.ensures.budget c.in-Ok-true.field-0-test in
     let before = c.loop-notes.invariant.slots in
     let groups = c.line.ensures.groups in

@@ -42,7 +42,7 @@ returns-in-Err-clause-decodes g c =
 pub returns-in_err-write-clause-decodes : goal.returns-in_err-write-clause-decodes
 returns-in_err-write-clause-decodes g c =
     let (lines, stands, decoded, heard) = c.loop-notes.invariant.stands in
-    let (line, says, further) = rw c.in-Ok-true.field-0-test at (c.in-Ok-true.ensures.gives _ _ lines stands) in
+    let (line, says, further, starts) = rw c.in-Ok-true.field-0-test at (c.in-Ok-true.ensures.gives _ _ lines stands) in
     let p = err_from_is_err_and c.from_residual-in_err-write.result c.from_residual-in_err-write.ensures.1 in
     rw (p.1, p.2) (ends_by_write c.args.decoding c.next.new.self c.args.reads
     (state_of g.R.Read.remaining g.R.TellingRead.failures g.R.TellingRead.reads c.args.reader.now) (state_of g.R.Read.remaining g.R.TellingRead.failures g.R.TellingRead.reads c.next.new.reader)
@@ -52,7 +52,7 @@ returns-in_err-write-clause-decodes g c =
 pub loop-notes-preserved : goal.loop-notes-preserved
 loop-notes-preserved g c =
     let (lines, stands, decoded, heard) = c.loop-notes.invariant.stands in
-    let (line, says, further) = rw c.in-Ok-true.field-0-test at (c.in-Ok-true.ensures.gives _ _ lines stands) in
+    let (line, says, further, starts) = rw c.in-Ok-true.field-0-test at (c.in-Ok-true.ensures.gives _ _ lines stands) in
     let less = c.in-Ok-true.ensures.budget c.in-Ok-true.field-0-test in
     let slots = c.line-in-Ok-true.ensures.slots in
     let before = c.loop-notes.invariant.slots in
@@ -77,7 +77,7 @@ returns-in-Err-clause-fault g c =
 pub loop-notes-preserved-in-loop-notes : goal.loop-notes-preserved-in-loop-notes
 loop-notes-preserved-in-loop-notes g c =
     let (lines, stands, decoded, heard) = c.loop-notes.invariant.stands in
-    let (line, says, further) = rw c.in-Ok-true.field-0-test at (c.in-Ok-true.ensures.gives _ _ lines stands) in
+    let (line, says, further, starts) = rw c.in-Ok-true.field-0-test at (c.in-Ok-true.ensures.gives _ _ lines stands) in
     let less = c.in-Ok-true.ensures.budget c.in-Ok-true.field-0-test in
     let slots = c.line-in-Ok-true.ensures.slots in
     let before = c.loop-notes.invariant.slots in

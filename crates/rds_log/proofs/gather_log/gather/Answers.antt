@@ -24,7 +24,7 @@ returns-in-Err-clause-fault g c =
 pub loop-notes-preserved : goal.loop-notes-preserved
 loop-notes-preserved g c =
     let (lines, stands, had, heard) = c.loop-notes.invariant.stands in
-    let (line, said, further) = rw c.in-Ok-true.field-0-test at (c.in-Ok-true.ensures.gives _ _ lines stands) in
+    let (line, said, further, starts) = rw c.in-Ok-true.field-0-test at (c.in-Ok-true.ensures.gives _ _ lines stands) in
     let less = c.in-Ok-true.ensures.budget c.in-Ok-true.field-0-test in
     let groups = c.line.ensures.groups in
     let counted = c.loop-notes.invariant.groups in
@@ -43,7 +43,7 @@ loop-notes-preserved g c =
 pub loop-notes-preserved-in_default : goal.loop-notes-preserved-in_default
 loop-notes-preserved-in_default g c =
     let (lines, stands, had, heard) = c.loop-notes.invariant.stands in
-    let (line, said, further) = rw c.in-Ok-true.field-0-test at (c.in-Ok-true.ensures.gives _ _ lines stands) in
+    let (line, said, further, starts) = rw c.in-Ok-true.field-0-test at (c.in-Ok-true.ensures.gives _ _ lines stands) in
     let less = c.in-Ok-true.ensures.budget c.in-Ok-true.field-0-test in
     let groups = c.line.ensures.groups in
     let counted = c.loop-notes.invariant.groups in

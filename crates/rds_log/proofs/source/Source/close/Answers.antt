@@ -10,3 +10,4 @@ returns-clause-gives c now most start lines stands =
     (λ begun cut line. rw same (c.close.ensures.closes (rw same at line) lines begun cut))
     (λ begun cut. rw same (c.close.ensures.kept lines begun cut)) refl refl refl refl refl
     (line_told _ c.line_end-self.result c.line_end-self.ensures.none c.line_end-self.ensures.some)
+    c.args.self.now.room (rw same c.begun_at-self.ensures)

@@ -1,4 +1,4 @@
-use Rattle.std.proofs.Common.{refl, rules}
+use Rattle.std.proofs.Common.{arith, refl, rules}
 use Rattle.std.proofs.lemmas.List.Elements.{All-nil}
 use Rattle.std.proofs.lemmas.Result.{err_from_is_err_and}
 use Rattle.rds_log.proofs.Reading.{ends_bad, ends_between, ends_line}
@@ -15,4 +15,4 @@ returns-in_err-said-clause-gives c most start now lines last =
 
 pub returns-clause-gives : goal.returns-clause-gives
 returns-clause-gives c most start now lines last =
-    ends_line c.args.self.now _ most start now lines c.in_ok-said.said last (λ e. (let between = (c.is_between.ensures lines last.begun last.cutter).1 e in let other = c.if-is_between.false in cc)) (c.in_ok-said.ensures.closes (All-nil _) lines last.begun last.cutter) refl refl c.requires.line
+    ends_line c.args.self.now _ most start now lines c.in_ok-said.said last (λ e. (let between = (c.is_between.ensures lines last.begun last.cutter).1 e in let other = c.if-is_between.false in cc)) (c.in_ok-said.ensures.closes (All-nil _) lines last.begun last.cutter) refl refl c.requires.line refl (omega (arith, c.args.self.now.within, c.args.self.now.room)) c.copy_start.ensures
