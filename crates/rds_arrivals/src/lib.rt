@@ -11,15 +11,17 @@
 
 mod calendar;
 mod grain;
+mod last_date;
 mod laws;
 mod lost;
 mod stamp;
 mod stretch;
 
 pub use grain::Grain;
+pub use last_date::LastDate;
 pub use laws::{
     a_slot_is_too_much, filled_logs_are_on_time, filled_logs_are_safe, lost_slots_are_counted,
 };
 pub use lost::{Break, lost_between, slots_in, time_of};
-pub use stamp::{Stamp, stamp_in};
+pub use stamp::{Stamp, stamp_after, stamp_in};
 pub use stretch::Stretch;

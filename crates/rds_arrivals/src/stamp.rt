@@ -3,6 +3,7 @@ ghost use Rattle.rds_arrivals.specs.Stamps as specs;
 ghost use Rattle.std.specs.Prelude.{◌≡◌, ◌≤◌, ◌<◌, ◌+◌, ◌^◌, ℕ, IfSome, IsTrue, length, slice_index};
 
 use crate::calendar::days_to;
+use crate::last_date::LastDate;
 
 /// A time in microseconds, and the place after it in the text.
 #[derive(Clone, Copy)]
@@ -16,13 +17,22 @@ const SECOND: u64 = 1_000_000;
 
 /// Returns the time that the text begins with: `@YYYY/MM/DD HH:MM:SS.CC`, `YYYY-MM-DDTHH:MM:SS.CC+HH:MM`, or seconds
 /// such as `12.5`. `None` if it does not begin with one, or if the time does not end with a space or the line.
-#[tactic(auto, unfolding(crate::specs::Stamps::stamp_in))]
 pub fn stamp_in(text: &[u8]) -> Option<Stamp>
     requires { length text.now ≤ 64 }
     ensures value { result ≡ specs.stamp_in text.now }
     ensures within { IfSome result (λ stamp. stamp.end ≤ length text.now) }
 {
-    let stamp = match dated(text) {
+    stamp_after(&mut LastDate::new(), text)
+}
+
+/// Does what [`stamp_in`] does for a text of many, and keeps its date: most times have the date of the one before.
+#[tactic(auto, unfolding(crate::specs::Stamps::stamp_in))]
+pub fn stamp_after(last: &mut LastDate, text: &[u8]) -> Option<Stamp>
+    requires { length text.now ≤ 64 }
+    ensures value { result ≡ specs.stamp_in text.now }
+    ensures within { IfSome result (λ stamp. stamp.end ≤ length text.now) }
+{
+    let stamp = match dated(last, text) {
         Some(stamp) => stamp,
         None => in_seconds(text)?,
     };
@@ -92,7 +102,7 @@ fn two_up_to(text: &[u8], place: usize, most: u64) -> Option<u64>
 }
 
 /// Returns the time of a date and a time of day.
-fn dated(text: &[u8]) -> Option<Stamp>
+fn dated(last: &mut LastDate, text: &[u8]) -> Option<Stamp>
     requires { length text.now ≤ 64 }
     ensures { result ≡ specs.dated text.now }
 {
@@ -100,7 +110,7 @@ fn dated(text: &[u8]) -> Option<Stamp>
     if text.len() < at + 19 {
         return None;
     }
-    let days = date_at(text, at)?;
+    let days = last.days_at(text, at)?;
     if !has_either(text, at + 10, b' ', b'T') {
         return None;
     }
@@ -111,7 +121,7 @@ fn dated(text: &[u8]) -> Option<Stamp>
 }
 
 /// Returns the day of a date at this place, such as `2024/06/01` or `2024-06-01`.
-fn date_at(text: &[u8], place: usize) -> Option<u64>
+pub(crate) fn date_at(text: &[u8], place: usize) -> Option<u64>
     requires { place ≤ 1 }
     ensures value { result ≡ specs.date_at text.now place }
     ensures small { IfSome result (λ days. days ≤ 4000000) }
