@@ -48,8 +48,8 @@ simulating dwell pty tp late = record {
 }
 
 -- the same with a window, without these options
-abbrev pub simulating_twice : ℕ → ℕ → Requested
-simulating_twice dwell window = record {
+abbrev pub simulating_confirmed : ℕ → ℕ → Requested
+simulating_confirmed dwell window = record {
   task = Simulate (record { pty = 0; tp = false }) 0 (Some window) false false;
   pi = codes "C201";
   dwell = dwell;

@@ -3,7 +3,7 @@ ghost use Rattle.std.specs.Prelude.{codes, false, true};
 ghost use Rattle.rds_cli.specs.CommandLine.{AskFor, AskForHelp, default_dwell};
 ghost use Rattle.rds_cli.specs.Examples.{AreNotTaken, CallForHelp, auditing, auditing_running, confirming, decoding};
 ghost use Rattle.rds_cli.specs.Examples.{decoding_why, encoding, filling, filling_one, quietly, simulating};
-ghost use Rattle.rds_cli.specs.Examples.{simulating_flag_alone, simulating_twice, typed, witnessing};
+ghost use Rattle.rds_cli.specs.Examples.{simulating_flag_alone, simulating_confirmed, typed, witnessing};
 
 /// Shows the definition at work. The arguments of README's examples are taken and ask for these tasks. A dwell of 0
 /// slots, a window of 1 or 256 slots, a programme type of 32, an option of another subcommand, a subcommand without a
@@ -44,7 +44,7 @@ pub fn words_of_the_examples()
         (simulating_flag_alone 8 false) }
     ensures sim_why { AskFor (typed (codes "rdsrt sim --pi C201 --m 8 --why --flag-alone"))
         (simulating_flag_alone 8 true) }
-    ensures sim_confirm { AskFor (typed (codes "rdsrt sim --pi C201 -m 64 --confirm 65")) (simulating_twice 64 65) }
+    ensures sim_confirm { AskFor (typed (codes "rdsrt sim --pi C201 -m 64 --confirm 65")) (simulating_confirmed 64 65) }
     ensures sim_quiet { AskFor (typed (codes "rdsrt sim --quiet --pi C201 --pty 10 --tp"))
         (quietly (simulating default_dwell 10 true 0)) }
     ensures help { AskForHelp (typed (codes "rdsrt --help")) }

@@ -9,6 +9,8 @@ mod blocks;
 #[cfg(test)]
 mod characters;
 #[cfg(test)]
+mod confirming;
+#[cfg(test)]
 mod encoders;
 #[cfg(test)]
 mod messages;
@@ -24,8 +26,6 @@ mod stored_audit;
 mod stored_encoder;
 #[cfg(test)]
 mod stored_receiver;
-#[cfg(test)]
-mod twice;
 #[cfg(test)]
 mod worlds;
 #[cfg(test)]

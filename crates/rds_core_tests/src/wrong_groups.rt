@@ -71,17 +71,17 @@ fn wrong_without_a_window(rt: HostRuntime) -> Result<(), Fail> {
 /// With a window of three slots, a wrong group may come again after three slots and not after two, and at once after a
 /// restart of the receiver. It is not shown.
 #[test]
-fn wrong_twice(rt: HostRuntime) -> Result<(), Fail> {
+fn wrong_confirmed(rt: HostRuntime) -> Result<(), Fail> {
     let lost = Reception::Lost;
     let rows = [
         (wrong()?, None),
         (lost, None),
-        (wrong()?, Some(StepRefused::WrongTwice(0))),
+        (wrong()?, Some(StepRefused::WrongConfirmed(0))),
         (lost, None),
         (wrong()?, None),
         (Reception::Restart, None),
         (wrong()?, None),
-        (wrong()?, Some(StepRefused::WrongTwice(0))),
+        (wrong()?, Some(StepRefused::WrongConfirmed(0))),
     ];
     let mut world = world_of(rt.alloc(), window_config()?, 1)?;
     for (reception, wanted) in rows {
@@ -94,13 +94,13 @@ fn wrong_twice(rt: HostRuntime) -> Result<(), Fail> {
 
 /// Slots that are played in one call are refused so too.
 #[test]
-fn wrong_twice_not_played(rt: HostRuntime) -> Result<(), Fail> {
+fn wrong_confirmed_not_played(rt: HostRuntime) -> Result<(), Fail> {
     let events = [
         slot_event(Command::Quiet, true, &[wrong()?])?,
         slot_event(Command::Quiet, true, &[wrong()?])?,
     ];
     let refused = not_played(rt.alloc(), window_config()?, 1, &events);
-    same(&rt, refused, Some(PlayRefused::WrongTwice(1, 0)));
+    same(&rt, refused, Some(PlayRefused::WrongConfirmed(1, 0)));
     Ok(())
 }
 

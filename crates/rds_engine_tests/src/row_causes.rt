@@ -129,7 +129,7 @@ const WORDS: [(RowCause, &str); 29] = [
         "RECEPTIONS: receiver 1: a wrong group; only receivers with --confirm may get one",
     ),
     (
-        RowCause::WrongTwice(0),
+        RowCause::WrongConfirmed(0),
         "RECEPTIONS: receiver 0: the same wrong group again within the window of --confirm",
     ),
     (

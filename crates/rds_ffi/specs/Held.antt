@@ -7,7 +7,7 @@ use Rattle.rds_fields.specs.declared.message.Message.{Message}
 use Rattle.rds_receiver.specs.Receipts.{AreHeard, Fragment, Segment, Tuning, name_fragment, segments, text_fragment}
 use Rattle.rds_receiver.specs.Run.{cells_of, run}
 use Rattle.rds_receiver.specs.Holds.{HasAge, newest_slot}
-use Rattle.rds_receiver.specs.Twice.{counted}
+use Rattle.rds_receiver.specs.Confirmed.{counted}
 use Rattle.rds_ffi.specs.declared.held.RdsrtHeld.{RdsrtHeld}
 use Rattle.rds_ffi.specs.declared.held.RdsrtSegments.{RdsrtSegments}
 

@@ -5,7 +5,7 @@ ghost use Rattle.rds_fields.specs.declared.message.Message.{Message};
 ghost use Rattle.rds_receiver.specs.Receipts.{AreHeard};
 ghost use Rattle.rds_receiver.specs.Shown.{IsView, ShownView};
 ghost use Rattle.rds_receiver.specs.Tags.{pair_held};
-ghost use Rattle.rds_receiver.specs.Twice.{counted};
+ghost use Rattle.rds_receiver.specs.Confirmed.{counted};
 ghost use Rattle.rds_ffi.specs.Codes.{RDSRT_BAD_ARGUMENT, RDSRT_CHANGED, RDSRT_OK};
 ghost use Rattle.rds_ffi.specs.ReceiverInMemory.{ReceiverInMemory, WhereItIs};
 ghost use Rattle.rds_ffi.specs.Slots.{Bring, IsCount};

@@ -5,7 +5,7 @@ ghost use Rattle.rds_fields.specs.declared.message.Message.{Message};
 ghost use Rattle.rds_receiver.specs.Receipts.{AreHeard};
 ghost use Rattle.rds_receiver.specs.Shown.{IsShortText, IsView};
 ghost use Rattle.rds_receiver.specs.Tags.{cut_by, pair_held, tag_of};
-ghost use Rattle.rds_receiver.specs.Twice.{counted};
+ghost use Rattle.rds_receiver.specs.Confirmed.{counted};
 ghost use Rattle.rds_ffi.specs.ReceiverInMemory.{WhereItIs};
 ghost use Rattle.rds_ffi.specs.Viewed as specs;
 ghost use Rattle.rds_ffi.specs.Viewed.{AreTagsOf, IsPlainItem, IsPlainName, IsPlainText, IsPlainView, IsTagOf};

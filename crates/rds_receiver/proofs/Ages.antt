@@ -27,7 +27,7 @@ use Rattle.rds_receiver.specs.declared.why.WhyNone.TheVariants.{Dropped, Incompl
 use Rattle.rds_receiver.proofs.NotShown.{why_held}
 use Rattle.rds_receiver.proofs.Runs.{equal_or_not, run_older, run_over, run_recent}
 use Rattle.rds_receiver.proofs.Steps.{name_heard}
-use Rattle.rds_receiver.proofs.TwiceSteps.{is_not_held}
+use Rattle.rds_receiver.proofs.ConfirmingSteps.{is_not_held}
 use Rattle.rds_receiver.specs.declared.display.StoredDisplay.{StoredDisplay}
 use Rattle.rds_receiver.specs.declared.display.StoredSegments.{StoredSegments}
 use Rattle.rds_fields.specs.declared.stored.StoredPair.{StoredPair}

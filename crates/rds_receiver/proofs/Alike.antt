@@ -12,7 +12,7 @@ use Rattle.rds_receiver.specs.Holds.{HoldsAt, MakeAlike, ShowsAlike, newest_slot
 use Rattle.rds_receiver.specs.StandsAt.{StandsAt}
 use Rattle.rds_receiver.specs.State.{DisplayState, ReceiverState}
 use Rattle.rds_receiver.specs.Tags.{item_of, tag_of}
-use Rattle.rds_receiver.specs.Twice.{counted}
+use Rattle.rds_receiver.specs.Confirmed.{counted}
 use Rattle.rds_receiver.specs.OneView.{same_heard}
 use Rattle.rds_receiver.proofs.Shows.{name_cells, name_shown, pair_is, shows_counted, text_cells, text_shown}
 

@@ -6,5 +6,5 @@ pub mod Shows
 pub mod WorkedRows
 pub mod Alike
 pub mod NotShown
-pub mod TwiceSteps
+pub mod ConfirmingSteps
 pub mod Ages

@@ -12,8 +12,8 @@ use Rattle.rds_receiver.specs.Shown.{IsNameShown, IsShown, IsTextShown}
 use Rattle.rds_receiver.specs.StandsAt.{StandsAt, WhatItHeard}
 use Rattle.rds_receiver.specs.State.{DisplayState, ReceiverState}
 use Rattle.rds_receiver.specs.Tags.{pair_from, pair_held}
-use Rattle.rds_receiver.specs.Twice.{counted}
-use Rattle.rds_receiver.specs.TwiceLemmas.{newest_counted}
+use Rattle.rds_receiver.specs.Confirmed.{counted}
+use Rattle.rds_receiver.specs.ConfirmedLemmas.{newest_counted}
 use Rattle.rds_receiver.proofs.Runs.{run_at_newest}
 
 -- the cells and the pair held are those of the definition

@@ -10,7 +10,7 @@ use Rattle.rds_receiver.specs.NotShown.{whys_of}
 use Rattle.rds_receiver.specs.Receipts.{Segment, Tuning, name_fragment, text_fragment}
 use Rattle.rds_receiver.specs.Run.{begins_in, cells_of, run_at}
 use Rattle.rds_receiver.specs.Tags.{is_known, item_of, pair_held, tag_of}
-use Rattle.rds_receiver.specs.Twice.{confirmed}
+use Rattle.rds_receiver.specs.Confirmed.{confirmed}
 use Rattle.rds_receiver.specs.declared.why.WhyNone.TheVariants.{Dropped, Incomplete}
 
 abbrev Heard : Type 0

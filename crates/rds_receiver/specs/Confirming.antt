@@ -10,7 +10,7 @@ use Rattle.rds_receiver.specs.Receipts.{Hears, Segment, name_fragment, segments,
 use Rattle.rds_receiver.specs.Run.{begins_in, run}
 use Rattle.rds_receiver.specs.Holds.{HoldsAt, newest_slot}
 use Rattle.rds_receiver.specs.State.{ReceiverState}
-use Rattle.rds_receiver.specs.Twice.{confirmed, counted_in, last_at, last_pair}
+use Rattle.rds_receiver.specs.Confirmed.{confirmed, counted_in, last_at, last_pair}
 use Rattle.rds_receiver.specs.declared.last.StoredLastSegments.{StoredLastSegments}
 
 -- the last segment at an address; it confirms the same one for `left` more slots, the current one included

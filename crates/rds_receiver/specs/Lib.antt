@@ -2,7 +2,7 @@ pub mod Receipts
 pub mod Run
 pub mod Chained
 pub mod Tags
-pub mod Twice
+pub mod Confirmed
 pub mod Shown
 pub mod State
 pub mod Holds
@@ -14,4 +14,4 @@ pub mod Older
 pub mod Codes
 pub mod Borrowed
 pub mod OneView
-pub mod TwiceLemmas
+pub mod ConfirmedLemmas

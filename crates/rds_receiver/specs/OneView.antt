@@ -10,7 +10,7 @@ use Rattle.rds_receiver.specs.Receipts.{AreHeard, Hears, Tuning, name_fragment, 
 use Rattle.rds_receiver.specs.Run.{cells_of, run_at}
 use Rattle.rds_receiver.specs.Shown.{IsNameShown, IsShown, IsTextShown, IsView, ShowsView, ShownView}
 use Rattle.rds_receiver.specs.Tags.{item_of, pair_held, tag_of}
-use Rattle.rds_receiver.specs.Twice.{counted}
+use Rattle.rds_receiver.specs.Confirmed.{counted}
 
 -- two messages heard in one slot are equal
 pub same_heard_in : (pi : ℕ) (slot : Option Group) (m n : Option Message) → Hears pi slot m → Hears pi slot n → m ≡ n

@@ -12,7 +12,7 @@ use Rattle.rds_assembly.specs.Whole.{IsWholeName, IsWholeText}
 use Rattle.rds_receiver.specs.Receipts.{AreHeard, Tuning, name_fragment, text_fragment}
 use Rattle.rds_receiver.specs.Run.{cells_of, run_at}
 use Rattle.rds_receiver.specs.Tags.{item_of, pair_held, tag_of}
-use Rattle.rds_receiver.specs.Twice.{counted}
+use Rattle.rds_receiver.specs.Confirmed.{counted}
 
 -- the value that the cells make whole is shown; if they make none whole, nothing is shown
 abbrev pub IsShown : (Cells → List ℕ → Type 0) → Cells → Option (List ℕ) → Type 0

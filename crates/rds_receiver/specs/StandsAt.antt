@@ -7,7 +7,7 @@ use Rattle.rds_receiver.specs.Confirming.{HoldsBy}
 use Rattle.rds_receiver.specs.Holds.{newest_slot}
 use Rattle.rds_receiver.specs.Shown.{IsView, ShownView}
 use Rattle.rds_receiver.specs.State.{ReceiverState}
-use Rattle.rds_receiver.specs.Twice.{counted}
+use Rattle.rds_receiver.specs.Confirmed.{counted}
 
 -- the receiver has this tuning, and its state follows from what it heard of the input
 pub record StandsAt (t : Tuning) (r : ReceiverState) (input : List (Option Group)) : Type 0 where

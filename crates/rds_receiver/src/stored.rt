@@ -5,7 +5,7 @@ ghost use Rattle.rds_receiver.specs.Confirming.{ConfirmsIf, HearsSlot, HoldsLast
 ghost use Rattle.rds_receiver.specs.Holds.{HoldsAt, ShowsAlike, newest_slot};
 ghost use Rattle.rds_receiver.specs.StandsAt.{KeepsView, TakesSlot};
 ghost use Rattle.rds_receiver.specs.Stored.{IsStored, display_stored, receiver_stored};
-ghost use Rattle.rds_receiver.specs.Twice.{counted_in};
+ghost use Rattle.rds_receiver.specs.Confirmed.{counted_in};
 
 use crate::display::StoredDisplay;
 use crate::last::{StoredLastSegments, TEXT_CELLS};

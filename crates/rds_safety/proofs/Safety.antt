@@ -17,9 +17,9 @@ use Rattle.rds_safety.proofs.Bytes.{name_service, text_service}
 use Rattle.rds_safety.proofs.OneBroadcast.{PicksWhatIsMarked, RunLiesInOne, heard_run_lies}
 use Rattle.rds_safety.proofs.OwnClocks.{late_listens, own_listens, slow_listens}
 use Rattle.rds_safety.proofs.Pairs.{shows_tags}
-use Rattle.rds_safety.specs.Twice.{ListensTwice, lateness_of_two}
+use Rattle.rds_safety.specs.Confirmed.{ListensConfirmed, lateness_of_two}
 use Rattle.rds_safety.proofs.Sources.{near_sources, shown_on_air}
-use Rattle.rds_safety.proofs.Twice.{twice_listens}
+use Rattle.rds_safety.proofs.Confirmed.{confirmed_listens}
 
 pub text_fragments_marked : PicksWhatIsMarked text_fragment text_mark
 text_fragments_marked = record { picked = picks; unmarked = λ entry none. none.text }
@@ -75,10 +75,10 @@ are_safe_by_own_clocks laws d m t plans log receivers law all =
     are_safe laws d m t plans log law receivers (λ i o h. own_listens d m t log (slice_index_or receivers i o) (all i o h))
 
 -- if all receivers show only what they heard twice, plans that are lawful for the lateness of two receipts are enough
-pub are_safe_twice : PlanLaws → (w k m t : ℕ) (plans : Plans) (log : List (Option Message)) (receivers : List Listener)
-    → AreLawful (m + lateness_of_two w k) plans log → All (ListensTwice w k m t log) receivers → AreSafe (m + lateness_of_two w k) m t plans log receivers
-are_safe_twice laws w k m t plans log receivers law all =
-    are_safe laws (m + lateness_of_two w k) m t plans log law receivers (λ i o h. twice_listens w k m t log (slice_index_or receivers i o) (all i o h))
+pub are_safe_confirmed : PlanLaws → (w k m t : ℕ) (plans : Plans) (log : List (Option Message)) (receivers : List Listener)
+    → AreLawful (m + lateness_of_two w k) plans log → All (ListensConfirmed w k m t log) receivers → AreSafe (m + lateness_of_two w k) m t plans log receivers
+are_safe_confirmed laws w k m t plans log receivers law all =
+    are_safe laws (m + lateness_of_two w k) m t plans log law receivers (λ i o h. confirmed_listens w k m t log (slice_index_or receivers i o) (all i o h))
 
 -- if all clocks count at most k slots too few within m, plans that are lawful for m + k are enough
 pub are_safe_by_slow_clocks : PlanLaws → (m k t : ℕ) (plans : Plans) (log : List (Option Message)) (receivers : List Listener)

@@ -8,9 +8,9 @@ pub mod Source
 pub mod Safe
 pub mod OwnClock
 pub mod Near
-pub mod Twice
+pub mod Confirmed
 pub mod Laws
-pub mod TwiceLaws
+pub mod ConfirmedLaws
 pub mod ClockBounds
 pub mod FlagAlone
 pub mod FlagLaws

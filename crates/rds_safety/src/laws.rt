@@ -17,10 +17,10 @@ ghost use Rattle.rds_safety.specs.Laws.{LawfulPlansAreSafeOnTime};
 ghost use Rattle.rds_safety.specs.Laws.{NoSlotLateIsOnTime, OnTimeIsNoSlotLate, OneSlotLessMixes};
 ghost use Rattle.rds_safety.specs.Laws.{OneSlotLessMixesByOwnClock, OneSlotLessMixesForSlowClocks};
 ghost use Rattle.rds_safety.specs.Laws.{OneSlotLessMixesOnTime, PlanLaws, TheTrueClockIsNoSlotLate};
-ghost use Rattle.rds_safety.specs.TwiceLaws.{LawfulPlansAreSafeTwice, OneSlotLessMixesTwice};
-ghost use Rattle.rds_safety.specs.TwiceLaws.{OneWrongMessageMixes, WhoHearsTwiceListensNear};
-ghost use Rattle.rds_safety.specs.TwiceLaws.{WhoHearsBothSegmentsTwiceShowsTheName};
-ghost use Rattle.rds_safety.specs.TwiceLaws.{WhoHearsEachSegmentTwiceShowsTheText, WhoIsHandedWrongGroupsListens};
+ghost use Rattle.rds_safety.specs.ConfirmedLaws.{LawfulPlansAreSafeConfirmed, OneSlotLessMixesConfirmed};
+ghost use Rattle.rds_safety.specs.ConfirmedLaws.{OneWrongMessageMixes, WhoConfirmsListensNear};
+ghost use Rattle.rds_safety.specs.ConfirmedLaws.{WhoHearsBothSegmentsTwiceShowsTheName};
+ghost use Rattle.rds_safety.specs.ConfirmedLaws.{WhoHearsEachSegmentTwiceShowsTheText, WhoIsHandedWrongGroupsListens};
 ghost use Rattle.rds_safety.specs.Laws.{WhoIsHandedGroupsListens, WhoIsHandedGroupsListensByOwnClock};
 
 use rds_encoder::{broadcasts_are_spaced, numbers_name_broadcasts};
@@ -104,13 +104,13 @@ pub fn the_dwell_is_the_least()
 ///   in which the receiver heard nothing wrong and nothing late.
 ///
 /// For a receiver that shows what it heard once, no spacing is enough (if M > 1).
-pub fn safe_if_heard_twice()
+pub fn safe_if_confirmed()
     ensures listens { WhoIsHandedWrongGroupsListens }
-    ensures near { WhoHearsTwiceListensNear }
-    ensures safe { LawfulPlansAreSafeTwice }
+    ensures near { WhoConfirmsListensNear }
+    ensures safe { LawfulPlansAreSafeConfirmed }
     ensures text { WhoHearsEachSegmentTwiceShowsTheText }
     ensures name { WhoHearsBothSegmentsTwiceShowsTheName }
-    ensures least { OneSlotLessMixesTwice }
+    ensures least { OneSlotLessMixesConfirmed }
     ensures once { OneWrongMessageMixes }
 {
     plan_laws();

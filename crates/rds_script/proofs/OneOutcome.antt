@@ -11,7 +11,7 @@ use Rattle.rds_charset.specs.Laws.{TextIsReadOneWay}
 use Rattle.rds_encoder.specs.Known.{sent_is_known as sent_is_known_in}
 use Rattle.rds_encoder.specs.Sent.{IsSent}
 use Rattle.rds_receiver.specs.OneView.{same_heard, same_view}
-use Rattle.rds_receiver.specs.Twice.{counted}
+use Rattle.rds_receiver.specs.Confirmed.{counted}
 use Rattle.rds_receiver.specs.Shown.{ShownView, ShowsView}
 use Rattle.rds_world.specs.Event.{Event}
 use Rattle.rds_safety.specs.Late.{Input}

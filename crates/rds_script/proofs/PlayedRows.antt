@@ -192,7 +192,7 @@ not_taken : (k : Premise) (receivers : ℕ) (e : Event) (before : List Event) (w
 not_taken k receivers e before step.ReceiverCount refused taken = refused taken.count
 not_taken k receivers e before (step.Late r) refused taken = refused.late.late (taken.due r)
 not_taken k receivers e before (step.Wrong r) refused taken = refused.unfit.1.breaks (taken.fit r)
-not_taken k receivers e before (step.WrongTwice r) refused taken = refused.unfit.1.breaks (taken.fit r)
+not_taken k receivers e before (step.WrongConfirmed r) refused taken = refused.unfit.1.breaks (taken.fit r)
 
 -- a slot that is refused: the record is no row, after rows or as the first one, for the cause that is found
 pub refused_on : TextIsReadOneWay → (played : Played) (k : Premise) (first slot receivers : ℕ) (row : Record) (e : Event) (events : List Event) (why : StepRefused) (cause : RowCause)

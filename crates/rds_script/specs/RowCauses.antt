@@ -256,7 +256,7 @@ IsEventCause form p before row (cause.AlreadyHanded receiver late) =
     × (s : ℕ) × (last_named receiver asks.events ≡ Some s) × (length before - late ≤ s)
 IsEventCause form p before row (cause.Wrong receiver) =
     BreaksPremise form p before row receiver × (p.window ≡ None)
-IsEventCause form p before row (cause.WrongTwice receiver) =
+IsEventCause form p before row (cause.WrongConfirmed receiver) =
     BreaksPremise form p before row receiver × IsSome p.window
 IsEventCause form p before row _ = ⊥
 

@@ -111,7 +111,7 @@ pub enum RowCause {
     Wrong(usize),
     /// The receiver gets a segment or a pair of tags that was wrong in the same way less than W slots before.
     #[error("RECEPTIONS: receiver {0}: the same wrong group again within the window of --confirm")]
-    WrongTwice(usize),
+    WrongConfirmed(usize),
 }
 
 /// A number in the argument of `tags`. The variants have the order of the argument.

@@ -360,7 +360,7 @@ pub(crate) fn refused_cause(
             late_cause(receiver, lateness_at(receptions, receiver), premise, slot)
         }
         StepRefused::Wrong(receiver) => RowCause::Wrong(receiver),
-        StepRefused::WrongTwice(receiver) => RowCause::WrongTwice(receiver),
+        StepRefused::WrongConfirmed(receiver) => RowCause::WrongConfirmed(receiver),
     }
 }
 

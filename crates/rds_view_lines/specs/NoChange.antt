@@ -5,7 +5,7 @@ use Rattle.std.proofs.lemmas.Slice.Eq.{bytes_eq-Decides}
 use Rattle.rds_assembly.specs.ServiceLaws.{no_name_of_none, no_text_of_none}
 use Rattle.rds_receiver.specs.Receipts.{Tuning}
 use Rattle.rds_receiver.specs.Shown.{IsView, ShownView, ShowsView}
-use Rattle.rds_receiver.specs.Twice.{counted_in}
+use Rattle.rds_receiver.specs.Confirmed.{counted_in}
 use Rattle.rds_receiver.specs.declared.why.Whys.{Whys}
 use Rattle.rds_view_lines.specs.Output.{change, is_same_item, is_same_tag, is_same_text, nothing_shown}
 

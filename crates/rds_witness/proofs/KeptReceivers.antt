@@ -10,7 +10,7 @@ use Rattle.rds_receiver.specs.Receipts.{AreHeard, Fragment, Tuning, name_fragmen
 use Rattle.rds_receiver.specs.Run.{run_at}
 use Rattle.rds_receiver.specs.StandsAt.{StandsAt, WhereItStands}
 use Rattle.rds_receiver.specs.Tags.{pair_held}
-use Rattle.rds_receiver.specs.Twice.{counted}
+use Rattle.rds_receiver.specs.Confirmed.{counted}
 use Rattle.rds_receiver.specs.Stored.{IsStored, receiver_stored}
 use Rattle.rds_receiver.specs.State.{ReceiverState}
 use Rattle.rds_witness.specs.Covered.{Covers, IsAt, IsCovered, IsInputPart, IsRunPart, Keeps}

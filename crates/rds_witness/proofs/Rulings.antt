@@ -15,7 +15,7 @@ use Rattle.rds_receiver.specs.Shown.{IsNameShown, IsShown, IsTextShown, IsView, 
 use Rattle.rds_receiver.specs.Stored.{receiver_stored}
 use Rattle.rds_fields.specs.Tag.{tag_in}
 use Rattle.rds_receiver.specs.Tags.{cut_by, pair_held, tag_of}
-use Rattle.rds_receiver.specs.Twice.{counted}
+use Rattle.rds_receiver.specs.Confirmed.{counted}
 use Rattle.rds_witness.specs.Covered.{Covers, IsCovered, IsInputPart}
 use Rattle.rds_witness.specs.Lost.{got}
 use Rattle.rds_witness.specs.Mix.{Has, IsMix, Name, Tag, Text, Thing, until}

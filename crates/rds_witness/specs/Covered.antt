@@ -8,7 +8,7 @@ use Rattle.rds_receiver.specs.Receipts.{AreHeard, Fragment, Tuning, name_fragmen
 use Rattle.rds_receiver.specs.Run.{run_at}
 use Rattle.rds_receiver.specs.StandsAt.{StandsAt}
 use Rattle.rds_receiver.specs.Stored.{IsStored, receiver_stored}
-use Rattle.rds_receiver.specs.Twice.{counted}
+use Rattle.rds_receiver.specs.Confirmed.{counted}
 use Rattle.rds_witness.specs.Part.{IsPart, IsTagPart}
 use Rattle.rds_witness.specs.declared.covering.Lossy.{Lossy}
 

@@ -8,7 +8,7 @@ use Rattle.rds_world.specs.declared.event.Reception.TheVariants.{Got, Lost, Wron
 use Rattle.rds_world.specs.Due.{AreDue, IsDue, last_named, named}
 use Rattle.rds_world.specs.Event.{Event}
 use Rattle.rds_safety.specs.Late.{CameFrom, HasEntry, Input, SentIn}
-use Rattle.rds_safety.specs.Twice.{IsHeardWithWrong}
+use Rattle.rds_safety.specs.Confirmed.{IsHeardWithWrong}
 use Rattle.rds_world.specs.Slots.{input_of, log, received, sent_at, sent_back}
 use Rattle.rds_safety.proofs.Entries.{before_end}
 use Rattle.rds_safety.proofs.OnTime.{IsSoon}

@@ -2,9 +2,9 @@
 use Rattle.std.proofs.Common.{◌≡◌, ◌⊎◌, ◌<◌, ◌≤◌, ◌+◌, ◌-◌, ℕ, zero, suc, true, List, [], ◌∷◌, Option, Some, None, length, take, refl, sym, ap, subst, inl, inr, arith}
 use Rattle.std.specs.Prelude.{Contains, slice_index_or}
 use Rattle.rds_fields.specs.declared.message.Message.{Message}
-use Rattle.rds_receiver.specs.Twice.{needs_two}
+use Rattle.rds_receiver.specs.Confirmed.{needs_two}
 use Rattle.rds_safety.specs.Late.{HasEntry, Input, IsHeardLate, IsOfItsOrigin}
-use Rattle.rds_safety.specs.Twice.{IsHeardWithWrong, NoneWrongTwice, WasSent}
+use Rattle.rds_safety.specs.Confirmed.{IsHeardWithWrong, NoWrongConfirmed, WasSent}
 use Rattle.rds_safety.proofs.Entries.{before_end, one_entry}
 use Rattle.rds_world.specs.declared.event.Reception.{Reception}
 use Rattle.rds_world.specs.declared.event.Reception.TheVariants.{Got, Lost, Wrong, Restart}
@@ -82,7 +82,7 @@ both w first heard origins x o t u (inl was) = inl (later first heard origins x 
 both w first heard origins x o t u (inr was) = inr (later first heard origins x o u was)
 
 once_with : (w : ℕ) (r : Reception) (slot : ℕ) (sent : List (Option Message)) (input : Input) (wrong : List (Option Message)) → IsFit (Some w) wrong r → length input.origins ≡ length input.heard
-    → length wrong ≡ length input.heard → AreSentOrWrong input wrong → NoneWrongTwice w input → NoneWrongTwice w (received r slot sent input)
+    → length wrong ≡ length input.heard → AreSentOrWrong input wrong → NoWrongConfirmed w input → NoWrongConfirmed w (received r slot sent input)
 once_with w (Got back) slot sent input wrong fit beside long said old t u m two before soon a (inl q) = inr record { slot = slot - back; from = inl (omega (arith, q.0, beside), refl) }
 once_with w (Got back) slot sent input wrong fit beside long said old t u m two before soon (inl p) (inr b) = absurd (omega (arith, p.0, before, before_end input.first input.heard u (Some m) b))
 once_with w (Got back) slot sent input wrong fit beside long said old t u m two before soon (inr a) (inr b) = both w _ _ _ _ _ t u (old t u m two before soon a b)
@@ -136,7 +136,7 @@ module _ (d i : ℕ) where
   said (e ∷ before) =
       said_with (slice_index_or e.receptions i Lost) (length before) (log d (e ∷ before)) (input_of d i before) (wrong_of i before) (beside before) (long before) (said before)
 
-  once : (w : ℕ) (events : List Event) → AreFit (Some w) events → NoneWrongTwice w (input_of d i events)
+  once : (w : ℕ) (events : List Event) → AreFit (Some w) events → NoWrongConfirmed w (input_of d i events)
   once w [] fit = λ t u m two before soon a b. absurd a
   once w (e ∷ before) fit =
       once_with w (slice_index_or e.receptions i Lost) (length before) (log d (e ∷ before)) (input_of d i before) (wrong_of i before) (fit.0 i) (beside before) (long before) (said before)

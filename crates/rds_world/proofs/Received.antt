@@ -9,7 +9,7 @@ use Rattle.rds_receiver.specs.Receipts.{Hears}
 use Rattle.rds_receiver.specs.OneView.{same_heard}
 use Rattle.rds_receiver.specs.Shown.{IsView, ShowsView}
 use Rattle.rds_receiver.specs.StandsAt.{KeepsView, TakesSlot}
-use Rattle.rds_receiver.specs.Twice.{counted}
+use Rattle.rds_receiver.specs.Confirmed.{counted}
 use Rattle.rds_safety.specs.Late.{Input}
 use Rattle.rds_world.specs.ReceiverKind.{dwell_of}
 use Rattle.rds_receiver.specs.State.{ReceiverState}

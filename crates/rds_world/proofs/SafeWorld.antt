@@ -7,7 +7,7 @@ use Rattle.rds_fields.specs.declared.message.Message.{Message}
 use Rattle.rds_receiver.specs.OneView.{same_heard}
 use Rattle.rds_receiver.specs.Receipts.{Tuning}
 use Rattle.rds_receiver.specs.Shown.{IsView, ShowsView, ShownView}
-use Rattle.rds_receiver.specs.Twice.{counted_in}
+use Rattle.rds_receiver.specs.Confirmed.{counted_in}
 use Rattle.rds_world.specs.ReceiverKind.{dwell_of, window_of}
 use Rattle.rds_receiver.specs.State.{ReceiverState}
 use Rattle.rds_world.specs.declared.receiver_kind.ReceiverKind.TheVariants.{WithDwell}
@@ -19,8 +19,8 @@ use Rattle.rds_safety.specs.Laws.{LawfulPlansAreSafe}
 use Rattle.rds_safety.specs.OwnClock.{next_slot}
 use Rattle.rds_safety.specs.Plans.{AreLawful, Plans}
 use Rattle.rds_safety.specs.Safe.{AreSafe, Listener, ListensTo}
-use Rattle.rds_safety.specs.Twice.{IsHeardWithWrong, ListensTwice}
-use Rattle.rds_safety.specs.TwiceLaws.{LawfulPlansAreSafeTwice}
+use Rattle.rds_safety.specs.Confirmed.{IsHeardWithWrong, ListensConfirmed}
+use Rattle.rds_safety.specs.ConfirmedLaws.{LawfulPlansAreSafeConfirmed}
 use Rattle.rds_world.specs.SafeSlots.{OnlyWhatWasOnAirIsShown, input_that_counts, listeners}
 use Rattle.rds_world.specs.Slots.{input_of, log, plans_of}
 use Rattle.rds_world.specs.StandsAt.{HasHeard, Shows, StandsAt, tuned_to}
@@ -53,7 +53,7 @@ shows_view config input r view kind has shows =
 -- the receiver listens to the log, with or without a window
 abbrev pub ListensIn : Option ℕ → ℕ → ℕ → ℕ → List (Option Message) → Listener → Type 0
 ListensIn None k m t log r = ListensTo k m t log r
-ListensIn (Some w) k m t log r = ListensTwice w k m t log r
+ListensIn (Some w) k m t log r = ListensConfirmed w k m t log r
 
 listens_in : (window : Option ℕ) (k m t : ℕ) (log : List (Option Message)) (input : Input) (view : ShownView)
     → IsHeardWithWrong k log input → KeepsPremise window input → next_slot input ≡ t + 1 → ShowsView m input.first (counted_in window m input.first input.heard) view
@@ -94,12 +94,12 @@ all_listen config e before i (r ∷ receivers) (view ∷ views) kind due fit has
     )
 
 -- lawful plans make each slot safe, with or without a window
-safe_in : LawfulPlansAreSafe → LawfulPlansAreSafeTwice → (window : Option ℕ) (k m t : ℕ) (plans : Plans) (log : List (Option Message)) (receivers : List Listener)
+safe_in : LawfulPlansAreSafe → LawfulPlansAreSafeConfirmed → (window : Option ℕ) (k m t : ℕ) (plans : Plans) (log : List (Option Message)) (receivers : List Listener)
     → AreLawful (m + lateness_in window k) plans log → All (ListensIn window k m t log) receivers → AreSafe (m + lateness_in window k) m t plans log receivers
 safe_in safe twice None k m t plans log receivers lawful all = safe m k t plans log receivers lawful all
 safe_in safe twice (Some w) k m t plans log receivers lawful all = twice w k m t plans log receivers lawful all
 
-pub safe_world : TheEncoderIsLawful → LawfulPlansAreSafe → LawfulPlansAreSafeTwice → (config : Config) (w : WorldState) (events : List Event) → StandsAt config w events → OnlyWhatWasOnAirIsShown config events w.receivers
+pub safe_world : TheEncoderIsLawful → LawfulPlansAreSafe → LawfulPlansAreSafeConfirmed → (config : Config) (w : WorldState) (events : List Event) → StandsAt config w events → OnlyWhatWasOnAirIsShown config events w.receivers
 safe_world lawful safe twice config w [] st = tt
 safe_world lawful safe twice config w (e ∷ before) st = λ kind views shows.
     let events = e ∷ before in

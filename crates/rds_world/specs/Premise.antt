@@ -2,7 +2,7 @@
 -- slots the receivers show only what they heard twice.
 use Rattle.std.specs.Prelude.{ℕ, Option, Some, None}
 use Rattle.rds_safety.specs.Late.{Input}
-use Rattle.rds_safety.specs.Twice.{confirmed_input, lateness_of_two}
+use Rattle.rds_safety.specs.Confirmed.{confirmed_input, lateness_of_two}
 
 -- the lateness K, and the window W if the receivers have one, both in slots
 pub record Premise : Type 0 where

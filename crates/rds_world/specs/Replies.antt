@@ -15,7 +15,7 @@ use Rattle.rds_world.specs.declared.reply.Reply.TheVariants.{Restarted, Done, Re
 use Rattle.rds_world.specs.declared.reply.Reply.TheVariants as reply
 use Rattle.rds_world.specs.declared.slots.PlayRefused.{PlayRefused}
 use Rattle.rds_world.specs.declared.slots.PlayRefused.TheVariants.{TooManyReceivers, Memory, ReceiverCount, Late, Wrong}
-use Rattle.rds_world.specs.declared.slots.PlayRefused.TheVariants.{WrongTwice}
+use Rattle.rds_world.specs.declared.slots.PlayRefused.TheVariants.{WrongConfirmed}
 use Rattle.rds_world.specs.Due.{IsDueToAll, IsFirstLate}
 use Rattle.rds_world.specs.Event.{Event}
 use Rattle.rds_world.specs.Premise.{Premise}
@@ -52,7 +52,7 @@ abbrev pub IsUnfit : Option ℕ → Event → List Event → StepRefused → Typ
 IsUnfit window e before step.ReceiverCount = ⊥
 IsUnfit window e before (step.Late r) = ⊥
 IsUnfit window e before (step.Wrong r) = (window ≡ None) × IsFirstWrong window e before r
-IsUnfit window e before (step.WrongTwice r) = IsSome window × IsFirstWrong window e before r
+IsUnfit window e before (step.WrongConfirmed r) = IsSome window × IsFirstWrong window e before r
 
 -- the slot has one reception for each receiver, each is due, and this is why it breaks the premise about wrong groups
 pub record IsWrong (p : Premise) (receivers : ℕ) (e : Event) (before : List Event) (why : StepRefused) : Type 0 where
@@ -65,7 +65,7 @@ abbrev pub IsStepRefused : Premise → ℕ → Event → List Event → StepRefu
 IsStepRefused p receivers e before step.ReceiverCount = length e.receptions ≢ receivers
 IsStepRefused p receivers e before (step.Late r) = IsLateTo p.late receivers e before r
 IsStepRefused p receivers e before (step.Wrong r) = IsWrong p receivers e before (step.Wrong r)
-IsStepRefused p receivers e before (step.WrongTwice r) = IsWrong p receivers e before (step.WrongTwice r)
+IsStepRefused p receivers e before (step.WrongConfirmed r) = IsWrong p receivers e before (step.WrongConfirmed r)
 
 -- the event at this place can be taken after those before it; the oldest event is the first of this list
 abbrev pub IsTaken : Premise → ℕ → List Event → ℕ → Type 0
@@ -92,4 +92,4 @@ IsPlayRefused p receivers events Memory = receivers ≤ MOST_RECEIVERS
 IsPlayRefused p receivers events (ReceiverCount place) = IsFirstRefused p receivers events place step.ReceiverCount
 IsPlayRefused p receivers events (Late place r) = IsFirstRefused p receivers events place (step.Late r)
 IsPlayRefused p receivers events (Wrong place r) = IsFirstRefused p receivers events place (step.Wrong r)
-IsPlayRefused p receivers events (WrongTwice place r) = IsFirstRefused p receivers events place (step.WrongTwice r)
+IsPlayRefused p receivers events (WrongConfirmed place r) = IsFirstRefused p receivers events place (step.WrongConfirmed r)

@@ -3,12 +3,12 @@
 use Rattle.std.specs.Prelude.{◌≡◌, ◌↔◌, ◌<◌, ◌-◌, ℕ, true, Contains, List, [], ◌∷◌, Option, Some, None, slice_index_or}
 use Rattle.std.specs.Prelude.{take}
 use Rattle.rds_fields.specs.declared.message.Message.{Message}
-use Rattle.rds_receiver.specs.Twice.{needs_two}
+use Rattle.rds_receiver.specs.Confirmed.{needs_two}
 use Rattle.rds_world.specs.declared.event.Reception.{Reception}
 use Rattle.rds_world.specs.declared.event.Reception.TheVariants.{Got, Lost, Wrong, Restart}
 use Rattle.rds_world.specs.Event.{Event}
 use Rattle.rds_safety.specs.Late.{HasEntry, Input}
-use Rattle.rds_safety.specs.Twice.{NoneWrongTwice, WasSent}
+use Rattle.rds_safety.specs.Confirmed.{NoWrongConfirmed, WasSent}
 use Rattle.rds_world.specs.Slots.{input_of}
 
 -- slot by slot the wrong message that a receiver got, since its last restart, after one more reception
@@ -67,7 +67,7 @@ EachWasSent input =
 -- of tags is wrong twice within it
 abbrev pub KeepsPremise : Option ℕ → Input → Type 0
 KeepsPremise None input = EachWasSent input
-KeepsPremise (Some w) input = NoneWrongTwice w input
+KeepsPremise (Some w) input = NoWrongConfirmed w input
 
 -- a reception is fit exactly if the input with it keeps the premise, if all receptions before were fit
 abbrev pub TheFitKeepThePremise : Type 0

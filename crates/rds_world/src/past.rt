@@ -3,7 +3,7 @@ ghost use Rattle.std.specs.Prelude.{◌≡◌, ◌≢◌, ◌↔◌, [], ◌∷�
 ghost use Rattle.std.specs.Prelude.{MatchResult, is_some, length, take};
 ghost use Rattle.circular_buffer.specs.Buffer.{buffer};
 ghost use Rattle.rds_fields.specs.declared.message.Message.{Message};
-ghost use Rattle.rds_receiver.specs.Twice.{needs_two};
+ghost use Rattle.rds_receiver.specs.Confirmed.{needs_two};
 ghost use Rattle.rds_world.specs.Event.{Event};
 ghost use Rattle.rds_world.specs.Replies.{IsUnfit};
 ghost use Rattle.rds_world.specs.StandsAt.{HavePasts};
@@ -129,7 +129,7 @@ pub(crate) fn new_pasts(
 ///
 /// # Errors
 ///
-/// [`StepRefused::Wrong`] or [`StepRefused::WrongTwice`] with the number of its receiver.
+/// [`StepRefused::Wrong`] or [`StepRefused::WrongConfirmed`] with the number of its receiver.
 pub(crate) fn check_wrong(
     pasts: &[Past],
     window: Option<Window>,
@@ -157,7 +157,7 @@ fn refusal_of(has_window: bool, receiver: usize) -> StepRefused
     ensures kind { result ≢ StepRefused.ReceiverCount }
 {
     if has_window {
-        StepRefused::WrongTwice(receiver)
+        StepRefused::WrongConfirmed(receiver)
     } else {
         StepRefused::Wrong(receiver)
     }

@@ -51,5 +51,5 @@ pub enum StepRefused {
     /// The first receiver that was to get a text segment, a name segment or a pair of tags that was wrong before, less
     /// than its window before.
     #[error("receiver {0} was to get the same wrong group twice within its window")]
-    WrongTwice(usize),
+    WrongConfirmed(usize),
 }

@@ -32,7 +32,7 @@ pub enum PlayRefused {
     /// The index of the first event that cannot be taken, if a receiver was to get the same wrong group twice within
     /// its window, and the first such receiver.
     #[error("in slot {0} receiver {1} was to get the same wrong group twice within its window")]
-    WrongTwice(usize, usize),
+    WrongConfirmed(usize, usize),
 }
 
 /// Makes a world and plays these slots, the oldest first.
@@ -65,8 +65,8 @@ pub fn play(
             Err(StepRefused::ReceiverCount) => return Err(PlayRefused::ReceiverCount(i)),
             Err(StepRefused::Late(receiver)) => return Err(PlayRefused::Late(i, receiver)),
             Err(StepRefused::Wrong(receiver)) => return Err(PlayRefused::Wrong(i, receiver)),
-            Err(StepRefused::WrongTwice(receiver)) => {
-                return Err(PlayRefused::WrongTwice(i, receiver));
+            Err(StepRefused::WrongConfirmed(receiver)) => {
+                return Err(PlayRefused::WrongConfirmed(i, receiver));
             }
         }
     }

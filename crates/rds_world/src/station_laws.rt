@@ -10,7 +10,7 @@ ghost use Rattle.rds_world.specs.FlagStation.{TheStationKeepsEach, TheStationSen
 ghost use Rattle.rds_world.specs.FlagStation.{WhoGetsSomeShowsTextsOfTheirSource, WhoLosesFewShowsTextsOfTheirSource};
 ghost use Rattle.rds_world.specs.SafeSlots.{EveryWorldShowsOnlyWhatWasOnAir};
 ghost use Rattle.rds_world.specs.Station.{SlotsOfAWorldAreSlots, TheEncoderIsLawful, WhoHearsAStationIsSafe};
-ghost use Rattle.rds_world.specs.TwiceStation.{WhoHearsAStationTwiceIsSafe};
+ghost use Rattle.rds_world.specs.ConfirmedStation.{WhoConfirmsAStationIsSafe};
 ghost use Rattle.rds_world.specs.Wrong.{TheFitKeepThePremise};
 
 use rds_encoder::{
@@ -18,7 +18,7 @@ use rds_encoder::{
     on_air_from_its_start_on, on_air_is_sent_whole, on_air_is_what_covers_the_slot,
     planned_is_what_was_on_air, sent_is_of_what_is_on_air,
 };
-use rds_safety::{often_is_enough, safe_by_plans, safe_by_the_flag, safe_if_heard_twice};
+use rds_safety::{often_is_enough, safe_by_plans, safe_by_the_flag, safe_if_confirmed};
 
 /// States that the messages of an encoder are lawful for its plans, whatever it sets in its slots.
 pub fn the_encoder_is_lawful()
@@ -46,7 +46,7 @@ pub fn only_what_was_on_air_is_shown()
 {
     the_encoder_is_lawful();
     safe_by_plans();
-    safe_if_heard_twice();
+    safe_if_confirmed();
 }
 
 /// States that a world refuses exactly the wrong groups that break the premise: any without a window; with a window of
@@ -56,11 +56,11 @@ pub fn what_is_fit_keeps_the_premise()
 {}
 
 /// States the headline for receivers that get wrong groups and show only what they heard twice.
-pub fn a_station_heard_twice_is_safe()
-    ensures { WhoHearsAStationTwiceIsSafe }
+pub fn a_confirmed_station_is_safe()
+    ensures { WhoConfirmsAStationIsSafe }
 {
     the_encoder_is_lawful();
-    safe_if_heard_twice();
+    safe_if_confirmed();
 }
 
 /// States that a receiver shows a broadcast if it got on time each free one of some slots of it, at most M slots. For a

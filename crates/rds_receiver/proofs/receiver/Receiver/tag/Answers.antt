@@ -1,6 +1,6 @@
 use Rattle.std.proofs.Common.{ℕ, List, Option, ap, ◌∙◌}
 use Rattle.rds_receiver.specs.OneView.{same_text_shown}
-use Rattle.rds_receiver.specs.Twice.{counted}
+use Rattle.rds_receiver.specs.Confirmed.{counted}
 use Rattle.rds_receiver.specs.Tags.{tag_of}
 use Rattle.rds_receiver.proofs.receiver.Receiver.tag.Goals as goal
 

@@ -1,5 +1,5 @@
 use Rattle.rds_receiver.specs.Holds.{newest_slot}
-use Rattle.rds_receiver.specs.Twice.{counted}
+use Rattle.rds_receiver.specs.Confirmed.{counted}
 use Rattle.rds_receiver.proofs.Shows.{shows_counted}
 use Rattle.rds_receiver.proofs.receiver.Receiver.whys.Goals as goal
 

@@ -1,6 +1,6 @@
 use Rattle.std.proofs.Common.{refl, ◌∙◌}
 use Rattle.rds_receiver.proofs.Ages.{none_held, some_held}
-use Rattle.rds_receiver.proofs.TwiceSteps.{grown}
+use Rattle.rds_receiver.proofs.ConfirmingSteps.{grown}
 use Rattle.rds_receiver.proofs.stored.StoredReceiver.age_lasts.Goals as goal
 
 pub returns-clause-lasts : goal.returns-clause-lasts

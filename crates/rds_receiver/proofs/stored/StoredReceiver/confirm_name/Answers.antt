@@ -1,5 +1,5 @@
 use Rattle.std.proofs.Common.{refl}
-use Rattle.rds_receiver.proofs.TwiceSteps.{name_confirmed}
+use Rattle.rds_receiver.proofs.ConfirmingSteps.{name_confirmed}
 use Rattle.rds_receiver.proofs.stored.StoredReceiver.confirm_name.Goals as goal
 
 pub returns-clause-confirms : goal.returns-clause-confirms

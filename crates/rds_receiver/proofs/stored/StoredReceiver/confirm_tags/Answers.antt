@@ -3,7 +3,7 @@ use Rattle.std.proofs.lemmas.Bool.{ltb-true}
 use Rattle.rds_fields.specs.Stored.{pair_stored}
 use Rattle.rds_receiver.proofs.Ages.{none_held, some_held}
 use Rattle.rds_receiver.proofs.Pairs.{held_pair_is, is_held_pair}
-use Rattle.rds_receiver.proofs.TwiceSteps.{not_true, tags_confirmed}
+use Rattle.rds_receiver.proofs.ConfirmingSteps.{not_true, tags_confirmed}
 use Rattle.rds_receiver.proofs.stored.StoredReceiver.confirm_tags.Goals as goal
 use Rattle.rds_receiver.proofs.stored.StoredReceiver.confirm_tags.Goals.{then-self-gt0, else-self-gt0}
 

@@ -1,5 +1,5 @@
 use Rattle.std.proofs.Common.{refl, sym}
-use Rattle.rds_receiver.proofs.TwiceSteps.{not_true, text_confirmed}
+use Rattle.rds_receiver.proofs.ConfirmingSteps.{not_true, text_confirmed}
 use Rattle.rds_receiver.proofs.stored.StoredReceiver.confirm_text.Goals as goal
 use Rattle.rds_receiver.proofs.stored.StoredReceiver.confirm_text.Goals.{else-again-via-else-again, else-again-via-then-again+else-not-has_flag}
 

@@ -3,7 +3,7 @@ use Rattle.rds_fields.specs.declared.message.Message.{Message}
 use Rattle.rds_receiver.specs.Confirming.{HasAged, HoldsBy}
 use Rattle.rds_receiver.specs.Receipts.{Hears}
 use Rattle.rds_receiver.specs.Stored.{receiver_stored}
-use Rattle.rds_receiver.proofs.TwiceSteps.{each_counts, message_counted, nothing_taken}
+use Rattle.rds_receiver.proofs.ConfirmingSteps.{each_counts, message_counted, nothing_taken}
 use Rattle.rds_receiver.proofs.stored.StoredReceiver.hear.Goals as goal
 
 pub returns-in_default-clause-holds : goal.returns-in_default-clause-holds

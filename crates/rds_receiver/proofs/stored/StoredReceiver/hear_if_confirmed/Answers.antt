@@ -5,7 +5,7 @@ use Rattle.rds_receiver.specs.Holds.{ShowsAlike}
 use Rattle.rds_receiver.specs.Receipts.{Hears}
 use Rattle.rds_receiver.specs.Stored.{display_stored, receiver_stored}
 use Rattle.rds_receiver.proofs.Alike.{alike_itself}
-use Rattle.rds_receiver.proofs.TwiceSteps.{lasts_aged, message_counted, message_not_counted, nothing_taken}
+use Rattle.rds_receiver.proofs.ConfirmingSteps.{lasts_aged, message_counted, message_not_counted, nothing_taken}
 use Rattle.rds_receiver.proofs.stored.StoredReceiver.hear_if_confirmed.Goals as goal
 
 pub returns-in_default-clause-holds : goal.returns-in_default-clause-holds

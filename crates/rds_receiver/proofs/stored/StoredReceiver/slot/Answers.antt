@@ -3,7 +3,7 @@ use Rattle.rds_receiver.specs.Holds.{newest_slot}
 use Rattle.rds_receiver.specs.Receipts.{Hears}
 use Rattle.rds_receiver.specs.Stored.{display_stored, receiver_stored}
 use Rattle.rds_receiver.proofs.Alike.{alike_by, stays_shown}
-use Rattle.rds_receiver.proofs.TwiceSteps.{display_grown, slot_stands, with_display}
+use Rattle.rds_receiver.proofs.ConfirmingSteps.{display_grown, slot_stands, with_display}
 use Rattle.rds_receiver.proofs.stored.StoredReceiver.slot.Goals as goal
 
 pub returns-then-is_new-clause-stands : goal.returns-then-is_new-clause-stands

@@ -1,7 +1,7 @@
 use Rattle.std.proofs.Common.{◌∙◌, ap, refl, sym, subst}
 use Rattle.std.specs.Option.{option_copied}
 use Rattle.rds_receiver.specs.Shown.{ShowsView, view_with}
-use Rattle.rds_receiver.specs.Twice.{counted}
+use Rattle.rds_receiver.specs.Confirmed.{counted}
 use Rattle.rds_receiver.proofs.stored.StoredReceiver.view.Goals as goal
 
 pub returns : goal.returns

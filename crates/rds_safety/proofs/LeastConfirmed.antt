@@ -14,11 +14,11 @@ use Rattle.rds_receiver.specs.Receipts.{Segment, name_fragment, segments, text_f
 use Rattle.rds_receiver.specs.Run.{run, run_at, run_before}
 use Rattle.rds_receiver.specs.Shown.{ShowsView, ShownView}
 use Rattle.rds_receiver.specs.Tags.{item_of, pair_held, tag_of}
-use Rattle.rds_receiver.specs.Twice.{confirmed, if_confirmed, last_at, segment_again}
+use Rattle.rds_receiver.specs.Confirmed.{confirmed, if_confirmed, last_at, segment_again}
 use Rattle.rds_safety.specs.Late.{CameFrom, HasEntry, Input, SentIn}
 use Rattle.rds_safety.specs.Laws.{ShowsAMix}
 use Rattle.rds_safety.specs.Safe.{Listener}
-use Rattle.rds_safety.specs.Twice.{IsHeardWithWrong, ListensOnce, ListensTwice, NoneWrongTwice, WasSent, confirmed_input, lateness_of_two}
+use Rattle.rds_safety.specs.Confirmed.{IsHeardWithWrong, ListensOnce, ListensConfirmed, NoWrongConfirmed, WasSent, confirmed_input, lateness_of_two}
 use Rattle.rds_safety.proofs.Entries.{one_entry}
 use Rattle.rds_safety.proofs.Least.{first_fragment, first_message, first_sent, four, heard, last_fragment, last_message, log, mix, mix_is_whole, mixes, quiet, quiet_long, quiet_origins, shows, three_and_end, view}
 use Rattle.rds_safety.proofs.OnTime.{input_of}
@@ -258,7 +258,7 @@ with_wrong k a b = record {
 pub texts_differ : first_text ≡ last_text → ⊥
 texts_differ e = cc
 
-once_each : (k a b j : ℕ) → NoneWrongTwice (a + 2) (raw k a b j)
+once_each : (k a b j : ℕ) → NoWrongConfirmed (a + 2) (raw k a b j)
 once_each k a b j t u message needs l soon p q = elim (heard_is k a b t message p) [
   | inl o ↦ elim (heard_is k a b u message q) [
     | inl v ↦ elim v.1 [
@@ -280,7 +280,7 @@ once_each k a b j t u message needs l soon p q = elim (heard_is k a b t message 
 abbrev receiver : ℕ → ℕ → ℕ → ℕ → Listener
 receiver k a b j = record { input = confirmed_input (a + 2) (b + 3) (raw k a b j); view = mixed_view k a b }
 
-listens : (k a b : ℕ) → ListensTwice (a + 2) k (b + 3) (k + a + b + 2 + 1) (log (k + a + b + 2)) (receiver k a b (k + a + b + 2))
+listens : (k a b : ℕ) → ListensConfirmed (a + 2) k (b + 3) (k + a + b + 2 + 1) (log (k + a + b + 2)) (receiver k a b (k + a + b + 2))
 listens k a b = record {
   raw = raw k a b (k + a + b + 2);
   heard = with_wrong k a b;
@@ -290,17 +290,17 @@ listens k a b = record {
   shows = subst (λ (xs : List (Option Message)). ShowsView (b + 3) k xs (mixed_view k a b)) (sym (four_confirmed (b + 3) k a b)) (shows_mix k a b);
 }
 
-at_two_and_three : (k a b : ℕ) → ShowsAMix (k + a + b + 2 + 1) (b + 3) (ListensTwice (a + 2) k (b + 3))
-at_two_and_three k a b = mixes (b + 3) (k + a + b + 2) (k + a + b + 2 + 1) (ListensTwice (a + 2) k (b + 3)) (receiver k a b (k + a + b + 2)) refl (listens k a b)
+at_two_and_three : (k a b : ℕ) → ShowsAMix (k + a + b + 2 + 1) (b + 3) (ListensConfirmed (a + 2) k (b + 3))
+at_two_and_three k a b = mixes (b + 3) (k + a + b + 2) (k + a + b + 2 + 1) (ListensConfirmed (a + 2) k (b + 3)) (receiver k a b (k + a + b + 2)) refl (listens k a b)
 
-pub one_slot_less_twice : (w k m : ℕ) → 1 < w → 2 < m → ShowsAMix (m + lateness_of_two w k - 1) m (ListensTwice w k m)
-one_slot_less_twice w k m g h =
+pub one_slot_less_confirmed : (w k m : ℕ) → 1 < w → 2 < m → ShowsAMix (m + lateness_of_two w k - 1) m (ListensConfirmed w k m)
+one_slot_less_confirmed w k m g h =
     let w_is : w - 2 + 2 ≡ w = omega arith in
     let m_is : m - 3 + 3 ≡ m = omega arith in
     let slots : k + (w - 2) + (m - 3) + 2 + 1 ≡ m + lateness_of_two w k - 1 = omega arith in
-    subst (λ (x : ℕ). ShowsAMix (m + lateness_of_two w k - 1) x (ListensTwice w k x)) m_is
-    (subst (λ (x : ℕ). ShowsAMix (m + lateness_of_two w k - 1) (m - 3 + 3) (ListensTwice x k (m - 3 + 3))) w_is
-    (subst (λ (x : ℕ). ShowsAMix x (m - 3 + 3) (ListensTwice (w - 2 + 2) k (m - 3 + 3))) slots (at_two_and_three k (w - 2) (m - 3))))
+    subst (λ (x : ℕ). ShowsAMix (m + lateness_of_two w k - 1) x (ListensConfirmed w k x)) m_is
+    (subst (λ (x : ℕ). ShowsAMix (m + lateness_of_two w k - 1) (m - 3 + 3) (ListensConfirmed x k (m - 3 + 3))) w_is
+    (subst (λ (x : ℕ). ShowsAMix x (m - 3 + 3) (ListensConfirmed (w - 2 + 2) k (m - 3 + 3))) slots (at_two_and_three k (w - 2) (m - 3))))
 
 -- a receiver that shows what it heard once: the first segment comes in slot 0, and n + 1 slots after it a wrong message
 abbrev one_wrong : ℕ → Input

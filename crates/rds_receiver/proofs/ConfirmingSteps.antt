@@ -12,8 +12,8 @@ use Rattle.rds_receiver.specs.Run.{begins_in, is_same, run, run_before}
 use Rattle.rds_receiver.specs.Holds.{HasFlag, HearsMore, HoldsAt, HoldsRun, newest_slot}
 use Rattle.rds_receiver.specs.StandsAt.{StandsAt}
 use Rattle.rds_receiver.specs.State.{DisplayState, HeldSegments, ReceiverState}
-use Rattle.rds_receiver.specs.Twice.{confirmed, counted_in, if_confirmed, last_at, last_pair, pair_again, same_pair, same_tag, segment_again}
-use Rattle.rds_receiver.specs.TwiceLemmas.{confirmed_long, counted_long, newest_counted, one_flag, one_pair}
+use Rattle.rds_receiver.specs.Confirmed.{confirmed, counted_in, if_confirmed, last_at, last_pair, pair_again, same_pair, same_tag, segment_again}
+use Rattle.rds_receiver.specs.ConfirmedLemmas.{confirmed_long, counted_long, newest_counted, one_flag, one_pair}
 use Rattle.rds_receiver.specs.Confirming.{Counts, HasAged, HoldsBy, HoldsLast, HoldsLastPair, HoldsLasts, HoldsLastsIn, IsLastPair, LastSegment, RepeatsSegment, cell_in, one_slot_older, pair_left_of, text_begins}
 use Rattle.rds_receiver.proofs.Pairs.{AllBelow, run_below, segments_below}
 use Rattle.rds_receiver.proofs.Runs.{before_other, before_same, equal_or_not, run_over, run_recent, same_is, test_false, test_true}

@@ -10,14 +10,14 @@ use Rattle.rds_fields.specs.declared.message.Message.TheVariants.{Text, Name, An
 use Rattle.rds_fields.specs.Tag.{PairFields}
 use Rattle.rds_receiver.specs.Receipts.{Fragment, Segment, name_fragment, picked, segments, text_fragment, with_segment}
 use Rattle.rds_receiver.specs.Run.{begins_in, is_same, run, run_at, run_before}
-use Rattle.rds_receiver.specs.Twice.{confirmed, if_confirmed, last_at, last_pair, needs_two, pair_again, receipt_before, same_pair, segment_again}
-use Rattle.rds_receiver.specs.TwiceLemmas.{confirmed_long, one_pair}
+use Rattle.rds_receiver.specs.Confirmed.{confirmed, if_confirmed, last_at, last_pair, needs_two, pair_again, receipt_before, same_pair, segment_again}
+use Rattle.rds_receiver.specs.ConfirmedLemmas.{confirmed_long, one_pair}
 use Rattle.rds_safety.specs.Flags.{same_flag}
 use Rattle.rds_safety.specs.Late.{CameFrom, HasEntry, Input, SentIn}
 use Rattle.rds_safety.specs.Near.{IsHeard, IsHeardNear, IsOfItsOriginIfMarked, IsUnmarked, ListensNear}
 use Rattle.rds_safety.specs.OwnClock.{next_slot}
 use Rattle.rds_safety.specs.Safe.{Listener}
-use Rattle.rds_safety.specs.Twice.{IsHeardWithWrong, NoneWrongTwice, ListensTwice, confirmed_input, lateness_of_two, origin_in, origin_of_two, origins_of_two}
+use Rattle.rds_safety.specs.Confirmed.{IsHeardWithWrong, NoWrongConfirmed, ListensConfirmed, confirmed_input, lateness_of_two, origin_in, origin_of_two, origins_of_two}
 use Rattle.rds_safety.proofs.Entries.{before_end, entry_beside, one_entry}
 use Rattle.rds_safety.proofs.Hearing.{IsPicked, all_picked}
 
@@ -260,7 +260,7 @@ from_one_of_two w m first (x ∷ before) (own ∷ origins) t s e (inl a) = by x 
         one (Some r) origin = record { slot = t; came = inl (here, refl); from = inl (omega (arith, here, beside), sym origin); past = omega arith; soon = omega arith }
 
 -- a confirmed entry without an origin, if it needs two receipts, was wrong twice
-record WasWrongTwice (w first t : ℕ) (heard : List (Option Message)) (origins : List (Option ℕ)) (message : Message) : Type 0 where
+record WasWrongConfirmed (w first t : ℕ) (heard : List (Option Message)) (origins : List (Option ℕ)) (message : Message) : Type 0 where
   slot : ℕ
   before : slot < t
   soon : t < slot + w
@@ -269,18 +269,18 @@ record WasWrongTwice (w first t : ℕ) (heard : List (Option Message)) (origins 
   one_wrong : HasEntry first origins slot None
   two_wrong : HasEntry first origins t None
 
-wrong_twice : (w m first : ℕ) (heard : List (Option Message)) (origins : List (Option ℕ)) (t : ℕ) (message : Message) → length origins ≡ length heard → needs_two message ≡ true
-    → HasEntry first (origins_of_two w m first heard origins) t None → HasEntry first (confirmed w m first heard) t (Some message) → WasWrongTwice w first t heard origins message
-wrong_twice w m first [] origins t message e needs o a = absurd a
-wrong_twice w m first (x ∷ before) [] t message e needs o a = absurd o
-wrong_twice w m first (x ∷ before) (own ∷ origins) t message e needs (inr o) (inl a) =
+wrong_confirmed : (w m first : ℕ) (heard : List (Option Message)) (origins : List (Option ℕ)) (t : ℕ) (message : Message) → length origins ≡ length heard → needs_two message ≡ true
+    → HasEntry first (origins_of_two w m first heard origins) t None → HasEntry first (confirmed w m first heard) t (Some message) → WasWrongConfirmed w first t heard origins message
+wrong_confirmed w m first [] origins t message e needs o a = absurd a
+wrong_confirmed w m first (x ∷ before) [] t message e needs o a = absurd o
+wrong_confirmed w m first (x ∷ before) (own ∷ origins) t message e needs (inr o) (inl a) =
     absurd (omega (arith, a.0, before_end first (origins_of_two w m first before origins) t None o, confirmed_long w m first before, origins_long w m first before origins (omega (arith, e))))
-wrong_twice w m first (x ∷ before) (own ∷ origins) t message e needs (inl o) (inr a) =
+wrong_confirmed w m first (x ∷ before) (own ∷ origins) t message e needs (inl o) (inr a) =
     absurd (omega (arith, o.0, before_end first (confirmed w m first before) t (Some message) a, confirmed_long w m first before, origins_long w m first before origins (omega (arith, e))))
-wrong_twice w m first (x ∷ before) (own ∷ origins) t message e needs (inr o) (inr a) =
-    let v = wrong_twice w m first before origins t message (omega (arith, e)) needs o a in
+wrong_confirmed w m first (x ∷ before) (own ∷ origins) t message e needs (inr o) (inr a) =
+    let v = wrong_confirmed w m first before origins t message (omega (arith, e)) needs o a in
     record { slot = v.slot; before = v.before; soon = v.soon; one = inr v.one; two = inr v.two; one_wrong = inr v.one_wrong; two_wrong = inr v.two_wrong }
-wrong_twice w m first (x ∷ before) (own ∷ origins) t message e needs (inl o) (inl a) = by x own (receipt_before w m first before (confirmed w m first before) x) refl (sym o.1) (sym a.1) refl refl
+wrong_confirmed w m first (x ∷ before) (own ∷ origins) t message e needs (inl o) (inl a) = by x own (receipt_before w m first before (confirmed w m first before) x) refl (sym o.1) (sym a.1) refl refl
   where
     beside : length origins ≡ length before
     beside = omega (arith, e)
@@ -289,7 +289,7 @@ wrong_twice w m first (x ∷ before) (own ∷ origins) t message e needs (inl o)
     here = omega (arith, a.0, confirmed_long w m first before)
 
     by : (y : Option Message) (p : Option ℕ) (r : Option ℕ) → receipt_before w m first before (confirmed w m first before) y ≡ r → origin_of_two first origins p r ≡ None → if_confirmed r y ≡ Some message → x ≡ y → own ≡ p
-        → WasWrongTwice w first t (x ∷ before) (own ∷ origins) message
+        → WasWrongConfirmed w first t (x ∷ before) (own ∷ origins) message
     by y p None is origin kept x_is own_is = absurd (cc)
     by None p (Some u) is origin kept x_is own_is = absurd (cc)
     by (Some n) (Some s) (Some u) is origin kept x_is own_is = absurd (cc)
@@ -316,13 +316,13 @@ unmarked (Announce code bits aid) needs = record { text = refl; name = refl }
 unmarked Other needs = record { text = refl; name = refl }
 
 -- each confirmed segment, and each confirmed pair of tags, is that of the log in its origin
-confirmed_is_heard : (w m k : ℕ) (log : List (Option Message)) (raw : Input) → IsHeardWithWrong k log raw → NoneWrongTwice w raw → IsHeard log (confirmed_input w m raw)
+confirmed_is_heard : (w m k : ℕ) (log : List (Option Message)) (raw : Input) → IsHeardWithWrong k log raw → NoWrongConfirmed w raw → IsHeard log (confirmed_input w m raw)
 confirmed_is_heard w m k log raw heard once = record {
   beside = origins_long w m raw.first raw.heard raw.origins heard.beside ∙ sym (confirmed_long w m raw.first raw.heard);
   each = λ t origin entry o a. by t origin entry o a;
 }
   where
-    not_once : (t : ℕ) (message : Message) → WasWrongTwice w raw.first t raw.heard raw.origins message → needs_two message ≡ true → ⊥
+    not_once : (t : ℕ) (message : Message) → WasWrongConfirmed w raw.first t raw.heard raw.origins message → needs_two message ≡ true → ⊥
     not_once t message v needs = elim (once v.slot t message needs v.before v.soon v.one v.two) [
       | inl sent ↦ (let bad : None ≡ Some sent.slot = one_entry raw.first raw.origins v.slot None (Some sent.slot) v.one_wrong sent.from in cc)
       | inr sent ↦ (let bad : None ≡ Some sent.slot = one_entry raw.first raw.origins t None (Some sent.slot) v.two_wrong sent.from in cc)
@@ -331,7 +331,7 @@ confirmed_is_heard w m k log raw heard once = record {
     if_needed : (t : ℕ) (message : Message) (needs : Bool) → needs_two message ≡ needs → HasEntry raw.first (origins_of_two w m raw.first raw.heard raw.origins) t None
         → HasEntry raw.first (confirmed w m raw.first raw.heard) t (Some message) → IsUnmarked (Some message)
     if_needed t message false needs o a = unmarked message needs
-    if_needed t message true needs o a = absurd (not_once t message (wrong_twice w m raw.first raw.heard raw.origins t message heard.beside needs o a) needs)
+    if_needed t message true needs o a = absurd (not_once t message (wrong_confirmed w m raw.first raw.heard raw.origins t message heard.beside needs o a) needs)
 
     by : (t : ℕ) (origin : Option ℕ) (entry : Option Message) → HasEntry raw.first (origins_of_two w m raw.first raw.heard raw.origins) t origin
         → HasEntry raw.first (confirmed w m raw.first raw.heard) t entry → IsOfItsOriginIfMarked log origin entry
@@ -431,7 +431,7 @@ tags_from w m first (x ∷ before) (own ∷ origins) t s since pair e begins lat
         record { slot = u; from = inr (subst (HasEntry first origins u) some beside_it.1); later = omega (arith, one_slot again.since since same, again.later) }
 
 -- the confirmed messages are near the log
-pub confirmed_is_near : (w m k now : ℕ) (log : List (Option Message)) (raw : Input) → IsHeardWithWrong k log raw → NoneWrongTwice w raw → next_slot raw ≡ now + 1
+pub confirmed_is_near : (w m k now : ℕ) (log : List (Option Message)) (raw : Input) → IsHeardWithWrong k log raw → NoWrongConfirmed w raw → next_slot raw ≡ now + 1
     → IsHeardNear (m + lateness_of_two w k) m now log (confirmed_input w m raw)
 confirmed_is_near w m k now log raw heard once next = record {
   heard = confirmed_is_heard w m k log raw heard once;
@@ -458,8 +458,8 @@ confirmed_is_near w m k now log raw heard once next = record {
     long = confirmed_long w m raw.first raw.heard
 
 -- a receiver that shows only what it heard twice listens near the log
-pub twice_listens : (w k m t : ℕ) (log : List (Option Message)) (r : Listener) → ListensTwice w k m t log r → ListensNear (m + lateness_of_two w k) m t log r
-twice_listens w k m t log r listens = record {
+pub confirmed_listens : (w k m t : ℕ) (log : List (Option Message)) (r : Listener) → ListensConfirmed w k m t log r → ListensNear (m + lateness_of_two w k) m t log r
+confirmed_listens w k m t log r listens = record {
   near = subst (IsHeardNear (m + lateness_of_two w k) m t log) (sym listens.confirmed) (confirmed_is_near w m k t log listens.raw listens.heard listens.once listens.now);
   shows = listens.shows;
 }

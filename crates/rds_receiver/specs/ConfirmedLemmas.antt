@@ -6,7 +6,7 @@ use Rattle.rds_fields.specs.declared.message.Message.{Message}
 use Rattle.rds_fields.specs.Tag.{PairFields, TagFields}
 use Rattle.rds_receiver.specs.Holds.{newest_slot}
 use Rattle.rds_receiver.specs.Run.{is_same}
-use Rattle.rds_receiver.specs.Twice.{confirmed, counted_in, same_pair, same_tag}
+use Rattle.rds_receiver.specs.Confirmed.{confirmed, counted_in, same_pair, same_tag}
 
 -- as many entries were heard as are confirmed or not
 pub confirmed_long : (w m first : ℕ) (heard : List (Option Message)) → length (confirmed w m first heard) ≡ length heard

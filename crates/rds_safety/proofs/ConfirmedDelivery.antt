@@ -12,15 +12,15 @@ use Rattle.rds_encoder.specs.Plan.{Broadcast, Covers}
 use Rattle.rds_receiver.specs.Receipts.{Fragment, Segment, name_fragment, segments, text_fragment}
 use Rattle.rds_receiver.specs.Run.{cells_of, is_same, run_at}
 use Rattle.rds_receiver.specs.Shown.{IsShown, ShowsView}
-use Rattle.rds_receiver.specs.Twice.{confirmed, last_at, segment_again}
-use Rattle.rds_receiver.specs.TwiceLemmas.{confirmed_long}
+use Rattle.rds_receiver.specs.Confirmed.{confirmed, last_at, segment_again}
+use Rattle.rds_receiver.specs.ConfirmedLemmas.{confirmed_long}
 use Rattle.rds_safety.specs.Flags.{is_same_flag}
 use Rattle.rds_safety.specs.Late.{CameFrom, HasEntry, Input}
 use Rattle.rds_safety.specs.Laws.{PlanLaws}
 use Rattle.rds_safety.specs.Lawful.{IsLawful, Kind, names, texts}
 use Rattle.rds_safety.specs.Marks.{Mark, marks, name_mark, text_mark}
-use Rattle.rds_safety.specs.Twice.{IsHeardWithWrong, NoneWrongTwice, confirmed_input, lateness_of_two}
-use Rattle.rds_safety.specs.TwiceLaws.{CameTwice, HearsEachTwice, WhoHearsBothSegmentsTwiceShowsTheName, WhoHearsEachSegmentTwiceShowsTheText}
+use Rattle.rds_safety.specs.Confirmed.{IsHeardWithWrong, NoWrongConfirmed, confirmed_input, lateness_of_two}
+use Rattle.rds_safety.specs.ConfirmedLaws.{CameTwice, HearsEachTwice, WhoHearsBothSegmentsTwiceShowsTheName, WhoHearsEachSegmentTwiceShowsTheText}
 use Rattle.rds_safety.proofs.Bytes.{IsService, name_service, text_service}
 use Rattle.rds_safety.proofs.Counts.{one_segment, two_segments}
 use Rattle.rds_safety.proofs.Entries.{before_end, mark_sent}
@@ -28,7 +28,7 @@ use Rattle.rds_safety.proofs.Hearing.{AreFalling, IsPicked, all_picked, segments
 use Rattle.rds_safety.proofs.HeldWhole.{CameSince, IsIn, all_in, came_in, in_below, in_segments, one_covers, shown_near}
 use Rattle.rds_safety.proofs.OneBroadcast.{PicksWhatIsMarked}
 use Rattle.rds_safety.proofs.Safety.{name_fragments_marked, text_fragments_marked}
-use Rattle.rds_safety.proofs.Twice.{HasReceipts, confirmed_is_near, from_one_of_two, name_receipts, own_kept, segment_is_confirmed, text_receipts}
+use Rattle.rds_safety.proofs.Confirmed.{HasReceipts, confirmed_is_near, from_one_of_two, name_receipts, own_kept, segment_is_confirmed, text_receipts}
 
 -- if a segment with this address is among the segments, the last one with this address came no earlier
 record IsLastSince (a since : ℕ) (gs : List Segment) : Type 0 where
@@ -69,7 +69,7 @@ last_since n a (h ∷ older) g falls is_in at = by (h.fragment.address == a) ref
         }
 
 module _ (laws : PlanLaws) (w k m t s : ℕ) (kind : Kind) (pick : Message → Option Fragment) (of : Option Message → Mark) (plan : List Broadcast) (log : List (Option Message)) (raw : Input) (b : Broadcast)
-    (alike : PicksWhatIsMarked pick of) (receipts : HasReceipts pick) (law : IsLawful (m + lateness_of_two w k) kind plan (marks of log)) (heard : IsHeardWithWrong k log raw) (once : NoneWrongTwice w raw)
+    (alike : PicksWhatIsMarked pick of) (receipts : HasReceipts pick) (law : IsLawful (m + lateness_of_two w k) kind plan (marks of log)) (heard : IsHeardWithWrong k log raw) (once : NoWrongConfirmed w raw)
     (now : raw.first + length raw.heard ≡ t + 1) (hears : HearsEachTwice pick w m t s (segment_count (kind.body b.bytes)) plan raw b) where
   -- each segment heard since slot s is the broadcast's
   own : (u : ℕ) (message : Message) (p : Fragment) → pick message ≡ Some p → s ≤ u → HasEntry raw.first raw.heard u (Some message) → (p.flag ≡ b.flag) × (p.bytes ≡ segment_of (kind.body b.bytes) p.address)

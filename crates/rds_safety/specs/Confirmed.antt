@@ -6,7 +6,7 @@ use Rattle.std.specs.Prelude.{◌≡◌, ◌⊎◌, ◌+◌, ◌-◌, ◌<◌, �
 use Rattle.std.specs.Prelude.{ℕ, true, List, Option, Some, None, length, if◌then◌else◌}
 use Rattle.rds_fields.specs.declared.message.Message.{Message}
 use Rattle.rds_receiver.specs.Shown.{ShowsView}
-use Rattle.rds_receiver.specs.Twice.{confirmed, needs_two, receipt_before}
+use Rattle.rds_receiver.specs.Confirmed.{confirmed, needs_two, receipt_before}
 use Rattle.rds_safety.specs.Late.{CameFrom, HasEntry, Input, SentIn}
 use Rattle.rds_safety.specs.OwnClock.{next_slot}
 use Rattle.rds_safety.specs.Safe.{Listener}
@@ -27,8 +27,8 @@ pub record WasSent (input : Input) (t : ℕ) : Type 0 where
   pub from : CameFrom input t slot
 
 -- if one segment or one pair of tags came twice, less than w slots apart, at least one of the two is not wrong
-abbrev pub NoneWrongTwice : ℕ → Input → Type 0
-NoneWrongTwice w input =
+abbrev pub NoWrongConfirmed : ℕ → Input → Type 0
+NoWrongConfirmed w input =
     (t u : ℕ) (message : Message) → needs_two message ≡ true → t < u → u < t + w
     → HasEntry input.first input.heard t (Some message) → HasEntry input.first input.heard u (Some message)
     → WasSent input t ⊎ WasSent input u
@@ -65,10 +65,10 @@ lateness_of_two w k = k + (w - 1)
 
 -- up to slot t the receiver of dwell m heard the log at most k slots late and with wrong messages, none of them twice
 -- within w slots; it shows the view of the confirmed messages
-pub record ListensTwice (w k m t : ℕ) (log : List (Option Message)) (r : Listener) : Type 0 where
+pub record ListensConfirmed (w k m t : ℕ) (log : List (Option Message)) (r : Listener) : Type 0 where
   pub raw : Input
   pub heard : IsHeardWithWrong k log raw
-  pub once : NoneWrongTwice w raw
+  pub once : NoWrongConfirmed w raw
   pub now : next_slot raw ≡ t + 1
   pub confirmed : r.input ≡ confirmed_input w m raw
   pub shows : ShowsView m r.input.first r.input.heard r.view

@@ -12,27 +12,27 @@ use Rattle.rds_safety.specs.Laws.{ShowsAMix}
 use Rattle.rds_safety.specs.Near.{ListensNear}
 use Rattle.rds_safety.specs.Plans.{AreLawful, Plans}
 use Rattle.rds_safety.specs.Safe.{AreSafe, Listener}
-use Rattle.rds_safety.specs.Twice.{IsHeardWithWrong, ListensOnce, ListensTwice, NoneWrongTwice, confirmed_input}
-use Rattle.rds_safety.specs.Twice.{lateness_of_two}
+use Rattle.rds_safety.specs.Confirmed.{IsHeardWithWrong, ListensOnce, ListensConfirmed, NoWrongConfirmed, confirmed_input}
+use Rattle.rds_safety.specs.Confirmed.{lateness_of_two}
 
 -- the confirmed messages are near the log, for the lateness of two receipts
-abbrev pub WhoHearsTwiceListensNear : Type 0
-WhoHearsTwiceListensNear =
-    (w k m t : ℕ) (log : List (Option Message)) (r : Listener) → ListensTwice w k m t log r
+abbrev pub WhoConfirmsListensNear : Type 0
+WhoConfirmsListensNear =
+    (w k m t : ℕ) (log : List (Option Message)) (r : Listener) → ListensConfirmed w k m t log r
     → ListensNear (m + lateness_of_two w k) m t log r
 
 -- plans that are lawful for the dwell and the lateness of two receipts make each slot safe, for any number of receivers
 -- that show only what they heard twice, whatever wrong messages they get, none of them twice within w slots
-abbrev pub LawfulPlansAreSafeTwice : Type 0
-LawfulPlansAreSafeTwice =
+abbrev pub LawfulPlansAreSafeConfirmed : Type 0
+LawfulPlansAreSafeConfirmed =
     (w k m t : ℕ) (plans : Plans) (log : List (Option Message)) (receivers : List Listener)
-    → AreLawful (m + lateness_of_two w k) plans log → All (ListensTwice w k m t log) receivers
+    → AreLawful (m + lateness_of_two w k) plans log → All (ListensConfirmed w k m t log) receivers
     → AreSafe (m + lateness_of_two w k) m t plans log receivers
 
 -- plans that are lawful for one slot less are not enough
-abbrev pub OneSlotLessMixesTwice : Type 0
-OneSlotLessMixesTwice =
-    (w k m : ℕ) → 1 < w → 2 < m → ShowsAMix (m + lateness_of_two w k - 1) m (ListensTwice w k m)
+abbrev pub OneSlotLessMixesConfirmed : Type 0
+OneSlotLessMixesConfirmed =
+    (w k m : ℕ) → 1 < w → 2 < m → ShowsAMix (m + lateness_of_two w k - 1) m (ListensConfirmed w k m)
 
 -- for a receiver that shows what it heard once, no spacing is enough: one wrong message makes a mix
 abbrev pub OneWrongMessageMixes : Type 0
@@ -49,9 +49,9 @@ WhoIsHandedWrongGroupsListens =
     (origins : List (Option ℕ)) (view : ShownView)
     → (v : IsView record { programme = pi; dwell = m; window = Some w; first = first } handed view)
     → IsHeardWithWrong k log (raw_input first v.0 origins)
-    → NoneWrongTwice w (raw_input first v.0 origins)
+    → NoWrongConfirmed w (raw_input first v.0 origins)
     → first + length v.0 ≡ t + 1
-    → ListensTwice w k m t log record {
+    → ListensConfirmed w k m t log record {
       input = confirmed_input w m (raw_input first v.0 origins);
       view = view;
     }
@@ -90,7 +90,7 @@ pub record HearsEachTwice (pick : Message → Option Fragment) (w m t s n : ℕ)
 abbrev pub WhoHearsEachSegmentTwiceShowsTheText : Type 0
 WhoHearsEachSegmentTwiceShowsTheText =
     (w k m t s : ℕ) (plans : Plans) (log : List (Option Message)) (r : Listener) (b : Broadcast)
-    → AreLawful (m + lateness_of_two w k) plans log → (listens : ListensTwice w k m t log r)
+    → AreLawful (m + lateness_of_two w k) plans log → (listens : ListensConfirmed w k m t log r)
     → HearsEachTwice text_fragment w m t s (segment_count (text_body b.bytes)) plans.text listens.raw b
     → r.view.text ≡ Some b.bytes
 
@@ -98,6 +98,6 @@ WhoHearsEachSegmentTwiceShowsTheText =
 abbrev pub WhoHearsBothSegmentsTwiceShowsTheName : Type 0
 WhoHearsBothSegmentsTwiceShowsTheName =
     (w k m t s : ℕ) (plans : Plans) (log : List (Option Message)) (r : Listener) (b : Broadcast)
-    → AreLawful (m + lateness_of_two w k) plans log → (listens : ListensTwice w k m t log r)
+    → AreLawful (m + lateness_of_two w k) plans log → (listens : ListensConfirmed w k m t log r)
     → HearsEachTwice name_fragment w m t s 2 plans.name listens.raw b
     → r.view.name ≡ Some b.bytes
