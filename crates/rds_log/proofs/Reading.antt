@@ -18,7 +18,7 @@ use Rattle.rds_io.specs.declared.fault.LogFault.{LogFault}
 use Rattle.rds_io.specs.declared.fault.LogFault.TheVariants.{BadLine, TooLong}
 use Rattle.rds_log.specs.declared.log_line.LogLine.{LogLine}
 use Rattle.rds_log.specs.declared.source.Source.{Source}
-use Rattle.rds_log.proofs.Cutting.{kept_of_more, text_of-more}
+use Rattle.rds_log.proofs.Cutting.{begun_empty, kept_of_more, text_of-more}
 
 -- where the next line ends in the bytes, or that it does not
 pub line_told : (bytes : List ℕ) (o : Option ℕ) → IfNone o (IsLine bytes) → IfSome o (EndsAt bytes) → MatchOption o (IsLine bytes) (EndsAt bytes)
@@ -99,24 +99,29 @@ start_is : (s : Source) (lines : List Line) (begun last : Line) → CutterStands
 start_is s lines begun last cutter = ap (λ (l : Line). take 60 (l ++ last)) cutter.kept ∙ kept_of_more begun last
 
 -- where the newest line starts is known, or its first bytes were copied
-abbrev pub IsStartKept : Source → Source → ℕ → Type 0
-IsStartKept s after n = ((after.begun ≡ s.at) × (s.cutter.kept.items ≡ [])) ⊎ ((after.begun ≡ 65536) × (after.spanned.items ≡ start_with s (take n (waiting s))))
+abbrev pub IsStartKept : Source → Source → List ℕ → Type 0
+IsStartKept s after last = ((after.start.place ≡ s.at) × (s.cutter.kept.items ≡ [])) ⊎ ((after.start.place ≡ 65536) × (after.start.copy.items ≡ start_with s last))
 
 starts : (s after : Source) (n : ℕ) → s.at + n < s.count → s.count ≤ 65536 → after.chunk ≡ s.chunk → after.at ≡ s.at + n + 1
-    → IsStartKept s after n → start_of after ≡ start_with s (take n (waiting s))
+    → IsStartKept s after (take n (waiting s)) → start_of after ≡ start_with s (take n (waiting s))
 starts s after n less room chunk at (inl (here, none)) =
-    let before : nat_lt after.begun after.at ≡ true = grind (arith, nat_tests, here, at) in
-    let count : after.at - 1 - after.begun ≡ s.at + n - s.at = omega (arith, here, at) in
+    let before : nat_lt after.start.place after.at ≡ true = grind (arith, nat_tests, here, at) in
+    let count : after.at - 1 - after.start.place ≡ s.at + n - s.at = omega (arith, here, at) in
     rw (before, count, here, chunk, none) (ap (take 60) (sym (line_of s.chunk s.at s.count n less)))
 starts s after n less room chunk at (inr (elsewhere, copied)) =
-    let behind : nat_lt after.begun after.at ≡ false = grind (arith, nat_tests, elsewhere, at, less, room) in
+    let behind : nat_lt after.start.place after.at ≡ false = grind (arith, nat_tests, elsewhere, at, less, room) in
     rw behind copied
 
 -- the first bytes were copied
-starts_elsewhere : (after : Source) (first : List ℕ) → after.begun ≡ 65536 → after.at ≤ 65536 → after.spanned.items ≡ first → start_of after ≡ first
+starts_elsewhere : (after : Source) (first : List ℕ) → after.start.place ≡ 65536 → after.at ≤ 65536 → after.start.copy.items ≡ first → start_of after ≡ first
 starts_elsewhere after first elsewhere room copied =
-    let behind : nat_lt after.begun after.at ≡ false = grind (arith, nat_tests, elsewhere, room) in
+    let behind : nat_lt after.start.place after.at ≡ false = grind (arith, nat_tests, elsewhere, room) in
     rw behind copied
+
+-- the start of a last line that was begun before
+last_start : (s after : Source) (lines : List Line) (begun : Line) → CutterStandsAt s.cutter lines begun → begun ≢ [] → after.at ≤ 65536 → IsStartKept s after [] → start_of after ≡ start_with s []
+last_start s after lines begun cutter some room (inl (here, none)) = absurd (some (begun_empty begun (sym (ap length cutter.kept) ∙ ap length none)))
+last_start s after lines begun cutter some room (inr (elsewhere, copied)) = starts_elsewhere after (start_with s []) elsewhere room copied
 
 -- the next line was closed, and says this
 gives_line : (s after : Source) (most n : ℕ) (start now : ReaderState) (lines : List Line) (said : LogLine) → SourceStandsAt s most start now lines → s.line ≡ Some n
@@ -183,7 +188,7 @@ pub gives_either : (s after : Source) (most n : ℕ) (start now : ReaderState) (
     → MatchResult result (Closes after.cutter lines (begun ++ take n (waiting s))) (λ bad. IsBadLine bad.number lines (begun ++ take n (waiting s))))
     → ((begun : Line) → CutterStandsAt s.cutter lines begun → IfErr result (λ _. after.cutter.kept.items ≡ take 60 (begun ++ take n (waiting s))))
     → after.chunk ≡ s.chunk → after.at ≡ s.at + n + 1 → after.count ≡ s.count → after.left ≡ s.left → after.ended ≡ s.ended
-    → MatchOption after.line (IsLine (waiting after)) (EndsAt (waiting after)) → s.count ≤ 65536 → IsStartKept s after n
+    → MatchOption after.line (IsLine (waiting after)) (EndsAt (waiting after)) → s.count ≤ 65536 → IsStartKept s after (take n (waiting s))
     → MatchResult result (λ said. GivesNext after most start now lines (Some said)) (λ bad. HasNoNext most start now lines after.cutter.kept.items (BadLine bad.number))
 gives_either s after most n start now lines (Ok said) stands line less closes first chunk at count left ended next room kept =
     gives_line s after most n start now lines said stands line less closes chunk at count left ended next (starts s after n less room chunk at kept)
@@ -300,8 +305,8 @@ ends_between s after most start now lines last empty left ended none =
 
 -- the end, which closes a line
 pub ends_line : (s after : Source) (most : ℕ) (start now : ReaderState) (lines : List Line) (said : LogLine) (last : IsAtLast s most start now lines) → last.begun ≢ []
-    → Closes after.cutter lines (last.begun ++ []) said → after.left ≡ s.left → after.ended ≡ true → after.line ≡ None → after.begun ≡ 65536 → after.at ≤ 65536 → after.spanned.items ≡ start_with s [] → GivesNext after most start now lines (Some said)
-ends_line s after most start now lines said last some closed left ended none elsewhere room copied =
+    → Closes after.cutter lines (last.begun ++ []) said → after.left ≡ s.left → after.ended ≡ true → after.line ≡ None → after.at ≤ 65536 → IsStartKept s after [] → GivesNext after most start now lines (Some said)
+ends_line s after most start now lines said last some closed left ended none room kept =
     let says : LineSays last.begun said = rw (append-nil last.begun) at closed.says in
     let through : IsThrough start now (last.begun ∷ lines) = record {
       text = text_of lines last.begun;
@@ -316,7 +321,7 @@ ends_line s after most start now lines said last some closed left ended none els
         reads = made_so_far s after most start now left reads;
         where_it_is = from_through after most start now (last.begun ∷ lines) after.ended ended through none;
       },
-      starts_elsewhere after (start_with s []) elsewhere room copied ∙ start_is s lines last.begun [] last.cutter ∙ ap (take 60) (append-nil last.begun),
+      last_start s after lines last.begun last.cutter some room kept ∙ start_is s lines last.begun [] last.cutter ∙ ap (take 60) (append-nil last.begun),
     )
 
 -- the end closes a bad line

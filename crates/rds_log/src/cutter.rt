@@ -1,7 +1,7 @@
 //! Cuts the bytes of a log into lines. Keeps the first 60 bytes of a line that spans two reads or is malformed.
 ghost use Rattle.std.specs.Prelude.{◌≡◌, ◌⊎◌, ◌≤◌, ◌<◌, ◌+◌, ◌-◌, ◌^◌, ◌++◌, ◌↔◌, []};
 ghost use Rattle.rds_log.specs.declared.cutter.TheConstants.{ELSEWHERE};
-ghost use Rattle.std.specs.Prelude.{IfErr, IfNone, IfSome, IsTrue, MatchResult, take};
+ghost use Rattle.std.specs.Prelude.{IfErr, IfNone, IfSome, IsTrue, MatchResult, length, take};
 ghost use Rattle.rds_log.specs.LineSays.{IsBad, LineSays, deciding};
 ghost use Rattle.rds_log.specs.LogLines.{EndsAt, IsLine, Line};
 ghost use Rattle.rds_log.specs.Notes.{IsNoteOn};
@@ -17,8 +17,39 @@ use std::simd::prelude::*;
 /// How many bytes are searched for a line feed at once.
 const LANES: usize = 64;
 
-/// No place in a chunk, which is behind its last byte: the first bytes of the line are elsewhere.
+/// No place in a chunk: it is behind the last byte.
 pub(crate) const ELSEWHERE: usize = 65536;
+
+/// Where a line starts: at a place of the chunk that all of it is in, or else in a copy of its first bytes.
+#[derive(Drop)]
+pub(crate) struct Start {
+    /// The place, or `ELSEWHERE`.
+    pub(crate) place: usize,
+    pub(crate) copy: LineStart,
+}
+
+impl Start {
+    /// Returns the start of no line.
+    pub(crate) fn none() -> Start {
+        Start {
+            place: ELSEWHERE,
+            copy: ArrayVec::new(),
+        }
+    }
+
+    /// Keeps a copy of the first bytes of a line.
+    // Cold path.
+    #[inline(never)]
+    fn copy(&mut self, first: &[u8])
+        requires { length first.now ≤ 60 }
+        ensures place { self.new.place ≡ ELSEWHERE }
+        ensures copy { self.new.copy.items ≡ first.now }
+    {
+        self.place = ELSEWHERE;
+        self.copy.clear();
+        self.copy.try_extend_from_slice(first).unwrap();
+    }
+}
 
 /// Takes the bytes of a log, whatever the reads that they come in, and returns the meaning of each complete line.
 ///
@@ -51,9 +82,15 @@ impl Cutter {
         self.kept.is_empty()
     }
 
-    /// Completes a line with its last bytes, and returns its meaning. Keeps the first bytes of a malformed line.
+    /// Completes a line with its last bytes, which lie at this place of a chunk, and returns its meaning. Keeps the
+    /// first bytes of a malformed line.
     #[inline(always)]
-    pub(crate) fn close(&mut self, last: &[u8]) -> Result<LogLine, BadLine>
+    pub(crate) fn close(
+        &mut self,
+        last: &[u8],
+        place: usize,
+        start: &mut Start,
+    ) -> Result<LogLine, BadLine>
         requires lines { self.old.lines < 2 ^ 64 - 1 }
         ensures lines { self.new.lines ≤ self.old.lines + 1 }
         ensures closes { IsLine last.now → WhereItCuts self.old (λ closed begun. MatchResult result
@@ -61,8 +98,10 @@ impl Cutter {
             (λ bad. IsBadLine bad.number closed (begun ++ last.now))) }
         ensures kept { WhereItCuts self.old (λ _ begun. IfErr result
             (λ _. self.new.kept.items ≡ take deciding (begun ++ last.now))) }
+        ensures start { ((start.new.place ≡ place) × (self.old.kept.items ≡ [])) ⊎ ((start.new.place ≡ ELSEWHERE)
+            × (start.new.copy.items ≡ take deciding (self.old.kept.items ++ last.now))) }
     {
-        let Some(said) = self.said(last) else {
+        let Some(said) = self.said(last, place, start) else {
             return Err(BadLine {
                 number: self.lines + 1,
             });
@@ -70,33 +109,6 @@ impl Cutter {
         self.lines += 1;
         self.kept.clear();
         Ok(said)
-    }
-
-    /// Returns where the line starts that ends with these bytes, which lie at this place of a chunk. If it does not
-    /// start there, the first bytes of the line are copied.
-    #[inline(always)]
-    pub(crate) fn begun_at(&self, place: usize, last: &[u8], start: &mut LineStart) -> usize
-        ensures { ((result ≡ place) × (self.now.kept.items ≡ [])) ⊎ ((result ≡ ELSEWHERE)
-            × (start.new.items ≡ take deciding (self.now.kept.items ++ last.now))) }
-    {
-        if self.kept.is_empty() {
-            return place;
-        }
-        self.copy_start(last, start);
-        ELSEWHERE
-    }
-
-    /// Copies the first bytes of the line that ends with these bytes.
-    // Cold path.
-    #[inline(never)]
-    pub(crate) fn copy_start(&self, last: &[u8], start: &mut LineStart)
-        ensures { start.new.items ≡ take deciding (self.now.kept.items ++ last.now) }
-    {
-        start.clear();
-        start.try_extend_from_slice(self.kept.as_slice()).unwrap();
-        let room = start.remaining_capacity();
-        let count = last.len().min(room);
-        start.try_extend_from_slice(&last[..count]).unwrap();
     }
 
     /// Returns the first bytes of a malformed line, and why it is malformed.
@@ -137,7 +149,7 @@ impl Cutter {
     /// Returns the meaning of the line that ends with these bytes. `None` for a malformed line, whose first bytes are
     /// then kept.
     #[inline(always)]
-    fn said(&mut self, last: &[u8]) -> Option<LogLine>
+    fn said(&mut self, last: &[u8], place: usize, start: &mut Start) -> Option<LogLine>
         ensures some { (begun : Line) → self.old.kept.items ≡ take deciding begun
             → IfSome result (LineSays (begun ++ last.now)) }
         ensures none { (begun : Line) → self.old.kept.items ≡ take deciding begun
@@ -145,11 +157,15 @@ impl Cutter {
         ensures kept { (begun : Line) → self.old.kept.items ≡ take deciding begun
             → IfNone result (self.new.kept.items ≡ take deciding (begun ++ last.now)) }
         ensures lines { self.new.lines ≡ self.old.lines }
+        ensures start { ((start.new.place ≡ place) × (self.old.kept.items ≡ [])) ⊎ ((start.new.place ≡ ELSEWHERE)
+            × (start.new.copy.items ≡ take deciding (self.old.kept.items ++ last.now))) }
     {
         if self.kept.is_empty() {
+            start.place = place;
             return self.said_at_once(last);
         }
         self.keep(last);
+        start.copy(self.kept.as_slice());
         said_by(self.kept.as_slice())
     }
 

@@ -6,10 +6,9 @@ ghost use Rattle.rds_log.specs.Notes.{HasNote};
 ghost use Rattle.rds_log.specs.Reads.{MadeReads, to_come};
 ghost use Rattle.rds_io.specs.declared.fault.LogFault.TheVariants as faults;
 
-use crate::cutter::{Cutter, ELSEWHERE, line_end};
-use crate::log_line::{DECIDING, LineStart, LogLine};
+use crate::cutter::{Cutter, Start, line_end};
+use crate::log_line::{DECIDING, LogLine};
 use crate::notes::BadStart;
-use arrayvec::ArrayVec;
 use rds_io::{BadLine, LogFault, TellingRead};
 
 /// The number of bytes of one read.
@@ -26,10 +25,8 @@ pub(crate) struct Source {
     count: usize,
     /// The length of the next line in these bytes. `None` if it does not end in them.
     line: Option<usize>,
-    /// Where the newest line starts in `chunk`, if all of it is there. If not, it is after its end.
-    begun: usize,
-    /// The first bytes of the newest line that was not all in one chunk.
-    spanned: LineStart,
+    /// Where the newest line starts.
+    start: Start,
     /// The number of lines so far, and the first bytes of a line that spans two reads.
     cutter: Cutter,
     /// The number of reads that are left.
@@ -59,8 +56,7 @@ impl Source {
             at: 0,
             count: 0,
             line: None,
-            begun: ELSEWHERE,
-            spanned: ArrayVec::new(),
+            start: Start::none(),
             cutter: Cutter::new(),
             left: reads,
             ended: false,
@@ -119,12 +115,12 @@ impl Source {
         ensures bytes { result.now ≡ start_of self.now }
         ensures short { length result.now ≤ 60 }
     {
-        if self.begun >= self.at {
-            return self.spanned.as_slice();
+        if self.start.place >= self.at {
+            return self.start.copy.as_slice();
         }
         let end = self.at - 1;
         let chunk: &[u8] = &self.chunk;
-        let line = &chunk[self.begun..end];
+        let line = &chunk[self.start.place..end];
         &line[..DECIDING.min(line.len())]
     }
 
@@ -161,10 +157,10 @@ impl Source {
         let end = self.at + count;
         let chunk: &[u8] = &self.chunk;
         let last = &chunk[self.at..end];
-        self.begun = self.cutter.begun_at(self.at, last, &mut self.spanned);
+        let said = self.cutter.close(last, self.at, &mut self.start);
         self.at = end + 1;
         self.line = line_end(&chunk[self.at..self.count]);
-        self.cutter.close(last)
+        said
     }
 
     /// Reads the next chunk. Returns `false` at the reader's end.
@@ -216,9 +212,7 @@ impl Source {
         if self.cutter.is_between() {
             return Ok(None);
         }
-        self.begun = ELSEWHERE;
-        self.cutter.copy_start(&[], &mut self.spanned);
-        let said = self.cutter.close(&[])?;
+        let said = self.cutter.close(&[], self.at, &mut self.start)?;
         Ok(Some(said))
     }
 }

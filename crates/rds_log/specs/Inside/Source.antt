@@ -98,7 +98,8 @@ HasNoNext most start now lines first Memory = ⊥
 -- the first bytes of the newest line: of the bytes before its line feed if all of it is in the chunk, and else a copy
 abbrev pub start_of : Source → List ℕ
 start_of s =
-    if nat_lt s.begun s.at then take deciding (take (s.at - 1 - s.begun) (drop s.begun s.chunk)) else s.spanned.items
+    if nat_lt s.start.place s.at then take deciding (take (s.at - 1 - s.start.place) (drop s.start.place s.chunk))
+    else s.start.copy.items
 
 -- the meaning of the line after these, and its first bytes; there is none if the log ends with them
 abbrev pub GivesNext : Source → ℕ → ReaderState → ReaderState → List Line → Option LogLine → Type 0

@@ -11,6 +11,6 @@ returns-clause-stands c start = record {
     text = [];
     read = Consumes-nil start.left;
     enough = omega arith;
-    holds = record { begun = []; cut = refl; cutter = c.new-2.ensures.stands; line = All-nil _ };
+    holds = record { begun = []; cut = refl; cutter = c.new.ensures.stands; line = All-nil _ };
   };
 }
