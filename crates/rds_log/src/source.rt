@@ -157,10 +157,10 @@ impl Source {
         let end = self.at + count;
         let chunk: &[u8] = &self.chunk;
         let last = &chunk[self.at..end];
-        let said = self.cutter.close(last, self.at, &mut self.start);
+        let place = self.at;
         self.at = end + 1;
         self.line = line_end(&chunk[self.at..self.count]);
-        said
+        self.cutter.close(last, place, &mut self.start)
     }
 
     /// Reads the next chunk. Returns `false` at the reader's end.
