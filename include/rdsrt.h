@@ -59,8 +59,8 @@
  * STACK. A call takes at most this many bytes of stack, the first number on x86-64, the second on 64-bit Arm. The numbers
  * come from the machine code of the library (tools/stack). The stack of memcpy and memset comes on top.
  *
- *     rdsrt_version                      8    0    rdsrt_encoder_on_air             600  672
- *     rdsrt_receiver_init                8    0    rdsrt_encoder_wait               424  480
+ *     rdsrt_version                      8    0    rdsrt_encoder_on_air             104  112
+ *     rdsrt_receiver_init                8    0    rdsrt_encoder_wait                 8    0
  *     rdsrt_receiver_init_confirming     8    0    rdsrt_audit_init                 638  656
  *     rdsrt_receiver_slot              264  208    rdsrt_audit_init_running         638  656
  *     rdsrt_receiver_view              232  208    rdsrt_audit_slot                 916  768
@@ -69,10 +69,10 @@
  *     rdsrt_time_in                     88   80    rdsrt_audit_names_turn_the_flag  708  736
  *     rdsrt_lost_slots                   8    0    rdsrt_text_to_display            296  304
  *     rdsrt_encoder_init                16    0    rdsrt_text_to_utf8               360  368
- *     rdsrt_encoder_set_text           696  720    rdsrt_text_from_utf8             128  128
- *     rdsrt_encoder_set_name           632  656    rdsrt_type_name                   72   64
- *     rdsrt_encoder_set_tags           664  704    rdsrt_code_name                   72   64
- *     rdsrt_encoder_tick               872  928
+ *     rdsrt_encoder_set_text           248  256    rdsrt_text_from_utf8             128  128
+ *     rdsrt_encoder_set_name            56   48    rdsrt_type_name                   72   64
+ *     rdsrt_encoder_set_tags            40    0    rdsrt_code_name                   72   64
+ *     rdsrt_encoder_tick                32    0
  *
  * YOU PROMISE for every call:
  *  - You call _init first. No call notices that you did not: a struct of zeros has PI 0000, so it shows nothing of your

@@ -27,8 +27,8 @@ mod text;
 mod type_name;
 
 pub use assembly::{Assembly, hold, is_held, is_same_segment, whole};
-pub use name::Name;
+pub use name::{Name, name_segment};
 pub use radio_text::{CARRIAGE_RETURN, RadioText};
 pub use service::Service;
-pub use text::{LONGEST_TEXT, Text, TextRefused, is_text_byte};
+pub use text::{LONGEST_TEXT, Text, TextRefused, is_text_byte, text_count, text_segment};
 pub use type_name::{NAME_LENGTH, TypeName};

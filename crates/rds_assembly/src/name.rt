@@ -69,12 +69,21 @@ impl Name {
         requires { address < segment_count (name_body self.now) }
         ensures { result ≡ segment_of (name_body self.now) address }
     {
-        let first = address as usize * 4;
-        [
-            self.bytes[first],
-            self.bytes[first + 1],
-            self.bytes[first + 2],
-            self.bytes[first + 3],
-        ]
+        name_segment(self.bytes(), address)
     }
+}
+
+/// Returns the segment at the address of a name with these bytes.
+pub fn name_segment(name: &[u8], address: u8) -> [u8; 4]
+    requires eight { length name.now ≡ 8 }
+    requires two { address < 2 }
+    ensures { IsName name.now → result ≡ segment_of (name_body name.now) address }
+{
+    let first = address as usize * 4;
+    [
+        name[first],
+        name[first + 1],
+        name[first + 2],
+        name[first + 3],
+    ]
 }

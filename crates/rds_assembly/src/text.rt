@@ -86,11 +86,7 @@ impl Text {
         ensures some { 0 < result }
         ensures few { result ≤ 16 }
     {
-        if self.end as usize == LONGEST_TEXT {
-            16
-        } else {
-            self.end / 4 + 1
-        }
+        text_count(self.bytes())
     }
 
     /// Returns the segment at the address.
@@ -98,28 +94,56 @@ impl Text {
         requires { address < segment_count (text_body self.now) }
         ensures { result ≡ segment_of (text_body self.now) address }
     {
-        let first = address as usize * 4;
-        [
-            self.sent(first),
-            self.sent(first + 1),
-            self.sent(first + 2),
-            self.sent(first + 3),
-        ]
+        text_segment(self.bytes(), address)
     }
+}
 
-    /// Returns the byte at this place of the body: after the text come a carriage return and spaces.
-    fn sent(&self, place: usize) -> u8
-        requires { place < length (text_body self.now) }
-        ensures { result ≡ slice_index (text_body self.now) place }
-    {
-        let end = self.end as usize;
-        if place < end {
-            self.buffer[place]
-        } else if place == end {
-            CARRIAGE_RETURN
-        } else {
-            b' '
-        }
+/// Returns the number of segments of a text with these bytes, 1 to 16.
+pub fn text_count(text: &[u8]) -> u8
+    requires { length text.now ≤ 64 }
+    ensures value { result ≡ segment_count (text_body text.now) }
+    ensures some { 0 < result }
+    ensures few { result ≤ 16 }
+{
+    if text.len() == LONGEST_TEXT {
+        16
+    } else {
+        text.len() as u8 / 4 + 1
+    }
+}
+
+/// Returns the segment at the address of a text with these bytes. An address past its segments gives arbitrary bytes.
+pub fn text_segment(text: &[u8], address: u8) -> [u8; 4]
+    ensures { address < segment_count (text_body text.now) → result ≡ segment_of (text_body text.now) address }
+{
+    let first = address as usize * 4;
+    // most segments end in the text
+    if first + 4 <= text.len() {
+        return [
+            text[first],
+            text[first + 1],
+            text[first + 2],
+            text[first + 3],
+        ];
+    }
+    [
+        sent(text, first),
+        sent(text, first + 1),
+        sent(text, first + 2),
+        sent(text, first + 3),
+    ]
+}
+
+/// Returns the byte at this place of the body: after the text come a carriage return and spaces.
+fn sent(text: &[u8], place: usize) -> u8
+    ensures { place < length (text_body text.now) → result ≡ slice_index (text_body text.now) place }
+{
+    if place < text.len() {
+        text[place]
+    } else if place == text.len() {
+        CARRIAGE_RETURN
+    } else {
+        b' '
     }
 }
 

@@ -33,6 +33,10 @@ other_parity n = by_rest (n % 2) refl (omega arith)
         rw (e, next) refl
     by_rest (suc (suc r)) e h = absurd (omega arith)
 
+pub not_not : (b : Bool) → b ≡ not (not b)
+not_not true = refl
+not_not false = refl
+
 abbrev flag_or : Option OnAir → Bool
 flag_or None = false
 flag_or (Some air) = air.flag

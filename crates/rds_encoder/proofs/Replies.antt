@@ -1,5 +1,5 @@
 -- Lemmas: replies, part by part.
-use Rattle.std.proofs.Common.{◌≡◌, ℕ, ◌+◌, ◌-◌, ◌*◌, ◌<◌, List, [], ◌∷◌, Bool, true, false, nat_lt, Option, Some, None, Ok, Err, refl, sym, ap, arith}
+use Rattle.std.proofs.Common.{◌≡◌, ℕ, ◌+◌, ◌-◌, ◌*◌, ◌<◌, List, [], ◌∷◌, Bool, true, false, nat_lt, Option, Some, None, Ok, Err, refl, sym, ap, ◌∙◌, arith}
 use Rattle.std.proofs.lemmas.Bool.Decides.{nat_tests}
 use Rattle.rds_encoder.specs.declared.reply.Refusal.{Refusal}
 use Rattle.rds_encoder.specs.declared.reply.Refusal.TheVariants.{Silent}
@@ -10,7 +10,7 @@ use Rattle.std.specs.Result.{IsErrAnd}
 use Rattle.rds_encoder.proofs.OnAir.{not_held_in_silence}
 
 -- a refusal as silent does not depend on the rest of the reply
-pub silent_first : (m now start : ℕ) (r : Refusal) (reply : Reply) → unless_silent m now start (Ok tt) ≡ Err r → unless_silent m now start reply ≡ Err r
+silent_first : (m now start : ℕ) (r : Refusal) (reply : Reply) → unless_silent m now start (Ok tt) ≡ Err r → unless_silent m now start reply ≡ Err r
 silent_first m now start r reply e = by_test (nat_lt now (start + m)) refl
   where
     by_test : (b : Bool) → nat_lt now (start + m) ≡ b → unless_silent m now start reply ≡ Err r
@@ -63,10 +63,18 @@ left_of_hold m moves = by_test (nat_lt (slot_of moves) (restart_before moves + m
     by_test false t = rw t (by_last (last_accepted m moves))
 
 -- so the silence of names is that of texts
-pub names_silent : (m : ℕ) (entries : List Entry) (reply : Reply)
+names_silent : (m : ℕ) (entries : List Entry) (reply : Reply)
     → unless_silent m (slot_of (name_moves entries)) (restart_before (name_moves entries)) reply
     ≡ unless_silent m (slot_of (text_moves entries)) (restart_before (text_moves entries)) reply
 names_silent m entries reply = rw (same_slot entries, same_restart entries) refl
+
+-- the reply to a name in the silence, and after it
+pub names_in_silence : (m : ℕ) (entries : List Entry) (r : Refusal) → Err r ≡ unless_silent m (slot_of (text_moves entries)) (restart_before (text_moves entries)) (Ok tt) → reply_to m (name_moves entries) ≡ Err r
+names_in_silence m entries r e = names_silent m entries _ ∙ silent_first m _ _ r _ (sym e)
+
+pub names_after_silence : (m : ℕ) (entries : List Entry) → Ok tt ≡ unless_silent m (slot_of (text_moves entries)) (restart_before (text_moves entries)) (Ok tt)
+    → reply_to m (name_moves entries) ≡ held_reply m (slot_of (name_moves entries)) (last_accepted m (name_moves entries))
+names_after_silence m entries e = names_silent m entries _ ∙ silence_over m _ _ _ (sym e)
 
 -- an error that is passed on is that error
 pub passed_on : (reply : Reply) (r : Refusal) → IsErrAnd reply (λ e. e ≡ r) → reply ≡ Err r

@@ -1,20 +1,20 @@
 -- Lemmas about one more set: the state of the encoder follows from the longer list.
-use Rattle.std.proofs.Common.{◌≡◌, ℕ, List, ◌∷◌, true, false, Some, None, Ok, Err, refl, sym, ap, arith, is_ok}
-use Rattle.std.specs.Prelude.{OnErr, OnOk}
+use Rattle.std.proofs.Common.{◌≡◌, ℕ, List, ◌∷◌, true, false, Option, Some, None, Ok, refl, ap, arith, is_ok}
 use Rattle.std.proofs.Math.Nat.{zero-mod}
 use Rattle.rds_fields.specs.declared.head.Head.{Head}
-use Rattle.rds_encoder.specs.Entries.{Entry, Move, SetText, SetName, Set, name_moves, slot_of, text_moves}
-use Rattle.rds_encoder.specs.Reply.{Reply, reply_to}
+use Rattle.rds_fields.specs.Tag.{PairFields}
+use Rattle.rds_encoder.specs.Entries.{Entry, SetText, SetName, Set, name_moves, slot_of, text_moves}
+use Rattle.rds_encoder.specs.Reply.{reply_to}
 use Rattle.rds_encoder.specs.Sent.{is_text_turn}
 use Rattle.rds_encoder.specs.StandsAt.{HoldsBack, StandsAt}
 use Rattle.rds_encoder.specs.State.{EncoderState, TextState, TrackState}
 use Rattle.rds_encoder.proofs.Turns.{none_yet}
 
 -- a text that is accepted begins with its first segment
-pub text_accepted : (station : Head) (m : ℕ) (e : EncoderState) (track : TrackState TextState) (entries : List Entry) (x : List ℕ)
-    → StandsAt station m e entries → reply_to m (text_moves entries) ≡ Ok tt → HoldsBack m track.hold (Set x ∷ text_moves entries) → track.on_air ≡ Some record { bytes = x; next = 0 }
-    → StandsAt station m record { head = e.head; distance = e.distance; silence = e.silence; round = e.round; text = track; name = e.name; pair = None } (SetText x ∷ entries)
-text_accepted station m e track entries x st ok back on =
+pub text_accepted : (station : Head) (m : ℕ) (e : EncoderState) (track : TrackState TextState) (pair : Option PairFields) (entries : List Entry) (x : List ℕ)
+    → StandsAt station m e entries → reply_to m (text_moves entries) ≡ Ok tt → HoldsBack m track.hold (Set x ∷ text_moves entries) → track.on_air ≡ Some record { bytes = x; next = 0 } → pair ≡ None
+    → StandsAt station m record { head = e.head; distance = e.distance; silence = e.silence; round = e.round; text = track; name = e.name; pair = pair } (SetText x ∷ entries)
+text_accepted station m e track pair entries x st ok back on none =
     let done : is_ok (reply_to m (text_moves entries)) ≡ true = ap is_ok ok in
     let first = none_yet (is_text_turn m) (slot_of (text_moves entries)) (text_moves entries) (omega arith) in
     record {
@@ -24,7 +24,7 @@ text_accepted station m e track entries x st ok back on =
       round = st.round;
       text = record { hold = back; on_air = rw (on, done, first, zero-mod) refl };
       name = st.name;
-      pair = rw done refl;
+      pair = rw (done, none) refl;
     }
 
 -- a name that is accepted, or refused
@@ -57,12 +57,3 @@ name_refused station m e entries x st absent = record {
   };
   pair = st.pair;
 }
-
--- a name that is set after the silence
-pub name_set : (station : Head) (m : ℕ) (e : EncoderState) (track : TrackState (List ℕ)) (entries : List Entry) (x : List ℕ) (reply : Reply)
-    → StandsAt station m e entries → reply ≡ reply_to m (name_moves entries) → OnErr reply (track ≡ e.name) → OnOk reply (track.on_air ≡ Some x)
-    → OnOk reply ((moves : List Move) (y : List ℕ) → HoldsBack m e.name.hold moves → reply_to m moves ≡ Ok tt → HoldsBack m track.hold (Set y ∷ moves))
-    → StandsAt station m record { head = e.head; distance = e.distance; silence = e.silence; round = e.round; text = e.text; name = track; pair = e.pair } (SetName x ∷ entries)
-name_set station m e track entries x (Ok done) st is kept on back =
-    name_accepted station m e track entries x st (sym is) (back (name_moves entries) x st.name.hold (sym is)) on
-name_set station m e track entries x (Err refusal) st is kept on back = rw kept (name_refused station m e entries x st (ap is_ok (sym is)))

@@ -36,11 +36,19 @@ encoder_stored e = record {
   pair = pair_stored e.pair;
 }
 
--- the stored text is valid, and its next segment is one of its segments
-pub record IsTextStored (t : StoredText) : Type 0 where
+-- the numbers are a text, and its next segment is one of its segments
+pub record HoldsText (t : StoredText) : Type 0 where
   pub fits : t.length ≤ 64
   pub text : IsText (take t.length t.bytes)
   pub state : IsTextState (state_stored t)
+
+-- if a text is stored, its numbers are valid
+abbrev pub IsStoredText : StoredText → Type 0
+IsStoredText t = IsTrue (is_set t.is_on_air) → HoldsText t
+
+-- if a name is stored, its bytes are valid
+abbrev pub IsStoredName : StoredName → Type 0
+IsStoredName n = IsTrue (is_set n.is_on_air) → IsName n.bytes
 
 -- the numbers are valid
 pub record IsStored (e : StoredEncoder) : Type 0 where
@@ -48,6 +56,6 @@ pub record IsStored (e : StoredEncoder) : Type 0 where
   pub some : 0 < e.distance
   pub distance : e.distance ≤ 66559
   pub round : e.round < 8
-  pub text : IsTrue (is_set e.text.is_on_air) → IsTextStored e.text
-  pub name : IsTrue (is_set e.name.is_on_air) → IsName e.name.bytes
+  pub text : IsStoredText e.text
+  pub name : IsStoredName e.name
   pub pair : IsStoredPair e.pair

@@ -12,15 +12,15 @@
 //! ```
 #![tactic(auto)]
 
+mod due;
 mod encoder;
 mod hold;
 mod laws;
+mod on_air;
 mod reply;
 mod round;
 mod silence;
 mod stored;
-mod text_on_air;
-mod track;
 
 pub use encoder::Encoder;
 pub use laws::{

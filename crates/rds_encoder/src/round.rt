@@ -2,8 +2,6 @@
 ghost use Rattle.std.specs.Prelude.{◌≡◌, ◌+◌, ◌%◌, ◌<◌};
 ghost use Rattle.rds_encoder.specs.Round.{IsTurn, turn_in};
 
-use std::marker::Model;
-
 /// What a free slot is used for.
 #[derive(Clone, Copy)]
 pub(crate) enum Turn {
@@ -17,67 +15,24 @@ pub(crate) enum Turn {
     Tags,
 }
 
-/// The place of the next turn in the round.
-#[derive(Drop)]
-pub(crate) struct Round {
-    place: u8,
+/// Returns the turn at this place of the round (this project's own schedule).
+pub(crate) fn turn_at(place: u8) -> Turn
+    ensures value { result ≡ turn_in place }
+    ensures own { IsTurn result }
+{
+    match place {
+        1 => Turn::Name(0),
+        3 => Turn::Name(1),
+        5 => Turn::Announcement,
+        7 => Turn::Tags,
+        _ => Turn::Text,
+    }
 }
 
-impl Model for Round {
-    ghost use Rattle.std.specs.Prelude.{◌<◌, ℕ};
-
-    ghost Value = { ℕ };
-
-    ghost view = { λ r. r.place };
-
-    ghost invariant = { λ r. r.place < 8 };
-}
-
-impl Round {
-    /// Makes a round at its first turn.
-    pub(crate) fn new() -> Round
-        ensures { result ≡ 0 }
-    {
-        Round { place: 0 }
-    }
-
-    /// Rebuilds a stored round. An invalid place gives a new round.
-    pub(crate) fn restore(place: u8) -> Round
-        ensures { place < 8 → result ≡ place }
-    {
-        if place < 8 {
-            Round { place }
-        } else {
-            Round::new()
-        }
-    }
-
-    /// Stores the place of the next turn.
-    pub(crate) fn store(&self) -> u8
-        ensures same { result ≡ self.now }
-        ensures below { result < 8 }
-    {
-        self.place
-    }
-
-    /// Returns the next turn (this project's own schedule).
-    pub(crate) fn turn(&self) -> Turn
-        ensures value { result ≡ turn_in self.now }
-        ensures own { IsTurn result }
-    {
-        match self.place {
-            0 | 2 | 4 | 6 => Turn::Text,
-            1 => Turn::Name(0),
-            3 => Turn::Name(1),
-            5 => Turn::Announcement,
-            _ => Turn::Tags,
-        }
-    }
-
-    /// Moves to the turn after it. After the last turn comes the first.
-    pub(crate) fn advance(&mut self)
-        ensures { self.new ≡ (self.old + 1) % 8 }
-    {
-        self.place = (self.place + 1) % 8;
-    }
+/// Returns the place after this one. After the last place comes the first.
+pub(crate) fn place_after(place: u8) -> u8
+    ensures value { result ≡ (place + 1) % 8 }
+    ensures below { result < 8 }
+{
+    (place % 8 + 1) % 8
 }

@@ -1,11 +1,21 @@
-//! An encoder as plain numbers, for a program that stores it. A bit is 0 for no and any other number for yes.
-ghost use Rattle.std.specs.Prelude.{◌≡◌, ◌≤◌, ◌<◌, IsTrue, Option, option_map};
-ghost use Rattle.rds_assembly.specs.Value.{IsName};
-ghost use Rattle.rds_fields.specs.Stored.{is_set};
-ghost use Rattle.rds_encoder.specs.Stored.{name_stored};
+//! The state of an encoder, as plain numbers: a program may store it, and each call changes it in place. A bit is 0 for
+//! no and any other number for yes.
+ghost use Rattle.std.specs.Prelude.{◌≡◌, ◌<◌, ◌≤◌, IfSome, OnErr, length, option_map};
+ghost use Rattle.std.specs.Option.{option_copied};
+ghost use Rattle.rds_assembly.specs.Value.{IsName, IsText};
+ghost use Rattle.rds_encoder.specs.Entries.{SetText, SetName, SetTags, Tick, name_moves, text_moves};
+ghost use Rattle.rds_encoder.specs.Plan.{bytes_of, on_air};
+ghost use Rattle.rds_encoder.specs.Reply.{IsSetReply, IsTagsReply, held_for, reply_to, silent_for};
+ghost use Rattle.rds_encoder.specs.Sent.{IsSent, is_turn, sent_in};
+ghost use Rattle.rds_encoder.specs.StandsAt.{Takes, WhereItStands};
+ghost use Rattle.rds_encoder.specs.Stored.{IsStored, encoder_stored, head_stored};
+ghost use Rattle.rds_encoder.specs.Tags.{fitting_reply, pair_on_air, tags_reply};
 
-use rds_assembly::{LONGEST_TEXT, Name};
-use rds_fields::StoredPair;
+use crate::silence::check_silence;
+use crate::{Refusal, Wait};
+use rds_assembly::{LONGEST_TEXT, NAME_LENGTH, Name, Text};
+use rds_block::{Group, Place};
+use rds_fields::{Distance, Head, StoredPair, TagPair, Which};
 
 /// For how many more slots a service holds its next set back, and the flag of that set.
 #[repr(C)]
@@ -29,11 +39,12 @@ pub struct StoredText {
 #[repr(C)]
 #[derive(Clone, Copy)]
 pub struct StoredName {
-    pub bytes: [u8; 8],
+    pub bytes: [u8; NAME_LENGTH],
     pub is_on_air: u8,
 }
 
-/// All that an encoder holds.
+/// The plain numbers of an encoder. Its calls do what those of an [`Encoder`](crate::Encoder) do. Invalid numbers give
+/// arbitrary results and arbitrary numbers.
 #[repr(C)]
 #[derive(Clone, Copy)]
 pub struct StoredEncoder {
@@ -53,33 +64,154 @@ pub struct StoredEncoder {
     pub pair: StoredPair,
 }
 
-impl StoredName {
-    /// Stores the name, if there is one.
-    pub(crate) fn of(name: &Option<Name>) -> StoredName
-        ensures same { name_stored result ≡ name.now }
-        ensures good { IsTrue (is_set result.is_on_air) → IsName result.bytes }
+impl StoredEncoder {
+    /// Puts the text on air. After an error nothing has changed.
+    pub fn set_text(&mut self, text: Text) -> Result<(), Refusal>
+        ensures reply { WhereItStands (encoder_stored self.old)
+            (λ _ m entries. result ≡ reply_to m (text_moves entries)) }
+        ensures kind { IsSetReply result }
+        ensures stands { IsStored self.old
+            → Takes (encoder_stored self.old) (encoder_stored self.new) (SetText text) }
+        ensures good { IsStored self.old → IsStored self.new }
+        ensures kept { OnErr result (self.new ≡ self.old) }
     {
-        let mut bytes = [0; 8];
-        let Some(name) = name else {
-            return StoredName {
-                bytes,
-                is_on_air: 0,
-            };
-        };
-        bytes.copy_from_slice(name.bytes());
-        StoredName {
-            bytes,
-            is_on_air: 1,
+        check_silence(self.silence)?;
+        self.text_hold.set(Distance::restore(self.distance))?;
+        self.text = StoredText::of(text);
+        self.pair = StoredPair::none();
+        Ok(())
+    }
+
+    /// Puts the name on air. After an error nothing has changed.
+    pub fn set_name(&mut self, name: Name) -> Result<(), Refusal>
+        ensures reply { WhereItStands (encoder_stored self.old)
+            (λ _ m entries. result ≡ reply_to m (name_moves entries)) }
+        ensures kind { IsSetReply result }
+        ensures stands { IsStored self.old
+            → Takes (encoder_stored self.old) (encoder_stored self.new) (SetName name) }
+        ensures good { IsStored self.old → IsStored self.new }
+        ensures kept { OnErr result (self.new ≡ self.old) }
+    {
+        check_silence(self.silence)?;
+        self.name_hold.set(Distance::restore(self.distance))?;
+        self.name = StoredName::of(name);
+        Ok(())
+    }
+
+    /// Gives the text on air these tags. After an error nothing has changed.
+    pub fn set_tags(&mut self, pair: TagPair) -> Result<(), Refusal>
+        ensures reply { WhereItStands (encoder_stored self.old)
+            (λ _ m entries. result ≡ tags_reply m pair entries) }
+        ensures kind { IsTagsReply result }
+        ensures stands { Takes (encoder_stored self.old) (encoder_stored self.new) (SetTags pair) }
+        ensures good { IsStored self.old → IsStored self.new }
+        ensures kept { OnErr result (self.new ≡ self.old) }
+    {
+        check_silence(self.silence)?;
+        self.check_tags(pair)?;
+        self.pair = StoredPair::of(Some(pair));
+        Ok(())
+    }
+
+    /// Ends the slot and returns the group that is sent in it.
+    pub fn tick(&mut self, free: bool) -> Option<Group>
+        ensures sent { IsStored self.old → WhereItStands (encoder_stored self.old)
+            (λ station m entries. IsSent station (sent_in m free entries) result) }
+        ensures stands { Takes (encoder_stored self.old) (encoder_stored self.new) (Tick free) }
+        ensures good { IsStored self.old → IsStored self.new }
+    {
+        let message = self.due(free);
+        self.end_slot(free);
+        message?.group(self.head())
+    }
+
+    /// Returns the text on air, borrowed from the numbers.
+    pub fn text(&self) -> Option<&[u8]>
+        ensures on_air { WhereItStands (encoder_stored self.now)
+            (λ _ m entries. option_copied result
+            ≡ option_map bytes_of (on_air m (text_moves entries))) }
+        ensures text { IsStored self.now → IfSome result (λ x. IsText x.now) }
+        ensures short { IfSome result (λ x. length x.now ≤ 64) }
+    {
+        if self.text.is_on_air == 0 {
+            return None;
+        }
+        Some(self.text.text())
+    }
+
+    /// Returns the name on air, borrowed from the numbers.
+    pub fn name(&self) -> Option<&[u8]>
+        ensures on_air { WhereItStands (encoder_stored self.now)
+            (λ _ m entries. option_copied result
+            ≡ option_map bytes_of (on_air m (name_moves entries))) }
+        ensures name { IsStored self.now → IfSome result (λ x. IsName x.now) }
+        ensures short { IfSome result (λ x. length x.now ≡ 8) }
+    {
+        if self.name.is_on_air == 0 {
+            return None;
+        }
+        Some(self.name.bytes.as_slice())
+    }
+
+    /// Returns the tags of the text on air.
+    pub fn tags(&self) -> Option<TagPair>
+        ensures { IsStored self.now
+            → WhereItStands (encoder_stored self.now) (λ _ m entries. result ≡ pair_on_air m entries) }
+    {
+        self.pair.pair()
+    }
+
+    /// Returns for how many more slots a set would be refused, this slot included.
+    pub fn wait(&self) -> Wait
+        ensures silent { WhereItStands (encoder_stored self.now)
+            (λ _ m entries. result.silent ≡ silent_for (reply_to m (text_moves entries))) }
+        ensures text { WhereItStands (encoder_stored self.now)
+            (λ _ m entries. result.text ≡ held_for (reply_to m (text_moves entries))) }
+        ensures name { WhereItStands (encoder_stored self.now)
+            (λ _ m entries. result.name ≡ held_for (reply_to m (name_moves entries))) }
+    {
+        Wait {
+            silent: self.silence,
+            text: self.text_hold.left,
+            name: self.name_hold.left,
         }
     }
 
-    /// Returns the stored name. `None` if no name is on air, or if the numbers are not valid.
-    pub(crate) fn name(&self) -> Option<Name>
-        ensures { (IsTrue (is_set self.now.is_on_air) → IsName self.now.bytes) → result ≡ name_stored self.now }
+    /// Returns the head of the station's groups.
+    pub(crate) fn head(&self) -> Head
+        ensures value { self.now.pty < 32 → result ≡ head_stored self.now }
+        ensures pty { result.pty < 32 }
     {
-        if self.is_on_air == 0 {
-            return None;
+        Head {
+            pi: self.pi,
+            tp: self.tp != 0,
+            pty: Place::new(self.pty).unwrap_or(Place::new(0).unwrap()),
         }
-        Name::new(&self.bytes).ok()
+    }
+
+    /// Refuses tags if no text is on air, or if one does not end in the text on air.
+    fn check_tags(&self, pair: TagPair) -> Result<(), Refusal>
+        ensures kind { IsTagsReply result }
+        ensures reply { WhereItStands (encoder_stored self.now)
+            (λ _ m entries. result ≡ fitting_reply pair (on_air m (text_moves entries))) }
+    {
+        let Some(text) = self.text() else {
+            return Err(Refusal::NoText);
+        };
+        if !pair.one().ends_in(text.len()) {
+            return Err(Refusal::OutOfText(Which::One));
+        }
+        if !pair.two().ends_in(text.len()) {
+            return Err(Refusal::OutOfText(Which::Two));
+        }
+        Ok(())
+    }
+
+    /// Returns whether the slot has a turn: it is free, and the silence is over.
+    pub(crate) fn has_turn(&self, free: bool) -> bool
+        ensures { WhereItStands (encoder_stored self.now)
+            (λ _ m entries. result ≡ is_turn m free (text_moves entries)) }
+    {
+        free && self.silence == 0
     }
 }

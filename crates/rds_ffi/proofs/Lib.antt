@@ -1,4 +1,3 @@
 pub mod Bits
-pub mod InMemory
 pub mod HeldSegments
 pub mod Audits

@@ -1,5 +1,5 @@
 //! An encoder in the caller's memory.
-ghost use Rattle.std.specs.Prelude.{◌≡◌, ◌≢◌, ◌+◌, ◌<◌, ◌≤◌, ◌↔◌, ℕ, List, [], ◌∷◌, OnErr, Option, option_map};
+ghost use Rattle.std.specs.Prelude.{◌≡◌, ◌≢◌, ◌+◌, ◌<◌, ◌≤◌, ◌↔◌, ℕ, List, [], ◌∷◌, Option, option_map};
 ghost use Rattle.rds_block.specs.declared.group.Group.{Group};
 ghost use Rattle.rds_fields.specs.declared.head.Head.{Head};
 ghost use Rattle.rds_fields.specs.Stored.{is_set};
@@ -10,7 +10,6 @@ ghost use Rattle.rds_encoder.specs.Entries.{Entry, Restart, SetName, SetTags, Se
 ghost use Rattle.rds_encoder.specs.Plan.{bytes_of, on_air};
 ghost use Rattle.rds_encoder.specs.Reply.{IsSetReply, IsTagsReply, held_for, reply_to, silent_for};
 ghost use Rattle.rds_encoder.specs.Sent.{IsSent, sent_in};
-ghost use Rattle.rds_encoder.specs.Stored.{IsStored, encoder_stored};
 ghost use Rattle.rds_encoder.specs.Tags.{tags_reply};
 ghost use Rattle.rds_ffi.specs.Codes.{RDSRT_BAD_ARGUMENT, RDSRT_BAD_TAGS, RDSRT_OK, IsReplyOf, refusal_of, reply_of};
 ghost use Rattle.rds_ffi.specs.EncoderInMemory.{EncoderInMemory, TakesStored, WhereItIs};
@@ -24,7 +23,7 @@ use crate::tags::{RdsrtTags, pair_given};
 use crate::view::{RdsrtName, RdsrtText, plain_name, plain_text};
 use rds_assembly::{Name, Text};
 use rds_block::Place;
-use rds_encoder::{Encoder, Refusal, StoredEncoder};
+use rds_encoder::{Encoder, StoredEncoder};
 use rds_fields::{Dwell, Head, Late};
 
 /// The text and the name on air.
@@ -105,9 +104,7 @@ pub extern "C" fn rdsrt_encoder_set_text(encoder: &mut StoredEncoder, text: &[u8
         Ok(text) => text,
         Err(refused) => return plain_refusal(refused),
     };
-    let mut inner = Encoder::restore(encoder);
-    let reply = inner.set_text(text);
-    answered(encoder, &inner, reply)
+    plain_reply(encoder.set_text(text))
 }
 
 /// Puts the name of these bytes on air from this slot on, padded with spaces to eight.
@@ -131,9 +128,7 @@ pub extern "C" fn rdsrt_encoder_set_name(encoder: &mut StoredEncoder, name: &[u8
         Ok(name) => name,
         Err(refused) => return plain_refusal(refused),
     };
-    let mut inner = Encoder::restore(encoder);
-    let reply = inner.set_name(name);
-    answered(encoder, &inner, reply)
+    plain_reply(encoder.set_name(name))
 }
 
 /// Sets the tags of the text on air.
@@ -160,9 +155,7 @@ pub extern "C" fn rdsrt_encoder_set_tags(
             number: 0,
         };
     };
-    let mut inner = Encoder::restore(encoder);
-    let reply = inner.set_tags(pair);
-    answered(encoder, &inner, reply)
+    plain_reply(encoder.set_tags(pair))
 }
 
 /// Ends the slot, and writes the four blocks of its group. Returns `RDSRT_SENT`, or `RDSRT_OK` and unchanged blocks if
@@ -179,10 +172,7 @@ pub extern "C" fn rdsrt_encoder_tick(
     ensures few { result ≤ 1 }
     ensures kept { result ≡ RDSRT_OK → blocks.new ≡ blocks.old }
 {
-    let mut inner = Encoder::restore(encoder);
-    let sent = inner.tick(free != 0);
-    *encoder = inner.store();
-    let Some(group) = sent else {
+    let Some(group) = encoder.tick(free != 0) else {
         return codes::OK;
     };
     *blocks = group.to_blocks();
@@ -199,10 +189,9 @@ pub extern "C" fn rdsrt_encoder_on_air(encoder: &StoredEncoder, air: &mut RdsrtO
     ensures plain_text { IsPlainText air.new.text }
     ensures plain_name { IsPlainName air.new.name }
 {
-    let inner = Encoder::restore(encoder);
     *air = RdsrtOnAir {
-        text: plain_text(inner.text()),
-        name: plain_name(inner.name()),
+        text: plain_text(encoder.text()),
+        name: plain_name(encoder.name()),
     };
 }
 
@@ -216,24 +205,10 @@ pub extern "C" fn rdsrt_encoder_wait(encoder: &StoredEncoder, wait: &mut RdsrtWa
     ensures name { WhereItIs encoder.now
         (λ _ m entries. wait.new.name ≡ held_for (reply_to m (name_moves entries))) }
 {
-    let left = Encoder::restore(encoder).wait();
+    let left = encoder.wait();
     *wait = RdsrtWait {
         silent: left.silent,
         text: left.text,
         name: left.name,
     };
-}
-
-/// Returns the reply, and stores the encoder if the set was accepted.
-fn answered(encoder: &mut StoredEncoder, inner: &Encoder, reply: Result<(), Refusal>) -> RdsrtReply
-    ensures reply { result ≡ reply_of reply }
-    ensures same { OnErr reply (inner.now ≡ encoder_stored encoder.old)
-        → encoder_stored encoder.new ≡ inner.now }
-    ensures good { IsStored encoder.old → IsStored encoder.new }
-    ensures kept { result.code ≢ RDSRT_OK → encoder.new ≡ encoder.old }
-{
-    if reply.is_ok() {
-        *encoder = inner.store();
-    }
-    plain_reply(reply)
 }

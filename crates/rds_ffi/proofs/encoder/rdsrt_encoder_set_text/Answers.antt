@@ -2,14 +2,12 @@ use Rattle.std.proofs.Common.{◌∷◌, ◌∙◌, ap, subst, ℕ, List}
 use Rattle.rds_encoder.specs.Entries.{SetText}
 use Rattle.rds_ffi.specs.EncoderInMemory.{EncoderInMemory}
 use Rattle.rds_ffi.specs.Codes.{reply_of}
-use Rattle.rds_ffi.proofs.InMemory.{back, there, unmoved}
 use Rattle.rds_ffi.proofs.encoder.rdsrt_encoder_set_text.Goals as goal
 
 pub returns-clause-reply : goal.returns-clause-reply
-returns-clause-reply c given station m entries s =
-    c.answered.ensures.reply ∙ ap reply_of (c.set_text-reply.ensures.reply station m entries (there station m _ entries _ c.restore-inner.ensures s))
+returns-clause-reply c given station m entries s = c.plain_reply.ensures ∙ ap reply_of (c.set_text.ensures.reply station m entries s.at)
 
 pub returns-clause-stands : goal.returns-clause-stands
 returns-clause-stands c given station m entries s =
-    subst (λ (x : List ℕ). EncoderInMemory station m c.answered.new.encoder (SetText x ∷ entries)) c.in-Ok.ensures.value
-    (back station m _ _ _ (c.answered.ensures.same (unmoved c.set_text-reply.result _ _ _ c.set_text-reply.ensures.kept (c.restore-inner.ensures s.good))) (c.answered.ensures.good s.good) (c.set_text-reply.ensures.stands station m entries (there station m _ entries _ c.restore-inner.ensures s)))
+    subst (λ (x : List ℕ). EncoderInMemory station m c.set_text.new.self (SetText x ∷ entries)) c.in-Ok.ensures.value
+    record { good = c.set_text.ensures.good s.good; at = c.set_text.ensures.stands s.good station m entries s.at }

@@ -1,17 +1,25 @@
 use Rattle.std.proofs.Common.{ap, [], ◌++◌, ◌≡◌, ◌+◌, ◌<◌, ℕ, List, ◌∷◌, length, reverse, take, Some, sym, ◌∙◌, subst, refl, below_more}
 use Rattle.std.proofs.lemmas.List.{reverse-append, take_more}
 use Rattle.std.proofs.lemmas.Option.{slice_get_read}
-use Rattle.std.specs.Prelude.{slice_get, slice_index_or}
+use Rattle.std.specs.Prelude.{IfSome, slice_get, slice_index_or}
 use Rattle.rds_world.specs.Event.{Event}
-use Rattle.rds_world.specs.Replies.{CanBeTaken}
+use Rattle.rds_world.specs.Premise.{Premise}
+use Rattle.rds_world.specs.Replies.{CanBeTaken, IsStepRefused}
 use Rattle.rds_world.specs.SafeSlots.{OnlyWhatWasOnAirIsShown}
 use Rattle.rds_world.specs.StandsAt.{StandsAt}
+use Rattle.rds_world.specs.declared.reply.StepRefused.{StepRefused}
 use Rattle.rds_world.proofs.slots.play.Goals as goal
 
 one_later : (xs : List Event) (i : ℕ) (x : Event) → i < length xs → x ≡ slice_index_or xs i x → x ∷ reverse (take i xs) ≡ reverse (take (i + 1) xs)
 one_later xs i x h e =
     let more : take (i + 1) xs ≡ take i xs ++ x ∷ [] = take_more xs i x h ∙ ap (λ (y : Event). take i xs ++ y ∷ []) (sym e) in
     sym (ap (λ (ys : List Event). reverse ys) more ∙ reverse-append (take i xs) (x ∷ []))
+
+refused_here : (p : Premise) (count receivers : ℕ) (events : List Event) (i : ℕ) (e : Event) (why : StepRefused) → count ≡ receivers → i < length events → e ≡ slice_index_or events i e
+    → IsStepRefused p count e (reverse (take i events)) why → IfSome (slice_get events i) (λ e. IsStepRefused p receivers e (reverse (take i events)) why)
+refused_here p count receivers events i e why same there is refused =
+    let at : slice_get events i ≡ Some e = slice_get_read events (length events) i e refl there is in
+    rw at (subst (λ (n : ℕ). IsStepRefused p n e (reverse (take i events)) why) same refused)
 
 pub loop-i-preserved : goal.loop-i-preserved
 loop-i-preserved c =
@@ -31,4 +39,34 @@ loop-i-preserved c =
       count = step.count ∙ c.loop-i.invariant.count;
       few = c.loop-i.invariant.few;
       good = below_more _ _ c.loop-i.invariant.good (rw at taken);
+    }
+
+pub returns-in-Err-Late-clause-refused : goal.returns-in-Err-Late-clause-refused
+returns-in-Err-Late-clause-refused c =
+    let before = reverse (take c.loop-i.i c.args.events.now) in
+    record {
+      few = c.loop-i.invariant.few;
+      refused = rw (c.in-Err-Late.field-0-is, ← c.in-Err-Late.receiver-is) at (refused_here c.args.config.premise _ _ _ _ c.index-events-i.result _ c.loop-i.invariant.count c.loop-i-test.true c.index-events-i.is (c.in-Err-Late.ensures.refused c.args.config before c.loop-i.invariant.stands));
+      there = c.loop-i-test.true;
+      first = c.loop-i.invariant.good;
+    }
+
+pub returns-in-Err-Wrong-clause-refused : goal.returns-in-Err-Wrong-clause-refused
+returns-in-Err-Wrong-clause-refused c =
+    let before = reverse (take c.loop-i.i c.args.events.now) in
+    record {
+      few = c.loop-i.invariant.few;
+      refused = rw (c.in-Err-Wrong.field-0-is, ← c.in-Err-Wrong.receiver-is) at (refused_here c.args.config.premise _ _ _ _ c.index-events-i.result _ c.loop-i.invariant.count c.loop-i-test.true c.index-events-i.is (c.in-Err-Wrong.ensures.refused c.args.config before c.loop-i.invariant.stands));
+      there = c.loop-i-test.true;
+      first = c.loop-i.invariant.good;
+    }
+
+pub returns-in-Err-WrongTwice-clause-refused : goal.returns-in-Err-WrongTwice-clause-refused
+returns-in-Err-WrongTwice-clause-refused c =
+    let before = reverse (take c.loop-i.i c.args.events.now) in
+    record {
+      few = c.loop-i.invariant.few;
+      refused = rw (c.in-Err-WrongTwice.field-0-is, ← c.in-Err-WrongTwice.receiver-is) at (refused_here c.args.config.premise _ _ _ _ c.index-events-i.result _ c.loop-i.invariant.count c.loop-i-test.true c.index-events-i.is (c.in-Err-WrongTwice.ensures.refused c.args.config before c.loop-i.invariant.stands));
+      there = c.loop-i-test.true;
+      first = c.loop-i.invariant.good;
     }
