@@ -5,8 +5,7 @@ use Rattle.std.proofs.lemmas.Bool.{cases_lt, cond_both}
 use Rattle.rds_fields.specs.Tag.{PairFields}
 use Rattle.rds_receiver.specs.Receipts.{Fragment}
 use Rattle.rds_receiver.specs.Run.{is_same}
-use Rattle.rds_audit.specs.declared.ages.Ages.{Ages}
-use Rattle.rds_audit.specs.Ages.{HasLasted, HoldsAges, IsEarly, Joins, age_of_newest, aged, opened_ages}
+use Rattle.rds_audit.specs.Ages.{Ages, HasLasted, HoldsAges, IsEarly, Joins, age_of_newest, aged, opened_ages}
 use Rattle.rds_audit.specs.Reigns.{AlternateFlags, Reign, opened_by, past_newest, start_after, with_fragment, with_tags}
 use Rattle.rds_safety.specs.Flags.{is_other_flag, is_same_flag, same_or_other}
 

@@ -7,10 +7,9 @@ use Rattle.rds_fields.specs.declared.message.Message.TheVariants.{Text, Name, An
 use Rattle.rds_fields.specs.Tag.{PairFields}
 use Rattle.rds_receiver.specs.Receipts.{Fragment}
 use Rattle.rds_safety.specs.Marks.{IsMarkIn, Mark, Nothing, Tagged, marks, name_mark, text_mark}
-use Rattle.rds_audit.specs.declared.ages.Ages.{Ages}
 use Rattle.rds_audit.specs.declared.log_start.LogStart.{LogStart}
 use Rattle.rds_audit.specs.declared.log_start.LogStart.TheVariants.{Complete, Running}
-use Rattle.rds_audit.specs.Ages.{HasCurrent, age_at, ages_at}
+use Rattle.rds_audit.specs.Ages.{Ages, HasCurrent, age_at, ages_at}
 use Rattle.rds_audit.specs.AuditStandsAt.{HoldsLog, HoldsMarks}
 use Rattle.rds_audit.specs.AuditState.{AuditState, no_content}
 use Rattle.rds_audit.specs.Lengths.{Gauge, name_gauge, text_gauge}

@@ -6,10 +6,9 @@ use Rattle.std.proofs.lemmas.Bool.{and_parts, cond_both, lt-ltb, ltb-true}
 use Rattle.rds_fields.specs.Tag.{PairFields}
 use Rattle.rds_receiver.specs.Receipts.{Fragment}
 use Rattle.rds_receiver.specs.Run.{is_same}
-use Rattle.rds_audit.specs.declared.ages.Ages.{Ages}
 use Rattle.rds_audit.specs.declared.audit.AuditFault.{AuditFault}
 use Rattle.rds_audit.specs.declared.audit.AuditFault.TheVariants.{EarlyFlag, EarlyTag, TagOutside}
-use Rattle.rds_audit.specs.Ages.{HasLasted, HoldsAges, IsEarly, Joins, aged}
+use Rattle.rds_audit.specs.Ages.{Ages, HasLasted, HoldsAges, IsEarly, Joins, aged}
 use Rattle.rds_audit.specs.AuditStandsAt.{HoldsContent, HoldsMarks, HoldsNewest, fragments_of, tags_of}
 use Rattle.rds_audit.specs.AuditState.{CanTake, CannotTake, ContentState, ReignsState, joined_state, no_content, opened_state, tagged_state}
 use Rattle.rds_safety.specs.Lawful.{Kind}

@@ -3,10 +3,20 @@
 use Rattle.std.specs.Prelude.{◌≡◌, ◌≢◌, ◌≤◌, ◌+◌, ◌-◌, ◌*◌, ◌<◌, ◌&&◌, ◌↔◌, [], ◌∷◌}
 use Rattle.std.specs.Prelude.{ℕ, Bool, true, false, IsTrue, List, min, not, if◌then◌else◌}
 use Rattle.rds_receiver.specs.Run.{is_same}
-use Rattle.rds_audit.specs.declared.ages.Ages.{Ages}
 use Rattle.rds_audit.specs.declared.log_start.LogStart.{LogStart}
 use Rattle.rds_audit.specs.declared.log_start.LogStart.TheVariants.{Complete, Running}
 use Rattle.rds_audit.specs.Reigns.{AlternateFlags, Reign}
+
+-- how many slots ago the current reign and the one before it had their last slot, and how many slots ago the current
+-- one started; and whether the flag turned from each reign to the next one. Before the first reign, a complete log
+-- counts as d slots older than it is, and the log of a running station as 2 * d or more
+pub record Ages : Type 0 where
+  pub is_open : Bool
+  pub flag : Bool
+  pub since_last : ℕ
+  pub since_before : ℕ
+  pub since_start : ℕ
+  pub turns : Bool
 
 -- how old a log counts before its first slot
 abbrev pub age_at : LogStart → ℕ → ℕ

@@ -1,8 +1,8 @@
 -- An audit stored as plain numbers (this project's own form).
 use Rattle.std.specs.Prelude.{ℕ, ◌<◌, ◌≤◌, ◌==◌, List, Option, Some, None, map, if◌then◌else◌}
 use Rattle.rds_fields.specs.Stored.{is_set}
+use Rattle.rds_audit.specs.Ages.{Ages}
 use Rattle.rds_audit.specs.AuditState.{AuditState, ContentState, ReignsState, start_if}
-use Rattle.rds_audit.specs.declared.ages.Ages.{Ages}
 use Rattle.rds_audit.specs.declared.audit.AuditFault.{AuditFault}
 use Rattle.rds_audit.specs.declared.audit.AuditFault.TheVariants.{Changed, NotOneText, EarlyFlag}
 use Rattle.rds_audit.specs.declared.audit.AuditFault.TheVariants.{EarlyTag, TagOutside}

@@ -1,131 +1,90 @@
 //! The content of a reign: its segments and tags.
-ghost use Rattle.std.specs.Prelude.{◌≡◌, ◌+◌, ◌<◌, ◌≤◌, ◌↔◌, ℕ, IsOk, IsErr, IsTrue, IfOk, IfErr, Some};
+ghost use Rattle.std.specs.Prelude.{◌≡◌, ◌+◌, ◌<◌, ◌≤◌, ◌↔◌, IsOk, IsErr, IsTrue, IfOk, IfErr, None, Some};
 ghost use Rattle.rds_audit.specs.AuditState.{CanTake, CannotTake, HasRoom, HoldsNoOther, cell_at, no_content, tagged};
 ghost use Rattle.rds_audit.specs.AuditState.{taken};
 ghost use Rattle.rds_audit.specs.Lengths.{narrowed, pair_end, tag_end};
-ghost use Rattle.rds_audit.specs.Stored.{ages_stored, content_stored};
+ghost use Rattle.rds_audit.specs.Stored.{ages_stored, cell_stored, content_stored};
 
 use crate::AuditFault;
-use crate::ages::Ages;
 use crate::audited::{Audited, Lengths};
-use crate::stored::{StoredReigns, cells_restored, cells_stored};
+use crate::stored::{StoredCell, StoredReigns};
 use rds_fields::{Tag, TagPair};
-use std::marker::{Model, PhantomData};
 
-/// The segments and the tags of a reign: the bytes at each address, the lengths that all segments allow, and the
-/// greatest end of a tag.
-#[derive(Drop)]
-pub(crate) struct Content<S: Audited> {
-    cells: [Option<[u8; 4]>; 16],
-    lengths: Lengths,
-    tags_end: u8,
-    service: PhantomData<S>,
-}
-
-impl<S: Audited> Model for Content<S> {
-    ghost use Rattle.std.specs.Prelude.{◌≡◌, length};
-    ghost use Rattle.rds_audit.specs.AuditState.{ContentState, content_code};
-
-    ghost Value = { ContentState };
-
-    ghost coded = { content_code };
-
-    ghost view = { λ c. record {
-      cells = c.cells;
-      lengths = c.lengths;
-      tags_end = c.tags_end;
-    } };
-
-    ghost invariant = { λ c. length c.cells ≡ 16 };
-}
-
-impl<S: Audited> Content<S> {
-    /// Makes a content without segments and tags.
-    pub(crate) fn new() -> Self
-        ensures { result ≡ no_content S.LONGEST }
+impl StoredCell {
+    /// Makes the cell of an address at which nothing was sent.
+    pub(crate) fn none() -> StoredCell
+        ensures { cell_stored result ≡ None }
     {
-        Content {
-            cells: [None; 16],
-            lengths: Lengths {
-                least: 0,
-                most: S::LONGEST,
-            },
-            tags_end: 0,
-            service: PhantomData,
+        StoredCell {
+            bytes: [0; 4],
+            is_sent: 0,
         }
     }
 
-    /// Rebuilds a stored content.
-    pub(crate) fn restore(stored: &StoredReigns) -> Self
-        ensures { result ≡ content_stored stored.now }
+    /// Returns the bytes that were sent, if any.
+    fn sent(&self) -> Option<[u8; 4]>
+        ensures { result ≡ cell_stored self.now }
     {
-        Content {
-            cells: cells_restored(&stored.cells),
-            lengths: Lengths {
-                least: stored.least,
-                most: stored.most,
-            },
-            tags_end: stored.tags_end,
-            service: PhantomData,
+        if self.is_sent != 0 {
+            Some(self.bytes)
+        } else {
+            None
         }
     }
+}
 
-    /// Stores the content and these ages as plain numbers.
-    pub(crate) fn store(&self, ages: &Ages) -> StoredReigns
-        ensures content { content_stored result ≡ self.now }
-        ensures ages { ages_stored result ≡ ages.now }
+impl StoredReigns {
+    /// Drops the segments and the tags.
+    pub(crate) fn clear<S: Audited>(&mut self)
+        ensures content { content_stored self.new ≡ no_content S.LONGEST }
+        ensures ages { ages_stored self.new ≡ ages_stored self.old }
     {
-        StoredReigns {
-            since_last: ages.since_last,
-            since_before: ages.since_before,
-            since_start: ages.since_start,
-            cells: cells_stored(&self.cells),
-            is_open: u8::from(ages.is_open),
-            flag: u8::from(ages.flag),
-            least: self.lengths.least,
-            most: self.lengths.most,
-            tags_end: self.tags_end,
-            turns: u8::from(ages.turns),
-        }
+        self.cells = [StoredCell::none(); 16];
+        self.least = 0;
+        self.most = S::LONGEST;
+        self.tags_end = 0;
     }
 
     /// Returns whether the segment of this address has these bytes.
     pub(crate) fn has(&self, address: u8, bytes: [u8; 4]) -> bool
-        requires { address < S.gauge.segments }
-        ensures { IsTrue result ↔ (cell_at address self.now ≡ Some bytes) }
+        requires { address < 16 }
+        ensures { IsTrue result ↔ (cell_at address (content_stored self.now) ≡ Some bytes) }
     {
-        self.cells[address as usize] == Some(bytes)
+        self.sent_at(address) == Some(bytes)
     }
 
     /// Takes a segment if some value has it together with the segments and tags before. Otherwise error `Changed`,
     /// `NotOneText` or `TagOutside`.
-    pub(crate) fn take(&mut self, address: u8, bytes: [u8; 4]) -> Result<(), AuditFault>
+    pub(crate) fn add<S: Audited>(&mut self, address: u8, bytes: [u8; 4]) -> Result<(), AuditFault>
         requires { address < S.gauge.segments }
         ensures can { IfOk result
-            (λ _. CanTake (S.gauge.allowed address bytes) address bytes self.old) }
+            (λ _. CanTake (S.gauge.allowed address bytes) address bytes (content_stored self.old)) }
         ensures cannot { IfErr result
-            (λ fault. CannotTake (S.gauge.allowed address bytes) address bytes self.old fault) }
-        ensures taken { IfOk result
-            (λ _. self.new ≡ taken (S.gauge.allowed address bytes) address bytes self.old) }
+            (λ fault. CannotTake (S.gauge.allowed address bytes) address bytes (content_stored self.old) fault) }
+        ensures taken { IfOk result (λ _. content_stored self.new
+            ≡ taken (S.gauge.allowed address bytes) address bytes (content_stored self.old)) }
+        ensures ages { ages_stored self.new ≡ ages_stored self.old }
     {
         self.check_unchanged(address, bytes)?;
         let lengths = self.narrowed(S::lengths(address, bytes))?;
         if self.tags_end > lengths.most {
             return Err(AuditFault::TagOutside);
         }
-        self.cells[address as usize] = Some(bytes);
-        self.lengths = lengths;
+        self.cells[address as usize] = StoredCell { bytes, is_sent: 1 };
+        self.least = lengths.least;
+        self.most = lengths.most;
         Ok(())
     }
 
-    /// Takes a pair of tags if they end in some text that has the segments. Otherwise error `TagOutside`.
-    pub(crate) fn take_tags(&mut self, pair: TagPair) -> Result<(), AuditFault>
-        ensures can { IsErr result ↔ (self.old.lengths.most < pair_end pair) }
+    /// Takes the ends of a pair of tags if some text that has the segments reaches them. Otherwise error `TagOutside`.
+    pub(crate) fn add_tags(&mut self, pair: TagPair) -> Result<(), AuditFault>
+        ensures can { IsErr result ↔ ((content_stored self.old).lengths.most < pair_end pair) }
         ensures fault { IfErr result (λ fault. fault ≡ AuditFault.TagOutside) }
-        ensures tagged { IfOk result (λ _. self.new ≡ tagged pair self.old) }
+        ensures tagged { IfOk result (λ _. content_stored self.new ≡ tagged pair (content_stored self.old)) }
+        ensures ages { ages_stored self.new ≡ ages_stored self.old }
     {
         let end = end_of_tag(pair.one()).max(end_of_tag(pair.two()));
-        if end > self.lengths.most {
+        if end > self.most {
             return Err(AuditFault::TagOutside);
         }
         self.tags_end = self.tags_end.max(end);
@@ -134,12 +93,11 @@ impl<S: Audited> Content<S> {
 
     /// Refuses a segment whose address was sent with other bytes. Error `Changed`.
     fn check_unchanged(&self, address: u8, bytes: [u8; 4]) -> Result<(), AuditFault>
-        requires { address < S.gauge.segments }
-        ensures same { IsOk result ↔ HoldsNoOther address bytes self.now }
+        requires { address < 16 }
+        ensures same { IsOk result ↔ HoldsNoOther address bytes (content_stored self.now) }
         ensures fault { IfErr result (λ fault. fault ≡ AuditFault.Changed) }
     {
-        let sent = self.cells[address as usize];
-        if let Some(held) = sent {
+        if let Some(held) = self.sent_at(address) {
             if held != bytes {
                 return Err(AuditFault::Changed);
             }
@@ -147,17 +105,25 @@ impl<S: Audited> Content<S> {
         Ok(())
     }
 
+    /// Returns the bytes that were sent at the address, if any.
+    fn sent_at(&self, address: u8) -> Option<[u8; 4]>
+        requires { address < 16 }
+        ensures { result ≡ cell_at address (content_stored self.now) }
+    {
+        self.cells[address as usize].sent()
+    }
+
     /// Returns the lengths that are left if a segment allows these. Error `NotOneText` if none is left.
     fn narrowed(&self, allowed: Option<Lengths>) -> Result<Lengths, AuditFault>
-        ensures room { IsOk result ↔ HasRoom allowed self.now.lengths }
+        ensures room { IsOk result ↔ HasRoom allowed (content_stored self.now).lengths }
         ensures fault { IfErr result (λ fault. fault ≡ AuditFault.NotOneText) }
-        ensures value { IfOk result (λ left. left ≡ narrowed allowed self.now.lengths) }
+        ensures value { IfOk result (λ left. left ≡ narrowed allowed (content_stored self.now).lengths) }
     {
         let Some(allowed) = allowed else {
             return Err(AuditFault::NotOneText);
         };
-        let least = self.lengths.least.max(allowed.least);
-        let most = self.lengths.most.min(allowed.most);
+        let least = self.least.max(allowed.least);
+        let most = self.most.min(allowed.most);
         if least > most {
             return Err(AuditFault::NotOneText);
         }

@@ -7,9 +7,11 @@ mod audit;
 mod audit_laws;
 mod audited;
 mod content;
+mod judge;
 mod log_start;
 mod reigns;
 mod stored;
+mod tally;
 
 pub use audit::{Audit, AuditFault};
 pub use audit_laws::{
@@ -17,5 +19,5 @@ pub use audit_laws::{
     what_passes_is_safe, what_passes_is_safe_by_the_flag,
 };
 pub use log_start::LogStart;
-pub use reigns::Tally;
 pub use stored::{StoredAudit, StoredCell, StoredReigns};
+pub use tally::Tally;

@@ -1,91 +1,38 @@
 //! The reigns of a service: the current one, and how long ago the one before it ended.
-ghost use Rattle.std.specs.Prelude.{◌≡◌, ◌+◌, ◌<◌, ◌≤◌, List, [], IfOk, IfErr, false};
-ghost use Rattle.rds_audit.specs.Ages.{IsEarly, aged};
+ghost use Rattle.std.specs.Prelude.{◌≡◌, ◌<◌, List, IfOk, IfErr};
+ghost use Rattle.rds_audit.specs.Ages.{IsEarly};
 ghost use Rattle.rds_audit.specs.AuditStandsAt.{HoldsMarks, HoldsNewest};
-ghost use Rattle.rds_audit.specs.AuditState.{CanTake, CannotTake, joined_state, no_content, opened_state};
+ghost use Rattle.rds_audit.specs.AuditState.{CanTake, CannotTake, joined_state, opened_state};
 ghost use Rattle.rds_audit.specs.Recording.{IsSilentAs};
-ghost use Rattle.rds_safety.specs.Marks.{Mark, Sends, Tagged};
 ghost use Rattle.rds_audit.specs.Rules.{IsBrokenBy};
-ghost use Rattle.rds_audit.specs.Stored.{reigns_stored};
+ghost use Rattle.rds_audit.specs.Stored.{ages_stored, content_stored, reigns_stored};
+ghost use Rattle.rds_safety.specs.Marks.{Mark, Sends, Tagged};
 
-use crate::ages::Ages;
 use crate::audited::Audited;
-use crate::content::Content;
-use crate::stored::StoredReigns;
-use crate::{AuditFault, LogStart};
+use crate::stored::{StoredCell, StoredReigns};
+use crate::{AuditFault, LogStart, Tally};
 use rds_fields::{Distance, TagPair};
-use std::marker::Model;
 
-/// What an audit judged of a service so far, for a person. No contract speaks of it.
-#[derive(Clone, Copy, Default)]
-pub struct Tally {
-    /// The number of texts, or of names.
-    pub values: u64,
-    /// The number of groups with tags.
-    pub tags: u64,
-    /// How many slots the first segment of the current text came after the first slot in which the text can have
-    /// started, at most M + K.
-    pub waited: u32,
-    /// Whether the current text has the flag of the one before it, and came M + K slots or more after it.
-    pub resumed: bool,
-}
-
-/// The current reign of a service, and how long ago the one before it ended.
-#[derive(Drop)]
-pub(crate) struct Reigns<S: Audited> {
-    ages: Ages,
-    content: Content<S>,
-    tally: Tally,
-}
-
-impl<S: Audited> Model for Reigns<S> {
-    ghost use Rattle.rds_audit.specs.AuditState.{ReignsState, reigns_code};
-
-    ghost Value = { ReignsState };
-
-    ghost coded = { reigns_code };
-
-    ghost view = { λ r. record { ages = r.ages; content = r.content } };
-}
-
-impl<S: Audited> Reigns<S> {
+impl StoredReigns {
     /// Makes the state of a service before the first slot of a log that begins so.
-    pub(crate) fn new(distance: Distance, start: LogStart) -> Self
+    pub(crate) fn new<S: Audited>(distance: Distance, start: LogStart) -> StoredReigns
         requires { 0 < distance }
-        ensures holds { (sent : List Mark) → IsSilentAs start distance sent
-            → HoldsMarks S.gauge distance sent result }
-        ensures open { result.ages.is_open ≡ false }
+        ensures { (sent : List Mark) → IsSilentAs start distance sent
+            → HoldsMarks S.gauge distance sent (reigns_stored result) }
     {
-        Reigns {
-            ages: Ages::new(distance, start),
-            content: Content::new(),
-            tally: Tally::default(),
+        let age = start.age(distance);
+        StoredReigns {
+            since_last: age,
+            since_before: age,
+            since_start: 0,
+            cells: [StoredCell::none(); 16],
+            is_open: 0,
+            flag: 0,
+            least: 0,
+            most: S::LONGEST,
+            tags_end: 0,
+            turns: 1,
         }
-    }
-
-    /// Rebuilds stored reigns.
-    pub(crate) fn restore(stored: &StoredReigns) -> Self
-        ensures { result ≡ reigns_stored stored.now }
-    {
-        Reigns {
-            ages: Ages {
-                is_open: stored.is_open != 0,
-                flag: stored.flag != 0,
-                since_last: stored.since_last,
-                since_before: stored.since_before,
-                since_start: stored.since_start,
-                turns: stored.turns != 0,
-            },
-            content: Content::restore(stored),
-            tally: Tally::default(),
-        }
-    }
-
-    /// Stores the reigns as plain numbers.
-    pub(crate) fn store(&self) -> StoredReigns
-        ensures { reigns_stored result ≡ self.now }
-    {
-        self.content.store(&self.ages)
     }
 
     /// Takes a segment that was sent in this slot: it joins the current reign, or opens one.
@@ -93,35 +40,37 @@ impl<S: Audited> Reigns<S> {
     /// # Errors
     ///
     /// The fault, if it breaks a rule.
-    pub(crate) fn take(
+    pub(crate) fn take<S: Audited>(
         &mut self,
-        distance: Distance,
+        tally: &mut Tally,
+        distance: u32,
         flag: bool,
         address: u8,
         bytes: [u8; 4],
     ) -> Result<(), AuditFault>
-        requires address { address < S.gauge.segments }
-        requires some { 0 < distance }
-        ensures holds { (sent : List Mark) → HoldsMarks S.gauge distance sent self.old
+        requires { address < S.gauge.segments }
+        ensures holds { 0 < distance → (sent : List Mark)
+            → HoldsMarks S.gauge distance sent (reigns_stored self.old)
             → IfOk result (λ _. HoldsNewest S.gauge distance
-            (Sends record { flag = flag; address = address; bytes = bytes }) sent self.new) }
-        ensures fault { (sent : List Mark) → HoldsMarks S.gauge distance sent self.old
+            (Sends record { flag = flag; address = address; bytes = bytes }) sent (reigns_stored self.new)) }
+        ensures fault { 0 < distance → (sent : List Mark)
+            → HoldsMarks S.gauge distance sent (reigns_stored self.old)
             → IfErr result (λ fault. IsBrokenBy distance S.gauge.kind
             (Sends record { flag = flag; address = address; bytes = bytes }) sent fault) }
     {
         // Prover: a call of a law, so that the lengths decide whether the segments are of one value (docs/PROVER.md,
         // "Idioms").
         S::exact();
-        if self.ages.joins(distance, flag) {
-            if self.content.has(address, bytes) {
+        if self.joins(distance, flag) {
+            if self.has(address, bytes) {
                 // what the reign has already changes nothing but its last slot
-                self.ages.renew();
+                self.renew();
                 return Ok(());
             }
-            return self.join(address, bytes);
+            return self.join::<S>(address, bytes);
         }
-        self.open(distance, flag)?;
-        self.join(address, bytes)
+        self.open::<S>(tally, distance, flag)?;
+        self.join::<S>(address, bytes)
     }
 
     /// Takes tags that were sent in this slot.
@@ -129,50 +78,29 @@ impl<S: Audited> Reigns<S> {
     /// # Errors
     ///
     /// The fault, if they break a rule.
-    pub(crate) fn take_tags(&mut self, distance: Distance, pair: TagPair) -> Result<(), AuditFault>
-        requires { 0 < distance }
-        ensures holds { (sent : List Mark) → HoldsMarks S.gauge distance sent self.old
-            → IfOk result (λ _. HoldsNewest S.gauge distance (Tagged pair) sent self.new) }
-        ensures fault { (sent : List Mark) → HoldsMarks S.gauge distance sent self.old
+    pub(crate) fn take_tags<S: Audited>(
+        &mut self,
+        tally: &mut Tally,
+        distance: u32,
+        pair: TagPair,
+    ) -> Result<(), AuditFault>
+        ensures holds { 0 < distance → (sent : List Mark)
+            → HoldsMarks S.gauge distance sent (reigns_stored self.old)
+            → IfOk result (λ _. HoldsNewest S.gauge distance (Tagged pair) sent (reigns_stored self.new)) }
+        ensures fault { 0 < distance → (sent : List Mark)
+            → HoldsMarks S.gauge distance sent (reigns_stored self.old)
             → IfErr result (λ fault. IsBrokenBy distance S.gauge.kind (Tagged pair) sent fault) }
     {
         // Prover: a call of a law, so that the lengths decide whether the tags end in one value (docs/PROVER.md,
         // "Idioms").
         S::exact();
-        let ages = &mut self.ages;
-        if !ages.has_lasted(distance) {
+        if !self.has_lasted(distance) {
             return Err(AuditFault::EarlyTag);
         }
-        self.content.take_tags(pair)?;
-        ages.renew();
-        self.tally.tags = self.tally.tags.saturating_add(1);
+        self.add_tags(pair)?;
+        self.renew();
+        tally.tags = tally.tags.saturating_add(1);
         Ok(())
-    }
-
-    /// Returns what was judged so far.
-    pub(crate) fn tally(&self) -> Tally {
-        self.tally
-    }
-
-    /// Returns whether there is a reign.
-    pub(crate) fn is_open(&self) -> bool
-        ensures { result ≡ self.now.ages.is_open }
-    {
-        self.ages.is_open
-    }
-
-    /// Returns whether the flag turned from each reign to the next one.
-    pub(crate) fn turns(&self) -> bool
-        ensures { result ≡ self.now.ages.turns }
-    {
-        self.ages.turns
-    }
-
-    /// Ages the reigns by one slot.
-    pub(crate) fn grow_older(&mut self, distance: Distance)
-        ensures { self.new ≡ record self.old { ages = aged distance self.old.ages } }
-    {
-        self.ages.grow_older(distance);
     }
 
     /// Takes a segment into the current reign.
@@ -180,35 +108,41 @@ impl<S: Audited> Reigns<S> {
     /// # Errors
     ///
     /// The fault, if no value has all of the reign.
-    fn join(&mut self, address: u8, bytes: [u8; 4]) -> Result<(), AuditFault>
+    fn join<S: Audited>(&mut self, address: u8, bytes: [u8; 4]) -> Result<(), AuditFault>
         requires { address < S.gauge.segments }
         ensures can { IfOk result
-            (λ _. CanTake (S.gauge.allowed address bytes) address bytes self.old.content) }
+            (λ _. CanTake (S.gauge.allowed address bytes) address bytes (content_stored self.old)) }
         ensures cannot { IfErr result
-            (λ fault. CannotTake (S.gauge.allowed address bytes) address bytes self.old.content fault) }
-        ensures joined { IfOk result
-            (λ _. self.new ≡ joined_state (S.gauge.allowed address bytes) address bytes self.old) }
+            (λ fault. CannotTake (S.gauge.allowed address bytes) address bytes (content_stored self.old) fault) }
+        ensures joined { IfOk result (λ _. reigns_stored self.new
+            ≡ joined_state (S.gauge.allowed address bytes) address bytes (reigns_stored self.old)) }
     {
-        self.content.take(address, bytes)?;
-        self.ages.renew();
+        self.add::<S>(address, bytes)?;
+        self.renew();
         Ok(())
     }
 
     /// Opens a reign without segments and tags. Error `EarlyFlag` if its start is still to come.
-    fn open(&mut self, distance: Distance, flag: bool) -> Result<(), AuditFault>
-        ensures late { IfOk result (λ _. IsEarly distance flag self.old.ages → ⊥) }
+    fn open<S: Audited>(
+        &mut self,
+        tally: &mut Tally,
+        distance: u32,
+        flag: bool,
+    ) -> Result<(), AuditFault>
+        ensures late { IfOk result (λ _. IsEarly distance flag (ages_stored self.old) → ⊥) }
         ensures early { IfErr result
-            (λ fault. IsEarly distance flag self.old.ages × (fault ≡ AuditFault.EarlyFlag)) }
-        ensures opened { IfOk result (λ _. self.new ≡ opened_state distance S.LONGEST flag self.old) }
+            (λ fault. IsEarly distance flag (ages_stored self.old) × (fault ≡ AuditFault.EarlyFlag)) }
+        ensures opened { IfOk result
+            (λ _. reigns_stored self.new ≡ opened_state distance S.LONGEST flag (reigns_stored self.old)) }
     {
-        let resumed = self.ages.is_open && flag == self.ages.flag;
-        self.ages.open(distance, flag)?;
-        self.content = Content::new();
-        self.tally = Tally {
-            values: self.tally.values.saturating_add(1),
-            waited: self.ages.since_start,
+        let resumed = self.is_open != 0 && self.has_flag(flag);
+        self.begin(distance, flag)?;
+        self.clear::<S>();
+        *tally = Tally {
+            values: tally.values.saturating_add(1),
+            tags: tally.tags,
+            waited: self.since_start,
             resumed,
-            ..self.tally
         };
         Ok(())
     }

@@ -1,10 +1,24 @@
-//! An audit as plain numbers, for a program that stores it. A bit is 0 for no and any other number for yes.
-ghost use Rattle.std.specs.Prelude.{◌≡◌, map};
-ghost use Rattle.rds_audit.specs.AuditState.{start_if};
-ghost use Rattle.rds_fields.specs.Stored.{is_set};
-ghost use Rattle.rds_audit.specs.Stored.{cell_stored, code_of_fault, fault_stored};
+//! The state of an audit, as plain numbers: a program may store it, and each slot changes it in place. A bit is 0 for no
+//! and any other number for yes.
+ghost use Rattle.std.specs.Prelude.{◌≡◌, ◌+◌, ◌<◌, ◌↔◌, ◌⊎◌, ℕ, true, false, List, Option, Some, None, IsTrue};
+ghost use Rattle.rds_block.specs.declared.group.Group.{Group};
+ghost use Rattle.rds_audit.specs.declared.log_start.LogStart.TheVariants as LogStart;
+ghost use Rattle.rds_audit.specs.AuditLaws.{IsSafeLog, IsSafeRecording};
+ghost use Rattle.rds_audit.specs.AuditStandsAt.{AuditStandsAt, TakesSlot, WhereTheAuditStands};
+ghost use Rattle.rds_audit.specs.Dense.{HasPlans};
+ghost use Rattle.rds_audit.specs.FlagLaws.{NamesAreSafeByFlag, TextsAreSafeByFlag};
+ghost use Rattle.rds_audit.specs.Reigns.{AlternateFlags, reigns};
+ghost use Rattle.rds_audit.specs.Rules.{LogPasses};
+ghost use Rattle.rds_audit.specs.Stored.{IsStored, audit_stored, code_of_fault, fault_stored};
+ghost use Rattle.rds_safety.specs.Marks.{marks, name_mark, text_mark};
 
-use crate::{AuditFault, LogStart};
+use crate::tally::Tallies;
+use crate::{
+    AuditFault, one_fault, passes_by_plans, what_passes_as_a_recording_is_safe,
+    what_passes_is_safe, what_passes_is_safe_by_the_flag,
+};
+use rds_block::Blocks;
+use rds_receiver::heard_blocks;
 
 /// The bytes that were sent at one address, if any.
 #[repr(C)]
@@ -33,7 +47,8 @@ pub struct StoredReigns {
     pub turns: u8,
 }
 
-/// All that an audit holds.
+/// The plain numbers of an audit. Its calls do what those of an [`Audit`](crate::Audit) do. Invalid numbers give
+/// arbitrary results and arbitrary numbers.
 #[repr(C)]
 #[derive(Clone, Copy)]
 pub struct StoredAudit {
@@ -48,26 +63,88 @@ pub struct StoredAudit {
     pub is_running: u8,
 }
 
-impl LogStart {
-    /// Stores the start as a bit.
-    pub(crate) fn stored(self) -> u8
-        ensures { start_if (is_set result) ≡ self }
+impl StoredAudit {
+    /// Takes the next slot: the group that was sent in it, as its blocks, or nothing.
+    ///
+    /// # Errors
+    ///
+    /// The fault, if the slot breaks a rule. After a fault, each call returns that fault again and changes nothing.
+    pub fn slot(&mut self, group: Option<Blocks>) -> Result<(), AuditFault>
+        ensures takes { IsStored self.old
+            → TakesSlot (audit_stored self.old) (audit_stored self.new) group result }
+        ensures start { (audit_stored self.new).start ≡ (audit_stored self.old).start }
+        ensures good { IsStored self.old ↔ IsStored self.new }
     {
-        match self {
-            LogStart::Complete => 0,
-            LogStart::Running => 1,
-        }
+        self.slot_with(&mut Tallies::default(), group)
     }
 
-    /// Rebuilds a stored start.
-    pub(crate) fn restored(bit: u8) -> LogStart
-        ensures { result ≡ start_if (is_set bit) }
+    /// Does the same, and counts in the tallies.
+    #[inline(always)]
+    pub(crate) fn slot_with(
+        &mut self,
+        tallies: &mut Tallies,
+        group: Option<Blocks>,
+    ) -> Result<(), AuditFault>
+        ensures takes { IsStored self.old
+            → TakesSlot (audit_stored self.old) (audit_stored self.new) group result }
+        ensures start { (audit_stored self.new).start ≡ (audit_stored self.old).start }
+        ensures good { IsStored self.old ↔ IsStored self.new }
     {
-        if bit != 0 {
-            LogStart::Running
-        } else {
-            LogStart::Complete
+        if let Some(known) = AuditFault::of_code(self.fault) {
+            // Prover: this call names the message that the log gets in this slot; its result is not used
+            // (docs/PROVER.md, "Idioms").
+            heard_blocks(self.pi, group);
+            return Err(known);
         }
+        if let Err(fault) = self.take_slot(tallies, group) {
+            self.fault = AuditFault::code(Some(fault));
+            return Err(fault);
+        }
+        self.end_slot();
+        Ok(())
+    }
+
+    /// Returns whether the log passes so far.
+    pub fn passed(&self) -> bool
+        ensures fault { IsTrue result ↔ ((audit_stored self.now).fault ≡ None) }
+        ensures passes { WhereTheAuditStands (audit_stored self.now) (λ d heard. IsTrue result ↔ LogPasses d heard) }
+        ensures plans { WhereTheAuditStands (audit_stored self.now) (λ d heard. IsTrue result ↔ HasPlans d heard) }
+        ensures safe { WhereTheAuditStands (audit_stored self.now) (λ d heard. (m k : ℕ) → 0 < m → m + k ≡ d
+            → IsTrue result → IsSafeLog m k heard) }
+        ensures recording { (pi m k : ℕ) (log : List (Option Group))
+            → (s : AuditStandsAt pi (m + k) (audit_stored self.now) log)
+            → (audit_stored self.now).start ≡ LogStart.Running → 0 < m → IsTrue result → IsSafeRecording m k s.heard }
+    {
+        // Prover: calls of laws, which give the clauses `plans`, `safe` and `recording` (docs/PROVER.md, "Idioms").
+        one_fault();
+        passes_by_plans();
+        what_passes_is_safe();
+        what_passes_as_a_recording_is_safe();
+        AuditFault::of_code(self.fault).is_none()
+    }
+
+    /// Returns whether the log passes so far and turned the A/B flag with each new text.
+    pub fn texts_turn_the_flag(&self) -> bool
+        ensures turns { WhereTheAuditStands (audit_stored self.now) (λ d heard. IsTrue result
+            ↔ (LogPasses d heard × AlternateFlags (reigns d (marks text_mark heard)))) }
+        ensures safe { WhereTheAuditStands (audit_stored self.now)
+            (λ d heard. IsTrue result → TextsAreSafeByFlag d heard) }
+    {
+        // Prover: a call of a law, which gives the clause `safe` (docs/PROVER.md, "Idioms").
+        what_passes_is_safe_by_the_flag();
+        self.passed() && self.text.turns != 0
+    }
+
+    /// Returns whether the log passes so far and turned the A/B flag with each new name.
+    pub fn names_turn_the_flag(&self) -> bool
+        ensures turns { WhereTheAuditStands (audit_stored self.now) (λ d heard. IsTrue result
+            ↔ (LogPasses d heard × AlternateFlags (reigns d (marks name_mark heard)))) }
+        ensures safe { WhereTheAuditStands (audit_stored self.now)
+            (λ d heard. IsTrue result → NamesAreSafeByFlag d heard) }
+    {
+        // Prover: a call of a law, which gives the clause `safe` (docs/PROVER.md, "Idioms").
+        what_passes_is_safe_by_the_flag();
+        self.passed() && self.name.turns != 0
     }
 }
 
@@ -100,40 +177,4 @@ impl AuditFault {
             _ => Some(AuditFault::TagOutside),
         }
     }
-}
-
-/// Rebuilds the bytes that were sent at each address.
-pub(crate) fn cells_restored(stored: &[StoredCell; 16]) -> [Option<[u8; 4]>; 16]
-    ensures { result ≡ map cell_stored stored.now }
-{
-    let mut cells = [None; 16];
-    for i in 0..16 {
-        let cell = stored[i];
-        cells[i] = if cell.is_sent != 0 {
-            Some(cell.bytes)
-        } else {
-            None
-        };
-    }
-    cells
-}
-
-/// Stores the bytes that were sent at each address.
-pub(crate) fn cells_stored(sent: &[Option<[u8; 4]>; 16]) -> [StoredCell; 16]
-    ensures { map cell_stored result ≡ sent.now }
-{
-    let mut cells = [StoredCell {
-        bytes: [0; 4],
-        is_sent: 0,
-    }; 16];
-    for i in 0..16 {
-        cells[i] = match sent[i] {
-            Some(bytes) => StoredCell { bytes, is_sent: 1 },
-            None => StoredCell {
-                bytes: [0; 4],
-                is_sent: 0,
-            },
-        };
-    }
-    cells
 }

@@ -6,7 +6,6 @@ ghost use Rattle.rds_audit.specs.Dense.{HasPlans};
 ghost use Rattle.rds_audit.specs.FlagLaws.{NamesAreSafeByFlag, TextsAreSafeByFlag};
 ghost use Rattle.rds_audit.specs.Reigns.{AlternateFlags, reigns};
 ghost use Rattle.rds_audit.specs.Rules.{LogPasses};
-ghost use Rattle.rds_audit.specs.Stored.{IsStored};
 ghost use Rattle.rds_audit.specs.declared.log_start.LogStart.TheVariants as LogStart;
 ghost use Rattle.rds_ffi.specs.AuditInMemory.{AuditInMemory, IsAnswer, Tells, WhereItHeard, WhereItIs, fault_in};
 ghost use Rattle.rds_ffi.specs.AuditInMemory.{start_in};
@@ -83,7 +82,7 @@ fn begun(audit: &mut StoredAudit, pi: u16, dwell: u16, late: u16, start: LogStar
 #[unsafe(no_mangle)]
 pub extern "C" fn rdsrt_audit_slot(audit: &mut StoredAudit, blocks: &[u16]) -> u32
     ensures code { result ≢ RDSRT_BAD_ARGUMENT ↔ IsCount blocks.now }
-    ensures start { result ≢ RDSRT_BAD_ARGUMENT → IsStored audit.old → start_in audit.new ≡ start_in audit.old }
+    ensures start { result ≢ RDSRT_BAD_ARGUMENT → start_in audit.new ≡ start_in audit.old }
     ensures stands { result ≢ RDSRT_BAD_ARGUMENT → WhereItIs audit.old (λ pi d log.
         (slot : Option Group) × Bring blocks.now slot × AuditInMemory pi d audit.new (slot ∷ log)) }
     ensures which { result ≢ RDSRT_BAD_ARGUMENT → WhereItHeard audit.new (Tells result) }
@@ -93,10 +92,7 @@ pub extern "C" fn rdsrt_audit_slot(audit: &mut StoredAudit, blocks: &[u16]) -> u
     let Ok(slot) = slot_of(blocks) else {
         return codes::BAD_ARGUMENT;
     };
-    let mut inner = Audit::restore(audit);
-    let found = inner.slot_blocks(slot);
-    *audit = inner.store();
-    code_of(found)
+    code_of(audit.slot(slot))
 }
 
 /// Returns 1 if the log passes so far, and 0 if not.
@@ -110,7 +106,7 @@ pub extern "C" fn rdsrt_audit_passed(audit: &StoredAudit) -> u32
     ensures recording { (pi m k : ℕ) (log : List (Option Group)) → (lies : AuditInMemory pi (m + k) audit.now log)
         → start_in audit.now ≡ LogStart.Running → 0 < m → result ≡ 1 → IsSafeRecording m k lies.at.heard }
 {
-    u32::from(Audit::restore(audit).passed())
+    u32::from(audit.passed())
 }
 
 /// Returns 1 if the log passes so far and turned the A/B flag with each new text, and 0 if not.
@@ -121,7 +117,7 @@ pub extern "C" fn rdsrt_audit_texts_turn_the_flag(audit: &StoredAudit) -> u32
         ↔ (LogPasses d heard × AlternateFlags (reigns d (marks text_mark heard)))) }
     ensures safe { WhereItHeard audit.now (λ d heard. result ≡ 1 → TextsAreSafeByFlag d heard) }
 {
-    u32::from(Audit::restore(audit).texts_turn_the_flag())
+    u32::from(audit.texts_turn_the_flag())
 }
 
 /// Returns 1 if the log passes so far and turned the A/B flag with each new name, and 0 if not.
@@ -132,7 +128,7 @@ pub extern "C" fn rdsrt_audit_names_turn_the_flag(audit: &StoredAudit) -> u32
         ↔ (LogPasses d heard × AlternateFlags (reigns d (marks name_mark heard)))) }
     ensures safe { WhereItHeard audit.now (λ d heard. result ≡ 1 → NamesAreSafeByFlag d heard) }
 {
-    u32::from(Audit::restore(audit).names_turn_the_flag())
+    u32::from(audit.names_turn_the_flag())
 }
 
 /// Returns the code of a fault, or of none.
