@@ -78,7 +78,8 @@ task_by says rests (Audit late running) t r w status ran = ran
 task_by says rests Witness t r w status ran = ran
 task_by says rests (Slots grain only) t r w status ran = ran
 task_by says rests (Encode programme late) t r w status ran =
-    script_by says (with_form Log (station_of t programme (once late) WithDwell)) (Encode programme late) r.before w status ran
+    script_by says (with_form Log (station_of t programme (once late) WithDwell)) (Encode programme late) r.before w
+    status ran
 task_by says rests (Simulate programme late window alone why) t r w status ran =
     simulation_by says rests why (simulated_station t programme late window alone)
     (Simulate programme late window alone why) r w status ran

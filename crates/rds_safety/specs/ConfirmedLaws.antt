@@ -12,7 +12,8 @@ use Rattle.rds_safety.specs.Laws.{ShowsAMix}
 use Rattle.rds_safety.specs.Near.{ListensNear}
 use Rattle.rds_safety.specs.Plans.{AreLawful, Plans}
 use Rattle.rds_safety.specs.Safe.{AreSafe, Listener}
-use Rattle.rds_safety.specs.Confirmed.{IsHeardWithWrong, ListensOnce, ListensConfirmed, NoWrongConfirmed, confirmed_input}
+use Rattle.rds_safety.specs.Confirmed.{IsHeardWithWrong, ListensConfirmed, ListensOnce, NoWrongConfirmed}
+use Rattle.rds_safety.specs.Confirmed.{confirmed_input}
 use Rattle.rds_safety.specs.Confirmed.{lateness_of_two}
 
 -- the confirmed messages are near the log, for the lateness of two receipts

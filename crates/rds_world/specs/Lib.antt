@@ -1,6 +1,6 @@
 -- A station and its receivers, slot by slot. Read the files in this order. SafeSlots and Delivery have the promises of
--- a world, Station and ConfirmedStation those of a station with any number of sets in a slot, and FlagStation those of such
--- a station to receivers with the flag bit alone.
+-- a world, Station and ConfirmedStation those of a station with any number of sets in a slot, and FlagStation those of
+-- such a station to receivers with the flag bit alone.
 pub mod Event
 pub mod Premise
 pub mod ReceiverKind

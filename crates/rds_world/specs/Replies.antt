@@ -92,4 +92,5 @@ IsPlayRefused p receivers events Memory = receivers ≤ MOST_RECEIVERS
 IsPlayRefused p receivers events (ReceiverCount place) = IsFirstRefused p receivers events place step.ReceiverCount
 IsPlayRefused p receivers events (Late place r) = IsFirstRefused p receivers events place (step.Late r)
 IsPlayRefused p receivers events (Wrong place r) = IsFirstRefused p receivers events place (step.Wrong r)
-IsPlayRefused p receivers events (WrongConfirmed place r) = IsFirstRefused p receivers events place (step.WrongConfirmed r)
+IsPlayRefused p receivers events (WrongConfirmed place r) =
+    IsFirstRefused p receivers events place (step.WrongConfirmed r)
