@@ -1,5 +1,7 @@
 "use strict";
-/* What the tests of the page ask of it, run in it. */
+/* What the tests of the page ask of it, run in it: the modules that they take hold of, and `probe`. */
+const page = $app, { logTab } = $log, { scriptTab } = $script, changes = $changes, lines = $lines, logfile = $logfile, road = $road;
+const links = $links, painter = $painter, picture = $picture, rdsrt = $rdsrt, { Program } = $program, report = $report;
 const probe = (() => {
   const at = (id) => document.getElementById(id);
 
@@ -57,6 +59,14 @@ const probe = (() => {
   function axis(timeline, slot) {
     const [x, y] = place(timeline, slot, () => true);
     return [x, y - timeline.lanes[0].top - timeline.lanes[0].height / 2 + 8];
+  }
+
+  /* What a display shows in each of so many slots: for each part its value, as the program prints it, and the word for it. */
+  function displays(view, count) {
+    const inWords = (value) => typeof value === "string" ? value : `${value.kind} "${value.text}"`;
+    const of = (run, slot) => run?.value == null ? null : [inWords(run.value), slot < run.mixTo ? "mix" : run.stale || "on air"];
+    const at = (slot) => Object.fromEntries(Object.keys(view.parts).map((part) => [part, of(view.at(part, slot), slot)]));
+    return Array.from({ length: count }, (_, slot) => at(slot));
   }
 
   // ---- what a canvas shows
@@ -118,6 +128,18 @@ const probe = (() => {
     return lanes.filter(isCut).map(name);
   }
 
+  /* The texts that a timeline draws above its lanes, each with its place. */
+  function axisTexts(timeline) {
+    const { prototype } = CanvasRenderingContext2D, { fillText } = prototype, all = [];
+    prototype.fillText = function (text, x, y) {
+      if (y < painter.AXIS) all.push([text, x, y]);
+      fillText.call(this, text, x, y);
+    };
+    timeline.paint();
+    prototype.fillText = fillText;
+    return all;
+  }
+
   /* In how many columns of a lane, of which number, each of these colours is to be seen. */
   function columnsOf(timeline, name, ...inks) {
     timeline.paint();
@@ -161,7 +183,8 @@ const probe = (() => {
   function ground(element) {
     for (let e = element; e; e = e.parentElement) {
       const color = getComputedStyle(e).backgroundColor;
-      if (rgba(color)[3] === 255) return color;
+      // the system's Highlight is nearly opaque
+      if (rgba(color)[3] > 200) return color;
     }
     return "#fff";
   }
@@ -185,10 +208,9 @@ const probe = (() => {
 
   /* How many texts are in sight, and those whose contrast is too low. */
   function contrasts(least) {
-    const root = getComputedStyle(document.documentElement), ink = (name) => root.getPropertyValue(`--${name}`).trim() || name;
     const told = (e) => [e.textContent.slice(0, 40) || e.id, getComputedStyle(e).color, ground(e)];
     const all = [...document.querySelectorAll("body *")].filter(hasText).map(told);
-    const drawn = PAIRS.map(([a, b]) => [`${a} on ${b}`, ink(a), ink(b)]);
+    const drawn = PAIRS.map(([a, b]) => [`${a} on ${b}`, colour(a), colour(b)]);
     const low = [...all, ...drawn].filter(([, a, b]) => ratio(a, b) < least).map(([what, a, b]) => `${what} ${ratio(a, b).toFixed(2)}`);
     return [all.length, low];
   }
@@ -305,12 +327,12 @@ const probe = (() => {
 
   /* Waits until the tabs have all their answers, and are drawn. */
   async function idle() {
-    const tabs = [logTab, scriptTab, { state: changes.state }];
+    const tabs = [logTab, scriptTab, changes.state];
     let work;
     do {
-      work = tabs.map((it) => it.state.work);
+      work = tabs.map((it) => it.work);
       await Promise.all(work);
-    } while (work.some((it, i) => it !== tabs[i].state.work));
+    } while (work.some((it, i) => it !== tabs[i].work));
     await new Promise((done) => { requestAnimationFrame(() => setTimeout(done)); });
   }
 
@@ -375,7 +397,7 @@ const probe = (() => {
   }
 
   return {
-    axis, choose, chosenLine, colour, column, columnsOf, contrasts, cutNames, drop, dropAll, elementsOfHue,
+    axis, axisTexts, choose, chosenLine, colour, column, columnsOf, contrasts, cutNames, displays, drop, dropAll, elementsOfHue,
     endsWithTimeline, faint, fill, hue, huesOf, huesOfLane, idle, labels, large, longestTask, many, pick, pictured, place,
     run, scriptOf, sharesOf, swatches, tempt, ticks, typeAndLeave,
   };

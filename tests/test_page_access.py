@@ -1,5 +1,5 @@
 """The page by key, to be heard and to be read: controls, contrast, colours, motion, and small windows."""
-from tests.page_support import (GROUPS, HI, SCHEMES, TABS, ChromiumCase, FirefoxCase, call, example, first_examples,
+from tests.page_support import (GROUPS, HI, SCHEMES, TABS, ChromiumCase, FirefoxCase, call, click, example, first_examples,
                                 hidden, of, open_script, settle, settled_verdict, verdict_of)
 
 # of texts, and of shapes without a text
@@ -20,7 +20,7 @@ class Access:
         b = self.b
         wanted = {
             "log": ["tab-log", "log-example", "log-file", "log-pi", "log-m", "log-k", "log-w", "log-running",
-                    "log-share", "CANVAS", "log-click", "SUMMARY"],
+                    "log-report", "log-share", "CANVAS", "log-click", "SUMMARY"],
             "script": ["tab-script", "script-example", "script-file", "script-m", "script-n", "script-slots", "command",
                        "free", "brush", "script-save", "script-share", "CANVAS", "SUMMARY"],
             "dwell": ["tab-dwell", "m-range", "k-range", "f-range", "dwell-m", "dwell-k", "dwell-f", "dwell-s"],
@@ -58,6 +58,42 @@ class Access:
             self.check(f"the legend of {tab}, and its keys", seen, [1, 2, 1])
 
 
+    def test_controls_are_large_enough_and_tabs_and_displays_have_names(self):
+        """24 px in each direction; of a box to tick its words count too. No two buttons of the verdict have one name."""
+        b = self.b
+        small = """[...document.querySelectorAll('button, select, summary, input, .button')].filter(it => it.checkVisibility())
+            .filter(it => !it.matches('.button input, .brush input')).map(it => [it, (it.closest('label.inline') ?? it).getBoundingClientRect()])
+            .filter(([, { width, height }]) => width < 23.9 || height < 23.9)
+            .map(([it, { width, height }]) => `${it.tagName} ${it.id} ${it.className} ${it.textContent.slice(0, 20)} ${width} x ${height}`)"""
+        self.check("the start", b.run(small), [])
+        first_examples(b)
+        settled_verdict(b)
+        for width in (1280, 390):
+            b.size(width, 900)
+            for tab in TABS:
+                call(b, "page.tab", tab)
+                settle(b)
+                self.check(f"{tab} in {width} px", b.run(small), [])
+                titles = f"[...document.querySelectorAll('#{tab} h2')].filter(it => it.checkVisibility()).map(it => it.textContent)"
+                self.check(f"{tab} has a heading", [it != "" for it in b.run(titles)][:1], [True])
+        names = b.run("['log-radio', 'log-alone', 'script-air', 'script-radio', 'script-alone'].map(id => document.getElementById(id).ariaLabel)")
+        self.check("displays have names", (len(set(names)), all(names)), (5, True))
+        buttons = b.run("[...document.querySelectorAll('#verdict button')].map(it => it.ariaLabel ?? it.textContent)")
+        self.check("buttons of the verdict", (len(buttons) > 2, [it for it in buttons if it.isdigit()]), (True, []))
+        b.size(1280, 900)
+
+    def test_the_numbers_are_explained_by_a_button(self):
+        """It needs neither a pointer over it nor a title."""
+        b = self.b
+        first_examples(b)
+        for tab in TABS[:2]:
+            call(b, "page.tab", tab)
+            click(b, f"#{tab} [popovertarget=meaning]")
+            words = "document.querySelector('#meaning').checkVisibility() && document.querySelector('#meaning').innerText"
+            self.check(tab, [it for it in ("Dwell M", "Late K", "Window W") if it not in b.run(words)], [])
+            click(b, f"#{tab} [popovertarget=meaning]")
+
+
 class Chromium(Access, ChromiumCase):
     def test_forced_colours_keep_all_differences(self):
         """The canvas takes the colours of the system."""
@@ -80,6 +116,9 @@ class Chromium(Access, ChromiumCase):
             self.check("the chosen brush", (first not in others, len(set(others))), (True, 1))
             for tab in TABS[:2]:
                 call(b, "page.tab", tab)
+                settle(b)
+                low = [it for it in call(b, "probe.contrasts", CONTRAST)[1] if " on " not in it]
+                self.check(f"contrast of {tab} in forced colours, {scheme}", low, [])
                 drawn = b.run(f"[...document.querySelectorAll('#{tab} .legend canvas')].map(it => it.toDataURL())")
                 self.check(f"the swatches of {tab}", (len(drawn), len(set(drawn))), (9, 9))
         edges = []
@@ -116,7 +155,7 @@ class Chromium(Access, ChromiumCase):
         self.check("and what is shown there", "The receiver shows “JAZZMIX”, which nobody sent" in told, True)
         self.check("and the verdict",
                    [role for role, name, _ in nodes if role == "heading" and "EarlyFlag" in (name or "")], ["heading"])
-        b.run("document.querySelector('#log details:not(.keys)').open = true")
+        b.run("document.querySelector('#log-lines').closest('details').open = true")
         self.check("and the lines", any('5 text "JAZZMIX"' in (name or "") for _, name, _ in tree(b)), True)
         controls = ("button", "slider", "textbox", "combobox", "spinbutton", "checkbox", "tab", "radio")
         self.check("all controls have names", [role for role, name, _ in nodes if role in controls and not name], [])
@@ -163,7 +202,7 @@ class Chromium(Access, ChromiumCase):
                 self.check(f"lines of prose in {width} px", wide, 0)
         b.size(1280, 900)
 
-    def test_the_verdict_is_first_and_takes_the_whole_width(self):
+    def test_the_verdict_is_first(self):
         """The answer of a script is first too."""
         b = self.b
         call(b, "probe.choose", "log-example", 0)
@@ -178,9 +217,10 @@ class Chromium(Access, ChromiumCase):
             settle(b)
             box = lambda query: b.run(f"(({{ left, right, top }}) => [left, right, top])"
                                       f"(document.querySelector('{query}').getBoundingClientRect())")
-            (left, right, top), form = box("#verdict"), box("#log-form")
-            self.check(f"its edges in {width} px", (left, right), tuple(form[:2]))
-            later = [query for query in ("#log-radio", "#log-alone", "#log-time", ".changes") if box(query)[2] <= top]
+            (left, _, top), form = box("#verdict"), box("#log-form")
+            self.check(f"its edge in {width} px", left, form[0])
+            later = [query for query in ("#log-radio", "#log-alone", "#log-time", ".lists")
+                     if box(query)[2] < top or box(query)[2] == top and box(query)[0] <= left]
             self.check(f"what comes before it in {width} px", later, [])
         b.size(1280, 900)
 
@@ -198,7 +238,7 @@ class Chromium(Access, ChromiumCase):
             self.check(f"names that {tab} cuts", b.run(f"probe.cutNames({tab}Tab.timeline)"), [])
             ends = b.run(f"[document.querySelector('#{tab}-time').getBoundingClientRect().bottom, "
                          f"document.querySelector('{display}').getBoundingClientRect().top]")
-            self.check(f"the displays of {tab} begin behind the timeline", 0 <= ends[1] - ends[0] < 60, True)
+            self.check(f"the displays of {tab} begin behind the timeline", 0 <= ends[1] - ends[0] < 110, True)
         b.size(1280, 900)
 
     def test_a_phone_has_verdict_and_timeline_first(self):

@@ -191,7 +191,7 @@ class Colours:
             call(b, "probe.choose", "log-m", "0")
             settle(b)
             self.check(f"{scheme}: a number out of bounds", self.reds("log"), ([], []))
-            verdict_of(b, "bad\n", 8)
+            verdict_of(b, f"{HI}\nbad\n", 8)
             self.check(f"{scheme}: a malformed line", self.reds("log"), ([], []))
             verdict_of(b, example("flags.log").decode(), 8)
             lanes, elements = self.reds("log")

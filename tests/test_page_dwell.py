@@ -35,16 +35,17 @@ class DwellTab:
             call(b, "probe.choose", f"dwell-{field}", number)
         answer = "{} M + K can be at most {}. {} {} The chosen M + K = {} {}. {}"
         least = "A text of 64 characters needs M = 64 at 50 % free slots, so M can be from 64 to {}.".format
-        rules = (("Safe:", "Each text must stay on air for at least M + K slots."),
+        rules = (("Safe:", "A text may have the flag of the text before the previous one from M + K slots after the last group of "
+                  "that text on."),
                  ("With our own encoder:", "It keeps each text on air for 2 (M + K) slots."))
-        wanted = [answer.format(rules[0][0], "171 slots (15.0 s)", rules[0][1], least(171), 128, "fits", "Set M = 171"),
+        wanted = [answer.format(rules[0][0], "172 slots (15.1 s)", rules[0][1], least(172), 128, "fits", "Set M = 172"),
                   answer.format(rules[1][0], "85 slots (7.44 s)", rules[1][1], least(85), 128, "is too large", "Set M = 85"),
                   "11.2 s"]
         self.check("texts of 15 s", dwell_shows(b), wanted)
         call(b, "probe.choose", "dwell-f", 20)
         needs = "A text of 64 characters needs M = 160 at 20 % free slots"
         self.check("few free slots", [needs + more in it for it, more in
-                                      zip(dwell_shows(b), (", so M can be from 160 to 171.", ": send shorter texts"))],
+                                      zip(dwell_shows(b), (", so M can be from 160 to 172.", ": send shorter texts"))],
                    [True, True])
         call(b, "probe.choose", "dwell-f", 50)
         b.run("[...document.querySelectorAll('#answers button')].at(-1).click()")
@@ -55,7 +56,7 @@ class DwellTab:
         call(b, "probe.choose", "m-range", 65)
         self.check("the slider sets M", of(b, "#dwell-m", "value"), "91")
         call(b, "probe.choose", "dwell-k", 90)
-        ends = [it.endswith(told) for it, told in zip(dwell_shows(b), ("Set M = 81", "With K = 90 no M fits."))]
+        ends = [it.endswith(told) for it, told in zip(dwell_shows(b), ("Set M = 82", "With K = 90 no M fits."))]
         self.check("a K for one answer alone", ends, [True, True])
         self.check("the slider follows K", of(b, "#k-range", "value"), "90")
         call(b, "probe.choose", "dwell-k", 0)
@@ -63,7 +64,7 @@ class DwellTab:
             call(b, "probe.choose", "dwell-s", seconds)
             slots = seconds * 2375 // 208
             got = [int(re.search("at most ([0-9,]+) slots", it)[1].replace(",", "")) for it in dwell_shows(b)[:2]]
-            self.check(f"texts of {seconds} s", got, [slots, slots // 2])
+            self.check(f"texts of {seconds} s", got, [slots + 1, slots // 2])
         self.check("M ends at its bound", "Set M = 65,535" in dwell_shows(b)[0], True)
         for field, name, low, high in (("m", "Dwell M", 1, "65,535"), ("k", "Late K", 0, "1,024"),
                                        ("f", "Slots free for texts", 5, 100),

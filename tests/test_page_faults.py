@@ -2,7 +2,7 @@
 import random
 import re
 
-from tests.page_support import (EVERY_100, HI, NOTHING, SEED, ChromiumCase, FirefoxCase, call, click, first_examples,
+from tests.page_support import (EVERY_100, HI, NOTHING, SEED, YO, ChromiumCase, FirefoxCase, call, click, first_examples,
                                 of, open_script, run_program, settle, shown, text_of, verdict_of)
 from tests.slot import SLOT
 
@@ -61,7 +61,7 @@ class Faults:
                    f"line looks like {HI}. The page does not show the lines after it.")
         self.check("and its text is no HTML", b.run("document.querySelectorAll('#verdict b').length"), 0)
         b.run("[...document.querySelectorAll('#verdict button')].at(-1).click()")
-        self.check("and shown", call(b, "probe.chosenLine", "log-text"), "C201 <b>40 4849")
+        self.check("and shown", text_of(b, "#log-rows [aria-current]"), "3C201 <b>40 4849")
         rows = [
             ("-,,1,G\n\n-,,1\n", "row 2 (line 3): expected 4 fields (COMMAND,ARGUMENT,FREE,RECEPTIONS), found 3"),
             ("-,,1,G\n-,,1,GG\n", "row 2 (line 2): RECEPTIONS: the number of receivers is 2, but the first row has 1"),
@@ -122,7 +122,7 @@ class Faults:
             ("C201 2940 4849 0D20\n" * 2, "empty",
              f"{noted}{no_kind}: the yes says nothing; 2 groups 2B were not judged."),
             (f"{HI}\n", "",
-             "✓ Passes with M = 8 (0.70 s)The one slot keeps the rules. No receiver with this M shows a mix of two "
+             "✓ Passes with M = 8 (0.70 s)The recorded slot keeps the rules. No receiver with this M shows a mix of two "
              "texts, whichever groups it loses.Judged in 1 slot: 1 text, 0 names, 0 pairs of tags."),
             (f"{HI}\n{NOTHING}\n", "",
              "✓ Passes with M = 8 (0.70 s)The recorded slot keeps the rules. No receiver with this M shows a mix "
@@ -133,21 +133,22 @@ class Faults:
              "covers the others."),
         ]
         for log, kind, wanted in rows:
-            said, colour = verdict_of(b, log,
-                                      8), b.run("getComputedStyle(document.querySelector('#verdict')).borderLeftColor")
+            said = verdict_of(b, log, 8)
+            colour = b.run("getComputedStyle(document.querySelector('#verdict')).borderLeftColor")
             ink = call(b, "probe.colour", "other" if kind else "good")
             self.check(f"a yes over {log[:20]!r}", (wanted in said and "undefined" not in said or said, colour),
                        (True, ink))
+            self.check(f"other dwells over {log[:20]!r}", of(b, "#dwells", "hidden"), bool(kind))
+
     def test_a_yes_over_a_log_that_does_not_show_enough_is_grey(self):
         """Slots are absent by the times, times are too coarse to count by, or few slots have a group."""
         b = self.b
         cannot = "Cannot sayThe program answers yes with M = 8 (0.70 s), but the log does not show enough. Judged in "
         coarse = "".join(f"{HI} {time:.1f}\n" for time in (0, 0, 0.2, 0.2, 0.4, 0.4))
         rows = [
-            ("absent", f"{HI} 0\n{HI} 0.96\n",
-             ["Lost slots: By the times of the lines, 10 slots are not in this log."]),
+            ("absent", f"{HI} 0\n{HI} 3\n", ["Lost slots: The log spans 35 slots by its times and has 2 lines."]),
             # between the first and the last time a clock has room for 4.7 slots
-            ("coarse", coarse, ["Coarse times: the times vary by more than the grain: ", "a station sends 4 at most"]),
+            ("coarse", coarse, ["Coarse times: The times vary by more than the grain: ", "a station sends 4 at most"]),
             ("few", f"{HI} 0\n{NOTHING}\n",
              ["Lost slots: 1 of 2 slots have a group (50 %). The log says nothing of the others."]),
         ]
@@ -160,6 +161,44 @@ class Faults:
         nine = "".join(f"{HI} {number * SLOT:.2f}\n" for number in range(9))
         said = verdict_of(b, f"{nine}{NOTHING}\n", 8)
         self.check("nine slots in ten", "✓ Passes with M = 8" in said, True, said)
+
+    def test_times_that_the_program_does_not_read_are_grey(self):
+        """A time of day, for example: slots may be missing. Words that are no time change nothing."""
+        b = self.b
+        timed = "".join(f"{HI} 07:00:{second:02d}.{part:02d}\n" for second in range(60) for part in range(0, 99, 9))
+        said = verdict_of(b, timed, 8)
+        self.check("a time of day", (text_of(b, "#verdict h2"), "the program reads none in 660 of 660 groups" in said,
+                                     of(b, "#dwells", "hidden")), ("Cannot say", True, True), said)
+        for name, log in (("a date", timed.replace(" 07:", " @2024/06/01 07:").replace("\n", "\n", 1)),
+                          ("words", f"{HI} noted\n" * 20), ("nothing", f"{HI}\n" * 20)):
+            self.check(name, "Unread times" in verdict_of(b, log, 8), False)
+
+    def test_a_no_whose_cause_is_the_recording_is_grey(self):
+        """The pause that made a text begin anew has no group, or slots are missing before the fault. A pause with another
+        group of the station is no fault of the recording."""
+        b = self.b
+        tags, other = "C201 B158 8002 0000", "C201 0548 1234 5649"
+        pause = f"{HI}\n" * 10 + f"{NOTHING}\n" * 12 + f"{HI}\n{tags}\n"
+        gap = f"{HI} 0.00\n{YO} 9.00\n" + "".join(f"{YO} {9.1 + number * SLOT:.2f}\n" for number in range(3))
+        rows = [("a pause without a group", pause, "Cannot say: the recording lost slots 10 to 21", "verdict empty"),
+                ("a pause with one", pause.replace(NOTHING, other, 1), "✗ EarlyTag with M = 8 (0.70 s)", "verdict no"),
+                ("a gap by its times", gap + f"{tags} 9.40\n", "Cannot say", "verdict empty"),
+                ("a gap after the no", f"{HI} 0.00\n{tags} 0.10\n{HI} 99.00\n", "✗ EarlyTag with M = 8 (0.70 s)", "verdict no")]
+        for name, log, heading, kind in rows:
+            said = verdict_of(b, log, 8)
+            got = text_of(b, "#verdict h2"), of(b, "#verdict", "className"), "EarlyTag" in said
+            self.check(name, got, (heading, kind, True), said)
+            settle(b)
+            self.check(f"{name}: what a no has", ("What the encoder should do" in said, of(b, "#dwells", "hidden")),
+                       (kind == "verdict no", kind != "verdict no"), said)
+
+    def test_a_worker_that_ends_is_said(self):
+        """The page does not wait for ever."""
+        b = self.b
+        verdict_of(b, f"{HI}\n" * 20, 8)
+        b.run("logTab.judge.worker.onerror({ message: 'out of memory' }); logTab.judge.compiled = null")
+        call(b, "logTab.open", f"{HI}\n" * 30, {"pi": "C201", "m": 8})
+        self.check("a log", (text_of(b, "#verdict h2"), len(text_of(b, "#verdict p")) > 5), ("No verdict", True))
 
     def test_a_refused_set_has_a_warning(self):
         b = self.b

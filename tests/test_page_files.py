@@ -91,7 +91,7 @@ class Files:
         open_script(b, f"text,{long},1,G\n-,,1,G\n", m=8, k=0)
         b.run("scriptTab.timeline.move(0)")
         b.run("document.getElementById('free').click()")
-        row = b.run("(row => [row.argument.length, row.free])(scriptTab.state.rows[0])")
+        row = b.run("(row => [row.argument.length, row.free])(scriptTab.rows[0])")
         self.check("an edit keeps it", [*row, of(b, "#argument", "readOnly")], [len(long), "0", True])
         b.run("scriptTab.timeline.move(1)")
         self.check("and a short one can be typed", (of(b, "#argument", "readOnly"), of(b, "#argument", "value")),
@@ -202,6 +202,24 @@ class Files:
         b.until("new Promise(done => setTimeout(() => done(true), 600))")
         settle(b)
         self.check("two files", of(b, "#log-text", "value"), HI)
+
+    def test_what_is_pasted_is_opened(self):
+        """Unless it belongs to a field. A saved file keeps its name."""
+        b = self.b
+        paste = ("(text, at) => {{ const data = new DataTransfer(); data.setData('text', text); document.querySelector(at)"
+                 ".dispatchEvent(new ClipboardEvent('paste', {{ clipboardData: data, bubbles: true }})); }}")
+        for text, at, wanted in ((EVERY_100, "h1", (["script", "dwell"], EVERY_100)), (HI, "#log-find", (["script", "dwell"], EVERY_100)),
+                                 (example("tunnel.csv").decode(), "h1", (["log", "dwell"], EVERY_100))):
+            call(b, f"({paste.format()})", text, at)
+            b.until("new Promise(done => setTimeout(() => done(true), 100))")
+            idle(b)
+            self.check(f"pasted over {at}: {text[:9]!r}", (hidden(b), of(b, "#log-text", "value")), wanted)
+        call(b, "probe.drop", "my.station.log", EVERY_100)
+        settle(b)
+        b.run("window.kept = picture.saveAs; picture.saveAs = name => { window.saved = name; }")
+        click(b, "#log-save")
+        b.run("picture.saveAs = kept; undefined")
+        self.check("the name of a saved log", b.run("saved"), "my.station.log")
 
     def test_a_log_that_changes_on_the_disk_stays_as_it_was_opened(self):
         """The answer, the search for a witness and that for other dwells are over the same bytes."""

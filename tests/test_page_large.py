@@ -21,17 +21,16 @@ def day_of_slots():
 
 
 def give_day(b, log):
-    """Makes the log a file of the page, `day`, and opens the text of the log tab."""
+    """Makes the log a file of the page, `day`."""
     b.run("window.pieces = []")
     for at in range(0, len(log), 4_000_000):
         b.run(f"pieces.push({json.dumps(log[at:at + 4_000_000])})")
     b.run("window.day = new File([pieces.join('')], 'day.log'); window.pieces = null; undefined")
-    b.run("document.querySelector('#log-text').closest('details').open = true")
 
 
 def take_day(b):
-    """Closes the text, and shows the first examples again."""
-    b.run("window.day = null; document.querySelector('#log-text').closest('details').open = false")
+    """Shows the first examples again."""
+    b.run("window.day = null")
     call(b, "probe.choose", "log-find", "")
     first_examples(b)
 
@@ -55,14 +54,13 @@ class Chromium(ChromiumCase):
         b.run("logTab.timeline.move(981999); undefined")
         idle(b)
         self.check("its verdict", text_of(b, "#verdict h2"), "✓ Passes with M = 100 (8.76 s)")
-        text = of(b, "#log-text", "value")
-        self.check("its text is a window around the slot",
-                   (len(text) <= 100_000, text.endswith(log[-20:]), of(b, "#log-text", "readOnly")), (True,) * 3)
+        rows = b.run("[...document.querySelectorAll('#log-rows button')].map(it => it.textContent)")
+        self.check("its lines are a window around the slot", (len(rows) <= 102, rows[-1]), (True, f"982,000{log[-20:-1]}"))
         before, after = json.dumps(log[:10_000_000]), json.dumps(log[:100_000])
         b.run(f"window.day = new File([{before}, 'bad\\n', {after}], 'bad.log'); undefined")
         b.run("page.openFile(day)")
         idle(b)
         b.run("[...document.querySelectorAll('#verdict button')].at(-1).click()")
-        self.check("the line of a fault is shown", (text_of(b, "#verdict h2"), call(b, "probe.chosenLine", "log-text")),
-                   ("Line 500,001 is malformed", "bad"))
+        self.check("the line of a fault is shown", (text_of(b, "#verdict h2"), text_of(b, "#log-rows [aria-current]")),
+                   ("Line 500,001 is malformed", "500,001bad"))
         take_day(b)

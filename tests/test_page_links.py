@@ -10,8 +10,8 @@ from http.server import SimpleHTTPRequestHandler, ThreadingHTTPServer
 from tests.page_support import (EVERY_100, FOLDER, SEED, URL, ChromiumCase, FirefoxCase, call, click, example, hidden,
                                 of, open_script, packed, printed, reload, settle, text_of, visit, waited_for)
 
-SIGHT = "[scriptTab.timeline.cursor, scriptTab.state.chosen, scriptTab.timeline.from, scriptTab.timeline.across]"
-LOG_STATE = ("(({ timeline: { cursor, from, across }, state: { lost } }) => "
+SIGHT = "[scriptTab.timeline.cursor, scriptTab.chosen, scriptTab.timeline.from, scriptTab.timeline.across]"
+LOG_STATE = ("(({ timeline: { cursor, from, across }, lost }) => "
              "[document.getElementById('log-lines').textContent, [...lost].sort((a, b) => a - b), cursor, from, "
              "across, ...['pi', 'm', 'k'].map(it => document.getElementById(`log-${it}`).value)])(logTab)")
 
@@ -80,7 +80,7 @@ class Links:
             self.check("files of the page are fetched", len(fetched) > 3, True)
             click(b, "#tab-script")
             call(b, "probe.choose", "script-example", 1)
-            b.run("scriptTab.state.chosen = 1; scriptTab.timeline.zoom(0.3, 20)")
+            b.run("scriptTab.chosen = 1; scriptTab.timeline.zoom(0.3, 20)")
             b.run("scriptTab.timeline.move(23, { keep: true })")
             click(b, "#script-share")
             b.until("document.querySelector('#script-saved').textContent !== ''")
@@ -135,7 +135,7 @@ class Links:
             bare = re.sub("&.*", "", link)
             visit(b, f"{bare}&m=128&lost=1-9999999.0-9999999&end")
             state = b.run(LOG_STATE)
-            self.check("a link with many lost slots", (told(), state[5:], len(state[1])), ("", ["C201", "128", "0"], 100_000))
+            self.check("a link with many lost slots", (told(), state[5:], len(state[1])), ("", ["C201", "128", "0"], 200_000))
             damaged = "The link is damaged: an option of it is wrong."
             for name, broken, why in (
                     *((f"has {more}", f"{bare}{more}&end", damaged) for more in
@@ -151,6 +151,31 @@ class Links:
             click(b, "#log-share")
             b.until("document.getElementById('log-saved').textContent !== ''")
             self.check("a log that is too long for one", told(), "This log is too long for a link: save it as a file.")
+
+
+    def test_back_and_reload_fit_the_page(self):
+        """Back after a link leaves the address of what is shown. An example is opened again by a reload."""
+        b = self.b
+        visit(b, f"{URL}#log")
+        b.run(f"location.hash = 'log={packed(EVERY_100.encode())}&m=8&lost=0-149&end'; undefined")
+        b.until("document.querySelector('#log-lines').textContent !== ''")
+        settle(b)
+        self.check("a link with many lost slots", b.run("logTab.lost.size"), 150)
+        click(b, "#tab-dwell")
+        b.run("history.back()")
+        b.until("!document.querySelector('#log').hidden")
+        settle(b)
+        self.check("back", (hidden(b), b.run("location.hash").startswith("#log="), of(b, "#log-text", "value")),
+                   (["script", "dwell"], True, EVERY_100))
+        visit(b, URL)
+        call(b, "page.tab", "log")
+        b.run("document.querySelectorAll('#log-start-examples button')[2].click()")
+        settle(b)
+        before = text_of(b, "#log-lines")
+        self.check("the address of an example", b.run("location.hash"), "#log&example=2")
+        reload(b)
+        settle(b)
+        self.check("a reload", (text_of(b, "#log-lines") == before != "", of(b, "#log-example", "value")), (True, "2"))
 
 
 class Chromium(Links, ChromiumCase):

@@ -3,8 +3,8 @@ import random
 import re
 
 from tests.page_support import (EVERY_100, GROUPS, HI, NOTHING, SEED, YO, ChromiumCase, FirefoxCase, call,
-                                click, example, first_examples, idle, of, program, settle, settled_verdict, shown,
-                                text_of, verdict_of)
+                                click, example, first_examples, idle, of, program, run_program, settle, settled_verdict,
+                                shown, text_of, verdict_of)
 
 POWERS = [*(1 << exponent for exponent in range(16)), 65535]
 PASSING = re.compile(r"With other dwells M: ([\d,]+)(?: and ([\d,]+))? pass(?:es)?(?:; ([\d, and]+) do(?:es)? not)?\."
@@ -47,7 +47,7 @@ EXPLAINED = [
 
 def lost(b):
     """Returns the slots that the reader lost."""
-    return b.run("[...logTab.state.lost]")
+    return b.run("[...logTab.lost]")
 
 
 def with_times(dice):
@@ -77,7 +77,7 @@ def text_of_two_segments(slot):
 def listed(b):
     """Returns the rows of the list of changes: slot, time, part and text."""
     parts = "[...it.children].map(part => part.textContent)"
-    return b.run(f"[...document.querySelectorAll('#log-changes button')].map(it => {parts})")
+    return b.run(f"[...document.querySelectorAll('#log-changes li:not(.more) button')].map(it => {parts})")
 
 
 class LogTab:
@@ -175,35 +175,39 @@ class LogTab:
             self.check(f"log {number}: link", f"&w={w}" in b.run("logTab.options()"), True)
         call(b, "logTab.open", example("corrected.log").decode(), {"pi": "C201", "m": 8, "k": 0, "w": 1})
         self.check("a window of 1", text_of(b, "#verdict"),
-                   "No verdictThe window W must be a whole number from 2 to 255.")
+                   "No verdictWindow W must be a whole number from 2 to 255.")
 
     def test_lost_slots_by_time_are_added_as_by_the_program(self):
-        """Until then the verdict is not green."""
+        """The page offers it if the program says that the log lacks slots, or that its times have a break. Until then the
+        verdict is neither green nor red."""
         b = self.b
         dice, offered = random.Random(SEED), 0
         for number, (log, m) in self.cases((with_times(dice), dice.choice([8, 128])) for _ in range(60)):
             call(b, "logTab.open", log, {"pi": "C201", "m": m, "k": 0})
             filled = program(["slots", "--m", str(m)], log.encode())[1]
-            has_more = len(filled.splitlines()) > b.run("logTab.state.times.timed")
+            _, answer, notes = run_program(["audit", "--pi", "C201", "--m", str(m), "--k", "0"], log.encode())
+            at = re.search(r"^slot \d+ \(line (\d+)\)", "\n".join(notes), re.M)
+            before = "".join(log.splitlines(keepends=True)[:int(at[1])] if at else log)
+            lacks = any("the log spans" in it for it in run_program(["decode", "--pi", "C201"], before.encode())[2])
+            breaks = any("went back, or on" in it for it in run_program(["slots"], log.encode())[2])
             is_offered = "Add the lost slots" in text_of(b, "#verdict")
-            self.check(f"seed {SEED}, times {number}: offered", is_offered, has_more, log)
+            self.check(f"seed {SEED}, times {number}: offered", is_offered, lacks or breaks, log)
             if not is_offered:
                 continue
             offered += 1
-            self.check(f"seed {SEED}, times {number}: no green",
-                       of(b, "#verdict", "className") in ("verdict empty", "verdict no"), True, log)
+            self.check(f"seed {SEED}, times {number}: neither green nor red", of(b, "#verdict", "className"),
+                       "verdict no" if answer.startswith("no") and not lacks else "verdict empty", log)
             buttons = "[...document.querySelectorAll('#verdict button')]"
             b.run(f"{buttons}.find(it => it.textContent === 'Add the lost slots').click()")
             idle(b)
             self.check(f"seed {SEED}, times {number}: added as by the program", of(b, "#log-text", "value"), filled,
                        log)
             settle(b)
-            if "#" not in filled:
-                self.check(f"seed {SEED}, times {number}: offered once", "Add the lost" in text_of(b, "#verdict"), False, log)
+            self.check(f"seed {SEED}, times {number}: offered once", "Add the lost" in text_of(b, "#verdict"), False, log)
         self.check_all("lost slots were offered", offered > 20, True)
         hour = f"{HI} @2026/11/26 10:00:00.00\nC201 2150 4A4F 0D20 @2026/11/26 11:00:00.00\n"
         call(b, "logTab.open", hour, {"pi": "C201", "m": 128, "k": 0})
-        said = ("Lost slots: By the times of the lines, 41,105 slots are not in this log. "
+        said = ("Lost slots: The log spans 41,106 slots by its times and has 2 lines. "
                 "The audit takes the lines as slots without a gap, so this answer may be wrong. Add the lost slots")
         self.check("an hour without a group", said in text_of(b, "#verdict") or text_of(b, "#verdict"), True)
         b.run("logTab.timeline.move(1)")
@@ -228,14 +232,14 @@ class LogTab:
             before = "\n".join(good[:int(bad[1]) - 1]) + "\n" if bad else log
             slots = program(["decode", "--pi", "C201", "--m", "1"], before.encode())[0]
             count = sum(1 for line in before.split("\n") if line.strip("\r") and line[0] not in "<#%")
-            self.check(f"seed {SEED}, slots of odd log {number}", (b.run("logTab.state.log.count"), slots), (count, 0),
+            self.check(f"seed {SEED}, slots of odd log {number}", (b.run("logTab.log.count"), slots), (count, 0),
                        log)
 
     def test_the_list_has_each_change_and_can_be_filtered(self):
         """A row goes to its slot."""
         b = self.b
         call(b, "probe.choose", "log-example", 1)
-        name = {"text": "text", "name": "name (PTYN)", "tag1": "tag", "tag2": "tag"}
+        name = {"text": "text", "name": "PTYN", "tag1": "tag", "tag2": "tag"}
         wanted = []
         for slot, part, rest in re.findall(r"^(\d+) (text|name|tag1|tag2) (.*)$", text_of(b, "#log-lines"), re.M):
             if rest.split()[0] != "none":
@@ -301,7 +305,7 @@ class LogTab:
                 self.check(f"seed {SEED}, log {number} passes", "✓ Passes with M = " in said, True, log)
                 continue
             told = program(["witness", *options], log.encode())[1].splitlines()
-            its = b.run("logTab.state.witness")
+            its = b.run("logTab.witness")
             slots = its["lost"] and "-".join(map(str, sorted(set(its["lost"]))))
             self.check(f"seed {SEED}, witness of log {number}, M {m}",
                        [f"lose {slots}: {line}" for line in its["shown"]]
@@ -309,7 +313,7 @@ class LogTab:
             found += bool(its["shown"])
         self.check_all("witnesses were found", found > 5, True)
         verdict_of(b, example("flags.log").decode(), 8)
-        b.run("verdict.showWitness({ lost: null, shown: [], failure: 'no memory for this input' }, {})")
+        b.run("$verdict.showWitness({ lost: null, shown: [], failure: 'no memory for this input' }, {})")
         self.check("a search that fails", text_of(b, "#witness"),
                    "No witness: no memory for this input. A no says that a rule was broken.")
         # one text of one segment, whose flag turns each time, makes no mix
@@ -325,7 +329,7 @@ class LogTab:
         log = example("flags.log").decode()
         call(b, "logTab.open", log + f"{NOTHING}\n" * 40, {"pi": "C201", "m": 8, "k": 0})
         settled_verdict(b)
-        self.check("the cursor", (b.run("logTab.timeline.cursor"), b.run("logTab.state.no.slot")), (4, 4))
+        self.check("the cursor", (b.run("logTab.timeline.cursor"), b.run("logTab.no.slot")), (4, 4))
         call(b, "logTab.open", log, {"pi": "C201", "m": 2, "k": 3})
         settled_verdict(b)
         idle(b)
@@ -333,6 +337,43 @@ class LogTab:
         self.check("no witness", "The search tries no late group." in text_of(b, "#witness"), True, text_of(b, "#witness"))
         call(b, "probe.choose", "log-example", 0)
         self.check("an example after it", of(b, "#log-k", "value"), "0")
+
+    def test_the_log_itself_follows_the_cursor(self):
+        """Numbered, beside the timeline, with the notes of the log left out. A click on a line chooses its slot."""
+        b = self.b
+        log = "# a note\n" + "".join(f"{HI} number {slot}\n" for slot in range(6000))
+        call(b, "logTab.open", log, {"pi": "C201", "m": 8, "k": 0})
+        for slot in (0, 3000, 5999):
+            b.run(f"logTab.timeline.move({slot})")
+            row, whole = (b.run(f"(({{ top, bottom }}) => [top, bottom])(document.querySelector('{it}').getBoundingClientRect())")
+                          for it in ("#log-rows [aria-current]", "#log-rows"))
+            self.check(f"slot {slot}", (text_of(b, "#log-rows [aria-current]"), row[0] >= whole[0], row[1] <= whole[1]),
+                       (f"{slot + 2:,}{HI} number {slot}", True, True))
+        click(b, "#log-rows [data-row='5990'] button")
+        self.check("a click", b.run("logTab.timeline.cursor"), 5990)
+        b.size(1280, 800)
+        b.run("scrollTo(0, 0)")
+        box = "document.querySelector('#log-time canvas').getBoundingClientRect().top"
+        ends = b.run(f"logTab.timeline.lanes.map(lane => {box} + lane.top + lane.height)")
+        top = b.run("document.querySelector('#log-rows').getBoundingClientRect().top")
+        self.check("in sight", (sum(end <= 800 for end in ends) >= min(5, len(ends)), top < 700), (True, True), str(ends))
+        b.size(1280, 900)
+
+    def test_all_stations_of_a_log_are_offered(self):
+        b = self.b
+        call(b, "logTab.open", "".join(f"{0xC200 + number:X} 2140 4849 0D20\n" for number in range(16)), {"pi": "C20F", "m": 8})
+        self.check("stations", (b.run("document.querySelector('#log-pi').options.length"), of(b, "#log-pi", "value")), (16, "C20F"))
+
+    def test_a_file_without_a_slot_has_no_timeline(self):
+        b = self.b
+        for log in ("", "# a note\n", "\x00\x01\x02"):
+            call(b, "probe.drop", "own.log", log)
+            settle(b)
+            self.check(f"{log!r}", b.run("['#log-time', '#log .radios'].map(it => document.querySelector(it).checkVisibility())"),
+                       [False, False])
+        call(b, "probe.drop", "own.log", HI)
+        settle(b)
+        self.check("one slot", of(b, "#log-time", "checkVisibility()"), True)
 
     def test_each_task_takes_at_most_four_clicks(self):
         """Is my encoder safe, what M for 15 s, when did the text change?"""
@@ -352,7 +393,7 @@ class LogTab:
                    (True, []))
         used = clicks(lambda: click(b, "#tab-dwell"), lambda: call(b, "probe.choose", "dwell-s", 15),
                       lambda: click(b, "#dwell button"))
-        self.check("what M for texts of 15 s", (used <= 4, of(b, "#dwell-m", "value")), (True, "171"))
+        self.check("what M for texts of 15 s", (used <= 4, of(b, "#dwell-m", "value")), (True, "172"))
         used = clicks(lambda: click(b, "#tab-log"), file, lambda: call(b, "probe.choose", "log-find", "news"),
                       lambda: click(b, "#log-changes button"))
         self.check("when did the text change", (used <= 4, text_of(b, "#log-time output")),

@@ -66,18 +66,39 @@ class Long:
               "function (...given) { drawn++; show.apply(this, given); }; undefined")
         b.run("scriptTab.timeline.move(10)")
         b.run("['restart', 'tags', '-', 'restart'].forEach(command => probe.choose('command', command))")
-        self.check("the row has the last edit at once", b.run("scriptTab.state.rows[10].command"), "restart")
+        self.check("the row has the last edit at once", b.run("scriptTab.rows[10].command"), "restart")
         idle(b)
-        script = b.run("scriptTab.state.text")
+        script = b.run("scriptTab.text")
         wanted = program(["sim", "--pi", "C201", "--pty", "10", "--m", "8", "--k", "0", "--why"], script.encode())[1]
         self.check("one result is shown, the last one's",
-                   (b.run("drawn"), b.run("scriptTab.state.result.output") == wanted[:1_600_004]), (1, True))
+                   (b.run("drawn"), b.run("scriptTab.output") == wanted[:1_600_004]), (1, True))
         b.run("scriptTab.timeline.show = show; undefined")
+
+    def test_a_script_that_plays_for_long_can_be_stopped_and_is_not_waited_for(self):
+        """After a second a button ends the run, and a newer number does so at once. The answer of the run is kept back, for
+        a fast machine plays any script within a second."""
+        b = self.b
+        call(b, "page.tab", "script")
+        b.run("window.hear = Program.prototype.hear; window.isHeld = true; Program.prototype.hear = function (data) {"
+              "  if (!isHeld || !data.answer?.replies) hear.call(this, data); }; undefined")
+        shows, stop = "document.querySelector('#script-stop').checkVisibility()", "document.querySelector('#script-stop').click()"
+        for m in (100, 101):
+            b.run(f"probe.choose('script-m', {m})")
+            self.check("a button", b.until(shows), True)
+            if m == 100:
+                b.run(stop)
+                self.check("stops it at once", (text_of(b, "#script-fault"), b.run(shows)), ("Playing was stopped.", False))
+        b.run("isHeld = false; probe.choose('script-m', 9)")
+        b.until("document.querySelector('#script-command').textContent.includes('--m 9 ')")
+        idle(b)
+        self.check("a newer M", (text_of(b, "#script-command"), text_of(b, "#script-fault"), b.run(shows)),
+                   ("rdsrt sim --pi C201 --pty 10 --m 9 --k 0 --why", "", False))
+        b.run("Program.prototype.hear = hear; undefined")
 
     def test_the_search_for_a_witness_says_how_long_it_takes_and_can_be_stopped(self):
         """The answer of the search is kept back, for a fast machine searches a day of slots within a second."""
         b = self.b
-        b.run("window.hear = ProgramWorker.prototype.hear; ProgramWorker.prototype.hear = function (data) {"
+        b.run("window.hear = Program.prototype.hear; Program.prototype.hear = function (data) {"
               "  if (data.answer?.shown === undefined) hear.call(this, data); }; undefined")
         groups = "".join(f"C201 21{flag}0 {text} 0D20\\n" * 2 for flag, text in ((4, "4849"), (5, "594F")))
         b.run(f"page.openFile(new File(['{groups}'.repeat({DAY // 4})], 'day.log')); undefined")
@@ -89,7 +110,7 @@ class Long:
         b.run("document.querySelector('#search-stop').click()")
         self.check("it stops at once", text_of(b, "#witness"),
                    "No witness: the search was stopped. A no says that a rule was broken.")
-        b.run("ProgramWorker.prototype.hear = hear; undefined")
+        b.run("Program.prototype.hear = hear; undefined")
         idle(b)
         self.check("and stays so", text_of(b, "#witness"),
                    "No witness: the search was stopped. A no says that a rule was broken.")
@@ -118,10 +139,10 @@ class Chromium(Long, ChromiumCase):
             self.check(f"{name}: no task of more than {LONGEST_TASK} ms", longest <= LONGEST_TASK or longest, True)
             if name != "a letter is typed":
                 continue
-            self.check("the row has the text", b.run("scriptTab.state.rows[900].argument"), TYPED)
-            script = b.run("scriptTab.state.text").encode()
+            self.check("the row has the text", b.run("scriptTab.rows[900].argument"), TYPED)
+            script = b.run("scriptTab.text").encode()
             wanted = program(["sim", "--pi", "C201", "--pty", "10", "--m", "128", "--k", "0", "--why"], script)[1]
-            self.check("it is played", b.run("scriptTab.state.result.output") == wanted[:1_600_004], True)
+            self.check("it is played", b.run("scriptTab.output") == wanted[:1_600_004], True)
             b.run("scriptTab.timeline.move(1000)")
             self.check("and shown", shown(b, "script-air"), TYPED)
             waits = "document.querySelector('#script-wait').checkVisibility()"
@@ -141,11 +162,11 @@ class Chromium(Long, ChromiumCase):
             file_of(b, file.name)
             self.nothing_holds_up(b)
         groups = list(turning())
-        for slot in b.run("[...logTab.state.lost]"):
+        for slot in b.run("[...logTab.lost]"):
             groups[slot] = f"{NOTHING}\n"
         output = program(["decode", "--pi", "C201", "--m", "64"], "".join(groups).encode())[1]
         told = [[int(slot), text or None] for slot, text in re.findall('^(\\d+) text (?:"(.*)"|none)$', output, re.M)]
-        runs = "logTab.state.view.parts.text"
+        runs = "logTab.view.parts.text"
         some = b.run(f"Array.from({runs}.starts.keys()).filter(i => i % {EACH} === 0)"
                      f".map(i => [{runs}.from(i), {runs}.value(i)])")
         self.check("some of what is shown", (b.run(f"{runs}.length"), some), (len(told), told[::EACH]))
@@ -155,9 +176,8 @@ class Chromium(Long, ChromiumCase):
 
     def nothing_holds_up(self, b):
         """Measures each step over the open log."""
-        b.run("document.querySelector('#log-text').closest('details').open = true")
         steps = {"opened": "page.openFile(day)", "another M": "probe.choose('log-m', 100)",
-                 "a lost slot": "logTab.lose([500_001 + 2 * logTab.state.lost.size])",
+                 "a lost slot": "logTab.lose([500_001 + 2 * logTab.lost.size])",
                  "another M then": "probe.choose('log-m', 64)",
                  "at the end": f"logTab.timeline.move({DAY - 1})", "its list": "probe.choose('log-find', '45678')",
                  "all in sight": "logTab.timeline.act('all')", "the next text": "logTab.timeline.act('next')"}

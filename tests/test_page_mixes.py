@@ -47,10 +47,10 @@ class Mixes:
             words = ["decode", "--pi", of(b, "#log-pi", "value"), "--m", "65535"]
             told = re.findall(r'^(\d+) text (?:"(.*)"|none)$', program(words, example(name))[1], re.M)
             wanted = [[int(slot), text or None] for slot, text in told]
-            self.check(f"the flag bit alone over {name}", (runs_of(b, "logTab.state.alone"), len(wanted) > 0),
+            self.check(f"the flag bit alone over {name}", (runs_of(b, "logTab.alone"), len(wanted) > 0),
                        (wanted, True))
         open_script(b, "".join(f"text,HI,1,{letter}\n" for letter in "GGRGLR"), m=1, k=0)
-        self.check("it restarts with its receiver", runs_of(b, "scriptTab.state.alone[0]"),
+        self.check("it restarts with its receiver", runs_of(b, "scriptTab.alone[0]"),
                    [[1, "HI"], [2, None], [3, "HI"], [5, None]])
         for slot, word in ((2, "restarted"), (5, "dropped")):
             b.run(f"scriptTab.timeline.move({slot})")
@@ -59,7 +59,7 @@ class Mixes:
         many = f"{HI}\n" + f"{NOTHING}\n" * 65_534
         for text, wanted in ((many * 2, [[0, 131_070]]), (many + f"{NOTHING}\n", [[0, 65_535], [65_535, 65_536]])):
             call(b, "logTab.open", text, {"pi": "C201", "m": 8})
-            got = b.run("[...logTab.state.alone.parts.text].map(run => [run.from, run.to])")
+            got = b.run("[...logTab.alone.parts.text].map(run => [run.from, run.to])")
             self.check(f"what it keeps of {text.count(chr(10))} slots", got, wanted)
 
     def test_the_examples_say_why_no_text_is_shown(self):
@@ -103,7 +103,7 @@ class Mixes:
         for name, script, mixes in (("without the empty text", without, ["Road B7: closed", "Road B7: opesed"]),
                                     ("with the empty text", with_it, [])):
             open_script(b, "".join(f"{row}\n" for row in script), m=8, k=0)
-            all_shown = [text for _, text in runs_of(b, "scriptTab.state.alone[0]") if text is not None]
+            all_shown = [text for _, text in runs_of(b, "scriptTab.alone[0]") if text is not None]
             told = ("With the flag bit alone, receivers show mixes: 2 texts. With the dwell none does."
                     if mixes
                     else "No receiver shows a mix here. Lose more slots: a whole text and the next flip of the flag.")

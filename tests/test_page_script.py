@@ -31,12 +31,12 @@ class ScriptTab:
         self.brush()
         call(b, "probe.choose", "script-n", 8)
         settle(b)
-        self.check("eight receivers", b.run("scriptTab.state.rows[0].receptions.length"), 8)
+        self.check("eight receivers", b.run("scriptTab.rows[0].receptions.length"), 8)
 
     def brush(self):
         """Paints with the brush over a receiver's lane, and undoes the stroke."""
         b = self.b
-        got = "scriptTab.state.rows.slice(8, 17).map(row => row.receptions[0]).join('')"
+        got = "scriptTab.rows.slice(8, 17).map(row => row.receptions[0]).join('')"
         click(b, "[name=brush][value=L]")
         b.drag(*(b.run(f"probe.place(scriptTab.timeline, {slot}, lane => lane.group === 0)") for slot in (10, 14)))
         self.check("the brush loses slots", b.run(got), "GGLLLLLGG")
@@ -79,7 +79,7 @@ class ScriptTab:
         self.check("an edit changes its row alone", of(b, "#script-text", "value"), f"{text}\n\n")
         self.check("and the fault stays", (text_of(b, "#script-fault"), "row 2 (line 3)" in fault), (fault, True))
         click(b, "#script-undo")
-        self.check("undone", b.run("scriptTab.state.text"), f"{wanted}\n\n")
+        self.check("undone", b.run("scriptTab.text"), f"{wanted}\n\n")
         call(b, "scriptTab.open", wanted.replace("\r", ""), {"m": 8, "k": 0})
         call(b, "probe.choose", "script-slots", 5)
         settle(b)
@@ -94,7 +94,7 @@ class ScriptTab:
         open_script(b, "".join(f"{line}GG\n" for line in example("chanson.csv").decode().splitlines()), m=8, k=0)
         names = b.run("scriptTab.timeline.lanes.map(lane => lane.name.trim())")
         self.check("names and tags have lanes", (names.count("its name"), names.count("its tags")), (5, 5))
-        views = "[...scriptTab.state.alone, ...scriptTab.state.shown.views]"
+        views = "[...scriptTab.alone, ...scriptTab.views]"
         last = b.run(f"{views}.map(view => [...view.parts.tag1].at(-1).value.text)")
         self.check("tags of both kinds of receivers", last, ["Édith Piaf"] * 4)
         self.check("nothing is taken for a mix", "No receiver shows a mix" in text_of(b, "#script-count"), True)

@@ -1,6 +1,9 @@
 """The timelines of the page: their marks, zoom, shapes and pictures."""
+import re
+
 from tests.page_support import (GROUPS, HI, NOTHING, SCHEMES, YO, ChromiumCase, FirefoxCase, call, click,
                                 first_examples, of, settle, text_of, verdict_of)
+from tests.slot import SLOT
 
 # of texts, and of shapes without a text
 CONTRAST, GRAPHIC_CONTRAST = 4.5, 3
@@ -53,7 +56,7 @@ class Timeline:
             b.drag(axis(29), axis(29), clicks=clicks)
         self.check("a double click on the axis shows all slots", (b.run(sight), b.run("scriptTab.timeline.cursor")),
                    ([0, count], 29))
-        texts = b.run("[...scriptTab.state.air.parts.text].filter(run => run.value !== null).map(run => run.from)")
+        texts = b.run("[...scriptTab.air.parts.text].filter(run => run.value !== null).map(run => run.from)")
         call(b, "scriptTab.timeline.move", texts[0])
         b.key("n")
         self.check("N goes to the next text", b.run("scriptTab.timeline.cursor"), texts[1])
@@ -70,7 +73,7 @@ class Timeline:
         for key in "lgr":
             b.key(key)
             self.check(f"{key} edits a reception",
-                       b.run(f"scriptTab.state.rows[{at}].receptions[scriptTab.state.chosen]"), key.upper())
+                       b.run(f"scriptTab.rows[{at}].receptions[scriptTab.chosen]"), key.upper())
         first_examples(b)
 
     def test_a_bar_moves_the_slots_in_sight(self):
@@ -99,6 +102,68 @@ class Timeline:
         focus = b.run(f"[document.activeElement.className, getComputedStyle({bar}).outlineStyle]")
         # the window of a headless Firefox has no focus, so it shows none
         self.check("the focus is to be seen", focus, ["scroll", "solid" if b.run("document.hasFocus()") else "none"])
+        first_examples(b)
+
+    def test_the_axis_has_the_times_of_the_log(self):
+        """By its clock, also over midnight and over lines without a time, or since the first slot."""
+        b = self.b
+        def clock(slot):
+            seconds = (86_390 + slot * SLOT) % 86_400
+            return f"{int(seconds // 3600):02d}:{int(seconds // 60 % 60):02d}:{seconds % 60:05.2f}"
+        log = "".join(f"{NOTHING}\n" if slot % 5 else f"{HI} @2024/06/01 {clock(slot)}\n" for slot in range(3000))
+        halves = [f"00:0{minute}:{second}" for minute in range(5) for second in ("00", "30")]
+        for name, text, row, wanted in (("clock", log, "clock", halves[:8]), ("no clock", f"{HI}\n" * 3000, "elapsed", halves[:9])):
+            verdict_of(b, text, 8)
+            drawn = b.run("probe.axisTexts(logTab.timeline)")
+            first = min(y for *_, y in drawn)
+            self.check(f"{name}: the times", [text for text, _, y in drawn if y == first], [row, *wanted])
+            for time, x, y in drawn[1:]:
+                if y == first:
+                    left = "logTab.timeline.canvas.getBoundingClientRect().left"
+                    at = b.run(f"logTab.timeline.slotAt({{ clientX: {x - 3} + {left} }})")
+                    is_at = (86_390 + at * SLOT) % 86_400 if name == "clock" else at * SLOT
+                    self.check(f"{name}: {time} is in its place", abs(is_at - 60 * int(time[3:5]) - int(time[6:])) < 1, True)
+        b.run("logTab.timeline.zoomTo(0, 60)")
+        seconds = [text for text, *_ in b.run("probe.axisTexts(logTab.timeline)") if re.fullmatch(r"\d\d:\d\d:\d\d", text)]
+        self.check("seconds", seconds[:3], ["00:00:00", "00:00:01", "00:00:02"])
+        first_examples(b)
+
+    def test_wheel_and_pinch_show_fewer_and_more_slots(self):
+        """The slot under the pointer keeps its place. With all slots in sight the wheel moves the page."""
+        b = self.b
+        verdict_of(b, f"{HI}\n" * 1000, 8)
+        sight = "(t => [t.from, t.across])(logTab.timeline)"
+        wheel = ("(y, x = 0, shiftKey = false) => { const { canvas } = logTab.timeline, box = canvas.getBoundingClientRect(); "
+                 "return canvas.dispatchEvent(new WheelEvent('wheel', { deltaY: y, deltaX: x, shiftKey, cancelable: true, "
+                 "clientX: box.left + logTab.timeline.x(250) })); }")
+        self.check("all are in sight: the page moves", (b.run(f"({wheel})(300)"), b.run(sight)), (True, [0, 1000]))
+        b.run(f"({wheel})(-300)")
+        self.check("fewer slots", [round(it) for it in b.run(sight)], [125, 500])
+        b.run(f"({wheel})(0, 100)")
+        self.check("sideways", b.run(sight)[0] > 125, True)
+        b.run(f"({wheel})(300); ({wheel})(300)")
+        self.check("more slots", b.run(sight), [0, 1000])
+        touch = ("(kind, id, slot) => { const { canvas } = logTab.timeline, box = canvas.getBoundingClientRect(); "
+                 "canvas.setPointerCapture = () => {}; canvas.dispatchEvent(new PointerEvent(kind, { pointerId: id, bubbles: true, "
+                 "pointerType: 'touch', clientX: box.left + logTab.timeline.gutter + slot / 1000 * logTab.timeline.room, "
+                 "clientY: box.top + 60 })); }")
+        for kind, pointer, slot in (("pointerdown", 1, 400), ("pointerdown", 2, 600), ("pointermove", 1, 300), ("pointermove", 2, 700)):
+            b.run(f"({touch})('{kind}', {pointer}, {slot})")
+        self.check("a pinch", [round(it) for it in b.run(sight)], [250, 500])
+        b.run(f"({touch})('pointerup', 2, 700)")
+        b.run("delete logTab.timeline.canvas.setPointerCapture")
+        first_examples(b)
+
+    def test_no_label_is_cut_without_an_ellipsis(self):
+        b = self.b
+        texts = [f"{turn:02d} is a text that is long" for turn in range(24)]
+        halves = [(text + "\r").ljust(28)[at:at + 4].encode().hex() for text in texts for at in [*range(0, 28, 4)] * 3]
+        log = "".join(f"C201 21{4 + number // 21 % 2}{number % 7} {it[:4]} {it[4:]}\n" for number, it in enumerate(halves))
+        verdict_of(b, log.upper(), 8)
+        b.run("logTab.timeline.zoomTo(0, 200)")
+        told = b.run("probe.labels(logTab.timeline, 'text')")
+        cut = [it for it, *_ in told if it not in texts]
+        self.check("labels", (len(cut) > 5, [it for it in cut if not it.endswith("…")]), (True, []))
         first_examples(b)
 
     def test_a_picture_has_a_caption_over_its_lanes(self):
@@ -136,8 +201,8 @@ class Chromium(Timeline, ChromiumCase):
         log = "".join(f"{line}\n" for line in (HI, YO, GROUPS[4], GROUPS[7], GROUPS[6], NOTHING))
         verdict_of(b, log, 8)
         self.check("the codes of slots", b.run("[...logTab.timeline.lanes[0].codes]"), [1, 9, 2, 3, 4, 0])
-        code = "lines.codeOf(logfile.groupAt(logTab.state.log, slot), 0xC201)"
-        kinds = b.run(f"Array.from({{ length: logTab.state.log.count }}, (_, slot) => {code})")
+        code = "lines.codeOf(logfile.groupAt(logTab.log, slot), 0xC201)"
+        kinds = b.run(f"Array.from({{ length: logTab.log.count }}, (_, slot) => {code})")
         self.check("and the kinds of their groups", kinds, [1, 1, 2, 3, 4, 0])
         for scheme in SCHEMES:
             b.scheme(scheme)

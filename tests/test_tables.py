@@ -9,7 +9,7 @@ from tests.support import ProgramCase, ran, text_of
 DWELLS = [
     ("include/rdsrt.h", r"#define RDSRT_DEFAULT_DWELL "),
     ("python/src/rdsrt/_library.py", r"\nDEFAULT_DWELL = "),
-    ("page/app.js", r"DEFAULTS = \{ m: "),
+    ("page/ui/app.js", r"DEFAULTS = \{ m: "),
     ("page/index.html", r'id="log-m" min="1" max="65535" value="'),
     ("page/index.html", r'id="dwell-m" min="1" max="65535" value="'),
     ("examples/station", r'"--m", type=int, default='),
@@ -43,8 +43,8 @@ class Tables(ProgramCase):
             log = "".join(f"C201 2140 4849 0D20 {time / 1e6:.6f}\n" for time in (0, apart))
             _, output = ran(["slots", "--grain", "0"], log.encode())
             self.check(f"{apart} us", output.count(b"----\n"), lost)
-        bits, rate = re.search(r"const SLOT = (\d+) / ([\d.]+);", text_of("page/lines.js")).groups()
-        self.check("page/lines.js", round(19e6 * int(bits) / float(rate)), NINETEEN_SLOTS)
+        bits, rate = re.search(r"const SLOT = (\d+) / ([\d.]+);", text_of("page/model/lines.js")).groups()
+        self.check("page/model/lines.js", round(19e6 * int(bits) / float(rate)), NINETEEN_SLOTS)
 
     def test_the_names_of_content_types_are_those_of_the_output(self):
         wanted = [shown_class(number) for number in range(1, 13)]

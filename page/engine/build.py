@@ -1,12 +1,13 @@
 #!/usr/bin/env python3
-"""Writes engine.js (the module), examples.js (the examples) and page.js (the scripts of the page, joined in one order).
-All three are scripts, so that a browser can open the page from a disk too.
+"""Writes engine.js (the module), examples.js (the examples) and page.js (the ES modules of the page, joined in the order of
+their imports). All three are plain scripts: a browser loads no module for a page that was opened from a disk.
 
 usage: build.py MODULE EXAMPLES OUT      writes all of them
        build.py --scripts OUT            writes page.js alone
 """
 import base64
 import csv
+import glob
 import gzip
 import io
 import json
@@ -15,13 +16,11 @@ import re
 import sys
 
 PAGE_FOLDER = os.path.dirname(os.path.dirname(os.path.abspath(__file__)))
-# Each script uses only names of scripts before it. A worker runs those of WORKER.
-BOTH = ["lines.js", "rdsrt.js", "views.js", "records.js", "logfile.js", "player.js"]
-WORKER = [*BOTH, "witness.js", "worker.js"]
-PAGE = [*BOTH, "painter.js", "parts.js", "lane-items.js", "picture.js", "play.js", "timeline.js", "undo.js", "links.js",
-        "program-worker.js", "log-text.js", "groups.js", "changes.js", "verdict.js", "passing.js", "log.js", "script.js",
-        "dwell.js", "road.js", "app.js"]
-DEFINED = re.compile(r"^(?:const|class) (\w+)", re.M)
+# The module with which the page begins, and the one of its workers. Their imports lead to all others.
+PAGE, WORKER = "ui/app.js", "program/worker.js"
+IMPORT = re.compile(r'^import (?:\* as (\w+)|(\{[^}]+\})) from "(.+)";\n', re.M)
+# an exported definition, or a list of names
+EXPORT = re.compile(r"^export (?:(?=(?:async )?(?:const|class|function) ([\w$]+))|\{ (.*) \};\n)", re.M)
 
 ENCODE = ["encode", "--pi", "C201", "--pty", "10", "--m", "8"]
 LOGS = [
@@ -36,7 +35,7 @@ SCRIPTS = [
     ("A short tunnel", "tunnel.csv", {"m": 8, "k": 0, "pty": "24"}),
     ("Groups that come late", "late.csv", {"m": 4, "k": 2, "pty": "10"}),
     ("A wrong group, heard twice", "wrong.csv", {"m": 8, "k": 0, "w": 8, "pty": "10"}),
-    ("A song with its tags", "chanson.csv", {"m": 8, "k": 0, "pty": "10"}),
+    ("A song with its tags", "chanson.csv", {"m": 8, "k": 0, "pty": "10", "receptions": "G"}),
 ]
 # After the first restart a text comes first, after the second the empty one: the commands by their slots.
 RESTARTS = {8: "text,Road A1: closed", 26: "restart,", 34: "text,Road B7: open", 52: "restart,", 60: "text,",
@@ -51,10 +50,10 @@ def restarts():
 
 
 def shown(folder, rows):
-    """The examples as the page takes them: name, text, and how they are opened."""
+    """The examples as the page takes them: name, text, and how they are opened. A script for `encode` may get receptions."""
     for name, file, how in rows:
         with open(os.path.join(folder, file), encoding="utf-8") as text:
-            yield {"name": name, "text": text.read(), **how}
+            yield {"name": name, "text": text.read().replace(",\n", f",{how.get('receptions', '')}\n"), **how}
 
 
 def tunnel(folder, receiver=1):
@@ -77,26 +76,46 @@ def read(name):
         return file.read()
 
 
-def joined(names):
-    """The scripts in one, in this order. No script may use a name that a later one defines."""
-    texts = [read(name) for name in names]
-    defined = [DEFINED.findall(text) for text in texts]
-    for i, (name, text) in enumerate(zip(names, texts)):
-        code = re.sub(r"/\*.*?\*/", "", text, flags=re.S)
-        early = [later for all_later in defined[i + 1:] for later in all_later if re.search(rf"(?<![.\w]){later}\s*[.(]", code)]
-        if early:
-            sys.exit(f"build.py: {name} uses {', '.join(early)}, which a later script defines")
-    return "".join(text if not i else text.replace('"use strict";\n', "", 1) for i, text in enumerate(texts))
+def name_of(path):
+    """The name of a module in the script that joins all."""
+    return "$" + re.sub("-(.)", lambda it: it[1].upper(), os.path.basename(path)[:-len(".js")])
+
+
+def join(path, done):
+    """Adds a module behind those that it imports: a function that is called at once and returns what it exports."""
+    if path in done:
+        return
+    done[path] = None
+    text, uses = read(path), []
+    for star, names, other in IMPORT.findall(text):
+        other = os.path.normpath(os.path.join(os.path.dirname(path), other))
+        join(other, done)
+        if done[other] is None:
+            sys.exit(f"build.py: {path} and {other} import each other")
+        uses.append(f"const {star or names} = {name_of(other)};\n")
+    exported = ", ".join(one or more for one, more in EXPORT.findall(text))
+    body = EXPORT.sub("", IMPORT.sub("", text))
+    # a dictionary keeps its order: behind the modules that it imports
+    del done[path]
+    done[path] = f"const {name_of(path)} = (() => {{\n{''.join(uses)}{body}return {{ {exported} }};\n}})();\n"
+
+
+def joined(path):
+    """The module at this path and all that it imports, as one script."""
+    done = {}
+    join(path, done)
+    return done, "".join(done.values())
 
 
 def write_scripts(out):
-    """Writes page.js: the text of the worker's scripts, and the scripts of the page."""
-    missing = {name for name in os.listdir(PAGE_FOLDER) if name.endswith(".js")} - {*WORKER, *PAGE}
-    if missing:
-        sys.exit(f"build.py: no order for {', '.join(sorted(missing))}")
-    page = joined(PAGE).replace('"use strict";\n', "", 1)
+    """Writes page.js: the text of the worker's script, and the script of the page."""
+    (for_worker, worker), (for_page, page) = joined(WORKER), joined(PAGE)
+    there = {os.path.relpath(it, PAGE_FOLDER) for it in glob.glob(os.path.join(PAGE_FOLDER, "*/*.js"))}
+    there -= {it for it in there if it.startswith("out/")}
+    if there - {*for_worker, *for_page}:
+        sys.exit(f"build.py: nothing imports {', '.join(sorted(there - {*for_worker, *for_page}))}")
     with open(os.path.join(out, "page.js"), "w", encoding="utf-8") as file:
-        file.write(f'"use strict";\nconst RDSRT_WORKER = {json.dumps(joined(WORKER), ensure_ascii=False)};\n{page}')
+        file.write(f'"use strict";\nconst RDSRT_WORKER = {json.dumps(worker, ensure_ascii=False)};\n{page}')
 
 
 def main():

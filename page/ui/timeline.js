@@ -1,8 +1,16 @@
-"use strict";
 /* A timeline of slots: which of them are in sight, the chosen one, and its buttons, keys and pointer. */
-class Timeline {
+import * as painter from "../display/painter.js";
+import * as lines from "../model/lines.js";
+import * as picture from "./picture.js";
+import { Play } from "./play.js";
+
+export class Timeline {
   /* The fewest slots in sight, and the pixels that a pointer may move in a click. */
   static LEAST = 8;
+  /* What a slot has that comes from no log: no clock, no line, and no time of the day. */
+  static UNTIMED = { clock: () => "", line: () => "", seconds: () => NaN };
+  /* The pixels of a wheel that show twice or half as many slots. */
+  static WHEEL = 300;
   static STILL = 3;
   /* The modes of a page that change its colours. */
   static MODES = ["(prefers-color-scheme: dark)", "(forced-colors: active)"];
@@ -14,7 +22,7 @@ class Timeline {
   static number = (n) => n.toLocaleString("en");
 
   constructor(root, { label, onMove, onPaint = () => false, onKey = () => false, onLane = () => {}, ...others }) {
-    Object.assign(this, { root, onMove, onPaint, onKey, onLane, clock: () => "", line: () => "", ...others });
+    Object.assign(this, { root, onMove, onPaint, onKey, onLane, ...Timeline.UNTIMED, ...others });
     Object.assign(this, { lanes: [], count: 1, from: 0, across: 1, cursor: 0, chosen: null, span: null });
     root.append(document.getElementById("timeline").content.cloneNode(true));
     this.canvas = root.querySelector("canvas");
@@ -38,6 +46,7 @@ class Timeline {
     canvas.addEventListener("pointermove", (event) => canvas.classList.toggle("axis", this.isAxis(event)));
     canvas.addEventListener("dblclick", (event) => { if (this.isAxis(event)) this.act("all"); });
     canvas.addEventListener("keydown", (event) => this.key(event));
+    canvas.addEventListener("wheel", (event) => this.wheel(event), { passive: false });
     new ResizeObserver(() => this.draw()).observe(canvas);
     for (const mode of Timeline.MODES) matchMedia(mode).addEventListener("change", () => this.recolour());
   }
@@ -68,7 +77,17 @@ class Timeline {
   }
 
   x(slot) { return this.gutter + (slot - this.from) / this.across * this.room; }
-  slot(x) { return Math.floor(this.from + (x - this.gutter) / this.room * this.across); }
+  /* The place of a pointer in slots, with a fraction. */
+  slotAt({ clientX }) {
+    const { left } = this.canvas.getBoundingClientRect();
+    return this.from + (clientX - left - this.gutter) / this.room * this.across;
+  }
+
+  /* The seconds of slots for the axis: by the clock of the log, or since the first slot. */
+  times(first) {
+    const isClocked = !Number.isNaN(this.seconds(first));
+    return isClocked ? { seconds: this.seconds, name: "clock" } : { seconds: lines.seconds, name: "elapsed" };
+  }
 
   /* The nearest slot to this one from which on as many are in sight as now. */
   within(from) { return Math.min(Math.max(0, this.count - this.across), Math.max(0, from)); }
@@ -144,7 +163,8 @@ class Timeline {
     if (event.button) return;
     this.canvas.focus();
     const { left, top } = this.canvas.getBoundingClientRect();
-    const slotAt = ({ clientX }) => Math.min(this.count - 1, Math.max(0, this.slot(clientX - left)));
+    const slotAt = (it) => Math.min(this.count - 1, Math.max(0, Math.floor(this.slotAt(it))));
+    if (this.pressed && this.pressed.pointerId !== event.pointerId) { this.pinch(this.pressed, event); return; }
     if (this.isAxis(event)) { this.select(event, slotAt); return; }
     const lane = this.laneAt(event.clientY - top);
     if (lane?.group !== undefined) {
@@ -156,16 +176,41 @@ class Timeline {
     else this.pan(event, slotAt);
   }
 
-  /* Follows a pointer from its press to its end. */
-  follow({ pointerId }, go, end) {
-    const { canvas } = this;
-    const press = new AbortController();
-    const { signal } = press;
-    const stop = (event) => {
-      press.abort();
-      end(event);
+  /* Two fingers show more or fewer slots. The slot between them keeps its place. */
+  pinch(first, second) {
+    const at = new Map([first, second].map((it) => [it.pointerId, it.clientX]));
+    const gap = () => Math.max(Timeline.LEAST, Math.abs([...at.values()].reduce((one, other) => one - other)));
+    const middle = this.slotAt({ clientX: (first.clientX + second.clientX) / 2 }), before = gap() * this.across;
+    this.stopping.abort();
+    const go = ({ pointerId, clientX }) => {
+      if (at.has(pointerId)) at.set(pointerId, clientX);
+      this.zoom(before / gap() / this.across, middle);
     };
-    canvas.setPointerCapture(pointerId);
+    this.follow(second, go, () => {});
+  }
+
+  /* The wheel shows fewer slots, or more until all are in sight. Sideways, or with Shift, it shows earlier and later
+     ones. */
+  wheel(event) {
+    const { deltaX, deltaY, shiftKey } = event, isSideways = shiftKey || Math.abs(deltaX) > Math.abs(deltaY);
+    if (this.across >= this.count && (isSideways || deltaY > 0)) return;
+    event.preventDefault();
+    if (isSideways) this.showFrom(this.from + (deltaX || deltaY) / this.room * this.across);
+    else this.zoom(2 ** (deltaY / Timeline.WHEEL), this.slotAt(event));
+  }
+
+  /* Follows a pointer from its press to its end. */
+  follow(event, go, end) {
+    const { canvas } = this;
+    this.stopping = new AbortController();
+    const { signal } = this.stopping;
+    const stop = (ended) => {
+      this.stopping.abort();
+      this.pressed = null;
+      end(ended);
+    };
+    this.pressed = event;
+    canvas.setPointerCapture(event.pointerId);
     canvas.addEventListener("pointermove", go, { signal });
     for (const kind of ["pointerup", "pointercancel"]) canvas.addEventListener(kind, stop, { signal });
   }

@@ -1,7 +1,8 @@
-"use strict";
 /* Runs a cursor over the slots in real time, or some times as fast: by a button, a field for the speed, and the space
    bar. It stops at the end, and when its button goes out of sight. */
-class Play {
+import * as lines from "../model/lines.js";
+
+export class Play {
   static all = [];
   static SPEEDS = [1, 8, 32];
 

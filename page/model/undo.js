@@ -1,6 +1,6 @@
-"use strict";
 /* Keeps the states before and after the present one, up to a bound. */
-class Undo {
+
+export class Undo {
   static MOST = 200;
   static LETTERS = 40e6;
 

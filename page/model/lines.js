@@ -1,0 +1,44 @@
+/* Reads the notes of the program, and groups. docs/FORMATS.md has the forms of the lines. */
+
+export const LOST = "---- ---- ---- ----";
+export const SLOT = 104 / 1187.5;
+
+export const seconds = (slots) => slots * SLOT;
+/* Rounded first, so that no part comes to 60. */
+export function time(slots) {
+  const s = seconds(slots), whole = Math.round(s);
+  if (s < 59.95) return `${s.toFixed(s < 9.995 ? 2 : 1)} s`;
+  const minutes = Math.floor(whole / 60), short = `${minutes % 60} min ${whole % 60} s`;
+  return minutes < 60 ? short : `${Math.floor(minutes / 60)} h ${short}`;
+}
+
+/* The four blocks of a line. */
+export const groupIn = (line) => line.split(" ").map((word) => parseInt(word, 16));
+
+/* The notes of a run, one a line, without the name of the program. */
+export const notes = (text) => text.split("\n").filter((line) => line).map((line) => line.replace(/^rdsrt: /, ""));
+
+/* The first note that begins so, without its advice for a terminal; empty if there is none. */
+const ADVICE = ". To look for lost slots";
+export const noteOf = (all, begin) => (all.find((note) => note.startsWith(begin)) ?? "").split(ADVICE)[0];
+
+/* The second block has the group type and its version, TP and PTY, and the bits of the service: for a text its A/B
+   flag and its segment. */
+const KIND_SHIFT = 11;
+const FLAG_BIT = 0x10, TEXT_SEGMENT = 0x0F, NAME_SEGMENT = 0x01;
+export const typeOf = (group) => `${group[1] >> 12}${group[1] >> KIND_SHIFT & 1 ? "B" : "A"}`;
+
+/* The kinds of groups. In a list of codes FLAG marks a text whose A/B flag is 1. */
+const NOTHING = 0, TEXT = 1, NAME = 2, TAGS = 3, OTHER = 4, FLAG = 8;
+/* The group types of the services, with their versions: 2A, 10A and 11A. */
+const SERVICES = { [2 << 1]: TEXT, [10 << 1]: NAME, [11 << 1]: TAGS };
+export function codeOf(group, pi) {
+  if (!group || (pi !== null && group[0] !== pi)) return NOTHING;
+  return SERVICES[group[1] >> KIND_SHIFT] ?? OTHER;
+}
+export function markedCodeOf(group, pi) {
+  const kind = codeOf(group, pi);
+  return kind === TEXT && group[1] & FLAG_BIT ? kind | FLAG : kind;
+}
+
+export { FLAG, FLAG_BIT, NAME, NAME_SEGMENT, NOTHING, OTHER, TAGS, TEXT, TEXT_SEGMENT };

@@ -1,0 +1,121 @@
+/* Reads the output of `decode` and of `sim`: what receivers show, and what is on air, from which slot on. The log of a
+   day may change its display a million times, so a display is packed into typed arrays. display/runs.js reads them. */
+
+const PARTS = ["text", "name", "tag1", "tag2"];
+/* The kind of each part. A kind has one hue in three shades. */
+const KIND_OF = { text: "text", name: "name", tag1: "tags", tag2: "tags" };
+const SHADES = 3;
+const NOTHING = -1, NEVER = 2 ** 31 - 1;
+/* What a run that shows something is, as the program says. */
+const STATES = ["on air", "mix", "old", "replaced"];
+/* Why a run shows nothing, as the program says: nothing was shown before, the segments are incomplete, none came for M
+   slots, or the receiver restarted. */
+const WHYS = ["", "incomplete", "dropped", "restarted"];
+/* The most letters of an output that a page shows. */
+const MOST_SHOWN = 1_600_004;
+
+/* The distinct values of some displays, each with a number: its kind and what the program prints. */
+export class Values {
+  constructor() { this.numbers = new Map(); }
+  get length() { return this.numbers.size; }
+
+  numberOf(part, printed) {
+    const value = `${KIND_OF[part]} ${printed}`;
+    if (!this.numbers.has(value)) this.numbers.set(value, this.numbers.size);
+    return this.numbers.get(value);
+  }
+
+  /* All values as one text, which is handed over faster than many, and a shade for each: those of its kind, in turn. */
+  packed() {
+    const all = [...this.numbers.keys()], counts = {};
+    const shades = Uint8Array.from(all, ([letter, second]) => {
+      const kind = letter + second;
+      counts[kind] = (counts[kind] ?? -1) + 1;
+      return counts[kind] % SHADES;
+    });
+    return { text: all.join("\n"), shades };
+  }
+}
+
+/* Writes a display over time: for each part the slots from which it shows another value, with the number of the value
+   and its state, or with NOTHING and the reason. */
+class Display {
+  constructor(values) {
+    this.values = values;
+    const none = () => ({ starts: [], numbers: [], states: [], state: 0 });
+    this.parts = Object.fromEntries(PARTS.map((part) => [part, none()]));
+  }
+
+  change({ starts, numbers, states }, slot, number, state) {
+    const at = starts.at(-1) === slot ? starts.length - 1 : starts.length;
+    [starts[at], numbers[at], states[at]] = [slot, number, state];
+  }
+
+  /* Takes what a line says of a part: its value, or its state. */
+  write(part, slot, said) {
+    const runs = this.parts[part], state = STATES.indexOf(said), number = runs.numbers.at(-1) ?? NOTHING;
+    if (state >= 0) runs.state = state;
+    if (said.startsWith("none")) this.change(runs, slot, NOTHING, WHYS.indexOf(said.slice("none ".length)));
+    else if (state < 0) this.change(runs, slot, this.values.numberOf(part, said), runs.state);
+    else if (number !== NOTHING) this.change(runs, slot, number, state);
+  }
+
+  /* The display, whose runs end before this slot. */
+  packed(end) {
+    const pack = ({ starts, numbers, states }) =>
+      ({ starts: Int32Array.from(starts), numbers: Int32Array.from(numbers), states: Uint8Array.from(states), end });
+    return Object.fromEntries(PARTS.map((part) => [part, pack(this.parts[part])]));
+  }
+}
+
+/* Reads the lines of an output. Gives the displays by who shows them: "r0", or "air" for the station, or nobody's name
+   in the output of `decode`. `tell` hears the other lines of `sim`. The last line of another form is the fault. */
+const LINE = /^(\d+) (?:(r\d|air) )?(\w+) ?(.*)$/;
+export function read(output, values, tell = null) {
+  const displays = {};
+  let fault = null;
+  for (const line of output.split("\n")) {
+    const [, slot, by = "", word, rest] = LINE.exec(line) ?? [];
+    if (word === undefined) fault = line || fault;
+    else if (tell && !by) tell(Number(slot), word, rest);
+    else if (word in KIND_OF) (displays[by] ??= new Display(values)).write(word, Number(slot), rest);
+  }
+  return { displays, fault };
+}
+
+export const displayOf = (output, values) => read(output, values).displays[""] ?? new Display(values);
+export const beginOf = (output) => output.slice(0, MOST_SHOWN);
+
+/* The slots in which a packed display shows something else, in order: four times the slot, and the number of the part.
+   */
+export function changesOf(display) {
+  const keys = PARTS.map((part, i) => {
+    const { starts, numbers } = display[part];
+    return starts.map((slot) => 4 * slot + i).filter((_, run) => numbers[run] !== NOTHING);
+  });
+  const all = new Int32Array(keys.reduce((sum, { length }) => sum + length, 0));
+  keys.reduce((at, some) => { all.set(some, at); return at + some.length; }, 0);
+  return all.sort();
+}
+
+/* The slots in which a text or a name went, each with the number of its event. */
+export const EVENTS = ["text", "name"].flatMap((part) => WHYS.map((why) => ({ label: `${part}: ${why}`, kind: "" })));
+export const TEXT_DROPPED = WHYS.indexOf("dropped");
+export function eventsOf({ text, name }) {
+  const gone = [text, name].flatMap(({ starts, states, numbers }, part) => Array.from(starts.keys())
+    .filter((i) => numbers[i] === NOTHING && states[i] > 0)
+    .map((i) => ({ slot: starts[i], event: WHYS.length * part + states[i] })));
+  gone.sort((one, other) => one.slot - other.slot);
+  return { slots: Int32Array.from(gone, (it) => it.slot), numbers: Int32Array.from(gone, (it) => it.event) };
+}
+
+/* The slot in which one of these packed displays shows each value first; NEVER for those that none shows. */
+export function firstShown(all, count) {
+  const first = new Int32Array(count).fill(NEVER);
+  for (const { starts, numbers } of all.flatMap((display) => Object.values(display))) {
+    numbers.forEach((number, i) => { if (number !== NOTHING) first[number] = Math.min(first[number], starts[i]); });
+  }
+  return first;
+}
+
+export { KIND_OF, NEVER, NOTHING, PARTS, STATES, WHYS };

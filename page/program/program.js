@@ -1,0 +1,81 @@
+/* Asks a worker to run the program: program/worker.js. The worker gets one question at a time. A question is dropped
+   when its signal aborts. If the worker is at it then and for some time after, the worker ends, and a new one takes its
+   place. */
+const PATIENCE = 300;
+
+export class Program {
+  constructor(compiled) {
+    Object.assign(this, { compiled, worker: null, input: null, asked: null, queue: [], last: 0 });
+  }
+
+  /* Takes the bytes of another log, and drops all questions on the one before. */
+  keep(blob) {
+    this.end(new DOMException("another log was opened", "AbortError"));
+    this.input = { blob };
+  }
+
+  /* The worker comes from a text of the page: a page that was opened from a disk may load no script for it. */
+  start() {
+    const url = URL.createObjectURL(new Blob([RDSRT_WORKER], { type: "text/javascript" }));
+    this.worker = new Worker(url);
+    URL.revokeObjectURL(url);
+    this.worker.onmessage = ({ data }) => this.hear(data);
+    this.worker.onerror = ({ message }) => this.end(new Error(`a worker of the page stopped: ${message}`));
+    const first = [["begin", this.compiled], ...this.input ? [["keep", this.input]] : []];
+    const fail = (error) => this.end(error);
+    this.queue.unshift(...first.map(([call, given]) => ({ call, given, tell() {}, resolve() {}, reject: fail })));
+  }
+
+  /* Ends the worker, which frees its memory. Whoever waits gets the error. The next question starts another worker. */
+  end(error) {
+    const waiting = [this.asked, ...this.queue].filter(Boolean);
+    this.stop();
+    this.queue = [];
+    for (const it of waiting) it.reject(error);
+  }
+
+  stop() {
+    this.worker?.terminate();
+    Object.assign(this, { worker: null, asked: null });
+  }
+
+  /* Asks for one thing. `tell` hears how far it is. */
+  ask(call, given, { signal, tell = () => {} } = {}) {
+    return new Promise((resolve, reject) => {
+      signal?.throwIfAborted();
+      const question = { call, given, tell, resolve, reject, signal };
+      this.queue.push(question);
+      signal?.addEventListener("abort", () => {
+        reject(signal.reason);
+        setTimeout(() => this.tire(question), PATIENCE);
+      });
+      this.next();
+    });
+  }
+
+  next() {
+    if (!this.worker) this.start();
+    while (!this.asked && this.queue.length) {
+      const question = this.queue.shift();
+      if (question.signal?.aborted) continue;
+      this.asked = Object.assign(question, { id: ++this.last });
+      this.worker.postMessage({ id: question.id, call: question.call, given: question.given });
+    }
+  }
+
+  /* Ends a worker that is still at a question for which nobody waits. */
+  tire(question) {
+    if (this.asked !== question) return;
+    this.stop();
+    if (this.queue.length) this.next();
+  }
+
+  hear({ id, done, answer, error }) {
+    const { asked } = this;
+    if (id !== asked?.id) return;
+    if (done !== undefined) { asked.tell(done); return; }
+    this.asked = null;
+    if (error === undefined) asked.resolve(answer); else asked.reject(new Error(error));
+    if (this.queue.length) this.next();
+  }
+}

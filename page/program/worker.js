@@ -1,0 +1,154 @@
+/* Runs the program over a log or a script, so that the page never waits for it. Each message is a request by its name;
+   its answer has the same id. */
+import * as lines from "../model/lines.js";
+import * as logfile from "../model/logfile.js";
+import * as output from "../model/output.js";
+import * as player from "../model/player.js";
+import * as rdsrt from "./rdsrt.js";
+import * as passing from "./passing.js";
+import * as witness from "./witness.js";
+
+/* The bytes of the log, and what is known of it and does not depend on M: it is read when somebody asks for it. */
+const state = { bytes: new Uint8Array(0), log: null, alone: null, whole: null };
+/* A receiver with this dwell is one with the flag bit alone, as radios of today are, unless no segment comes for as
+   many slots (the_flag_alone_is_a_long_dwell of rds_safety). */
+const LONGEST_DWELL = "65535";
+
+/* The typed arrays in an object. Those of an answer in `fresh` are handed over without a copy. */
+function arraysIn(it) {
+  if (ArrayBuffer.isView(it)) return [it];
+  return it !== null && typeof it === "object" ? Object.values(it).flatMap(arraysIn) : [];
+}
+
+const logOf = (tell) => state.log ??= logfile.parse(state.bytes, tell);
+const run = (words, bytes = state.bytes) => rdsrt.run(words, bytes);
+
+/* Whether most of some lines have digits of a time behind their blocks. */
+const SOME = 1000, TIME = /\d[:.]\d/, LONGEST = 80;
+function looksTimed({ starts, count }) {
+  const step = Math.ceil(count / SOME), some = Array.from(starts).filter((_, slot) => slot % step === 0);
+  const end = (at) => Math.min(logfile.endOf(state.bytes, at), at + LONGEST);
+  const rest = (at) => new TextDecoder().decode(state.bytes.subarray(at + logfile.BLOCKS, end(at)));
+  return 2 * some.filter((at) => TIME.test(rest(at))).length > some.length;
+}
+
+/* The notes of `slots` on the times of the log: how many groups have no time that it reads, and its other notes. A log
+   that `slots` wrote has its breaks already. */
+const UNTIMED = /^(\d+) groups? without a time/, BREAK = /^# (?:time went back|more than a day passed)/m;
+function timesOf() {
+  const { notes } = rdsrt.runBytes(["slots", "--m", "1"], state.bytes), [untimed] = notes.map((note) => UNTIMED.exec(note)).filter(Boolean);
+  const hasBreaks = BREAK.test(new TextDecoder().decode(state.bytes));
+  const isOf = (note) => note.startsWith("the times vary") || (note.includes(" went back, or on by") && !hasBreaks);
+  return { untimed: Number(untimed?.[1] ?? 0), notes: notes.filter(isOf), looksTimed: looksTimed(state.log) };
+}
+
+// ---- displays
+
+const decoding = ({ pi, m, w }) => ["decode", "--pi", pi, "--m", m, ...rdsrt.windowWords(w), "--why"];
+
+/* What a receiver shows of the log as it is now. */
+function shownBy(asked, values) {
+  const got = run(decoding(asked));
+  const view = output.displayOf(got.output, values).packed(state.log.count);
+  return { output: output.beginOf(got.output), notes: got.notes, view };
+}
+
+/* What receivers show that lose nothing, with the dwell and with the flag bit alone. The last answer is kept: it is
+   asked for at each change of the lost slots. */
+function wholeOf(asked) {
+  const { pi, m, w } = asked, key = `${pi} ${m} ${w}`;
+  if (state.alone?.pi !== pi) {
+    const values = new output.Values(), { view } = shownBy({ pi, m: LONGEST_DWELL }, values);
+    state.alone = { pi, values, view, codes: logfile.codes(state.log, parseInt(pi, 16)) };
+  }
+  if (state.whole?.key !== key) state.whole = { key, ...shownBy(asked, state.alone.values) };
+  return { ...state.whole, values: state.alone.values, alone: state.alone.view, codes: state.alone.codes.slice() };
+}
+
+/* What receivers show that lose these slots. Nobody sent what no receiver without losses shows before, or within M
+   slots. */
+function lossyOf(asked) {
+  const { pi, m, lost } = asked, whole = wholeOf(asked), { values, codes } = whole;
+  const shown = logfile.whileLost(state.bytes, state.log, lost, () => {
+    return { ...shownBy(asked, values), alone: shownBy({ pi, m: LONGEST_DWELL }, values).view };
+  });
+  const until = output.firstShown([whole.view, whole.alone], values.length);
+  for (let i = 0; i < until.length; i++) if (until[i] !== output.NEVER) until[i] -= Number(m) - 1;
+  for (const slot of lost) if (slot < codes.length) codes[slot] = lines.NOTHING;
+  return { ...shown, values, until, codes };
+}
+
+// ---- the judgement
+
+const auditing = ({ pi, m, k, running }) => ["audit", "--pi", pi, "--m", m, "--k", k, ...running ? ["--running"] : []];
+
+/* The first so many lines of the log. */
+function head(count) {
+  let end = 0;
+  for (let i = 0; i < count && end < state.bytes.length; i++) end = logfile.endOf(state.bytes, end) + 1;
+  return state.bytes.subarray(0, end);
+}
+
+/* The answer of the audit, and the note that the log lacks slots by its times. After a no only the lines up to it
+   count. */
+function audit(asked) {
+  const { output: answer, notes } = run(auditing(asked)), line = /^slot \d+ \(line (\d+)\)/m.exec(notes.join("\n"));
+  const read = line ? run(["decode", "--pi", asked.pi], head(Number(line[1]))).notes : notes;
+  return { output: answer, notes, lack: lines.noteOf(read, "the log spans ") };
+}
+
+// ---- the requests
+
+const REQUESTS = {
+  /* Takes the bytes of a log. A blob is handed over without a copy. */
+  async keep({ blob }) {
+    Object.assign(state, { bytes: new Uint8Array(await blob.arrayBuffer()), log: null, alone: null, whole: null });
+  },
+
+  /* The slots of the log, its programmes, the number of its whole groups, and its times. */
+  open(_, tell) {
+    const log = { ...logOf(tell) }, programmes = logfile.programmes(log);
+    for (const name of ["words", "missing", "starts", "numbers", "clocks"]) log[name] = log[name].slice();
+    const groups = programmes.reduce((sum, [, number]) => sum + number, 0);
+    return { fresh: { log }, programmes, groups, times: timesOf() };
+  },
+
+  decode(asked) {
+    logOf();
+    const { view, alone, until = null, codes, values, ...shown } = asked.lost.length ? lossyOf(asked) : wholeOf(asked);
+    const copy = Object.fromEntries(Object.entries({ view, alone }).map(([name, it]) => [name, structuredClone(it)]));
+    const made = { until, codes: codes.slice(), values: values.packed(), events: output.eventsOf(view) };
+    return { ...shown, fresh: { ...copy, ...made, changes: output.changesOf(view) } };
+  },
+
+  /* The text that a receiver without losses shows in a slot. */
+  textAt({ slot, ...asked }) {
+    logOf();
+    const { view: { text }, values } = wholeOf(asked), at = text.starts.findLastIndex((from) => from <= slot);
+    const number = text.numbers[at] ?? output.NOTHING;
+    return { text: number === output.NOTHING ? null : [...values.numbers.keys()][number].slice('text "'.length, -1) };
+  },
+
+  audit,
+  dwells(asked) {
+    return passing.bounds(Number(asked.m), (m) => run(auditing({ ...asked, m: String(m) })).output.startsWith("yes "));
+  },
+  witness(asked, tell) {
+    return witness.find(asked, (words, bytes) => run(words, state.bytes.subarray(0, bytes)).output, tell);
+  },
+
+  /* The log with a line for each slot that its times say it lacks. */
+  fill: ({ m }) => ({ fresh: { bytes: rdsrt.runBytes(["slots", "--m", m], state.bytes).bytes.slice() } }),
+  play: (given) => ({ fresh: player.play(given) }),
+};
+
+/* Answers one message. */
+async function answerTo({ id, call, given }) {
+  try {
+    const tell = (done) => postMessage({ id, done });
+    const { fresh, ...rest } = await (call === "begin" ? rdsrt.begin(given) : REQUESTS[call](given, tell)) ?? {};
+    postMessage({ id, answer: { ...rest, ...fresh } }, arraysIn(fresh).map((array) => array.buffer));
+  } catch (error) { postMessage({ id, error: error.message }); }
+}
+
+onmessage = ({ data }) => { answerTo(data); };

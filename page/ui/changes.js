@@ -1,0 +1,72 @@
+/* The list of changes of a log: what the receiver shows, from which slot on. A field filters it. */
+import { labelOf, lastAt } from "../display/runs.js";
+import * as lines from "../model/lines.js";
+import { KIND_OF, PARTS } from "../model/output.js";
+import { $, counted, make, number, soon } from "./parts.js";
+import { Rows } from "./rows.js";
+
+const NAMES = { text: "text", name: "PTYN", tag1: "tag", tag2: "tag" };
+/* Milliseconds after which the search of a long list lets the page do other things. */
+const PATIENCE = 40;
+/* The view, all its changes, and those that were found: each is four times its slot and the number of its part. */
+export const state = { view: null, all: [], found: [], slot: 0, turn: 0, work: Promise.resolve(), about: {} };
+const rows = new Rows($("log-changes"), row);
+const slotOf = (key) => key >> 2, partOf = (key) => PARTS[key & 3];
+
+/* Shows the changes of a view. `about` has what a row says of its slot, and where a click leads. */
+export function show(view, all, about) {
+  Object.assign(state, { view, all, about });
+  find();
+}
+
+/* Keeps the changes that have the words of the field. */
+const find = () => { state.work = search($("log-find").value.trim().toLowerCase(), ++state.turn); };
+async function search(words, turn) {
+  const found = words ? await keysWith(words, turn) : state.all;
+  if (state.turn !== turn) return;
+  const all = counted(state.all.length, "change");
+  state.found = found;
+  $("log-found").textContent = words ? `${number(found.length)} of ${all}` : all;
+  rows.show(found.length, rowAt(state.slot));
+}
+
+/* Returns the changes with these words. Each distinct value is searched once. */
+async function keysWith(words, turn) {
+  const { view, all } = state, known = new Map(), found = [];
+  let from = performance.now();
+  for (const key of all) {
+    const runs = view.parts[partOf(key)], run = runs.indexAt(slotOf(key)), value = runs.numbers[run];
+    if (!known.has(value)) known.set(value, labelOf(runs.value(run)).toLowerCase().includes(words));
+    if (known.get(value)) found.push(key);
+    if (performance.now() - from < PATIENCE) continue;
+    await new Promise((done) => { setTimeout(done); });
+    if (state.turn !== turn) break;
+    from = performance.now();
+  }
+  return found;
+}
+
+/* The last row at or before the slot; -1 if there is none. */
+const rowAt = (slot) => lastAt(state.found.length, (i) => slotOf(state.found[i]), slot);
+
+function row(i) {
+  const key = state.found[i], slot = slotOf(key), part = partOf(key), { about } = state;
+  const runs = state.view.parts[part], run = runs.indexAt(slot), isMix = runs.isMix(run);
+  const text = labelOf(runs.value(run));
+  const cell = (className, textContent) => make("span", { className, textContent });
+  return {
+    className: isMix ? "mix" : "", title: [about.line(slot), text].join(": "), act: () => about.goTo(slot),
+    cells: [
+      cell("slot", number(slot)), cell("time", about.clock(slot) || lines.time(slot)),
+      cell(`part ${KIND_OF[part]}`, NAMES[part]), cell("value", isMix ? `⚠ ${text}` : text),
+    ],
+  };
+}
+
+/* Follows the chosen slot. */
+export function move(slot) {
+  state.slot = slot;
+  rows.choose(rowAt(slot));
+}
+
+export const begin = () => { $("log-find").oninput = soon(find); };

@@ -1,0 +1,124 @@
+/* The tab of the dwell: M, K and the share of free slots in seconds, and the M for texts that change every so often. */
+import * as lines from "../model/lines.js";
+import * as parts from "./parts.js";
+import { $, make, number } from "./parts.js";
+
+/* The groups of the longest text, the largest M, and the seconds of an hour. */
+const LONGEST = 32;
+const MOST = 65535;
+const HOUR = 3600;
+/* The number at a place of a slider. The slider of M counts tenths of a power of two. */
+const NUMBER_AT = { m: (place) => Math.min(MOST, Math.round(2 ** (place / 10))), k: Number, f: Number };
+const PLACE_OF = { m: (number) => Math.round(10 * Math.log2(number)), k: Number, f: Number };
+
+const percent = (share) => `${Math.round(share * 100)} %`;
+
+/* How often so many slots fit into an hour. */
+function timesAnHour(slots) {
+  const times = HOUR / lines.seconds(slots);
+  return times >= 10 ? number(Math.floor(times)) : times.toFixed(1);
+}
+
+/* How long a receiver needs for the longest text. */
+function longestText(m, free) {
+  const slots = Math.ceil(LONGEST / free);
+  const share = percent(free);
+  const time = lines.time(slots);
+  return slots <= m
+    ? [time, "A receiver that gets every free slot shows a text of 64 characters within this time "
+      + `(32 free slots at ${share}).`]
+    : ["not always",
+      `The longest text may need 32 free slots. At ${share} they take ${time}: longer than the dwell.`];
+}
+
+/* Shows the times of these numbers, each in the elements that name it. */
+function showTimes({ m, k, free }) {
+  const spacing = m + k;
+  const [longest, longestWords] = longestText(m, free);
+  const values = {
+    spacing: lines.time(spacing), spacingSlots: number(spacing), spacingTimes: timesAnHour(spacing),
+    kept: lines.time(2 * spacing), keptSlots: number(2 * spacing), keptTimes: timesAnHour(2 * spacing),
+    three: lines.time(3 * spacing), four: lines.time(4 * spacing), dropped: lines.time(m), longest, longestWords,
+  };
+  for (const element of document.querySelectorAll("#dwell-times [data-value]")) {
+    element.textContent = values[element.dataset.value];
+  }
+}
+
+/* Which M the longest text needs at this share of free slots, up to the greatest one. */
+function range(free, greatest) {
+  const least = Math.ceil(LONGEST / free);
+  const needs = `A text of 64 characters needs M = ${least} at ${percent(free)} free slots`;
+  return greatest < least
+    ? `${needs}: send shorter texts, free more slots, or change texts less often. `
+    : `${needs}, so M can be from ${least} to ${number(greatest)}. `;
+}
+
+/* An answer: the largest M + K, whether the chosen one fits, and a button for the largest M with the chosen K. */
+function answer(title, reason, most, { m, k, free }) {
+  const greatest = Math.min(MOST, most - k);
+  const words = ` M + K can be at most ${parts.counted(most, "slot")} (${lines.time(most)}). ${reason} `
+    + (greatest > 0 ? range(free, greatest) : "")
+    + `The chosen M + K = ${number(m + k)} ${m + k <= most ? "fits" : "is too large"}. `;
+  const set = () => {
+    $("dwell-m").value = greatest;
+    choose();
+    $("dwell-m").focus();
+  };
+  const button = make("button", { type: "button", textContent: `Set M = ${number(greatest)}`, onclick: set });
+  return make("p", {}, make("b", { textContent: title }), words, greatest > 0 ? button : `With K = ${k} no M fits.`);
+}
+
+function answers(seconds, chosen) {
+  const slots = Math.floor(seconds / lines.SLOT);
+  return [
+    // the last group of a text is in its last slot, and the second text after it begins this many slots later
+    answer("Safe:", "A text may have the flag of the text before the previous one from M + K slots after the last "
+      + "group of that text on.", slots + 1, chosen),
+    answer("With our own encoder:", "It keeps each text on air for 2 (M + K) slots.", Math.floor(slots / 2), chosen),
+  ];
+}
+
+/* Shows why the numbers have no result, and no result of other numbers. */
+function showProblem(problem) {
+  for (const id of ["answers", "m-words", "k-words", "f-words"]) $(id).replaceChildren();
+  $("dwell-times").hidden = problem !== "";
+  $("dwell-fault").textContent = problem;
+  $("dwell-fault").hidden = problem === "";
+}
+
+/* Puts a slider where its number is, and shows the number in words. */
+function showNumber(name, number, words) {
+  const slider = $(`${name}-range`);
+  if (NUMBER_AT[name](slider.value) !== number) slider.value = PLACE_OF[name](number);
+  slider.setAttribute("aria-valuetext", `${number} ${words}`);
+  $(`${name}-words`).textContent = words;
+}
+
+const inTime = (slots) => `${slots === 1 ? "slot" : "slots"}, ${lines.time(slots)}`;
+
+function choose() {
+  const problem = parts.problemOf($("dwell-form"));
+  showProblem(problem);
+  if (problem) return;
+  const [m, k, f, seconds] = ["m", "k", "f", "s"].map((name) => Number($(`dwell-${name}`).value));
+  const chosen = { m, k, free: f / 100 };
+  showNumber("m", m, inTime(m));
+  showNumber("k", k, k ? inTime(k) : "slots: no buffer between");
+  showNumber("f", f, "%");
+  $("answers").replaceChildren(...answers(seconds, chosen));
+  showTimes(chosen);
+}
+
+function begin() {
+  for (const name of ["m", "k", "f"]) {
+    $(`${name}-range`).oninput = ({ target }) => {
+      $(`dwell-${name}`).value = NUMBER_AT[name](target.value);
+      choose();
+    };
+  }
+  for (const name of ["m", "k", "f", "s"]) $(`dwell-${name}`).oninput = choose;
+  choose();
+}
+
+export const dwellTab = { id: "dwell", title: "Choose the dwell", begin };

@@ -1,0 +1,383 @@
+/* The tab of a log: the receiver's display, the audit's answer, the log itself, and the lost slots. One worker shows
+   what receivers show, another one judges. */
+import { Marks, Texts, View, lastAt } from "../display/runs.js";
+import * as lines from "../model/lines.js";
+import * as logfile from "../model/logfile.js";
+import * as output from "../model/output.js";
+import { Program } from "../program/program.js";
+import * as changes from "./changes.js";
+import * as groups from "./groups.js";
+import * as links from "./links.js";
+import * as parts from "./parts.js";
+import { $, make } from "./parts.js";
+import * as picture from "./picture.js";
+import * as report from "./report.js";
+import { Rows } from "./rows.js";
+import { Tab } from "./tab.js";
+import { Timeline } from "./timeline.js";
+import * as verdict from "./verdict.js";
+
+/* The station of a log without a group. */
+const PI = "C201";
+/* A log of more bytes cannot be edited here. */
+const MOST_EDITED = 400_000;
+/* How many dwells after a no are searched first for a witness: most are there, and a log may be a day. */
+const NEAR = 4;
+/* How many slots after that are searched too, about a day: each takes some 41 bytes of memory. */
+const FAR = 1_000_000;
+const SECOND = 1000;
+const NO_SEARCH = "the search is for a receiver without a window", STOPPED = "the search was stopped";
+/* The names of the lanes of a receiver, each with the one on a phone. */
+const LANES = { text: ["text", "text"], name: ["name (PTYN)", "name"], tags: ["tags", "tags"] };
+const ALONE = { text: ["flag bit alone", "flag bit"], name: ["  its name", " name"], tags: ["  its tags", " tags"] };
+const KINDS = ["nothing", "text", "name", "tags", "other"];
+const CLOCK = /\d\d:\d\d:\d\d/, LONGEST_LINE = 96;
+const encoder = new TextEncoder(), decoder = new TextDecoder("utf-8", { ignoreBOM: true });
+const NO_LOG = { count: 0, end: 0, words: [], missing: new Uint8Array(0), starts: [], numbers: [] };
+const empty = () => ({
+  view: new View(), alone: new View(), codes: new Uint8Array(0),
+  events: { slots: new Int32Array(0), numbers: new Int32Array(0) }, no: null, answer: null, witness: null,
+});
+
+class LogTab extends Tab {
+  constructor() {
+    super("log", "Look at a log");
+    Object.assign(this, empty(), {
+      bytes: new Uint8Array(0), text: "", source: {}, isEdited: false, lost: new Set(), brush: null,
+      log: NO_LOG, programmes: [], groups: 0, times: {}, pi: 0, w: 0,
+    });
+    this.timeline = new Timeline($("log-time"), {
+      label: "Slot of the log", onMove: (slot) => this.showSlot(slot), clock: (slot) => this.clock(slot),
+      seconds: (slot) => this.log.clocks?.[slot] ?? NaN,
+      line: (slot) => this.line(slot), onPaint: (...given) => this.paint(...given),
+      onKey: (...given) => this.key(...given),
+    });
+    this.rows = new Rows($("log-rows"), (i) => this.row(i));
+    this.timeline.about = () => ({ station: this.value("pi"), answer: $("verdict").querySelector("h2").textContent });
+    this.about = {
+      goTo: (slot) => { this.timeline.move(slot); this.timeline.canvas.focus(); },
+      clock: (slot) => this.clock(slot), line: (slot) => this.line(slot),
+    };
+  }
+
+  // ---- lost slots
+
+  /* Loses these slots, or gives back those that are lost. */
+  lose(slots) {
+    for (const slot of slots) if (!this.lost.delete(slot)) this.lost.add(slot);
+    return this.lostChanged();
+  }
+
+  lostChanged() {
+    this.undo.note(links.inLetters(this.lost));
+    return this.look();
+  }
+
+  // the page wrote these letters itself
+  takeUndone(letters) {
+    this.lost = links.slotsOf(letters, Infinity);
+    this.look();
+  }
+
+  /* Loses the slots of a drag while it goes on, or gives them back if its first slot was lost. */
+  paint(lane, from, to, event) {
+    if (!lane) {
+      if (this.brush) this.lostChanged();
+      this.brush = null;
+      return false;
+    }
+    if (!this.brush && !event.shiftKey && !(lane.lost && $("log-click").checked)) return false;
+    this.brush ??= this.lost.has(from) ? "delete" : "add";
+    for (let slot = from; slot <= to; slot++) this.lost[this.brush](slot);
+    this.timeline.draw();
+    return true;
+  }
+
+  key(key, event) {
+    if (this.undoKey(key, event)) return true;
+    if (key === "l") this.lose([this.timeline.cursor]);
+    return key === "l";
+  }
+
+  // ---- opening a log
+
+  /* Opens a log: its text, or the bytes of its file. Returns when its display and its verdict are shown. The workers
+     read the page's own bytes: a file may change while it is open. */
+  open(content, settings = {}) {
+    const { m, k, w = "", running = false, lost = [], example = "", file = "" } = settings;
+    this.bytes = typeof content === "string" ? encoder.encode(content) : content;
+    const source = { file, example, ...settings.source }, isEdited = Boolean(settings.isEdited);
+    Object.assign(this, empty(), { log: NO_LOG, source, isEdited, lost: new Set(lost), brush: null });
+    $("log").classList.remove("unopened");
+    this.undo.begin(links.inLetters(this.lost));
+    parts.nameFile("log", file);
+    this.setFields({ example, m, k, w });
+    $("log-running").checked = running;
+    const isLong = this.bytes.length > MOST_EDITED;
+    // a link holds no longer text
+    this.text = this.bytes.length > links.MOST_PLAIN ? null : decoder.decode(this.bytes);
+    $("log-text").closest("details").hidden = isLong;
+    parts.fill("log-text", isLong ? "" : this.text);
+    report.take(this.source.bytes ?? this.bytes);
+    const blob = new Blob([this.bytes]);
+    for (const program of [this.display, this.judge]) program.keep(blob);
+    return this.look({ opens: true, pi: settings.pi });
+  }
+
+  get waitsFor() {
+    return this.log === NO_LOG ? "Reading the log" : `Decoding with M = ${parts.number(Number(this.value("m")))}`;
+  }
+
+  /* Reads the slots of the log. */
+  async read(pi, signal) {
+    const tell = (share) => { $("log-progress").value = share; };
+    Object.assign(this, await this.display.ask("open", undefined, { signal, tell }));
+    const name = ([p, n]) => new Option(`${parts.hex(p)} (${parts.counted(n, "group")})`, parts.hex(p));
+    const options = this.programmes.map(name);
+    $("log-pi").replaceChildren(...options.length ? options : [new Option("no group", PI)]);
+    if (options.some(({ value }) => value === pi)) $("log-pi").value = pi;
+    $("log").classList.toggle("without-slots", !this.log.count);
+    this.rows.show(this.log.count + (this.log.end < this.bytes.length));
+  }
+
+  showWait() {
+    $("log-progress").removeAttribute("value");
+    if (!this.answer) verdict.showNone(`${this.waitsFor} …`, "");
+  }
+
+  /* What the form holds. A window makes what it shows later by its length less one. */
+  asking() {
+    const [pi, m, k, w] = ["pi", "m", "k", "w"].map((name) => this.value(name));
+    return { pi, m, k: String(Number(k) + (w ? Number(w) - 1 : 0)), w, running: $("log-running").checked };
+  }
+
+  prepare() { $("log-unlose").hidden = !this.lost.size; }
+
+  async show(signal, { opens = false, pi }) {
+    if (this.log === NO_LOG) await this.read(pi, signal);
+    links.keep("log", { text: this.text, options: this.options() });
+    Object.assign(this, { no: null, answer: null });
+    const asked = { ...this.asking(), lost: [...this.lost] };
+    await Promise.all([this.showDisplay(asked, opens, signal), this.showAnswer(asked, signal)]);
+    if (opens) this.timeline.move(this.firstSlot(), { keep: true });
+    this.working(this.searchMore(asked, signal));
+  }
+
+  async showDisplay(asked, fit, signal) {
+    const got = await this.display.ask("decode", asked, { signal }), values = new Texts(got.values);
+    const [view, alone] = [got.view, got.alone].map((packed) => new View(packed, values, got.until));
+    const { codes, events } = got, pi = parseInt(asked.pi, 16);
+    Object.assign(this, { view, alone, codes, events, pi, w: Number(asked.w) });
+    this.timeline.show(this.lanes(), this.log.count, { fit });
+    const confirm = asked.w ? ` --confirm ${asked.w}` : "";
+    this.tellLines("log", `rdsrt decode --pi ${asked.pi} --m ${asked.m}${confirm} --why`, got.output);
+    changes.show(view, got.changes, this.about);
+  }
+
+  async showAnswer(asked, signal) {
+    const { pi, m, k, running } = asked, audit = await this.judge.ask("audit", asked, { signal });
+    const { log, groups, times } = this, given = { audit, log, groups, times, running, w: Number(asked.w) };
+    this.answer = verdict.show({ ...given, pi: parseInt(pi, 16), m: Number(m), k: Number(k) }, this.actions);
+    this.no = this.answer.no;
+    const command = `rdsrt audit --pi ${pi} --m ${m} --k ${k}${running ? " --running" : ""}`;
+    Object.assign(this.answer, { audit, command });
+    this.tellLines("audit", command, audit.output);
+    // the row of the fault is red
+    this.rows.layOut(Math.max(0, this.rows.chosen));
+    // the answer has a mark in the lane of events
+    if (this.no && this.timeline.lanes.length) this.timeline.show(this.lanes(), log.count);
+  }
+
+  /* The slot to look at first: that of a no if no slot is lost, or else the first mix of a text, or else the last text.
+     */
+  firstSlot() {
+    if (this.no && !this.lost.size) return this.no.slot;
+    const both = [this.view.parts.text, this.alone.parts.text];
+    for (const runs of both) {
+      const mix = runs.find((i) => runs.isMix(i));
+      if (mix >= 0) return runs.from(mix);
+    }
+    const last = Array.from(both[0].numbers).findLastIndex((number) => number !== output.NOTHING);
+    return last < 0 ? 0 : both[0].from(last);
+  }
+
+  /* What takes longer: a witness after a no, and the other dwells. */
+  async searchMore(asked, signal) {
+    const { no, answer } = this, ask = (program, call, given) => program.ask(call, given, { signal });
+    if (!answer.isSure) return;
+    const textAt = async () => {
+      const { text } = await ask(this.display, "textAt", { ...asked, slot: no.slot });
+      if (text !== null) verdict.showWithoutLoss(no, text);
+    };
+    const dwells = async () => verdict.showDwells(await ask(this.judge, "dwells", asked), this.actions);
+    const all = [no?.fault === "Changed" ? textAt() : null, no ? this.search(asked, signal) : null, dwells()];
+    await Promise.all(all).catch((error) => { if (!signal.aborted) this.showProblem(`${error.message}.`); });
+  }
+
+  /* Looks for a witness after a no. Says each second how long, and in how many slots. */
+  async search(asked, signal) {
+    const { no, log } = this, m = Number(asked.m);
+    const end = (slots) => ({ slots, bytes: log.starts[slots] ?? this.bytes.length });
+    const near = end(Math.min(log.count, no.slot + NEAR * m)), far = end(Math.min(log.count, near.slots + FAR));
+    const from = performance.now();
+    let slots = 0, failure = NO_SEARCH, found = null;
+    const say = () => verdict.showSearch({ slots, seconds: Math.round((performance.now() - from) / SECOND) });
+    const timer = setInterval(say, SECOND), tell = (count) => { slots = count; };
+    this.searching = new AbortController();
+    const ends = AbortSignal.any([signal, this.searching.signal]);
+    try {
+      const given = { pi: asked.pi, m, near, far, isAll: far.slots === log.count };
+      if (!asked.w) found = await this.judge.ask("witness", given, { signal: ends, tell });
+    } catch (error) { failure = this.searching.signal.aborted ? STOPPED : error.message; }
+    clearInterval(timer);
+    if (signal.aborted) return;
+    this.witness = found ?? { lost: null, shown: [], failure };
+    verdict.showWitness({ ...this.witness, k: Number(asked.k) }, this.actions);
+  }
+
+  /* The actions of the verdict's buttons. */
+  actions = {
+    goTo: (slot) => this.about.goTo(slot),
+    showFault: () => this.rows.choose(this.log.count),
+    chooseDwell: (m) => { this.field("m").value = m; this.look(); },
+    fill: () => this.working(this.fill().catch((error) => this.showProblem(`${error.message}.`))),
+    stopSearch: () => this.searching.abort(),
+    /* Loses these slots alone, and goes to the one in which the mix is shown. */
+    lose: async (slot, first, last) => {
+      this.lost = new Set(Array.from({ length: last - first + 1 }, (_, i) => first + i));
+      await this.lostChanged();
+      this.about.goTo(slot);
+    },
+  };
+
+  /* Opens the log with a line for each slot that its times say it lacks. */
+  async fill() {
+    const { pi, m, w, running } = this.asking(), k = this.value("k"), { isEdited } = this;
+    const { bytes } = await this.display.ask("fill", { m }), file = `${this.source.file || "log"}, with its lost slots`;
+    const source = { ...this.source, file, before: `rdsrt slots --m ${m} < ` };
+    await this.open(bytes, { pi, m, k, w, running, isEdited, file, source });
+  }
+
+  /* Shows why nothing is decoded, and no result of what was there before. What the page refuses is red. */
+  showProblem(problem, { isRefused = false } = {}) {
+    Object.assign(this, empty());
+    this.timeline.show([], this.log.count);
+    changes.show(this.view, [], this.about);
+    if (isRefused) verdict.showNone(problem, "No log is open.", "no"); else verdict.showNone("No verdict", problem);
+    for (const name of ["log", "audit"]) this.tellLines(name, "", "");
+  }
+
+  tellLines(name, command, text) {
+    $(`${name}-command`).textContent = command;
+    parts.fill(`${name}-lines`, text);
+  }
+
+  // ---- the lanes
+
+  /* The events of the display, and the answer of the audit, which is red if it is no doubtful one. */
+  marks() {
+    const { events: { slots, numbers }, no, answer } = this, all = new Marks(slots, numbers, output.EVENTS);
+    return no ? all.with(no.slot, { label: no.fault, kind: answer.isSure ? "no" : "refused" }) : all;
+  }
+
+  /* Where a text of the receiver with the flag bit alone is old: from where the other one dropped its text. */
+  oldFrom() {
+    const { slots, numbers } = this.events, dropped = slots.filter((_, i) => numbers[i] === output.TEXT_DROPPED);
+    return (from) => dropped[lastAt(dropped.length, (i) => dropped[i], from) + 1] ?? Infinity;
+  }
+
+  lanes() {
+    const { view, alone, codes, lost } = this, all = alone.lanes(ALONE);
+    all[0].runs = Object.assign(Object.create(all[0].runs), { oldFrom: this.oldFrom() });
+    all[0].gap = 12;
+    const own = view.lanes(LANES);
+    Object.assign(own[0], { strong: true, gap: 10 });
+    // a slot without a group may have been silent: it is not drawn as lost
+    const received = { name: "received", kind: "ticks", codes, lost };
+    return [received, { name: "events", kind: "marks", marks: this.marks() }, ...own, ...all];
+  }
+
+  // ---- a slot
+
+  /* The text of the line that begins at this byte. */
+  lineAt(start) {
+    const end = Math.min(logfile.endOf(this.bytes, start), start + LONGEST_LINE);
+    return decoder.decode(this.bytes.subarray(start, end)).trimEnd();
+  }
+
+  /* The clock time at the end of a slot's line; empty if it has none. */
+  clock(slot) {
+    if (slot >= this.log.count) return "";
+    return CLOCK.exec(this.lineAt(this.log.starts[slot]).slice(logfile.BLOCKS))?.[0] ?? "";
+  }
+
+  /* The line of a slot, in words. */
+  line(slot) { return slot < this.log.count ? `line ${parts.number(this.log.numbers[slot])}` : ""; }
+
+  /* A row of the log itself: the line of a slot, or the one behind all slots, which is malformed. */
+  row(slot) {
+    const { log, no, answer } = this, isSlot = slot < log.count, before = slot ? log.numbers[slot - 1] : 0;
+    const number = isSlot ? log.numbers[slot] : before + 1;
+    return {
+      className: isSlot && no?.slot === slot && answer.isSure ? "fault" : "", act: () => this.about.goTo(Math.min(slot, log.count - 1)),
+      cells: [
+        make("span", { className: "number", textContent: parts.number(number) }),
+        make("code", { textContent: this.lineAt(isSlot ? log.starts[slot] : log.end) }),
+      ],
+    };
+  }
+
+  showSlot(slot) {
+    const { log, view, alone } = this, group = logfile.groupAt(log, slot);
+    const sent = group ? `${KINDS[lines.codeOf(group, this.pi)]} group` : "nothing received";
+    const what = this.lost.has(slot) ? "lost" : sent, options = { led: this.answer ? what : "" };
+    const kind = this.w ? `The receiver, with the dwell and W = ${this.w}` : "The receiver, with the dwell";
+    parts.radio($("log-radio"), kind, view, slot, options);
+    parts.radio($("log-alone"), "Flag bit alone: decode --m 65535", alone, slot);
+    $("log-why").textContent = parts.whyNoMix(view, alone, slot);
+    $("log-group").textContent = log.count ? groups.ofSlot(log, slot, this.pi) : "";
+    this.rows.choose(slot);
+    changes.move(slot);
+    const shown = parts.inWords(view, slot, options), other = parts.inWords(alone, slot);
+    return `${what}. The receiver shows ${shown}. With the flag bit alone: ${other}.`;
+  }
+
+  // ---- links and files
+
+  options() {
+    const lost = this.lost.size ? `&lost=${links.inLetters(this.lost)}` : "";
+    const running = $("log-running").checked ? "&running=1" : "", numbers = `m=${this.value("m")}&k=${this.value("k")}`;
+    return `pi=${this.value("pi")}&${numbers}${links.windowOption("log")}${running}${lost}`;
+  }
+
+  settingsOf({ given, option }) {
+    return { pi: given.get("pi"), lost: links.slotsOf(given.get("lost")), running: option("running", 0, 1, 0) === 1 };
+  }
+
+  afterLink({ given }) {
+    if (given.has("pi") && given.get("pi") !== this.value("pi")) throw links.damaged();
+  }
+
+  isUnsaved() { return this.isEdited; }
+
+  save() {
+    this.isEdited = false;
+    picture.saveAs(picture.nameFor("log", ".log"), new Blob([this.bytes], { type: "text/plain" }));
+  }
+
+  /* Begins with the compiled program. */
+  begin(compiled) {
+    super.begin();
+    Object.assign(this, { display: new Program(compiled), judge: new Program(compiled) });
+    for (const name of ["pi", "m", "k", "w", "running"]) this.field(name).oninput = parts.soon(() => this.look());
+    $("log-text").oninput = parts.soon(() => {
+      const { pi, w, running } = this.asking();
+      this.open($("log-text").value, { pi, w, running, isEdited: true });
+    });
+    $("log-unlose").onclick = () => { this.lost.clear(); this.lostChanged(); };
+    changes.begin();
+    report.begin(this);
+  }
+}
+
+export const logTab = new LogTab();

@@ -1,0 +1,230 @@
+/* The first screen: a car on a road with tunnels, over the slots of the first example. In a tunnel its receivers get
+   nothing. The program says what they show: the page only moves the tunnels and the car. */
+import { Texts, View } from "../display/runs.js";
+import * as painter from "../display/painter.js";
+import * as lines from "../model/lines.js";
+import * as records from "../model/records.js";
+import { Program } from "../program/program.js";
+import * as parts from "./parts.js";
+import { $, make } from "./parts.js";
+import { Play } from "./play.js";
+import { Timeline } from "./timeline.js";
+
+/* The receiver of the example whose lost slots are the first tunnels. */
+const RECEIVER = 1, PI = "C201";
+const STEPS = { ...Timeline.STEPS, ArrowUp: 1, ArrowDown: -1 };
+export const state = { rows: [], tunnels: [], text: "", slot: 0, views: {}, work: Promise.resolve(), held: null };
+let program = null, ink = null, words = [];
+const count = () => state.rows.length;
+export const drive = new Play({ button: $("road-play"), speed: $("road-speed"), at: () => state.slot, show, count });
+const within = (low, slot, high) => Math.max(low, Math.min(slot, high));
+const percent = (slot) => `${100 * slot / count()}%`;
+
+// ---- the tunnels
+
+/* The slots [from, to) that the receiver loses, as tunnels. */
+function tunnelsOf(rows) {
+  const all = [];
+  rows.forEach(({ receptions }, slot) => {
+    if (receptions[RECEIVER] !== "L") return;
+    if (all.at(-1)?.to === slot) all.at(-1).to++;
+    else all.push({ from: slot, to: slot + 1 });
+  });
+  return all;
+}
+
+/* The slots from the tunnel before to the one behind, with one between. */
+const roomOf = (i) => [(state.tunnels[i - 1]?.to ?? -1) + 1, (state.tunnels[i + 1]?.from ?? count() + 1) - 1];
+
+/* What a pointer or a key moves: the tunnel, or one of its ends. Each sets its slot as near as the others let it. */
+const MOVES = {
+  whole: (it, slot, [low, high]) => {
+    const length = it.to - it.from;
+    it.from = within(low, slot, high - length);
+    it.to = it.from + length;
+  },
+  from: (it, slot, [low]) => { it.from = within(low, slot, it.to - 1); },
+  to: (it, slot, [, high]) => { it.to = within(it.from + 1, slot, high); },
+};
+
+function moveTunnel(i, what, slot) {
+  const it = state.tunnels[i], before = `${it.from} ${it.to}`;
+  MOVES[what](it, slot, roomOf(i));
+  if (before === `${it.from} ${it.to}`) return;
+  state.held = it;
+  showTunnels();
+  play();
+}
+
+/* Plays the road in the worker, and again if a tunnel moved meanwhile. */
+function play() {
+  state.isMoved = true;
+  if (!state.isPlaying) state.work = playMoves().catch((error) => { $("road-says").textContent = error.message; });
+}
+
+async function playMoves() {
+  for (state.isPlaying = true; state.isMoved;) await playNow();
+  state.isPlaying = false;
+}
+
+/* The car stands where the radio first shows a mix, or else behind the tunnel that was moved. */
+async function playNow() {
+  state.isMoved = false;
+  const isLost = (slot) => state.tunnels.some(({ from, to }) => from <= slot && slot < to);
+  state.rows.forEach((row, slot) => records.edit(row, { receptions: [isLost(slot) ? "L" : "G"] }));
+  state.text = records.write(state.rows);
+  const got = await program.ask("play", { text: state.text, words, pi: PI });
+  const values = new Texts(got.values), view = (packed) => new View(packed, values);
+  const [air, dwell, alone] = [got.air, got.receivers[0], got.alone[0]].map(view);
+  state.views = { air, dwell, alone };
+  // the texts keep their shades while the receivers show others
+  air.parts.text.numbers.forEach((number, i) => { values.shades[number] = i % 3; });
+  const mix = firstMix();
+  show(mix ? mix.from : state.held?.to ?? state.slot);
+}
+
+/* Where the radio first shows a mix, as the program says; undefined if it shows none. */
+function firstMix() {
+  const { text } = state.views.alone.parts, [i] = text.mixes();
+  return i === undefined ? undefined : text.at(i);
+}
+
+// ---- the car
+
+export function show(slot) {
+  state.slot = within(0, slot, count() - 1);
+  const { air, dwell, alone } = state.views, at = state.slot;
+  parts.radio($("road-air"), "On air", air, at, { none: "silence" });
+  parts.radio($("road-dwell"), "Receiver with the dwell", dwell, at);
+  parts.radio($("road-alone"), "Radio with the flag bit alone", alone, at, { mixed: parts.MIXED });
+  const place = `slot ${at}, ${lines.time(at)}`, radio = parts.inWords(alone, at, { mixed: parts.MIXED });
+  $("road-at").textContent = place;
+  put($("road-car"), at, `${place}. On air ${parts.inWords(air, at)}. `
+    + `Receiver: ${parts.inWords(dwell, at)}. Radio: ${radio}`);
+  $("road-car").style.left = percent(at + 0.5);
+  tell();
+  paint();
+}
+
+/* Says in a sentence what the displays show, if it is worth one. */
+function tell() {
+  const { slot, views: { dwell, alone } } = state;
+  if (!alone) return;
+  const mix = firstMix(), run = alone.at("text", slot);
+  const later = mix && `The radio first shows a mix at ${lines.time(mix.from)}.`;
+  const now = slot < run?.mixTo && `“${run.value}” was never on air. ${parts.whyNoMix(dwell, alone, slot)}`;
+  const sentence = now || later || "No display shows a mix on this road. Drag the ends of the tunnels.";
+  if ($("road-says").textContent !== sentence) $("road-says").textContent = sentence;
+}
+
+function put(slider, now, text) {
+  Object.assign(slider, { ariaValueMax: count(), ariaValueNow: now, ariaValueText: text });
+}
+
+// ---- pointer and keys
+
+const slotAt = ({ clientX }) => {
+  const { left, width } = $("road-band").getBoundingClientRect();
+  return (clientX - left) / width * count();
+};
+
+/* A slider on the road: `value` reads its slot, `move` sets it. One that jumps goes to the pointer at once. */
+function slider(element, value, move, { focus = element, jumps = false } = {}) {
+  element.onpointerdown = (event) => {
+    if (event.button || !event.isPrimary) return;
+    event.preventDefault();
+    event.stopPropagation();
+    drive.stop();
+    focus.focus({ preventScroll: true, focusVisible: false });
+    const grabbed = jumps ? 0.5 : slotAt(event) - value();
+    const go = (moved) => move(Math.round(slotAt(moved) - grabbed));
+    element.setPointerCapture(event.pointerId);
+    element.onpointermove = go;
+    element.onpointerup = element.onpointercancel = () => { element.onpointermove = null; };
+    if (jumps) go(event);
+  };
+  element.onkeydown = (event) => {
+    if (!(event.key in STEPS) || event.altKey || event.ctrlKey || event.metaKey) return;
+    event.preventDefault();
+    event.stopPropagation();
+    drive.stop();
+    move(value() + STEPS[event.key]);
+  };
+}
+
+/* The elements of a tunnel: its place with its entry, and its exit. The keys need no third slider for the entry. */
+function tunnelOf(it, i) {
+  const part = (what, className, label, ...inside) => {
+    const element = make("div", { className, tabIndex: 0, role: "slider", ariaValueMin: 0 }, ...inside);
+    element.ariaLabel = `${["First", "Second"][i] ?? "Next"} tunnel, ${label}`;
+    slider(element, () => what === "to" ? it.to : it.from, (slot) => moveTunnel(i, what, slot));
+    return element;
+  };
+  const entry = make("div", { className: "end" });
+  it.exit = part("to", "end", "its exit");
+  it.place = part("whole", "tunnel", "its place", make("span"), entry);
+  slider(entry, () => it.from, (slot) => moveTunnel(i, "from", slot), { focus: it.place });
+  return [it.place, it.exit];
+}
+
+function showTunnels() {
+  for (const { from, to, place, exit } of state.tunnels) {
+    const length = lines.time(to - from), text = `tunnel from slot ${from} to ${to}, ${length}`;
+    Object.assign(place.style, { left: percent(from), width: percent(to - from) });
+    exit.style.left = percent(to);
+    place.firstChild.textContent = length;
+    put(place, from, text);
+    put(exit, to, text);
+  }
+}
+
+// ---- the lanes under the road
+
+function paint() {
+  const canvas = $("road-lanes"), width = canvas.clientWidth, { air, dwell, alone } = state.views;
+  if (!width || !air) return;
+  const lane = (name, view) => ({ name, kind: "bars", runs: view.parts.text, gap: 20 });
+  const lanes = [lane("on air", air), lane("receiver with the dwell", dwell),
+    lane("radio with the flag bit alone", alone)];
+  const height = painter.place(lanes), scale = devicePixelRatio || 1, ctx = canvas.getContext("2d");
+  canvas.style.height = `${height - painter.AXIS}px`;
+  Object.assign(canvas, { width: Math.round(width * scale), height: Math.round((height - painter.AXIS) * scale) });
+  // the road stands in place of the axis
+  ctx.setTransform(scale, 0, 0, scale, 0, -painter.AXIS * scale);
+  const x = (slot) => slot / count() * width;
+  const sight = { from: 0, across: count(), room: width, gutter: 0, width, cursor: state.slot, x };
+  painter.paint(ctx, lanes, sight, { ...ink, line: "transparent" }, height);
+  ctx.font = `12px ${painter.FONT}`;
+  ctx.fillStyle = ink.dim;
+  for (const { name, top } of lanes) ctx.fillText(name, 1, top - 8);
+}
+
+/* Begins with the compiled program. `open` opens a script in its tab. */
+export function begin(compiled, open) {
+  const { text, m, k, pty } = RDSRT_EXAMPLES.script[0];
+  program = new Program(compiled);
+  words = ["sim", "--pi", PI, "--pty", pty, "--m", m, "--k", k, "--why"];
+  state.rows = records.read(text);
+  state.tunnels = tunnelsOf(state.rows);
+  $("road-band").prepend(...state.tunnels.flatMap(tunnelOf));
+  const car = $("road-car"), slot = () => state.slot;
+  slider(car, slot, show);
+  for (const id of ["road-lanes", "road-band"]) slider($(id), slot, show, { focus: car, jumps: true });
+  $("road-open").onclick = () => open(state.text, { m, k, pty });
+  const recolour = () => { ink = painter.inks($("road")); paint(); };
+  for (const mode of Timeline.MODES) matchMedia(mode).addEventListener("change", recolour);
+  recolour();
+  new ResizeObserver(paint).observe($("road-lanes"));
+  showTunnels();
+  show(0);
+  play();
+}
+
+/* Drives up to the first mix, once. Who wants no motion sees the car there at once. */
+export async function greet() {
+  await state.work;
+  const mix = state.views.alone && firstMix();
+  if (!mix || !$("road").checkVisibility()) return;
+  show(mix.from);
+  drive.greet(mix.from);
+}

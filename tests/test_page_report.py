@@ -1,0 +1,108 @@
+"""The report on a log: what it says, how it is saved, and what is printed."""
+import hashlib
+import os
+import shlex
+import subprocess
+import tempfile
+
+from tests.page_support import (EVERY_100, HI, NOTHING, YO, ChromiumCase, FirefoxCase, call, click, first_examples, idle, of,
+                                program, run_program, settle, text_of, waited_for)
+from tests.support import PROGRAM, SECONDS
+
+# what each row of the report begins with
+NAMES = ["File", "SHA-256", "Station", "Length", "Receiver", "Answer", "In words", "Faults", "Command", "Program"]
+
+
+def report(b):
+    """Opens the report, and returns its rows."""
+    click(b, "#log-report")
+    cells = "[...document.querySelectorAll('#report-rows dt')].map(it => [it.textContent, it.nextSibling.innerText.trim()])"
+    return dict(b.run(cells))
+
+
+def again(command, folder):
+    """Returns the output of the report's command in a folder with the file."""
+    words = command.replace("rdsrt ", f"{shlex.quote(PROGRAM)} ")
+    return subprocess.run(["sh", "-c", words], cwd=folder, stdout=subprocess.PIPE, stderr=subprocess.DEVNULL, timeout=SECONDS,
+                          check=False).stdout.decode()
+
+
+class Report:
+    def test_a_report_has_what_the_program_said_and_the_command(self):
+        """The command gives the same answer from the file."""
+        b = self.b
+        gap = "".join(f"{HI} {slot * 0.0876:.2f}\n" for slot in range(400) if not 100 <= slot < 130)
+        for name, log, answer in (("every 100.log", EVERY_100, "✗ EarlyFlag with M = 128 (11.2 s)"),
+                                  ("yes.log", f"{HI}\n" * 200, "✓ Passes with M = 128 (11.2 s)"),
+                                  ("gap's.log", gap, "Cannot say")):
+            call(b, "probe.drop", name, log)
+            settle(b)
+            rows = report(b)
+            self.check(f"{name}: its rows", list(rows), NAMES)
+            self.check(f"{name}: file, sum, answer, version",
+                       [rows[it] for it in ("File", "SHA-256", "Answer", "Program")],
+                       [name, hashlib.sha256(log.encode()).hexdigest(), answer, run_program(["--version"], b"")[1].strip()])
+            self.check(f"{name}: no button in its words", "Add the lost" in rows["In words"], False)
+            with tempfile.TemporaryDirectory() as folder:
+                with open(os.path.join(folder, name), "w", encoding="utf-8") as file:
+                    file.write(log)
+                self.check(f"{name}: the command again", again(rows["Command"], folder), text_of(b, "#audit-lines"))
+                click(b, "#report-close")
+                if answer != "Cannot say":
+                    continue
+                click(b, "#verdict .act")
+                settle(b)
+                rows = report(b)
+                self.check("a filled log: the command again", (again(rows["Command"], folder), rows["Answer"][:8]),
+                           (text_of(b, "#audit-lines"), "✓ Passes"))
+                click(b, "#report-close")
+        first_examples(b)
+
+    def test_each_task_takes_at_most_three_clicks(self):
+        """Is it safe, what is wrong and when, what would a car show, and send it to the vendor: from the drop of a log on."""
+        b = self.b
+        call(b, "probe.drop", "own.log", EVERY_100 + f"{NOTHING}\n" * 20)
+        settle(b)
+        idle(b)
+        self.check("is it safe: no click", text_of(b, "#verdict h2"), "✗ EarlyFlag with M = 128 (11.2 s)")
+        slot = int(program(["audit", "--running", "--pi", "C201"], EVERY_100.encode())[1].split()[1])
+        self.check("what is wrong and when: no click", (b.run("logTab.timeline.cursor"),
+                   text_of(b, "#log-rows [aria-current] .number")), (slot, str(slot + 1)))
+        click(b, "#witness button")
+        settle(b)
+        self.check("what would a car show: one click", of(b, "#log-radio", "classList.contains('mixed')"), True)
+        self.check("send it: two clicks", (report(b)["Answer"], of(b, "#report-save", "checkVisibility()")),
+                   ("✗ EarlyFlag with M = 128 (11.2 s)", True))
+        click(b, "#report-close")
+        first_examples(b)
+
+
+class Chromium(Report, ChromiumCase):
+    def test_a_report_is_saved_and_printed(self):
+        """On paper is the report alone, on one page. A script is printed without its controls."""
+        b = self.b
+        call(b, "probe.drop", "own.log", f"{HI}\n" * 40 + f"{YO}\n" * 40)
+        settle(b)
+        shown_on_paper = ("[...document.querySelectorAll('h1, button, input, canvas, figure, #verdict, #report')]"
+                          ".filter(it => it.checkVisibility()).map(it => it.tagName)")
+        b.run("dispatchEvent(new Event('beforeprint'))")
+        b.ask("Emulation.setEmulatedMedia", media="print")
+        self.check("on paper", b.run(shown_on_paper), ["DIALOG"])
+        self.check("with its answer", "Passes" in text_of(b, "#report-rows"), True)
+        self.check("one page of A4", b.run("document.documentElement.scrollHeight") < 1100, True)
+        call(b, "page.tab", "script")
+        self.check("a script on paper", {*b.run(shown_on_paper)}, {"FIGURE", "CANVAS"})
+        b.ask("Emulation.setEmulatedMedia", media="")
+        call(b, "page.tab", "log")
+        with tempfile.TemporaryDirectory() as folder:
+            b.ask("Browser.setDownloadBehavior", behavior="allow", downloadPath=folder)
+            rows = report(b)
+            click(b, "#report-save")
+            text = waited_for(os.path.join(folder, "own report.txt")).decode()
+            self.check("a saved report", [it for it in (f"{NAMES[1]}: {rows['SHA-256']}", rows["Command"]) if it not in text], [])
+            click(b, "#report-close")
+        first_examples(b)
+
+
+class Firefox(Report, FirefoxCase):
+    pass
