@@ -35,8 +35,8 @@ class DwellTab:
             call(b, "probe.choose", f"dwell-{field}", number)
         answer = "{} M + K can be at most {}. {} {} The chosen M + K = {} {}. {}"
         least = "A text of 64 characters needs M = 64 at 50 % free slots, so M can be from 64 to {}.".format
-        rules = (("Safe:", "A text may have the flag of the text before the previous one from M + K slots after the last group of "
-                  "that text on."),
+        rules = (("Safe:", "A text may reuse the A/B flag M + K slots after the last group of the text before the "
+                  "previous one."),
                  ("With our own encoder:", "It keeps each text on air for 2 (M + K) slots."))
         wanted = [answer.format(rules[0][0], "172 slots (15.1 s)", rules[0][1], least(172), 128, "fits", "Set M = 172"),
                   answer.format(rules[1][0], "85 slots (7.44 s)", rules[1][1], least(85), 128, "is too large", "Set M = 85"),

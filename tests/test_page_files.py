@@ -207,7 +207,7 @@ class Files:
         """Unless it belongs to a field. A saved file keeps its name."""
         b = self.b
         paste = ("(text, at) => {{ const data = new DataTransfer(); data.setData('text', text); document.querySelector(at)"
-                 ".dispatchEvent(new ClipboardEvent('paste', {{ clipboardData: data, bubbles: true }})); }}")
+                 ".dispatchEvent(Object.assign(new Event('paste', {{ bubbles: true }}), {{ clipboardData: data }})); }}")
         for text, at, wanted in ((EVERY_100, "h1", (["script", "dwell"], EVERY_100)), (HI, "#log-find", (["script", "dwell"], EVERY_100)),
                                  (example("tunnel.csv").decode(), "h1", (["log", "dwell"], EVERY_100))):
             call(b, f"({paste.format()})", text, at)

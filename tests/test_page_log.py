@@ -351,12 +351,19 @@ class LogTab:
                        (f"{slot + 2:,}{HI} number {slot}", True, True))
         click(b, "#log-rows [data-row='5990'] button")
         self.check("a click", b.run("logTab.timeline.cursor"), 5990)
+
+    def test_five_lanes_and_the_log_itself_are_in_sight(self):
+        """Of a log with a name and tags that gets a no with a witness, in a window of 1,280 x 800."""
+        b = self.b
         b.size(1280, 800)
+        call(b, "probe.choose", "log-example", 1)
+        settled_verdict(b)
+        settle(b)
         b.run("scrollTo(0, 0)")
         box = "document.querySelector('#log-time canvas').getBoundingClientRect().top"
         ends = b.run(f"logTab.timeline.lanes.map(lane => {box} + lane.top + lane.height)")
-        top = b.run("document.querySelector('#log-rows').getBoundingClientRect().top")
-        self.check("in sight", (sum(end <= 800 for end in ends) >= min(5, len(ends)), top < 700), (True, True), str(ends))
+        rows = b.run("document.querySelector('#log-rows [aria-current]').getBoundingClientRect().bottom")
+        self.check("in sight", (sum(end <= 800 for end in ends) >= 5, rows <= 800), (True, True), f"{ends} {rows}")
         b.size(1280, 900)
 
     def test_all_stations_of_a_log_are_offered(self):

@@ -121,8 +121,8 @@ class Timeline:
                 if y == first:
                     left = "logTab.timeline.canvas.getBoundingClientRect().left"
                     at = b.run(f"logTab.timeline.slotAt({{ clientX: {x - 3} + {left} }})")
-                    is_at = (86_390 + at * SLOT) % 86_400 if name == "clock" else at * SLOT
-                    self.check(f"{name}: {time} is in its place", abs(is_at - 60 * int(time[3:5]) - int(time[6:])) < 1, True)
+                    off = (86_390 if name == "clock" else 0) + at * SLOT - 60 * int(time[3:5]) - int(time[6:])
+                    self.check(f"{name}: {time} is in its place", abs((off + 43_200) % 86_400 - 43_200) < 1, True)
         b.run("logTab.timeline.zoomTo(0, 60)")
         seconds = [text for text, *_ in b.run("probe.axisTexts(logTab.timeline)") if re.fullmatch(r"\d\d:\d\d:\d\d", text)]
         self.check("seconds", seconds[:3], ["00:00:00", "00:00:01", "00:00:02"])

@@ -13,11 +13,12 @@ export function labelOf(value) {
 
 /* The values of displays: strings, and tags as { kind, text }. */
 export class Texts {
-  constructor({ text, shades }) { Object.assign(this, { all: text.split("\n"), shades }); }
+  constructor({ text, ends, shades }) { Object.assign(this, { text, ends, shades }); }
   get length() { return this.shades.length; }
 
   at(number) {
-    const [, tag, text] = /^\w+ (?:(\S+) )?"(.*)"$/.exec(this.all[number]);
+    const packed = this.text.slice(number ? this.ends[number - 1] : 0, this.ends[number]);
+    const [, tag, text] = /^\w+ (?:(\S+) )?"(.*)"$/.exec(packed);
     return tag === undefined ? text : { kind: tag, text };
   }
 }

@@ -25,15 +25,19 @@ export class Values {
     return this.numbers.get(value);
   }
 
-  /* All values as one text, which is handed over faster than many, and a shade for each: those of its kind, in turn. */
+  /* All values as one text, which is handed over faster than many; and for each where it ends in the text, and a shade:
+     those of its kind, in turn. */
   packed() {
-    const all = [...this.numbers.keys()], counts = {};
-    const shades = Uint8Array.from(all, ([letter, second]) => {
-      const kind = letter + second;
+    const all = [...this.numbers.keys()], { length } = all, counts = {};
+    const shades = new Uint8Array(length), ends = new Int32Array(length);
+    let end = 0;
+    all.forEach((value, number) => {
+      const kind = value.slice(0, value.indexOf(" "));
       counts[kind] = (counts[kind] ?? -1) + 1;
-      return counts[kind] % SHADES;
+      shades[number] = counts[kind] % SHADES;
+      ends[number] = end += value.length;
     });
-    return { text: all.join("\n"), shades };
+    return { text: all.join(""), ends, shades };
   }
 }
 
@@ -74,8 +78,11 @@ const LINE = /^(\d+) (?:(r\d|air) )?(\w+) ?(.*)$/;
 export function read(output, values, tell = null) {
   const displays = {};
   let fault = null;
-  for (const line of output.split("\n")) {
-    const [, slot, by = "", word, rest] = LINE.exec(line) ?? [];
+  // a million lines at once would take much memory
+  for (let at = 0, end; at < output.length; at = end + 1) {
+    end = output.indexOf("\n", at);
+    if (end < 0) end = output.length;
+    const line = output.slice(at, end), [, slot, by = "", word, rest] = LINE.exec(line) ?? [];
     if (word === undefined) fault = line || fault;
     else if (tell && !by) tell(Number(slot), word, rest);
     else if (word in KIND_OF) (displays[by] ??= new Display(values)).write(word, Number(slot), rest);

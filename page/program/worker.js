@@ -36,7 +36,8 @@ function looksTimed({ starts, count }) {
    that `slots` wrote has its breaks already. */
 const UNTIMED = /^(\d+) groups? without a time/, BREAK = /^# (?:time went back|more than a day passed)/m;
 function timesOf() {
-  const { notes } = rdsrt.runBytes(["slots", "--m", "1"], state.bytes), [untimed] = notes.map((note) => UNTIMED.exec(note)).filter(Boolean);
+  const { notes } = rdsrt.runBytes(["slots", "--m", "1"], state.bytes);
+  const [untimed] = notes.map((note) => UNTIMED.exec(note)).filter(Boolean);
   const hasBreaks = BREAK.test(new TextDecoder().decode(state.bytes));
   const isOf = (note) => note.startsWith("the times vary") || (note.includes(" went back, or on by") && !hasBreaks);
   return { untimed: Number(untimed?.[1] ?? 0), notes: notes.filter(isOf), looksTimed: looksTimed(state.log) };

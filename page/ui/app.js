@@ -40,7 +40,8 @@ export function tab(id, focus = false) {
 /* Makes the row of tabs, which arrow keys go along, and the section of a tab that index.html does not have. */
 function beginTabs() {
   TABS.forEach(({ id, title }, i) => {
-    const end = TABS.length - 1, moves = { ArrowRight: i < end ? i + 1 : 0, ArrowLeft: i ? i - 1 : end, Home: 0, End: end };
+    const end = TABS.length - 1;
+    const moves = { ArrowRight: i < end ? i + 1 : 0, ArrowLeft: i ? i - 1 : end, Home: 0, End: end };
     const button = make("button", { type: "button", role: "tab", id: `tab-${id}`, textContent: title });
     button.onclick = () => tab(id);
     button.setAttribute("aria-controls", id);

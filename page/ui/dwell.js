@@ -73,8 +73,8 @@ function answers(seconds, chosen) {
   const slots = Math.floor(seconds / lines.SLOT);
   return [
     // the last group of a text is in its last slot, and the second text after it begins this many slots later
-    answer("Safe:", "A text may have the flag of the text before the previous one from M + K slots after the last "
-      + "group of that text on.", slots + 1, chosen),
+    answer("Safe:", "A text may reuse the A/B flag M + K slots after the last group of the text before the previous "
+      + "one.", slots + 1, chosen),
     answer("With our own encoder:", "It keeps each text on air for 2 (M + K) slots.", Math.floor(slots / 2), chosen),
   ];
 }

@@ -19,6 +19,8 @@ import * as verdict from "./verdict.js";
 
 /* The station of a log without a group. */
 const PI = "C201";
+/* The worker that has searched a log of more slots ends, to free its memory. */
+const LONG = 100_000;
 /* A log of more bytes cannot be edited here. */
 const MOST_EDITED = 400_000;
 /* How many dwells after a no are searched first for a witness: most are there, and a log may be a day. */
@@ -212,6 +214,7 @@ class LogTab extends Tab {
     const dwells = async () => verdict.showDwells(await ask(this.judge, "dwells", asked), this.actions);
     const all = [no?.fault === "Changed" ? textAt() : null, no ? this.search(asked, signal) : null, dwells()];
     await Promise.all(all).catch((error) => { if (!signal.aborted) this.showProblem(`${error.message}.`); });
+    if (this.log.count > LONG && !signal.aborted) this.judge.stop();
   }
 
   /* Looks for a witness after a no. Says each second how long, and in how many slots. */
@@ -319,7 +322,8 @@ class LogTab extends Tab {
     const { log, no, answer } = this, isSlot = slot < log.count, before = slot ? log.numbers[slot - 1] : 0;
     const number = isSlot ? log.numbers[slot] : before + 1;
     return {
-      className: isSlot && no?.slot === slot && answer.isSure ? "fault" : "", act: () => this.about.goTo(Math.min(slot, log.count - 1)),
+      className: isSlot && no?.slot === slot && answer.isSure ? "fault" : "",
+      act: () => this.about.goTo(Math.min(slot, log.count - 1)),
       cells: [
         make("span", { className: "number", textContent: parts.number(number) }),
         make("code", { textContent: this.lineAt(isSlot ? log.starts[slot] : log.end) }),

@@ -58,7 +58,7 @@ function told(note) {
 const emptyNote = ({ notes }) => notes.find((note) => note.includes("the yes says nothing"));
 
 /* What a yes covers, in the words of the program. */
-export const covered = ({ notes }) => told(notes.find((note) => note.startsWith("judged ")) ?? "");
+const covered = ({ notes }) => told(notes.find((note) => note.startsWith("judged ")) ?? "");
 
 /* A yes. It covers the slots that were recorded. */
 function passed(given) {
