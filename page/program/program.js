@@ -1,11 +1,13 @@
 /* Asks a worker to run the program: program/worker.js. The worker gets one question at a time. A question is dropped
    when its signal aborts. If the worker is at it then and for some time after, the worker ends, and a new one takes its
    place. */
+
+/* The milliseconds of this time, if nobody names others. */
 const PATIENCE = 300;
 
 export class Program {
-  constructor(compiled) {
-    Object.assign(this, { compiled, worker: null, input: null, asked: null, queue: [], last: 0 });
+  constructor(compiled, patience = PATIENCE) {
+    Object.assign(this, { compiled, patience, worker: null, input: null, asked: null, queue: [], last: 0 });
   }
 
   /* Takes the bytes of another log, and drops all questions on the one before. */
@@ -47,7 +49,7 @@ export class Program {
       this.queue.push(question);
       signal?.addEventListener("abort", () => {
         reject(signal.reason);
-        setTimeout(() => this.tire(question), PATIENCE);
+        setTimeout(() => this.tire(question), this.patience);
       });
       this.next();
     });

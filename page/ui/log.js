@@ -28,6 +28,8 @@ const NEAR = 4;
 /* How many slots after that are searched too, about a day: each takes some 41 bytes of memory. */
 const FAR = 1_000_000;
 const SECOND = 1000;
+/* A display takes no longer with another M, and a new worker would have to read the log again. */
+const PATIENCE = 20 * SECOND;
 const NO_SEARCH = "the search is for a receiver without a window", STOPPED = "the search was stopped";
 /* The names of the lanes of a receiver, each with the one on a phone. */
 const LANES = { text: ["text", "text"], name: ["name (PTYN)", "name"], tags: ["tags", "tags"] };
@@ -305,7 +307,8 @@ class LogTab extends Tab {
   /* The text of the line that begins at this byte. */
   lineAt(start) {
     const end = Math.min(logfile.endOf(this.bytes, start), start + LONGEST_LINE);
-    return decoder.decode(this.bytes.subarray(start, end)).trimEnd();
+    const text = decoder.decode(this.bytes.subarray(start, end)).trimEnd();
+    return end === start + LONGEST_LINE ? `${text}…` : text;
   }
 
   /* The clock time at the end of a slot's line; empty if it has none. */
@@ -372,7 +375,7 @@ class LogTab extends Tab {
   /* Begins with the compiled program. */
   begin(compiled) {
     super.begin();
-    Object.assign(this, { display: new Program(compiled), judge: new Program(compiled) });
+    Object.assign(this, { display: new Program(compiled, PATIENCE), judge: new Program(compiled) });
     for (const name of ["pi", "m", "k", "w", "running"]) this.field(name).oninput = parts.soon(() => this.look());
     $("log-text").oninput = parts.soon(() => {
       const { pi, w, running } = this.asking();
