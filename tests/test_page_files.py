@@ -222,7 +222,7 @@ class Files:
         self.check("the name of a saved log", b.run("saved"), "my.station.log")
 
     def test_a_log_that_changes_on_the_disk_stays_as_it_was_opened(self):
-        """The answer, the search for a witness and that for other dwells are over the same bytes."""
+        """The answer and the search for a witness are over the same bytes."""
         b = self.b
         log = example("flags.log").decode()
         # a file whose bytes are others each time

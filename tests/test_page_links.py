@@ -133,13 +133,14 @@ class Links:
             visit(b, link)
             self.check("the link opens all that", [b.run(LOG_STATE), hidden(b)], [before, ["script", "dwell"]])
             bare = re.sub("&.*", "", link)
-            visit(b, f"{bare}&m=128&lost=1-9999999.0-9999999&end")
+            visit(b, f"{bare}&m=128&lost=0-9999999&end")
             state = b.run(LOG_STATE)
             self.check("a link with many lost slots", (told(), state[5:], len(state[1])), ("", ["C201", "128", "0"], 200_000))
             damaged = "The link is damaged: an option of it is wrong."
             for name, broken, why in (
                     *((f"has {more}", f"{bare}{more}&end", damaged) for more in
                       ("", "&m=0", "&m=65536", "&m=x", "&m=8&k=1025", "&m=8&w=1", "&m=8&running=2", "&m=8&lost=1-",
+                       "&m=8&lost=4.2-3", "&m=8&lost=3-2",
                        "&m=8&lost=<b>", "&m=8&pi=FFFF", "&m=8&pi=")),
                     ("holds none", f"{url}#log=nonsense&end", "The link has no log."),
                     ("was cut", link[:200], "The link was cut: copy the whole link.")):

@@ -6,9 +6,6 @@ from tests.page_support import (EVERY_100, GROUPS, HI, NOTHING, SEED, YO, Chromi
                                 click, example, first_examples, idle, of, program, run_program, settle, settled_verdict,
                                 shown, text_of, verdict_of)
 
-POWERS = [*(1 << exponent for exponent in range(16)), 65535]
-PASSING = re.compile(r"With other dwells M: ([\d,]+)(?: and ([\d,]+))? pass(?:es)?(?:; ([\d, and]+) do(?:es)? not)?\."
-                     r"( Those between were not all tried\.)?")
 GROUP_WORDS = [
     ("C201 2140 4849 0D20", "2A RadioText · flag A · segment 0 · “HI” · C201 2140 4849 0D20"),
     ("C201 2153 6E63 8220", "2A RadioText · flag B · segment 3 · “ncé ” · C201 2153 6E63 8220"),
@@ -126,39 +123,6 @@ class LogTab:
         click(b, "#log-undo")
         self.check("another undo", (lost(b), of(b, "#log-undo", "disabled")), ([], True))
         click(b, "#log-click")
-
-    def test_the_dwells_that_pass_are_those_of_the_program(self):
-        """The least and the greatest M that pass around the chosen one. Yes and no are not monotone in M, so the page
-        says only what was tried: both pass, and the dwells beyond them and a chosen one that fails do not."""
-        b = self.b
-        dice = random.Random(SEED)
-        logs = [EVERY_100, example("flags.log").decode(),
-                *("".join(f"{dice.choice(GROUPS[:8])}\n" for _ in range(20)) for _ in range(5))]
-        for number, log in enumerate(logs):
-            for k in (0, 3):
-                call(b, "logTab.open", log, {"pi": "C201", "m": 128, "k": k})
-                said = re.sub(r"(?<=\d),(?=\d)", "", text_of(b, "#dwells"))
-                passes = {m: program(["audit", "--pi", "C201", "--m", str(m), "--k", str(k)], log.encode())[0] == 0
-                          for m in {128, *POWERS, *map(int, re.findall(r"\d+", said))}}
-                found = PASSING.fullmatch(said)
-                tried = f"seed {SEED}, log {number}, K {k}"
-                self.check(f"{tried}: bounds", found is not None, any(passes.values()), f"{said}\n{log}")
-                if not found:
-                    continue
-                least, greatest = int(found[1]), int(found[2] or found[1])
-                failing = [int(it) for it in re.findall(r"\d+", found[3] or "")]
-                beyond = {it for it in (least - 1, greatest + 1) if 1 <= it <= 65535}
-                self.check(f"{tried}: both", (passes[least], passes[greatest]), (True, True), f"{said}\n{log}")
-                self.check(f"{tried}: beyond, and the chosen one", [(it, passes[it]) for it in failing],
-                           [(it, False) for it in sorted(beyond | {it for it in [128] if not passes[it]})],
-                           f"{said}\n{log}")
-                self.check(f"{tried}: between", bool(found[4]), greatest - least > 1, said)
-        call(b, "logTab.open", EVERY_100, {"pi": "C201", "m": 128, "k": 0})
-        click(b, "#dwells button")
-        self.check("a button chooses its dwell", (of(b, "#log-m", "value"), text_of(b, "#verdict h2")[:12]),
-                   ("1", "✓ Passes wit"))
-        call(b, "logTab.open", f"{NOTHING}\n", {"pi": "C201", "m": 8, "k": 0})
-        self.check("no answers without a group", of(b, "#dwells", "hidden"), True)
 
     def test_a_window_shows_what_was_heard_twice(self):
         """Display, audit and link are those of the program with --confirm, and with W - 1 more slots of lateness."""
@@ -394,8 +358,7 @@ class LogTab:
         file = lambda: call(b, "probe.pick", "log-file", "own.log", EVERY_100)
         used = clicks(file)
         told = text_of(b, "#verdict")
-        wanted = ["✗ EarlyFlag with M = 128 (11.2 s)", "Keep each text on air for at least M + K slots",
-                  "Those between were not all tried."]
+        wanted = ["✗ EarlyFlag with M = 128 (11.2 s)", "Keep each text on air for at least M + K slots"]
         self.check("is my encoder safe, and what to change", (used <= 4, [it for it in wanted if it not in told]),
                    (True, []))
         used = clicks(lambda: click(b, "#tab-dwell"), lambda: call(b, "probe.choose", "dwell-s", 15),

@@ -5,7 +5,6 @@ import * as logfile from "../model/logfile.js";
 import * as output from "../model/output.js";
 import * as player from "../model/player.js";
 import * as rdsrt from "./rdsrt.js";
-import * as passing from "./passing.js";
 import * as witness from "./witness.js";
 
 /* The bytes of the log, and what is known of it and does not depend on M: it is read when somebody asks for it. */
@@ -131,9 +130,6 @@ const REQUESTS = {
   },
 
   audit,
-  dwells(asked) {
-    return passing.bounds(Number(asked.m), (m) => run(auditing({ ...asked, m: String(m) })).output.startsWith("yes "));
-  },
   witness(asked, tell) {
     return witness.find(asked, (words, bytes) => run(words, state.bytes.subarray(0, bytes)).output, tell);
   },

@@ -164,13 +164,16 @@ export function inLetters(slots) {
   return spans.map(([first, last]) => first === last ? first : `${first}-${last}`).join(".");
 }
 
-/* The slots of these letters, as far as a log may have them. Throws at other letters. */
+/* The slots of these letters, as far as a log may have them. Throws at other letters, and if they do not ascend. */
 export function slotsOf(letters, end = MOST_SLOTS) {
   const all = new Set();
+  let next = 0;
   if (!letters) return all;
   if (!/^\d{1,7}(-\d{1,7})?(\.\d{1,7}(-\d{1,7})?)*$/.test(letters)) throw damaged();
   for (const span of letters.split(".")) {
     const [first, last = first] = span.split("-").map(Number);
+    if (first < next || last < first) throw damaged();
+    next = last + 1;
     for (let slot = first; slot <= last && slot < end; slot++) all.add(slot);
   }
   return all;

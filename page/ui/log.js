@@ -205,16 +205,15 @@ class LogTab extends Tab {
     return last < 0 ? 0 : both[0].from(last);
   }
 
-  /* What takes longer: a witness after a no, and the other dwells. */
+  /* What takes longer after a no: what a receiver without losses shows, and a witness. */
   async searchMore(asked, signal) {
-    const { no, answer } = this, ask = (program, call, given) => program.ask(call, given, { signal });
-    if (!answer.isSure) return;
+    const { no, answer } = this;
+    if (!no || !answer.isSure) return;
     const textAt = async () => {
-      const { text } = await ask(this.display, "textAt", { ...asked, slot: no.slot });
+      const { text } = await this.display.ask("textAt", { ...asked, slot: no.slot }, { signal });
       if (text !== null) verdict.showWithoutLoss(no, text);
     };
-    const dwells = async () => verdict.showDwells(await ask(this.judge, "dwells", asked), this.actions);
-    const all = [no?.fault === "Changed" ? textAt() : null, no ? this.search(asked, signal) : null, dwells()];
+    const all = [no.fault === "Changed" ? textAt() : null, this.search(asked, signal)];
     await Promise.all(all).catch((error) => { if (!signal.aborted) this.showProblem(`${error.message}.`); });
     if (this.log.count > LONG && !signal.aborted) this.judge.stop();
   }
@@ -244,7 +243,6 @@ class LogTab extends Tab {
   actions = {
     goTo: (slot) => this.about.goTo(slot),
     showFault: () => this.rows.choose(this.log.count),
-    chooseDwell: (m) => { this.field("m").value = m; this.look(); },
     fill: () => this.working(this.fill().catch((error) => this.showProblem(`${error.message}.`))),
     stopSearch: () => this.searching.abort(),
     /* Loses these slots alone, and goes to the one in which the mix is shown. */

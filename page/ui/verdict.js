@@ -1,5 +1,5 @@
-/* The answer of the audit in words: passes, breaks a rule, or cannot say. What it covers, what the encoder should do,
-   and which other dwells pass. `actions` is what the buttons do. */
+/* The answer of the audit in words: passes, breaks a rule, or cannot say. What it covers, and what the encoder should do.
+   `actions` is what the buttons do. */
 import * as lines from "../model/lines.js";
 import * as logfile from "../model/logfile.js";
 import { $, counted, make, nodesOf, number } from "./parts.js";
@@ -194,30 +194,8 @@ export function show(given, actions) {
   const spacing = `M + K${w ? " + W - 1" : ""} = ${m + k} slots (${lines.time(m + k)})`;
   const about = `The audit reads the log as sent, with ${spacing}.`
     + (running ? " The station was on air before the log began." : "");
-  showCard(kind, ...words, ...doubts, make("p", { className: "dwells", id: "dwells", hidden: true }),
-    make("p", { className: "small", textContent: kind === "fault" ? "" : about }));
+  showCard(kind, ...words, ...doubts, make("p", { className: "small", textContent: kind === "fault" ? "" : about }));
   return { no, isSure: kind === "" || kind === "no" };
-}
-
-/* Numbers and a verb: "7, 12 and 48 do not". */
-const listed = (numbers, one, more) =>
-  `${new Intl.ListFormat("en-GB").format(numbers.map(number))} ${numbers.length > 1 ? more : one}`;
-
-/* Shows the least and the greatest dwell that were tried and pass, as buttons, and those that fail: the ones beyond
-   these, and the chosen one if it fails. Between two that pass others may fail. */
-export function showDwells({ found, failed }, actions) {
-  const choose = (m) => Object.assign(button(number(m), () => actions.chooseDwell(m)),
-    { title: lines.time(m), ariaLabel: `Set M = ${number(m)}` });
-  const words = (({ least, greatest }) => {
-    const [first, last] = [...new Set([least.last, greatest.last])].map(choose);
-    const failing = [...new Set([least.beyond, failed, greatest.beyond])].filter(Boolean).sort((a, b) => a - b);
-    const beyond = failing.length ? `; ${listed(failing, "does", "do")} not` : "";
-    const between = greatest.last - least.last > 1 ? " Those between were not all tried." : "";
-    return [...last ? [first, " and ", last, " pass"] : [first, " passes"], `${beyond}.${between}`];
-  });
-  $("dwells").hidden = false;
-  $("dwells").replaceChildren(strong("With other dwells M:"), " ",
-    ...found ? words(found) : ["no dwell that was tried passes: powers of two, and 65,535."]);
 }
 
 /* Says what a receiver that loses nothing shows in the slot of a no. */
