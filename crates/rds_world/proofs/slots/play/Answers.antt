@@ -61,12 +61,12 @@ returns-in-Err-Wrong-clause-refused c =
       first = c.loop-i.invariant.good;
     }
 
-pub returns-in-Err-WrongTwice-clause-refused : goal.returns-in-Err-WrongTwice-clause-refused
-returns-in-Err-WrongTwice-clause-refused c =
+pub returns-in-Err-WrongConfirmed-clause-refused : goal.returns-in-Err-WrongConfirmed-clause-refused
+returns-in-Err-WrongConfirmed-clause-refused c =
     let before = reverse (take c.loop-i.i c.args.events.now) in
     record {
       few = c.loop-i.invariant.few;
-      refused = rw (c.in-Err-WrongTwice.field-0-is, ← c.in-Err-WrongTwice.receiver-is) at (refused_here c.args.config.premise _ _ _ _ c.index-events-i.result _ c.loop-i.invariant.count c.loop-i-test.true c.index-events-i.is (c.in-Err-WrongTwice.ensures.refused c.args.config before c.loop-i.invariant.stands));
+      refused = rw (c.in-Err-WrongConfirmed.field-0-is, ← c.in-Err-WrongConfirmed.receiver-is) at (refused_here c.args.config.premise _ _ _ _ c.index-events-i.result _ c.loop-i.invariant.count c.loop-i-test.true c.index-events-i.is (c.in-Err-WrongConfirmed.ensures.refused c.args.config before c.loop-i.invariant.stands));
       there = c.loop-i-test.true;
       first = c.loop-i.invariant.good;
     }
