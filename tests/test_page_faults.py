@@ -181,14 +181,15 @@ class Faults:
         rows = [("a pause without a group", pause, "Cannot say: the recording lost slots 10 to 21", "verdict empty"),
                 ("a pause with one", pause.replace(NOTHING, other, 1), "✗ EarlyTag with M = 8 (0.70 s)", "verdict no"),
                 ("a gap by its times", gap + f"{tags} 9.40\n", "Cannot say", "verdict empty"),
-                ("a gap after the no", f"{HI} 0.00\n{tags} 0.10\n{HI} 99.00\n", "✗ EarlyTag with M = 8 (0.70 s)", "verdict no")]
+                ("a gap after the no", f"{HI} 0.00\n{tags} 0.10\n{HI} 99.00\n", "✗ EarlyTag with M = 8 (0.70 s)",
+                 "verdict no")]
         for name, log, heading, kind in rows:
             said = verdict_of(b, log, 8)
             got = text_of(b, "#verdict h2"), of(b, "#verdict", "className"), "EarlyTag" in said
             self.check(name, got, (heading, kind, True), said)
             settle(b)
-            self.check(f"{name}: what a no has", ["What the encoder should do" in said, "Looking for" in said or "itness" in said],
-                       [kind == "verdict no"] * 2, said)
+            has = ["What the encoder should do" in said, "Looking for" in said or "itness" in said]
+            self.check(f"{name}: what a no has", has, [kind == "verdict no"] * 2, said)
 
     def test_a_worker_that_ends_is_said(self):
         """The page does not wait for ever."""

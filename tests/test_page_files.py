@@ -208,8 +208,9 @@ class Files:
         b = self.b
         paste = ("(text, at) => {{ const data = new DataTransfer(); data.setData('text', text); document.querySelector(at)"
                  ".dispatchEvent(Object.assign(new Event('paste', {{ bubbles: true }}), {{ clipboardData: data }})); }}")
-        for text, at, wanted in ((EVERY_100, "h1", (["script", "dwell"], EVERY_100)), (HI, "#log-find", (["script", "dwell"], EVERY_100)),
-                                 (example("tunnel.csv").decode(), "h1", (["log", "dwell"], EVERY_100))):
+        in_log, in_script = ["script", "dwell"], ["log", "dwell"]
+        for text, at, wanted in ((EVERY_100, "h1", (in_log, EVERY_100)), (HI, "#log-find", (in_log, EVERY_100)),
+                                 (example("tunnel.csv").decode(), "h1", (in_script, EVERY_100))):
             call(b, f"({paste.format()})", text, at)
             b.until("new Promise(done => setTimeout(() => done(true), 100))")
             idle(b)

@@ -2,7 +2,7 @@
 takes."""
 import json
 
-from tests.page_support import ChromiumCase, call, first_examples, idle, of, program, text_of
+from tests.page_support import ChromiumCase, call, first_examples, idle, program, settle, text_of
 
 SLOTS = 100_000
 # a day of slots: a text every 342 slots, in two segments
@@ -50,7 +50,7 @@ class Chromium(ChromiumCase):
         give_day(b, log)
         b.run("page.openFile(day)")
         call(b, "probe.choose", "log-m", 100)
-        idle(b)
+        settle(b)
         b.run("logTab.timeline.move(981999); undefined")
         idle(b)
         self.check("its verdict", text_of(b, "#verdict h2"), "✓ Passes with M = 100 (8.76 s)")

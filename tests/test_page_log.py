@@ -309,8 +309,9 @@ class LogTab:
         call(b, "logTab.open", log, {"pi": "C201", "m": 8, "k": 0})
         for slot in (0, 3000, 5999):
             b.run(f"logTab.timeline.move({slot})")
-            row, whole = (b.run(f"(({{ top, bottom }}) => [top, bottom])(document.querySelector('{it}').getBoundingClientRect())")
-                          for it in ("#log-rows [aria-current]", "#log-rows"))
+            row, whole = (b.run(f"(({{ top, bottom }}) => [top, bottom])({it}.getBoundingClientRect())")
+                          for it in ("document.querySelector('#log-rows [aria-current]')",
+                                     "document.querySelector('#log-rows')"))
             self.check(f"slot {slot}", (text_of(b, "#log-rows [aria-current]"), row[0] >= whole[0], row[1] <= whole[1]),
                        (f"{slot + 2:,}{HI} number {slot}", True, True))
         click(b, "#log-rows [data-row='5990'] button")
@@ -332,16 +333,17 @@ class LogTab:
 
     def test_all_stations_of_a_log_are_offered(self):
         b = self.b
-        call(b, "logTab.open", "".join(f"{0xC200 + number:X} 2140 4849 0D20\n" for number in range(16)), {"pi": "C20F", "m": 8})
-        self.check("stations", (b.run("document.querySelector('#log-pi').options.length"), of(b, "#log-pi", "value")), (16, "C20F"))
+        log = "".join(f"{0xC200 + number:X} 2140 4849 0D20\n" for number in range(16))
+        call(b, "logTab.open", log, {"pi": "C20F", "m": 8})
+        self.check("stations", (of(b, "#log-pi", "options.length"), of(b, "#log-pi", "value")), (16, "C20F"))
 
     def test_a_file_without_a_slot_has_no_timeline(self):
         b = self.b
         for log in ("", "# a note\n", "\x00\x01\x02"):
             call(b, "probe.drop", "own.log", log)
             settle(b)
-            self.check(f"{log!r}", b.run("['#log-time', '#log .radios'].map(it => document.querySelector(it).checkVisibility())"),
-                       [False, False])
+            seen = [of(b, query, "checkVisibility()") for query in ("#log-time", "#log .radios")]
+            self.check(f"{log!r}", seen, [False, False])
         call(b, "probe.drop", "own.log", HI)
         settle(b)
         self.check("one slot", of(b, "#log-time", "checkVisibility()"), True)

@@ -81,7 +81,8 @@ class Long:
         call(b, "page.tab", "script")
         b.run("window.hear = Program.prototype.hear; window.isHeld = true; Program.prototype.hear = function (data) {"
               "  if (!isHeld || !data.answer?.replies) hear.call(this, data); }; undefined")
-        shows, stop = "document.querySelector('#script-stop').checkVisibility()", "document.querySelector('#script-stop').click()"
+        button = "document.querySelector('#script-stop')"
+        shows, stop = f"{button}.checkVisibility()", f"{button}.click()"
         for m in (100, 101):
             b.run(f"probe.choose('script-m', {m})")
             self.check("a button", b.until(shows), True)

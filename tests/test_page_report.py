@@ -16,15 +16,15 @@ NAMES = ["File", "SHA-256", "Station", "Length", "Receiver", "Answer", "In words
 def report(b):
     """Opens the report, and returns its rows."""
     click(b, "#log-report")
-    cells = "[...document.querySelectorAll('#report-rows dt')].map(it => [it.textContent, it.nextSibling.innerText.trim()])"
-    return dict(b.run(cells))
+    cells = "it => [it.textContent, it.nextSibling.innerText.trim()]"
+    return dict(b.run(f"[...document.querySelectorAll('#report-rows dt')].map({cells})"))
 
 
 def again(command, folder):
     """Returns the output of the report's command in a folder with the file."""
-    words = command.replace("rdsrt ", f"{shlex.quote(PROGRAM)} ")
-    return subprocess.run(["sh", "-c", words], cwd=folder, stdout=subprocess.PIPE, stderr=subprocess.DEVNULL, timeout=SECONDS,
-                          check=False).stdout.decode()
+    words = ["sh", "-c", command.replace("rdsrt ", f"{shlex.quote(PROGRAM)} ")]
+    done = subprocess.run(words, cwd=folder, stdout=subprocess.PIPE, stderr=subprocess.DEVNULL, timeout=SECONDS, check=False)
+    return done.stdout.decode()
 
 
 class Report:
@@ -34,15 +34,18 @@ class Report:
         gap = "".join(f"{HI} {slot * 0.0876:.2f}\n" for slot in range(400) if not 100 <= slot < 130)
         for name, log, answer in (("every 100.log", EVERY_100, "✗ EarlyFlag with M = 128 (11.2 s)"),
                                   ("yes.log", f"{HI}\n" * 200, "✓ Passes with M = 128 (11.2 s)"),
-                                  ("gap's.log", gap, "Cannot say")):
+                                  ("bad.log", f"{HI}\nbad\n", "Line 2 is malformed"), ("gap's.log", gap, "Cannot say")):
             call(b, "probe.drop", name, log)
             settle(b)
             rows = report(b)
             self.check(f"{name}: its rows", list(rows), NAMES)
             self.check(f"{name}: file, sum, answer, version",
                        [rows[it] for it in ("File", "SHA-256", "Answer", "Program")],
-                       [name, hashlib.sha256(log.encode()).hexdigest(), answer, run_program(["--version"], b"")[1].strip()])
+                       [name, hashlib.sha256(log.encode()).hexdigest(), answer,
+                        run_program(["--version"], b"")[1].strip()])
             self.check(f"{name}: no button in its words", "Add the lost" in rows["In words"], False)
+            self.check(f"{name}: its faults", rows["Faults"].split(".")[0],
+                       {"✗": "EarlyFlag in slot 200 (line 201)", "L": "not judged"}.get(answer[0], "none found"))
             with tempfile.TemporaryDirectory() as folder:
                 with open(os.path.join(folder, name), "w", encoding="utf-8") as file:
                     file.write(log)
@@ -99,7 +102,8 @@ class Chromium(Report, ChromiumCase):
             rows = report(b)
             click(b, "#report-save")
             text = waited_for(os.path.join(folder, "own report.txt")).decode()
-            self.check("a saved report", [it for it in (f"{NAMES[1]}: {rows['SHA-256']}", rows["Command"]) if it not in text], [])
+            missing = [it for it in (f"{NAMES[1]}: {rows['SHA-256']}", rows["Command"]) if it not in text]
+            self.check("a saved report", missing, [])
             click(b, "#report-close")
         first_examples(b)
 

@@ -112,7 +112,8 @@ class Timeline:
             return f"{int(seconds // 3600):02d}:{int(seconds // 60 % 60):02d}:{seconds % 60:05.2f}"
         log = "".join(f"{NOTHING}\n" if slot % 5 else f"{HI} @2024/06/01 {clock(slot)}\n" for slot in range(3000))
         halves = [f"00:0{minute}:{second}" for minute in range(5) for second in ("00", "30")]
-        for name, text, row, wanted in (("clock", log, "clock", halves[:8]), ("no clock", f"{HI}\n" * 3000, "elapsed", halves[:9])):
+        for name, text, row, wanted in (("clock", log, "clock", halves[:8]),
+                                        ("no clock", f"{HI}\n" * 3000, "elapsed", halves[:9])):
             verdict_of(b, text, 8)
             drawn = b.run("probe.axisTexts(logTab.timeline)")
             first = min(y for *_, y in drawn)
@@ -124,7 +125,8 @@ class Timeline:
                     off = (86_390 if name == "clock" else 0) + at * SLOT - 60 * int(time[3:5]) - int(time[6:])
                     self.check(f"{name}: {time} is in its place", abs((off + 43_200) % 86_400 - 43_200) < 1, True)
         b.run("logTab.timeline.zoomTo(0, 60)")
-        seconds = [text for text, *_ in b.run("probe.axisTexts(logTab.timeline)") if re.fullmatch(r"\d\d:\d\d:\d\d", text)]
+        drawn = [text for text, *_ in b.run("probe.axisTexts(logTab.timeline)")]
+        seconds = [it for it in drawn if re.fullmatch(r"\d\d:\d\d:\d\d", it)]
         self.check("seconds", seconds[:3], ["00:00:00", "00:00:01", "00:00:02"])
         first_examples(b)
 
@@ -133,9 +135,9 @@ class Timeline:
         b = self.b
         verdict_of(b, f"{HI}\n" * 1000, 8)
         sight = "(t => [t.from, t.across])(logTab.timeline)"
-        wheel = ("(y, x = 0, shiftKey = false) => { const { canvas } = logTab.timeline, box = canvas.getBoundingClientRect(); "
-                 "return canvas.dispatchEvent(new WheelEvent('wheel', { deltaY: y, deltaX: x, shiftKey, cancelable: true, "
-                 "clientX: box.left + logTab.timeline.x(250) })); }")
+        box = "const { canvas } = logTab.timeline, { left, top } = canvas.getBoundingClientRect(); "
+        wheel = (f"(y, x = 0) => {{ {box} return canvas.dispatchEvent(new WheelEvent('wheel', {{ deltaY: y, deltaX: x, "
+                 "cancelable: true, clientX: left + logTab.timeline.x(250) })); }")
         self.check("all are in sight: the page moves", (b.run(f"({wheel})(300)"), b.run(sight)), (True, [0, 1000]))
         b.run(f"({wheel})(-300)")
         self.check("fewer slots", [round(it) for it in b.run(sight)], [125, 500])
@@ -143,12 +145,11 @@ class Timeline:
         self.check("sideways", b.run(sight)[0] > 125, True)
         b.run(f"({wheel})(300); ({wheel})(300)")
         self.check("more slots", b.run(sight), [0, 1000])
-        touch = ("(kind, id, slot) => { const { canvas } = logTab.timeline, box = canvas.getBoundingClientRect(); "
-                 "canvas.setPointerCapture = () => {}; canvas.dispatchEvent(new PointerEvent(kind, { pointerId: id, bubbles: true, "
-                 "pointerType: 'touch', clientX: box.left + logTab.timeline.gutter + slot / 1000 * logTab.timeline.room, "
-                 "clientY: box.top + 60 })); }")
-        for kind, pointer, slot in (("pointerdown", 1, 400), ("pointerdown", 2, 600), ("pointermove", 1, 300), ("pointermove", 2, 700)):
-            b.run(f"({touch})('{kind}', {pointer}, {slot})")
+        touch = (f"(kind, pointerId, slot) => {{ {box} const {{ gutter, room }} = logTab.timeline; "
+                 "canvas.setPointerCapture = () => {}; canvas.dispatchEvent(new PointerEvent(kind, { pointerId, bubbles: true, "
+                 "pointerType: 'touch', clientX: left + gutter + slot / 1000 * room, clientY: top + 60 })); }")
+        for kind, pointer, slot in (("down", 1, 400), ("down", 2, 600), ("move", 1, 300), ("move", 2, 700)):
+            b.run(f"({touch})('pointer{kind}', {pointer}, {slot})")
         self.check("a pinch", [round(it) for it in b.run(sight)], [250, 500])
         b.run(f"({touch})('pointerup', 2, 700)")
         b.run("delete logTab.timeline.canvas.setPointerCapture")

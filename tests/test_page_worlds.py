@@ -71,8 +71,8 @@ class Worlds:
             rows = [row._replace(receptions="".join(it)) for row, it in zip(random_rows(rng), zip(*each))]
             given, name = script(rows), f"script {number}, M {dwell}, K {late}"
             open_script(b, given.decode(), m=dwell, k=late)
-            replies, groups, _, _ = outputs.parts_of(ran(["sim", "--pi", "C201", "--pty", "10", "--m", str(dwell), "--k", str(late)],
-                                                         given)[1], False)
+            words = ["sim", "--pi", "C201", "--pty", "10", "--m", str(dwell), "--k", str(late)]
+            replies, groups, _, _ = outputs.parts_of(ran(words, given)[1], False)
             accepted = accepted_in(replies)
             airs = on_air(rows, accepted, Diary(rows, accepted))
             air = values(call(b, "((count) => probe.displays(scriptTab.air, count))", SLOTS))
@@ -80,18 +80,21 @@ class Worlds:
             for receiver, receptions in enumerate(each):
                 lines = [NOTHING if it == "R" else heard(it, slot, groups) for slot, it in enumerate(receptions)]
                 shown = values(call(b, f"((count) => probe.displays(scriptTab.views[{receiver}], count))", SLOTS))
-                self.check(f"{name}: receiver {receiver}", [things(it) for it in shown], with_dwell(lines, receptions, dwell), given)
+                self.check(f"{name}: receiver {receiver}", [things(it) for it in shown],
+                           with_dwell(lines, receptions, dwell), given)
                 radio = call(b, f"((count) => probe.displays(scriptTab.alone[{receiver}], count))", SLOTS)
                 plain = with_flag_alone(lines, receptions)
-                self.check(f"{name}: radio {receiver}", [things(it) for it in values(radio)], [things(it) for it in plain], given)
+                self.check(f"{name}: radio {receiver}", [things(it) for it in values(radio)],
+                           [things(it) for it in plain], given)
                 told = [[it[part] and it[part][1] for part in PARTS] for it in radio]
-                wanted = [[view.get(part) and word_of(part, view.get(part), airs[:slot + 1], dwell + late) for part in PARTS]
-                          for slot, view in enumerate(plain)]
+                word = lambda part, value, slot: value and word_of(part, value, airs[:slot + 1], dwell + late)
+                wanted = [[word(part, view.get(part), slot) for part in PARTS] for slot, view in enumerate(plain)]
                 self.check(f"{name}: words of radio {receiver}", told, wanted, given)
                 for it in (word for words in wanted for word in words if word):
                     counts[it] += 1
                 counts["tags"] += sum(part in view for view in plain for part in TAGS)
-        self.check_all("each word is met", {it: counts[it] > least for it, least in LEAST.items()}, dict.fromkeys(LEAST, True))
+        rare = {it: counts[it] for it, least in LEAST.items() if counts[it] <= least}
+        self.check_all("each word is met", rare, {})
 
     def test_logs_with_dragged_losses_are_shown_as_plain_receivers_show_them(self):
         """Red is what no plain receiver without losses shows up to M - 1 slots later."""
@@ -121,8 +124,8 @@ class Worlds:
                                  ("alone", [things(it) for it in with_flag_alone(heard_slots, ["G"] * len(slots))])):
                 shown = call(b, f"((count) => probe.displays(logTab.{which}, count))", len(slots))
                 self.check(f"{name}: {which}", [things(it) for it in values(shown)], plain, text.encode())
-                mixes = [{("tag" if part in TAGS else part, it[part][0]) for part in PARTS if it[part] and it[part][1] == "mix"}
-                         for it in shown]
+                is_mix = lambda it, part: it[part] and it[part][1] == "mix"
+                mixes = [things({part: it[part][0] for part in PARTS if is_mix(it, part)}) for it in shown]
                 wanted = [now - known[slot] for slot, now in enumerate(plain)] if lost else [set() for _ in plain]
                 self.check(f"{name}: red of {which}", mixes, wanted, text.encode())
                 red += sum(map(len, wanted))

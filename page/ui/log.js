@@ -113,6 +113,7 @@ class LogTab extends Tab {
     const source = { file, example, ...settings.source }, isEdited = Boolean(settings.isEdited);
     Object.assign(this, empty(), { log: NO_LOG, source, isEdited, lost: new Set(lost), brush: null });
     $("log").classList.remove("unopened");
+    this.rows.show(0);
     this.undo.begin(links.inLetters(this.lost));
     parts.nameFile("log", file);
     this.setFields({ example, m, k, w });
@@ -147,6 +148,7 @@ class LogTab extends Tab {
   showWait() {
     $("log-progress").removeAttribute("value");
     if (!this.answer) verdict.showNone(`${this.waitsFor} …`, "");
+    if (this.log === NO_LOG) this.timeline.show([], 1);
   }
 
   /* What the form holds. A window makes what it shows later by its length less one. */

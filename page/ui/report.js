@@ -31,8 +31,11 @@ function sentences() {
   return all.map((it) => it.textContent.trim()).filter(Boolean);
 }
 
-function faultOf(tab, { slot, fault }) {
-  const place = [tab.line(slot), tab.clock(slot)].filter(Boolean).join(", ");
+/* The fault that the audit found: it stops at the first one. */
+function faultOf(tab) {
+  const { audit, no } = tab.answer ?? {};
+  if (!no) return audit?.output.startsWith("yes ") ? "none found" : "not judged";
+  const { slot, fault } = no, place = [tab.line(slot), tab.clock(slot)].filter(Boolean).join(", ");
   return `${fault} in slot ${number(slot)} (${place}). The audit stops at the first fault.`;
 }
 
@@ -49,7 +52,7 @@ function rows(tab) {
     ["Receiver", `M = ${m} (${lines.time(Number(m))}), K = ${k}${w ? `, W = ${w}` : ""}`],
     ["Answer", $("verdict").querySelector("h2").textContent],
     ["In words", sentences()],
-    ["Faults", answer?.no ? faultOf(tab, answer.no) : "none found"],
+    ["Faults", faultOf(tab)],
     ["Command", answer ? command(tab) : "none"],
     ["Program", rdsrt.run(["--version"], "").output.trim()],
   ];
