@@ -20,17 +20,6 @@ impl StoredCell {
             is_sent: 0,
         }
     }
-
-    /// Returns the bytes that were sent, if any.
-    fn sent(&self) -> Option<[u8; 4]>
-        ensures { result ≡ cell_stored self.now }
-    {
-        if self.is_sent != 0 {
-            Some(self.bytes)
-        } else {
-            None
-        }
-    }
 }
 
 impl StoredReigns {
@@ -110,7 +99,12 @@ impl StoredReigns {
         requires { address < 16 }
         ensures { result ≡ cell_at address (content_stored self.now) }
     {
-        self.cells[address as usize].sent()
+        let cell = self.cells[address as usize];
+        if cell.is_sent != 0 {
+            Some(cell.bytes)
+        } else {
+            None
+        }
     }
 
     /// Returns the lengths that are left if a segment allows these. Error `NotOneText` if none is left.

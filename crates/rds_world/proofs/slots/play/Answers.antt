@@ -1,10 +1,10 @@
 use Rattle.std.proofs.Common.{ap, [], ◌++◌, ◌≡◌, ◌+◌, ◌<◌, ℕ, List, ◌∷◌, length, reverse, take, Some, sym, ◌∙◌, subst, refl, below_more}
 use Rattle.std.proofs.lemmas.List.{reverse-append, take_more}
 use Rattle.std.proofs.lemmas.Option.{slice_get_read}
-use Rattle.std.specs.Prelude.{IfSome, slice_get, slice_index_or}
+use Rattle.std.specs.Prelude.{◌≤◌, slice_get, slice_index_or}
 use Rattle.rds_world.specs.Event.{Event}
 use Rattle.rds_world.specs.Premise.{Premise}
-use Rattle.rds_world.specs.Replies.{CanBeTaken, IsStepRefused}
+use Rattle.rds_world.specs.Replies.{CanBeTaken, IsFirstRefused, IsStepRefused, IsTaken}
 use Rattle.rds_world.specs.SafeSlots.{OnlyWhatWasOnAirIsShown}
 use Rattle.rds_world.specs.StandsAt.{StandsAt}
 use Rattle.rds_world.specs.declared.reply.StepRefused.{StepRefused}
@@ -15,11 +15,11 @@ one_later xs i x h e =
     let more : take (i + 1) xs ≡ take i xs ++ x ∷ [] = take_more xs i x h ∙ ap (λ (y : Event). take i xs ++ y ∷ []) (sym e) in
     sym (ap (λ (ys : List Event). reverse ys) more ∙ reverse-append (take i xs) (x ∷ []))
 
-refused_here : (p : Premise) (count receivers : ℕ) (events : List Event) (i : ℕ) (e : Event) (why : StepRefused) → count ≡ receivers → i < length events → e ≡ slice_index_or events i e
-    → IsStepRefused p count e (reverse (take i events)) why → IfSome (slice_get events i) (λ e. IsStepRefused p receivers e (reverse (take i events)) why)
-refused_here p count receivers events i e why same there is refused =
+first_refused : (p : Premise) (count receivers : ℕ) (events : List Event) (i : ℕ) (e : Event) (why : StepRefused) → receivers ≤ 8 → count ≡ receivers → i < length events
+    → e ≡ slice_index_or events i e → ((place : ℕ) → place < i → IsTaken p receivers events place) → IsStepRefused p count e (reverse (take i events)) why → IsFirstRefused p receivers events i why
+first_refused p count receivers events i e why few same there is earlier refused =
     let at : slice_get events i ≡ Some e = slice_get_read events (length events) i e refl there is in
-    rw at (subst (λ (n : ℕ). IsStepRefused p n e (reverse (take i events)) why) same refused)
+    record { few = few; refused = rw at (subst (λ (n : ℕ). IsStepRefused p n e (reverse (take i events)) why) same refused); there = there; first = earlier }
 
 pub loop-i-preserved : goal.loop-i-preserved
 loop-i-preserved c =
@@ -43,30 +43,18 @@ loop-i-preserved c =
 
 pub returns-in-Err-Late-clause-refused : goal.returns-in-Err-Late-clause-refused
 returns-in-Err-Late-clause-refused c =
-    let before = reverse (take c.loop-i.i c.args.events.now) in
-    record {
-      few = c.loop-i.invariant.few;
-      refused = rw (c.in-Err-Late.field-0-is, ← c.in-Err-Late.receiver-is) at (refused_here c.args.config.premise _ _ _ _ c.index-events-i.result _ c.loop-i.invariant.count c.loop-i-test.true c.index-events-i.is (c.in-Err-Late.ensures.refused c.args.config before c.loop-i.invariant.stands));
-      there = c.loop-i-test.true;
-      first = c.loop-i.invariant.good;
-    }
+    let at = c.loop-i.invariant in
+    rw (c.in-Err-Late.field-0-is, ← c.in-Err-Late.receiver-is) at (first_refused c.args.config.premise _ _ c.args.events.now c.loop-i.i c.index-events-i.result _ at.few at.count c.loop-i-test.true c.index-events-i.is at.good
+    (c.in-Err-Late.ensures.refused c.args.config (reverse (take c.loop-i.i c.args.events.now)) at.stands))
 
 pub returns-in-Err-Wrong-clause-refused : goal.returns-in-Err-Wrong-clause-refused
 returns-in-Err-Wrong-clause-refused c =
-    let before = reverse (take c.loop-i.i c.args.events.now) in
-    record {
-      few = c.loop-i.invariant.few;
-      refused = rw (c.in-Err-Wrong.field-0-is, ← c.in-Err-Wrong.receiver-is) at (refused_here c.args.config.premise _ _ _ _ c.index-events-i.result _ c.loop-i.invariant.count c.loop-i-test.true c.index-events-i.is (c.in-Err-Wrong.ensures.refused c.args.config before c.loop-i.invariant.stands));
-      there = c.loop-i-test.true;
-      first = c.loop-i.invariant.good;
-    }
+    let at = c.loop-i.invariant in
+    rw (c.in-Err-Wrong.field-0-is, ← c.in-Err-Wrong.receiver-is) at (first_refused c.args.config.premise _ _ c.args.events.now c.loop-i.i c.index-events-i.result _ at.few at.count c.loop-i-test.true c.index-events-i.is at.good
+    (c.in-Err-Wrong.ensures.refused c.args.config (reverse (take c.loop-i.i c.args.events.now)) at.stands))
 
 pub returns-in-Err-WrongConfirmed-clause-refused : goal.returns-in-Err-WrongConfirmed-clause-refused
 returns-in-Err-WrongConfirmed-clause-refused c =
-    let before = reverse (take c.loop-i.i c.args.events.now) in
-    record {
-      few = c.loop-i.invariant.few;
-      refused = rw (c.in-Err-WrongConfirmed.field-0-is, ← c.in-Err-WrongConfirmed.receiver-is) at (refused_here c.args.config.premise _ _ _ _ c.index-events-i.result _ c.loop-i.invariant.count c.loop-i-test.true c.index-events-i.is (c.in-Err-WrongConfirmed.ensures.refused c.args.config before c.loop-i.invariant.stands));
-      there = c.loop-i-test.true;
-      first = c.loop-i.invariant.good;
-    }
+    let at = c.loop-i.invariant in
+    rw (c.in-Err-WrongConfirmed.field-0-is, ← c.in-Err-WrongConfirmed.receiver-is) at (first_refused c.args.config.premise _ _ c.args.events.now c.loop-i.i c.index-events-i.result _ at.few at.count c.loop-i-test.true c.index-events-i.is at.good
+    (c.in-Err-WrongConfirmed.ensures.refused c.args.config (reverse (take c.loop-i.i c.args.events.now)) at.stands))
