@@ -60,13 +60,13 @@
  * come from the machine code of the library (tools/stack). The stack of memcpy and memset comes on top.
  *
  *     rdsrt_version                      8    0    rdsrt_encoder_on_air             104  112
- *     rdsrt_receiver_init                8    0    rdsrt_encoder_wait                 8    0
+ *     rdsrt_receiver_init               24    0    rdsrt_encoder_wait                 8    0
  *     rdsrt_receiver_init_confirming     8    0    rdsrt_audit_init                   8    0
- *     rdsrt_receiver_slot              264  208    rdsrt_audit_init_running           8    0
+ *     rdsrt_receiver_slot              216  160    rdsrt_audit_init_running           8    0
  *     rdsrt_receiver_view              232  208    rdsrt_audit_slot                  28   48
  *     rdsrt_receiver_held                8    0    rdsrt_audit_passed                 8    0
  *     rdsrt_slot_time                    8    0    rdsrt_audit_texts_turn_the_flag    8    0
- *     rdsrt_time_in                     88   80    rdsrt_audit_names_turn_the_flag    8    0
+ *     rdsrt_time_in                    120  144    rdsrt_audit_names_turn_the_flag    8    0
  *     rdsrt_lost_slots                   8    0    rdsrt_text_to_display            296  304
  *     rdsrt_encoder_init                16    0    rdsrt_text_to_utf8               360  368
  *     rdsrt_encoder_set_text           248  256    rdsrt_text_from_utf8             128  128
