@@ -5,8 +5,11 @@ RDSRT_CASE=12 makes the tests with cases by chance try case 12 alone.
 """
 import atexit
 import difflib
+import glob
+import hashlib
 import importlib.machinery
 import importlib.util
+import json
 import os
 import pprint
 import shutil
@@ -136,6 +139,32 @@ def temporary_folder(test):
     return folder.name
 
 
+# ---- inputs by chance that failed once
+
+INPUTS = path("tests/kept")
+
+
+def keep(words, given, wanted):
+    """Writes a run into a file of tests/kept, named by its content. Returns the name."""
+    status, output = wanted
+    run = {"words": list(words), "given": given.decode("latin-1"), "status": status, "output": output.decode("latin-1")}
+    text = json.dumps(run, indent=1) + "\n"
+    at = os.path.join(INPUTS, f"{words[0]}-{hashlib.sha256(text.encode()).hexdigest()[:12]}.json")
+    os.makedirs(INPUTS, exist_ok=True)
+    with open(at, "w", encoding="ascii") as file:
+        file.write(text)
+    return os.path.relpath(at, ROOT)
+
+
+def kept_runs():
+    """Gives of each kept run its file, the arguments, the input, and the status and the output that are wanted."""
+    for at in sorted(glob.glob(os.path.join(INPUTS, "*.json"))):
+        with open(at, encoding="ascii") as file:
+            run = json.load(file)
+        given, output = (run[it].encode("latin-1") for it in ("given", "output"))
+        yield os.path.basename(at), run["words"], given, (run["status"], output)
+
+
 # ---- what a failed check shows
 
 # a longer input is kept in a file
@@ -233,3 +262,9 @@ class Case(unittest.TestCase):
 
 class ProgramCase(Case):
     """A test of the program alone. `python3 -m tests --target aarch64` runs these tests."""
+
+    def check_run(self, name, words, given, wanted):
+        """Compares the status and the output of the program with these. If they differ, the arguments, the input and
+        what was wanted become a file of tests/kept, which test_kept plays from then on."""
+        got = ran(words, given)
+        self.check(f"{name} ({keep(words, given, wanted)})" if got != wanted else name, got, wanted, given)

@@ -138,6 +138,6 @@ class BesidePlainPlans(ProgramCase):
             name, given = f"seed {SEED_OF_PLANS}, short log {number}, dwell {dwell}", plain_plans.lines_of(log)
             self.check(f"{name}: plans and rules", plain_plans.first_of_a_log(log, dwell), ruled, given)
             words, status = ["audit", "--pi", "C201", "--m", str(dwell)], 0 if answer.startswith("yes") else 1
-            self.check(f"{name}: the audit", ran(words, given), (status, answer.encode()), given)
+            self.check_run(f"{name}: the audit", words, given, (status, answer.encode()))
             answers[answer.split()[-1]] += 1
         self.check_all("answers to short logs", (len(answers), min(answers.values(), default=0) > 9), (6, True))

@@ -78,8 +78,7 @@ class Scripts(ProgramCase):
             check(f"{name}: decode as the first receiver", shown.decode().splitlines(), views[0])
         blocks = [groups[slot].split() if slot in groups else None for slot in range(len(rows))]
         answer = plain_audit.audit(blocks, asked.dwell + asked.late)
-        self.check(f"{name}: audit", ran(words["audit"], log), (0 if answer.startswith("yes") else 1, answer.encode()),
-                   log)
+        self.check_run(f"{name}: audit", words["audit"], log, (0 if answer.startswith("yes") else 1, answer.encode()))
         self.seen.update(rest.split(" ")[0] or what for _, what, rest in replies)
         self.seen.update(f"view of {number}" for number in views)
         return words, log
@@ -92,8 +91,8 @@ class Scripts(ProgramCase):
             bad = random_scripts.bad_line(self.rng, depth, asked.late, lasts, command == "encode")
             _, wanted = ran(words[command], before)
             given = before + bad + after
-            self.check(f"{name} of {command}, {bad!r}", ran(words[command], given),
-                       (1, wanted + mark + b"fault row %d\n" % (depth + 1)), given)
+            self.check_run(f"{name} of {command}, {bad!r}", words[command], given,
+                           (1, wanted + mark + b"fault row %d\n" % (depth + 1)))
             self.seen["bad row"] += 1
 
     def bad_line_at(self, name, words, log, depth):
@@ -104,9 +103,9 @@ class Scripts(ProgramCase):
         given = b"".join((*lines[:place], self.rng.choice(BAD_LINES), *lines[place:]))
         fault = b"fault line %d\n" % (place + 1)
         _, wanted = ran(words["decode"], b"".join(lines[:place]))
-        self.check(f"{name} of decode", ran(words["decode"], given), (1, wanted + fault), given)
+        self.check_run(f"{name} of decode", words["decode"], given, (1, wanted + fault))
         status, wanted = ran(words["audit"], b"".join(lines[:place]))
-        self.check(f"{name} of audit", ran(words["audit"], given), (1, wanted if status else fault), given)
+        self.check_run(f"{name} of audit", words["audit"], given, (1, wanted if status else fault))
 
 
 class Arguments(ProgramCase):
