@@ -5,27 +5,29 @@ use Rattle.std.proofs.lemmas.Bool.{cases_lt, cond_both}
 use Rattle.rds_fields.specs.Tag.{PairFields}
 use Rattle.rds_receiver.specs.Receipts.{Fragment}
 use Rattle.rds_receiver.specs.Run.{is_same}
-use Rattle.rds_audit.specs.Ages.{Ages, HasLasted, HoldsAges, IsEarly, Joins, age_of_newest, aged, opened_ages}
-use Rattle.rds_audit.specs.Reigns.{AlternateFlags, Reign, opened_by, past_newest, start_after, with_fragment, with_tags}
+use Rattle.rds_audit.specs.Ages.{Ages, HasLasted, HoldsAges, IsEarly, Joins, age_of_newest, aged, opened_ages, restarted}
+use Rattle.rds_audit.specs.Reigns.{AlternateFlags, Reign, SentTags, opened_by, past_newest, start_after, with_fragment, with_tags}
 use Rattle.rds_safety.specs.Flags.{is_other_flag, is_same_flag, same_or_other}
 
 -- each reign ended before this slot
 abbrev pub AreOver : ℕ → List Reign → Type 0
 AreOver now rs = AllByRecursion (λ (r : Reign). (r.start ≤ r.last) × (r.last < now)) rs
 
-pub ages_once_joined : (d now : ℕ) (p : Fragment) (r : Reign) (older : List Reign) (a : Ages) → HoldsAges d now (r ∷ older) a → HoldsAges d now (with_fragment now p r ∷ older) record a { since_last = 0 }
-ages_once_joined d now p r older a h = record { newest = omega arith; second = h.second; current = h.current; turns = joined older h.turns }
+-- more of the newest reign was sent now
+pub ages_renewed : (d now opened : ℕ) (fragments : List Fragment) (tags : List SentTags) (r : Reign) (older : List Reign) (a : Ages) → HoldsAges d now (r ∷ older) a
+    → HoldsAges d now (record { start = r.start; opened = opened; last = now; flag = r.flag; fragments = fragments; tags = tags } ∷ older) record a { since_last = 0 }
+ages_renewed d now opened fragments tags r older a h = record { newest = omega arith; second = h.second; current = h.current; turns = renewed older h.turns }
   where
-    joined : (rs : List Reign) → IsTrue a.turns ↔ AlternateFlags (r ∷ rs) → IsTrue a.turns ↔ AlternateFlags (with_fragment now p r ∷ rs)
-    joined [] h = h
-    joined (q ∷ rs) h = h
+    renewed : (rs : List Reign) → IsTrue a.turns ↔ AlternateFlags (r ∷ rs)
+        → IsTrue a.turns ↔ AlternateFlags (record { start = r.start; opened = opened; last = now; flag = r.flag; fragments = fragments; tags = tags } ∷ rs)
+    renewed [] h = h
+    renewed (q ∷ rs) h = h
+
+pub ages_once_joined : (d now : ℕ) (p : Fragment) (r : Reign) (older : List Reign) (a : Ages) → HoldsAges d now (r ∷ older) a → HoldsAges d now (with_fragment now p r ∷ older) record a { since_last = 0 }
+ages_once_joined d now p r older a h = ages_renewed d now r.opened (p ∷ r.fragments) r.tags r older a h
 
 pub ages_once_tagged : (d now : ℕ) (pair : PairFields) (r : Reign) (older : List Reign) (a : Ages) → HoldsAges d now (r ∷ older) a → HoldsAges d now (with_tags now pair r ∷ older) record a { since_last = 0 }
-ages_once_tagged d now pair r older a h = record { newest = omega arith; second = h.second; current = h.current; turns = tagged older h.turns }
-  where
-    tagged : (rs : List Reign) → IsTrue a.turns ↔ AlternateFlags (r ∷ rs) → IsTrue a.turns ↔ AlternateFlags (with_tags now pair r ∷ rs)
-    tagged [] h = h
-    tagged (q ∷ rs) h = h
+ages_once_tagged d now pair r older a h = ages_renewed d now r.opened r.fragments (record { slot = now; pair = pair } ∷ r.tags) r older a h
 
 -- a fragment of this flag joins the newest reign
 pub joins_near : (d now : ℕ) (flag : Bool) (r : Reign) (older : List Reign) (a : Ages) → HoldsAges d now (r ∷ older) a → Joins d flag a → (r.flag ≡ flag) × (now < r.last + d)
@@ -98,31 +100,30 @@ and_not true true = ((λ e. absurd (let bad : false ≡ true = e in cc)), (λ p.
 and_not true false = ((λ e. (refl, refl)), (λ p. refl))
 and_not false y = ((λ e. absurd (let bad : false ≡ true = e in cc)), (λ p. absurd (let bad : false ≡ true = p.0 in cc)))
 
-opened_turns : (d now : ℕ) (p : Fragment) (rs : List Reign) (a : Ages) → HoldsAges d now rs a → IsTrue (opened_ages d p.flag a).turns ↔ AlternateFlags (opened_by d now p rs ∷ rs)
-opened_turns d now p [] a h =
+opened_turns : (d now : ℕ) (q : Reign) (rs : List Reign) (a : Ages) → HoldsAges d now rs a → IsTrue (a.turns && not (a.is_open && is_same q.flag a.flag)) ↔ AlternateFlags (q ∷ rs)
+opened_turns d now q [] a h =
     let had : a.turns ≡ true = h.turns.1 tt in
-    ((λ _. tt), (λ _. (and_not a.turns (a.is_open && is_same p.flag a.flag)).1 (had, rw h.current refl)))
-opened_turns d now p (r ∷ older) a h =
-    let test : ((a.turns && not (a.is_open && is_same p.flag a.flag)) ≡ true) ↔ ((a.turns ≡ true) × ((a.is_open && is_same p.flag a.flag) ≡ false)) =
-    and_not a.turns (a.is_open && is_same p.flag a.flag) in
+    ((λ _. tt), (λ _. (and_not a.turns (a.is_open && is_same q.flag a.flag)).1 (had, rw h.current refl)))
+opened_turns d now q (r ∷ older) a h =
+    let test : ((a.turns && not (a.is_open && is_same q.flag a.flag)) ≡ true) ↔ ((a.turns ≡ true) × ((a.is_open && is_same q.flag a.flag) ≡ false)) =
+    and_not a.turns (a.is_open && is_same q.flag a.flag) in
     ((λ e. (other (test.0 e).1, h.turns.0 (test.0 e).0)), (λ g. test.1 (h.turns.1 g.1, differs g.0)))
   where
-    other : (a.is_open && is_same p.flag a.flag) ≡ false → r.flag ≢ p.flag
+    other : (a.is_open && is_same q.flag a.flag) ≡ false → r.flag ≢ q.flag
     other none same =
-        let yes : is_same p.flag a.flag ≡ true = is_same_flag p.flag a.flag (sym (h.current.1 ∙ same)) in
+        let yes : is_same q.flag a.flag ≡ true = is_same_flag q.flag a.flag (sym (h.current.1 ∙ same)) in
         let bad : true ≡ false = rw (h.current.0, yes) at none in
         cc
 
-    differs : r.flag ≢ p.flag → (a.is_open && is_same p.flag a.flag) ≡ false
-    differs ne = rw (h.current.0, is_other_flag p.flag a.flag (λ e. ne (sym h.current.1 ∙ sym e))) refl
+    differs : r.flag ≢ q.flag → (a.is_open && is_same q.flag a.flag) ≡ false
+    differs ne = rw (h.current.0, is_other_flag q.flag a.flag (λ e. ne (sym h.current.1 ∙ sym e))) refl
+
+-- the ages once a reign was opened that started n slots ago
+pub ages_begun : (d now n : ℕ) (q : Reign) (rs : List Reign) (a : Ages) → q.last ≡ now → n ≡ min (now - q.start) d → HoldsAges d now rs a → HoldsAges d now (q ∷ rs) record (restarted n q.flag a) { since_last = 0 }
+ages_begun d now n q rs a last start h = record { newest = omega (arith, last); second = h.newest; current = (refl, refl, start); turns = opened_turns d now q rs a h }
 
 pub ages_once_opened : (d now : ℕ) (p : Fragment) (rs : List Reign) (a : Ages) → 0 < d → AreOver now rs → HoldsAges d now rs a → HoldsAges d now (opened_by d now p rs ∷ rs) record (opened_ages d p.flag a) { since_last = 0 }
-ages_once_opened d now p rs a pos over h = record {
-  newest = omega arith;
-  second = h.newest;
-  current = (refl, refl, opened_start d now p.flag rs a pos over h);
-  turns = opened_turns d now p rs a h;
-}
+ages_once_opened d now p rs a pos over h = ages_begun d now (opened_ages d p.flag a).since_start (opened_by d now p rs) rs a refl (opened_start d now p.flag rs a pos over h) h
 
 -- one slot older
 pub ages_later : (d now : ℕ) (rs : List Reign) (a : Ages) → AreOver (now + 1) rs → HoldsAges d now rs a → HoldsAges d (now + 1) rs (aged d a)

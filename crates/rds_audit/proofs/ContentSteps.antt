@@ -22,18 +22,12 @@ empty_content g = record { long = refl; cells = λ a h. get_or-replicate {A = Op
 pub empty_one : (g : Gauge) → IsExact g → HaveOneValue g.kind [] []
 empty_one g exact = exact.one [] [] tt record { unchanged = tt; each = tt; room = omega arith; ends = omega arith }
 
-module _ (g : Gauge) (exact : IsExact g) (few : g.segments ≤ 16) (p : Fragment) (fragments : List Fragment) (tags : List SentTags) (c : ContentState) (h : HoldsContent g fragments tags c) (formed : IsFormed g.segments p) where
-  abbrev pub allowed : Option Lengths
-  allowed = g.allowed p.address p.bytes
-
-  here : cell_at p.address c ≡ sent_last p.address fragments
-  here = (let address = formed.address in h.cells p.address (omega arith))
-
-  pub taken_content : HoldsContent g (p ∷ fragments) tags (taken allowed p.address p.bytes c)
+module _ (g : Gauge) (few : g.segments ≤ 16) (p : Fragment) (fragments : List Fragment) (tags : List SentTags) (c : ContentState) (h : HoldsContent g fragments tags c) (formed : IsFormed g.segments p) where
+  pub taken_content : HoldsContent g (p ∷ fragments) tags (taken (g.allowed p.address p.bytes) p.address p.bytes c)
   taken_content = record {
     long = length-set c.cells p.address (Some p.bytes) ∙ h.long;
     cells = λ a less. at a less (nat_eq a p.address) refl;
-    lengths = ap (λ (l : Lengths). narrowed allowed l) h.lengths;
+    lengths = ap (λ (l : Lengths). narrowed (g.allowed p.address p.bytes) l) h.lengths;
     ends = h.ends;
   }
     where
@@ -45,6 +39,13 @@ module _ (g : Gauge) (exact : IsExact g) (few : g.segments ≤ 16) (p : Fragment
       at a less false e =
           let other : a ≢ p.address = grind (arith, nat_tests) in
           rw e (get_or-set_other c.cells p.address a (Some p.bytes) None other ∙ h.cells a less)
+
+module _ (g : Gauge) (exact : IsExact g) (few : g.segments ≤ 16) (p : Fragment) (fragments : List Fragment) (tags : List SentTags) (c : ContentState) (h : HoldsContent g fragments tags c) (formed : IsFormed g.segments p) where
+  abbrev pub allowed : Option Lengths
+  allowed = g.allowed p.address p.bytes
+
+  here : cell_at p.address c ≡ sent_last p.address fragments
+  here = (let address = formed.address in h.cells p.address (omega arith))
 
   holds_no_other : AreUnchanged (p ∷ fragments) → HoldsNoOther p.address p.bytes c
   holds_no_other u = subst (λ (o : Option (List ℕ)). (o ≡ None) ⊎ (o ≡ Some p.bytes)) (sym here) (holds_unchanged p fragments u)
@@ -88,12 +89,12 @@ module _ (g : Gauge) (exact : IsExact g) (few : g.segments ≤ 16) (p : Fragment
   broken one start opened last flag older begun EarlyFlag cannot = absurd cannot
   broken one start opened last flag older begun EarlyTag cannot = absurd cannot
 
+pub tagged_content : (g : Gauge) (now : ℕ) (pair : PairFields) (fragments : List Fragment) (tags : List SentTags) (c : ContentState) → HoldsContent g fragments tags c → HoldsContent g fragments (record { slot = now; pair = pair } ∷ tags) (tagged pair c)
+tagged_content g now pair fragments tags c h = record { long = h.long; cells = h.cells; lengths = h.lengths; ends = ap (λ n. max n (pair_end pair)) h.ends }
+
 module _ (g : Gauge) (exact : IsExact g) (now : ℕ) (pair : PairFields) (fragments : List Fragment) (tags : List SentTags) (c : ContentState) (h : HoldsContent g fragments tags c) where
   abbrev pub newest : SentTags
   newest = record { slot = now; pair = pair }
-
-  pub tagged_content : HoldsContent g fragments (newest ∷ tags) (tagged pair c)
-  tagged_content = record { long = h.long; cells = h.cells; lengths = h.lengths; ends = ap (λ n. max n (pair_end pair)) h.ends }
 
   most : c.lengths.most ≡ (lengths_of g.allowed g.longest fragments).most
   most = ap (λ (l : Lengths). l.most) h.lengths

@@ -37,12 +37,12 @@ tags_fail d kind sent pair rs Changed k passes all b = b
 tags_fail d kind sent pair rs NotOneText k passes all b = b
 tags_fail d kind sent pair rs EarlyFlag k passes all b = b
 
-mark_fails : (d : ℕ) (kind : Kind) (mark : Mark) (before : List Mark) (fault : AuditFault) → Passes d kind (mark ∷ before) → IsBrokenBy d kind mark before fault → ⊥
+pub mark_fails : (d : ℕ) (kind : Kind) (mark : Mark) (before : List Mark) (fault : AuditFault) → Passes d kind (mark ∷ before) → IsBrokenBy d kind mark before fault → ⊥
 mark_fails d kind Nothing before fault passes b = b
 mark_fails d kind (Sends p) before fault passes b = fragment_fails d kind (reigns d (Sends p ∷ before)) fault passes.reigns b
 mark_fails d kind (Tagged pair) before fault passes b = tags_fail d kind before pair (reigns d before) fault (keeps d before) passes passes.reigns b
 
-slot_fails : (d : ℕ) (newest : Option Message) (before : List (Option Message)) (fault : AuditFault) → LogPasses d (newest ∷ before) → BreaksFirst d newest before fault → ⊥
+pub slot_fails : (d : ℕ) (newest : Option Message) (before : List (Option Message)) (fault : AuditFault) → LogPasses d (newest ∷ before) → BreaksFirst d newest before fault → ⊥
 slot_fails d newest before fault passes (inl b) = mark_fails d texts (text_mark newest) (marks text_mark before) fault passes.text b
 slot_fails d newest before fault passes (inr b) = mark_fails d names (name_mark newest) (marks name_mark before) fault passes.name b
 
@@ -91,7 +91,7 @@ one_by_mark d kind (Sends p) before f g a b = one_by_fragment kind (reigns d (Se
 one_by_mark d kind (Tagged pair) before f g a b = one_by_tags d (length before) kind (reigns d (Tagged pair ∷ before)) f g a b
 
 -- a slot breaks a rule of texts or one of names, and not both
-not_both : (d : ℕ) (newest : Option Message) (before : List (Option Message)) (f g : AuditFault)
+pub not_both : (d : ℕ) (newest : Option Message) (before : List (Option Message)) (f g : AuditFault)
     → IsBrokenBy d texts (text_mark newest) (marks text_mark before) f → IsBrokenBy d names (name_mark newest) (marks name_mark before) g → ⊥
 not_both d None before f g a b = a
 not_both d (Some (Text flag address bytes)) before f g a b = b

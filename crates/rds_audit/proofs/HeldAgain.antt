@@ -16,7 +16,7 @@ use Rattle.rds_audit.proofs.ReignSteps.{Holds, held, sent_joining}
 use Rattle.rds_audit.proofs.SentCells.{EachAllows, cell_from}
 
 -- an element replaced by itself
-set_held : {A : Type 0} (l : List A) (i : ℕ) (x d : A) → i < length l → get_or l i d ≡ x → set l i x ≡ l
+pub set_held : {A : Type 0} (l : List A) (i : ℕ) (x d : A) → i < length l → get_or l i d ≡ x → set l i x ≡ l
 set_held [] i x d h e = absurd (omega (arith, h))
 set_held (y ∷ l) zero x d h e = ap (λ z. z ∷ l) (sym e)
 set_held (y ∷ l) (suc i) x d h e = ap (λ r. y ∷ r) (set_held l i x d (omega (arith, h)) e)

@@ -22,4 +22,9 @@ pub mod FirstTexts
 pub mod Settled
 pub mod SafeRecordings
 pub mod AuditSteps
+pub mod SpanOrder
+pub mod SpanSteps
+pub mod SpanReigns
+pub mod ListingSteps
 pub mod AuditRows
+pub mod ListingRows

@@ -28,11 +28,11 @@ silent_names zero = refl
 silent_names (suc n) = ap (λ (sent : List Mark). Nothing ∷ sent) (silent_names n)
 
 -- what is judged before the first slot is silent
-texts_begin : (start : LogStart) (d : ℕ) (judged : List (Option Message)) → IsJudgedAs start d [] judged → IsSilentAs start d (marks text_mark judged)
+pub texts_begin : (start : LogStart) (d : ℕ) (judged : List (Option Message)) → IsJudgedAs start d [] judged → IsSilentAs start d (marks text_mark judged)
 texts_begin Complete d judged e = ap (marks text_mark) e
 texts_begin Running d judged (lost, far, e) = (lost, far, ap (marks text_mark) e ∙ silent_texts lost)
 
-names_begin : (start : LogStart) (d : ℕ) (judged : List (Option Message)) → IsJudgedAs start d [] judged → IsSilentAs start d (marks name_mark judged)
+pub names_begin : (start : LogStart) (d : ℕ) (judged : List (Option Message)) → IsJudgedAs start d [] judged → IsSilentAs start d (marks name_mark judged)
 names_begin Complete d judged e = ap (marks name_mark) e
 names_begin Running d judged (lost, far, e) = (lost, far, ap (marks name_mark) e ∙ silent_names lost)
 
@@ -43,7 +43,7 @@ log_begins start d a texts names judged is = record {
   name = names (marks name_mark judged) (names_begin start d judged is);
 }
 
-silent_reigns : (d lost : ℕ) → reigns d (replicate lost Nothing) ≡ []
+pub silent_reigns : (d lost : ℕ) → reigns d (replicate lost Nothing) ≡ []
 silent_reigns d zero = refl
 silent_reigns d (suc n) = silent_reigns d n
 

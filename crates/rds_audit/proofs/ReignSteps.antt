@@ -59,7 +59,7 @@ module _ (g : Gauge) (exact : IsExact g) (few : g.segments ≤ 16) (d : ℕ) (po
       joined (λ (rs : List Reign). Holds g d now rs (joined_state (g.allowed p.address p.bytes) p.address p.bytes st)) d now p r older st.ages h.ages on
       record {
         ages = ages_once_joined d now p r older st.ages h.ages;
-        content = taken_content g exact few p r.fragments r.tags st.content h.content formed;
+        content = taken_content g few p r.fragments r.tags st.content h.content formed;
         all = (record { begun = h.all.0.begun; lasted = h.all.0.lasted; one = taken_one g exact few p r.fragments r.tags st.content h.content formed h.all.0.one can }, h.all.1);
       }
 
@@ -80,7 +80,7 @@ module _ (g : Gauge) (exact : IsExact g) (few : g.segments ≤ 16) (d : ℕ) (po
       opens (λ (x : List Reign). Holds g d now x (joined_state (g.allowed p.address p.bytes) p.address p.bytes (opened_state d g.longest p.flag st))) d now p rs st.ages pos h.ages apart
       record {
         ages = ages_once_opened d now p rs st.ages pos (are_over d g.kind sent rs k.0 h.all) h.ages;
-        content = taken_content g exact few p [] [] (no_content g.longest) (empty_content g) formed;
+        content = taken_content g few p [] [] (no_content g.longest) (empty_content g) formed;
         all = (record { begun = begun p rs st k h apart late; lasted = tt; one = taken_one g exact few p [] [] (no_content g.longest) (empty_content g) formed (empty_one g exact) can }, h.all);
       }
 
@@ -99,7 +99,7 @@ module _ (g : Gauge) (exact : IsExact g) (few : g.segments ≤ 16) (d : ℕ) (po
   tags_join pair [] st h lasted ends = (let shut : st.ages.is_open ≡ false = h.ages.current in let is_open = lasted.0 in absurd (cc))
   tags_join pair (r ∷ older) st h lasted ends = record {
     ages = ages_once_tagged d now pair r older st.ages h.ages;
-    content = tagged_content g exact now pair r.fragments r.tags st.content h.content;
+    content = tagged_content g now pair r.fragments r.tags st.content h.content;
     all = (
       record {
         begun = h.all.0.begun;

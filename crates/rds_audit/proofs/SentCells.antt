@@ -12,7 +12,7 @@ use Rattle.rds_audit.specs.Rules.{AreUnchanged}
 use Rattle.rds_audit.proofs.Allowed.{Allows}
 use Rattle.rds_audit.proofs.Members.{IsIn, all_in}
 
-same_number : (n : ℕ) → nat_eq n n ≡ true
+pub same_number : (n : ℕ) → nat_eq n n ≡ true
 same_number n = grind arith
 
 -- the bytes at an address are those of one of the fragments

@@ -46,16 +46,21 @@ IsEarly d flag a = (flag ≢ a.flag) × (a.since_before < d)
 abbrev pub HasLasted : ℕ → Ages → Type 0
 HasLasted d a = (a.is_open ≡ true) × (d ≤ a.since_start)
 
--- the ages after a reign with this flag was opened
-abbrev pub opened_ages : ℕ → Bool → Ages → Ages
-opened_ages d flag a = record {
+-- the ages after a reign with this flag was opened that started so many slots ago
+abbrev pub restarted : ℕ → Bool → Ages → Ages
+restarted since_start flag a = record {
   is_open = true;
   flag = flag;
   since_last = a.since_last;
   since_before = a.since_last;
-  since_start = if is_same flag a.flag then a.since_last - d else min (a.since_before - d) (a.since_last - 1);
+  since_start = since_start;
   turns = a.turns && not (a.is_open && is_same flag a.flag);
 }
+
+-- the ages after a reign with this flag was opened
+abbrev pub opened_ages : ℕ → Bool → Ages → Ages
+opened_ages d flag a =
+    restarted (if is_same flag a.flag then a.since_last - d else min (a.since_before - d) (a.since_last - 1)) flag a
 
 -- the ages one slot later
 abbrev pub aged : ℕ → Ages → Ages

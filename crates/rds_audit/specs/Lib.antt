@@ -12,3 +12,7 @@ pub mod Stored
 pub mod AuditStandsAt
 pub mod AuditLaws
 pub mod FlagLaws
+pub mod Listing
+pub mod ListingState
+pub mod ListingStandsAt
+pub mod ListingLaws

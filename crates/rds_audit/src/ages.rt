@@ -1,7 +1,7 @@
 //! The ages of a service's reigns: how many slots ago they started and ended. Each age stops at a limit.
 ghost use Rattle.std.specs.Prelude.{◌≡◌, ◌+◌, ◌≤◌, ◌↔◌, IsTrue, IsErr, IfErr, IfOk, min};
-ghost use Rattle.rds_audit.specs.Ages.{HasLasted, IsEarly, Joins, aged, opened_ages};
-ghost use Rattle.rds_audit.specs.Stored.{ages_stored, reigns_stored};
+ghost use Rattle.rds_audit.specs.Ages.{HasLasted, IsEarly, Joins, aged, opened_ages, restarted};
+ghost use Rattle.rds_audit.specs.Stored.{ages_stored, content_stored, reigns_stored};
 
 use crate::AuditFault;
 use crate::stored::StoredReigns;
@@ -14,8 +14,8 @@ impl StoredReigns {
         self.has_flag(flag) && self.since_last < distance
     }
 
-    /// Begins a reign in this slot. Its start is the first slot in which its text can have started. Error `EarlyFlag` if
-    /// that slot is still to come.
+    /// Begins a reign in this slot. Its start is the first slot in which its text can have started. Error `EarlyFlag`
+    /// if that slot is still to come.
     pub(crate) fn begin(&mut self, distance: u32, flag: bool) -> Result<(), AuditFault>
         ensures early { IsErr result ↔ IsEarly distance flag (ages_stored self.old) }
         ensures fault { IfErr result (λ fault. fault ≡ AuditFault.EarlyFlag) }
@@ -28,18 +28,27 @@ impl StoredReigns {
         }
         let past_last = self.since_last.saturating_sub(distance);
         let past_before = self.since_before.saturating_sub(distance);
-        self.since_start = if is_same {
+        let since_start = if is_same {
             past_last
         } else {
             past_before.min(self.since_last.saturating_sub(1))
         };
+        self.restart(since_start, flag);
+        Ok(())
+    }
+
+    /// Begins a reign that started so many slots ago.
+    pub(crate) fn restart(&mut self, since_start: u32, flag: bool)
+        ensures ages { ages_stored self.new ≡ restarted since_start flag (ages_stored self.old) }
+        ensures content { content_stored self.new ≡ content_stored self.old }
+    {
+        self.since_start = since_start;
         self.since_before = self.since_last;
-        if self.is_open != 0 && is_same {
+        if self.is_open != 0 && self.has_flag(flag) {
             self.turns = 0;
         }
         self.is_open = 1;
         self.flag = u8::from(flag);
-        Ok(())
     }
 
     /// Makes this slot the last one of the current reign so far.

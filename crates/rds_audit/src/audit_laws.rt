@@ -1,9 +1,10 @@
-//! Laws about all logs that are audited: when a log passes, that it has one fault at most, and what is safe if it
-//! passes.
+//! Laws about all logs that are audited: when a log passes, that it has one fault at most, what is safe if it passes,
+//! and how the list of all its faults begins.
 ghost use Rattle.rds_audit.specs.AuditLaws.{ALogHasOneFault, BroadcastsAreTheReigns, PassesExactlyByPlans};
 ghost use Rattle.rds_audit.specs.AuditLaws.{WhatHasAFaultDoesNotPass, WhatPassesAsARecordingIsSafe};
 ghost use Rattle.rds_audit.specs.AuditLaws.{WhatPassesIsSafe, WhatPassesIsSafeOnTime};
 ghost use Rattle.rds_audit.specs.FlagLaws.{WhatPassesIsSafeByTheFlag, WithoutPauseFlagsAlternate};
+ghost use Rattle.rds_audit.specs.ListingLaws.{SpansAreReigns, TheListBeginsWithTheFault, WhatPassesAddsNothing};
 ghost use Rattle.rds_safety.specs.Lawful.{names, texts};
 
 use rds_safety::{own_clocks, plan_laws, safe_by_plans, safe_by_the_flag};
@@ -60,3 +61,12 @@ pub fn what_passes_is_safe_by_the_flag()
     plan_laws();
     safe_by_the_flag();
 }
+
+/// States that up to the first fault the list of a log judges the reigns of the audit and is empty, and that it begins
+/// with the fault of the log.
+pub fn the_list_begins_with_the_fault()
+    ensures texts { SpansAreReigns texts }
+    ensures names { SpansAreReigns names }
+    ensures empty { WhatPassesAddsNothing }
+    ensures first { TheListBeginsWithTheFault }
+{}

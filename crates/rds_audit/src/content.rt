@@ -72,7 +72,7 @@ impl StoredReigns {
         ensures tagged { IfOk result (λ _. content_stored self.new ≡ tagged pair (content_stored self.old)) }
         ensures ages { ages_stored self.new ≡ ages_stored self.old }
     {
-        let end = end_of_tag(pair.one()).max(end_of_tag(pair.two()));
+        let end = end_of_pair(pair);
         if end > self.most {
             return Err(AuditFault::TagOutside);
         }
@@ -80,8 +80,34 @@ impl StoredReigns {
         Ok(())
     }
 
+    /// Takes a segment, whatever the segments and tags before. One that fits no value leaves the lengths as they are.
+    /// Returns whether some value has the segments.
+    pub(crate) fn put<S: Audited>(&mut self, address: u8, bytes: [u8; 4]) -> bool
+        requires { address < S.gauge.segments }
+        ensures fits { IsTrue result ↔ HasRoom (S.gauge.allowed address bytes) (content_stored self.old).lengths }
+        ensures taken { content_stored self.new
+            ≡ taken (S.gauge.allowed address bytes) address bytes (content_stored self.old) }
+        ensures ages { ages_stored self.new ≡ ages_stored self.old }
+    {
+        self.cells[address as usize] = StoredCell { bytes, is_sent: 1 };
+        let Some(allowed) = S::lengths(address, bytes) else {
+            return false;
+        };
+        self.least = self.least.max(allowed.least);
+        self.most = self.most.min(allowed.most);
+        self.least <= self.most
+    }
+
+    /// Takes the ends of a pair of tags, wherever they are.
+    pub(crate) fn reach(&mut self, pair: TagPair)
+        ensures tagged { content_stored self.new ≡ tagged pair (content_stored self.old) }
+        ensures ages { ages_stored self.new ≡ ages_stored self.old }
+    {
+        self.tags_end = self.tags_end.max(end_of_pair(pair));
+    }
+
     /// Refuses a segment whose address was sent with other bytes. Error `Changed`.
-    fn check_unchanged(&self, address: u8, bytes: [u8; 4]) -> Result<(), AuditFault>
+    pub(crate) fn check_unchanged(&self, address: u8, bytes: [u8; 4]) -> Result<(), AuditFault>
         requires { address < 16 }
         ensures same { IsOk result ↔ HoldsNoOther address bytes (content_stored self.now) }
         ensures fault { IfErr result (λ fault. fault ≡ AuditFault.Changed) }
@@ -123,6 +149,13 @@ impl StoredReigns {
         }
         Ok(Lengths { least, most })
     }
+}
+
+/// Returns the greater place after the piece of a tag of the pair.
+fn end_of_pair(pair: TagPair) -> u8
+    ensures { result ≡ pair_end pair }
+{
+    end_of_tag(pair.one()).max(end_of_tag(pair.two()))
 }
 
 /// Returns the place after the piece of a tag; 0 for the dummy.

@@ -7,17 +7,22 @@ mod audit;
 mod audit_laws;
 mod audited;
 mod content;
+mod fault_set;
 mod judge;
+mod listing;
 mod log_start;
 mod reigns;
+mod spans;
 mod stored;
 mod tally;
 
 pub use audit::{Audit, AuditFault};
 pub use audit_laws::{
-    broadcasts_are_the_reigns, one_fault, passes_by_plans, what_passes_as_a_recording_is_safe,
-    what_passes_is_safe, what_passes_is_safe_by_the_flag,
+    broadcasts_are_the_reigns, one_fault, passes_by_plans, the_list_begins_with_the_fault,
+    what_passes_as_a_recording_is_safe, what_passes_is_safe, what_passes_is_safe_by_the_flag,
 };
+pub use fault_set::FaultSet;
+pub use listing::Listing;
 pub use log_start::LogStart;
-pub use stored::{StoredAudit, StoredCell, StoredReigns};
+pub use stored::{StoredAudit, StoredCell, StoredFaults, StoredListing, StoredReigns, StoredSpans};
 pub use tally::Tally;

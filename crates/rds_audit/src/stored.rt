@@ -1,5 +1,5 @@
-//! The state of an audit, as plain numbers: a program may store it, and each slot changes it in place. A bit is 0 for no
-//! and any other number for yes.
+//! The state of an audit, as plain numbers: a program may store it, and each slot changes it in place. A bit is 0 for
+//! no and any other number for yes.
 ghost use Rattle.std.specs.Prelude.{◌≡◌, ◌+◌, ◌<◌, ◌↔◌, ◌⊎◌, ℕ, true, false, List, Option, Some, None, IsTrue};
 ghost use Rattle.rds_block.specs.declared.group.Group.{Group};
 ghost use Rattle.rds_audit.specs.declared.log_start.LogStart.TheVariants as LogStart;
@@ -45,6 +45,43 @@ pub struct StoredReigns {
     pub tags_end: u8,
     /// Whether the flag turned from each reign to the next one.
     pub turns: u8,
+}
+
+/// Which rules the current text or name breaks: 0 for no and any other number for yes.
+#[repr(C)]
+#[derive(Clone, Copy)]
+pub struct StoredFaults {
+    pub changed: u8,
+    pub early_flag: u8,
+    pub not_one_text: u8,
+    pub early_tag: u8,
+    pub tag_outside: u8,
+}
+
+/// The current span of a service in a list, and the ages of it and of the one before, in slots.
+#[repr(C)]
+#[derive(Clone, Copy)]
+pub struct StoredSpans {
+    /// The slot of the newest segment at each address, counted from 0.
+    pub sent_at: [u64; 16],
+    /// The number of spans so far.
+    pub count: u64,
+    pub reigns: StoredReigns,
+    pub broken: StoredFaults,
+}
+
+/// The plain numbers of a list of faults. Its calls do what those of a [`Listing`](crate::Listing) do. Invalid numbers
+/// give arbitrary results and arbitrary numbers.
+#[repr(C)]
+#[derive(Clone, Copy)]
+pub struct StoredListing {
+    /// The number of slots so far.
+    pub slots: u64,
+    /// The number of pairs of tags that were judged so far.
+    pub tags: u64,
+    pub text: StoredSpans,
+    pub name: StoredSpans,
+    pub audit: StoredAudit,
 }
 
 /// The plain numbers of an audit. Its calls do what those of an [`Audit`](crate::Audit) do. Invalid numbers give

@@ -13,6 +13,8 @@ mod confirming;
 #[cfg(test)]
 mod encoders;
 #[cfg(test)]
+mod listings;
+#[cfg(test)]
 mod messages;
 #[cfg(test)]
 mod receivers;

@@ -1,0 +1,220 @@
+-- The list of all faults of a log (this project's own rule). It judges spans. A span is like a reign, with one
+-- difference: other bytes at an address of the current span begin a span too, as though the flag had turned. Each span
+-- has each fault at most once, in the first slot in which it breaks the rule. Lists have the newest first.
+use Rattle.std.specs.Prelude.{◌+◌, ◌==◌, ◌&&◌, ◌||◌, [], ◌∷◌, ℕ, Bool, true, false, List, Option, Some, None}
+use Rattle.std.specs.Prelude.{is_some, length, map, max, nat_le, nat_lt, not, if◌then◌else◌}
+use Rattle.std.specs.List.{list_all, list_any}
+use Rattle.rds_fields.specs.declared.message.Message.{Message}
+use Rattle.rds_fields.specs.Tag.{PairFields}
+use Rattle.rds_receiver.specs.Receipts.{Fragment}
+use Rattle.rds_receiver.specs.Run.{is_same}
+use Rattle.rds_audit.specs.declared.audit.AuditFault.{AuditFault}
+use Rattle.rds_audit.specs.declared.audit.AuditFault.TheVariants.{Changed, NotOneText, EarlyFlag}
+use Rattle.rds_audit.specs.declared.audit.AuditFault.TheVariants.{EarlyTag, TagOutside}
+use Rattle.rds_audit.specs.declared.audited.Lengths.{Lengths}
+use Rattle.rds_audit.specs.declared.fault_set.FaultSet.{FaultSet}
+use Rattle.rds_audit.specs.Lengths.{Gauge, lengths_of, name_gauge, tags_end, text_gauge}
+use Rattle.rds_audit.specs.Reigns.{SentTags}
+use Rattle.rds_safety.specs.Marks.{Mark, Nothing, Sends, Tagged, marks, name_mark, text_mark}
+
+-- ---- spans
+
+-- a fragment, with the slot in which it was sent
+pub record SentFragment : Type 0 where
+  pub slot : ℕ
+  pub fragment : Fragment
+
+-- a span: the first slot in which its text can have started, the last slot of its fragments and tags, its flag, its
+-- fragments and its tags; whether it began with other bytes at an address of the span before it, and whether it began
+-- too early after the span before that
+pub record Span : Type 0 where
+  pub start : ℕ
+  pub last : ℕ
+  pub flag : Bool
+  pub fragments : List SentFragment
+  pub tags : List SentTags
+  pub is_changed : Bool
+  pub is_early : Bool
+
+-- the newest fragment at an address
+abbrev pub newest_at : ℕ → List SentFragment → Option SentFragment
+newest_at a [] = None
+newest_at a (s ∷ older) = if a == s.fragment.address then Some s else newest_at a older
+
+abbrev pub same_bytes : List ℕ → List ℕ → Bool
+same_bytes [] [] = true
+same_bytes [] (c ∷ cs) = false
+same_bytes (b ∷ bs) [] = false
+same_bytes (b ∷ bs) (c ∷ cs) = b == c && same_bytes bs cs
+
+-- d slots after the last slot of the newest of these spans; 0 without a span
+abbrev pub past_span : ℕ → List Span → ℕ
+past_span d [] = 0
+past_span d (r ∷ older) = r.last + d
+
+-- the span that a fragment opens, which can have started in the slot `start`
+abbrev pub first_of_span : ℕ → Fragment → ℕ → Bool → Bool → Span
+first_of_span slot p start is_changed is_early = record {
+  start = start;
+  last = slot;
+  flag = p.flag;
+  fragments = record { slot = slot; fragment = p } ∷ [];
+  tags = [];
+  is_changed = is_changed;
+  is_early = is_early;
+}
+
+-- the span with one more fragment
+abbrev pub span_with : ℕ → Fragment → Span → Span
+span_with slot p r =
+    record r { last = slot; fragments = record { slot = slot; fragment = p } ∷ r.fragments }
+
+-- these spans and one that turned the flag, or counts so. It starts after r, and d slots after the span before r. If
+-- that is still to come, it is too early, and starts after r
+abbrev pub turned : ℕ → ℕ → Fragment → Bool → Span → List Span → List Span
+turned d slot p is_changed r older =
+    let from = max (r.last + 1) (past_span d older) in
+    let is_early = nat_lt slot from in
+    first_of_span slot p (if is_early then r.last + 1 else from) is_changed is_early ∷ r ∷ older
+
+-- these spans after a fragment with the flag of r, less than d slots after r: it joins r, except if r has other bytes
+-- at its address. Then r ended in the last slot of the old bytes
+abbrev pub joined : ℕ → ℕ → Fragment → Option SentFragment → Span → List Span → List Span
+joined d slot p None r older = span_with slot p r ∷ older
+joined d slot p (Some s) r older =
+    if same_bytes p.bytes s.fragment.bytes then span_with slot p r ∷ older
+    else turned d slot p true (record r { last = s.slot }) older
+
+-- these spans after one more fragment
+abbrev pub spans_after : ℕ → ℕ → Fragment → List Span → List Span
+spans_after d slot p [] = first_of_span slot p 0 false false ∷ []
+spans_after d slot p (r ∷ older) =
+    if is_same r.flag p.flag
+    then (if nat_lt slot (r.last + d) then joined d slot p (newest_at p.address r.fragments) r older
+    else first_of_span slot p (r.last + d) false false ∷ r ∷ older)
+    else turned d slot p false r older
+
+-- these spans after one more pair of tags
+abbrev pub spans_tagged : ℕ → PairFields → List Span → List Span
+spans_tagged slot pair [] = []
+spans_tagged slot pair (r ∷ older) =
+    record r { last = slot; tags = record { slot = slot; pair = pair } ∷ r.tags } ∷ older
+
+-- these spans after one more mark
+abbrev pub spans_marked : ℕ → ℕ → Mark → List Span → List Span
+spans_marked d slot Nothing rs = rs
+spans_marked d slot (Sends p) rs = spans_after d slot p rs
+spans_marked d slot (Tagged pair) rs = spans_tagged slot pair rs
+
+-- the spans of the marks of a service
+abbrev pub spans : ℕ → List Mark → List Span
+spans d [] = []
+spans d (mark ∷ before) = spans_marked d (length before) mark (spans d before)
+
+-- ---- what a span breaks
+
+abbrev pub fragments_in : List SentFragment → List Fragment
+fragments_in sent = map (λ (s : SentFragment). s.fragment) sent
+
+-- the lengths that the fragments of a span leave. A fragment that fits no text leaves them as they are
+abbrev pub lengths_in : Gauge → Span → Lengths
+lengths_in g r = lengths_of g.allowed g.longest (fragments_in r.fragments)
+
+-- each fragment fits some text, and they leave a length
+abbrev pub fits : Gauge → Span → Bool
+fits g r =
+    list_all (λ (s : SentFragment). is_some (g.allowed s.fragment.address s.fragment.bytes)) r.fragments
+    && nat_le (lengths_in g r).least (lengths_in g r).most
+
+-- tags came less than d slots after the start
+abbrev pub has_early_tags : ℕ → Span → Bool
+has_early_tags d r = list_any (λ (s : SentTags). nat_lt s.slot (r.start + d)) r.tags
+
+-- the rules that a span breaks
+abbrev pub broken_by : Gauge → ℕ → Span → FaultSet
+broken_by g d r = record {
+  changed = r.is_changed;
+  early_flag = r.is_early;
+  not_one_text = not (fits g r);
+  early_tag = has_early_tags d r;
+  tag_outside = nat_lt (lengths_in g r).most (tags_end r.tags);
+}
+
+-- ---- the list
+
+abbrev pub none_broken : FaultSet
+none_broken = record {
+  changed = false;
+  early_flag = false;
+  not_one_text = false;
+  early_tag = false;
+  tag_outside = false;
+}
+
+-- the mark is a pair of tags
+abbrev pub is_tagged : Mark → Bool
+is_tagged Nothing = false
+is_tagged (Sends p) = false
+is_tagged (Tagged pair) = true
+
+-- the rules that the newest span of these marks breaks; before the first span, tags break one
+abbrev pub broken_newest : Gauge → ℕ → List Mark → List Span → FaultSet
+broken_newest g d sent [] = record none_broken { early_tag = list_any is_tagged sent }
+broken_newest g d sent (r ∷ older) = broken_by g d r
+
+-- the faults that were not there before
+abbrev pub not_before : FaultSet → FaultSet → FaultSet
+not_before old new = record {
+  changed = new.changed && not old.changed;
+  early_flag = new.early_flag && not old.early_flag;
+  not_one_text = new.not_one_text && not old.not_one_text;
+  early_tag = new.early_tag && not old.early_tag;
+  tag_outside = new.tag_outside && not old.tag_outside;
+}
+
+-- the faults that the newest mark adds to the list: all of its span if it opened that, and otherwise those that its
+-- span did not have
+abbrev pub added : Gauge → ℕ → Mark → List Mark → FaultSet
+added g d mark before =
+    let older = spans d before in
+    let newer = spans d (mark ∷ before) in
+    if length newer == length older
+    then not_before (broken_newest g d before older) (broken_newest g d (mark ∷ before) newer)
+    else broken_newest g d (mark ∷ before) newer
+
+-- the faults that each slot adds
+abbrev pub listed : Gauge → ℕ → List Mark → List FaultSet
+listed g d [] = []
+listed g d (mark ∷ before) = added g d mark before ∷ listed g d before
+
+-- the faults of both
+abbrev pub both : FaultSet → FaultSet → FaultSet
+both f g = record {
+  changed = f.changed || g.changed;
+  early_flag = f.early_flag || g.early_flag;
+  not_one_text = f.not_one_text || g.not_one_text;
+  early_tag = f.early_tag || g.early_tag;
+  tag_outside = f.tag_outside || g.tag_outside;
+}
+
+-- the faults that the newest slot of a log adds to its list, for texts and for names
+abbrev pub slot_adds : ℕ → Option Message → List (Option Message) → FaultSet
+slot_adds d newest before =
+    both (added text_gauge d (text_mark newest) (marks text_mark before))
+    (added name_gauge d (name_mark newest) (marks name_mark before))
+
+-- ---- the order of the faults of a slot
+
+-- the first fault
+abbrev pub first_of : FaultSet → Option AuditFault
+first_of f =
+    if f.changed then Some Changed else if f.early_flag then Some EarlyFlag else if f.not_one_text then Some NotOneText
+    else if f.early_tag then Some EarlyTag else if f.tag_outside then Some TagOutside else None
+
+-- the faults from this one on, with this one
+abbrev pub all_from : AuditFault → FaultSet → FaultSet
+all_from Changed f = record f { changed = true }
+all_from EarlyFlag f = record f { changed = false; early_flag = true }
+all_from NotOneText f = record f { changed = false; early_flag = false; not_one_text = true }
+all_from EarlyTag f = record none_broken { early_tag = true; tag_outside = f.tag_outside }
+all_from TagOutside f = record none_broken { tag_outside = true }
