@@ -1,4 +1,5 @@
 """docs/GUIDE.md beside the program: its tables are those that the scripts print, and its advice works."""
+import datetime
 import itertools
 import os
 import random
@@ -6,6 +7,7 @@ import re
 import subprocess
 
 from tests.support import PROGRAM, ROOT, SECONDS, Case, needs, temporary_folder, text_of
+from tests.test_listing import SLOT, listed, station
 
 LOST = "---- ---- ---- ----"
 HI, YO, HA = "C201 2140 4849 0D20", "C201 2150 594F 0D20", "C201 2140 4841 0D20"
@@ -49,6 +51,14 @@ def done(call, given=b"", at=ROOT):
 def ran(call, given=b""):
     """Returns the output of a line of the guide."""
     return done(call, given).stdout.decode()
+
+
+def with_times(log):
+    """Gives the lines of a log with the times of their slots."""
+    begin = datetime.datetime(2024, 6, 1, 7, 58, 12, 80_000)
+    for slot, line in enumerate(log):
+        time = begin + datetime.timedelta(seconds=slot * SLOT)
+        yield f"{line} @{time:%Y/%m/%d %H:%M:%S}.{time.microsecond // 10_000:02}\n"
 
 
 def careless(roll, slots):
@@ -113,6 +123,13 @@ class Guide(Case):
             logs = ["".join(f"{it}\n" for it in lines).encode() for lines in (log, changed)]
             got = [ran("./rdsrt audit --pi C201 --m 4", it) for it in logs]
             self.check(name, got, [f"{answer}\n", f"yes {len(changed)}\n"])
+
+    def test_the_counts_of_a_station_with_short_texts(self):
+        log, _ = station(period=8, tags=0)
+        notes = listed(["--running"], "".join(with_times(log)).encode())[2].splitlines()
+        page = text_of("docs/GUIDE.md").replace(",\n        last in", ", last in")
+        self.check("notes of audit --all", [line for line in notes if f"    {line}\n" not in page], [])
+        self.check("number of notes", len(notes), 3)
 
     def test_the_pipe_of_a_station(self):
         """The log of the guide's pipe, for some slots, without the modulator behind it."""

@@ -72,8 +72,18 @@ NOES = [
      "RT+ tags came less than M + K = 8 slots after their text started, in slot 0"),
     (b"C201 B148 2002 0000\n", 0, 1, 8, 0, "RT+ tags came before any text"),
     (worked_rows.TAGS_AFTER_FOUR, 4, 5, 4, 0, "an RT+ tag ends past the end of its text"),
-    (b"C201 2140 4849 0D58\n", 0, 1, 4, 0, "the segments fit no text"),
+    (b"C201 2140 4849 0D58\n", 0, 1, 4, 0,
+     "the segments fit no text: byte 0x58 at place 3, after the carriage return"),
+    (b"C201 2141 4802 0D20\n", 0, 1, 4, 0, "the segments fit no text: byte 0x02 at place 5"),
+    (HI + b"C201 2142 4142 4344\n", 1, 2, 4, 0,
+     "the segments fit no text: a segment past the carriage return at place 2"),
+    (b"C201 2142 4142 4344\n" + HI, 1, 2, 4, 0,
+     "the segments fit no text: a carriage return at place 2, before a segment that was sent"),
+    (b"C201 A541 5003 5020\n", 0, 1, 4, 0, "the segments fit no name (PTYN): byte 0x03 at place 5"),
 ]
+# the time of a line, and how a note shows it
+TIMES = [("@2024/06/01 07:58:12.08", ", 2024/06/01 07:58:12.08"), ("2026-11-12T10:16:12.08+01:00", ", 2026-11-12T10:16:12.08+01:00"),
+         ("12.5", ", 12.5"), ("noon", "")]
 
 
 def noted(words, given, **more):
@@ -251,6 +261,9 @@ class Warnings(ProgramCase):
             self.check(f"note on a no: {rule}", (got[0], got[2]), (1, note(told + RUNNING * may_be_old)))
         running = noted(f"{AUDIT} --m 8 --running", worked_rows.FLAG_AFTER_FIVE)[2]
         self.check("--running is not named again", RUNNING in running, False)
+        for time, shown in TIMES:
+            timed = noted(f"{AUDIT} --m 4", HI + HI.replace(b"4849", b"594F").rstrip() + f" {time}\n".encode())[2]
+            self.check(f"the time {time}", timed.startswith(f"rdsrt: slot 1 (line 2{shown}): a text"), True)
         name = b"C201 A540 504F 5020\n"
         changed = noted(f"{AUDIT} --m 4", name + name.replace(b"504F", b"4A41"))[2]
         self.check("note on a no of a name", changed,
@@ -271,8 +284,9 @@ class Warnings(ProgramCase):
             log = "".join(f"{it or '---- ---- ---- ----'}\n" for it in slots).encode()
             _, answer, told = noted(f"{AUDIT} --m {m} --k {k}", log)
             if wanted is None:
-                self.check(f"{name}: a yes", told.startswith(("rdsrt: judged in 60 slots: ", "rdsrt: no 2A")), True,
-                           log)
+                empty = slots.count(None)
+                self.check(f"{name}: a yes", told.startswith((f"rdsrt: judged in 60 slots, {empty} without a group: ",
+                                                              "rdsrt: no 2A")), True, log)
                 continue
             fault, is_name, slot, where = wanted
             rule = re.fullmatch(r"rdsrt: slot (\d+) \(line \d+\): (.*?)(, in slot .*)?\. To look .*?\n", told)
@@ -292,7 +306,7 @@ class Warnings(ProgramCase):
         for log, words, told in (
                 (text, AUDIT, "judged in 1 slot: 1 text, 0 names, 0 pairs of tags"),
                 (text + pause + tags * 2 + other + name, f"{AUDIT} --m 8",
-                 "judged in 13 slots: 2 texts, 1 name, 2 pairs of tags"),
+                 "judged in 13 slots, 8 without a group: 2 texts, 1 name, 2 pairs of tags"),
                 (tags + text, f"{AUDIT} --running", "judged in 2 slots: 1 text, 0 names, 0 pairs of tags"),
                 (text + second * 3, AUDIT,
                  "judged in 4 slots: 1 text, 0 names, 0 pairs of tags; 3 groups 2B were not judged"),

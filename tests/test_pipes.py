@@ -33,6 +33,11 @@ TURNS = [
         (b"text,HI,1,\n", b"# 0 text silent 1\n---- ---- ---- ----\n"),
         (b"text,HI,1,\n", b"# 1 text ok\nC201 2140 4849 0D20\n"),
     ]),
+    ([*AUDIT, "--all"], [
+        (HI, b""),
+        (b"C201 2140 594F 0D20\n", b"no 1 Changed\n"),
+        (b"C201 B148 2002 0000\n", b"no 2 EarlyTag\n"),
+    ]),
     # 0.35 s are 4.0 slots, so the second group comes in the fourth
     (SLOTS, [
         (b"C201 2140 4849 0D20 1.0 x\n", b"C201 2140 4849 0D20 1.0\n"),
@@ -121,4 +126,5 @@ class LivePipe(ProgramCase):
                         shown += piece
                     self.check(f"turn {number} of {words[0]}", shown, wanted)
                 program.stdin.close()
-                self.check(f"end of {words[0]}", (program.stdout.read(), program.wait(SECONDS)), (b"", 0))
+                status = int(words[0] == "audit")
+                self.check(f"end of {words[0]}", (program.stdout.read(), program.wait(SECONDS)), (b"", status))

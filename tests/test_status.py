@@ -30,6 +30,9 @@ LOGS = [
     ("bad line", DECODE, HI + b"x\n", 1, SHOWS_HI + b"fault line 2\n"),
     ("audited log", AUDIT, HI, 0, b"yes 1\n"),
     ("audited log that does not pass", AUDIT, CHANGED, 1, b"no 1 Changed\n"),
+    ("listed log", [*AUDIT, "--all"], HI, 0, b"yes 1\n"),
+    ("listed log that does not pass", [*AUDIT, "--all"], CHANGED, 1, b"no 1 Changed\n"),
+    ("bad line behind a listed fault", [*AUDIT, "--all"], CHANGED + b"x\n", 1, b"no 1 Changed\nfault line 3\n"),
     ("bad line of an audited log", AUDIT, HI + b"x\n" + CHANGED, 1, b"fault line 2\n"),
 ]
 

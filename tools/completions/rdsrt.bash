@@ -12,7 +12,7 @@ _rdsrt() {
         help) offered='decode audit witness slots encode sim help' ;;
         decode) offered='--pi --m --confirm --why --quiet --help' ;;
         witness) offered='--pi --m --quiet --help' ;;
-        audit) offered='--pi --m --k --running --quiet --help' ;;
+        audit) offered='--pi --m --k --running --all --quiet --help' ;;
         slots) offered='--pi --grain --m --quiet --help' ;;
         encode) offered='--pi --m --k --pty --tp --quiet --help' ;;
         sim) offered='--pi --m --k --pty --tp --confirm --flag-alone --why --quiet --help' ;;

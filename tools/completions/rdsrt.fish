@@ -20,6 +20,7 @@ complete -c rdsrt -n "$no_help decode sim" -l why -d 'Says why a text or a name 
 complete -c rdsrt -n "$no_help sim" -l flag-alone -d 'The receivers follow the A/B flag alone, as radios without a dwell do'
 complete -c rdsrt -n "$no_help audit encode sim" -s k -l k -x -d 'Lateness K in slots, 0 to 1024'
 complete -c rdsrt -n "$no_help audit" -l running -d 'The station was on air before the log began'
+complete -c rdsrt -n "$no_help audit" -l all -d 'Prints each fault of the log'
 complete -c rdsrt -n "$no_help slots" -l grain -x -d 'Milliseconds by which the times may be off, 0 to 87'
 complete -c rdsrt -n "$no_help encode sim" -l pty -x -d 'Programme type (PTY) in each group, 0 to 31'
 complete -c rdsrt -n "$no_help encode sim" -l tp -d 'Sets the TP flag in each group'

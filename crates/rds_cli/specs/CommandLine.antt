@@ -75,6 +75,10 @@ tp_rule = flag_rule (codes "tp")
 abbrev pub running_rule : Rule
 running_rule = flag_rule (codes "running")
 
+-- `--all`
+abbrev pub all_rule : Rule
+all_rule = flag_rule (codes "all")
+
 -- `--flag-alone`
 abbrev pub flag_alone_rule : Rule
 flag_alone_rule = flag_rule (codes "flag-alone")
@@ -109,7 +113,7 @@ late_app name = with_rule (log_app name) late_rule
 
 -- the subcommand that audits a log
 unfoldable pub audit_app : Text → App
-audit_app name = with_rule (late_app name) running_rule
+audit_app name = with_rule (with_rule (late_app name) running_rule) all_rule
 
 -- `--grain N`, from 0 to 87
 abbrev pub grain_rule : Rule
@@ -202,6 +206,9 @@ tp_in = flag_in (codes "tp")
 abbrev pub running_in : List Row → Bool
 running_in = flag_in (codes "running")
 
+abbrev pub all_in : List Row → Bool
+all_in = flag_in (codes "all")
+
 abbrev pub flag_alone_in : List Row → Bool
 flag_alone_in = flag_in (codes "flag-alone")
 
@@ -237,7 +244,8 @@ task_in name rows =
     then option_and_then
     (λ window. with_station (λ programme late. Simulate programme late window (flag_alone_in rows) (why_in rows)) rows)
     (window_in rows)
-    else if bytes_eq name (codes "audit") then option_map (λ late. Audit late (running_in rows)) (late_in rows)
+    else if bytes_eq name (codes "audit")
+    then option_map (λ late. Audit late (running_in rows) (all_in rows)) (late_in rows)
     else if bytes_eq name (codes "witness") then Some Witness
     else if bytes_eq name (codes "slots")
     then option_map (λ grain. Slots grain (has_value (codes "pi") rows)) (grain_in rows)

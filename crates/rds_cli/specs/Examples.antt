@@ -69,11 +69,15 @@ abbrev pub witnessing : ℕ → Requested
 witnessing dwell = record { task = Witness; pi = codes "C201"; dwell = dwell; quiet = false }
 
 abbrev pub auditing : ℕ → ℕ → Requested
-auditing dwell late = record { task = Audit late false; pi = codes "C201"; dwell = dwell; quiet = false }
+auditing dwell late = record { task = Audit late false false; pi = codes "C201"; dwell = dwell; quiet = false }
 
 -- the audit of the log of a running station
 abbrev pub auditing_running : ℕ → Requested
-auditing_running dwell = record { task = Audit 0 true; pi = codes "C201"; dwell = dwell; quiet = false }
+auditing_running dwell = record { task = Audit 0 true false; pi = codes "C201"; dwell = dwell; quiet = false }
+
+-- the list of all faults of such a log
+abbrev pub listing_running : ℕ → Requested
+listing_running dwell = record { task = Audit 0 true true; pi = codes "C201"; dwell = dwell; quiet = false }
 
 abbrev pub filling : ℕ → ℕ → Requested
 filling dwell grain = record { task = Slots grain false; pi = codes "0000"; dwell = dwell; quiet = false }

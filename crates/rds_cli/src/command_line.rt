@@ -3,7 +3,7 @@ ghost use Rattle.std.specs.Prelude.{◌≡◌, IfOk, codes, false};
 ghost use Rattle.clap.specs.Words.{App, app_of, rule_of, with_subcommand};
 ghost use Rattle.clap.specs.declared.builder.command.Command.TheViews.{out-Command};
 ghost use Rattle.rds_cli.specs.CommandLine.{audit_app, confirm_rule, decode_app, dwell_rule, flag_rule, grain_rule};
-ghost use Rattle.rds_cli.specs.CommandLine.{flag_alone_rule, late_app, late_rule};
+ghost use Rattle.rds_cli.specs.CommandLine.{all_rule, flag_alone_rule, late_app, late_rule};
 ghost use Rattle.rds_cli.specs.CommandLine.{log_app, number_rule, own_pi_rule, pi_rule, pty_rule, quiet_rule};
 ghost use Rattle.rds_cli.specs.CommandLine.{running_rule, sim_app, slots_app, station_app, timed_app, top_app, tp_rule};
 ghost use Rattle.rds_cli.specs.CommandLine.{whole_app, why_rule};
@@ -167,6 +167,24 @@ fn running<'a>(alloc: Global) -> Arg<'a>
     )
 }
 
+/// Makes the flag `--all`.
+fn all<'a>(alloc: Global) -> Arg<'a>
+    ensures rule { rule_of result ≡ all_rule }
+    ensures local { result.global ≡ false }
+{
+    flag(
+        alloc,
+        "all",
+        "Prints each fault of the log, not the first one alone",
+    )
+    .long_help(
+        "Prints each fault of the log, not the first one alone: a line `no SLOT NAME` for each,\n\
+         as soon as its slot is read. Each text has each fault once, in the first slot in\n\
+         which it breaks the rule. A text that changes without a flip of the flag counts as a\n\
+         new text. Counts of the faults go to standard error.",
+    )
+}
+
 /// Makes the flag `--flag-alone`.
 fn flag_alone<'a>(alloc: Global) -> Arg<'a>
     ensures rule { rule_of result ≡ flag_alone_rule }
@@ -302,7 +320,9 @@ fn audit<'a>(alloc: Global) -> Result<Command<'a>, AllocError>
                    $ rdsrt audit --pi C201 --m 8 < examples/flags.log\n  \
                    no 4 EarlyFlag",
     };
-    late_reader(alloc, "audit", page)?.arg(running(alloc))
+    late_reader(alloc, "audit", page)?
+        .arg(running(alloc))?
+        .arg(all(alloc))
 }
 
 /// Makes the subcommand `witness`.

@@ -2,8 +2,8 @@
 ghost use Rattle.std.specs.Prelude.{codes, false, true};
 ghost use Rattle.rds_cli.specs.CommandLine.{AskFor, AskForHelp, default_dwell};
 ghost use Rattle.rds_cli.specs.Examples.{AreNotTaken, CallForHelp, auditing, auditing_running, confirming, decoding};
-ghost use Rattle.rds_cli.specs.Examples.{decoding_why, encoding, filling, filling_one, quietly, simulating};
-ghost use Rattle.rds_cli.specs.Examples.{simulating_flag_alone, simulating_confirmed, typed, witnessing};
+ghost use Rattle.rds_cli.specs.Examples.{decoding_why, encoding, filling, filling_one, listing_running, quietly};
+ghost use Rattle.rds_cli.specs.Examples.{simulating, simulating_flag_alone, simulating_confirmed, typed, witnessing};
 
 /// Shows the definition at work. The arguments of README's examples are taken and ask for these tasks. A dwell of 0
 /// slots, a window of 1 or 256 slots, a programme type of 32, an option of another subcommand, a subcommand without a
@@ -22,6 +22,8 @@ pub fn words_of_the_examples()
     ensures audit_late { AskFor (typed (codes "rdsrt audit --pi C201 --m 4 --k 2")) (auditing 4 2) }
     ensures audit_running { AskFor (typed (codes "rdsrt audit --running --pi C201"))
         (auditing_running default_dwell) }
+    ensures audit_all { AskFor (typed (codes "rdsrt audit --running --all --pi C201"))
+        (listing_running default_dwell) }
     ensures witness { AskFor (typed (codes "rdsrt witness --pi C201 --m 8")) (witnessing 8) }
     ensures slots { AskFor (typed (codes "rdsrt slots")) (filling default_dwell 20) }
     ensures slots_grain { AskFor (typed (codes "rdsrt slots --m 8 --grain 0")) (filling 8 0) }

@@ -47,9 +47,14 @@ pub enum Task {
         /// Whether the line of a text or a name that is not shown any more says why.
         says_why: bool,
     },
-    /// Print whether a log of all groups that were sent passes the audit. The flag: the station was on air before the
-    /// log began.
-    Audit(Late, bool),
+    /// Print whether a log of all groups that were sent passes the audit.
+    Audit {
+        late: Late,
+        /// Whether the station was on air before the log began.
+        running: bool,
+        /// Whether each fault is printed, or the first one alone.
+        lists_all: bool,
+    },
     /// Print which slots of such a log a receiver has to lose to show a mix.
     Witness,
     /// Print a log with times, and a line for each slot that it lacks. Its times are off by at most so many
@@ -139,7 +144,11 @@ fn task_of(name: &str, inner: &ArgMatches<'_>) -> Option<Task>
                 says_why: is_given(inner, "why"),
             })
         }
-        "audit" => Some(Task::Audit(late_of(inner)?, is_given(inner, "running"))),
+        "audit" => Some(Task::Audit {
+            late: late_of(inner)?,
+            running: is_given(inner, "running"),
+            lists_all: is_given(inner, "all"),
+        }),
         "witness" => Some(Task::Witness),
         "slots" => Some(Task::Slots(grain_of(inner)?, has_value(inner, "pi"))),
         _ => None,

@@ -3,14 +3,22 @@
 use crate::logs::{TWO_LINES, TWO_TEXTS};
 use crate::same::same;
 use crate::scripts::{ENCODED, ENCODED_LOG, SIMULATED, SIMULATED_OUTPUT, config};
+use rds_audit::LogStart;
 use rds_fields::{Dwell, Late};
 use rds_io::{LogFault, Told};
-use rds_log::{audit, decode};
+use rds_log::{Auditing, LogNotes, MOST_READS, audit, decode, list_with_notes};
 use rds_script::{encode, simulate};
 use std::alloc::Global;
 use std::cell::Cell;
 use std::io::{self, ErrorKind, Write};
 use std::test::Fail;
+
+/// A log with tags at once and a flag that comes back.
+const FAULTY: &[u8] = b"C201 2140 4849 0D20
+C201 B148 2002 0000
+C201 2150 594F 0D20
+C201 2140 4849 0D20
+";
 
 /// A writer that takes at most this many bytes a write. One write fails or takes 0 bytes.
 #[derive(Drop)]
@@ -46,6 +54,7 @@ impl Write for Stubborn<'_> {
 enum Engine {
     Decode,
     Audit,
+    List,
     Simulate,
     Encode,
 }
@@ -55,6 +64,7 @@ fn output_of(engine: Engine) -> &'static [u8] {
     match engine {
         Engine::Decode => TWO_LINES,
         Engine::Audit => b"yes 2\n",
+        Engine::List => b"no 1 EarlyTag\nno 3 EarlyFlag\n",
         Engine::Simulate => SIMULATED_OUTPUT,
         Engine::Encode => ENCODED_LOG,
     }
@@ -77,6 +87,23 @@ fn audited_to(writer: Stubborn) -> Result<Result<(), LogFault>, Fail> {
         0xC201,
         Dwell::new(128).ok_or("dwell")?,
         Late::new(0).ok_or("late")?,
+    );
+    Ok(answer.map(|_| ()))
+}
+
+fn listed_to(writer: Stubborn) -> Result<Result<(), LogFault>, Fail> {
+    let auditing = Auditing {
+        pi: 0xC201,
+        dwell: Dwell::new(128).ok_or("dwell")?,
+        late: Late::new(0).ok_or("late")?,
+        start: LogStart::Complete,
+    };
+    let answer = list_with_notes(
+        &mut Told::new(FAULTY),
+        &mut Told::new(writer),
+        auditing,
+        MOST_READS,
+        &mut LogNotes::new(0xC201),
     );
     Ok(answer.map(|_| ()))
 }
@@ -110,6 +137,7 @@ fn ended(
     match engine {
         Engine::Decode => decoded_to(writer),
         Engine::Audit => audited_to(writer),
+        Engine::List => listed_to(writer),
         Engine::Simulate => simulated_to(alloc, writer),
         Engine::Encode => encoded_to(alloc, writer),
     }
@@ -121,6 +149,7 @@ fn each_write_fails_or_takes_nothing(rt: HostRuntime) -> Result<(), Fail> {
     for engine in [
         Engine::Decode,
         Engine::Audit,
+        Engine::List,
         Engine::Simulate,
         Engine::Encode,
     ] {

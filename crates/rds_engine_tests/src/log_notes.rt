@@ -4,8 +4,8 @@ use rds_audit::{AuditFault, LogStart};
 use rds_fields::{Dwell, Late};
 use rds_io::{LogFault, Told};
 use rds_log::{
-    Auditing, Decoding, LineCause, LogNotes, MOST_READS, NoNote, audit_with_notes,
-    decode_with_notes, gather,
+    Auditing, Decoding, LineCause, LineTime, LogNotes, MOST_READS, NoNote, SegmentCause,
+    audit_with_notes, decode_with_notes, fault_name, gather, list_with_notes,
 };
 use rds_receiver::Window;
 use rds_witness::witness_with_notes;
@@ -159,8 +159,105 @@ fn slot_of_a_no(rt: HostRuntime) -> Result<(), Fail> {
             first: None,
             paused: None,
             spacing: u32::from(m) + u32::from(k),
+            cause: None,
+            time: LineTime::none(),
         };
         assert_eq!(rt; notes.no, Some(wanted));
     }
+    Ok(())
+}
+
+/// The settings for a complete log and a dwell of 8 slots.
+fn auditing() -> Result<Auditing, Fail> {
+    Ok(Auditing {
+        pi: 0xC201,
+        dwell: dwell(8)?,
+        late: Late::new(0).ok_or("late")?,
+        start: LogStart::Complete,
+    })
+}
+
+/// The note on a segment that fits no text says what is wrong with it.
+#[test]
+fn causes_of_segments(rt: HostRuntime) -> Result<(), Fail> {
+    for (log, cause) in [
+        (
+            b"C201 2140 4802 0D20\n".as_slice(),
+            SegmentCause::Byte(2, 1),
+        ),
+        (b"C201 2140 4849 0D58\n", SegmentCause::AfterReturn(0x58, 3)),
+        (
+            b"C201 2140 4849 0D20\nC201 2141 4142 4344\n",
+            SegmentCause::PastReturn(2),
+        ),
+        (
+            b"C201 2141 4142 4344\nC201 2140 4849 0D20\n",
+            SegmentCause::EarlyReturn(2),
+        ),
+        (b"C201 A140 4803 4949\n", SegmentCause::Byte(3, 1)),
+    ] {
+        let mut output = Vec::new(rt.alloc());
+        let mut notes = LogNotes::new(0);
+        let passed = audit_with_notes(
+            &mut Told::new(log),
+            &mut Told::new(&mut output),
+            auditing()?,
+            MOST_READS,
+            &mut notes,
+        );
+        assert_eq!(rt; passed, Ok(false));
+        let no = notes.no.ok_or("no note")?;
+        assert_eq!(rt; no.cause, Some(cause));
+    }
+    Ok(())
+}
+
+/// Each fault has a line, and is counted with its slot, its line and its time.
+#[test]
+fn each_fault_has_a_line(rt: HostRuntime) -> Result<(), Fail> {
+    let log = b"# note
+C201 2140 4849 0D20 @2024/06/01 07:58:12.08
+C201 B148 2002 0000
+C201 2150 594F 0D20
+C201 2140 4849 0D20 12.5
+";
+    let mut output = Vec::new(rt.alloc());
+    let mut notes = LogNotes::new(0);
+    let passed = list_with_notes(
+        &mut Told::new(log.as_slice()),
+        &mut Told::new(&mut output),
+        auditing()?,
+        MOST_READS,
+        &mut notes,
+    );
+    assert_eq!(rt; passed, Ok(false));
+    assert_eq!(rt;
+        output.as_slice(),
+        b"no 1 EarlyTag\nno 3 EarlyFlag\n".as_slice()
+    );
+    assert_eq!(rt; (notes.slots, notes.listed.faults), (4, 2));
+    let flags = notes.listed.texts.counts[1].ok_or("no count")?;
+    assert_eq!(rt; fault_name(flags.fault), b"EarlyFlag".as_slice());
+    assert_eq!(rt; (flags.count, flags.first.slot, flags.last.line), (1, 3, 5));
+    assert_eq!(rt; flags.last.time.bytes(), b"12.5".as_slice());
+    assert!(rt; notes.listed.names.counts[0].is_none());
+    Ok(())
+}
+
+/// A log without a fault gets the line of a yes.
+#[test]
+fn a_list_without_a_fault(rt: HostRuntime) -> Result<(), Fail> {
+    let mut output = Vec::new(rt.alloc());
+    let mut notes = LogNotes::new(0);
+    let passed = list_with_notes(
+        &mut Told::new(TWO_SLOTS),
+        &mut Told::new(&mut output),
+        auditing()?,
+        MOST_READS,
+        &mut notes,
+    );
+    assert_eq!(rt; passed, Ok(true));
+    assert_eq!(rt; output.as_slice(), b"yes 2\n".as_slice());
+    assert_eq!(rt; notes.heard.counts.total(), 1);
     Ok(())
 }

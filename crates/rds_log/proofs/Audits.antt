@@ -1,9 +1,9 @@
 -- How the audit of a log goes on and ends: what the source gives, and what the audit makes of it.
-use Rattle.std.proofs.Common.{◌≡◌, ◌+◌, ℕ, List, ◌∷◌, None, Option, Ok, subst, refl, sym, ◌∙◌, inl, inr, arith}
+use Rattle.std.proofs.Common.{◌≡◌, ◌+◌, ℕ, List, ◌∷◌, None, Option, Ok, Some, length, subst, refl, sym, ◌∙◌, inl, inr, arith}
 use Rattle.std.specs.Prelude.{MatchOption}
 use Rattle.rds_block.specs.declared.group.Group.{Group}
 use Rattle.rds_audit.specs.AuditState.{AuditState}
-use Rattle.rds_audit.specs.AuditStandsAt.{AuditStandsAt, HoldsLog}
+use Rattle.rds_audit.specs.AuditStandsAt.{AuditStandsAt, HasJudged, HoldsLog}
 use Rattle.rds_audit.specs.Recording.{IsJudgedAs}
 use Rattle.rds_audit.specs.Rules.{IsFaultOf}
 use Rattle.rds_fields.specs.declared.message.Message.{Message}
@@ -11,7 +11,7 @@ use Rattle.rds_audit.specs.declared.audit.AuditFault.{AuditFault}
 use Rattle.rds_log.specs.LogLines.{Line}
 use Rattle.rds_log.specs.LineSays.{LineSays}
 use Rattle.rds_log.specs.Inside.Source.{ReaderState, SourceStandsAt, since}
-use Rattle.rds_log.specs.Audit.{HasAudited, Judges, SlotsPass, spacing}
+use Rattle.rds_log.specs.Audit.{HasAudited, Judges, SlotsFail, SlotsPass, spacing}
 use Rattle.rds_log.specs.declared.audit_log.Auditing.{Auditing}
 use Rattle.rds_log.specs.declared.log_line.LogLine.{LogLine}
 use Rattle.rds_log.specs.declared.log_line.LogLine.TheVariants.{Skip, Slot}
@@ -53,6 +53,26 @@ pub audits_skip : (a : Auditing) (state : AuditState) (number : ℕ) (lines : Li
     → HasAudited a state number lines → HasAudited a state number (line ∷ lines)
 audits_skip a state number lines line said says is s = record { slots = s.slots; say = inl (rw is at says, s.say); count = s.count; audit = s.audit; begins = s.begins; passed = s.passed }
 
+-- slots that fail with the newest one
+pub fails_at : (a : Auditing) (state after : AuditState) (number : ℕ) (slots : List (Option Group)) (slot : Option Group) (fault : AuditFault)
+    → AuditStandsAt a.pi (spacing a) state slots → state.start ≡ a.start → state.fault ≡ None → number ≡ length slots
+    → (stands : AuditStandsAt a.pi (spacing a) after (slot ∷ slots)) → after.start ≡ a.start
+    → ((judged : List (Option Message)) → IsJudgedAs after.start (spacing a) stands.heard judged → IsFaultOf (spacing a) judged fault) → SlotsFail a number fault (slot ∷ slots)
+fails_at a state after number slots slot fault s begins passed count stands start is = record {
+  newest = slot;
+  before = slots;
+  cut = refl;
+  number = count;
+  passed = slots_pass a state slots s begins passed;
+  heard = stands.heard;
+  are = stands.are;
+  fault_is = λ judged this. is judged (subst (λ st. IsJudgedAs st (spacing a) stands.heard judged) (sym start) this);
+}
+
+-- the fault in the state of an audit is that of its log
+pub fault_of : (d : ℕ) (state : AuditState) (fault : AuditFault) (judged : List (Option Message)) → state.fault ≡ Some fault → HasJudged d state judged → IsFaultOf d judged fault
+fault_of d state fault judged some has = subst (λ (o : Option AuditFault). MatchOption o (HoldsLog d judged state) (λ f. IsFaultOf d judged f)) some has
+
 -- a line that is a slot with which they do not
 pub stops_at_slot : (a : Auditing) (reads : ℕ) (source : Source) (state after : AuditState) (number : ℕ) (first now : ReaderState) (lines : List Line) (line : Line) (slot : Option Group) (fault : AuditFault)
     → LineSays line (Slot slot) → (s : HasAudited a state number lines) → (stands : AuditStandsAt a.pi (spacing a) after (slot ∷ s.slots)) → after.start ≡ state.start → ((judged : List (Option Message)) → IsJudgedAs after.start (spacing a) stands.heard judged → IsFaultOf (spacing a) judged fault)
@@ -66,16 +86,7 @@ stops_at_slot a reads source state after number first now lines line slot fault 
         begins = begins;
         slots = slot ∷ s.slots;
         say = inr (slot, s.slots, says, refl, s.say);
-        fail = record {
-          newest = slot;
-          before = s.slots;
-          cut = refl;
-          number = s.count;
-          passed = slots_pass a state s.slots s.audit s.begins s.passed;
-          heard = stands.heard;
-          are = stands.are;
-          fault_is = λ judged this. is judged (subst (λ st. IsJudgedAs st (spacing a) stands.heard judged) (sym (keeps ∙ s.begins)) this);
-        };
+        fail = fails_at a state after number s.slots slot fault s.audit s.begins s.passed s.count stands (keeps ∙ s.begins) is;
       },
       given.reads.calm,
     )

@@ -14,7 +14,7 @@ use Rattle.rds_log.specs.LogWrites.{AreSlots, LinesWrite, tuning_of}
 use Rattle.rds_log.specs.Inside.ViewLines.{GivesChange, ViewsStandAt}
 use Rattle.rds_log.specs.Reads.{BeginsWith}
 use Rattle.rds_log.specs.Inside.Source.{HasNoNext, IsBadLineFault, IsInside, IsThrough, ReaderState, SourceStandsAt, since}
-use Rattle.rds_log.specs.Decode.{Decodes, WroteLines, WrotePart}
+use Rattle.rds_log.specs.Outputs.{StopsBy, WroteLines, WrotePart}
 use Rattle.rds_log.specs.Inside.Decoder.{HasDecoded}
 use Rattle.rds_log.specs.declared.decode_log.Decoding.{Decoding}
 use Rattle.rds_log.specs.declared.decoder.Decoder.{Decoder}
@@ -63,7 +63,7 @@ writes_all how d after lines a b c f g h s views none put calm = record {
 
 -- or a first part of it
 writes_part : (how : Decoding) (d : Decoder) (lines : List Line) (a b c : Option (List ℕ)) (f g h : ℕ) → HasDecoded how d (from a b f g) lines → AppendsPrefix b c d.output → Failed g h
-    → WrotePart how (from a c f h) lines
+    → WrotePart (LinesWrite how) (from a c f h) lines
 writes_part how d lines a b c f g h s part failed = record {
   written = s.written ++ d.output;
   write = lines_write how d.views lines s.slots (s.written ++ d.output) s.say s.views;
@@ -72,14 +72,14 @@ writes_part how d lines a b c f g h s part failed = record {
 }
 
 pub writes : (how : Decoding) (d after : Decoder) (lines : List Line) (a b c : Option (List ℕ)) (f g h : ℕ) (r : Result (Unit {0}) WriteFault) → HasDecoded how d (from a b f g) lines → after.views ≡ d.views → OnOk r (after.output ≡ [])
-    → Puts (from b c g h) d.output r → MatchResult r (λ _. HasDecoded how after (from a c f h) lines) (λ _. WrotePart how (from a c f h) lines)
+    → Puts (from b c g h) d.output r → MatchResult r (λ _. HasDecoded how after (from a c f h) lines) (λ _. WrotePart (LinesWrite how) (from a c f h) lines)
 writes how d after lines a b c f g h (Ok done) s views none put = writes_all how d after lines a b c f g h s views none put.0 put.1
 writes how d after lines a b c f g h (Err fault) s views none put = writes_part how d lines a b c f g h s put.0 put.1
 
 -- ---- the ends
 
 -- nothing waits: all output was written
-pub wrote_lines : (how : Decoding) (d : Decoder) (w : Traffic) (lines : List Line) → HasDecoded how d w lines → d.output ≡ [] → WroteLines how w lines
+pub wrote_lines : (how : Decoding) (d : Decoder) (w : Traffic) (lines : List Line) → HasDecoded how d w lines → d.output ≡ [] → WroteLines (LinesWrite how) w lines
 wrote_lines how d w lines s none =
     let all : s.written ++ d.output ≡ s.written = ap (λ (l : List ℕ). s.written ++ l) none ∙ append-nil s.written in
     record {
@@ -100,31 +100,31 @@ begins_with s most start now lines stands = by_end s.ended stands.where_it_is
     by_end false is = (is.text, is.read, inl (is.holds.begun, _, is.holds.cut, is.holds.cutter.lines, is.holds.cutter.line))
 
 -- the source had no further line, and the output was written
-pub ends_by_fault : (how : Decoding) (d : Decoder) (reads : ℕ) (start now : ReaderState) (w : Traffic) (lines : List Line) (first : List ℕ) (fault : LogFault) → HasNoNext reads start now lines first fault
-    → HasDecoded how d w lines → d.output ≡ [] → Decodes how reads (since start now) w (Err fault)
-ends_by_fault how d reads start now w lines first (BadLine n) (text, read, (bad, is), calm) h none = (text, read, record { lines = lines; next = bad; wrote = wrote_lines how d w lines h none }, calm)
-ends_by_fault how d reads start now w lines first Read (up_to, failed) h none = (record { closed = lines; reads = up_to; wrote = wrote_lines how d w lines h none }, failed)
-ends_by_fault how d reads start now w lines first TooLong (up_to, calm) h none = (record { closed = lines; reads = up_to; wrote = wrote_lines how d w lines h none }, calm)
-ends_by_fault how d reads start now w lines first (BadRow n) gives h none = absurd gives
-ends_by_fault how d reads start now w lines first Write gives h none = absurd gives
-ends_by_fault how d reads start now w lines first Memory gives h none = absurd gives
+pub ends_by_fault : (Gives : List Line → List ℕ → Type 0) (reads : ℕ) (start now : ReaderState) (w : Traffic) (lines : List Line) (first : List ℕ) (fault : LogFault) → HasNoNext reads start now lines first fault
+    → WroteLines Gives w lines → StopsBy Gives reads (since start now) w fault
+ends_by_fault Gives reads start now w lines first (BadLine n) (text, read, (bad, is), calm) wrote = (text, read, record { lines = lines; next = bad; wrote = wrote }, calm)
+ends_by_fault Gives reads start now w lines first Read (up_to, failed) wrote = (record { closed = lines; reads = up_to; wrote = wrote }, failed)
+ends_by_fault Gives reads start now w lines first TooLong (up_to, calm) wrote = (record { closed = lines; reads = up_to; wrote = wrote }, calm)
+ends_by_fault Gives reads start now w lines first (BadRow n) gives wrote = absurd gives
+ends_by_fault Gives reads start now w lines first Write gives wrote = absurd gives
+ends_by_fault Gives reads start now w lines first Memory gives wrote = absurd gives
 
 -- the writer failed after a line
-pub ends_by_write : (how : Decoding) (s : Source) (reads : ℕ) (start now : ReaderState) (w : Traffic) (lines : List Line) → SourceStandsAt s reads start now lines → WrotePart how w lines
-    → Decodes how reads (since start now) w (Err Write)
-ends_by_write how s reads start now w lines stands part =
+pub ends_by_write : (Gives : List Line → List ℕ → Type 0) (s : Source) (reads : ℕ) (start now : ReaderState) (w : Traffic) (lines : List Line) → SourceStandsAt s reads start now lines → WrotePart Gives w lines
+    → StopsBy Gives reads (since start now) w Write
+ends_by_write Gives s reads start now w lines stands part =
     let (text, read, begins) = begins_with s reads start now lines stands in
     (text, read, record { lines = lines; begins = begins; wrote = part }, stands.reads.calm)
 
 -- the writer failed at a bad line
-pub ends_at_bad_line : (how : Decoding) (reads n : ℕ) (start now : ReaderState) (w : Traffic) (lines : List Line) (first : List ℕ) → HasNoNext reads start now lines first (BadLine n) → WrotePart how w lines
-    → Decodes how reads (since start now) w (Err Write)
-ends_at_bad_line how reads n start now w lines first (text, read, (bad, is), calm) part =
+ends_at_bad_line : (Gives : List Line → List ℕ → Type 0) (reads n : ℕ) (start now : ReaderState) (w : Traffic) (lines : List Line) (first : List ℕ) → HasNoNext reads start now lines first (BadLine n) → WrotePart Gives w lines
+    → StopsBy Gives reads (since start now) w Write
+ends_at_bad_line Gives reads n start now w lines first (text, read, (bad, is), calm) part =
     (text, read, record { lines = lines; begins = inl (bad.line, bad.rest, bad.cut, bad.bad.lines, bad.bad.is_line); wrote = part }, calm)
 
 -- the writer failed after the source had no further line: only a bad one was there, since else nothing waited
-pub ends_at_fault : (how : Decoding) (line : Option ℕ) (reads : ℕ) (start now : ReaderState) (w : Traffic) (lines : List Line) (first : List ℕ) (fault : LogFault) → (line ≢ None → IsBadLineFault fault)
-    → line ≢ None → HasNoNext reads start now lines first fault → WrotePart how w lines → Decodes how reads (since start now) w (Err Write)
-ends_at_fault how line reads start now w lines first fault there some gives part =
+pub ends_at_fault : (Gives : List Line → List ℕ → Type 0) (line : Option ℕ) (reads : ℕ) (start now : ReaderState) (w : Traffic) (lines : List Line) (first : List ℕ) (fault : LogFault) → (line ≢ None → IsBadLineFault fault)
+    → line ≢ None → HasNoNext reads start now lines first fault → WrotePart Gives w lines → StopsBy Gives reads (since start now) w Write
+ends_at_fault Gives line reads start now w lines first fault there some gives part =
     let (n, is) = there some in
-    ends_at_bad_line how reads n start now w lines first (rw is at gives) part
+    ends_at_bad_line Gives reads n start now w lines first (rw is at gives) part

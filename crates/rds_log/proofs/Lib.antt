@@ -9,6 +9,7 @@ pub mod Noting
 pub mod LineCauses
 pub mod Decodes
 pub mod Audits
+pub mod Lists
 pub mod KeptSlots
 pub mod WholeBytes
 pub mod OneOutput

@@ -4,5 +4,6 @@ pub mod Cutter
 pub mod Source
 pub mod ViewLines
 pub mod Decoder
+pub mod Lister
 pub mod Pace
 pub mod Filler

@@ -6,8 +6,10 @@ pub mod Heard
 pub mod LogWrites
 -- The promises of the calls, each in a file of its name.
 pub mod Reads
+pub mod Outputs
 pub mod Decode
 pub mod Audit
+pub mod FaultList
 pub mod Fill
 pub mod FilledLog
 pub mod Gather

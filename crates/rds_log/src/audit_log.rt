@@ -12,7 +12,7 @@ use crate::laws::what_an_answer_means;
 use crate::log_line::LogLine;
 use crate::notes::{LogNotes, NoNote};
 use crate::source::Source;
-use crate::verdict::Verdict;
+use crate::verdict::{ANSWER_ROOM, Verdict};
 use rds_audit::{Audit, LogStart};
 use rds_fields::{Dwell, Late};
 use rds_io::{Lines, LogFault, TellingRead, TellingWrite, put};
@@ -120,7 +120,7 @@ pub fn audit_with_notes<R: TellingRead, W: TellingWrite>(
 fn write_verdict<W: TellingWrite>(verdict: Verdict, writer: &mut W) -> Result<bool, LogFault>
     ensures answers { Answers (Ok verdict) (traffic W.contents W.failures writer.old writer.new) result }
 {
-    let mut line = Lines::new();
+    let mut line = Lines::<ANSWER_ROOM>::new();
     verdict.push(&mut line);
     put(line.bytes(), writer)?;
     Ok(verdict.is_yes())
@@ -167,7 +167,7 @@ fn judge<R: TellingRead>(
         };
         if let Err(fault) = audit.slot_blocks(group) {
             let why = fault;
-            notes.no = Some(NoNote::of(&audit, said, slots, source.lines(), why));
+            notes.no = Some(NoNote::of(&audit, &source, said, slots, why));
             return Ok(Verdict::No(slots, fault));
         }
         slots += 1;

@@ -6,7 +6,7 @@ ghost use Rattle.rds_io.specs.Told.{IsCalm, Traffic, traffic};
 ghost use Rattle.rds_receiver.specs.Receipts.{Tuning};
 ghost use Rattle.rds_receiver.specs.StandsAt.{StandsAt, WhereItStands};
 ghost use Rattle.rds_log.specs.LogLines.{Line};
-ghost use Rattle.rds_log.specs.LogWrites.{SayWhys, tuning_of};
+ghost use Rattle.rds_log.specs.LogWrites.{LinesWrite, SayWhys, tuning_of};
 ghost use Rattle.rds_log.specs.LineSays.{LineSays};
 ghost use Rattle.rds_view_lines.specs.declared.change.TheConstants.{SLOT_ROOM};
 ghost use Rattle.rds_log.specs.declared.decode_log.Decoding.{Decoding};
@@ -90,7 +90,7 @@ pub(crate) struct Decoder {
 }
 
 impl Decoder {
-    ghost use Rattle.rds_log.specs.Decode.{WrotePart};
+    ghost use Rattle.rds_log.specs.Outputs.{WrotePart};
     ghost use Rattle.rds_log.specs.Inside.Decoder.{HasDecoded};
 
     /// Starts a log with a receiver that has heard nothing yet.
@@ -137,7 +137,7 @@ impl Decoder {
             → HasDecoded how self.old (traffic W.contents W.failures start writer.old) lines
             → MatchResult result
             (λ _. HasDecoded how self.new (traffic W.contents W.failures start writer.new) lines)
-            (λ _. WrotePart how (traffic W.contents W.failures start writer.new) lines) }
+            (λ _. WrotePart (LinesWrite how) (traffic W.contents W.failures start writer.new) lines) }
     {
         self.output.write(writer)
     }

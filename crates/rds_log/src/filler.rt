@@ -23,7 +23,7 @@ const FILLED_ROOM: usize = 8192;
 const LINE_ROOM: usize = 61;
 
 /// The place of the time in a line: after the blocks and a space.
-const TIME: usize = 20;
+pub(crate) const TIME: usize = 20;
 
 const LOST: &[u8] = b"---- ---- ---- ----\n";
 
@@ -315,7 +315,7 @@ impl Filler {
 }
 
 /// Returns the time of a slot's line, from its first bytes, and keeps its date.
-fn stamp_of(date: &mut LastDate, start: &[u8]) -> Option<Stamp>
+pub(crate) fn stamp_of(date: &mut LastDate, start: &[u8]) -> Option<Stamp>
     requires { length start.now ≤ 60 }
     ensures value { result ≡ time_of start.now }
     ensures within { IfSome result (λ stamp. 20 + stamp.end ≤ length start.now) }

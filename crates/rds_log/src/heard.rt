@@ -30,6 +30,15 @@ impl GroupCounts {
         }
     }
 
+    /// Returns how many groups were counted, of all types.
+    pub fn total(&self) -> u64 {
+        let mut sum = 0u64;
+        for count in self.counts {
+            sum = sum.wrapping_add(count);
+        }
+        sum
+    }
+
     /// Returns the number that was counted of a group type, given as five bits: the number, and 1 for version B.
     pub fn of(&self, kind: u8) -> u64
         ensures { result ≡ count_of self.now kind }

@@ -20,9 +20,14 @@ mod gather_log;
 mod heard;
 mod laws;
 mod line_cause;
+mod line_time;
+mod list_log;
+mod list_notes;
+mod lister;
 mod log_line;
 mod notes;
 mod pace;
+mod segment_cause;
 mod slots_log;
 mod source;
 mod verdict;
@@ -37,5 +42,10 @@ pub use laws::{
     what_an_answer_means,
 };
 pub use line_cause::LineCause;
+pub use line_time::LineTime;
+pub use list_log::list_with_notes;
+pub use list_notes::{FaultCount, FaultCounts, FaultPlace, ListNotes};
 pub use notes::{BadStart, LogNotes, NoNote, Pause};
+pub use segment_cause::SegmentCause;
 pub use slots_log::{SlotNotes, fill_with_notes};
+pub use verdict::fault_name;

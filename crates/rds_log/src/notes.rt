@@ -3,7 +3,11 @@ ghost use Rattle.std.specs.Prelude.{◌≡◌, None};
 
 use crate::heard::Heard;
 use crate::line_cause::LineCause;
+use crate::line_time::LineTime;
+use crate::list_notes::ListNotes;
 use crate::log_line::{DECIDING, LogLine};
+use crate::segment_cause::SegmentCause;
+use crate::source::Source;
 use arrayvec::ArrayVec;
 use rds_audit::{Audit, AuditFault, Tally};
 use rds_fields::Message;
@@ -37,6 +41,10 @@ pub struct NoNote {
     pub paused: Option<Pause>,
     /// M + K, in slots.
     pub spacing: u32,
+    /// For `NotOneText`, what is wrong with the segment.
+    pub cause: Option<SegmentCause>,
+    /// The time in the line of the slot.
+    pub time: LineTime,
 }
 
 /// A pause of M + K slots or more without a text segment or tags (this project's own rule).
@@ -54,14 +62,15 @@ impl NoNote {
     #[inline(never)]
     pub(crate) fn of(
         audit: &Audit,
+        source: &Source,
         said: LogLine,
         slot: u64,
-        line: u64,
         fault: AuditFault,
     ) -> NoNote
         ensures slot { result.slot ≡ slot }
         ensures fault { result.fault ≡ fault }
     {
+        let sent = said;
         let of_name = is_name(said);
         let stored = audit.store();
         let texts = audit.texts();
@@ -78,16 +87,36 @@ impl NoNote {
             None
         };
         let spacing = stored.distance;
+        let cause = match fault {
+            AuditFault::NotOneText => segment_cause(sent, stored.text.least, stored.text.most),
+            _ => None,
+        };
         NoNote {
             slot,
-            line,
+            line: source.lines(),
             fault,
             of_name,
             earlier: slot_before(slot, age),
             first,
             paused: pause_of(slot, stored.text.since_before, spacing, texts, first),
             spacing,
+            cause,
+            time: LineTime::of(source.start()),
         }
+    }
+}
+
+/// Returns what is wrong with the segment of a line, for a text of these lengths so far.
+fn segment_cause(said: LogLine, least: u8, most: u8) -> Option<SegmentCause> {
+    let LogLine::Slot(Some(group)) = said else {
+        return None;
+    };
+    match Message::of_blocks(group) {
+        Message::Text { address, bytes, .. } => {
+            SegmentCause::of_text(address.get(), bytes, least, most)
+        }
+        Message::Name { address, bytes, .. } => SegmentCause::of_name(address.get(), bytes),
+        Message::Tags(_) | Message::Announce { .. } | Message::Other => None,
     }
 }
 
@@ -118,7 +147,7 @@ fn pause_of(
 }
 
 /// Returns whether a line has a group of a name.
-fn is_name(said: LogLine) -> bool {
+pub(crate) fn is_name(said: LogLine) -> bool {
     match said {
         LogLine::Slot(Some(group)) => matches!(Message::of_blocks(group), Message::Name { .. }),
         LogLine::Slot(None) | LogLine::Skip => false,
@@ -145,6 +174,8 @@ pub struct LogNotes {
     pub texts: Tally,
     /// What the audit judged of names.
     pub names: Tally,
+    /// The faults that were listed.
+    pub listed: ListNotes,
 }
 
 impl LogNotes {
@@ -165,6 +196,7 @@ impl LogNotes {
             no: None,
             texts: Tally::default(),
             names: Tally::default(),
+            listed: ListNotes::new(),
         }
     }
 }

@@ -1,12 +1,14 @@
 //! The verdict of an audit, and its line.
 ghost use Rattle.std.specs.Prelude.{◌≡◌, ◌≤◌, ◌+◌, ◌++◌, ◌↔◌, IsTrue, length};
-ghost use Rattle.rds_log.specs.Audit.{IsYes, fault_name, verdict_line};
+ghost use Rattle.rds_log.specs.Audit as specs;
+ghost use Rattle.rds_log.specs.Audit.{IsYes, verdict_line};
+ghost use Rattle.rds_log.specs.declared.verdict.TheConstants.{ANSWER_ROOM};
 
 use rds_audit::AuditFault;
 use rds_io::Lines;
 
 /// The most bytes of the line of a verdict.
-pub(crate) const ANSWER_ROOM: usize = 64;
+pub(crate) const ANSWER_ROOM: usize = 36;
 
 /// The verdict of an audit.
 #[derive(Clone, Copy)]
@@ -29,9 +31,10 @@ impl Verdict {
     }
 
     /// Appends the line of the verdict.
-    pub(crate) fn push(self, lines: &mut Lines<ANSWER_ROOM>)
-        requires { length lines.old + 36 ≤ 64 }
-        ensures { lines.new ≡ lines.old ++ verdict_line self }
+    pub(crate) fn push<const N: usize>(self, lines: &mut Lines<N>)
+        requires { length lines.old + ANSWER_ROOM ≤ N }
+        ensures line { lines.new ≡ lines.old ++ verdict_line self }
+        ensures room { length lines.new ≤ length lines.old + ANSWER_ROOM }
     {
         match self {
             Verdict::Yes(slots) => {
@@ -42,16 +45,16 @@ impl Verdict {
                 lines.push(b"no ");
                 lines.push_number(slot);
                 lines.push(b" ");
-                lines.push(name_of(fault));
+                lines.push(fault_name(fault));
             }
         }
         lines.push(b"\n");
     }
 }
 
-/// Returns the name of a fault.
-fn name_of(fault: AuditFault) -> &'static [u8]
-    ensures name { result.now ≡ fault_name fault }
+/// Returns the name of a fault, as in the answer of an audit.
+pub fn fault_name(fault: AuditFault) -> &'static [u8]
+    ensures name { result.now ≡ specs.fault_name fault }
     ensures short { length result.now ≤ 10 }
 {
     match fault {

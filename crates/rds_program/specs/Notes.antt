@@ -7,9 +7,9 @@ use Rattle.rds_log.specs.Heard.{count_of}
 use Rattle.rds_log.specs.declared.heard.GroupCounts.{GroupCounts}
 use Rattle.rds_log.specs.declared.notes.LogNotes.{LogNotes}
 use Rattle.rds_program.specs.declared.note.Note.{Note}
-use Rattle.rds_program.specs.declared.note.Note.TheVariants.{BrokenRule, Breaks, Coarse, Judged, Lacking, NoGroup}
-use Rattle.rds_program.specs.declared.note.Note.TheVariants.{NothingToRead, OthersLeftOut, SetTooEarly, ShortTexts}
-use Rattle.rds_program.specs.declared.note.Note.TheVariants.{Untimed}
+use Rattle.rds_program.specs.declared.note.Note.TheVariants.{BrokenRule, Breaks, Coarse, Judged, Lacking, Listed}
+use Rattle.rds_program.specs.declared.note.Note.TheVariants.{NoGroup, NothingToRead, OthersLeftOut, SetTooEarly}
+use Rattle.rds_program.specs.declared.note.Note.TheVariants.{ShortTexts, Untimed}
 use Rattle.rds_program.specs.declared.note.Note.TheVariants as note
 use Rattle.rds_program.specs.declared.notes.End.{End}
 use Rattle.rds_program.specs.declared.notes.End.TheVariants.{BadPi, BadWindow, Done, Fault, NotRun}
@@ -58,7 +58,7 @@ abbrev pub log_note : Task → End → LogNotes → Option Note
 log_note (Decode window why) end log = read_note false end log
 log_note (Encode programme late) end log = None
 log_note (Simulate programme late window alone why) end log = None
-log_note (Audit late running) end log = read_note true end log
+log_note (Audit late running all) end log = read_note true end log
 log_note Witness end log = read_note false end log
 log_note (Slots grain only) end log = None
 
@@ -71,8 +71,9 @@ add_warnings task run lacks notes =
     (add_if (nat_lt 0 run.slots.others) OthersLeftOut
     (add_if (nat_lt 0 run.slots.untimed) Untimed
     (add_if lacks Lacking
+    (add_if (nat_lt 0 run.log.listed.faults) Listed
     (add_if (is_some run.log.no) BrokenRule
-    (add_if (is_some run.script.wait) SetTooEarly notes)))))))
+    (add_if (is_some run.script.wait) SetTooEarly notes))))))))
 
 -- the note on why a run stopped; none if nobody reads its output any more
 abbrev pub end_note : End → Bool → Option Note

@@ -1,6 +1,6 @@
 -- What the whole program does with its arguments. This is the project's own command line. r is the traffic of a call
 -- with the reader, w its traffic with the writer.
-use Rattle.std.specs.Prelude.{◌≡◌, ◌⊎◌, ◌+◌, ◌*◌, ◌^◌, ◌++◌, []}
+use Rattle.std.specs.Prelude.{◌≡◌, ◌⊎◌, ◌*◌, ◌^◌, ◌++◌, []}
 use Rattle.std.specs.Prelude.{ℕ, Bool, false, true, List, codes, decimal, None, Some, Option, Ok, Err, Result}
 use Rattle.std.specs.Prelude.{if◌then◌else◌, nat_le, option_map}
 use Rattle.clap.specs.Words.{kind_of}
@@ -18,6 +18,7 @@ use Rattle.rds_world.specs.declared.world.Config.{Config}
 use Rattle.rds_audit.specs.AuditState.{start_if}
 use Rattle.rds_log.specs.Audit.{Audits}
 use Rattle.rds_log.specs.Decode.{Decodes}
+use Rattle.rds_log.specs.FaultList.{Lists}
 use Rattle.rds_log.specs.Fill.{Fills}
 use Rattle.rds_log.specs.LogWrites.{tuned}
 use Rattle.rds_log.specs.declared.audit_log.Auditing.{Auditing}
@@ -74,7 +75,7 @@ abbrev pub mark_of : Task → List ℕ
 mark_of (Decode window why) = []
 mark_of (Encode programme late) = codes "# "
 mark_of (Simulate programme late window alone why) = []
-mark_of (Audit late running) = []
+mark_of (Audit late running all) = []
 mark_of Witness = []
 mark_of (Slots grain only) = codes "# "
 
@@ -197,8 +198,10 @@ TaskRuns (Encode programme late) t r w status =
 TaskRuns (Simulate programme late window alone why) t r w status =
     SimulationRuns why (simulated_station t programme late window alone) (Simulate programme late window alone why) r w
     status
-TaskRuns (Audit late running) t r w status =
-    Runs (Audits (auditing_of t late running) (2 ^ 32) r.traffic) verdict_status (Audit late running) w status
+TaskRuns (Audit late running false) t r w status =
+    Runs (Audits (auditing_of t late running) (2 ^ 32) r.traffic) verdict_status (Audit late running false) w status
+TaskRuns (Audit late running true) t r w status =
+    Runs (Lists (auditing_of t late running) (2 ^ 32) r.traffic) verdict_status (Audit late running true) w status
 TaskRuns Witness t r w status = Runs (Witnesses t r.traffic) witness_status Witness w status
 TaskRuns (Slots grain only) t r w status =
     Runs (Fills (filling_of t (1000 * grain) only) r.traffic) times_status (Slots grain only) w status

@@ -1,7 +1,7 @@
 -- From what one program promises to a weaker promise: of other engines, or of a reader that never fails.
 use Rattle.std.proofs.Common.{◌^◌, arith, inl, inr}
 use Rattle.std.proofs.Math.Logic.{∥∥₁_elim}
-use Rattle.std.specs.Prelude.{ℕ, Bool, List, None, Option, Some}
+use Rattle.std.specs.Prelude.{ℕ, Bool, List, None, Option, Some, false, true}
 use Rattle.rds_io.specs.Told.{Failed, Traffic}
 use Rattle.rds_receiver.specs.Receipts.{Tuning}
 use Rattle.rds_world.specs.declared.receiver_kind.ReceiverKind.TheVariants.{WithDwell}
@@ -11,7 +11,6 @@ use Rattle.rds_io.specs.ReadFailed.{SomeReadFailed}
 use Rattle.rds_script.specs.BorrowedReads.{plays_by}
 use Rattle.rds_script.specs.Play.{Plays, with_form}
 use Rattle.rds_script.specs.declared.play.Playing.{Playing}
-use Rattle.rds_script.specs.declared.form.Form.{Form}
 use Rattle.rds_script.specs.declared.form.Form.TheVariants.{Log, Simulation}
 use Rattle.rds_cli.specs.declared.request.Task.{Task}
 use Rattle.rds_cli.specs.declared.request.Task.TheVariants.{Audit, Decode, Encode, Simulate, Slots, Witness}
@@ -74,7 +73,8 @@ pub task_by : {P Q U V : Type 0} → (P → Q) → (U → V) → (task : Task) (
     → TaskRuns task t (record { traffic = r; ReadFailed = P; Untouched = U }) w status
     → TaskRuns task t (record { traffic = r; ReadFailed = Q; Untouched = V }) w status
 task_by says rests (Decode window why) t r w status ran = ran
-task_by says rests (Audit late running) t r w status ran = ran
+task_by says rests (Audit late running false) t r w status ran = ran
+task_by says rests (Audit late running true) t r w status ran = ran
 task_by says rests Witness t r w status ran = ran
 task_by says rests (Slots grain only) t r w status ran = ran
 task_by says rests (Encode programme late) t r w status ran =

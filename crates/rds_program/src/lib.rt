@@ -3,6 +3,7 @@
 #![tactic(auto)]
 
 mod breaks;
+mod fault_lines;
 mod note;
 mod note_lines;
 mod notes;

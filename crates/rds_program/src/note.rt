@@ -6,10 +6,11 @@ ghost use Rattle.rds_program.specs.Notes as specs;
 use crate::notes::{End, RunNotes};
 use arrayvec::ArrayVec;
 use rds_cli::Task;
+use rds_fields::RTPLUS_CODE;
 use rds_log::{GroupCounts, LogNotes};
 
 /// The most notes of a run.
-pub(crate) const MOST_NOTES: usize = 9;
+pub(crate) const MOST_NOTES: usize = 10;
 
 /// The group type 2A as five bits: RadioText.
 const TEXT_GROUPS: u8 = 4;
@@ -19,9 +20,6 @@ const SHORT_TEXT_GROUPS: u8 = 5;
 
 /// The group type 10A: the programme type name.
 const NAME_GROUPS: u8 = 20;
-
-/// The group type 11A: tags.
-const TAG_GROUPS: u8 = 22;
 
 /// The notes of a run, in the order in which they are printed.
 pub(crate) type Notes = ArrayVec<Note, MOST_NOTES>;
@@ -34,6 +32,8 @@ pub(crate) enum Note {
     SetTooEarly,
     /// The rule that a log breaks first.
     BrokenRule,
+    /// How often each fault of a log came.
+    Listed,
     /// A log has fewer lines than slots by its times.
     Lacking,
     /// Groups without a time were left out.
@@ -81,10 +81,11 @@ pub(crate) fn notes_of(run: &RunNotes, lacks: bool, is_gone: bool) -> Notes
 fn add_warnings(task: Task, run: &RunNotes, lacks: bool, notes: &mut Notes)
     requires { array_vec_len notes.old ≡ 0 }
     ensures items { notes.new.items ≡ specs.add_warnings task run.now lacks notes.old.items }
-    ensures room { array_vec_len notes.new ≤ 8 }
+    ensures room { array_vec_len notes.new ≤ 9 }
 {
     add_if(run.script.wait.is_some(), Note::SetTooEarly, notes);
     add_if(run.log.no.is_some(), Note::BrokenRule, notes);
+    add_if(run.log.listed.faults > 0, Note::Listed, notes);
     add_if(lacks, Note::Lacking, notes);
     add_if(run.slots.untimed > 0, Note::Untimed, notes);
     add_if(run.slots.others > 0, Note::OthersLeftOut, notes);
@@ -121,7 +122,7 @@ fn log_note(task: Task, end: End, log: &LogNotes) -> Option<Note>
 {
     match task {
         Task::Decode { .. } | Task::Witness => read_note(false, end, log),
-        Task::Audit(..) => read_note(true, end, log),
+        Task::Audit { .. } => read_note(true, end, log),
         Task::Encode(..) | Task::Simulate { .. } | Task::Slots(..) => None,
     }
 }
@@ -130,11 +131,9 @@ fn log_note(task: Task, end: End, log: &LogNotes) -> Option<Note>
 fn read_note(judges: bool, end: End, log: &LogNotes) -> Option<Note>
     ensures { result ≡ specs.read_note judges end log.now }
 {
-    match end {
-        End::Done if log.no.is_none() => Some(()),
-        End::Done | End::NotRun | End::BadPi | End::BadWindow | End::Fault(_) => None,
-    }?;
-    if log.heard.wanted {
+    if !matches!(end, End::Done) || log.no.is_some() {
+        None
+    } else if log.heard.wanted {
         groups_note(judges, &log.heard.counts)
     } else {
         Some(Note::NoGroup)
@@ -160,7 +159,7 @@ fn groups_note(judges: bool, counts: &GroupCounts) -> Option<Note>
 fn reads_nothing(counts: &GroupCounts) -> bool
     ensures { result ≡ specs.reads_nothing counts.now }
 {
-    counts.of(TEXT_GROUPS) == 0 && counts.of(NAME_GROUPS) == 0 && counts.of(TAG_GROUPS) == 0
+    counts.of(TEXT_GROUPS) == 0 && counts.of(NAME_GROUPS) == 0 && counts.of(RTPLUS_CODE) == 0
 }
 
 /// Returns how many groups 2B were counted, which nothing here reads.

@@ -1,15 +1,15 @@
 //! Prints the notes of a run as lines. Each begins with `rdsrt: ` and goes out in one write.
 
+use crate::fault_lines::{print_listed, push_no};
 use crate::note::{Note, notes_of, short_texts};
-use crate::notes::{End, Options, RunNotes};
+use crate::notes::{End, RunNotes};
 use arrayvec::ArrayVec;
 use memchr::memchr;
 use rds_arrivals::{Break, Grain};
-use rds_audit::AuditFault;
 use rds_cli::Task;
 use rds_encoder::Refusal;
 use rds_io::{LogFault, TellingWrite, put};
-use rds_log::{BadStart, NoNote, comment_of};
+use rds_log::{BadStart, comment_of};
 use rds_script::Thing;
 use std::io::{self, ErrorKind, Write};
 
@@ -26,7 +26,7 @@ const NO_OPTION: &[u8] = b"error: unexpected argument '";
 const LONGEST_NAME: usize = 200;
 
 /// The bytes of an unfinished note.
-type Line = ArrayVec<u8, ROOM>;
+pub(crate) type Line = ArrayVec<u8, ROOM>;
 
 /// Prints why the arguments were refused, as `clap` says it.
 pub fn print_refusal<N: TellingWrite>(notes: &RunNotes, screen: &mut N) {
@@ -69,7 +69,10 @@ fn name_in(quoted: &[u8]) -> &[u8] {
 pub fn print_notes<N: TellingWrite>(run: &RunNotes, reason: Option<&io::Error>, screen: &mut N) {
     let notes = notes_of(run, lack_of(run).is_some(), is_gone(reason));
     for note in notes.as_slice() {
-        print(line_of(*note, run, reason), screen);
+        match *note {
+            Note::Listed => print_listed(run, screen),
+            note => print(line_of(note, run, reason), screen),
+        }
     }
 }
 
@@ -80,6 +83,7 @@ fn line_of(note: Note, run: &RunNotes, reason: Option<&io::Error>) -> Line {
         return line;
     };
     match note {
+        Note::Listed => {}
         Note::SetTooEarly => push_wait(run, &mut line),
         Note::BrokenRule => push_no(run, options, &mut line),
         Note::Lacking => push_lack(lack_of(run), &mut line),
@@ -106,7 +110,7 @@ fn push_nothing(task: Task, run: &RunNotes, line: &mut Line) {
     push(run.pi.as_slice(), line);
     let _ = write!(line, "{}", nothing_said(task));
     let verb = match asked {
-        Task::Audit(..) => "judged",
+        Task::Audit { .. } => "judged",
         Task::Decode { .. }
         | Task::Encode(..)
         | Task::Simulate { .. }
@@ -132,8 +136,12 @@ fn push_judged(run: &RunNotes, line: &mut Line) {
     let texts = run.log.texts;
     let names = run.log.names;
     let slots = run.log.slots;
+    let empty = slots.saturating_sub(run.log.heard.counts.total());
     let _ = write!(line, "judged in ");
     push_count(slots, "slot", "slots", line);
+    if empty > 0 {
+        let _ = write!(line, ", {empty} without a group");
+    }
     let _ = write!(line, ": ");
     push_count(texts.values, "text", "texts", line);
     let _ = write!(line, ", ");
@@ -144,7 +152,7 @@ fn push_judged(run: &RunNotes, line: &mut Line) {
 }
 
 /// Appends a number of things.
-fn push_count(count: u64, one: &str, more: &str, line: &mut Line) {
+pub(crate) fn push_count(count: u64, one: &str, more: &str, line: &mut Line) {
     let thing = if count == 1 { one } else { more };
     let _ = write!(line, "{count} {thing}");
 }
@@ -152,7 +160,7 @@ fn push_count(count: u64, one: &str, more: &str, line: &mut Line) {
 /// Returns the end of a note on a log with nothing to read: what the answer is worth.
 fn nothing_said(task: Task) -> &'static str {
     match task {
-        Task::Audit(..) => ": the yes says nothing",
+        Task::Audit { .. } => ": the yes says nothing",
         Task::Witness => ": the search says nothing",
         Task::Decode { .. } | Task::Encode(..) | Task::Simulate { .. } | Task::Slots(..) => "",
     }
@@ -299,100 +307,6 @@ fn push_coarse(task: Task, run: &RunNotes, line: &mut Line) {
     );
 }
 
-/// Appends which rule the log breaks first, and what to try next.
-fn push_no(run: &RunNotes, options: Options, line: &mut Line) {
-    let Some(no) = run.log.no else {
-        return;
-    };
-    let slot = no.slot;
-    let _ = write!(line, "slot {slot} (line {}): ", no.line);
-    push_rule(no, line);
-    let _ = write!(
-        line,
-        ". To look for lost slots that make a mix: rdsrt witness --pi "
-    );
-    push(run.pi.as_slice(), line);
-    let _ = write!(line, " --m {}", options.dwell.get());
-    push_running(no, options.task, line);
-}
-
-/// Appends the option for a recording if the fault goes with it: tags that came before any text, or soon after slot 0
-/// as the start of their text.
-fn push_running(no: NoNote, task: Task, line: &mut Line) {
-    let may_be_old = match no.fault {
-        AuditFault::EarlyTag => no.earlier.unwrap_or(0) == 0,
-        AuditFault::EarlyFlag
-        | AuditFault::Changed
-        | AuditFault::NotOneText
-        | AuditFault::TagOutside => false,
-    };
-    let takes_it = match task {
-        Task::Audit(_, running) => !running,
-        Task::Decode { .. }
-        | Task::Encode(..)
-        | Task::Simulate { .. }
-        | Task::Witness
-        | Task::Slots(..) => false,
-    };
-    if takes_it && may_be_old {
-        let _ = write!(
-            line,
-            ". If the station was on air before the log began: --running"
-        );
-    }
-}
-
-/// Appends the broken rule, in a sentence.
-fn push_rule(no: NoNote, line: &mut Line) {
-    let thing = if no.of_name { "name (PTYN)" } else { "text" };
-    let spacing = no.spacing;
-    let _ = match no.fault {
-        AuditFault::Changed => write!(line, "a {thing} changed without a flip of the A/B flag"),
-        AuditFault::NotOneText => write!(line, "the segments fit no {thing}"),
-        AuditFault::EarlyFlag => write!(
-            line,
-            "a {thing} reused the A/B flag less than M + K = {spacing} slots after the last group of the {thing} \
-             before the previous one"
-        ),
-        AuditFault::EarlyTag if no.earlier.is_none() => write!(
-            line,
-            "RT+ tags came before any text"
-        ),
-        AuditFault::EarlyTag => write!(
-            line,
-            "RT+ tags came less than M + K = {spacing} slots after their text started"
-        ),
-        AuditFault::TagOutside => write!(line, "an RT+ tag ends past the end of its text"),
-    };
-    if let Some(slot) = no.earlier {
-        let _ = write!(line, ", in slot {slot}");
-        push_first(slot, no, line);
-    }
-}
-
-/// Appends where the first group of the text is, if the text can have started before it, and the pause before it.
-fn push_first(start: u64, no: NoNote, line: &mut Line) {
-    if let Some(first) = no.first
-        && first != start
-    {
-        let _ = write!(line, " at the earliest; its first group is in slot {first}");
-    }
-    let Some(pause) = no.paused else {
-        return;
-    };
-    let until = pause.until.saturating_sub(1);
-    let _ = match pause.from {
-        Some(from) => write!(
-            line,
-            "; no segment from slot {from} to {until}, so the text began anew"
-        ),
-        None => write!(
-            line,
-            "; no segment for M + K slots or more up to slot {until}, so the text began anew"
-        ),
-    };
-}
-
 /// Appends why a PI code was refused.
 fn push_pi(given: &[u8], line: &mut Line) {
     let _ = write!(line, "fault pi: --pi ");
@@ -491,7 +405,7 @@ fn push_bad_row(number: u64, run: &RunNotes, line: &mut Line) {
 }
 
 /// Appends bytes unchanged.
-fn push(bytes: &[u8], line: &mut Line) {
+pub(crate) fn push(bytes: &[u8], line: &mut Line) {
     let _ = line.write(bytes);
 }
 
@@ -512,19 +426,19 @@ fn push_shown(bytes: &[u8], line: &mut Line) {
 fn reads_script(task: Task) -> bool {
     match task {
         Task::Encode(..) | Task::Simulate { .. } => true,
-        Task::Decode { .. } | Task::Audit(..) | Task::Witness | Task::Slots(..) => false,
+        Task::Decode { .. } | Task::Audit { .. } | Task::Witness | Task::Slots(..) => false,
     }
 }
 
 /// Returns the beginning of a note.
-fn begun() -> Line {
+pub(crate) fn begun() -> Line {
     let mut line = Line::new();
     push(BEGUN, &mut line);
     line
 }
 
 /// Ends a note, and prints it as far as the writer takes it.
-fn print<N: TellingWrite>(mut line: Line, screen: &mut N) {
+pub(crate) fn print<N: TellingWrite>(mut line: Line, screen: &mut N) {
     let _ = writeln!(line);
     let _ = put(line.as_slice(), screen);
 }

@@ -25,7 +25,7 @@ use rds_fields::{Dwell, Head, Late};
 use rds_io::{Lines, LogFault, TellingRead, TellingWrite, put};
 use rds_log::{
     Auditing, Decoding, Filling, MOST_READS, Times, audit_with_notes, decode_with_notes,
-    fill_with_notes,
+    fill_with_notes, list_with_notes,
 };
 use rds_receiver::Window;
 use rds_script::{Form, MOST_RECORDS, Playing, play_script};
@@ -211,7 +211,11 @@ fn run_task<R: TellingRead, W: TellingWrite>(
             let station = simulated_station(pi, dwell, programme, late, window, flag_alone);
             simulate(alloc, asked, says_why, station, reader, writer, notes)
         }
-        Task::Audit(late, running) => {
+        Task::Audit {
+            late,
+            running,
+            lists_all,
+        } => {
             let auditing = Auditing {
                 pi,
                 dwell,
@@ -219,7 +223,12 @@ fn run_task<R: TellingRead, W: TellingWrite>(
                 start: start_of(running),
             };
             let log = &mut notes.log;
-            match audit_with_notes(reader, writer, auditing, MOST_READS, log) {
+            let audited = if lists_all {
+                list_with_notes(reader, writer, auditing, MOST_READS, log)
+            } else {
+                audit_with_notes(reader, writer, auditing, MOST_READS, log)
+            };
+            match audited {
                 Ok(passed) => answer_by(passed, OK, NO, &mut notes.end),
                 Err(fault) => fail_with(asked, fault, writer, &mut notes.end),
             }
@@ -449,7 +458,7 @@ fn mark(task: Task) -> &'static [u8]
 {
     match task {
         Task::Encode(..) | Task::Slots(..) => b"# ",
-        Task::Decode { .. } | Task::Simulate { .. } | Task::Audit(..) | Task::Witness => b"",
+        Task::Decode { .. } | Task::Simulate { .. } | Task::Audit { .. } | Task::Witness => b"",
     }
 }
 

@@ -16,6 +16,7 @@ returns c = record {
   audit = record { taken = refl; ask = refl };
   audit_late = record { taken = refl; ask = refl };
   audit_running = record { taken = refl; ask = refl };
+  audit_all = record { taken = refl; ask = refl };
   witness = record { taken = refl; ask = refl };
   slots = record { taken = refl; ask = refl };
   slots_grain = record { taken = refl; ask = refl };

@@ -2,7 +2,8 @@ use Rattle.std.proofs.Common.{◌≡◌, ◌≢◌, ◌∷◌, [], None, arith, 
 use Rattle.std.proofs.lemmas.Result.{err_from_is_err_and}
 use Rattle.rds_io.specs.Told.{traffic}
 use Rattle.rds_log.specs.Inside.Source.{state_of}
-use Rattle.rds_log.proofs.Decodes.{ends_at_fault, ends_by_fault, ends_by_write}
+use Rattle.rds_log.specs.LogWrites.{LinesWrite}
+use Rattle.rds_log.proofs.Decodes.{ends_at_fault, ends_by_fault, ends_by_write, wrote_lines}
 use Rattle.rds_log.proofs.Noting.{fault_noted}
 use Rattle.rds_log.proofs.decode_log.decode_with_notes.Goals as goal
 
@@ -26,7 +27,7 @@ returns-in_err-write-in-Err-clause-decodes g c =
     let (lines, stands, decoded, heard) = c.loop-notes.invariant.stands in
     let some : c.loop-notes.source.line ≢ None = λ e. (let fine = c.in_err-write-in-Err.ensures.nothing (c.loop-notes.invariant.empty e) in cc) in
     let p = err_from_is_err_and c.from_residual.result c.from_residual.ensures.1 in
-    rw (p.1, p.2) (ends_at_fault c.args.decoding c.loop-notes.source.line c.args.reads
+    rw (p.1, p.2) (ends_at_fault (LinesWrite c.args.decoding) c.loop-notes.source.line c.args.reads
     (state_of g.R.Read.remaining g.R.TellingRead.failures g.R.TellingRead.reads c.args.reader.now) (state_of g.R.Read.remaining g.R.TellingRead.failures g.R.TellingRead.reads c.next.new.reader)
     (traffic g.W.Write.contents g.W.TellingWrite.failures c.args.writer.now c.write.new.writer) lines _ c.in-Err.fault
     c.in-Err.ensures.there some (c.in-Err.ensures.gives _ _ lines stands) (c.in_err-write-in-Err.ensures.wrote _ _ lines decoded))
@@ -34,17 +35,17 @@ returns-in_err-write-in-Err-clause-decodes g c =
 pub returns-in-Err-clause-decodes : goal.returns-in-Err-clause-decodes
 returns-in-Err-clause-decodes g c =
     let (lines, stands, decoded, heard) = c.loop-notes.invariant.stands in
-    ends_by_fault c.args.decoding c.write.new.self c.args.reads
+    ends_by_fault (LinesWrite c.args.decoding) c.args.reads
     (state_of g.R.Read.remaining g.R.TellingRead.failures g.R.TellingRead.reads c.args.reader.now) (state_of g.R.Read.remaining g.R.TellingRead.failures g.R.TellingRead.reads c.next.new.reader)
     (traffic g.W.Write.contents g.W.TellingWrite.failures c.args.writer.now c.write.new.writer) lines _ c.in-Err.fault
-    (c.in-Err.ensures.gives _ _ lines stands) (c.in_ok-write-in-Err.ensures.wrote _ _ lines decoded) c.in_ok-write-in-Err.ensures.empty
+    (c.in-Err.ensures.gives _ _ lines stands) (wrote_lines c.args.decoding c.write.new.self _ lines (c.in_ok-write-in-Err.ensures.wrote _ _ lines decoded) c.in_ok-write-in-Err.ensures.empty)
 
 pub returns-in_err-write-clause-decodes : goal.returns-in_err-write-clause-decodes
 returns-in_err-write-clause-decodes g c =
     let (lines, stands, decoded, heard) = c.loop-notes.invariant.stands in
     let (line, says, further, starts) = rw c.in-Ok-true.field-0-test at (c.in-Ok-true.ensures.gives _ _ lines stands) in
     let p = err_from_is_err_and c.from_residual-in_err-write.result c.from_residual-in_err-write.ensures.1 in
-    rw (p.1, p.2) (ends_by_write c.args.decoding c.next.new.self c.args.reads
+    rw (p.1, p.2) (ends_by_write (LinesWrite c.args.decoding) c.next.new.self c.args.reads
     (state_of g.R.Read.remaining g.R.TellingRead.failures g.R.TellingRead.reads c.args.reader.now) (state_of g.R.Read.remaining g.R.TellingRead.failures g.R.TellingRead.reads c.next.new.reader)
     (traffic g.W.Write.contents g.W.TellingWrite.failures c.args.writer.now c.write-then-not-has_line.new.writer) (line ∷ lines) further
     (c.in_err-write.ensures.wrote _ _ (line ∷ lines) (c.line-in-Ok-true.ensures.decoded _ _ lines line says decoded)))

@@ -1,0 +1,184 @@
+//! The words about the faults of a log.
+
+use crate::note_lines::{Line, begun, print, push, push_count};
+use crate::notes::{Options, RunNotes};
+use rds_audit::{AuditFault, Tally};
+use rds_cli::Task;
+use rds_io::TellingWrite;
+use rds_log::{FaultCount, FaultCounts, FaultPlace, LineTime, NoNote, SegmentCause, fault_name};
+use std::io::Write;
+
+/// Prints how often each fault of a log came, a line each.
+pub(crate) fn print_listed<N: TellingWrite>(run: &RunNotes, screen: &mut N) {
+    let log = &run.log;
+    print_counts(&log.listed.texts, log.texts, "text", "texts", screen);
+    print_counts(&log.listed.names, log.names, "name", "names", screen);
+}
+
+/// Prints how often each fault of the texts, or of the names, came.
+fn print_counts<N: TellingWrite>(
+    counts: &FaultCounts,
+    judged: Tally,
+    one: &str,
+    more: &str,
+    screen: &mut N,
+) {
+    for count in counts.counts {
+        let Some(count) = count else {
+            continue;
+        };
+        let mut line = begun();
+        let _ = write!(line, "{} of ", count.count);
+        push_count(judged.values, one, more, &mut line);
+        push_found(count, &mut line);
+        print(line, screen);
+    }
+}
+
+/// Appends the name of a fault, and where it came first and last.
+fn push_found(count: FaultCount, line: &mut Line) {
+    let _ = write!(line, ": ");
+    push(fault_name(count.fault), line);
+    if count.count == 1 {
+        let _ = write!(line, " in ");
+        push_fault_place(count.first, line);
+        return;
+    }
+    let _ = write!(line, ", first in ");
+    push_fault_place(count.first, line);
+    let _ = write!(line, ", last in ");
+    push_fault_place(count.last, line);
+}
+
+/// Appends the slot of a fault, its line and its time.
+fn push_fault_place(place: FaultPlace, line: &mut Line) {
+    push_place(place.slot, place.line, place.time, line);
+}
+
+/// Appends a slot, its line, and the time in this line, if it has one.
+fn push_place(slot: u64, number: u64, time: LineTime, line: &mut Line) {
+    let _ = write!(line, "slot {slot} (line {number}");
+    let bytes = time.bytes();
+    if !bytes.is_empty() {
+        let _ = write!(line, ", ");
+        push(bytes.strip_prefix(b"@").unwrap_or(bytes), line);
+    }
+    let _ = write!(line, ")");
+}
+
+/// Appends which rule the log breaks first, and what to try next.
+pub(crate) fn push_no(run: &RunNotes, options: Options, line: &mut Line) {
+    let Some(no) = run.log.no else {
+        return;
+    };
+    push_place(no.slot, no.line, no.time, line);
+    let _ = write!(line, ": ");
+    push_rule(no, line);
+    let _ = write!(
+        line,
+        ". To look for lost slots that make a mix: rdsrt witness --pi "
+    );
+    push(run.pi.as_slice(), line);
+    let _ = write!(line, " --m {}", options.dwell.get());
+    push_running(no, options.task, line);
+}
+
+/// Appends the option for a recording if the fault goes with it: tags that came before any text, or soon after slot 0
+/// as the start of their text.
+fn push_running(no: NoNote, task: Task, line: &mut Line) {
+    let may_be_old = match no.fault {
+        AuditFault::EarlyTag => no.earlier.unwrap_or(0) == 0,
+        AuditFault::EarlyFlag
+        | AuditFault::Changed
+        | AuditFault::NotOneText
+        | AuditFault::TagOutside => false,
+    };
+    let takes_it = match task {
+        Task::Audit { running, .. } => !running,
+        Task::Decode { .. }
+        | Task::Encode(..)
+        | Task::Simulate { .. }
+        | Task::Witness
+        | Task::Slots(..) => false,
+    };
+    if takes_it && may_be_old {
+        let _ = write!(
+            line,
+            ". If the station was on air before the log began: --running"
+        );
+    }
+}
+
+/// Appends the broken rule, in a sentence.
+fn push_rule(no: NoNote, line: &mut Line) {
+    let thing = if no.of_name { "name (PTYN)" } else { "text" };
+    let spacing = no.spacing;
+    let _ = match no.fault {
+        AuditFault::Changed => write!(line, "a {thing} changed without a flip of the A/B flag"),
+        AuditFault::NotOneText => write!(line, "the segments fit no {thing}"),
+        AuditFault::EarlyFlag => write!(
+            line,
+            "a {thing} reused the A/B flag less than M + K = {spacing} slots after the last group of the {thing} \
+             before the previous one"
+        ),
+        AuditFault::EarlyTag if no.earlier.is_none() => write!(
+            line,
+            "RT+ tags came before any text"
+        ),
+        AuditFault::EarlyTag => write!(
+            line,
+            "RT+ tags came less than M + K = {spacing} slots after their text started"
+        ),
+        AuditFault::TagOutside => write!(line, "an RT+ tag ends past the end of its text"),
+    };
+    push_cause(no.cause, line);
+    if let Some(slot) = no.earlier {
+        let _ = write!(line, ", in slot {slot}");
+        push_first(slot, no, line);
+    }
+}
+
+/// Appends where the first group of the text is, if the text can have started before it, and the pause before it.
+fn push_first(start: u64, no: NoNote, line: &mut Line) {
+    if let Some(first) = no.first
+        && first != start
+    {
+        let _ = write!(line, " at the earliest; its first group is in slot {first}");
+    }
+    let Some(pause) = no.paused else {
+        return;
+    };
+    let until = pause.until.saturating_sub(1);
+    let _ = match pause.from {
+        Some(from) => write!(
+            line,
+            "; no segment from slot {from} to {until}, so the text began anew"
+        ),
+        None => write!(
+            line,
+            "; no segment for M + K slots or more up to slot {until}, so the text began anew"
+        ),
+    };
+}
+
+/// Appends what is wrong with a segment. Places count from 0.
+fn push_cause(cause: Option<SegmentCause>, line: &mut Line) {
+    let Some(cause) = cause else {
+        return;
+    };
+    let _ = match cause {
+        SegmentCause::Byte(byte, place) => write!(line, ": byte 0x{byte:02X} at place {place}"),
+        SegmentCause::AfterReturn(byte, place) => write!(
+            line,
+            ": byte 0x{byte:02X} at place {place}, after the carriage return"
+        ),
+        SegmentCause::PastReturn(place) => write!(
+            line,
+            ": a segment past the carriage return at place {place}"
+        ),
+        SegmentCause::EarlyReturn(place) => write!(
+            line,
+            ": a carriage return at place {place}, before a segment that was sent"
+        ),
+    };
+}
