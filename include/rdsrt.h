@@ -63,7 +63,7 @@
  *     rdsrt_receiver_init               24    0    rdsrt_encoder_wait                 8    0
  *     rdsrt_receiver_init_confirming     8    0    rdsrt_audit_init                   8    0
  *     rdsrt_receiver_slot              216  160    rdsrt_audit_init_running           8    0
- *     rdsrt_receiver_view              232  208    rdsrt_audit_slot                  28   48
+ *     rdsrt_receiver_view              232  208    rdsrt_audit_slot                  44   64
  *     rdsrt_receiver_held                8    0    rdsrt_audit_passed                 8    0
  *     rdsrt_slot_time                    8    0    rdsrt_audit_texts_turn_the_flag    8    0
  *     rdsrt_time_in                    120  144    rdsrt_audit_names_turn_the_flag    8    0
@@ -72,7 +72,9 @@
  *     rdsrt_encoder_set_text           248  256    rdsrt_text_from_utf8             128  128
  *     rdsrt_encoder_set_name            56   48    rdsrt_type_name                   72   64
  *     rdsrt_encoder_set_tags            40    0    rdsrt_code_name                   72   64
- *     rdsrt_encoder_tick                32    0
+ *     rdsrt_encoder_tick                32    0    rdsrt_listing_init                 8    0
+ *     rdsrt_listing_init_running         8    0    rdsrt_listing_slot               140  128
+ *     rdsrt_listing_texts                8    0    rdsrt_listing_names                8    0
  *
  * YOU PROMISE for every call:
  *  - You call _init first. No call notices that you did not: a struct of zeros has PI 0000, so it shows nothing of your
@@ -98,7 +100,7 @@ extern "C" {
 #endif
 
 /* The number of this interface. It changes with every size, offset, code or call below. */
-#define RDSRT_ABI 4
+#define RDSRT_ABI 5
 
 /* The version of this header. rdsrt_version() returns the version of the linked library. */
 #define RDSRT_VERSION_MAJOR 0
@@ -152,10 +154,14 @@ enum rdsrt_code {
     RDSRT_FAULT_TAG_OUTSIDE = 21
 };
 
-/* A receiver, an encoder and an audit. Only the library reads and writes the numbers in them. */
+/* A receiver, an encoder, an audit and a list of faults. Only the library reads and writes the numbers in them. */
 struct rdsrt_receiver { uint32_t own_[66]; };
 struct rdsrt_encoder { uint32_t own_[29]; };
 struct rdsrt_audit { uint32_t own_[52]; };
+struct rdsrt_listing { uint64_t own_[90]; };
+
+/* The faults that a slot adds to a list: 1 for each of them, else 0 (RDSRT_FAULT_.. has their meaning). */
+struct rdsrt_faults { uint8_t changed, early_flag, not_one_text, early_tag, tag_outside; };
 
 /* A text: the first `length` bytes, 0 to 64, in the RDS character table. is_shown is 1 if there is a text (length 0 is
  * the empty text), else 0. */
@@ -310,6 +316,25 @@ uint32_t rdsrt_audit_passed(const struct rdsrt_audit *audit);
 uint32_t rdsrt_audit_texts_turn_the_flag(const struct rdsrt_audit *audit);
 uint32_t rdsrt_audit_names_turn_the_flag(const struct rdsrt_audit *audit);
 
+/* ---- All faults: what is wrong with an encoder, and how often? ---- */
+
+/* Makes a list of faults before the first slot of a complete log, or of a recording. The numbers, and what is returned,
+ * are those of rdsrt_audit_init and rdsrt_audit_init_running. */
+uint32_t rdsrt_listing_init(struct rdsrt_listing *listing, uint16_t pi, uint16_t dwell, uint16_t late);
+uint32_t rdsrt_listing_init_running(struct rdsrt_listing *listing, uint16_t pi, uint16_t dwell, uint16_t late);
+
+/* Ends a slot, as rdsrt_audit_slot does, and writes the faults that it adds to the list: 1 for each, else 0. A text or a
+ * name has each fault at most once, in the first slot in which it breaks the rule. Other bytes at an address of a text
+ * begin a new text. The first fault of a list is that of an audit (FORMATS.md, "All faults of a log").
+ * Returns RDSRT_OK, or RDSRT_BAD_ARGUMENT for a count other than 0 and 4: then no slot has ended and nothing is
+ * written. */
+uint32_t rdsrt_listing_slot(struct rdsrt_listing *listing, const uint16_t *blocks, size_t count,
+                            struct rdsrt_faults *faults);
+
+/* Returns how many texts, or names, the log has so far. One that changed its bytes without the flag counts as two. */
+uint64_t rdsrt_listing_texts(const struct rdsrt_listing *listing);
+uint64_t rdsrt_listing_names(const struct rdsrt_listing *listing);
+
 /* ---- Texts as UTF-8 ---- */
 
 /* For a display. Writes a text, up to 64 bytes of the RDS character table, as UTF-8: at most 192 bytes, with no 0 at
@@ -356,6 +381,10 @@ RDSRT_IS_(offsetof(struct rdsrt_version, minor) == 8 && offsetof(struct rdsrt_ve
 RDSRT_IS_(sizeof(struct rdsrt_receiver) == 264);
 RDSRT_IS_(sizeof(struct rdsrt_encoder) == 116);
 RDSRT_IS_(sizeof(struct rdsrt_audit) == 208);
+RDSRT_IS_(sizeof(struct rdsrt_listing) == 720);
+RDSRT_IS_(sizeof(struct rdsrt_faults) == 5 && offsetof(struct rdsrt_faults, early_flag) == 1);
+RDSRT_IS_(offsetof(struct rdsrt_faults, not_one_text) == 2 && offsetof(struct rdsrt_faults, early_tag) == 3);
+RDSRT_IS_(offsetof(struct rdsrt_faults, tag_outside) == 4);
 RDSRT_IS_(sizeof(struct rdsrt_text) == 66 && offsetof(struct rdsrt_text, length) == 64);
 RDSRT_IS_(offsetof(struct rdsrt_text, is_shown) == 65);
 RDSRT_IS_(sizeof(struct rdsrt_name) == 9 && offsetof(struct rdsrt_name, is_shown) == 8);

@@ -63,10 +63,12 @@ def series(metrics):
     values, types = {}, {}
     with open(metrics, encoding="utf-8") as file:
         for line in file:
-            found = re.fullmatch(r'(\w+)(?:\{station="((?:[^"\\]|\\.)*)",pi="([0-9A-F]{4})"\})? (-?[\d.]+)\n', line)
+            labels = r'station="((?:[^"\\]|\\.)*)",pi="[0-9A-F]{4}"(?:,fault="(\w+)")?'
+            found = re.fullmatch(rf"(\w+)(?:\{{{labels}\}})? (-?[\d.]+)\n", line)
             head = re.fullmatch(r"# (?:HELP (\w+) .+|TYPE (\w+) (counter|gauge))\n", line)
             if found:
-                values[found[1], re.sub(r"\\(.)", r"\1", found[2] or "")] = float(found[4])
+                key = found[1], re.sub(r"\\(.)", r"\1", found[2] or "")
+                values[(*key, found[3]) if found[3] else key] = float(found[4])
             elif head and head[2]:
                 types[head[2]] = head[3]
             elif not head:
@@ -100,24 +102,28 @@ class Monitor(PackageCase):
             is_shown = wanted[-1]["radiotext"] is not None
             self.check(f"text of {name}", values["rdsrt_text_shown", name], is_shown)
             self.check(f"age of {name}", 0 <= values["rdsrt_text_age_seconds", name] < SECONDS, True)
-        self.check("no audit", [it for it in values if it[0] == "rdsrt_audit_fault"], [])
+        self.check("no audit", [it for it in values if it[0] == "rdsrt_faults_total"], [])
         self.check("when it was written", time.time() - values["rdsrt_written_seconds", ""] < SECONDS, True)
-        self.check("types", types, {"rdsrt_written_seconds": "gauge", **{f"rdsrt_{it}_total": "counter" for it in counts}, "rdsrt_text_shown": "gauge",
-                                        "rdsrt_text_age_seconds": "gauge", "rdsrt_audit_fault": "gauge"})
+        self.check("types", types, {"rdsrt_written_seconds": "gauge", "rdsrt_text_shown": "gauge",
+                                    **{f"rdsrt_{it}_total": "counter" for it in (*counts, "faults")},
+                                    "rdsrt_text_age_seconds": "gauge"})
         self.check("the new file is renamed", sorted(os.listdir(self.folder)), ["rdsrt.prom", "stations"])
 
-    def test_a_fault_of_the_audit_is_one_object_and_a_number(self):
-        """The number is in the metrics."""
+    def test_each_listed_fault_is_an_object(self):
+        """The metrics count them."""
         metrics = os.path.join(self.folder, "rdsrt.prom")
         lines = "".join(f"{name} {line}\n" for line in (HI, "C201 2140 4841 0D20", HI) for name in ("A", "B", "C"))
         lines = lines.replace("B C201 2140 4841", "B C201 2150 4841") + "D x\nD x\n"
         status, objects, errors = ran(self.folder, self.names, "A C201 audit\nB C201 1 audit\nC C201 8\n", lines,
                                       "--metrics", metrics)
         faults = [(it["station"], it["slot"], it["fault"]) for it in objects if "fault" in it]
-        self.check("audit", (status, faults, errors), (0, [("A", 1, "Changed")], "monitor: no station D\n"))
+        wanted = [("A", 1, "Changed"), ("A", 2, "Changed"), ("A", 2, "EarlyFlag")]
+        self.check("audit", (status, faults, errors), (0, wanted, "monitor: no station D\n"))
         values, _ = series(metrics)
-        got = {name: it for (what, name), it in values.items() if what == "rdsrt_audit_fault"}
-        self.check("audit in the metrics", got, {"A": 17, "B": 0})
+        got = {it[1:]: count for it, count in values.items() if it[0] == "rdsrt_faults_total"}
+        faults = ["Changed", "NotOneText", "EarlyFlag", "EarlyTag", "TagOutside"]
+        wanted = {(name, fault): 0 for name in "AB" for fault in faults}
+        self.check("audit in the metrics", got, {**wanted, ("A", "Changed"): 2, ("A", "EarlyFlag"): 1})
 
     def test_an_object_comes_while_the_pipe_stays_open(self):
         """The metrics are written anew while nothing comes."""

@@ -12,8 +12,8 @@ import unittest
 
 import by_chance
 import rdsrt
-from rdsrt import (Audit, ContentType, Encoder, Fault, Held, InvalidText, Item, MalformedLine, NoText, OutOfText,
-                   Receiver, Refused, Segments, Silent, Tag, View, Wait, closest)
+from rdsrt import (Audit, ContentType, Encoder, Fault, Held, InvalidText, Item, Listing, MalformedLine, NoText,
+                   OutOfText, Receiver, Refused, Segments, Silent, Tag, View, Wait, closest)
 from rdsrt import _library
 
 HI = (0xC201, 0x2140, 0x4849, 0x0D20)
@@ -286,15 +286,34 @@ class Audits(unittest.TestCase):
             Audit(1).slot((1, 2, 3))
 
 
+class Listings(unittest.TestCase):
+    def test_each_text_has_each_fault_once(self):
+        listing = Listing(0xC201, 8)
+        tags, other = (0xC201, 0xB148, 0x2002, 0), (0xC201, 0x2150, 0x594F, 0x0D20)
+        changed = (0xC201, 0x2140, 0x4850, 0x0D20)
+        found = [listing.slot(group) for group in (HI, tags, tags, other, HI, changed, None)]
+        both = (Fault.CHANGED, Fault.EARLY_FLAG)
+        self.assertEqual(found, [(), (Fault.EARLY_TAG,), (), (), (Fault.EARLY_FLAG,), both, ()])
+        self.assertEqual((listing.slots, listing.texts, listing.names), (7, 4, 0))
+        self.assertEqual((listing.pi, listing.dwell, listing.late), (0xC201, 8, 0))
+        self.assertIn("7 slots, 4 texts, 0 names", repr(listing))
+
+    def test_a_recording(self):
+        tags = (0xC201, 0xB148, 0x2002, 0)
+        for running, faults in ((False, [(Fault.EARLY_TAG,), (), (Fault.EARLY_TAG,)]), (True, [(), (), ()])):
+            listing = Listing(0xC201, running=running)
+            self.assertEqual([listing.slot(group) for group in (tags, HI, tags)], faults)
+
+
 class Copies(unittest.TestCase):
     def objects(self):
-        receiver, audit = Receiver(0xC201, 4), Audit(0xC201, 4)
-        receiver.slot(HI)
-        audit.slot(HI)
-        return receiver, on_air("HI", 4), audit
+        receiver, audit, listing = Receiver(0xC201, 4), Audit(0xC201, 4), Listing(0xC201, 4)
+        for it in (receiver, audit, listing):
+            it.slot(HI)
+        return receiver, on_air("HI", 4), audit, listing
 
     def test_copies_go_their_own_way(self):
-        ends = (lambda it: it.slot(None), lambda it: it.tick(), lambda it: it.slot(None))
+        ends = (lambda it: it.slot(None), lambda it: it.tick(), lambda it: it.slot(None), lambda it: it.slot(None))
         for one, slot in zip(self.objects(), ends):
             others = [copy.copy(one), copy.deepcopy(one), pickle.loads(pickle.dumps(one))]
             self.assertTrue(all(it == one for it in others))
@@ -304,11 +323,11 @@ class Copies(unittest.TestCase):
             self.assertTrue(all(it != one and repr(it) == before for it in others))
 
     def test_comparison(self):
-        receiver, encoder, audit = self.objects()
+        receiver, encoder, audit, listing = self.objects()
         self.assertNotEqual(receiver, audit)
         self.assertNotEqual(Receiver(1), Receiver(2))
         self.assertNotEqual(receiver, None)
-        for it in (receiver, encoder, audit):
+        for it in (receiver, encoder, audit, listing):
             with self.assertRaises(TypeError):
                 hash(it)
 
@@ -392,7 +411,7 @@ class Names(unittest.TestCase):
                 with open(os.path.join(folder, name), encoding="utf-8") as file:
                     texts += file.read()
         used = set(re.findall(r"\w+", texts))
-        members = {it for name in ("Receiver", "Encoder", "Audit", "View") for it in vars(getattr(rdsrt, name))
+        members = {it for name in ("Receiver", "Encoder", "Audit", "Listing", "View") for it in vars(getattr(rdsrt, name))
                    if not it.startswith("_")}
         # NoLibrary needs a process of its own, and Group is a type
         self.assertEqual(({*rdsrt.__all__} | members) - used - {"NoLibrary", "Group"}, set())
@@ -408,7 +427,7 @@ class Names(unittest.TestCase):
                         self.assertTrue(value.__doc__, f"{name}.{member}")
 
     def test_an_object_without_a_dwell_has_the_default(self):
-        for make in (Receiver, Encoder, Audit):
+        for make in (Receiver, Encoder, Audit, Listing):
             self.assertEqual(make(0xC201), make(0xC201, dwell=rdsrt.DEFAULT_DWELL))
             self.assertNotEqual(make(0xC201), make(0xC201, dwell=rdsrt.DEFAULT_DWELL + 1))
 

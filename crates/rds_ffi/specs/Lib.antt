@@ -10,3 +10,4 @@ pub mod Sent
 pub mod Texts
 pub mod Tagged
 pub mod AuditInMemory
+pub mod ListingInMemory

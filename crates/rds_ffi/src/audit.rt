@@ -14,9 +14,8 @@ ghost use Rattle.rds_ffi.specs.Slots.{Bring, IsCount};
 ghost use Rattle.rds_safety.specs.Marks.{marks, name_mark, text_mark};
 
 use crate::codes;
-use crate::slots::slot_of;
+use crate::slots::{slot_of, spacing_of};
 use rds_audit::{Audit, AuditFault, LogStart, StoredAudit};
-use rds_fields::{Dwell, Late};
 
 /// Makes an audit of this programme before the first slot. The dwell and the lateness are in slots.
 ///
@@ -63,10 +62,7 @@ fn begun(audit: &mut StoredAudit, pi: u16, dwell: u16, late: u16, start: LogStar
     ensures bad { result ≢ RDSRT_OK → result ≡ RDSRT_BAD_ARGUMENT }
     ensures kept { result ≢ RDSRT_OK → audit.new ≡ audit.old }
 {
-    let Some(dwell) = Dwell::new(dwell) else {
-        return codes::BAD_ARGUMENT;
-    };
-    let Some(late) = Late::new(late) else {
+    let Some((dwell, late)) = spacing_of(dwell, late) else {
         return codes::BAD_ARGUMENT;
     };
     *audit = Audit::starting(pi, dwell, late, start).store();

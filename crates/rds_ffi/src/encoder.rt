@@ -19,12 +19,13 @@ ghost use Rattle.rds_ffi.specs.Viewed.{IsPlainName, IsPlainText, name_viewed, te
 
 use crate::codes;
 use crate::reply::{RdsrtReply, plain_refusal, plain_reply};
+use crate::slots::spacing_of;
 use crate::tags::{RdsrtTags, pair_given};
 use crate::view::{RdsrtName, RdsrtText, plain_name, plain_text};
 use rds_assembly::{Name, Text};
 use rds_block::Place;
 use rds_encoder::{Encoder, StoredEncoder};
-use rds_fields::{Dwell, Head, Late};
+use rds_fields::Head;
 
 /// The text and the name on air.
 #[repr(C)]
@@ -69,10 +70,7 @@ pub extern "C" fn rdsrt_encoder_init(
     let Some(pty) = Place::new(pty) else {
         return codes::BAD_ARGUMENT;
     };
-    let Some(dwell) = Dwell::new(dwell) else {
-        return codes::BAD_ARGUMENT;
-    };
-    let Some(late) = Late::new(late) else {
+    let Some((dwell, late)) = spacing_of(dwell, late) else {
         return codes::BAD_ARGUMENT;
     };
     let head = Head {

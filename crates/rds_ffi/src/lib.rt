@@ -10,6 +10,7 @@ mod codes;
 mod encoder;
 mod held;
 mod label;
+mod listing;
 mod receiver;
 mod reply;
 mod slots;
@@ -24,6 +25,10 @@ const _: () = prove!(size_of::<rds_receiver::StoredReceiver>() == 264);
 const _: () = prove!(size_of::<rds_encoder::StoredEncoder>() == 116);
 
 const _: () = prove!(size_of::<rds_audit::StoredAudit>() == 208);
+
+const _: () = prove!(size_of::<rds_audit::StoredListing>() == 720);
+
+const _: () = prove!(size_of::<rds_audit::StoredFaults>() == 5);
 
 const _: () = prove!(size_of::<view::RdsrtView>() == 84);
 
