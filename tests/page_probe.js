@@ -1,9 +1,28 @@
 "use strict";
-/* What the tests of the page ask of it, run in it: the modules that they take hold of, and `probe`. */
-const page = $app, { logTab } = $log, { scriptTab } = $script, changes = $changes, lines = $lines, logfile = $logfile, road = $road;
-const links = $links, painter = $painter, picture = $picture, rdsrt = $rdsrt, { Program } = $program, report = $report;
+/* What the tests of the page ask of it, run in it: `probe`, and the parts of the page that they take hold of. */
+const page = $app, { logTab } = $log, { scriptTab } = $script, road = $road, rdsrt = $rdsrt, { Program } = $program;
 const probe = (() => {
+  const painter = $painter, picture = $picture, { time } = $lines, changes = $changes;
   const at = (id) => document.getElementById(id);
+  const tabs = { log: logTab, script: scriptTab };
+
+  /* Opens a text in a tab with these options. */
+  const open = (tab, text, options) => tabs[tab].open(text, options);
+
+  /* Chooses a slot of a tab's timeline. */
+  const move = (tab, slot) => tabs[tab].timeline.move(slot);
+
+  /* The caption of the picture of a tab's timeline. */
+  const caption = (tab) => picture.caption(tabs[tab].timeline);
+
+  /* The name of the file that a button saves. Nothing is saved. */
+  function savedBy(id) {
+    let name = null;
+    HTMLAnchorElement.prototype.click = function () { name = this.download; };
+    at(id).click();
+    delete HTMLAnchorElement.prototype.click;
+    return name;
+  }
 
   /* Status, output and notes of the program in the page over these bytes. */
   function run(words, bytes) {
@@ -368,10 +387,10 @@ const probe = (() => {
     fill(count);
     const decode = rdsrt.run(["decode", "--pi", "C201"], many.log);
     const told = { encode: many.encoded.ms, audit: many.audit.ms, decode: decode.ms, heap: decode.heap };
-    page.tab("log");
+    at("tab-log").click();
     told.openLog = await opening(logTab, many.log);
     told.logFrame = frame(logTab.timeline);
-    page.tab("script");
+    at("tab-script").click();
     told.openScript = await opening(scriptTab, many.script);
     told.scriptFrame = frame(scriptTab.timeline);
     return told;
@@ -397,8 +416,8 @@ const probe = (() => {
   }
 
   return {
-    axis, axisTexts, choose, chosenLine, colour, column, columnsOf, contrasts, cutNames, displays, drop, dropAll, elementsOfHue,
-    endsWithTimeline, faint, fill, hue, huesOf, huesOfLane, idle, labels, large, longestTask, many, pick, pictured, place,
-    run, scriptOf, sharesOf, swatches, tempt, ticks, typeAndLeave,
+    axis, axisTexts, caption, choose, chosenLine, colour, column, columnsOf, contrasts, cutNames, displays, drop, dropAll, elementsOfHue,
+    endsWithTimeline, faint, fill, hue, huesOf, huesOfLane, idle, labels, large, longestTask, many, move, open, pick, pictured, place,
+    run, savedBy, scriptOf, sharesOf, swatches, tempt, ticks, time, typeAndLeave,
   };
 })();

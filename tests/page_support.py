@@ -101,16 +101,31 @@ def reload(b):
     visit(b, b.run("location.href"))
 
 
+def to_tab(b, name):
+    """Opens a tab by its button."""
+    click(b, f"#tab-{name}")
+
+
+def move(b, tab, slot):
+    """Chooses a slot of a tab's timeline."""
+    call(b, "probe.move", tab, slot)
+
+
+def cursor(b, tab):
+    """Returns the slot that a tab's timeline says."""
+    return int(of(b, f"#{tab}-time canvas", "ariaValueNow"))
+
+
 def open_script(b, text, **options):
     """Opens a script with these options in its tab."""
-    call(b, "page.tab", "script")
-    call(b, "scriptTab.open", text, options)
+    to_tab(b, "script")
+    call(b, "probe.open", "script", text, options)
 
 
 def verdict_of(b, log, m):
     """Opens a log, and returns its verdict."""
-    call(b, "page.tab", "log")
-    call(b, "logTab.open", log, {"pi": "C201", "m": m, "k": 0})
+    to_tab(b, "log")
+    call(b, "probe.open", "log", log, {"pi": "C201", "m": m, "k": 0})
     return settled_verdict(b)
 
 
@@ -133,7 +148,7 @@ def hidden(b):
 
 def example_of(b, tab, name):
     """Opens an example by a part of its name."""
-    call(b, "page.tab", tab)
+    to_tab(b, tab)
     number = b.run(f"RDSRT_EXAMPLES.{tab}.findIndex(it => it.name.includes({json.dumps(name)}))")
     call(b, "probe.choose", f"{tab}-example", number)
 

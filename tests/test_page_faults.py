@@ -2,8 +2,9 @@
 import random
 import re
 
-from tests.page_support import (EVERY_100, HI, NOTHING, SEED, YO, ChromiumCase, FirefoxCase, call, click, first_examples,
-                                of, open_script, run_program, settle, shown, text_of, verdict_of)
+from tests.page_support import (EVERY_100, HI, NOTHING, SEED, YO, ChromiumCase, FirefoxCase, call, click,
+                                first_examples, move, of, open_script, run_program, settle, shown, text_of, to_tab,
+                                verdict_of)
 from tests.slot import SLOT
 
 BAD_ROW = re.compile(r"fault row (\d+) \(line (\d+)\)")
@@ -32,7 +33,7 @@ class Faults:
                 ("script", "n", "9", number.format("Receivers", 0, 8)),
                 ("script", "slots", "0", number.format("Slots", 1, "200,000"))]
         for tab, field, value, told in rows:
-            call(b, "page.tab", tab)
+            to_tab(b, tab)
             call(b, "probe.choose", f"{tab}-example", 0)
             was, before = of(b, f"#{tab}-{field}", "value"), results(b, tab)
             call(b, "probe.choose", f"{tab}-{field}", value)
@@ -43,12 +44,12 @@ class Faults:
             settle(b)
             self.check(f"{tab}-{field} {was!r} again", results(b, tab), before)
         call(b, "probe.choose", "log-m", "")
-        call(b, "logTab.open", EVERY_100)
+        call(b, "probe.open", "log", EVERY_100)
         self.check("a log beside an empty M", (results(b, "log"), text_of(b, "#verdict h2")), (nothing, "No verdict"))
         for text, told in (("-,,1,GGGGGGGGG\n", "The script has 9 receivers. The page plays at most 8."),
                            ("-,,1,\n" * 200_001, "The script has 200,001 rows. The page plays at most 200,000.")):
             call(b, "probe.choose", "script-example", 0)
-            call(b, "scriptTab.open", text)
+            call(b, "probe.open", "script", text)
             self.check(told, (text_of(b, "#script-fault"), results(b, "script"), text_of(b, "#script-count")),
                        (told, nothing, ""))
         first_examples(b)
@@ -75,14 +76,14 @@ class Faults:
         click(b, "#script-fault button")
         self.check("and shown", call(b, "probe.chosenLine", "script-text"), "text,\u2603,1,G")
         open_script(b, "text,HI,1,G\n" * 5 + "text,\u2603,1,G\n" + "-,,1,G\n" * 6, m=1, k=0)
-        b.run("scriptTab.timeline.move(3)")
+        move(b, "script", 3)
         self.check("a text is shown before a bad row", (shown(b, "script-radio"), shown(b, "script-alone")),
                    ("HI", "HI"))
         last = "lane.codes?.length ?? [...lane.runs ?? []].at(-1)?.to ?? 0"
         ends = b.run(f"scriptTab.timeline.lanes.map(lane => {last})")
         self.check("no lane goes on behind it", [it for it in ends if it > 5], [])
         for slot in (5, 11):
-            b.run(f"scriptTab.timeline.move({slot})")
+            move(b, "script", slot)
             all_shown = [shown(b, f"script-{it}") for it in ("air", "radio", "alone")]
             self.check(f"slot {slot} behind it is not played", all_shown, ["— not played —"] * 3)
 
@@ -126,11 +127,10 @@ class Faults:
              "texts, whichever groups it loses.Judged in 1 slot: 1 text, 0 names, 0 pairs of tags."),
             (f"{HI}\n{NOTHING}\n", "",
              "✓ Passes with M = 8 (0.70 s)The recorded slot keeps the rules. No receiver with this M shows a mix "
-             "of the recorded texts, whichever groups it loses.Judged in 2 slots: 1 text, 0 names, 0 pairs of tags.1 of 2 "
-             "slots has no whole group. None was sent, or it was not recorded. The yes covers the others."),
+             "of the recorded texts, whichever groups it loses.Judged in 2 slots, 1 without a group: 1 text, 0 names, 0 pairs "
+             "of tags.In a slot without a group none was sent, or it was not recorded. The yes covers the others."),
             (f"{HI}\n" * 1188 + f"{NOTHING}\n" * 1812, "",
-             "1,812 of 3,000 slots have no whole group. None was sent, or it was not recorded. The yes "
-             "covers the others."),
+             "Judged in 3,000 slots, 1,812 without a group: 1 text, 0 names, 0 pairs of tags."),
         ]
         for log, kind, wanted in rows:
             said = verdict_of(b, log, 8)
@@ -196,7 +196,7 @@ class Faults:
         b = self.b
         verdict_of(b, f"{HI}\n" * 20, 8)
         b.run("logTab.judge.worker.onerror({ message: 'out of memory' }); logTab.judge.compiled = null")
-        call(b, "logTab.open", f"{HI}\n" * 30, {"pi": "C201", "m": 8})
+        call(b, "probe.open", "log", f"{HI}\n" * 30, {"pi": "C201", "m": 8})
         self.check("a log", (text_of(b, "#verdict h2"), len(text_of(b, "#verdict p")) > 5), ("No verdict", True))
 
     def test_a_refused_set_has_a_warning(self):

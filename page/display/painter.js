@@ -102,7 +102,7 @@ function multiples(step, from, to) {
 }
 
 /* A time of the axis. */
-function timeOf(seconds, step) {
+export function timeOf(seconds, step) {
   const two = (it) => String(Math.floor(it)).padStart(2, "0");
   const all = [seconds / 3600 % 24, seconds / 60 % 60, seconds % 60].map(two);
   return all.slice(0, step < MINUTE ? 3 : 2).join(":");

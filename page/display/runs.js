@@ -149,13 +149,8 @@ export class Marks extends List {
 
   /* These marks, and one more. */
   with(slot, label) {
-    const before = this.indexAt(slot) + 1, inserted = (all, it) => {
-      const longer = new Int32Array(all.length + 1);
-      longer.set(all.subarray(0, before));
-      longer[before] = it;
-      longer.set(all.subarray(before), before + 1);
-      return longer;
-    };
+    const at = this.indexAt(slot) + 1;
+    const inserted = (all, it) => Int32Array.from(Array.from(all).toSpliced(at, 0, it));
     return new Marks(inserted(this.starts, slot), inserted(this.numbers, this.labels.length), [...this.labels, label]);
   }
 

@@ -18,7 +18,7 @@ import sys
 PAGE_FOLDER = os.path.dirname(os.path.dirname(os.path.abspath(__file__)))
 # The module with which the page begins, and the one of its workers. Their imports lead to all others.
 PAGE, WORKER = "ui/app.js", "program/worker.js"
-IMPORT = re.compile(r'^import (?:\* as (\w+)|(\{[^}]+\})) from "(.+)";\n', re.M)
+IMPORT = re.compile(r'^import (?:(?:\* as (\w+)|(\{[^}]+\})) from )?"(.+)";\n', re.M)
 # an exported definition, or a list of names
 EXPORT = re.compile(r"^export (?:(?=(?:async )?(?:const|class|function) ([\w$]+))|\{ (.*) \};\n)", re.M)
 
@@ -92,7 +92,8 @@ def join(path, done):
         join(other, done)
         if done[other] is None:
             sys.exit(f"build.py: {path} and {other} import each other")
-        uses.append(f"const {star or names} = {name_of(other)};\n")
+        if star or names:
+            uses.append(f"const {star or names} = {name_of(other)};\n")
     exported = ", ".join(one or more for one, more in EXPORT.findall(text))
     body = EXPORT.sub("", IMPORT.sub("", text))
     # a dictionary keeps its order: behind the modules that it imports

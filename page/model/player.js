@@ -17,35 +17,33 @@ function sourceOf(letter, slot) {
 const isWrong = (letter) => letter?.[0] === "W";
 const wrongLine = (pi, letter) => `${pi} ${letter.slice(1).match(/.{4}/g).join(" ")}`;
 
-/* The kind of what a receiver gets in a slot. `kinds` has the kind of each slot's group. A group that has nothing to
+/* The kind of what a receiver gets in a slot. `codes` has the code of each slot's group. A group that has nothing to
    do with texts is not printed. */
-export function kindHeard(kinds, pi, letter, slot) {
+export function kindHeard(codes, pi, letter, slot) {
   if (isWrong(letter)) return lines.codeOf(lines.groupIn(wrongLine(pi, letter)), null);
   const source = sourceOf(letter, slot);
-  return source < 0 ? lines.NOTHING : kinds[source] ?? lines.OTHER;
+  return source < 0 ? lines.NOTHING : codes[source] & ~lines.FLAG || lines.OTHER;
 }
 
 /* The kind of what receiver i gets in each slot. */
-function heardBy(i, { pi, rows, kinds }) {
-  return Uint8Array.from(rows, ({ receptions }, slot) => kindHeard(kinds, pi, receptions[i], slot));
+function heardBy(i, { pi, rows, codes }) {
+  return Uint8Array.from(rows, ({ receptions }, slot) => kindHeard(codes, pi, receptions[i], slot));
 }
 
 // ---- playing
 
 /* Room for the groups of so many slots. */
 const groupsOf = (count) => ({
-  count, words: new Uint16Array(4 * count), missing: new Uint8Array(count).fill(15),
-  kinds: new Uint8Array(count).fill(lines.OTHER), codes: new Uint8Array(count),
+  count, words: new Uint16Array(4 * count), missing: new Uint8Array(count).fill(15), codes: new Uint8Array(count),
 });
 
 /* Reads the output of `sim` over so many rows: the displays, the groups in typed arrays as those of a log are, with
-   their kinds and codes, and the replies. */
+   their codes, and the replies. */
 function read(text, count, values) {
   const replies = [], sent = groupsOf(count);
   const send = (slot, group) => {
     sent.words.set(group, 4 * slot);
     sent.missing[slot] = 0;
-    sent.kinds[slot] = lines.codeOf(group, null);
     sent.codes[slot] = lines.markedCodeOf(group, null);
   };
   const { displays, fault } = output.read(text, values, (slot, what, reply) => {
@@ -63,7 +61,7 @@ export function play({ text, input = text, words, pi }) {
   const got = rdsrt.run(words, input), rows = records.read(text), values = new output.Values();
   const { packed, replies, sent, fault, played } = read(got.output, rows.length, values);
   const radios = read(rdsrt.run([...words, "--flag-alone"], input).output, rows.length, values);
-  const given = { pi, rows: rows.slice(0, played), kinds: sent.kinds };
+  const given = { pi, rows: rows.slice(0, played), codes: sent.codes };
   const each = Array.from(rows[0]?.receptions ?? [], (_, i) => i);
   const displaysOf = (it) => each.map((i) => it.packed(`r${i}`));
   return {

@@ -1,11 +1,12 @@
 /* Runs the program over a log or a script, so that the page never waits for it. Each message is a request by its name;
    its answer has the same id. */
+import * as faults from "../model/faults.js";
 import * as lines from "../model/lines.js";
 import * as logfile from "../model/logfile.js";
 import * as output from "../model/output.js";
 import * as player from "../model/player.js";
 import * as rdsrt from "./rdsrt.js";
-import * as witness from "./witness.js";
+import { look } from "./witness.js";
 
 /* The bytes of the log, and what is known of it and does not depend on M: it is read when somebody asks for it. */
 const state = { bytes: new Uint8Array(0), log: null, alone: null, whole: null };
@@ -89,12 +90,16 @@ function head(count) {
   return state.bytes.subarray(0, end);
 }
 
-/* The answer of the audit, and the note that the log lacks slots by its times. After a no only the lines up to it
-   count. */
+/* All faults of the log, and the note that the log lacks slots by its times. After a no the note on its rule is that of
+   the audit that stops there, and only the lines up to it can lack slots. */
 function audit(asked) {
-  const { output: answer, notes } = run(auditing(asked)), line = /^slot \d+ \(line (\d+)\)/m.exec(notes.join("\n"));
+  const { output: printed, notes } = run([...auditing(asked), "--all"]), list = faults.read(printed);
+  const rule = list.slots.length ? run(auditing(asked)).notes : [];
+  const line = /^slot \d+ \(line (\d+)/m.exec(rule.join("\n"));
   const read = line ? run(["decode", "--pi", asked.pi], head(Number(line[1]))).notes : notes;
-  return { output: answer, notes, lack: lines.noteOf(read, "the log spans ") };
+  const lack = lines.noteOf(read, "the log spans "), end = lines.noteOf(notes, "fault ").slice("fault ".length);
+  const told = { counts: faults.counts(notes), end, lack, notes: [...rule, ...notes] };
+  return { ...told, output: output.beginOf(printed), fresh: { list } };
 }
 
 // ---- the requests
@@ -130,8 +135,19 @@ const REQUESTS = {
   },
 
   audit,
-  witness(asked, tell) {
-    return witness.find(asked, (words, bytes) => run(words, state.bytes.subarray(0, bytes)).output, tell);
+
+  /* The slots to lose after a no and what is shown then, or the slot at which the search stopped. It takes the log up
+     to `near`, and then up to `far`: each is an end in bytes and in slots. A witness of the first part is one of the
+     second if the part has a dwell after the mix. */
+  witness({ pi, m, near, far, isAll }, tell) {
+    const search = ({ slots, bytes }) => {
+      tell(slots);
+      return look(run(["witness", "--pi", pi, "--m", String(m)], state.bytes.subarray(0, bytes)).output);
+    };
+    const first = search(near);
+    if (near.slots >= far.slots || (first.lost && first.slot + m <= near.slots)) return first;
+    const found = search(far);
+    return found.lost || found.upto !== null || isAll ? found : { ...found, upto: far.slots };
   },
 
   /* The log with a line for each slot that its times say it lacks. */

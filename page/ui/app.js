@@ -1,16 +1,16 @@
 /* The page: its tabs, the files that are dropped on it, and its begin. */
 import * as rdsrt from "../program/rdsrt.js";
-import { dwellTab } from "./dwell.js";
 import * as links from "./links.js";
-import { logTab } from "./log.js";
 import * as parts from "./parts.js";
 import { $, make } from "./parts.js";
 import { Play } from "./play.js";
 import * as road from "./road.js";
+import { TABS } from "./tab.js";
+// the tabs, in their order
+import { logTab } from "./log.js";
 import { scriptTab } from "./script.js";
+import "./dwell.js";
 
-/* Each has an id, which is that of its section, a title, and `begin`. Those with an input have `open` too. */
-const TABS = [logTab, scriptTab, dwellTab];
 const named = (id) => TABS.find((it) => it.id === id);
 const buttonOf = ({ id }) => $(`tab-${id}`);
 /* `files` counts the files that were chosen: only the newest one is opened. */
@@ -205,9 +205,11 @@ function skip(event) {
 
 /* Opens what the address names: a link, an example, or a tab alone. Returns the tab. */
 async function openAddress() {
-  const hash = location.hash.slice(1), linked = named(links.tabOf(hash));
+  const hash = location.hash.slice(1), given = new URLSearchParams(hash);
+  // the name of a tab alone is no link
+  const linked = TABS.find(({ id, open }) => open && given.get(id));
   const it = linked ?? named(hash.split("&")[0]) ?? logTab;
-  const number = new URLSearchParams(hash).get("example"), isThere = RDSRT_EXAMPLES[it.id]?.[number];
+  const number = given.get("example"), isThere = RDSRT_EXAMPLES[it.id]?.[number];
   const open = async () => {
     try {
       await it.openLink(hash, DEFAULTS);

@@ -2,6 +2,7 @@
 import * as lines from "../model/lines.js";
 import * as parts from "./parts.js";
 import { $, make, number } from "./parts.js";
+import { added } from "./tab.js";
 
 /* The groups of the longest text, the largest M, and the seconds of an hour. */
 const LONGEST = 32;
@@ -121,4 +122,4 @@ function begin() {
   choose();
 }
 
-export const dwellTab = { id: "dwell", title: "Choose the dwell", begin };
+added({ id: "dwell", title: "Choose the dwell", begin });

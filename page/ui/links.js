@@ -8,10 +8,9 @@ const MOST = 8000;
 export const MOST_PLAIN = 4_000_000;
 /* No text of a link has more lines with a group. */
 const MOST_SLOTS = MOST_PLAIN / 20;
-const TOO_LARGE = "too large";
-const CUT = "cut";
-const DAMAGED = "damaged";
-export const damaged = () => new RangeError(DAMAGED);
+/* Why a link is not opened. */
+class Refusal extends Error {}
+export const damaged = () => new Refusal("The link is damaged: an option of it is wrong.");
 /* A link without it at its end was cut, and may have lost options. */
 const END = "&end";
 const FROM_DISK = "This page was opened from a disk, so its links are of no use to others. Save the file and share "
@@ -21,13 +20,13 @@ const made = {};
 
 // ---- a text as letters
 
-/* Reads the stream up to a bound, and no further; throws beyond it. */
+/* Reads the stream up to a bound, and no further. Returns null beyond it. */
 async function squeezed(bytes, by, most = Infinity) {
   const pieces = [];
   let length = 0;
   for await (const piece of new Blob([bytes]).stream().pipeThrough(by)) {
     length += piece.length;
-    if (length > most) throw new RangeError(TOO_LARGE);
+    if (length > most) return null;
     pieces.push(piece);
   }
   return new Uint8Array(await new Blob(pieces).arrayBuffer());
@@ -43,10 +42,11 @@ async function pack(text) {
   return btoa(String.fromCharCode(...bytes)).replaceAll("+", "-").replaceAll("/", "_").replace(/=+$/, "");
 }
 
-async function unpack(packed) {
+async function unpack(tab, packed) {
   const plain = atob(packed.replaceAll("-", "+").replaceAll("_", "/"));
   const packedBytes = Uint8Array.from(plain, (c) => c.charCodeAt(0));
   const bytes = await squeezed(packedBytes, new DecompressionStream("deflate-raw"), MOST_PLAIN);
+  if (!bytes) throw new Refusal(`The link holds a ${tab} of more than 4 MB. The page does not open it.`);
   return new TextDecoder("utf-8", { fatal: true, ignoreBOM: true }).decode(bytes);
 }
 
@@ -119,13 +119,10 @@ async function copy(tab, field) {
   } catch { tell(tab, "This is the link: copy it."); }
 }
 
-/* Finds the tab whose link a hash is. The name of a tab alone is no link. */
-export const tabOf = (hash) => ["log", "script"].find((tab) => new URLSearchParams(hash).get(tab));
-
 /* Reads the text of a link, and its numbers within bounds. `option` gives a number without which the link is damaged,
    unless it has another one to take in its place. */
 export async function read(tab, hash) {
-  if (!hash.endsWith(END)) throw new RangeError(CUT);
+  if (!hash.endsWith(END)) throw new Refusal("The link was cut: copy the whole link.");
   const given = new URLSearchParams(hash);
   const within = (name, low, high) => {
     const number = /^\d{1,7}$/.test(given.get(name) ?? "") ? Number(given.get(name)) : NaN;
@@ -136,7 +133,7 @@ export async function read(tab, hash) {
     if (number === undefined) throw damaged();
     return number;
   };
-  return { text: await unpack(given.get(tab)), given, option, within };
+  return { text: await unpack(tab, given.get(tab)), given, option, within };
 }
 
 /* Shows the slot and the zoom of a link. A link with `&play` plays from there. */
@@ -180,12 +177,4 @@ export function slotsOf(letters, end = MOST_SLOTS) {
 }
 
 /* Why a link was not opened. */
-export function whyNot(tab, error) {
-  if (error.message === CUT) return "The link was cut: copy the whole link.";
-  if (error.message === DAMAGED) return "The link is damaged: an option of it is wrong.";
-  if (error.message === TOO_LARGE) return `The link holds a ${tab} of more than 4 MB. The page does not open it.`;
-  return `The link has no ${tab}.`;
-}
-
-/* The option of a tab for a window, if there is one. */
-export const windowOption = (tab) => $(`${tab}-w`).value ? `&w=${$(`${tab}-w`).value}` : "";
+export const whyNot = (tab, error) => error instanceof Refusal ? error.message : `The link has no ${tab}.`;

@@ -6,6 +6,7 @@ import * as logfile from "../model/logfile.js";
 import * as output from "../model/output.js";
 import { Program } from "../program/program.js";
 import * as changes from "./changes.js";
+import * as faults from "./faults.js";
 import * as groups from "./groups.js";
 import * as links from "./links.js";
 import * as parts from "./parts.js";
@@ -13,7 +14,7 @@ import { $, make } from "./parts.js";
 import * as picture from "./picture.js";
 import * as report from "./report.js";
 import { Rows } from "./rows.js";
-import { Tab } from "./tab.js";
+import { Tab, added } from "./tab.js";
 import { Timeline } from "./timeline.js";
 import * as verdict from "./verdict.js";
 
@@ -148,7 +149,9 @@ class LogTab extends Tab {
   showWait() {
     $("log-progress").removeAttribute("value");
     if (!this.answer) verdict.showNone(`${this.waitsFor} …`, "");
-    if (this.log === NO_LOG) this.timeline.show([], 1);
+    if (this.log !== NO_LOG) return;
+    this.timeline.show([], 1);
+    faults.hide();
   }
 
   /* What the form holds. A window makes what it shows later by its length less one. */
@@ -185,9 +188,10 @@ class LogTab extends Tab {
     const { log, groups, times } = this, given = { audit, log, groups, times, running, w: Number(asked.w) };
     this.answer = verdict.show({ ...given, pi: parseInt(pi, 16), m: Number(m), k: Number(k) }, this.actions);
     this.no = this.answer.no;
-    const command = `rdsrt audit --pi ${pi} --m ${m} --k ${k}${running ? " --running" : ""}`;
+    const command = `rdsrt audit --all --pi ${pi} --m ${m} --k ${k}${running ? " --running" : ""}`;
     Object.assign(this.answer, { audit, command });
     this.tellLines("audit", command, audit.output);
+    faults.show({ ...audit, isSure: this.answer.isSure }, log, this.about.goTo);
     // the row of the fault is red
     this.rows.layOut(Math.max(0, this.rows.chosen));
     // the answer has a mark in the lane of events
@@ -268,13 +272,9 @@ class LogTab extends Tab {
     Object.assign(this, empty());
     this.timeline.show([], this.log.count);
     changes.show(this.view, [], this.about);
+    faults.hide();
     if (isRefused) verdict.showNone(problem, "No log is open.", "no"); else verdict.showNone("No verdict", problem);
     for (const name of ["log", "audit"]) this.tellLines(name, "", "");
-  }
-
-  tellLines(name, command, text) {
-    $(`${name}-command`).textContent = command;
-    parts.fill(`${name}-lines`, text);
   }
 
   // ---- the lanes
@@ -353,8 +353,7 @@ class LogTab extends Tab {
 
   options() {
     const lost = this.lost.size ? `&lost=${links.inLetters(this.lost)}` : "";
-    const running = $("log-running").checked ? "&running=1" : "", numbers = `m=${this.value("m")}&k=${this.value("k")}`;
-    return `pi=${this.value("pi")}&${numbers}${links.windowOption("log")}${running}${lost}`;
+    return `pi=${this.value("pi")}&${super.options()}${$("log-running").checked ? "&running=1" : ""}${lost}`;
   }
 
   settingsOf({ given, option }) {
@@ -374,9 +373,8 @@ class LogTab extends Tab {
 
   /* Begins with the compiled program. */
   begin(compiled) {
-    super.begin();
+    super.begin(["pi", "m", "k", "w", "running"], () => this.look());
     Object.assign(this, { display: new Program(compiled, PATIENCE), judge: new Program(compiled) });
-    for (const name of ["pi", "m", "k", "w", "running"]) this.field(name).oninput = parts.soon(() => this.look());
     $("log-text").oninput = parts.soon(() => {
       const { pi, w, running } = this.asking();
       this.open($("log-text").value, { pi, w, running, isEdited: true });
@@ -387,4 +385,4 @@ class LogTab extends Tab {
   }
 }
 
-export const logTab = new LogTab();
+export const logTab = added(new LogTab());

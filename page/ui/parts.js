@@ -1,8 +1,12 @@
-/* What the tabs share: elements, displays, and long texts that are laid out only where they are open. */
+/* What the tabs share: elements, displays, and long texts. */
 import { kindOf, wordsOfTag } from "../display/runs.js";
 
-const SHORT = 20000, MOST = 400000;
+/* The most letters of an output that is shown. */
+const MOST = 400000;
 export const number = (n) => n.toLocaleString("en");
+/* A note with commas in its long numbers. Those of a time stay as they are. */
+export const grouped = (note) =>
+  note.replace(/(?<![\d/:.])\d{4,}(?![\d/:]|\.\d)/g, (digits) => number(Number(digits)));
 export const $ = (id) => document.getElementById(id);
 export const make = (tag, props = {}, ...inside) => {
   const element = Object.assign(document.createElement(tag), props);
@@ -46,14 +50,12 @@ export function waits(tab, what, showsToo = () => {}) {
 /* Why the program gets none of the form's numbers: the first that is no whole number within its bounds. Empty if all
    are. */
 export function problemOf(form) {
-  const isOutside = ({ value, min, max }) =>
-    !/^\d+$/.test(value) || Number(value) < Number(min) || Number(value) > Number(max);
-  const isOff = ({ value, required, validity }) => value === "" && !required && !validity.badInput;
-  const isBad = (field) => !isOff(field) && isOutside(field);
-  const bad = [...form.querySelectorAll("[type=number]")].find(isBad), number = (n) => Number(n).toLocaleString("en");
+  // a browser takes 1e2 too, and the program does not
+  const isBad = ({ validity, value }) => !validity.valid || /\D/.test(value);
+  const bad = [...form.querySelectorAll("[type=number]")].find(isBad);
   if (!bad) return "";
   const name = bad.dataset.name ?? bad.labels[0].textContent.trim();
-  return `${name} must be a whole number from ${number(bad.min)} to ${number(bad.max)}.`;
+  return `${name} must be a whole number from ${number(Number(bad.min))} to ${number(Number(bad.max))}.`;
 }
 
 /* A text of a file for a sentence of the page: characters that control or that turn the direction are shown as
@@ -151,28 +153,18 @@ export function whyNoMix(view, alone, slot) {
   return `${none} It shows the next one when it is complete: in slot ${runs.from(next).toLocaleString("en")}.`;
 }
 
-const later = new Map();
-function put(element, text) {
-  if (element.tagName !== "TEXTAREA") element.textContent = text.length > MOST ? `${text.slice(0, MOST)}…` : text;
-  else if (element.value !== text) element.value = text;
-}
-function layOut(details) {
-  if (!details.open) return;
-  for (const [element, text] of later) if (details.contains(element)) { put(element, text); later.delete(element); }
-}
+/* Puts a text into its element. A long one is closed: then the browser does not lay it out. */
 export function fill(id, text) {
-  const element = $(id), details = element.closest("details");
-  if (text.length > MOST) details.open = false;
-  details.ontoggle = () => layOut(details);
-  later.set(element, text);
-  if (text.length < SHORT) { put(element, text); later.delete(element); } else layOut(details);
+  const element = $(id), isLong = text.length > MOST;
+  if (isLong) element.closest("details").open = false;
+  if (element.tagName !== "TEXTAREA") element.textContent = isLong ? `${text.slice(0, MOST)}…` : text;
+  else if (element.value !== text) element.value = text;
 }
 
 /* Opens a text and chooses a line of it, counted from 1. */
 export function goToLine(id, number) {
-  const area = $(id), details = area.closest("details");
-  details.open = true;
-  layOut(details);
+  const area = $(id);
+  area.closest("details").open = true;
   const all = area.value.split("\n"), from = all.slice(0, number - 1).reduce((sum, line) => sum + line.length + 1, 0);
   area.focus();
   area.setSelectionRange(from, from + (all[number - 1]?.length ?? 0));

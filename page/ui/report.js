@@ -1,7 +1,7 @@
 /* The report on a log: one page to print and to send. It has what the program said, and how to ask it again. */
 import * as lines from "../model/lines.js";
 import * as rdsrt from "../program/rdsrt.js";
-import { $, counted, make, number } from "./parts.js";
+import { $, counted, make } from "./parts.js";
 import * as picture from "./picture.js";
 
 /* The newest log, and the SHA-256 of its file. */
@@ -31,12 +31,11 @@ function sentences() {
   return all.map((it) => it.textContent.trim()).filter(Boolean);
 }
 
-/* The fault that the audit found: it stops at the first one. */
-function faultOf(tab) {
-  const { audit, no } = tab.answer ?? {};
-  if (!no) return audit?.output.startsWith("yes ") ? "none found" : "not judged";
-  const { slot, fault } = no, place = [tab.line(slot), tab.clock(slot)].filter(Boolean).join(", ");
-  return `${fault} in slot ${number(slot)} (${place}). The audit stops at the first fault.`;
+/* The faults by kind, in the words of the program. */
+function faultsOf({ answer }) {
+  const { audit } = answer ?? {};
+  if (!audit?.counts.length) return audit?.output.startsWith("yes ") ? "none found" : "not judged";
+  return [...audit.counts.map(({ note }) => note), ...audit.end ? [`The list ends before ${audit.end}.`] : []];
 }
 
 /* The rows of the report, each a name and its words. */
@@ -52,7 +51,7 @@ function rows(tab) {
     ["Receiver", `M = ${m} (${lines.time(Number(m))}), K = ${k}${w ? `, W = ${w}` : ""}`],
     ["Answer", $("verdict").querySelector("h2").textContent],
     ["In words", sentences()],
-    ["Faults", faultOf(tab)],
+    ["Faults", faultsOf(tab)],
     ["Command", answer ? command(tab) : "none"],
     ["Program", rdsrt.run(["--version"], "").output.trim()],
   ];

@@ -10,7 +10,7 @@ import * as links from "./links.js";
 import * as parts from "./parts.js";
 import { $, number } from "./parts.js";
 import * as picture from "./picture.js";
-import { Tab } from "./tab.js";
+import { Tab, added } from "./tab.js";
 import { Timeline } from "./timeline.js";
 
 const COMMANDS = ["-", "text", "name", "tags", "restart"], PI = "C201";
@@ -26,7 +26,7 @@ const AIR = { text: ["on air", "on air"], name: ["  its name", " name"], tags: [
 const OTHERS = { name: ["  its name", "  name"], tags: ["  its tags", "  tags"] };
 const DWELL = { text: ["  with the dwell", " dwell"], ...OTHERS };
 const ALONE = { text: ["  flag bit alone", " flag bit"], ...OTHERS };
-const NOTHING_SENT = { count: 0, words: [], missing: [], kinds: [], codes: new Uint8Array(0) };
+const NOTHING_SENT = { count: 0, words: [], missing: [], codes: new Uint8Array(0) };
 const unplayed = () => ({
   played: 0, air: new View(), views: [], alone: [], heard: [], sent: NOTHING_SENT, fault: null, replies: new Map(),
   notes: [], firstMix: null,
@@ -67,7 +67,7 @@ class ScriptTab extends Tab {
   showStroke(receiver, from, to) {
     const ticks = this.timeline.lanes.find((lane) => lane.kind === "ticks" && lane.group === receiver);
     for (let slot = from; slot < Math.min(to + 1, ticks?.codes.length ?? 0); slot++) {
-      ticks.codes[slot] = player.kindHeard(this.sent.kinds, PI, this.rows[slot].receptions[receiver], slot);
+      ticks.codes[slot] = player.kindHeard(this.sent.codes, PI, this.rows[slot].receptions[receiver], slot);
     }
     this.timeline.draw();
   }
@@ -220,8 +220,7 @@ class ScriptTab extends Tab {
     this.replies = new Map(got.replies.map((it) => [it.slot, it]));
     this.timeline.chosen = this.receivers ? this.chosen : null;
     this.timeline.show(this.lanes(), this.rows.length, { fit });
-    parts.fill("script-lines", got.output);
-    $("script-command").textContent = `rdsrt ${words.join(" ")}`;
+    this.tellLines("script", `rdsrt ${words.join(" ")}`, got.output);
     this.tellMixes();
     const wait = lines.noteOf(notes, "slot ");
     $("script-note").textContent = wait && `${wait}.`;
@@ -241,9 +240,9 @@ class ScriptTab extends Tab {
   showProblem(problem, { isRefused = false } = {}) {
     Object.assign(this, unplayed());
     this.timeline.show([], this.rows.length);
-    for (const id of ["script-count", "script-note", "script-command"]) $(id).textContent = "";
+    for (const id of ["script-count", "script-note"]) $(id).textContent = "";
     $("script-note").hidden = true;
-    parts.fill("script-lines", "");
+    this.tellLines("script", "", "");
     $("script-fault").textContent = problem;
     $("script-fault").classList.toggle("no", isRefused);
     $("script-fault").hidden = false;
@@ -354,7 +353,7 @@ class ScriptTab extends Tab {
     picture.saveAs(picture.nameFor("script", ".csv"), new Blob([this.text], { type: "text/csv" }));
   }
 
-  options() { return `m=${this.value("m")}&k=${this.value("k")}${links.windowOption("script")}&pty=${this.pty}`; }
+  options() { return `${super.options()}&pty=${this.pty}`; }
   moreSight() { return `&receiver=${this.chosen}`; }
   shared(text) { this.saved = text; }
 
@@ -372,9 +371,8 @@ class ScriptTab extends Tab {
 
   /* Begins with the compiled program. */
   begin(compiled) {
-    super.begin();
+    super.begin(["m", "k", "w", "n", "slots"], () => this.formChanged());
     this.program = new Program(compiled);
-    for (const name of ["m", "k", "w", "n", "slots"]) this.field(name).oninput = parts.soon(() => this.formChanged());
     $("script-text").oninput = parts.soon(() => {
       const area = $("script-text"), at = area.selectionStart;
       this.take(area.value);
@@ -392,4 +390,4 @@ class ScriptTab extends Tab {
   }
 }
 
-export const scriptTab = new ScriptTab();
+export const scriptTab = added(new ScriptTab());

@@ -1,9 +1,14 @@
 /* What the tabs of a log and of a script share: one look at a time, undo, links, and what is not saved. A tab has
-   `text` for a link, `show` for a look, `showProblem`, `options`, `settingsOf` for the options of a link, `open`,
-   `save` and `isUnsaved`. */
+   `text` for a link, `show` for a look, `showProblem`, `settingsOf` for the options of a link, `open`, `save` and
+   `isUnsaved`. */
 import { Undo } from "../model/undo.js";
 import * as links from "./links.js";
-import { $, problemOf, waits } from "./parts.js";
+import { $, fill, problemOf, soon, waits } from "./parts.js";
+
+/* The tabs of the page in their order. A file adds its own: an object with an id, which is that of its section, a title
+   and `begin`. One with an input has `open` too. */
+export const TABS = [];
+export const added = (it) => TABS[TABS.push(it) - 1];
 
 export class Tab {
   constructor(id, title) {
@@ -46,6 +51,18 @@ export class Tab {
   showWait() {}
   problem() { return problemOf(this.field("form")); }
 
+  /* The numbers of the form as a link has them. */
+  options() {
+    const w = this.value("w");
+    return `m=${this.value("m")}&k=${this.value("k")}${w ? `&w=${w}` : ""}`;
+  }
+
+  /* Shows what a command prints. */
+  tellLines(name, command, text) {
+    $(`${name}-command`).textContent = command;
+    fill(`${name}-lines`, text);
+  }
+
   /* Goes back (-1) or forth (1) over the edits. */
   back(by) {
     const text = this.undo.go(by);
@@ -83,7 +100,9 @@ export class Tab {
     this.showProblem(why, { isRefused: true });
   }
 
-  begin() {
+  /* `changed` is called for changes of these fields. */
+  begin(names, changed) {
+    for (const name of names) this.field(name).oninput = soon(changed);
     this.field("undo").onclick = () => this.back(-1);
     this.field("redo").onclick = () => this.back(1);
     this.field("share").onclick = () => this.share();

@@ -2,6 +2,7 @@
 import * as painter from "../display/painter.js";
 import * as lines from "../model/lines.js";
 import * as picture from "./picture.js";
+import { number } from "./parts.js";
 import { Play } from "./play.js";
 
 export class Timeline {
@@ -19,7 +20,6 @@ export class Timeline {
     "+": "in", "=": "in", w: "in", "-": "out", s: "out", a: "earlier", d: "later", 0: "all", n: "next", p: "previous",
     N: "nextChange", P: "previousChange",
   };
-  static number = (n) => n.toLocaleString("en");
 
   constructor(root, { label, onMove, onPaint = () => false, onKey = () => false, onLane = () => {}, ...others }) {
     Object.assign(this, { root, onMove, onPaint, onKey, onLane, ...Timeline.UNTIMED, ...others });
@@ -145,7 +145,7 @@ export class Timeline {
   /* Returns the chosen slot in words, with its line and its clock time if it has them. */
   place() {
     const { cursor } = this;
-    const slot = `slot ${Timeline.number(cursor)} of ${Timeline.number(this.count)}`;
+    const slot = `slot ${number(cursor)} of ${number(this.count)}`;
     return [slot, this.line(cursor), lines.time(cursor), this.clock(cursor)].filter(Boolean).join(" · ");
   }
 
@@ -251,7 +251,7 @@ export class Timeline {
       const ends = [Math.min(first, slot), Math.max(first, slot)];
       this.span = [ends[0], ends[1] + 1];
       const time = lines.time(this.span[1] - this.span[0]);
-      this.output.textContent = `slots ${ends.map(Timeline.number).join(" to ")} · ${time}`;
+      this.output.textContent = `slots ${ends.map(number).join(" to ")} · ${time}`;
       this.draw();
     };
     this.follow(event, select, ({ type }) => {
@@ -330,7 +330,7 @@ export class Timeline {
     this.scroll.max = this.count - this.across;
     this.scroll.disabled = this.across >= this.count;
     this.scroll.value = this.from;
-    const ends = [Math.floor(this.from), Math.ceil(this.from + this.across) - 1].map(Timeline.number);
-    this.scroll.setAttribute("aria-valuetext", `slots ${ends.join(" to ")} of ${Timeline.number(this.count)}`);
+    const ends = [Math.floor(this.from), Math.ceil(this.from + this.across) - 1].map(number);
+    this.scroll.setAttribute("aria-valuetext", `slots ${ends.join(" to ")} of ${number(this.count)}`);
   }
 }

@@ -2,9 +2,10 @@
    `actions` is what the buttons do. */
 import * as lines from "../model/lines.js";
 import * as logfile from "../model/logfile.js";
-import { $, counted, make, nodesOf, number } from "./parts.js";
+import { $, counted, grouped, make, nodesOf, number } from "./parts.js";
 
 const RULE_BROKEN = "A no says that a rule was broken.";
+const NO_GROUP = "In a slot without a group none was sent, or it was not recorded. The yes covers the others.";
 /* The cure of each fault, as in docs/FORMATS.md. */
 const CURES = {
   EarlyFlag: "Keep each text on air for at least M + K slots, and flip the flag only for a new text.",
@@ -43,9 +44,6 @@ function showCard(kind, ...elements) {
 /* Shows a heading and a sentence in place of an answer. */
 export const showNone = (title, words, kind = "fault") => showCard(kind, heading(title), sentence(words));
 
-/* A note with commas in its long numbers. */
-const grouped = (note) => note.replace(/\b\d{4,}\b/g, (digits) => number(Number(digits)));
-
 /* A note of the program as a sentence: with a capital letter, and without its advice for a terminal. */
 function told(note) {
   const words = grouped(note.replace(/(?:: put rdsrt|: M lost slots|\. Do not audit) .*/, ""));
@@ -64,13 +62,12 @@ const covered = ({ notes }) => told(notes.find((note) => note.startsWith("judged
 function passed(given) {
   const { audit, log, groups } = given, missing = log.count - groups;
   const texts = missing ? "the recorded texts" : "two texts", keep = groups === 1 ? "slot keeps" : "slots keep";
-  const few = `${number(missing)} of ${counted(log.count, "slot")} ${missing === 1 ? "has" : "have"} no whole group.`;
   return [
     heading(`✓ Passes ${withDwell(given)}`),
     sentence(`The recorded ${keep} the rules. No receiver with this M shows a mix of ${texts}, whichever groups it `
       + "loses."),
     sentence(covered(audit)),
-    ...missing ? [sentence(strong(few), " None was sent, or it was not recorded. The yes covers the others.")] : [],
+    ...missing ? [sentence(NO_GROUP)] : [],
   ];
 }
 

@@ -1,0 +1,31 @@
+/* Reads what `audit --all` prints: a line for each fault of a log, and a note for each kind. */
+
+const LINE = /^no (\d+) (\w+)$/gm;
+const COUNT = /^(\d+ of \d+ \w+): (\w+)(?:, first)? in (slot .*?)(?:, last in (slot .*))?$/;
+const PLACE = /^slot (\d+) \(line \d+(?:, (.*))?\)$/;
+const CLOCK = /\d\d:\d\d:\d\d/;
+
+/* Returns the names of the kinds, and for each fault its slot and the number of its kind. A log of a day may have
+   hundreds of thousands of faults, so they are in typed arrays. */
+export function read(output) {
+  const kinds = [], slots = [], numbers = [];
+  for (const [, slot, kind] of output.matchAll(LINE)) {
+    if (!kinds.includes(kind)) kinds.push(kind);
+    slots.push(Number(slot));
+    numbers.push(kinds.indexOf(kind));
+  }
+  return { kinds, slots: Int32Array.from(slots), numbers: Uint8Array.from(numbers) };
+}
+
+/* A place in a note: its slot, its time of the day if it has one, and its words. */
+function placeIn(words) {
+  const [, slot, time = ""] = PLACE.exec(words);
+  return { words, slot: Number(slot), clock: CLOCK.exec(time)?.[0] ?? time };
+}
+
+/* Returns the kinds in the notes: how many, of what kind, and the first and the last of them. A single fault is only
+   the first. */
+export function counts(notes) {
+  return notes.map((note) => COUNT.exec(note)).filter(Boolean).map(([note, count, kind, ...places]) =>
+    ({ note, count, kind, places: places.filter(Boolean).map(placeIn) }));
+}

@@ -1,0 +1,139 @@
+"""All faults of a log: the strip, the table and the report, by the list of the program."""
+from tests.page_support import (HI, NOTHING, YO, ChromiumCase, FirefoxCase, call, click, cursor, first_examples, of,
+                                settle, text_of, to_tab, verdict_of)
+
+TAGS = "C201 B148 2002 0000"
+OTHER = "C201 2140 594F 0D20"
+# 2 tags come 1 slot after their text, and 3 reuses the flag of 0
+FEW = f"{HI}\n{YO}\n{TAGS}\n{HI}\n"
+
+
+def rows(b, query):
+    """Returns the texts of the cells of each row of a table."""
+    cells = "[...it.cells].map(cell => cell.textContent)"
+    return b.run(f"[...document.querySelectorAll('{query}')].map(it => {cells})")
+
+
+def strip(b):
+    """Returns the names of the strip's rows, its buttons, and its labels."""
+    texts = lambda query, what: b.run(f"[...document.querySelectorAll('#log-strip {query}')].map(it => it.{what})")
+    return texts("b", "textContent"), texts("button", "title"), texts("span", "textContent")
+
+
+def opened(b, log, **options):
+    """Opens a log with M = 8 or these options."""
+    to_tab(b, "log")
+    call(b, "probe.open", "log", log, {"pi": "C201", "m": 8, "k": 0, **options})
+    settle(b)
+
+
+def timed(*groups):
+    """Returns a log of groups, each with a time of a day."""
+    return "".join(f"{group} @2024/06/01 {time}\n" for group, time in groups)
+
+
+class Listing:
+    def test_a_table_has_each_kind_with_its_count_and_its_places(self):
+        """It hides after a yes, and after an M that the form refuses."""
+        b = self.b
+        late = "".join(f"{group}\n" for group in [HI] * 8 + [YO] * 8 + [HI])
+        cases = [
+            ("one of each", FEW, [["EarlyFlag", "1 of 3 texts", "slot 3"], ["EarlyTag", "1 of 3 texts", "slot 2"]]),
+            ("first and last", f"{HI}\n{OTHER}\n{HI}\n",
+             [["Changed", "2 of 3 texts", "slot 1", "slot 2"], ["EarlyFlag", "1 of 3 texts", "slot 2"]]),
+            ("a name", "C201 A140 504F 5020\nC201 A140 0148 4949\n",
+             [["Changed", "1 of 2 names", "slot 1"], ["NotOneText", "1 of 2 names", "slot 1"]]),
+            ("a yes", late, []),
+        ]
+        for name, log, wanted in cases:
+            opened(b, log, running=True)
+            got = rows(b, "#log-faults:not([hidden]) tbody tr")
+            self.check(name, (got, of(b, "#log-strip", "hidden")), (wanted, not wanted), log)
+        opened(b, late, running=True)
+        call(b, "probe.choose", "log-m", 10)
+        settle(b)
+        self.check("M = 10", rows(b, "#log-kinds tr"), [["EarlyFlag", "1 of 3 texts", "slot 16"]])
+        call(b, "probe.choose", "log-m", 0)
+        settle(b)
+        self.check("no M", [of(b, f"#{it}", "hidden") for it in ("log-faults", "log-strip")], [True] * 2)
+
+    def test_a_strip_has_the_faults_by_kind_and_time(self):
+        """By the hour, in a shorter log by ten minutes or by the minute, and by even parts of a log without times."""
+        b = self.b
+        opened(b, FEW, running=True)
+        self.check("without times", strip(b),
+                   (["EarlyTag", "EarlyFlag"],
+                    ["EarlyTag from slot 2 on: go to slot 2", "EarlyFlag from slot 3 on: go to slot 3"],
+                    ["slot 0", "slot 1", "slot 2", "slot 3"]))
+        begin = [(HI, "07:10:00.00"), (OTHER, "07:10:00.09")]
+        opened(b, timed(*begin, (HI, "09:15:00.00")))
+        self.check("two hours", strip(b),
+                   (["Changed", "EarlyFlag"],
+                    ["Changed from 07:10 on: go to slot 1", "Changed from 09:10 on: go to slot 2",
+                     "EarlyFlag from 09:10 on: go to slot 2"], ["07:10", "07:40", "08:10", "08:40", "09:10"]))
+        opened(b, timed(*begin, (HI, "17:15:00.00"), (OTHER, "17:59:00.00")))
+        self.check("ten hours", strip(b),
+                   (["Changed", "EarlyFlag"],
+                    ["Changed from 07:00 on: go to slot 1", "Changed from 17:00 on: go to slot 2",
+                     "EarlyFlag from 17:00 on: go to slot 2"], ["07:00", "09:00", "11:00", "13:00", "15:00", "17:00"]))
+        opened(b, f"{HI}\n{OTHER}\n" + f"{NOTHING}\n" * 70)
+        self.check("even parts of three slots", strip(b)[1:],
+                   (["Changed from slot 0 on: go to slot 1"], [f"slot {slot}" for slot in range(0, 72, 12)]))
+
+    def test_a_click_goes_to_the_slot(self):
+        """Of the strip to the first fault of the part, and of the table to the first and the last. After a no the
+        cursor stands at the fault."""
+        b = self.b
+        opened(b, timed((HI, "07:10:00.00"), (OTHER, "07:10:00.09"), (HI, "09:15:00.00"), (OTHER, "09:15:00.09")))
+        self.check("after the no", (cursor(b, "log"), text_of(b, "#log-rows [aria-current] .number")), (1, "2"))
+        self.check("the place of the no", "First in slot 1 (line 2, 2024/06/01 07:10:00.09): a text changed"
+                   in text_of(b, "#verdict"), True, text_of(b, "#verdict"))
+        for query, slot in (("#log-kinds tr:first-child td:last-child button", 3), ("#log-kinds tr td button", 1),
+                            ("#log-strip button:nth-of-type(2)", 2)):
+            click(b, query)
+            self.check(query, cursor(b, "log"), slot)
+        self.check("the clock", rows(b, "#log-kinds tr"), [["Changed", "3 of 4 texts", "07:10:00", "09:15:00"],
+                                                           ["EarlyFlag", "2 of 4 texts", "09:15:00", "09:15:00"]])
+        self.check("the place in words", of(b, "#log-kinds button", "title"),
+                   "slot 1 (line 2, 2024/06/01 07:10:00.09)")
+        b.run("document.querySelector('#log-strip button').focus()")
+        b.key("ArrowRight")
+        self.check("arrow keys go along the strip", b.run("document.activeElement.title"), strip(b)[1][1])
+
+    def test_the_report_has_the_faults_by_kind(self):
+        """And where the list ends, if a line behind the first fault is malformed."""
+        b = self.b
+        opened(b, f"{FEW}bad\n", running=True)
+        self.check("the answer is the first no", text_of(b, "#verdict h2 code"), "EarlyTag")
+        end = ('The list ends before line 5: "bad": it has no space; a log line looks like '
+               "C201 2140 4849 0D20.")
+        self.check("the end", text_of(b, "#log-faults-end"), end)
+        click(b, "#log-report")
+        faults = b.run("[...[...document.querySelectorAll('#report-rows dt')].find(it => it.textContent === 'Faults')"
+                       ".nextSibling.children].map(it => it.textContent)")
+        self.check("the report", faults, ["1 of 3 texts: EarlyFlag in slot 3 (line 4)",
+                                          "1 of 3 texts: EarlyTag in slot 2 (line 3)", end])
+        click(b, "#report-close")
+        first_examples(b)
+
+    def test_many_faults_have_few_elements(self):
+        """Each text of two slots reuses the flag of the text before the previous one, except the first two."""
+        b = self.b
+        log = "".join(f"C201 21{4 + text % 2}0 {0x4141 + text % 20:04X} 4141\nC201 21{4 + text % 2}1 0D20 2020\n"
+                      for text in range(10_000))
+        said = verdict_of(b, log, 8)
+        self.check("the answer", "EarlyFlag" in said, True, said)
+        self.check("the count", rows(b, "#log-kinds tr"),
+                   [["EarlyFlag", "9,998 of 10,000 texts", "slot 4", "slot 19,998"]])
+        names, buttons, labels = strip(b)
+        self.check("a button for each part", (names, len(buttons), buttons[-1], len(labels)),
+                   (["EarlyFlag"], 26, "EarlyFlag from slot 19,250 on: go to slot 19,250", 6))
+        first_examples(b)
+
+
+class Chromium(Listing, ChromiumCase):
+    pass
+
+
+class Firefox(Listing, FirefoxCase):
+    pass
