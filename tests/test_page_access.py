@@ -1,6 +1,6 @@
 """The page by key, to be heard and to be read: controls, contrast, colours, motion, and small windows."""
-from tests.page_support import (GROUPS, HI, SCHEMES, TABS, ChromiumCase, FirefoxCase, call, click, example, first_examples,
-                                hidden, of, open_script, settle, settled_verdict, verdict_of)
+from tests.page_support import (GROUPS, HI, SCHEMES, TABS, ChromiumCase, FirefoxCase, call, click, example,
+                                first_examples, hidden, of, open_script, settle, settled_verdict, to_tab, verdict_of)
 
 # of texts, and of shapes without a text
 CONTRAST, GRAPHIC_CONTRAST = 4.5, 3
@@ -27,14 +27,15 @@ class Access:
         }
         first_examples(b)
         for name in TABS:
-            call(b, "page.tab", name)
+            to_tab(b, name)
             b.run("document.activeElement?.blur(); getSelection().removeAllRanges()")
             reached = set()
             for _ in range(40):
                 b.key("Tab")
                 reached |= set(b.run("(e => [e.id, e.name, e.tagName])(document.activeElement)"))
             self.check(f"the tab key reaches all of {name}", [it for it in wanted[name] if it not in reached], [])
-        call(b, "page.tab", "log", True)
+        to_tab(b, "log")
+        b.run("document.querySelector('#tab-log').focus()")
         b.key("ArrowRight")
         self.check("arrows choose the tab", (b.run("document.activeElement.id"), hidden(b)),
                    ("tab-script", ["log", "dwell"]))
@@ -47,7 +48,7 @@ class Access:
         b = self.b
         call(b, "probe.choose", "log-example", 0)
         for tab in TABS[:2]:
-            call(b, "page.tab", tab)
+            to_tab(b, tab)
             b.run(f"{tab}Tab.timeline.canvas.focus()")
             seen = []
             for key in ("", "?", "?"):
@@ -72,7 +73,7 @@ class Access:
         for width in (1280, 390):
             b.size(width, 900)
             for tab in TABS:
-                call(b, "page.tab", tab)
+                to_tab(b, tab)
                 settle(b)
                 self.check(f"{tab} in {width} px", b.run(small), [])
                 titles = f"[...document.querySelectorAll('#{tab} h2')].filter(it => it.checkVisibility())"
@@ -89,7 +90,7 @@ class Access:
         b = self.b
         first_examples(b)
         for tab in TABS[:2]:
-            call(b, "page.tab", tab)
+            to_tab(b, tab)
             click(b, f"#{tab} [popovertarget=meaning]")
             words = "document.querySelector('#meaning').checkVisibility() && document.querySelector('#meaning').innerText"
             self.check(tab, [it for it in ("Dwell M", "Late K", "Window W") if it not in b.run(words)], [])
@@ -107,17 +108,17 @@ class Chromium(Access, ChromiumCase):
             settle(b)
             self.check("the canvas has the system's text colour", b.run("logTab.timeline.ink.text"),
                        b.run("getComputedStyle(document.body).color"))
-            call(b, "page.tab", "log")
+            to_tab(b, "log")
             first, *others = b.run(grounds.format("nav button"))
             self.check("the chosen tab", (first not in others, len(set(others))), (True, 1))
             mixed, calm = b.run(grounds.format("#log-radio .lcd")), b.run(grounds.format("#script-air .lcd"))
             self.check("a display that is red", (of(b, "#log-radio", "className"), mixed != calm),
                        ("radio mixed", True))
-            call(b, "page.tab", "script")
+            to_tab(b, "script")
             first, *others = b.run(grounds.format(".brush label"))
             self.check("the chosen brush", (first not in others, len(set(others))), (True, 1))
             for tab in TABS[:2]:
-                call(b, "page.tab", tab)
+                to_tab(b, tab)
                 settle(b)
                 low = [it for it in call(b, "probe.contrasts", CONTRAST)[1] if " on " not in it]
                 self.check(f"contrast of {tab} in forced colours, {scheme}", low, [])
@@ -145,7 +146,7 @@ class Chromium(Access, ChromiumCase):
     def test_a_screen_reader_hears_slots_verdict_and_lines(self):
         b = self.b
         b.ask("Accessibility.enable")
-        call(b, "page.tab", "log")
+        to_tab(b, "log")
         first_examples(b)
         settled_verdict(b)
         nodes = tree(b)
@@ -170,7 +171,7 @@ class Chromium(Access, ChromiumCase):
             for scheme in SCHEMES:
                 b.scheme(scheme)
                 for name in tabs:
-                    call(b, "page.tab", name)
+                    to_tab(b, name)
                     settle(b)
                     seen, low = call(b, "probe.contrasts", CONTRAST)
                     self.check(f"contrast of {name}, {scheme}", (seen > 10, low), (True, []))
@@ -178,7 +179,7 @@ class Chromium(Access, ChromiumCase):
             for width in NARROW:
                 b.size(width, 844, is_phone=False)
                 for name in tabs:
-                    call(b, "page.tab", name)
+                    to_tab(b, name)
                     settle(b)
                     self.check(f"{name} fits a window of {width} px", b.run("document.documentElement.scrollWidth"),
                                width)
@@ -193,7 +194,7 @@ class Chromium(Access, ChromiumCase):
         for width in (1920, 1280):
             b.size(width, 900)
             for tab in TABS[:2]:
-                call(b, "page.tab", tab)
+                to_tab(b, tab)
                 settle(b)
                 for part in (f"#{tab} .look" if tab == "log" else "#script-time", f"#{tab} .stage:not(#road *)"):
                     self.check(f"{part} in {width} px", b.run(f"{box.format(part)}.width") >= width - 60, True)
@@ -210,12 +211,12 @@ class Chromium(Access, ChromiumCase):
         call(b, "probe.choose", "log-example", 0)
         for width in (1920, 1280, 800, *NARROW):
             b.size(width, 900)
-            call(b, "page.tab", "script")
+            to_tab(b, "script")
             settle(b)
             tops = b.run("['#script-count', '#script-air', '#script-time']"
                          ".map(it => document.querySelector(it).getBoundingClientRect().top)")
             self.check(f"the answer of a script in {width} px", tops[0], min(tops))
-            call(b, "page.tab", "log")
+            to_tab(b, "log")
             settle(b)
             box = lambda query: b.run(f"(({{ left, right, top }}) => [left, right, top])"
                                       f"(document.querySelector('{query}').getBoundingClientRect())")
@@ -232,7 +233,7 @@ class Chromium(Access, ChromiumCase):
         open_script(b, "".join(f"{line}GG\n" for line in example("chanson.csv").decode().splitlines()), m=8, k=0)
         call(b, "probe.choose", "log-example", 2)
         for tab, display in (("log", "#log-radio"), ("script", "#script-air")):
-            call(b, "page.tab", tab)
+            to_tab(b, tab)
             settle(b)
             names = b.run(f"{tab}Tab.timeline.lanes.map(lane => lane.name.trim())")
             others = [it for it in names if "name" in it or "tag" in it]
@@ -248,7 +249,7 @@ class Chromium(Access, ChromiumCase):
         b = self.b
         b.size(390, 844)
         first_examples(b)
-        call(b, "page.tab", "log")
+        to_tab(b, "log")
         settled_verdict(b)
         box = "document.querySelector('{}').getBoundingClientRect()"
         end = lambda query, side: b.run(f"scrollTo(0, 0), {box.format(query)}.{side}")
@@ -256,7 +257,7 @@ class Chromium(Access, ChromiumCase):
         self.check("the timeline is near", (end("#log-time", "top") <= 1000) or end("#log-time", "top"), True)
         for tab, places in (("log", "#verdict, #log-time, #log-radio"),
                             ("script", "#script-count, #script-time, #script-air")):
-            call(b, "page.tab", tab)
+            to_tab(b, tab)
             settle(b)
             tops = [end(query, "top") for query in places.split(", ")]
             self.check(f"the order of {tab}", tops, sorted(tops))

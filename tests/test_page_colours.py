@@ -4,8 +4,8 @@ import random
 import re
 
 from tests import plain_worlds, random_scripts
-from tests.page_support import (HI, NOTHING, SCHEMES, YO, ChromiumCase, FirefoxCase, call, click, example, of,
-                                open_script, program, settle, settled_verdict, text_of, verdict_of)
+from tests.page_support import (HI, NOTHING, SCHEMES, YO, ChromiumCase, FirefoxCase, call, click, example, move, of,
+                                open_script, program, settle, settled_verdict, text_of, to_tab, verdict_of)
 
 SEED, SCRIPTS, SLOTS = 20261127, 40, 90
 # arguments of a script with the form in which the program prints them: escapes of characters in the table, and pieces that
@@ -87,7 +87,7 @@ class Colours:
             open_script(b, rows, m=8, k=0)
             self.check(f"{name}: the mix is counted", text_of(b, "#script-count"),
                        "With the flag bit alone, receivers show a mix: a text. With the dwell none does.")
-            b.run("scriptTab.timeline.move(60)")
+            move(b, "script", 60)
             self.check(f"{name}: it is red", (of(b, "#script-alone", "className"), text_of(b, "#script-alone .led")),
                        ("radio alone mixed", "mix"))
 
@@ -98,7 +98,7 @@ class Colours:
         commands = {4: "text,ABCDEFGH", 10: "tags,0 1 1 0 1 0 0 0", 14: "tags,1 0 4 4 3 0 0 0"}
         rows = "".join(f"{commands.get(slot, '-,')},1,{'G' if slot in got else 'L'}\n" for slot in range(30))
         open_script(b, rows, m=4, k=0)
-        b.run("scriptTab.timeline.move(27)")
+        move(b, "script", 27)
         words = of(b, "#script-time canvas", "ariaValueText").split("With the flag bit alone: ")[1]
         self.check("it is old", (of(b, "#script-alone", "className"), text_of(b, "#script-alone .led"), words),
                    ("radio alone", "tag: replaced", "“ABCDEFGH”, title: AB, replaced."))
@@ -120,8 +120,8 @@ class Colours:
                   for at in range(0, 16, 4)]
         log = "".join(f"C201 214{number % 4} {piece[:2].encode().hex()} {piece[2:].encode().hex()}\n"
                       for number, piece in enumerate(pieces))
-        call(b, "page.tab", "log")
-        call(b, "logTab.open", log.upper(), {"pi": "C201", "m": 8, "k": 0})
+        to_tab(b, "log")
+        call(b, "probe.open", "log", log.upper(), {"pi": "C201", "m": 8, "k": 0})
         verdict = settled_verdict(b)
         self.check("the verdict", ("Changed" in verdict, text_of(b, "#without-loss")),
                    (True, "Even a receiver that loses nothing shows in slot 49: B7: open today."))
@@ -164,7 +164,7 @@ class Colours:
                 for name, some in (("bars", [of_lane]), ("ticks", ticks), ("legend", legend)):
                     wrong = [it for it in some if not it or any(apart(hue, hues[kind]) > BLENDED for hue in it)]
                     self.check(f"{scheme}: {name} of {kind}", (len(some) > 0, wrong), (True, []))
-            call(b, "page.tab", "log")
+            to_tab(b, "log")
             call(b, "probe.choose", "log-example", 2)
             for kind in LANES:
                 ink = b.run(f"probe.hue(getComputedStyle(document.querySelector('#log-changes .part.{kind}')).color)")

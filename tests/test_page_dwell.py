@@ -1,7 +1,7 @@
 """The tab that chooses the dwell."""
 import re
 
-from tests.page_support import ChromiumCase, FirefoxCase, call, click, of, text_of
+from tests.page_support import ChromiumCase, FirefoxCase, call, click, of, text_of, to_tab
 
 
 def dwell_shows(b):
@@ -20,8 +20,8 @@ class DwellTab:
         self.check("with late groups", text_of(b, ".card strong"), "22.4 s")
         times = {0: "0.00 s", 114: "9.98 s", 685: "1 min 0 s", 1366: "2 min 0 s", 41_101: "1 h 0 min 0 s",
                  49_384: "1 h 12 min 5 s"}
-        self.check("times", {slots: call(b, "lines.time", slots) for slots in times}, times)
-        times = "Array.from({ length: 200000 }, (_, slots) => lines.time(slots))"
+        self.check("times", {slots: call(b, "probe.time", slots) for slots in times}, times)
+        times = "Array.from({ length: 200000 }, (_, slots) => probe.time(slots))"
         sixty = b.run(f"{times}.filter(told => /\\b60(\\.0+)? /.test(told))")
         self.check("no part of a time comes to 60", sixty, [])
         told = b.run("[...document.querySelectorAll('[role=tab]')].map(tab => tab.ariaSelected)")
@@ -30,7 +30,7 @@ class DwellTab:
     def test_the_largest_dwell_for_texts_of_some_seconds(self):
         """Numbers and sliders stay in step, and a number out of bounds is refused."""
         b = self.b
-        call(b, "page.tab", "dwell")
+        to_tab(b, "dwell")
         for field, number in (("m", 128), ("k", 0), ("f", 50), ("s", 15)):
             call(b, "probe.choose", f"dwell-{field}", number)
         answer = "{} M + K can be at most {}. {} {} The chosen M + K = {} {}. {}"

@@ -4,8 +4,8 @@ import struct
 import tempfile
 
 from tests.page_support import (EVERY_100, HI, NOTHING, TABS, URL, ChromiumCase, FirefoxCase, call, click, example,
-                                first_examples, hidden, idle, of, open_script, printed, program, run_program, settle,
-                                text_of, verdict_of, visit, waited_for)
+                                first_examples, hidden, idle, move, of, open_script, printed, program, run_program,
+                                settle, text_of, to_tab, verdict_of, visit, waited_for)
 
 TURNS = "\u061c\u200e\u200f\u202a\u202b\u202c\u202d\u202e\u2066\u2067\u2068\u2069"
 
@@ -89,14 +89,14 @@ class Files:
             got = fault, sizes, of(b, "#argument", "value.length")
             self.check(f"a field of 3 MB in {script[:8]}", got, (note, [False, False], left))
         open_script(b, f"text,{long},1,G\n-,,1,G\n", m=8, k=0)
-        b.run("scriptTab.timeline.move(0)")
+        move(b, "script", 0)
         b.run("document.getElementById('free').click()")
         row = b.run("(row => [row.argument.length, row.free])(scriptTab.rows[0])")
         self.check("an edit keeps it", [*row, of(b, "#argument", "readOnly")], [len(long), "0", True])
-        b.run("scriptTab.timeline.move(1)")
+        move(b, "script", 1)
         self.check("and a short one can be typed", (of(b, "#argument", "readOnly"), of(b, "#argument", "value")),
                    (False, ""))
-        call(b, "logTab.open", f"{long}\n", {"m": 8})
+        call(b, "probe.open", "log", f"{long}\n", {"m": 8})
         settle(b)
         self.check("nor is a line of 3 MB", b.run("document.body.textContent.includes('A'.repeat(100))"), False)
 
@@ -140,7 +140,7 @@ class Files:
             settle(b)
             options = ["--pi", "C201", "--pty", "10", "--why"]
             self.check(f"a script by {way}", printed(b), program(["sim", *options], example("tunnel.csv"))[1])
-        call(b, "page.tab", "log")
+        to_tab(b, "log")
         call(b, "probe.choose", "log-example", 2)
         settle(b)
         self.check("an example keeps its M", text_of(b, "#verdict h2"), "✓ Passes with M = 8 (0.70 s)")
@@ -152,11 +152,11 @@ class Files:
         settle(b)
         self.check("a recording", (text_of(b, "#verdict h2"), of(b, "#log-running", "checked"),
                                    text_of(b, "#audit-command")),
-                   ("✓ Passes with M = 128 (11.2 s)", True, "rdsrt audit --pi C201 --m 128 --k 0 --running"))
+                   ("✓ Passes with M = 128 (11.2 s)", True, "rdsrt audit --all --pi C201 --m 128 --k 0 --running"))
         click(b, "#log-running")
         settle(b)
         self.check("a complete log", (text_of(b, "#verdict h2"), text_of(b, "#audit-command")),
-                   ("✗ EarlyTag with M = 128 (11.2 s)", "rdsrt audit --pi C201 --m 128 --k 0"))
+                   ("✗ EarlyTag with M = 128 (11.2 s)", "rdsrt audit --all --pi C201 --m 128 --k 0"))
         first_examples(b)
         self.check("an example is complete", of(b, "#log-running", "checked"), False)
 
@@ -217,10 +217,7 @@ class Files:
             self.check(f"pasted over {at}: {text[:9]!r}", (hidden(b), of(b, "#log-text", "value")), wanted)
         call(b, "probe.drop", "my.station.log", EVERY_100)
         settle(b)
-        b.run("window.kept = picture.saveAs; picture.saveAs = name => { window.saved = name; }")
-        click(b, "#log-save")
-        b.run("picture.saveAs = kept; undefined")
-        self.check("the name of a saved log", b.run("saved"), "my.station.log")
+        self.check("the name of a saved log", call(b, "probe.savedBy", "log-save"), "my.station.log")
 
     def test_a_log_that_changes_on_the_disk_stays_as_it_was_opened(self):
         """The answer and the search for a witness are over the same bytes."""
@@ -255,7 +252,7 @@ class Files:
                                 ("script", "own.csv", example("tunnel.csv").decode())):
             shows = lambda: (text_of(b, f"#{tab}-file-name"), b.run("document.title"),
                              of(b, f"#{tab}-file", "files.length"))
-            call(b, "page.tab", tab)
+            to_tab(b, tab)
             for way in ("pick", "drop"):
                 call(b, f"probe.{way}", *([f"{tab}-file"] if way == "pick" else []), name, text)
                 settle(b)
@@ -265,12 +262,12 @@ class Files:
                 self.check(f"{tab}: an example after it", shows(), ("", title, 0))
         call(b, "probe.drop", "own.csv", example("tunnel.csv").decode())
         settle(b)
-        b.run("scriptTab.timeline.move(30)")
+        move(b, "script", 30)
         call(b, "probe.choose", "command", "restart")
         self.check("an edited file", text_of(b, "#script-file-name"), "own.csv, edited")
         click(b, "#script-undo")
         self.check("and undone", text_of(b, "#script-file-name"), "own.csv")
-        call(b, "page.tab", "log")
+        to_tab(b, "log")
         self.check("the title is of the open tab", b.run("document.title"), title)
         first_examples(b)
 
@@ -285,9 +282,7 @@ class Files:
         settle(b)
         self.check("the page asks", (of(b, "#ask", "open"), of(b, "#log-text", "value")), (True, f"{HI}\n"))
         click(b, "#ask-no")
-        b.run("window.kept = picture.saveAs; picture.saveAs = () => {}")
-        click(b, "#log-save")
-        b.run("picture.saveAs = kept; undefined")
+        call(b, "probe.savedBy", "log-save")
         call(b, "probe.drop", "own.log", EVERY_100)
         settle(b)
         self.check("a saved one is not asked about", (of(b, "#ask", "open"), of(b, "#log-text", "value")),
@@ -303,7 +298,7 @@ class Chromium(Files, ChromiumCase):
                 ("a", f"{NOTHING}\n{HI}\n", "log"), ("tunnel.txt", example("tunnel.csv").decode(), "script")]
         first_examples(b)
         for name, text, tab in rows:
-            call(b, "page.tab", "dwell")
+            to_tab(b, "dwell")
             call(b, "probe.drop", name, text)
             settle(b)
             opened = of(b, "#script-text" if tab == "script" else "#log-text", "value")

@@ -2,7 +2,7 @@
 takes."""
 import json
 
-from tests.page_support import ChromiumCase, call, first_examples, idle, program, settle, text_of
+from tests.page_support import ChromiumCase, call, first_examples, idle, move, program, settle, text_of
 
 SLOTS = 100_000
 # a day of slots: a text every 342 slots, in two segments
@@ -51,7 +51,7 @@ class Chromium(ChromiumCase):
         b.run("page.openFile(day)")
         call(b, "probe.choose", "log-m", 100)
         settle(b)
-        b.run("logTab.timeline.move(981999); undefined")
+        move(b, "log", 981999)
         idle(b)
         self.check("its verdict", text_of(b, "#verdict h2"), "✓ Passes with M = 100 (8.76 s)")
         rows = b.run("[...document.querySelectorAll('#log-rows button')].map(it => it.textContent)")

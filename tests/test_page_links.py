@@ -8,7 +8,7 @@ import threading
 from http.server import SimpleHTTPRequestHandler, ThreadingHTTPServer
 
 from tests.page_support import (EVERY_100, FOLDER, SEED, URL, ChromiumCase, FirefoxCase, call, click, example, hidden,
-                                of, open_script, packed, printed, reload, settle, text_of, visit, waited_for)
+                                of, open_script, packed, printed, reload, settle, text_of, to_tab, visit, waited_for)
 
 SIGHT = "[scriptTab.timeline.cursor, scriptTab.chosen, scriptTab.timeline.from, scriptTab.timeline.across]"
 LOG_STATE = ("(({ timeline: { cursor, from, across }, lost }) => "
@@ -94,7 +94,7 @@ class Links:
             self.check("an edit drops the link", script_link(b), ["", False, False, ""])
             click(b, "#script-undo")
             self.check("an undo has it in the address again", script_link(b), ["", False, True, "1"])
-            call(b, "page.tab", "log")
+            to_tab(b, "log")
             self.check("another tab has its own address", b.run("location.hash"), "#log")
             visit(b, link)
             self.check("the link opens all that", [printed(b), b.run(SIGHT), hidden(b)],
@@ -112,8 +112,8 @@ class Links:
         told, address = lambda: text_of(b, "#log-saved"), "location.hash.includes('log=')"
         with served(FOLDER) as url:
             visit(b, url)
-            call(b, "page.tab", "log")
-            call(b, "logTab.open", EVERY_100, {"pi": "C201", "m": 100, "k": 3, "lost": [2, 3, 4, 9, 100]})
+            to_tab(b, "log")
+            call(b, "probe.open", "log", EVERY_100, {"pi": "C201", "m": 100, "k": 3, "lost": [2, 3, 4, 9, 100]})
             settle(b)
             b.run("logTab.timeline.zoom(0.1, 90); logTab.timeline.move(103, { keep: true })")
             b.run("(it => { it.from = Math.round(it.from); it.across = Math.round(it.across); })(logTab.timeline)")
@@ -148,7 +148,7 @@ class Links:
                 card = text_of(b, "#verdict"), of(b, "#verdict", "className"), of(b, "#log-text", "value")
                 self.check(f"a link that {name}", (told(), card), (why, (f"{why}No log is open.", "verdict no", "")))
             dice = random.Random(SEED)
-            call(b, "logTab.open", "".join(f"# {dice.random()}\n" for _ in range(20_000)))
+            call(b, "probe.open", "log", "".join(f"# {dice.random()}\n" for _ in range(20_000)))
             click(b, "#log-share")
             b.until("document.getElementById('log-saved').textContent !== ''")
             self.check("a log that is too long for one", told(), "This log is too long for a link: save it as a file.")
@@ -169,7 +169,7 @@ class Links:
         self.check("back", (hidden(b), b.run("location.hash").startswith("#log="), of(b, "#log-text", "value")),
                    (["script", "dwell"], True, EVERY_100))
         visit(b, URL)
-        call(b, "page.tab", "log")
+        to_tab(b, "log")
         b.run("document.querySelectorAll('#log-start-examples button')[2].click()")
         settle(b)
         before = text_of(b, "#log-lines")

@@ -2,9 +2,9 @@
 import random
 import re
 
-from tests.page_support import (EVERY_100, GROUPS, HI, NOTHING, SEED, YO, ChromiumCase, FirefoxCase, call,
-                                click, example, first_examples, idle, of, program, run_program, settle, settled_verdict,
-                                shown, text_of, verdict_of)
+from tests.page_support import (EVERY_100, GROUPS, HI, NOTHING, SEED, YO, ChromiumCase, FirefoxCase, call, click,
+                                cursor, example, first_examples, idle, move, of, program, run_program, settle,
+                                settled_verdict, shown, text_of, to_tab, verdict_of)
 
 GROUP_WORDS = [
     ("C201 2140 4849 0D20", "2A RadioText · flag A · segment 0 · “HI” · C201 2140 4849 0D20"),
@@ -29,9 +29,9 @@ EXPLAINED = [
      "First in slot 1 (line 2): a text changed without a flip of the A/B flag. This slot",
      "Flip the flag with every change"),
     ("NotOneText", ["C201 2140 4849 0D21"],
-     "First in slot 0 (line 1): the segments fit no text. This slot", "end the text with one carriage return"),
+     "First in slot 0 (line 1): the segments fit no text: byte 0x21 at place 3, after the carriage return. This slot", "end the text with one carriage return"),
     ("NotOneText", ["C201 A140 0148 4949"],
-     "First in slot 0 (line 1): the segments fit no name (PTYN). This slot", "A name has eight printable characters"),
+     "First in slot 0 (line 1): the segments fit no name (PTYN): byte 0x01 at place 0. This slot", "A name has eight printable characters"),
     ("EarlyTag", ["# note", "C201 B158 8012 0985"],
      "First in slot 0 (line 2): RT+ tags came before any text. This slot", "If this 11A is not RT+, empty its lines"),
     ("EarlyTag", [HI, YO, "C201 B158 8012 0985"],
@@ -80,7 +80,7 @@ def listed(b):
 class LogTab:
     def test_the_first_log_shows_its_mix_and_its_verdict(self):
         b = self.b
-        call(b, "page.tab", "log")
+        to_tab(b, "log")
         call(b, "probe.choose", "log-example", 0)
         settled_verdict(b)
         self.check("its verdict", text_of(b, "#verdict h2 code"), "EarlyFlag")
@@ -89,7 +89,7 @@ class LogTab:
         self.check("its lines", text_of(b, "#log-lines"), '1 text "JAZZ FM"\n5 text "JAZZMIX"\n')
         b.run("logTab.timeline.canvas.focus()")
         b.key("ArrowLeft")
-        self.check("a key moves a slot back", (b.run("logTab.timeline.cursor"), shown(b, "log-radio")), (4, "JAZZ FM"))
+        self.check("a key moves a slot back", (cursor(b, "log"), shown(b, "log-radio")), (4, "JAZZ FM"))
         b.key("l")
         idle(b)
         self.check("a key gives a lost slot back", lost(b), [2, 3])
@@ -108,7 +108,7 @@ class LogTab:
 
     def test_a_drag_loses_a_range_and_undo_takes_it_back(self):
         b = self.b
-        call(b, "logTab.open", f"{HI}\n" * 20, {"pi": "C201", "m": 8, "k": 0})
+        call(b, "probe.open", "log", f"{HI}\n" * 20, {"pi": "C201", "m": 8, "k": 0})
         click(b, "#log-click")
         self.check("nothing to undo", of(b, "#log-undo", "disabled"), True)
         slots = [b.run(f"probe.place(logTab.timeline, {slot}, lane => lane.lost)") for slot in range(20)]
@@ -130,14 +130,14 @@ class LogTab:
         dice = random.Random(SEED)
         for number, log in self.cases("".join(f"{dice.choice(GROUPS[:8])}\n" for _ in range(40)) for _ in range(12)):
             m, k, w = dice.choice([4, 8, 64]), dice.choice([0, 3]), dice.choice([2, 9, 255])
-            call(b, "logTab.open", log, {"pi": "C201", "m": m, "k": k, "w": w})
+            call(b, "probe.open", "log", log, {"pi": "C201", "m": m, "k": k, "w": w})
             words = ["decode", "--pi", "C201", "--m", str(m), "--confirm", str(w), "--why"]
             shown_lines = program(words, log.encode())[1]
             self.check(f"log {number}: display", text_of(b, "#log-lines"), shown_lines, log)
-            answer = program(["audit", "--pi", "C201", "--m", str(m), "--k", str(k + w - 1)], log.encode())[1]
+            answer = program(["audit", "--all", "--pi", "C201", "--m", str(m), "--k", str(k + w - 1)], log.encode())[1]
             self.check(f"log {number}: audit", text_of(b, "#audit-lines"), answer, log)
             self.check(f"log {number}: link", f"&w={w}" in b.run("logTab.options()"), True)
-        call(b, "logTab.open", example("corrected.log").decode(), {"pi": "C201", "m": 8, "k": 0, "w": 1})
+        call(b, "probe.open", "log", example("corrected.log").decode(), {"pi": "C201", "m": 8, "k": 0, "w": 1})
         self.check("a window of 1", text_of(b, "#verdict"),
                    "No verdictWindow W must be a whole number from 2 to 255.")
 
@@ -147,10 +147,10 @@ class LogTab:
         b = self.b
         dice, offered = random.Random(SEED), 0
         for number, (log, m) in self.cases((with_times(dice), dice.choice([8, 128])) for _ in range(60)):
-            call(b, "logTab.open", log, {"pi": "C201", "m": m, "k": 0})
+            call(b, "probe.open", "log", log, {"pi": "C201", "m": m, "k": 0})
             filled = program(["slots", "--m", str(m)], log.encode())[1]
             _, answer, notes = run_program(["audit", "--pi", "C201", "--m", str(m), "--k", "0"], log.encode())
-            at = re.search(r"^slot \d+ \(line (\d+)\)", "\n".join(notes), re.M)
+            at = re.search(r"^slot \d+ \(line (\d+)", "\n".join(notes), re.M)
             before = "".join(log.splitlines(keepends=True)[:int(at[1])] if at else log)
             lacks = any("the log spans" in it for it in run_program(["decode", "--pi", "C201"], before.encode())[2])
             breaks = any("went back, or on" in it for it in run_program(["slots"], log.encode())[2])
@@ -170,11 +170,11 @@ class LogTab:
             self.check(f"seed {SEED}, times {number}: offered once", "Add the lost" in text_of(b, "#verdict"), False, log)
         self.check_all("lost slots were offered", offered > 20, True)
         hour = f"{HI} @2026/11/26 10:00:00.00\nC201 2150 4A4F 0D20 @2026/11/26 11:00:00.00\n"
-        call(b, "logTab.open", hour, {"pi": "C201", "m": 128, "k": 0})
+        call(b, "probe.open", "log", hour, {"pi": "C201", "m": 128, "k": 0})
         said = ("Lost slots: The log spans 41,106 slots by its times and has 2 lines. "
                 "The audit takes the lines as slots without a gap, so this answer may be wrong. Add the lost slots")
         self.check("an hour without a group", said in text_of(b, "#verdict") or text_of(b, "#verdict"), True)
-        b.run("logTab.timeline.move(1)")
+        move(b, "log", 1)
         self.check("the clock of a slot", "11:00:00" in text_of(b, "#log-time output") + text_of(b, "#log-changes"),
                    True)
 
@@ -189,7 +189,7 @@ class LogTab:
             some = [dice.choice(odd) if dice.random() < 0.12 else dice.choice(GROUPS)
                     for _ in range(dice.randrange(30))]
             log = "\n".join(some) + dice.choice(["", "\n"])
-            call(b, "logTab.open", log, {"pi": "C201", "m": 8, "k": 0})
+            call(b, "probe.open", "log", log, {"pi": "C201", "m": 8, "k": 0})
             good = log.split("\n")
             bad = re.search(r"^fault line (\d+)", program(["decode", "--pi", "C201", "--m", "1"], log.encode())[1],
                             re.M)
@@ -220,14 +220,14 @@ class LogTab:
                    ({"beyonc" in said.lower() for *_, said in listed(b)}, text_of(b, "#log-found")),
                    ({True}, f"{len(listed(b))} of {len(wanted)} changes"))
         click(b, "#log-changes li:last-child button")
-        self.check("a row goes to its slot", b.run("logTab.timeline.cursor"), int(listed(b)[-1][0]))
+        self.check("a row goes to its slot", cursor(b, "log"), int(listed(b)[-1][0]))
         self.check("and is marked", b.run("document.querySelector('#log-changes [aria-current] .slot').textContent"),
                    listed(b)[-1][0])
         call(b, "probe.choose", "log-find", "")
         settle(b)
-        call(b, "logTab.open", "".join(map(text_of_two_segments, range(1000))), {"pi": "C201", "m": 8, "k": 0})
+        call(b, "probe.open", "log", "".join(map(text_of_two_segments, range(1000))), {"pi": "C201", "m": 8, "k": 0})
         rows = len(listed(b))
-        b.run("logTab.timeline.move(900)")
+        move(b, "log", 900)
         slot = b.run("document.querySelector('#log-changes [aria-current] .slot').textContent")
         self.check("a long list is laid out in part, around the slot",
                    (rows <= 100, len(listed(b)) <= 100, abs(int(slot.replace(",", "")) - 900) < 4), (True,) * 3)
@@ -240,9 +240,9 @@ class LogTab:
     def test_the_chosen_group_is_in_words(self):
         """The words are its type, flag, segment, characters and blocks."""
         b = self.b
-        call(b, "logTab.open", "".join(f"{line}\n" for line, _ in GROUP_WORDS), {"pi": "C201", "m": 8, "k": 0})
+        call(b, "probe.open", "log", "".join(f"{line}\n" for line, _ in GROUP_WORDS), {"pi": "C201", "m": 8, "k": 0})
         for slot, (line, words) in enumerate(GROUP_WORDS):
-            b.run(f"logTab.timeline.move({slot})")
+            move(b, "log", slot)
             self.check(f"the group {line}", text_of(b, "#log-group"), words)
         first_examples(b)
 
@@ -291,10 +291,10 @@ class LogTab:
         late group. An example begins with the K of no option."""
         b = self.b
         log = example("flags.log").decode()
-        call(b, "logTab.open", log + f"{NOTHING}\n" * 40, {"pi": "C201", "m": 8, "k": 0})
+        call(b, "probe.open", "log", log + f"{NOTHING}\n" * 40, {"pi": "C201", "m": 8, "k": 0})
         settled_verdict(b)
-        self.check("the cursor", (b.run("logTab.timeline.cursor"), b.run("logTab.no.slot")), (4, 4))
-        call(b, "logTab.open", log, {"pi": "C201", "m": 2, "k": 3})
+        self.check("the cursor", (cursor(b, "log"), b.run("logTab.no.slot")), (4, 4))
+        call(b, "probe.open", "log", log, {"pi": "C201", "m": 2, "k": 3})
         settled_verdict(b)
         idle(b)
         self.check("the heading", text_of(b, "#verdict h2"), "✗ EarlyFlag with M = 2 (0.18 s) and K = 3")
@@ -306,16 +306,16 @@ class LogTab:
         """Numbered, beside the timeline, with the notes of the log left out. A click on a line chooses its slot."""
         b = self.b
         log = "# a note\n" + "".join(f"{HI} number {slot}\n" for slot in range(6000))
-        call(b, "logTab.open", log, {"pi": "C201", "m": 8, "k": 0})
+        call(b, "probe.open", "log", log, {"pi": "C201", "m": 8, "k": 0})
         for slot in (0, 3000, 5999):
-            b.run(f"logTab.timeline.move({slot})")
+            move(b, "log", slot)
             row, whole = (b.run(f"(({{ top, bottom }}) => [top, bottom])({it}.getBoundingClientRect())")
                           for it in ("document.querySelector('#log-rows [aria-current]')",
                                      "document.querySelector('#log-rows')"))
             self.check(f"slot {slot}", (text_of(b, "#log-rows [aria-current]"), row[0] >= whole[0], row[1] <= whole[1]),
                        (f"{slot + 2:,}{HI} number {slot}", True, True))
         click(b, "#log-rows [data-row='5990'] button")
-        self.check("a click", b.run("logTab.timeline.cursor"), 5990)
+        self.check("a click", cursor(b, "log"), 5990)
 
     def test_five_lanes_and_the_log_itself_are_in_sight(self):
         """Of a log with a name and tags that gets a no with a witness, in a window of 1,280 x 800."""
@@ -334,7 +334,7 @@ class LogTab:
     def test_all_stations_of_a_log_are_offered(self):
         b = self.b
         log = "".join(f"{0xC200 + number:X} 2140 4849 0D20\n" for number in range(16))
-        call(b, "logTab.open", log, {"pi": "C20F", "m": 8})
+        call(b, "probe.open", "log", log, {"pi": "C20F", "m": 8})
         self.check("stations", (of(b, "#log-pi", "options.length"), of(b, "#log-pi", "value")), (16, "C20F"))
 
     def test_a_file_without_a_slot_has_no_timeline(self):

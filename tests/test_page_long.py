@@ -3,8 +3,8 @@ import os
 import re
 import tempfile
 
-from tests.page_support import (NOTHING, ChromiumCase, FirefoxCase, call, idle, longest_task, of, program, settle,
-                                shown, text_of)
+from tests.page_support import (NOTHING, ChromiumCase, FirefoxCase, call, idle, longest_task, move, of, program, settle,
+                                shown, text_of, to_tab)
 
 # milliseconds: on a quiet machine no task is above 200, and other work may triple that
 LONGEST_TASK = 600
@@ -60,11 +60,11 @@ def memory_of_renderers(driver):
 class Long:
     def test_of_several_edits_only_the_last_ones_result_is_shown(self):
         b = self.b
-        call(b, "page.tab", "script")
-        call(b, "scriptTab.open", b.run("probe.scriptOf(20000)"), {"m": 8, "k": 0})
+        to_tab(b, "script")
+        call(b, "probe.open", "script", b.run("probe.scriptOf(20000)"), {"m": 8, "k": 0})
         b.run("window.drawn = 0; window.show = scriptTab.timeline.show; scriptTab.timeline.show = "
               "function (...given) { drawn++; show.apply(this, given); }; undefined")
-        b.run("scriptTab.timeline.move(10)")
+        move(b, "script", 10)
         b.run("['restart', 'tags', '-', 'restart'].forEach(command => probe.choose('command', command))")
         self.check("the row has the last edit at once", b.run("scriptTab.rows[10].command"), "restart")
         idle(b)
@@ -78,7 +78,7 @@ class Long:
         """After a second a button ends the run, and a newer number does so at once. The answer of the run is kept back, for
         a fast machine plays any script within a second."""
         b = self.b
-        call(b, "page.tab", "script")
+        to_tab(b, "script")
         b.run("window.hear = Program.prototype.hear; window.isHeld = true; Program.prototype.hear = function (data) {"
               "  if (!isHeld || !data.answer?.replies) hear.call(this, data); }; undefined")
         button = "document.querySelector('#script-stop')"
@@ -127,7 +127,7 @@ class Chromium(Long, ChromiumCase):
     def test_a_long_script_is_edited_without_a_pause(self):
         """The page plays it in a worker."""
         b = self.b
-        call(b, "page.tab", "script")
+        to_tab(b, "script")
         b.run(f"window.long = probe.scriptOf({ROWS}); undefined")
         edit = f"(scriptTab.timeline.move(900), probe.typeAndLeave({TYPED!r}, 960))"
         steps = {"opened": "scriptTab.open(long, { m: 128, k: 0 })", "a letter is typed": edit,
@@ -144,7 +144,7 @@ class Chromium(Long, ChromiumCase):
             script = b.run("scriptTab.text").encode()
             wanted = program(["sim", "--pi", "C201", "--pty", "10", "--m", "128", "--k", "0", "--why"], script)[1]
             self.check("it is played", b.run("scriptTab.output") == wanted[:1_600_004], True)
-            b.run("scriptTab.timeline.move(1000)")
+            move(b, "script", 1000)
             self.check("and shown", shown(b, "script-air"), TYPED)
             waits = "document.querySelector('#script-wait').checkVisibility()"
             b.run("probe.choose('command', 'restart')")

@@ -1,8 +1,8 @@
 """Receivers of the page: mixes with the flag bit alone, and why a receiver shows no text."""
 import re
 
-from tests.page_support import (HI, NOTHING, ChromiumCase, FirefoxCase, call, click, example, example_of, of,
-                                open_script, program, reload, shown, text_of)
+from tests.page_support import (HI, NOTHING, ChromiumCase, FirefoxCase, call, click, example, example_of, move, of,
+                                open_script, program, reload, shown, text_of, to_tab)
 
 
 def runs_of(b, view, part="text"):
@@ -24,11 +24,11 @@ class Mixes:
         lost = [slot for slot in range(24, 48) if sent.get(str(slot), "").startswith("C201 2")]
         open_script(b, "".join(f"{row}{'L' if slot in lost else 'G'}\n" for slot, row in enumerate(rows)), m=8, k=0)
         log = "".join(f"{sent.get(str(slot), NOTHING)}\n" for slot in range(48))
-        call(b, "logTab.open", log, {"pi": "C201", "m": 8, "k": 0, "lost": lost})
+        call(b, "probe.open", "log", log, {"pi": "C201", "m": 8, "k": 0, "lost": lost})
         for tab, led, text, words in (("script", "tag: mix", ", old", "mix"),
                                       ("log", "nobody sent this tag", "", "which nobody sent")):
-            call(b, "page.tab", tab)
-            b.run(f"{tab}Tab.timeline.move(47)")
+            to_tab(b, tab)
+            move(b, tab, 47)
             self.check(f"{tab}: a mix of tags is red",
                        (of(b, f"#{tab}-alone", "className"), text_of(b, f"#{tab}-alone .led")),
                        ("radio alone mixed", led))
@@ -36,7 +36,7 @@ class Mixes:
             self.check(f"{tab}: and is in the words", told,
                        f"“Édith Piaf, Milord”{text}, artist: Édith Pia, {words}, title:  Milo, {words}.")
             self.check(f"{tab}: with the dwell there is none", of(b, f"#{tab}-radio", "className"), "radio")
-            b.run(f"{tab}Tab.timeline.move(22)")
+            move(b, tab, 22)
             self.check(f"{tab}: tags that were sent are not red", of(b, f"#{tab}-alone", "className"), "radio alone")
 
     def test_the_flag_bit_alone_is_the_program_with_the_longest_dwell(self):
@@ -53,12 +53,12 @@ class Mixes:
         self.check("it restarts with its receiver", runs_of(b, "scriptTab.alone[0]"),
                    [[1, "HI"], [2, None], [3, "HI"], [5, None]])
         for slot, word in ((2, "restarted"), (5, "dropped")):
-            b.run(f"scriptTab.timeline.move({slot})")
+            move(b, "script", slot)
             self.check(f"why no text is shown in slot {slot}", shown(b, "script-radio"), f"— {word} —")
-        call(b, "page.tab", "log")
+        to_tab(b, "log")
         many = f"{HI}\n" + f"{NOTHING}\n" * 65_534
         for text, wanted in ((many * 2, [[0, 131_070]]), (many + f"{NOTHING}\n", [[0, 65_535], [65_535, 65_536]])):
-            call(b, "logTab.open", text, {"pi": "C201", "m": 8})
+            call(b, "probe.open", "log", text, {"pi": "C201", "m": 8})
             got = b.run("[...logTab.alone.parts.text].map(run => [run.from, run.to])")
             self.check(f"what it keeps of {text.count(chr(10))} slots", got, wanted)
 
@@ -71,10 +71,10 @@ class Mixes:
         slot = re.search("^(\\d+) r1 text", lines, re.M)[1]
         told = f"The receiver with the dwell shows no text. It shows the next one when it is complete: in slot {slot}."
         for tab in ("log", "script"):
-            call(b, "page.tab", tab)
+            to_tab(b, tab)
             kinds = [of(b, f"#{tab}-{it}", "classList.contains('mixed')") for it in ("radio", "alone")]
             self.check(f"the first of {tab}", (kinds, text_of(b, f"#{tab}-why")), ([False, True], told))
-            b.run(f"{tab}Tab.timeline.move({slot})")
+            move(b, tab, slot)
             self.check(f"and where {tab} shows it", (shown(b, f"{tab}-radio"), text_of(b, f"#{tab}-why")),
                        ("B7: closed today", ""))
 
@@ -92,7 +92,7 @@ class Mixes:
         for script, wanted in ((both, {24: "incomplete", 46: "incomplete"}), (lost, {28: "dropped"})):
             open_script(b, script, m=8, k=0)
             for slot, word in wanted.items():
-                b.run(f"scriptTab.timeline.move({slot})")
+                move(b, "script", slot)
                 self.check(f"why no text is shown in slot {slot}", shown(b, "script-radio"), f"— {word} —")
 
     def test_after_a_restart_only_the_empty_text_prevents_a_mix(self):

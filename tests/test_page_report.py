@@ -5,8 +5,8 @@ import shlex
 import subprocess
 import tempfile
 
-from tests.page_support import (EVERY_100, HI, NOTHING, YO, ChromiumCase, FirefoxCase, call, click, first_examples, idle, of,
-                                program, run_program, settle, text_of, waited_for)
+from tests.page_support import (EVERY_100, HI, NOTHING, YO, ChromiumCase, FirefoxCase, call, click, cursor,
+                                first_examples, idle, of, program, run_program, settle, text_of, to_tab, waited_for)
 from tests.support import PROGRAM, SECONDS
 
 # what each row of the report begins with
@@ -45,7 +45,7 @@ class Report:
                         run_program(["--version"], b"")[1].strip()])
             self.check(f"{name}: no button in its words", "Add the lost" in rows["In words"], False)
             self.check(f"{name}: its faults", rows["Faults"].split(".")[0],
-                       {"✗": "EarlyFlag in slot 200 (line 201)", "L": "not judged"}.get(answer[0], "none found"))
+                       {"✗": "1 of 3 texts: EarlyFlag in slot 200 (line 201)", "L": "not judged"}.get(answer[0], "none found"))
             with tempfile.TemporaryDirectory() as folder:
                 with open(os.path.join(folder, name), "w", encoding="utf-8") as file:
                     file.write(log)
@@ -69,7 +69,7 @@ class Report:
         idle(b)
         self.check("is it safe: no click", text_of(b, "#verdict h2"), "✗ EarlyFlag with M = 128 (11.2 s)")
         slot = int(program(["audit", "--running", "--pi", "C201"], EVERY_100.encode())[1].split()[1])
-        self.check("what is wrong and when: no click", (b.run("logTab.timeline.cursor"),
+        self.check("what is wrong and when: no click", (cursor(b, "log"),
                    text_of(b, "#log-rows [aria-current] .number")), (slot, str(slot + 1)))
         click(b, "#witness button")
         settle(b)
@@ -93,10 +93,10 @@ class Chromium(Report, ChromiumCase):
         self.check("on paper", b.run(shown_on_paper), ["DIALOG"])
         self.check("with its answer", "Passes" in text_of(b, "#report-rows"), True)
         self.check("one page of A4", b.run("document.documentElement.scrollHeight") < 1100, True)
-        call(b, "page.tab", "script")
+        to_tab(b, "script")
         self.check("a script on paper", {*b.run(shown_on_paper)}, {"FIGURE", "CANVAS"})
         b.ask("Emulation.setEmulatedMedia", media="")
-        call(b, "page.tab", "log")
+        to_tab(b, "log")
         with tempfile.TemporaryDirectory() as folder:
             b.ask("Browser.setDownloadBehavior", behavior="allow", downloadPath=folder)
             rows = report(b)

@@ -2,8 +2,8 @@
 import random
 import re
 
-from tests.page_support import (EVERY_100, SEED, URL, ChromiumCase, FirefoxCase, call, click, hidden, of, packed, program,
-                                settle, text_of, visit)
+from tests.page_support import (EVERY_100, SEED, URL, ChromiumCase, FirefoxCase, call, click, cursor, hidden, of,
+                                packed, program, settle, text_of, to_tab, visit)
 
 SLOTS, DRAGS = 96, 20
 WORDS = ["sim", "--pi", "C201", "--pty", "10", "--m", "8", "--k", "0"]
@@ -90,10 +90,10 @@ class Road:
     def test_a_log_and_a_script_play(self):
         """A button and the space bar run the cursor. A link with `&play` plays at once."""
         b = self.b
-        call(b, "logTab.open", EVERY_100, {"pi": "C201", "m": 8})
+        call(b, "probe.open", "log", EVERY_100, {"pi": "C201", "m": 8})
         settle(b)
         for tab, opened in (("log", "logTab"), ("script", "scriptTab")):
-            call(b, "page.tab", tab)
+            to_tab(b, tab)
             timeline = f"{opened}.timeline"
             b.run(f"document.querySelector('#{tab}-time select').value = 32; {timeline}.move(3)")
             click(b, f"#{tab}-time .play")
@@ -109,7 +109,7 @@ class Road:
         script = packed("".join(f"text,{it},1,G\n" for it in range(40)).encode())
         visit(b, f"{URL}#script={script}&m=8&slot=4&play&end")
         if b.run("matchMedia('(prefers-reduced-motion: reduce)').matches"):
-            self.check("but not for who wants no motion", b.run("scriptTab.timeline.cursor"), 4)
+            self.check("but not for who wants no motion", cursor(b, "script"), 4)
         else:
             self.check("a link plays", b.until("scriptTab.timeline.cursor > 6"), True)
 

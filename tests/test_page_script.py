@@ -1,6 +1,6 @@
 """The tab that plays a script: its editor, its brush, and the lanes of names and tags."""
-from tests.page_support import (ChromiumCase, FirefoxCase, call, click, example, of, open_script, printed, program,
-                                settle, shown, text_of)
+from tests.page_support import (ChromiumCase, FirefoxCase, call, click, example, move, of, open_script, printed,
+                                program, settle, shown, text_of)
 
 
 def mouse(b, kind, at, buttons=1):
@@ -18,7 +18,7 @@ class ScriptTab:
                    "With the flag bit alone, receivers show a mix: a text. With the dwell none does.")
         self.check("it is the example", of(b, "#script-text", "value"), example("mix.csv").decode())
         before = printed(b)
-        b.run("scriptTab.timeline.move(30)")
+        move(b, "script", 30)
         call(b, "probe.choose", "command", "restart")
         self.check("a command is edited", "30 restart\n" in printed(b), True)
         click(b, "#script-undo")
@@ -48,7 +48,7 @@ class ScriptTab:
         """Even if another slot is chosen before the page plays it."""
         b = self.b
         open_script(b, "-,,1,G\n" * 12, m=1, k=0)
-        b.run("scriptTab.timeline.move(3)")
+        move(b, "script", 3)
         call(b, "probe.choose", "command", "text")
         settle(b)
         call(b, "probe.typeAndLeave", "HELLO", 6)
@@ -59,7 +59,7 @@ class ScriptTab:
         self.check("a typed text stays in its slot", of(b, "#script-text", "value"), script)
         self.check("and is played there", printed(b),
                    program(["sim", "--pi", "C201", "--m", "1", "--pty", "10", "--why"], script.encode())[1])
-        b.run("scriptTab.timeline.move(3)")
+        move(b, "script", 3)
         call(b, "probe.typeAndLeave", "HELLO YOU", 6)
         click(b, "#script-undo")
         settle(b)
@@ -73,19 +73,19 @@ class ScriptTab:
         wanted = '-,,1,GG\r\n\n-,,1,GXG\n"-",,"1",GG\n\n-,"",1,GX'
         open_script(b, f"{wanted}\n\n", m=8, k=0)
         fault = text_of(b, "#script-fault")
-        b.run("scriptTab.timeline.move(0)")
+        move(b, "script", 0)
         call(b, "probe.choose", "command", "restart")
         text = wanted.replace("-,,1,GG\r\n", "restart,,1,GG\n", 1)
         self.check("an edit changes its row alone", of(b, "#script-text", "value"), f"{text}\n\n")
         self.check("and the fault stays", (text_of(b, "#script-fault"), "row 2 (line 3)" in fault), (fault, True))
         click(b, "#script-undo")
         self.check("undone", b.run("scriptTab.text"), f"{wanted}\n\n")
-        call(b, "scriptTab.open", wanted.replace("\r", ""), {"m": 8, "k": 0})
+        call(b, "probe.open", "script", wanted.replace("\r", ""), {"m": 8, "k": 0})
         call(b, "probe.choose", "script-slots", 5)
         settle(b)
         self.check("another slot changes no row", of(b, "#script-text", "value"),
                    wanted.replace("\r", "") + "\n-,,1,GG\n")
-        b.run("scriptTab.timeline.move(1)")
+        move(b, "script", 1)
         call(b, "probe.choose", "command", "restart")
         self.check("an edited row is written anew", of(b, "#script-text", "value").splitlines()[1], "restart,,1,GG")
 
@@ -99,11 +99,11 @@ class ScriptTab:
         self.check("tags of both kinds of receivers", last, ["Édith Piaf"] * 4)
         self.check("nothing is taken for a mix", "No receiver shows a mix" in text_of(b, "#script-count"), True)
         sent = "[...scriptTab.timeline.lanes[0].codes]"
-        self.check("tags have their colour", b.run(f"{sent}.includes(lines.TAGS)"), True)
+        self.check("tags have their colour", b.run(f"{sent}.includes(3)"), True)
         open_script(b, example("mix.csv").decode(), m=8, k=0)
         wanted = ["text" if "sent C201 2" in line else "other" for line in printed(b).splitlines() if " sent " in line]
         kinds = "['', 'text', 'name', 'tags', 'other']"
-        got = b.run(f"{sent}.filter(code => code).map(code => {kinds}[code & ~lines.FLAG])")
+        got = b.run(f"{sent}.filter(code => code).map(code => {kinds}[code & 7])")
         self.check("announcements of tags have not", (got, "other" in got), (wanted, True))
 
 
@@ -124,7 +124,7 @@ class ScriptTab:
     def test_the_brush_makes_a_group_wrong(self):
         b = self.b
         open_script(b, "-,,1,G\n" * 7 + "text,HI,1,G\n" + "-,,1,G\n" * 8, m=4, k=0, w=4)
-        b.run("scriptTab.timeline.move(9)")
+        move(b, "script", 9)
         sent = text_of(b, "#script-lines").splitlines()[-1].split()
         click(b, "[name=brush][value=W]")
         place = b.run(f"probe.place(scriptTab.timeline, {sent[0]}, lane => lane.group === 0)")

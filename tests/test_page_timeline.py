@@ -1,8 +1,8 @@
 """The timelines of the page: their marks, zoom, shapes and pictures."""
 import re
 
-from tests.page_support import (GROUPS, HI, NOTHING, SCHEMES, YO, ChromiumCase, FirefoxCase, call, click,
-                                first_examples, of, settle, text_of, verdict_of)
+from tests.page_support import (GROUPS, HI, NOTHING, SCHEMES, YO, ChromiumCase, FirefoxCase, call, click, cursor,
+                                first_examples, move, of, settle, text_of, to_tab, verdict_of)
 from tests.slot import SLOT
 
 # of texts, and of shapes without a text
@@ -37,11 +37,11 @@ class Timeline:
         """The keys of the tabs stay as they were."""
         b = self.b
         first_examples(b)
-        call(b, "page.tab", "script")
+        to_tab(b, "script")
         sight, said = "(t => [t.from, t.across])(scriptTab.timeline)", lambda: text_of(b, "#script-time output")
         axis = lambda slot: call(b, "((slot) => probe.axis(scriptTab.timeline, slot))", slot)
         count, held = b.run("scriptTab.timeline.count"), []
-        call(b, "scriptTab.timeline.move", 10)
+        move(b, "script", 10)
         b.drag(axis(20), axis(39), lambda: held.extend([b.run("scriptTab.timeline.span"), said()]))
         self.check("the selected slots are shown while the pointer is held", held,
                    [[20, 40], "slots 20 to 39 · 1.75 s"])
@@ -54,22 +54,22 @@ class Timeline:
         self.check("a short selection shows eight slots", b.run(sight), [26.5, 8])
         for clicks in (1, 2):
             b.drag(axis(29), axis(29), clicks=clicks)
-        self.check("a double click on the axis shows all slots", (b.run(sight), b.run("scriptTab.timeline.cursor")),
+        self.check("a double click on the axis shows all slots", (b.run(sight), cursor(b, "script")),
                    ([0, count], 29))
         texts = b.run("[...scriptTab.air.parts.text].filter(run => run.value !== null).map(run => run.from)")
-        call(b, "scriptTab.timeline.move", texts[0])
+        move(b, "script", texts[0])
         b.key("n")
-        self.check("N goes to the next text", b.run("scriptTab.timeline.cursor"), texts[1])
+        self.check("N goes to the next text", cursor(b, "script"), texts[1])
         b.key("p")
-        at = b.run("scriptTab.timeline.cursor")
+        at = cursor(b, "script")
         self.check("P goes to the one before", at, texts[0])
         starts = "[...lane.runs ?? lane.marks ?? []].map(it => it.from)"
         changes = b.run(f"scriptTab.timeline.lanes.flatMap(lane => {starts})")
         b.key("N", modifiers=8)
-        self.check("Shift and N go to the next change of any part", b.run("scriptTab.timeline.cursor"),
+        self.check("Shift and N go to the next change of any part", cursor(b, "script"),
                    min(it for it in changes if it > at))
         b.key("P", modifiers=8)
-        self.check("Shift and P go back", b.run("scriptTab.timeline.cursor"), at)
+        self.check("Shift and P go back", cursor(b, "script"), at)
         for key in "lgr":
             b.key(key)
             self.check(f"{key} edits a reception",
@@ -174,21 +174,21 @@ class Timeline:
         call(b, "probe.drop", "own.log", log)
         settle(b)
         b.run("logTab.timeline.zoomTo(4, 14)")
-        captions = {"log": b.run("picture.caption(logTab.timeline)")}
+        captions = {"log": call(b, "probe.caption", "log")}
         call(b, "probe.choose", "log-example", 3)
         settle(b)
-        captions["window"] = b.run("picture.caption(logTab.timeline)")[:1]
-        call(b, "page.tab", "script")
+        captions["window"] = call(b, "probe.caption", "log")[:1]
+        to_tab(b, "script")
         call(b, "probe.choose", "script-example", 0)
         settle(b)
         count = b.run("scriptTab.timeline.count")
-        captions["script"] = b.run("picture.caption(scriptTab.timeline)")
+        captions["script"] = call(b, "probe.caption", "script")
         self.check("captions", captions, {
             "log": ["own.log · station C201 · M = 128, K = 0",
                     "slots 4 to 13 of 20 · 0.35 s to 1.14 s · 07:58:16 to 07:58:25", "Cannot say"],
             "window": ["A wrong group, heard twice · station C201 · M = 8, K = 0, W = 8"],
             "script": ["The mix: a long tunnel · station C201 · M = 8, K = 0",
-                       f"slots 0 to {count - 1} of {count} · 0.00 s to {call(b, 'lines.time', count - 1)}",
+                       f"slots 0 to {count - 1} of {count} · 0.00 s to {call(b, 'probe.time', count - 1)}",
                        text_of(b, "#script-count")]})
         drawn = b.run("[probe.pictured(scriptTab.timeline), probe.endsWithTimeline(scriptTab.timeline)]")
         self.check("a picture has its caption and the lanes", drawn, [captions["script"], True])
@@ -202,9 +202,12 @@ class Chromium(Timeline, ChromiumCase):
         log = "".join(f"{line}\n" for line in (HI, YO, GROUPS[4], GROUPS[7], GROUPS[6], NOTHING))
         verdict_of(b, log, 8)
         self.check("the codes of slots", b.run("[...logTab.timeline.lanes[0].codes]"), [1, 9, 2, 3, 4, 0])
-        code = "lines.codeOf(logfile.groupAt(logTab.log, slot), 0xC201)"
-        kinds = b.run(f"Array.from({{ length: logTab.log.count }}, (_, slot) => {code})")
-        self.check("and the kinds of their groups", kinds, [1, 1, 2, 3, 4, 0])
+        kinds = []
+        for slot in range(6):
+            move(b, "log", slot)
+            kinds.append(text_of(b, "#log-radio .led"))
+        self.check("and the kinds of their groups in words", kinds,
+                   ["text group", "text group", "name group", "tags group", "other group", "nothing received"])
         for scheme in SCHEMES:
             b.scheme(scheme)
             settle(b)

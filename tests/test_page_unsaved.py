@@ -2,8 +2,8 @@
 import os
 import tempfile
 
-from tests.page_support import (HI, URL, ChromiumCase, call, click, example, hidden, of, open_script, packed, settle,
-                                visit, waited_for)
+from tests.page_support import (HI, URL, ChromiumCase, call, click, example, hidden, move, of, open_script, packed,
+                                settle, visit, waited_for)
 
 
 def asked(b, does):
@@ -42,7 +42,7 @@ class Chromium(ChromiumCase):
                     ("a link", lambda: b.run(f"location.hash = 'script={packed(other.encode())}&m=4&k=2&end'")))
             for what, does in ways:
                 open_script(b, script, m=8, k=0)
-                b.run("scriptTab.timeline.move(3)")
+                move(b, "script", 3)
                 self.check(f"{what}: nothing is unsaved before", b.run(leaves), True)
                 call(b, "probe.choose", "command", "restart")
                 self.check(f"{what}: an edit is unsaved", b.run(leaves), False)

@@ -3,7 +3,7 @@ and the diary of what was on air, which share no code with the program."""
 import random
 
 from tests import outputs
-from tests.page_support import NOTHING, ChromiumCase, FirefoxCase, call, idle, open_script
+from tests.page_support import NOTHING, ChromiumCase, FirefoxCase, call, idle, open_script, to_tab
 from tests.plain_radios import Radio
 from tests.plain_witness import views as plain_views
 from tests.plain_worlds import CLASSES, SLOTS, Diary, accepted_in, encoded, random_rows, script
@@ -103,8 +103,8 @@ class Worlds:
             rng = random.Random(f"{SEED} log {number}")
             dwell, (slots, _) = rng.randrange(2, 9), encoded(rng, 0)
             text = "".join(f"{it}\n" for it in slots)
-            call(b, "logTab.open", text, {"pi": "C201", "m": dwell, "k": 0})
-            call(b, "page.tab", "log")
+            call(b, "probe.open", "log", text, {"pi": "C201", "m": dwell, "k": 0})
+            to_tab(b, "log")
             lost = set()
             for _ in range(DRAGS):
                 first, last = sorted(rng.sample(range(len(slots)), 2))
