@@ -1,6 +1,6 @@
 -- Numbers that the words give.
-use Rattle.std.proofs.Common.{◌≡◌, ◌≤◌, ◌<◌, ◌^◌, ◌&&◌, ℕ, Bool, true, false, List, [], ◌∷◌, Option, Some, None, Result, Ok, Err, inl, inr, refl, sym, ◌∙◌, ap, arith, nat_lt}
-use Rattle.std.specs.Prelude.{◌↔◌, IfSome, IsNone, IsSome, if◌then◌else◌, length, nat_le, option_and_then}
+use Rattle.std.proofs.Common.{◌≡◌, ◌≤◌, ◌<◌, ◌+◌, ◌^◌, ◌&&◌, ℕ, Bool, true, false, List, [], ◌∷◌, Option, Some, None, Result, Ok, Err, inl, inr, refl, sym, ◌∙◌, ap, arith, nat_lt}
+use Rattle.std.specs.Prelude.{◌↔◌, IfSome, IsSome, if◌then◌else◌, length, nat_le, option_and_then}
 use Rattle.std.specs.Char.{digit_value}
 use Rattle.std.specs.List.{list_all}
 use Rattle.std.specs.Str.Parse.{AllDigits, IsNumeral, ParsesUnsigned, digits_value, without_leading_plus}
@@ -81,67 +81,30 @@ pub read_option : (k least most : ℕ) {E : Type 0} (G : Text → Result ℕ E �
 read_option k least most G f option r none value only fits =
     ap (option_and_then (number_from_to least most)) (sym (one_text-rows f option)) ∙ read_number k least most G (one_text f option) r none value only fits
 
--- a dwell is a number of slots above 0
-pub dwell_between : (n : ℕ) (o : Option ℕ) → n < 65536 → IsNone o ↔ (n ≡ 0) → IfSome o (λ d. d ≡ n) → o ≡ between 1 65535 n
-dwell_between n None fits none value = rw (none.0 refl) refl
-dwell_between n (Some d) fits none value = rw (le-leb 1 n least, le-leb n 65535 (omega (arith, fits))) (ap Some value)
-  where
-    least : 1 ≤ n
-    least = elim (cases_lt 0 n) [
-      | inl h ↦ h
-      | inr h ↦
-          let gone : IsNone (Some d) = none.1 (omega (arith, h)) in
-          cc
-    ]
-
--- a programme type is a number below 32
-pub pty_between : (n : ℕ) (o : Option ℕ) → IsSome o ↔ (n < 32) → IfSome o (λ d. d ≡ n) → o ≡ between 0 31 n
-pty_between n None some value = elim (cases_lt n 32) [
-  | inl h ↦
-      let here : IsSome {T = ℕ} None = some.1 h in
-      cc
-  | inr h ↦ sym (above 0 31 n h)
-]
-pty_between n (Some d) some value =
-    let small = some.0 refl in
-    rw (le-leb 0 n (omega arith), le-leb n 31 (omega (arith, small))) (ap Some value)
-
--- a lateness is a number of slots up to 1024
-pub late_between : (n : ℕ) (o : Option ℕ) → IsNone o ↔ (1024 < n) → IfSome o (λ d. d ≡ n) → o ≡ between 0 1024 n
-late_between n None none value = sym (above 0 1024 n (none.0 refl))
-late_between n (Some d) none value = rw (le-leb 0 n (omega arith), le-leb n 1024 most) (ap Some value)
-  where
-    most : n ≤ 1024
-    most = elim (cases_lt 1024 n) [
-      | inl h ↦
-          let gone : IsNone (Some d) = none.1 h in
-          cc
-      | inr h ↦ h
-    ]
-
--- a grain is a number of milliseconds below 88
-pub grain_between : (n : ℕ) (o : Option ℕ) → IsSome o ↔ (n < 88) → IfSome o (λ d. d ≡ n) → o ≡ between 0 87 n
-grain_between n None some value = elim (cases_lt n 88) [
-  | inl h ↦
-      let here : IsSome {T = ℕ} None = some.1 h in
-      cc
-  | inr h ↦ sym (above 0 87 n h)
-]
-grain_between n (Some d) some value =
-    let small = some.0 refl in
-    rw (le-leb 0 n (omega arith), le-leb n 87 (omega (arith, small))) (ap Some value)
-
--- a window is a number of slots from 2 to 255
-pub window_between : (n : ℕ) (o : Option ℕ) → IsSome o ↔ ((1 < n) × (n < 256)) → IfSome o (λ w. w ≡ n) → o ≡ between 2 255 n
-window_between n None some value = elim (cases_lt 1 n) [
-  | inl large ↦ elim (cases_lt n 256) [
-    | inl small ↦
-        let here : IsSome {T = ℕ} None = some.1 (large, small) in
+-- a number of slots has its bounds
+pub slots_between : (least most n : ℕ) (o : Option ℕ) → IsSome o ↔ ((least ≤ n) × (n ≤ most)) → IfSome o (λ s. s ≡ n)
+    → o ≡ between least most n
+slots_between least most n None some value = elim (cases_lt n least) [
+  | inl small ↦ sym (below least most n small)
+  | inr large ↦ elim (cases_lt most n) [
+    | inl h ↦ sym (above least most n h)
+    | inr h ↦
+        let here : IsSome {T = ℕ} None = some.1 (large, h) in
         cc
-    | inr h ↦ sym (above 2 255 n h)
   ]
-  | inr h ↦ sym (below 2 255 n (omega (arith, h)))
 ]
-window_between n (Some w) some value =
-    let (large, small) = some.0 refl in
-    rw (le-leb 2 n large, le-leb n 255 (omega (arith, small))) (ap Some value)
+slots_between least most n (Some s) some value =
+    let (low, high) = some.0 refl in
+    rw (le-leb least n low, le-leb n most high) (ap Some value)
+
+-- a place is a number below a bound, which is 1 more than the most
+pub place_between : (most n : ℕ) (o : Option ℕ) → IsSome o ↔ (n < most + 1) → IfSome o (λ p. p ≡ n) → o ≡ between 0 most n
+place_between most n None some value = elim (cases_lt n (most + 1)) [
+  | inl h ↦
+      let here : IsSome {T = ℕ} None = some.1 h in
+      cc
+  | inr h ↦ sym (above 0 most n (omega (arith, h)))
+]
+place_between most n (Some p) some value =
+    let small = some.0 refl in
+    rw (le-leb 0 n (omega arith), le-leb n most (omega (arith, small))) (ap Some value)

@@ -183,11 +183,15 @@ number_from_to least most text =
     let number = digits_value 10 digits in
     if is_numeral digits && (nat_le least number && nat_le number most) then Some number else None
 
+-- the number of slots of an option
+abbrev pub slots_in : ℕ → ℕ → Text → List Row → Option ℕ
+slots_in least most name rows = option_and_then (number_from_to least most) (one_of name rows)
+
 abbrev pub dwell_in : List Row → Option ℕ
-dwell_in rows = option_and_then (number_from_to 1 65535) (one_of (codes "m") rows)
+dwell_in = slots_in 1 65535 (codes "m")
 
 abbrev pub late_in : List Row → Option ℕ
-late_in rows = option_and_then (number_from_to 0 1024) (one_of (codes "k") rows)
+late_in = slots_in 0 1024 (codes "k")
 
 abbrev pub pty_in : List Row → Option ℕ
 pty_in rows = option_and_then (number_from_to 0 31) (one_of (codes "pty") rows)
@@ -226,7 +230,7 @@ has_value name rows = is_some (first_of name rows)
 abbrev pub window_in : List Row → Option (Option ℕ)
 window_in rows =
     if has_value (codes "confirm") rows
-    then option_map Some (option_and_then (number_from_to 2 255) (one_of (codes "confirm") rows))
+    then option_map Some (slots_in 2 255 (codes "confirm") rows)
     else Some None
 
 abbrev pub programme_in : List Row → Option Programme

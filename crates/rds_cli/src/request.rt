@@ -3,14 +3,14 @@ ghost use Rattle.std.specs.Prelude.{◌≡◌, ◌⊎◌, ℕ, IfErr, IfNone, If
 ghost use Rattle.clap.specs.Words.{FailsBy, fault_of, found_of, kind_of, rows_of};
 ghost use Rattle.rds_cli.specs.Asks.{asked_by};
 ghost use Rattle.rds_cli.specs.CommandLine.{AreRefused, AskForHelp, IsPi, TakesWords, asked_in, asked_of};
-ghost use Rattle.rds_cli.specs.CommandLine.{dwell_in, flag_in, grain_in, has_value, is_shown, late_in, pi_in};
-ghost use Rattle.rds_cli.specs.CommandLine.{programme_in, task_in, whole_app, window_in};
+ghost use Rattle.rds_cli.specs.CommandLine.{flag_in, grain_in, has_value, is_shown, pi_in};
+ghost use Rattle.rds_cli.specs.CommandLine.{programme_in, slots_in, task_in, whole_app, window_in};
 
 use crate::command_line::whole;
 use clap::error::ErrorKind;
 use clap::{ArgMatches, Error};
 use rds_block::Place;
-use rds_fields::{Dwell, Late};
+use rds_fields::{Bounded, Dwell, Late};
 use rds_io::word_at;
 use rds_receiver::Window;
 use std::alloc::Global;
@@ -119,7 +119,7 @@ fn request_of<'a>(name: &'a str, inner: &ArgMatches<'a>) -> Option<Request<'a>>
     Some(Request {
         task: task_of(name, inner)?,
         pi: pi_of(name, inner)?,
-        dwell: dwell_of(inner)?,
+        dwell: slots_of(inner, "m")?,
         quiet: is_given(inner, "quiet"),
     })
 }
@@ -133,19 +133,19 @@ fn task_of(name: &str, inner: &ArgMatches<'_>) -> Option<Task>
             window: window_of(inner)?,
             says_why: is_given(inner, "why"),
         }),
-        "encode" => Some(Task::Encode(programme_of(inner)?, late_of(inner)?)),
+        "encode" => Some(Task::Encode(programme_of(inner)?, slots_of(inner, "k")?)),
         "sim" => {
             let window = window_of(inner)?;
             Some(Task::Simulate {
                 programme: programme_of(inner)?,
-                late: late_of(inner)?,
+                late: slots_of(inner, "k")?,
                 window,
                 flag_alone: is_given(inner, "flag-alone"),
                 says_why: is_given(inner, "why"),
             })
         }
         "audit" => Some(Task::Audit {
-            late: late_of(inner)?,
+            late: slots_of(inner, "k")?,
             running: is_given(inner, "running"),
             lists_all: is_given(inner, "all"),
         }),
@@ -182,7 +182,7 @@ fn window_of(inner: &ArgMatches<'_>) -> Option<Option<Window>>
     if !has_value(inner, "confirm") {
         return Some(None);
     }
-    Some(Some(Window::new(inner.get_one::<u16>("confirm")?)?))
+    Some(Some(slots_of(inner, "confirm")?))
 }
 
 /// Reads the grain.
@@ -192,18 +192,14 @@ fn grain_of(inner: &ArgMatches<'_>) -> Option<Place<88>>
     Place::new(inner.get_one::<u8>("grain")?)
 }
 
-/// Reads the dwell.
-fn dwell_of(inner: &ArgMatches<'_>) -> Option<Dwell>
-    ensures { result ≡ dwell_in (rows_of (found_of inner.now)) }
+/// Reads the number of slots of an option. `None` if it is out of its range.
+fn slots_of<const LOW: u16, const HIGH: u16>(
+    inner: &ArgMatches<'_>,
+    name: &str,
+) -> Option<Bounded<LOW, HIGH>>
+    ensures { result ≡ slots_in LOW HIGH name.now (rows_of (found_of inner.now)) }
 {
-    Dwell::new(inner.get_one::<u16>("m")?)
-}
-
-/// Reads the lateness.
-fn late_of(inner: &ArgMatches<'_>) -> Option<Late>
-    ensures { result ≡ late_in (rows_of (found_of inner.now)) }
-{
-    Late::new(inner.get_one::<u16>("k")?)
+    Bounded::new(inner.get_one::<u16>(name)?)
 }
 
 /// Reads the programme type and the traffic flag.

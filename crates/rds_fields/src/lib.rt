@@ -11,10 +11,9 @@
 //! ```
 #![tactic(auto)]
 
+mod bounded;
 mod distance;
-mod dwell;
 mod head;
-mod late;
 mod laws;
 mod message;
 mod pair;
@@ -22,10 +21,9 @@ mod radiotext_plus;
 mod stored;
 mod tag;
 
+pub use bounded::{Bounded, Dwell, Late};
 pub use distance::Distance;
-pub use dwell::Dwell;
 pub use head::Head;
-pub use late::Late;
 pub use laws::{one_group, one_message};
 pub use message::Message;
 pub use pair::{TagPair, Which};

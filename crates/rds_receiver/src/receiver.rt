@@ -102,7 +102,7 @@ impl Receiver {
         ensures programme { result.display.programme ≡ stored.now.display.pi }
     {
         let mut state = *stored;
-        let dwell = Dwell::at_least_one(stored.display.dwell).get();
+        let dwell = stored.display.dwell.max(1);
         let rest = stored.display.rest.max(1).min(dwell);
         state.display.dwell = dwell;
         state.display.rest = rest;
@@ -205,6 +205,6 @@ fn slots_of(window: Option<Window>) -> u8
 {
     match window {
         None => 0,
-        Some(window) => window.get(),
+        Some(window) => window.get() as u8,
     }
 }

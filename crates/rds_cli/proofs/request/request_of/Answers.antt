@@ -22,6 +22,6 @@ returns c =
     let rows = rows_of (found_of c.args.inner.now) in
     let pi : pi_in c.args.name.now rows ≡ Some c.in_ok-pi_of.field-0.now = sym c.pi_of.ensures ∙ ap (option_map (λ s. s.now)) c.in_ok-pi_of.was in
     let task = sym c.task_of.ensures ∙ c.in_ok-task_of.was in
-    let dwell = sym c.dwell_of.ensures ∙ c.in_ok-dwell_of.was in
+    let dwell = sym c.slots_of.ensures ∙ c.in_ok-slots_of.was in
     let quiet : quiet_in rows ≡ c.is_given.result = sym c.is_given.ensures in
     sym (rw (task, pi, dwell, quiet) refl)
