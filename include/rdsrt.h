@@ -63,7 +63,7 @@
  *     rdsrt_receiver_init               24    0    rdsrt_encoder_wait                 8    0
  *     rdsrt_receiver_init_confirming     8    0    rdsrt_audit_init                   8    0
  *     rdsrt_receiver_slot              216  160    rdsrt_audit_init_running           8    0
- *     rdsrt_receiver_view              232  208    rdsrt_audit_slot                  44   64
+ *     rdsrt_receiver_view              232  208    rdsrt_audit_slot                  28   48
  *     rdsrt_receiver_held                8    0    rdsrt_audit_passed                 8    0
  *     rdsrt_slot_time                    8    0    rdsrt_audit_texts_turn_the_flag    8    0
  *     rdsrt_time_in                    120  144    rdsrt_audit_names_turn_the_flag    8    0
@@ -73,7 +73,7 @@
  *     rdsrt_encoder_set_name            56   48    rdsrt_type_name                   72   64
  *     rdsrt_encoder_set_tags            40    0    rdsrt_code_name                   72   64
  *     rdsrt_encoder_tick                32    0    rdsrt_listing_init                 8    0
- *     rdsrt_listing_init_running         8    0    rdsrt_listing_slot               140  128
+ *     rdsrt_listing_init_running         8    0    rdsrt_listing_slot               136  128
  *     rdsrt_listing_texts                8    0    rdsrt_listing_names                8    0
  *
  * YOU PROMISE for every call:
@@ -158,7 +158,7 @@ enum rdsrt_code {
 struct rdsrt_receiver { uint32_t own_[66]; };
 struct rdsrt_encoder { uint32_t own_[29]; };
 struct rdsrt_audit { uint32_t own_[52]; };
-struct rdsrt_listing { uint64_t own_[90]; };
+struct rdsrt_listing { uint64_t own_[65]; };
 
 /* The faults that a slot adds to a list: 1 for each of them, else 0 (RDSRT_FAULT_.. has their meaning). */
 struct rdsrt_faults { uint8_t changed, early_flag, not_one_text, early_tag, tag_outside; };
@@ -381,7 +381,7 @@ RDSRT_IS_(offsetof(struct rdsrt_version, minor) == 8 && offsetof(struct rdsrt_ve
 RDSRT_IS_(sizeof(struct rdsrt_receiver) == 264);
 RDSRT_IS_(sizeof(struct rdsrt_encoder) == 116);
 RDSRT_IS_(sizeof(struct rdsrt_audit) == 208);
-RDSRT_IS_(sizeof(struct rdsrt_listing) == 720);
+RDSRT_IS_(sizeof(struct rdsrt_listing) == 520);
 RDSRT_IS_(sizeof(struct rdsrt_faults) == 5 && offsetof(struct rdsrt_faults, early_flag) == 1);
 RDSRT_IS_(offsetof(struct rdsrt_faults, not_one_text) == 2 && offsetof(struct rdsrt_faults, early_tag) == 3);
 RDSRT_IS_(offsetof(struct rdsrt_faults, tag_outside) == 4);

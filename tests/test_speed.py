@@ -37,14 +37,14 @@ class Speed(ProgramCase):
                 self.check(f"{task}: README has {number}, counted {counted:.0f}", abs(counted / number - 1) <= MOST, True)
 
 
-    def test_a_list_takes_less_than_twice_the_instructions_of_an_audit(self):
-        """DECISIONS says so. Of a log that passes, where both judge each slot."""
+    def test_a_list_takes_at_most_1_4_times_the_instructions_of_an_audit(self):
+        """Of a log that passes, where both judge each slot."""
         with tempfile.TemporaryDirectory() as folder:
             call = tasks.ours(PROGRAM, "audit", 0)
             few, many = (tasks.made_input(folder, PROGRAM, "audit", 0, 0, slots) for slots in (SLOTS, 2 * SLOTS))
             counts = [tasks.instructions(words, many) - tasks.instructions(words, few)
                       for words in (call, [*call, "--all"])]
-            self.check(f"{counts[1]} instructions beside {counts[0]}", counts[0] < counts[1] < 2 * counts[0], True)
+            self.check(f"{counts[1]} instructions beside {counts[0]}", counts[0] < counts[1] <= 1.4 * counts[0], True)
 
 
 if __name__ == "__main__":

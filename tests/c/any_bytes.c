@@ -180,7 +180,7 @@ static void listing(void) {
     }
     for (int i = 0; i < 8; i++) {
         size_t count = roll(3) ? 4 : roll(7);
-        uint16_t *blocks = any_blocks(count, (const uint8_t *)l + 716);
+        uint16_t *blocks = any_blocks(count, (const uint8_t *)l + 516);
         void *before = copy(l, sizeof *l);
         struct rdsrt_faults found = {7, 7, 7, 7, 7};
         uint32_t code = rdsrt_listing_slot(l, count ? blocks : NULL, count, &found);

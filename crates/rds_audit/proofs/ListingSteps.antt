@@ -1,12 +1,12 @@
 -- Lemmas: what a slot adds to the list of a log, and how the state of the list changes with the log.
-use Rattle.std.proofs.Common.{◌≡◌, ◌+◌, ◌<◌, ◌^◌, ◌||◌, ℕ, Bool, true, false, nat_lt, List, [], ◌∷◌, Option, Some, None, Ok, Err, length, refl, sym, ap, ◌∙◌, subst, inl, inr, arith}
-use Rattle.std.specs.Prelude.{MatchOption, MatchResult, Result}
+use Rattle.std.proofs.Common.{◌≡◌, ◌⊎◌, ◌↔◌, ◌+◌, ◌<◌, ◌^◌, ◌||◌, ℕ, Bool, true, false, nat_lt, List, [], ◌∷◌, Option, Some, None, length, refl, sym, ap, ◌∙◌, subst, inl, inr, arith}
+use Rattle.std.specs.Prelude.{MatchOption}
 use Rattle.std.proofs.lemmas.Bool.{cond_both}
 use Rattle.rds_block.specs.declared.group.Group.{Group}
 use Rattle.rds_fields.specs.declared.message.Message.{Message}
 use Rattle.rds_fields.specs.declared.message.Message.TheVariants.{Text, Name, Announce, Tags, Other}
 use Rattle.rds_fields.specs.Tag.{PairFields}
-use Rattle.rds_receiver.specs.OneView.{same_heard, same_heard_in}
+use Rattle.rds_receiver.specs.OneView.{same_heard_in}
 use Rattle.rds_receiver.specs.Receipts.{Fragment, Hears}
 use Rattle.rds_receiver.specs.Run.{is_same}
 use Rattle.rds_safety.specs.Lawful.{names, texts}
@@ -16,21 +16,18 @@ use Rattle.rds_audit.specs.declared.fault_set.FaultSet.{FaultSet}
 use Rattle.rds_audit.specs.declared.log_start.LogStart.{LogStart}
 use Rattle.rds_audit.specs.declared.log_start.LogStart.TheVariants.{Complete, Running}
 use Rattle.rds_audit.specs.Ages.{Ages, HasCurrent}
-use Rattle.rds_audit.specs.AuditStandsAt.{AuditStandsAt, TakesSlot}
-use Rattle.rds_audit.specs.AuditState.{AuditState}
 use Rattle.rds_audit.specs.Judging.{judged_step}
 use Rattle.rds_audit.specs.Lengths.{Gauge, name_gauge, text_gauge}
-use Rattle.rds_audit.specs.Listing.{SentFragment, Span, added, all_from, both, broken_newest, first_of, joined, newest_at, none_broken, same_bytes, slot_adds, spans, spans_after, spans_tagged}
+use Rattle.rds_audit.specs.Listing.{SentFragment, Span, added, both, broken_newest, first_of, joined, newest_at, none_broken, same_bytes, slot_adds, spans, spans_after, spans_tagged}
 use Rattle.rds_audit.specs.ListingLaws.{IsFormedMessage}
 use Rattle.rds_audit.specs.ListingStandsAt.{HoldsListed, HoldsListedSlot, HoldsNewestSpans, HoldsSpans, ListingStandsAt, ListsGroup, ListsMessage, ListsSlot, reigns_of}
 use Rattle.rds_audit.specs.ListingState.{ListingState, aged_in}
 use Rattle.rds_audit.specs.Recording.{IsJudgedAs, IsSilentAs, counted, counted_as, has_text}
 use Rattle.rds_audit.specs.Rules.{BreaksFirst, IsBrokenBy, IsFaultOf, LogPasses}
-use Rattle.rds_audit.proofs.AuditSteps.{clean_holds, log_passes}
 use Rattle.rds_audit.proofs.Faults.{slot_fails}
 use Rattle.rds_audit.proofs.Gauges.{name_gauge_is_exact, text_gauge_is_exact}
-use Rattle.rds_audit.proofs.Recordings.{IsSilent, names_begin, texts_begin}
-use Rattle.rds_audit.proofs.SpanReigns.{adds_first, adds_none, service_passed_before}
+use Rattle.rds_audit.proofs.Recordings.{IsSilent, names_begin, silent_holds, texts_begin}
+use Rattle.rds_audit.proofs.SpanReigns.{adds_first, adds_none, service_judged, service_passed_before}
 use Rattle.rds_audit.proofs.SpanSteps.{added_more, nothing_follows, spans_later, none_new}
 
 -- ---- both services
@@ -129,21 +126,28 @@ breaking_adds d newest before fault formed passes (inr b) =
     ap first_of (names_add d newest before (name_breaks d newest (marks name_mark before) fault b))
     ∙ adds_first name_gauge name_gauge_is_exact d (name_mark newest) (marks name_mark before) fault formed.name passes.name b
 
--- the faults from the first one on are all of them
-abbrev BeginsWith : FaultSet → Option AuditFault → Type 0
-BeginsWith f first = MatchOption first (Unit {0}) (λ fault. all_from fault f ≡ f)
+-- a slot after a log that passes: the log passes with it too, or it breaks a rule first
+log_judged : (d : ℕ) (newest : Option Message) (before : List (Option Message)) → IsFormedMessage newest → LogPasses d before → LogPasses d (newest ∷ before) ⊎ ((fault : AuditFault) × BreaksFirst d newest before fault)
+log_judged d newest before formed passes = elim (service_judged text_gauge text_gauge_is_exact d (text_mark newest) (marks text_mark before) formed.text passes.text) [
+  | inr (fault, b) ↦ inr (fault, inl b)
+  | inl text ↦ elim (service_judged name_gauge name_gauge_is_exact d (name_mark newest) (marks name_mark before) formed.name passes.name) [
+    | inr (fault, b) ↦ inr (fault, inr b)
+    | inl name ↦ inl record { text = text; name = name }
+  ]
+]
 
-begins_with : (a b c e t : Bool)
-    → BeginsWith record { changed = a; early_flag = b; not_one_text = c; early_tag = e; tag_outside = t } (first_of record { changed = a; early_flag = b; not_one_text = c; early_tag = e; tag_outside = t })
-begins_with true b c e t = refl
-begins_with false true c e t = refl
-begins_with false false true e t = refl
-begins_with false false false true t = refl
-begins_with false false false false true = refl
-begins_with false false false false false = tt
+-- the first fault of a log: none, and the log passes; or this one
+abbrev pub IsFirst : ℕ → List (Option Message) → Option AuditFault → Type 0
+IsFirst d judged fault = MatchOption fault (LogPasses d judged) (IsFaultOf d judged)
 
-pub all_from_first : (fault : AuditFault) (f : FaultSet) → first_of f ≡ Some fault → all_from fault f ≡ f
-all_from_first fault f e = subst (BeginsWith f) e (begins_with f.changed f.early_flag f.not_one_text f.early_tag f.tag_outside)
+-- the first fault of a log with one more slot
+first_next : (d : ℕ) (newest : Option Message) (judged : List (Option Message)) (was now : Option AuditFault) → IsFormedMessage newest → (was ≡ None → now ≡ first_of (slot_adds d newest judged))
+    → ((fault : AuditFault) → was ≡ Some fault → now ≡ Some fault) → IsFirst d judged was → IsFirst d (newest ∷ judged) now
+first_next d newest judged (Some fault) now formed first again f = subst (IsFirst d (newest ∷ judged)) (sym (again fault refl)) (inr f)
+first_next d newest judged None now formed first again passes = elim (log_judged d newest judged formed passes) [
+  | inl next ↦ subst (IsFirst d (newest ∷ judged)) (sym (first refl ∙ ap first_of (sym (passing_adds d newest judged next)))) next
+  | inr (fault, b) ↦ subst (IsFirst d (newest ∷ judged)) (sym (first refl ∙ breaking_adds d newest judged fault formed passes b)) (inl (passes, b))
+]
 
 -- ---- from slot to slot
 
@@ -185,40 +189,40 @@ pub text_open : (d : ℕ) (judged : List (Option Message)) (l : ListingState) �
 text_open d judged l h = open_begun d _ (spans d (marks text_mark judged)) l.text.reigns.ages h.text.ages.current ∙ begun_if d judged
 
 -- a message of texts alone, that is judged as it is
-pub texts_listed : (l after : ListingState) (message : Option Message) (result : FaultSet) → 0 < l.audit.distance → name_mark message ≡ Nothing → after.name ≡ l.name → after.slots ≡ l.slots
-    → ((judged : List (Option Message)) → HoldsListed l.audit.distance judged l → counted_as l.audit.start judged message ≡ message)
-    → ((sent : List Mark) → HoldsSpans text_gauge l.audit.distance l.slots sent l.text → HoldsNewestSpans text_gauge l.audit.distance l.slots (text_mark message) sent after.text)
-    → ((sent : List Mark) → HoldsSpans text_gauge l.audit.distance l.slots sent l.text → result ≡ added text_gauge l.audit.distance (text_mark message) sent) → ListsMessage l after message result
+pub texts_listed : (l after : ListingState) (message : Option Message) (result : FaultSet) → 0 < l.distance → name_mark message ≡ Nothing → after.name ≡ l.name → after.slots ≡ l.slots
+    → ((judged : List (Option Message)) → HoldsListed l.distance judged l → counted_as l.start judged message ≡ message)
+    → ((sent : List Mark) → HoldsSpans text_gauge l.distance l.slots sent l.text → HoldsNewestSpans text_gauge l.distance l.slots (text_mark message) sent after.text)
+    → ((sent : List Mark) → HoldsSpans text_gauge l.distance l.slots sent l.text → result ≡ added text_gauge l.distance (text_mark message) sent) → ListsMessage l after message result
 texts_listed l after message result pos silent name slots counts holds adds = record {
-  holds = λ judged h. subst (λ (x : Option Message). HoldsListedSlot l.audit.distance x judged after) (sym (counts judged h)) record {
-    text = subst (λ n. HoldsNewestSpans text_gauge l.audit.distance n (text_mark message) (marks text_mark judged) after.text) (sym slots) (holds (marks text_mark judged) h.text);
-    name = rw (silent, name, slots) (nothing_follows name_gauge (omega arith) l.audit.distance pos l.slots (marks name_mark judged) (spans l.audit.distance (marks name_mark judged)) l.name h.name);
+  holds = λ judged h. subst (λ (x : Option Message). HoldsListedSlot l.distance x judged after) (sym (counts judged h)) record {
+    text = subst (λ n. HoldsNewestSpans text_gauge l.distance n (text_mark message) (marks text_mark judged) after.text) (sym slots) (holds (marks text_mark judged) h.text);
+    name = rw (silent, name, slots) (nothing_follows name_gauge (omega arith) l.distance pos l.slots (marks name_mark judged) (spans l.distance (marks name_mark judged)) l.name h.name);
   };
-  added = λ judged h. subst (λ (x : Option Message). result ≡ slot_adds l.audit.distance x judged) (sym (counts judged h)) (adds (marks text_mark judged) h.text ∙ sym (texts_add l.audit.distance message judged silent));
+  added = λ judged h. subst (λ (x : Option Message). result ≡ slot_adds l.distance x judged) (sym (counts judged h)) (adds (marks text_mark judged) h.text ∙ sym (texts_add l.distance message judged silent));
 }
 
 -- and one of names alone
-pub names_listed : (l after : ListingState) (message : Option Message) (result : FaultSet) → 0 < l.audit.distance → text_mark message ≡ Nothing → after.text ≡ l.text → after.slots ≡ l.slots
-    → ((judged : List (Option Message)) → HoldsListed l.audit.distance judged l → counted_as l.audit.start judged message ≡ message)
-    → ((sent : List Mark) → HoldsSpans name_gauge l.audit.distance l.slots sent l.name → HoldsNewestSpans name_gauge l.audit.distance l.slots (name_mark message) sent after.name)
-    → ((sent : List Mark) → HoldsSpans name_gauge l.audit.distance l.slots sent l.name → result ≡ added name_gauge l.audit.distance (name_mark message) sent) → ListsMessage l after message result
+pub names_listed : (l after : ListingState) (message : Option Message) (result : FaultSet) → 0 < l.distance → text_mark message ≡ Nothing → after.text ≡ l.text → after.slots ≡ l.slots
+    → ((judged : List (Option Message)) → HoldsListed l.distance judged l → counted_as l.start judged message ≡ message)
+    → ((sent : List Mark) → HoldsSpans name_gauge l.distance l.slots sent l.name → HoldsNewestSpans name_gauge l.distance l.slots (name_mark message) sent after.name)
+    → ((sent : List Mark) → HoldsSpans name_gauge l.distance l.slots sent l.name → result ≡ added name_gauge l.distance (name_mark message) sent) → ListsMessage l after message result
 names_listed l after message result pos silent text slots counts holds adds = record {
-  holds = λ judged h. subst (λ (x : Option Message). HoldsListedSlot l.audit.distance x judged after) (sym (counts judged h)) record {
-    text = rw (silent, text, slots) (nothing_follows text_gauge (omega arith) l.audit.distance pos l.slots (marks text_mark judged) (spans l.audit.distance (marks text_mark judged)) l.text h.text);
-    name = subst (λ n. HoldsNewestSpans name_gauge l.audit.distance n (name_mark message) (marks name_mark judged) after.name) (sym slots) (holds (marks name_mark judged) h.name);
+  holds = λ judged h. subst (λ (x : Option Message). HoldsListedSlot l.distance x judged after) (sym (counts judged h)) record {
+    text = rw (silent, text, slots) (nothing_follows text_gauge (omega arith) l.distance pos l.slots (marks text_mark judged) (spans l.distance (marks text_mark judged)) l.text h.text);
+    name = subst (λ n. HoldsNewestSpans name_gauge l.distance n (name_mark message) (marks name_mark judged) after.name) (sym slots) (holds (marks name_mark judged) h.name);
   };
-  added = λ judged h. subst (λ (x : Option Message). result ≡ slot_adds l.audit.distance x judged) (sym (counts judged h)) (adds (marks name_mark judged) h.name ∙ sym (names_add l.audit.distance message judged silent));
+  added = λ judged h. subst (λ (x : Option Message). result ≡ slot_adds l.distance x judged) (sym (counts judged h)) (adds (marks name_mark judged) h.name ∙ sym (names_add l.distance message judged silent));
 }
 
 -- a message with nothing for either service
-pub nothing_listed : (l : ListingState) (message : Option Message) (result : FaultSet) → 0 < l.audit.distance → result ≡ none_broken → ((judged : List (Option Message)) → HoldsListed l.audit.distance judged l → IsSilent (counted_as l.audit.start judged message)) → ListsMessage l l message result
+pub nothing_listed : (l : ListingState) (message : Option Message) (result : FaultSet) → 0 < l.distance → result ≡ none_broken → ((judged : List (Option Message)) → HoldsListed l.distance judged l → IsSilent (counted_as l.start judged message)) → ListsMessage l l message result
 nothing_listed l message result pos none silent = record {
   holds = λ judged h. record {
-    text = rw (silent judged h).0 (nothing_follows text_gauge (omega arith) l.audit.distance pos l.slots (marks text_mark judged) (spans l.audit.distance (marks text_mark judged)) l.text h.text);
-    name = rw (silent judged h).1 (nothing_follows name_gauge (omega arith) l.audit.distance pos l.slots (marks name_mark judged) (spans l.audit.distance (marks name_mark judged)) l.name h.name);
+    text = rw (silent judged h).0 (nothing_follows text_gauge (omega arith) l.distance pos l.slots (marks text_mark judged) (spans l.distance (marks text_mark judged)) l.text h.text);
+    name = rw (silent judged h).1 (nothing_follows name_gauge (omega arith) l.distance pos l.slots (marks name_mark judged) (spans l.distance (marks name_mark judged)) l.name h.name);
   };
-  added = λ judged h. none ∙ sym (texts_add l.audit.distance (counted_as l.audit.start judged message) judged (silent judged h).1
-      ∙ ap (λ (m : Mark). added text_gauge l.audit.distance m (marks text_mark judged)) (silent judged h).0 ∙ nothing_adds text_gauge l.audit.distance (marks text_mark judged));
+  added = λ judged h. none ∙ sym (texts_add l.distance (counted_as l.start judged message) judged (silent judged h).1
+      ∙ ap (λ (m : Mark). added text_gauge l.distance m (marks text_mark judged)) (silent judged h).0 ∙ nothing_adds text_gauge l.distance (marks text_mark judged));
 }
 
 -- at the end of a slot
@@ -230,107 +234,92 @@ slot_listed d newest judged l after pos slots text name h = record {
 
 -- ---- the list of a log
 
--- one more slot of a log is one more slot of what is judged
-judged_next : (start : LogStart) (d : ℕ) (message : Option Message) (log judged : List (Option Message)) → IsJudgedAs start d log judged → IsJudgedAs start d (message ∷ log) (counted_as start judged message ∷ judged)
-judged_next Complete d message log judged is = ap (λ (x : List (Option Message)). message ∷ x) is
-judged_next Running d message log judged (lost, far, is) = (lost, far, ap (λ (x : List (Option Message)). counted x message ∷ x) is)
-
-module _ (pi d : ℕ) (l : ListingState) (log : List (Option Group)) (s : ListingStandsAt pi d l log) (slot : Option Group) (end : ListingState) (found : FaultSet) (took : ListsGroup l end slot found) where
+-- the list took a slot: its state follows from the log with that slot, and it noted the first fault
+module _ (l end next : ListingState) (slot : Option Group) (found : FaultSet) (took : ListsGroup l end slot found) (slots : next.slots ≡ end.slots) (one_more : end.slots ≡ l.slots + 1) (text : next.text ≡ end.text) (name : next.name ≡ end.name)
+    (programme : next.programme ≡ l.programme) (distance : next.distance ≡ l.distance) (start : next.start ≡ l.start) (first : l.fault ≡ None → next.fault ≡ first_of found) (again : (fault : AuditFault) → l.fault ≡ Some fault → next.fault ≡ Some fault)
+    (pi d : ℕ) (log : List (Option Group)) (s : ListingStandsAt pi d l log) where
   hears_here : Hears pi slot took.message
-  hears_here = subst (λ n. Hears n slot took.message) s.audit.programme took.hears
+  hears_here = subst (λ n. Hears n slot took.message) s.programme took.hears
 
-  module _ (audit : AuditState) (after : AuditStandsAt pi d audit (slot ∷ log)) (same_start : audit.start ≡ l.audit.start) where
-    heard_next : after.heard ≡ took.message ∷ s.audit.heard
-    heard_next = same_heard pi (slot ∷ log) after.heard (took.message ∷ s.audit.heard) after.are (hears_here, s.audit.are)
+  held : (judged : List (Option Message)) → IsJudgedAs l.start d s.heard judged → HoldsListed l.distance judged l
+  held judged is = subst (λ n. HoldsListed n judged l) (sym s.distance) (s.holds judged is)
 
-    -- what is judged with this slot
-    is_next : (judged : List (Option Message)) → IsJudgedAs l.audit.start d s.audit.heard judged → IsJudgedAs audit.start d after.heard (counted_as l.audit.start judged took.message ∷ judged)
-    is_next judged is = rw (same_start, heard_next) (judged_next l.audit.start d took.message s.audit.heard judged is)
+  -- what was found is what the slot adds
+  adds_here : (judged : List (Option Message)) → IsJudgedAs l.start d s.heard judged → found ≡ slot_adds d (counted_as l.start judged took.message) judged
+  adds_here judged is = took.added judged (held judged is) ∙ ap (λ n. slot_adds n (counted_as l.start judged took.message) judged) s.distance
 
-  -- the list stands at the log with the slot
-  pub list_stands : (next : ListingState) (after : AuditStandsAt pi d next.audit (slot ∷ log)) → next.audit.start ≡ l.audit.start → next.slots ≡ l.slots + 1 → next.slots ≡ end.slots → next.text ≡ end.text → next.name ≡ end.name → ListingStandsAt pi d next (slot ∷ log)
-  list_stands next after same_start one_more slots text name = record {
-    audit = after;
-    slots = omega (arith, one_more, s.slots);
+  holds_here : (judged : List (Option Message)) → IsJudgedAs l.start d s.heard judged → HoldsListed d (counted_as l.start judged took.message ∷ judged) next
+  holds_here judged is =
+      let there : HoldsListed d (counted_as l.start judged took.message ∷ judged) end = subst (λ n. HoldsListed n (counted_as l.start judged took.message ∷ judged) end) s.distance (took.holds judged (held judged is)) in
+      record { text = rw (slots, text) there.text; name = rw (slots, name) there.name }
+
+  first_here : (judged : List (Option Message)) → IsJudgedAs l.start d s.heard judged → IsFirst d (counted_as l.start judged took.message ∷ judged) next.fault
+  first_here judged is =
+      first_next d (counted_as l.start judged took.message) judged l.fault next.fault (formed_counted l.start judged took.message (formed_heard pi slot took.message hears_here))
+      (λ none. first none ∙ ap first_of (adds_here judged is)) again (s.fault judged is)
+
+  pub stands_next : ListingStandsAt pi d next (slot ∷ log)
+  stands_next = record {
+    programme = programme ∙ s.programme;
+    distance = distance ∙ s.distance;
+    lasts = s.lasts;
+    heard = took.message ∷ s.heard;
+    are = (hears_here, s.are);
+    slots = omega (arith, slots, one_more, s.slots);
     holds = λ judged is.
-        let (before, was, e) = judged_step l.audit.start d took.message s.audit.heard judged (rw (same_start, heard_next next.audit after same_start) at is) in
-        let held : HoldsListed l.audit.distance before l = subst (λ n. HoldsListed n before l) (sym s.audit.distance) (s.holds before was) in
-        let holds : HoldsListed d (counted_as l.audit.start before took.message ∷ before) end = subst (λ n. HoldsListed n (counted_as l.audit.start before took.message ∷ before) end) s.audit.distance (took.holds before held) in
-        subst (λ (x : List (Option Message)). HoldsListed d x next) (sym e) record { text = rw (slots, text) holds.text; name = rw (slots, name) holds.name };
+        let (before, was, e) = judged_step l.start d took.message s.heard judged (subst (λ st. IsJudgedAs st d (took.message ∷ s.heard) judged) start is) in
+        subst (λ (x : List (Option Message)). HoldsListed d x next) (sym e) (holds_here before was);
+    fault = λ judged is.
+        let (before, was, e) = judged_step l.start d took.message s.heard judged (subst (λ st. IsJudgedAs st d (took.message ∷ s.heard) judged) start is) in
+        subst (λ (x : List (Option Message)). IsFirst d x next.fault) (sym e) (first_here before was);
   }
 
-  module _ (message : Option Message) (hears : Hears pi slot message) (judged : List (Option Message)) (is : IsJudgedAs l.audit.start d s.audit.heard judged) where
-    one_message : took.message ≡ message
-    one_message = same_heard_in pi slot took.message message hears_here hears
+  pub found_adds : (message : Option Message) → Hears pi slot message → (judged : List (Option Message)) → IsJudgedAs l.start d s.heard judged → found ≡ slot_adds d (counted_as l.start judged message) judged
+  found_adds message hears judged is =
+      adds_here judged is ∙ ap (λ (m : Option Message). slot_adds d (counted_as l.start judged m) judged) (same_heard_in pi slot took.message message hears_here hears)
 
-    -- what was found is what the slot adds
-    pub found_adds : found ≡ slot_adds d (counted_as l.audit.start judged message) judged
-    found_adds =
-        took.added judged (subst (λ n. HoldsListed n judged l) (sym s.audit.distance) (s.holds judged is))
-        ∙ ap (λ n. slot_adds n (counted_as l.audit.start judged took.message) judged) s.audit.distance
-        ∙ ap (λ (m : Option Message). slot_adds d (counted_as l.audit.start judged m) judged) one_message
-
-    -- if the log passes with the slot, it adds nothing
-    pub passing_adds_none : (audit : AuditState) (after : AuditStandsAt pi d audit (slot ∷ log)) → audit.start ≡ l.audit.start
-        → ((heard : List (Option Message)) → IsJudgedAs audit.start d after.heard heard → LogPasses d heard) → none_broken ≡ slot_adds d (counted_as l.audit.start judged message) judged
-    passing_adds_none audit after same_start passes =
-        passing_adds d (counted_as l.audit.start judged took.message) judged (passes _ (is_next audit after same_start judged is))
-        ∙ ap (λ (m : Option Message). slot_adds d (counted_as l.audit.start judged m) judged) one_message
-
-    -- if it is the first slot that breaks a rule, the fault of the audit is the first one
-    pub fault_adds : (audit : AuditState) (after : AuditStandsAt pi d audit (slot ∷ log)) → audit.start ≡ l.audit.start → l.audit.fault ≡ None → (fault : AuditFault)
-        → ((heard : List (Option Message)) → IsJudgedAs audit.start d after.heard heard → IsFaultOf d heard fault) → all_from fault found ≡ slot_adds d (counted_as l.audit.start judged message) judged
-    fault_adds audit after same_start clean fault faults =
-        let newest : Option Message = counted_as l.audit.start judged took.message in
-        let passes : LogPasses d judged = log_passes d judged l.audit (clean_holds pi d l.audit log s.audit clean judged is) in
-        let breaks : BreaksFirst d newest judged fault = elim (faults (newest ∷ judged) (is_next audit after same_start judged is)) [ inl here ↦ here.1 | inr before ↦ absurd (no_fault d judged fault before passes) ] in
-        let first : first_of (slot_adds d newest judged) ≡ Some fault = breaking_adds d newest judged fault (formed_counted l.audit.start judged took.message (formed_heard pi slot took.message hears_here)) passes breaks in
-        let same : slot_adds d newest judged ≡ slot_adds d (counted_as l.audit.start judged message) judged = ap (λ (m : Option Message). slot_adds d (counted_as l.audit.start judged m) judged) one_message in
-        ap (all_from fault) (found_adds ∙ sym same) ∙ all_from_first fault (slot_adds d newest judged) first ∙ same
+-- the list took a slot, before it counted 2 ^ 64 - 1 of them
+pub lists_slot : (l end next : ListingState) (slot : Option Group) (found : FaultSet) → (l.slots + 1 < 2 ^ 64 → ListsGroup l end slot found) → (l.slots + 1 < 2 ^ 64 → end.slots ≡ l.slots + 1)
+    → next.slots ≡ end.slots → next.text ≡ end.text → next.name ≡ end.name → next.programme ≡ l.programme → next.distance ≡ l.distance → next.start ≡ l.start
+    → (l.fault ≡ None → next.fault ≡ first_of found) → ((fault : AuditFault) → l.fault ≡ Some fault → next.fault ≡ Some fault) → ListsSlot l next slot found
+lists_slot l end next slot found takes one_more slots text name programme distance start first again = record {
+  stands = λ pi d log s small.
+      let few = enough pi d log s small in
+      stands_next l end next slot found (takes few) slots (one_more few) text name programme distance start first again pi d log s;
+  added = λ pi d log s small message hears judged is.
+      let few = enough pi d log s small in
+      found_adds l end next slot found (takes few) slots (one_more few) text name programme distance start first again pi d log s message hears judged is;
+}
+  where
+    enough : (pi d : ℕ) (log : List (Option Group)) → ListingStandsAt pi d l log → length log + 1 < 2 ^ 64 → l.slots + 1 < 2 ^ 64
+    enough pi d log s small = omega (arith, s.slots, small)
 
 -- before the first slot
-pub list_starts : (pi d : ℕ) (l : ListingState) (s : AuditStandsAt pi d l.audit []) → l.slots ≡ 0
-    → ((sent : List Mark) → IsSilentAs l.audit.start d sent → HoldsSpans text_gauge d 0 sent l.text) → ((sent : List Mark) → IsSilentAs l.audit.start d sent → HoldsSpans name_gauge d 0 sent l.name) → ListingStandsAt pi d l []
-list_starts pi d l s none texts names = record {
-  audit = s;
+pub list_starts : (pi d : ℕ) (start : LogStart) (l : ListingState) → l.programme ≡ pi → l.distance ≡ d → 0 < d → l.start ≡ start → l.slots ≡ 0 → l.fault ≡ None
+    → ((sent : List Mark) → IsSilentAs start d sent → HoldsSpans text_gauge d 0 sent l.text) → ((sent : List Mark) → IsSilentAs start d sent → HoldsSpans name_gauge d 0 sent l.name) → ListingStandsAt pi d l []
+list_starts pi d start l programme distance lasts begins none clean texts names = record {
+  programme = programme;
+  distance = distance;
+  lasts = lasts;
+  heard = [];
+  are = tt;
   slots = none;
   holds = λ judged is.
-      let first : IsJudgedAs l.audit.start d [] judged = rw (same_heard pi [] s.heard [] s.are tt) at is in
+      let first : IsJudgedAs start d [] judged = subst (λ st. IsJudgedAs st d [] judged) begins is in
       record {
-        text = rw none (texts (marks text_mark judged) (texts_begin l.audit.start d judged first));
-        name = rw none (names (marks name_mark judged) (names_begin l.audit.start d judged first));
+        text = rw none (texts (marks text_mark judged) (texts_begin start d judged first));
+        name = rw none (names (marks name_mark judged) (names_begin start d judged first));
+      };
+  fault = λ judged is.
+      let first : IsJudgedAs start d [] judged = subst (λ st. IsJudgedAs st d [] judged) begins is in
+      subst (IsFirst d judged) (sym clean)
+      record {
+        text = (silent_holds text_gauge start d (marks text_mark judged) (texts_begin start d judged first)).passes;
+        name = (silent_holds name_gauge start d (marks name_mark judged) (names_begin start d judged first)).passes;
       };
 }
 
--- the list took a slot: what it found, and what its audit returned
-module _ (l mid after : ListingState) (group : Option Group) (found : FaultSet) (r : Result (Unit {0}) AuditFault) (lists : l.slots + 1 < 2 ^ 64 → ListsGroup l mid group found) (one_more : l.slots + 1 < 2 ^ 64 → mid.slots ≡ l.slots + 1)
-    (slots : after.slots ≡ mid.slots) (text : after.text ≡ mid.text) (name : after.name ≡ mid.name) (takes : TakesSlot l.audit after.audit group r) where
-  counts : (pi d : ℕ) (log : List (Option Group)) → ListingStandsAt pi d l log → length log + 1 < 2 ^ 64 → l.slots + 1 < 2 ^ 64
-  counts pi d log s small = omega (arith, s.slots, small)
-
-  stands_next : (pi d : ℕ) (log : List (Option Group)) → ListingStandsAt pi d l log → length log + 1 < 2 ^ 64 → ListingStandsAt pi d after (group ∷ log)
-  stands_next pi d log s small =
-      let enough = counts pi d log s small in
-      list_stands pi d l log s group mid found (lists enough) after (takes.stands pi d log s.audit) takes.start (slots ∙ one_more enough) slots text name
-
-  pub lists_passing : (x : Unit {0}) (result : FaultSet) → r ≡ Ok x → result ≡ none_broken → ListsSlot l after group result
-  lists_passing x result ok none = record {
-    stands = stands_next;
-    added = λ pi d log s small message hears judged is.
-        none ∙ passing_adds_none pi d l log s group mid found (lists (counts pi d log s small)) message hears judged is after.audit (takes.stands pi d log s.audit) takes.start
-        (λ heard h. subst (λ (r : Result (Unit {0}) AuditFault). MatchResult r (λ _. LogPasses d heard) (λ fault. IsFaultOf d heard fault)) ok (takes.which pi d (group ∷ log) (takes.stands pi d log s.audit) heard h));
-  }
-
-  pub lists_first : (fault : AuditFault) (result : FaultSet) → l.audit.fault ≡ None → r ≡ Err fault → result ≡ all_from fault found → ListsSlot l after group result
-  lists_first fault result clean error first = record {
-    stands = stands_next;
-    added = λ pi d log s small message hears judged is.
-        first ∙ fault_adds pi d l log s group mid found (lists (counts pi d log s small)) message hears judged is after.audit (takes.stands pi d log s.audit) takes.start clean fault
-        (λ heard h. subst (λ (r : Result (Unit {0}) AuditFault). MatchResult r (λ _. LogPasses d heard) (λ fault. IsFaultOf d heard fault)) error (takes.which pi d (group ∷ log) (takes.stands pi d log s.audit) heard h));
-  }
-
-  pub lists_found : ListsSlot l after group found
-  lists_found = record {
-    stands = stands_next;
-    added = λ pi d log s small message hears judged is. found_adds pi d l log s group mid found (lists (counts pi d log s small)) message hears judged is;
-  }
+-- the log passes exactly if there is no fault
+pub passes_exactly : (d : ℕ) (judged : List (Option Message)) (fault : Option AuditFault) → IsFirst d judged fault → (fault ≡ None) ↔ LogPasses d judged
+passes_exactly d judged None passes = (λ e. passes, λ p. refl)
+passes_exactly d judged (Some fault) f = (λ e. (let e = e in absurd (cc)), λ p. absurd (no_fault d judged fault f p))

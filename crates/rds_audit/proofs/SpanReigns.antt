@@ -17,9 +17,10 @@ use Rattle.rds_audit.specs.Listing.{SentFragment, Span, added, broken_by, broken
 use Rattle.rds_audit.specs.ListingLaws.{IsFormedMark}
 use Rattle.rds_audit.specs.ListingStandsAt.{first_slot, reign_of, reigns_of}
 use Rattle.rds_audit.specs.Reigns.{Reign, SentTags, after_fragment, after_tags, joins, past_newest, reigns, with_fragment, opened_by}
-use Rattle.rds_audit.specs.Rules.{AreUnchanged, CanBeBroadcast, HaveOneValue, IsBrokenBy, IsBrokenByFragment, IsBrokenByTags, Passes}
+use Rattle.rds_audit.specs.Rules.{AreUnchanged, CanBeBroadcast, HaveOneValue, IsAfterFragment, IsBrokenBy, IsBrokenByFragment, IsBrokenByTags, Passes}
 use Rattle.rds_audit.proofs.Faults.{mark_fails}
-use Rattle.rds_audit.proofs.Sending.{early, sent_before}
+use Rattle.rds_audit.proofs.Keeping.{AreKept, keeps}
+use Rattle.rds_audit.proofs.Sending.{TagsAreAfter, after_later, early, sent_before}
 use Rattle.rds_audit.proofs.SentCells.{are_unchanged, holds_unchanged, unchanged_by}
 use Rattle.rds_audit.proofs.SpanOrder.{bytes_at, bytes_of, bytes_same, same_bytes_are}
 use Rattle.rds_audit.proofs.SpanSteps.{sets_are}
@@ -65,6 +66,32 @@ service_passed_before d kind mark before h = record {
       let less = early before t (Tagged pair) is in
       record { slot = w.slot; fragment = w.fragment; is_sent = sent_before mark before w.slot (Sends w.fragment) (omega (arith, w.before, less)) w.is_sent; before = w.before };
 }
+
+-- tags come after a fragment with a mark that is no tags, and with tags after a fragment
+tags_after : (x : Mark) (sent : List Mark) → ((pair : PairFields) → Tagged pair ≡ x → ⊥) → TagsAreAfter sent → TagsAreAfter (x ∷ sent)
+tags_after x sent none h t pair (inl s) = absurd (none pair s.1)
+tags_after x sent none h t pair (inr s) = after_later x sent t (h t pair s)
+
+tagged_after : (pair : PairFields) (sent : List Mark) → IsAfterFragment sent (length sent) → TagsAreAfter sent → TagsAreAfter (Tagged pair ∷ sent)
+tagged_after pair sent w h t other (inl s) = after_later (Tagged pair) sent t (subst (λ (n : ℕ). IsAfterFragment sent n) (sym s.0) w)
+tagged_after pair sent w h t other (inr s) = after_later (Tagged pair) sent t (h t other s)
+
+after_some : (d : ℕ) (sent : List Mark) (rs : List Reign) → AreKept d sent rs → (rs ≡ [] → ⊥) → IsAfterFragment sent (length sent)
+after_some d sent [] k some = absurd (some refl)
+after_some d sent (r ∷ older) k some = record { slot = r.opened; fragment = k.0.first; is_sent = k.0.opened; before = early sent r.opened (Sends k.0.first) k.0.opened }
+
+-- each fragment allows some length, or not
+abbrev AllFit : Gauge → List Fragment → Type 0
+AllFit g fragments = AllByRecursion (λ (p : Fragment). is_some (g.allowed p.address p.bytes) ≡ true) fragments
+
+fits_or_not : (g : Gauge) (fragments : List Fragment) → AllFit g fragments ⊎ (AllFit g fragments → ⊥)
+fits_or_not g [] = inl tt
+fits_or_not g (p ∷ rest) = by (is_some (g.allowed p.address p.bytes)) refl (fits_or_not g rest)
+  where
+    by : (v : Bool) → is_some (g.allowed p.address p.bytes) ≡ v → AllFit g rest ⊎ (AllFit g rest → ⊥) → AllFit g (p ∷ rest) ⊎ (AllFit g (p ∷ rest) → ⊥)
+    by true e (inl all) = inl (e, all)
+    by true e (inr none) = inr (λ all. none all.1)
+    by false e rest = inr (λ all. (let some = all.0 in absurd (cc)))
 
 -- ---- the rules that a span breaks
 
@@ -308,3 +335,75 @@ module _ (g : Gauge) (exact : IsExact g) (d : ℕ) where
       ap first_of (adds_all (Tagged pair) before h.none)
       ∙ tags_first pair before (spans d before) fault (subst (AllByRecursion (CanBeBroadcast d g.kind)) (sym h.same) passes.reigns) h.none
       (subst (λ (regs : List Reign). IsBrokenByTags d g.kind (length before) (after_tags (length before) pair regs) fault) (sym h.same) b)
+
+  -- ---- the next mark
+
+  -- each of these reigns can be a broadcast, or the newest one breaks a rule first
+  abbrev Judged : List Reign → Type 0
+  Judged regs = AllByRecursion (CanBeBroadcast d g.kind) regs ⊎ ((fault : AuditFault) × IsBrokenByFragment g.kind regs fault)
+
+  -- of a reign that starts in time, whose addresses did not change and whose tags are late enough
+  judged_content : (q : Reign) (older : List Reign) → AllByRecursion (CanBeBroadcast d g.kind) older → AllByRecursion (IsFormed g.segments) q.fragments → AreUnchanged q.fragments → q.start ≤ q.opened
+      → AllByRecursion (λ (s : SentTags). q.start + d ≤ s.slot) q.tags → Judged (q ∷ older)
+  judged_content q older all formed unchanged begun lasted =
+      let l = lengths_of g.allowed g.longest q.fragments in
+      elim (fits_or_not g q.fragments) [
+        | inr none ↦ inr (NotOneText, (begun, unchanged, λ one. none (exact.measured q.fragments [] one).each))
+        | inl each ↦ elim (cases_lt l.most l.least) [
+          | inl none ↦ inr (NotOneText, (begun, unchanged, λ one. (let room = (exact.measured q.fragments [] one).room in omega (arith, room, none))))
+          | inr room ↦ elim (cases_lt l.most (tags_end q.tags)) [
+            | inl past ↦ inr (TagOutside, (begun, exact.one q.fragments [] formed record { unchanged = unchanged; each = each; room = room; ends = omega arith }, λ one. (let ends = (exact.measured q.fragments q.tags one).ends in omega (arith, ends, past))))
+            | inr ends ↦ inl (record { begun = begun; lasted = lasted; one = exact.one q.fragments q.tags formed record { unchanged = unchanged; each = each; room = room; ends = ends } }, all)
+          ]
+        ]
+      ]
+
+  fragment_judged : (slot : ℕ) (p : Fragment) (rs : List Span) → IsFormed g.segments p → AllByRecursion (CanBeBroadcast d g.kind) (reigns_of rs) → Judged (after_fragment d slot p (reigns_of rs))
+  fragment_judged slot p [] formed was = judged_content (opened_by d slot p []) [] tt (formed, tt) (tt, tt) (omega arith) tt
+  fragment_judged slot p (r ∷ older) formed was =
+      by_fragment (λ (rs : List Span) (regs : List Reign). Judged regs) d slot p r older
+      (λ u. judged_content (with_fragment slot p (reign_of r)) (reigns_of older) was.1 (formed, exact.formed (fragments_in r.fragments) r.tags was.0.one) u was.0.begun was.0.lasted)
+      (λ last other. inr (Changed, (was.0.begun, other)))
+      (λ start late. judged_content (reign_of (first_of_span slot p start false false)) (reigns_of (r ∷ older)) was (formed, tt) (tt, tt) late tt)
+      (λ start late less. inr (EarlyFlag, less))
+      (can_be_unchanged (reign_of r) was.0)
+
+  tags_judged : (slot : ℕ) (pair : PairFields) (regs : List Reign) → AllByRecursion (CanBeBroadcast d g.kind) regs
+      → ((regs ≡ [] → ⊥) × AllByRecursion (CanBeBroadcast d g.kind) (after_tags slot pair regs)) ⊎ ((fault : AuditFault) × IsBrokenByTags d g.kind slot (after_tags slot pair regs) fault)
+  tags_judged slot pair [] was = inr (EarlyTag, tt)
+  tags_judged slot pair (r ∷ older) was =
+      let m = exact.measured r.fragments r.tags was.0.one in
+      let tags : List SentTags = record { slot = slot; pair = pair } ∷ r.tags in
+      elim (cases_lt slot (r.start + d)) [
+        | inl early ↦ inr (EarlyTag, early)
+        | inr late ↦ elim (cases_lt (lengths_of g.allowed g.longest r.fragments).most (tags_end tags)) [
+          | inl past ↦ inr (TagOutside, ((λ early. omega (arith, early, late)), λ one. (let ends = (exact.measured r.fragments tags one).ends in omega (arith, ends, past))))
+          | inr ends ↦ inl (
+            (λ e. (let e = e in absurd (cc))),
+            (
+              record {
+                begun = was.0.begun;
+                lasted = (late, was.0.lasted);
+                one = exact.one r.fragments tags (exact.formed r.fragments r.tags was.0.one) record { unchanged = can_be_unchanged r was.0; each = m.each; room = m.room; ends = ends };
+              },
+              was.1,
+            ),
+          )
+        ]
+      ]
+
+  -- a mark after marks that pass: the service passes with it too, or it breaks a rule first
+  pub service_judged : (mark : Mark) (before : List Mark) → IsFormedMark g mark → Passes d g.kind before → Passes d g.kind (mark ∷ before) ⊎ ((fault : AuditFault) × IsBrokenBy d g.kind mark before fault)
+  service_judged Nothing before formed passes = inl record { reigns = passes.reigns; tagged = tags_after Nothing before (λ pair e. (cc)) passes.tagged }
+  service_judged (Sends p) before formed passes =
+      let h = are_reigns before passes in
+      let judged : Judged (reigns d (Sends p ∷ before)) = subst (λ (regs : List Reign). Judged (after_fragment d (length before) p regs)) h.same
+      (fragment_judged (length before) p (spans d before) formed (subst (AllByRecursion (CanBeBroadcast d g.kind)) (sym h.same) passes.reigns)) in
+      elim judged [
+        | inl all ↦ inl record { reigns = all; tagged = tags_after (Sends p) before (λ pair e. (cc)) passes.tagged }
+        | inr b ↦ inr b
+      ]
+  service_judged (Tagged pair) before formed passes = elim (tags_judged (length before) pair (reigns d before) passes.reigns) [
+    | inl (some, all) ↦ inl record { reigns = all; tagged = tagged_after pair before (after_some d before (reigns d before) (keeps d before).0 some) passes.tagged }
+    | inr b ↦ inr b
+  ]

@@ -210,11 +210,3 @@ abbrev pub first_of : FaultSet → Option AuditFault
 first_of f =
     if f.changed then Some Changed else if f.early_flag then Some EarlyFlag else if f.not_one_text then Some NotOneText
     else if f.early_tag then Some EarlyTag else if f.tag_outside then Some TagOutside else None
-
--- the faults from this one on, with this one
-abbrev pub all_from : AuditFault → FaultSet → FaultSet
-all_from Changed f = record f { changed = true }
-all_from EarlyFlag f = record f { changed = false; early_flag = true }
-all_from NotOneText f = record f { changed = false; early_flag = false; not_one_text = true }
-all_from EarlyTag f = record none_broken { early_tag = true; tag_outside = f.tag_outside }
-all_from TagOutside f = record none_broken { tag_outside = true }

@@ -1,16 +1,18 @@
 -- The state of a list of faults after a log. Lists have the newest first.
-use Rattle.std.specs.Prelude.{◌≡◌, ◌≤◌, ◌<◌, ◌+◌, ◌^◌, ℕ, List, [], ◌∷◌, Option, Some, length, map, slice_index}
+use Rattle.std.specs.Prelude.{◌≡◌, ◌≤◌, ◌<◌, ◌+◌, ◌^◌, ℕ, List, [], ◌∷◌, MatchOption, Option, Some}
+use Rattle.std.specs.Prelude.{length, map, slice_index}
 use Rattle.rds_block.specs.declared.group.Group.{Group}
 use Rattle.rds_fields.specs.declared.message.Message.{Message}
-use Rattle.rds_receiver.specs.Receipts.{Hears}
+use Rattle.rds_receiver.specs.Receipts.{AreHeard, Hears}
 use Rattle.rds_audit.specs.declared.fault_set.FaultSet.{FaultSet}
 use Rattle.rds_audit.specs.Ages.{HoldsAges}
-use Rattle.rds_audit.specs.AuditStandsAt.{AuditStandsAt, HoldsContent}
+use Rattle.rds_audit.specs.AuditStandsAt.{HoldsContent}
 use Rattle.rds_audit.specs.Lengths.{Gauge, name_gauge, text_gauge}
 use Rattle.rds_audit.specs.Listing.{SentFragment, Span, broken_newest, fragments_in, newest_at, slot_adds, spans}
 use Rattle.rds_audit.specs.ListingState.{ListingState, SpansState}
 use Rattle.rds_audit.specs.Recording.{IsJudgedAs, counted_as}
 use Rattle.rds_audit.specs.Reigns.{Reign, SentTags}
+use Rattle.rds_audit.specs.Rules.{IsFaultOf, LogPasses}
 use Rattle.rds_safety.specs.Marks.{Mark, marks, name_mark, text_mark}
 
 -- the slot of the oldest of these fragments
@@ -89,34 +91,39 @@ pub record HoldsListedSlot (d : ℕ) (newest : Option Message) (before : List (O
 -- the list took this message in a slot of a log: its state follows from the log with that slot, in that slot, and the
 -- result is what the slot adds
 pub record ListsMessage (l after : ListingState) (message : Option Message) (result : FaultSet) : Type 0 where
-  pub holds : (judged : List (Option Message)) → HoldsListed l.audit.distance judged l
-      → HoldsListedSlot l.audit.distance (counted_as l.audit.start judged message) judged after
-  pub added : (judged : List (Option Message)) → HoldsListed l.audit.distance judged l
-      → result ≡ slot_adds l.audit.distance (counted_as l.audit.start judged message) judged
+  pub holds : (judged : List (Option Message)) → HoldsListed l.distance judged l
+      → HoldsListedSlot l.distance (counted_as l.start judged message) judged after
+  pub added : (judged : List (Option Message)) → HoldsListed l.distance judged l
+      → result ≡ slot_adds l.distance (counted_as l.start judged message) judged
 
 -- the list took the group of a slot, and the slot is over: its state follows from the log with that slot, and the
 -- result is what the slot adds
 pub record ListsGroup (l after : ListingState) (group : Option Group) (result : FaultSet) : Type 0 where
   pub message : Option Message
-  pub hears : Hears l.audit.programme group message
-  pub holds : (judged : List (Option Message)) → HoldsListed l.audit.distance judged l
-      → HoldsListed l.audit.distance (counted_as l.audit.start judged message ∷ judged) after
-  pub added : (judged : List (Option Message)) → HoldsListed l.audit.distance judged l
-      → result ≡ slot_adds l.audit.distance (counted_as l.audit.start judged message) judged
+  pub hears : Hears l.programme group message
+  pub holds : (judged : List (Option Message)) → HoldsListed l.distance judged l
+      → HoldsListed l.distance (counted_as l.start judged message ∷ judged) after
+  pub added : (judged : List (Option Message)) → HoldsListed l.distance judged l
+      → result ≡ slot_adds l.distance (counted_as l.start judged message) judged
 
--- the list has this PI and a spacing of d slots, its audit stands at the log, and its state follows from the log as
--- that is judged
+-- the list has this PI and a spacing of d slots, its state follows from the log as that is judged, and its fault is
+-- that of the log: without one the log passes
 pub record ListingStandsAt (pi d : ℕ) (l : ListingState) (log : List (Option Group)) : Type 0 where
-  pub audit : AuditStandsAt pi d l.audit log
+  pub programme : l.programme ≡ pi
+  pub distance : l.distance ≡ d
+  pub lasts : 0 < d
+  pub heard : List (Option Message)
+  pub are : AreHeard pi log heard
   pub slots : l.slots ≡ length log
-  pub holds : (judged : List (Option Message)) → IsJudgedAs l.audit.start d audit.heard judged
-      → HoldsListed d judged l
+  pub holds : (judged : List (Option Message)) → IsJudgedAs l.start d heard judged → HoldsListed d judged l
+  pub fault : (judged : List (Option Message)) → IsJudgedAs l.start d heard judged
+      → MatchOption l.fault (LogPasses d judged) (IsFaultOf d judged)
 
 -- this holds of the spacing of each log that the list stands at, and of its messages as they are judged
 abbrev pub WhereTheListStands : ListingState → (ℕ → List (Option Message) → Type 0) → Type 0
 WhereTheListStands l Holds =
     (pi d : ℕ) (log : List (Option Group)) (s : ListingStandsAt pi d l log) (judged : List (Option Message))
-    → IsJudgedAs l.audit.start d s.audit.heard judged → Holds d judged
+    → IsJudgedAs l.start d s.heard judged → Holds d judged
 
 -- the list took the next slot, with this group or with none, before it counted 2 ^ 64 - 1 slots: it stands at the log
 -- with that slot, and the result is what the slot adds to the list of the log
@@ -125,5 +132,5 @@ pub record ListsSlot (l after : ListingState) (group : Option Group) (result : F
       → ListingStandsAt pi d after (group ∷ log)
   pub added : (pi d : ℕ) (log : List (Option Group)) (s : ListingStandsAt pi d l log) → length log + 1 < 2 ^ 64
       → (message : Option Message) → Hears pi group message → (judged : List (Option Message))
-      → IsJudgedAs l.audit.start d s.audit.heard judged
-      → result ≡ slot_adds d (counted_as l.audit.start judged message) judged
+      → IsJudgedAs l.start d s.heard judged
+      → result ≡ slot_adds d (counted_as l.start judged message) judged

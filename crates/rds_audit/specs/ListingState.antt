@@ -1,21 +1,23 @@
 -- The state of a list of faults, and what it follows from. Lists have the newest first.
-use Rattle.std.specs.Prelude.{◌+◌, ◌-◌, ◌*◌, ◌&&◌, ◌||◌, ℕ, Bool, true, List, Option, is_some, max, min, nat_le, nat_lt}
-use Rattle.std.specs.Prelude.{not, refl, slice_index, slice_set, if◌then◌else◌}
-use Rattle.std.specs.Coded.{Coded, code_by, coded×, coded_ℕ, coded_bool, coded_list}
+use Rattle.std.specs.Prelude.{◌≡◌, ◌<◌, ◌≤◌, ◌+◌, ◌-◌, ◌*◌, ◌&&◌, ◌||◌, ℕ, Bool, true, List, Option}
+use Rattle.std.specs.Prelude.{is_some, max, min, nat_le, nat_lt, not, refl, slice_index, slice_set, if◌then◌else◌}
+use Rattle.std.specs.Coded.{Coded, code_by, coded×, coded_ℕ, coded_bool, coded_list, coded_option}
 use Rattle.rds_fields.specs.Stored.{is_set}
 use Rattle.rds_fields.specs.Tag.{PairFields}
 use Rattle.rds_receiver.specs.Run.{is_same}
+use Rattle.rds_audit.specs.declared.audit.AuditFault.{AuditFault}
 use Rattle.rds_audit.specs.declared.audited.Lengths.{Lengths}
 use Rattle.rds_audit.specs.declared.fault_set.FaultSet.{FaultSet}
+use Rattle.rds_audit.specs.declared.log_start.LogStart.{LogStart}
 use Rattle.rds_audit.specs.declared.stored.StoredFaults.{StoredFaults}
 use Rattle.rds_audit.specs.declared.stored.StoredListing.{StoredListing}
 use Rattle.rds_audit.specs.declared.stored.StoredSpans.{StoredSpans}
 use Rattle.rds_audit.specs.Ages.{Ages, aged, restarted}
-use Rattle.rds_audit.specs.AuditState.{AuditState, ReignsState, audit_code, joined_state, no_content}
-use Rattle.rds_audit.specs.AuditState.{reigns_code, tagged_state}
+use Rattle.rds_audit.specs.AuditState.{ReignsState, fault_code, joined_state, no_content, reigns_code, start_code}
+use Rattle.rds_audit.specs.AuditState.{start_if, tagged_state}
 use Rattle.rds_audit.specs.Lengths.{narrowed, pair_end}
 use Rattle.rds_audit.specs.Listing.{none_broken}
-use Rattle.rds_audit.specs.Stored.{audit_stored, reigns_stored}
+use Rattle.rds_audit.specs.Stored.{fault_stored, reigns_stored}
 
 -- a service: the slot of the newest fragment at each address, the number of spans, the ages of the spans and the
 -- content of the current one, and the rules that it breaks
@@ -25,12 +27,15 @@ pub record SpansState : Type 0 where
   pub reigns : ReignsState
   pub broken : FaultSet
 
--- a list: the number of slots, both services, and the audit of the same log
+-- a list: its programme, the spacing, where its log begins, the number of slots, both services, and the first fault
 pub record ListingState : Type 0 where
+  pub programme : ℕ
+  pub distance : ℕ
+  pub start : LogStart
   pub slots : ℕ
   pub text : SpansState
   pub name : SpansState
-  pub audit : AuditState
+  pub fault : Option AuditFault
 
 -- ---- how the state of a service changes
 
@@ -162,11 +167,26 @@ spans_stored s = record {
 
 abbrev pub listing_stored : StoredListing → ListingState
 listing_stored l = record {
+  programme = l.pi;
+  distance = l.distance;
+  start = start_if (is_set l.is_running);
   slots = l.slots;
   text = spans_stored l.text;
   name = spans_stored l.name;
-  audit = audit_stored l.audit;
+  fault = fault_stored l.fault;
 }
+
+-- the numbers of a list are valid
+pub record IsListStored (l : StoredListing) : Type 0 where
+  pub some : 0 < l.distance
+  pub distance : l.distance ≤ 66559
+
+-- what stays the same while a list takes the group of a slot
+pub record KeepsLog (old new : StoredListing) : Type 0 where
+  pub programme : new.pi ≡ old.pi
+  pub distance : new.distance ≡ old.distance
+  pub start : new.is_running ≡ old.is_running
+  pub fault : new.fault ≡ old.fault
 
 abbrev pub faults_code : Coded FaultSet
 faults_code =
@@ -192,8 +212,17 @@ spans_code =
 
 abbrev pub listing_code : Coded ListingState
 listing_code =
-    code_by ((ℕ × AuditState) × (SpansState × SpansState))
-    (coded× (coded× coded_ℕ audit_code) (coded× spans_code spans_code))
-    (λ l. ((l.slots, l.audit), (l.text, l.name)))
-    (λ p. record { slots = p.0.0; text = p.1.0; name = p.1.1; audit = p.0.1 })
+    code_by ((ℕ × (ℕ × LogStart)) × ((ℕ × Option AuditFault) × (SpansState × SpansState)))
+    (coded× (coded× coded_ℕ (coded× coded_ℕ start_code))
+    (coded× (coded× coded_ℕ (coded_option fault_code)) (coded× spans_code spans_code)))
+    (λ l. ((l.programme, (l.distance, l.start)), ((l.slots, l.fault), (l.text, l.name))))
+    (λ p. record {
+      programme = p.0.0;
+      distance = p.0.1.0;
+      start = p.0.1.1;
+      slots = p.1.0.0;
+      text = p.1.1.0;
+      name = p.1.1.1;
+      fault = p.1.0.1;
+    })
     (λ _. refl)

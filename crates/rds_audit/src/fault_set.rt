@@ -1,6 +1,6 @@
 //! The rules that a text, a name or a slot breaks.
 ghost use Rattle.std.specs.Prelude.{◌≡◌, ◌↔◌, IsTrue, Some, None};
-ghost use Rattle.rds_audit.specs.Listing.{all_from, first_of, none_broken, not_before};
+ghost use Rattle.rds_audit.specs.Listing.{first_of, none_broken, not_before};
 ghost use Rattle.rds_audit.specs.ListingState.{faults_stored};
 
 use crate::AuditFault;
@@ -68,39 +68,6 @@ impl FaultSet {
             early_tag: self.early_tag && !before.early_tag,
             tag_outside: self.tag_outside && !before.tag_outside,
         }
-    }
-
-    /// Returns this fault and those after it in the order of a list.
-    pub(crate) fn from(self, fault: AuditFault) -> FaultSet
-        ensures { result ≡ all_from fault self }
-    {
-        let mut left = self;
-        match fault {
-            AuditFault::Changed => left.changed = true,
-            AuditFault::EarlyFlag => {
-                left.changed = false;
-                left.early_flag = true;
-            }
-            AuditFault::NotOneText => {
-                left.changed = false;
-                left.early_flag = false;
-                left.not_one_text = true;
-            }
-            AuditFault::EarlyTag => {
-                left = FaultSet {
-                    early_tag: true,
-                    tag_outside: self.tag_outside,
-                    ..FaultSet::none()
-                };
-            }
-            AuditFault::TagOutside => {
-                left = FaultSet {
-                    tag_outside: true,
-                    ..FaultSet::none()
-                };
-            }
-        }
-        left
     }
 }
 

@@ -1,4 +1,4 @@
-//! The list of all faults of a log. The audit of the log says which is the first one.
+//! The list of all faults of a log.
 ghost use Rattle.std.specs.Prelude.{◌≡◌, ◌+◌, ◌<◌, ◌^◌, ◌↔◌, ◌⊎◌, [], ◌∷◌, ℕ, true, false, List, Option, None, Some};
 ghost use Rattle.std.specs.Prelude.{IsTrue, length};
 ghost use Rattle.rds_block.specs.declared.group.Group.{Group};
@@ -6,18 +6,17 @@ ghost use Rattle.rds_fields.specs.declared.message.Message.{Message};
 ghost use Rattle.rds_receiver.specs.Receipts.{Hears};
 ghost use Rattle.rds_audit.specs.declared.audit.AuditFault.{AuditFault};
 ghost use Rattle.rds_audit.specs.declared.log_start.LogStart.TheVariants as LogStart;
-ghost use Rattle.rds_audit.specs.AuditStandsAt.{AuditStandsAt};
-ghost use Rattle.rds_audit.specs.Listing.{first_of, none_broken, spans};
+ghost use Rattle.rds_audit.specs.Listing.{first_of, spans};
 ghost use Rattle.rds_audit.specs.ListingStandsAt.{HoldsListed, HoldsListedSlot, ListingStandsAt, ListsGroup};
 ghost use Rattle.rds_audit.specs.ListingStandsAt.{ListsMessage, ListsSlot, WhereTheListStands};
-ghost use Rattle.rds_audit.specs.ListingState.{listing_stored};
+ghost use Rattle.rds_audit.specs.ListingState.{IsListStored, KeepsLog, listing_stored};
 ghost use Rattle.rds_audit.specs.Rules.{LogPasses};
-ghost use Rattle.rds_audit.specs.Stored.{IsStored, audit_stored};
+ghost use Rattle.rds_audit.specs.Stored.{fault_stored};
 ghost use Rattle.rds_safety.specs.Marks.{marks, name_mark, text_mark};
 
 use crate::audited::{Names, Texts};
 use crate::stored::{StoredListing, StoredSpans};
-use crate::{Audit, FaultSet, LogStart};
+use crate::{AuditFault, FaultSet, LogStart};
 use rds_block::{Blocks, Group};
 use rds_fields::{Distance, Dwell, Late, Message};
 use rds_receiver::heard_blocks;
@@ -26,16 +25,15 @@ use std::marker::Model;
 /// Lists all faults of a log. A fault is listed once for each text or name, in the first slot in which the text or name
 /// breaks the rule. Other bytes at an address of a text begin a new text.
 ///
-/// The list is empty exactly if the log passes, and it begins with the fault of the audit, in the same slot.
-/// `ListingStandsAt` relates a list to its log. It holds from the empty log on, for fewer than 2^64 slots.
+/// For fewer than 2^64 - 1 slots, the list is empty exactly if the log passes, and it begins with the fault of the
+/// audit, in the same slot. `ListingStandsAt` relates a list to its log. It holds from the empty log on.
 #[derive(Drop)]
 pub struct Listing {
     state: StoredListing,
 }
 
 impl Model for Listing {
-    ghost use Rattle.rds_audit.specs.ListingState.{ListingState, listing_code, listing_stored};
-    ghost use Rattle.rds_audit.specs.Stored.{IsStored};
+    ghost use Rattle.rds_audit.specs.ListingState.{IsListStored, ListingState, listing_code, listing_stored};
 
     ghost Value = { ListingState };
 
@@ -43,18 +41,17 @@ impl Model for Listing {
 
     ghost view = { λ l. listing_stored l.state };
 
-    ghost invariant = { λ l. IsStored l.state.audit };
+    ghost invariant = { λ l. IsListStored l.state };
 }
 
 impl Listing {
     /// Makes the list of a log of this programme that begins so, before the first slot, for receivers of this dwell
     /// whose groups come at most so many slots late.
     pub fn starting(pi: u16, dwell: Dwell, late: Late, start: LogStart) -> Listing
-        ensures stands { AuditStandsAt pi (dwell + late) result.audit [] }
-        ensures passed { result.audit.fault ≡ None }
-        ensures start { result.audit.start ≡ start }
+        ensures stands { ListingStandsAt pi (dwell + late) result [] }
+        ensures fault { result.fault ≡ None }
+        ensures start { result.start ≡ start }
         ensures slots { result.slots ≡ 0 }
-        ensures lists { ListingStandsAt pi (dwell + late) result [] }
     {
         let distance = Distance::new(dwell, late);
         Listing {
@@ -63,7 +60,10 @@ impl Listing {
                 tags: 0,
                 text: StoredSpans::new::<Texts>(distance, start),
                 name: StoredSpans::new::<Names>(distance, start),
-                audit: Audit::starting(pi, dwell, late, start).store(),
+                distance: distance.get(),
+                pi,
+                fault: AuditFault::code(None),
+                is_running: start.stored(),
             },
         }
     }
@@ -71,20 +71,16 @@ impl Listing {
     /// Stores the list as plain numbers.
     pub fn store(&self) -> StoredListing
         ensures same { listing_stored result ≡ self.now }
-        ensures good { IsStored result.audit }
+        ensures good { IsListStored result }
     {
         self.state
     }
 
     /// Takes the next slot: the group that was sent in it, or nothing. Returns the faults that it adds to the list.
     pub fn slot(&mut self, group: Option<Group>) -> FaultSet
-        ensures stands { (pi d : ℕ) (log : List (Option Group)) → AuditStandsAt pi d self.old.audit log
-            → AuditStandsAt pi d self.new.audit (group ∷ log) }
-        ensures start { self.new.audit.start ≡ self.old.audit.start }
-        ensures first { self.old.audit.fault ≡ None → first_of result ≡ self.new.audit.fault }
-        ensures empty { self.new.audit.fault ≡ None → result ≡ none_broken }
-        ensures again { (fault : AuditFault) → self.old.audit.fault ≡ Some fault
-            → self.new.audit.fault ≡ Some fault }
+        ensures start { self.new.start ≡ self.old.start }
+        ensures first { self.old.fault ≡ None → self.new.fault ≡ first_of result }
+        ensures again { (fault : AuditFault) → self.old.fault ≡ Some fault → self.new.fault ≡ Some fault }
         ensures lists { ListsSlot self.old self.new group result }
     {
         self.slot_blocks(Blocks::of_slot(group))
@@ -93,13 +89,9 @@ impl Listing {
     /// Does the same as [`slot`](Self::slot) for a group as its blocks.
     #[inline(always)]
     pub fn slot_blocks(&mut self, group: Option<Blocks>) -> FaultSet
-        ensures stands { (pi d : ℕ) (log : List (Option Group)) → AuditStandsAt pi d self.old.audit log
-            → AuditStandsAt pi d self.new.audit (group ∷ log) }
-        ensures start { self.new.audit.start ≡ self.old.audit.start }
-        ensures first { self.old.audit.fault ≡ None → first_of result ≡ self.new.audit.fault }
-        ensures empty { self.new.audit.fault ≡ None → result ≡ none_broken }
-        ensures again { (fault : AuditFault) → self.old.audit.fault ≡ Some fault
-            → self.new.audit.fault ≡ Some fault }
+        ensures start { self.new.start ≡ self.old.start }
+        ensures first { self.old.fault ≡ None → self.new.fault ≡ first_of result }
+        ensures again { (fault : AuditFault) → self.old.fault ≡ Some fault → self.new.fault ≡ Some fault }
         ensures lists { ListsSlot self.old self.new group result }
     {
         self.state.slot(group)
@@ -107,10 +99,10 @@ impl Listing {
 
     /// Returns whether the list is empty so far: the log passes.
     pub fn passed(&self) -> bool
-        ensures fault { IsTrue result ↔ (self.now.audit.fault ≡ None) }
+        ensures fault { IsTrue result ↔ (self.now.fault ≡ None) }
         ensures passes { WhereTheListStands self.now (λ d judged. IsTrue result ↔ LogPasses d judged) }
     {
-        self.state.audit.passed()
+        self.state.fault == 0
     }
 
     /// Returns how many texts the log has so far. A text that changed its bytes without the flag counts as two.
@@ -136,39 +128,26 @@ impl Listing {
 impl StoredListing {
     /// Takes the next slot: the group that was sent in it, or nothing. Returns the faults that it adds to the list.
     pub fn slot(&mut self, group: Option<Blocks>) -> FaultSet
-        ensures stands { IsStored self.old.audit → (pi d : ℕ) (log : List (Option Group))
-            → AuditStandsAt pi d (audit_stored self.old.audit) log
-            → AuditStandsAt pi d (audit_stored self.new.audit) (group ∷ log) }
-        ensures start { (audit_stored self.new.audit).start ≡ (audit_stored self.old.audit).start }
-        ensures first { IsStored self.old.audit → (audit_stored self.old.audit).fault ≡ None
-            → first_of result ≡ (audit_stored self.new.audit).fault }
-        ensures empty { IsStored self.old.audit → (audit_stored self.new.audit).fault ≡ None → result ≡ none_broken }
-        ensures again { IsStored self.old.audit → (fault : AuditFault)
-            → (audit_stored self.old.audit).fault ≡ Some fault
-            → (audit_stored self.new.audit).fault ≡ Some fault }
-        ensures good { IsStored self.old.audit ↔ IsStored self.new.audit }
-        ensures lists { IsStored self.old.audit
+        ensures start { (listing_stored self.new).start ≡ (listing_stored self.old).start }
+        ensures first { (listing_stored self.old).fault ≡ None → (listing_stored self.new).fault ≡ first_of result }
+        ensures again { (fault : AuditFault) → (listing_stored self.old).fault ≡ Some fault
+            → (listing_stored self.new).fault ≡ Some fault }
+        ensures good { IsListStored self.old ↔ IsListStored self.new }
+        ensures lists { IsListStored self.old
             → ListsSlot (listing_stored self.old) (listing_stored self.new) group result }
     {
-        // Prover: a copy, since the group is passed by value twice (docs/PROVER.md, "Workarounds").
-        let copy = match group {
-            Some(blocks) => Some(blocks),
-            None => None,
-        };
-        let found = self.take_slot(copy);
-        let had_none = self.audit.fault == 0;
-        match self.audit.slot(group) {
-            Ok(()) => FaultSet::none(),
-            Err(fault) if had_none => found.from(fault),
-            Err(_) => found,
+        let found = self.take_slot(group);
+        if self.fault == 0 && !found.is_empty() {
+            self.fault = AuditFault::code(found.first());
         }
+        found
     }
 
     /// Takes the slot as though each fault before it had been allowed.
     fn take_slot(&mut self, group: Option<Blocks>) -> FaultSet
-        ensures audit { self.new.audit ≡ self.old.audit }
+        ensures keeps { KeepsLog self.old self.new }
         ensures slots { self.old.slots + 1 < 2 ^ 64 → self.new.slots ≡ self.old.slots + 1 }
-        ensures lists { IsStored self.old.audit → self.old.slots + 1 < 2 ^ 64
+        ensures lists { IsListStored self.old → self.old.slots + 1 < 2 ^ 64
             → ListsGroup (listing_stored self.old) (listing_stored self.new) group result }
     {
         let found = self.hear_group(group);
@@ -178,13 +157,13 @@ impl StoredListing {
 
     /// Takes the group of this slot, if it is one of the programme.
     fn hear_group(&mut self, group: Option<Blocks>) -> FaultSet
-        ensures audit { self.new.audit ≡ self.old.audit }
+        ensures keeps { KeepsLog self.old self.new }
         ensures slots { self.new.slots ≡ self.old.slots }
-        ensures lists { IsStored self.old.audit → self.old.slots + 1 < 2 ^ 64 → (message : Option Message)
-            × Hears self.old.audit.pi group message
+        ensures lists { IsListStored self.old → self.old.slots + 1 < 2 ^ 64 → (message : Option Message)
+            × Hears self.old.pi group message
             × ListsMessage (listing_stored self.old) (listing_stored self.new) message result }
     {
-        match heard_blocks(self.audit.pi, group) {
+        match heard_blocks(self.pi, group) {
             Some(message) => self.hear(message),
             None => FaultSet::none(),
         }
@@ -193,13 +172,13 @@ impl StoredListing {
     /// Takes a message of the programme that was sent in this slot. Tags before the first text segment of a running
     /// station are not judged: their text may have been sent before the log.
     fn hear(&mut self, message: Message) -> FaultSet
-        ensures audit { self.new.audit ≡ self.old.audit }
+        ensures keeps { KeepsLog self.old self.new }
         ensures slots { self.new.slots ≡ self.old.slots }
-        ensures lists { IsStored self.old.audit → self.old.slots + 1 < 2 ^ 64
+        ensures lists { IsListStored self.old → self.old.slots + 1 < 2 ^ 64
             → ListsMessage (listing_stored self.old) (listing_stored self.new) (Some message) result }
     {
         let slot = self.slots;
-        let distance = self.audit.distance;
+        let distance = self.distance;
         match message {
             Message::Text {
                 flag,
@@ -229,24 +208,24 @@ impl StoredListing {
 
     /// Returns whether the station was on air before the log began, and no text segment came yet.
     fn awaits_text(&self) -> bool
-        ensures early { result ≡ true → ((audit_stored self.now.audit).start ≡ LogStart.Running)
+        ensures early { result ≡ true → ((listing_stored self.now).start ≡ LogStart.Running)
             × ((listing_stored self.now).text.reigns.ages.is_open ≡ false) }
-        ensures begun { result ≡ false → ((audit_stored self.now.audit).start ≡ LogStart.Complete)
+        ensures begun { result ≡ false → ((listing_stored self.now).start ≡ LogStart.Complete)
             ⊎ ((listing_stored self.now).text.reigns.ages.is_open ≡ true) }
     {
-        self.audit.is_running != 0 && self.text.reigns.is_open == 0
+        self.is_running != 0 && self.text.reigns.is_open == 0
     }
 
     /// Ends the slot.
     fn end_slot(&mut self)
-        ensures audit { self.new.audit ≡ self.old.audit }
+        ensures keeps { KeepsLog self.old self.new }
         ensures slots { self.old.slots + 1 < 2 ^ 64 → self.new.slots ≡ self.old.slots + 1 }
-        ensures holds { IsStored self.old.audit → self.old.slots + 1 < 2 ^ 64
+        ensures holds { IsListStored self.old → self.old.slots + 1 < 2 ^ 64
             → (judged : List (Option Message)) (newest : Option Message)
-            → HoldsListedSlot self.old.audit.distance newest judged (listing_stored self.old)
-            → HoldsListed self.old.audit.distance (newest ∷ judged) (listing_stored self.new) }
+            → HoldsListedSlot self.old.distance newest judged (listing_stored self.old)
+            → HoldsListed self.old.distance (newest ∷ judged) (listing_stored self.new) }
     {
-        let distance = self.audit.distance;
+        let distance = self.distance;
         self.text.grow_older(distance);
         self.name.grow_older(distance);
         self.slots = self.slots.saturating_add(1);

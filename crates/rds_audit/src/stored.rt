@@ -81,7 +81,13 @@ pub struct StoredListing {
     pub tags: u64,
     pub text: StoredSpans,
     pub name: StoredSpans,
-    pub audit: StoredAudit,
+    /// The spacing d in slots: the dwell plus the lateness.
+    pub distance: u32,
+    pub pi: u16,
+    /// The number of the first fault of the list, 0 if there is none.
+    pub fault: u8,
+    /// Whether the station was on air before the log began.
+    pub is_running: u8,
 }
 
 /// The plain numbers of an audit. Its calls do what those of an [`Audit`](crate::Audit) do. Invalid numbers give

@@ -26,7 +26,7 @@ const _: () = prove!(size_of::<rds_encoder::StoredEncoder>() == 116);
 
 const _: () = prove!(size_of::<rds_audit::StoredAudit>() == 208);
 
-const _: () = prove!(size_of::<rds_audit::StoredListing>() == 720);
+const _: () = prove!(size_of::<rds_audit::StoredListing>() == 520);
 
 const _: () = prove!(size_of::<rds_audit::StoredFaults>() == 5);
 

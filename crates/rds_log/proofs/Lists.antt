@@ -11,10 +11,11 @@ use Rattle.rds_audit.specs.Judging.{judged_step}
 use Rattle.rds_audit.specs.ListingStandsAt.{ListingStandsAt, ListsSlot}
 use Rattle.rds_audit.specs.ListingState.{ListingState}
 use Rattle.rds_audit.specs.Recording.{IsJudgedAs, counted_as}
+use Rattle.rds_audit.specs.Rules.{IsFaultOf, LogPasses}
 use Rattle.rds_fields.specs.declared.message.Message.{Message}
 use Rattle.rds_receiver.specs.OneView.{same_heard}
 use Rattle.rds_receiver.specs.Receipts.{AreHeard}
-use Rattle.rds_audit.specs.Listing.{first_of, none_broken, slot_adds}
+use Rattle.rds_audit.specs.Listing.{first_of, slot_adds}
 use Rattle.rds_audit.specs.declared.audit.AuditFault.{AuditFault}
 use Rattle.rds_audit.specs.declared.audit.AuditFault.TheVariants.{Changed, NotOneText, EarlyFlag, EarlyTag, TagOutside}
 use Rattle.rds_audit.specs.declared.fault_set.FaultSet.{FaultSet}
@@ -32,7 +33,6 @@ use Rattle.rds_log.specs.declared.audit_log.Auditing.{Auditing}
 use Rattle.rds_log.specs.declared.lister.Lister.{Lister}
 use Rattle.rds_log.specs.declared.log_line.LogLine.TheVariants.{Slot}
 use Rattle.rds_log.specs.declared.verdict.Verdict.TheVariants.{No}
-use Rattle.rds_log.proofs.Audits.{fails_at, fault_of, slots_pass}
 use Rattle.rds_log.proofs.Decodes.{ends_by_fault}
 
 -- ---- the lines of a slot
@@ -56,20 +56,44 @@ first_line t f fault some = by f.changed f.early_flag f.not_one_text f.early_tag
     by false false false false true h is = with_line TagOutside h [] _ (sym (append-nil (verdict_line (No t TagOutside)))) is
     by false false false false false h is = absurd (cc)
 
+-- a slot without a first fault has no line
+no_lines : (t : ℕ) (f : FaultSet) → first_of f ≡ None → fault_lines t f ≡ []
+no_lines t f none = by f.changed f.early_flag f.not_one_text f.early_tag f.tag_outside none
+  where
+    by : (c e n g o : Bool) → first_of record { changed = c; early_flag = e; not_one_text = n; early_tag = g; tag_outside = o } ≡ None
+        → fault_lines t record { changed = c; early_flag = e; not_one_text = n; early_tag = g; tag_outside = o } ≡ []
+    by true e n g o is = absurd (cc)
+    by false true n g o is = absurd (cc)
+    by false false true g o is = absurd (cc)
+    by false false false true o is = absurd (cc)
+    by false false false false true is = absurd (cc)
+    by false false false false false is = refl
+
 -- ---- the lister
+
+abbrev MatchFirst : ℕ → List (Option Message) → Option AuditFault → Type 0
+MatchFirst d judged fault = MatchOption fault (LogPasses d judged) (IsFaultOf d judged)
+
+-- the slots of a list without a fault pass
+listed_pass : (a : Auditing) (l : ListingState) (slots : List (Option Group)) → ListingStandsAt a.pi (spacing a) l slots → l.start ≡ a.start → l.fault ≡ None → SlotsPass a slots
+listed_pass a l slots s begins none = record {
+  heard = s.heard;
+  are = s.are;
+  passes = λ judged is. subst (MatchFirst (spacing a) judged) none (s.fault judged (subst (λ st. IsJudgedAs st (spacing a) s.heard judged) (sym begins) is));
+}
 
 -- what a slot adds to the beginning of the lines
 adds : (a : Auditing) (before after : Option AuditFault) (t : ℕ) (slots : List (Option Group)) (slot : Option Group) (all : List ℕ) (found : FaultSet)
     → MatchOption before (all ≡ []) (λ fault. BeginsWithNo a fault slots all)
-    → (before ≡ None → first_of found ≡ after) → (after ≡ None → found ≡ none_broken) → ((fault : AuditFault) → before ≡ Some fault → after ≡ Some fault)
+    → (before ≡ None → after ≡ first_of found) → ((fault : AuditFault) → before ≡ Some fault → after ≡ Some fault)
     → ((fault : AuditFault) → before ≡ None → after ≡ Some fault → (rest : List ℕ) → BeginsWithNo a fault (slot ∷ slots) (verdict_line (No t fault) ++ rest))
     → MatchOption after (all ++ fault_lines t found ≡ []) (λ fault. BeginsWithNo a fault (slot ∷ slots) (all ++ fault_lines t found))
-adds a None None t slots slot all found had first empty again fails = rw (had, empty refl) refl
-adds a None (Some fault) t slots slot all found had first empty again fails =
-    let (rest, is) = first_line t found fault (first refl) in
+adds a None None t slots slot all found had first again fails = rw (had, no_lines t found (sym (first refl))) refl
+adds a None (Some fault) t slots slot all found had first again fails =
+    let (rest, is) = first_line t found fault (sym (first refl)) in
     rw (had, is) (fails fault refl refl rest)
-adds a (Some fault) None t slots slot all found had first empty again fails = (let bad = again fault refl in absurd (cc))
-adds a (Some fault) (Some other) t slots slot all found had first empty again fails =
+adds a (Some fault) None t slots slot all found had first again fails = (let bad = again fault refl in absurd (cc))
+adds a (Some fault) (Some other) t slots slot all found had first again fails =
     let one : fault ≡ other = (let e : Some other ≡ Some fault = again fault refl in cc) in
     subst (λ x. BeginsWithNo a x (slot ∷ slots) (all ++ fault_lines t found)) one
     record {
@@ -83,7 +107,7 @@ adds a (Some fault) (Some other) t slots slot all found had first empty again fa
     }
 
 -- what one more slot adds
-faults_of_more : (a : Auditing) (l after : ListingState) (slots : List (Option Group)) (slot : Option Group) (faults : List FaultSet) (found : FaultSet) (s : ListingStandsAt a.pi (spacing a) l slots) → l.audit.start ≡ a.start
+faults_of_more : (a : Auditing) (l after : ListingState) (slots : List (Option Group)) (slot : Option Group) (faults : List FaultSet) (found : FaultSet) (s : ListingStandsAt a.pi (spacing a) l slots) → l.start ≡ a.start
     → (heard : List (Option Message)) → AreHeard a.pi (slot ∷ slots) heard → ListsSlot l after slot found → length slots + 1 < 2 ^ 64 → AreFaultsOf a slots faults → AreFaultsOf a (slot ∷ slots) (found ∷ faults)
 faults_of_more a l after slots slot faults found s begins [] hear lists short of = absurd hear
 faults_of_more a l after slots slot faults found s begins (m ∷ h) hear lists short of =
@@ -98,20 +122,19 @@ faults_of_more a l after slots slot faults found s begins (m ∷ h) hear lists s
     added : (judged : List (Option Message)) → IsJudgedAs a.start (spacing a) (m ∷ h) judged → AreAdded (spacing a) judged (found ∷ faults)
     added judged is =
         let (before, was, e) = judged_step a.start (spacing a) m h judged is in
-        let mine : IsJudgedAs l.audit.start (spacing a) s.audit.heard before = subst (λ st. IsJudgedAs st (spacing a) s.audit.heard before) (sym begins) (subst (λ x. IsJudgedAs a.start (spacing a) x before) (same_heard a.pi slots h s.audit.heard hear.1 s.audit.are) was) in
+        let mine : IsJudgedAs l.start (spacing a) s.heard before = subst (λ st. IsJudgedAs st (spacing a) s.heard before) (sym begins) (subst (λ x. IsJudgedAs a.start (spacing a) x before) (same_heard a.pi slots h s.heard hear.1 s.are) was) in
         let adds : found ≡ slot_adds (spacing a) (counted_as a.start before m) before = subst (λ st. found ≡ slot_adds (spacing a) (counted_as st before m) before) begins (lists.added a.pi (spacing a) slots s short m hear.0 before mine) in
         let older : AreAdded (spacing a) before faults = of.added before (subst (λ x. IsJudgedAs a.start (spacing a) x before) (same_heard a.pi slots h of.heard hear.1 of.are) was) in
         subst (λ x. AreAdded (spacing a) x (found ∷ faults)) (sym e) (adds, older)
 
 pub takes_slot : (a : Auditing) (l after : Lister) (w : Traffic) (lines : List Line) (line : Line) (slot : Option Group) (found : FaultSet) → LineSays line (Slot slot)
     → (s : HasListed a l w lines)
-    → ListsSlot l.listing after.listing slot found → l.slots + 1 < 2 ^ 64 → after.listing.audit.start ≡ l.listing.audit.start
-    → (l.listing.audit.fault ≡ None → first_of found ≡ after.listing.audit.fault)
-    → (after.listing.audit.fault ≡ None → found ≡ none_broken)
-    → ((fault : AuditFault) → l.listing.audit.fault ≡ Some fault → after.listing.audit.fault ≡ Some fault)
+    → ListsSlot l.listing after.listing slot found → l.slots + 1 < 2 ^ 64 → after.listing.start ≡ l.listing.start
+    → (l.listing.fault ≡ None → after.listing.fault ≡ first_of found)
+    → ((fault : AuditFault) → l.listing.fault ≡ Some fault → after.listing.fault ≡ Some fault)
     → after.output ≡ l.output ++ fault_lines l.slots found → after.slots ≡ l.slots + 1
     → HasListed a after w (line ∷ lines)
-takes_slot a l after w lines line slot found says s lists few keeps first empty again output slots =
+takes_slot a l after w lines line slot found says s lists few keeps first again output slots =
     let count = s.count in
     let each = s.are.each in
     let all : (s.written ++ l.output) ++ fault_lines l.slots found ≡ s.written ++ after.output = append_assoc s.written l.output (fault_lines l.slots found) ∙ ap (λ (x : List ℕ). s.written ++ x) (sym output) in
@@ -123,10 +146,10 @@ takes_slot a l after w lines line slot found says s lists few keeps first empty 
       begins = keeps ∙ s.begins;
       written = s.written;
       faults = found ∷ s.faults;
-      are = faults_of_more a l.listing after.listing s.slots slot s.faults found s.listing s.begins stands.audit.heard stands.audit.are lists short s.are;
+      are = faults_of_more a l.listing after.listing s.slots slot s.faults found s.listing s.begins stands.heard stands.are lists short s.are;
       total = sym all ∙ ap (λ (x : List ℕ). x ++ fault_lines l.slots found) s.total ∙ ap (λ n. list_lines s.faults ++ fault_lines n found) (count ∙ sym each);
-      first = subst (λ (x : List ℕ). MatchOption after.listing.audit.fault (x ≡ []) (λ fault. BeginsWithNo a fault (slot ∷ s.slots) x)) all
-          (adds a l.listing.audit.fault after.listing.audit.fault l.slots s.slots slot (s.written ++ l.output) found s.first first empty again fails);
+      first = subst (λ (x : List ℕ). MatchOption after.listing.fault (x ≡ []) (λ fault. BeginsWithNo a fault (slot ∷ s.slots) x)) all
+          (adds a l.listing.fault after.listing.fault l.slots s.slots slot (s.written ++ l.output) found s.first first again fails);
       wrote = s.wrote;
       calm = s.calm;
     }
@@ -137,14 +160,22 @@ takes_slot a l after w lines line slot found says s lists few keeps first empty 
     stands : ListingStandsAt a.pi (spacing a) after.listing (slot ∷ s.slots)
     stands = lists.stands a.pi (spacing a) s.slots s.listing short
 
-    fails : (fault : AuditFault) → l.listing.audit.fault ≡ None → after.listing.audit.fault ≡ Some fault → (rest : List ℕ) → BeginsWithNo a fault (slot ∷ s.slots) (verdict_line (No l.slots fault) ++ rest)
+    fails : (fault : AuditFault) → l.listing.fault ≡ None → after.listing.fault ≡ Some fault → (rest : List ℕ) → BeginsWithNo a fault (slot ∷ s.slots) (verdict_line (No l.slots fault) ++ rest)
     fails fault none some rest = record {
       newer = [];
       failed = slot ∷ s.slots;
       cut = refl;
       number = l.slots;
-      fail = fails_at a l.listing.audit after.listing.audit l.slots s.slots slot fault s.listing.audit s.begins none s.count stands.audit (keeps ∙ s.begins)
-          (λ judged is. fault_of (spacing a) after.listing.audit fault judged some (stands.audit.holds judged is));
+      fail = record {
+        newest = slot;
+        before = s.slots;
+        cut = refl;
+        number = s.count;
+        passed = listed_pass a l.listing s.slots s.listing s.begins none;
+        heard = stands.heard;
+        are = stands.are;
+        fault_is = λ judged is. subst (MatchFirst (spacing a) judged) some (stands.fault judged (subst (λ st. IsJudgedAs st (spacing a) stands.heard judged) (sym (keeps ∙ s.begins)) is));
+      };
       further = rest;
       lines = refl;
     }
@@ -154,11 +185,11 @@ pub lines_list : (a : Auditing) (l : Lister) (w : Traffic) (lines : List Line) �
 lines_list a l w lines s = record {
   slots = s.slots;
   say = s.say;
-  list = record { faults = s.faults; are = s.are; lines = s.total; begins = by l.listing.audit.fault refl s.first };
+  list = record { faults = s.faults; are = s.are; lines = s.total; begins = by l.listing.fault refl s.first };
 }
   where
-    by : (o : Option AuditFault) → l.listing.audit.fault ≡ o → MatchOption o (s.written ++ l.output ≡ []) (λ fault. BeginsWithNo a fault s.slots (s.written ++ l.output)) → BeginsAsAnswer a s.slots (s.written ++ l.output)
-    by None e first = inl (slots_pass a l.listing.audit s.slots s.listing.audit s.begins e, first)
+    by : (o : Option AuditFault) → l.listing.fault ≡ o → MatchOption o (s.written ++ l.output ≡ []) (λ fault. BeginsWithNo a fault s.slots (s.written ++ l.output)) → BeginsAsAnswer a s.slots (s.written ++ l.output)
+    by None e first = inl (listed_pass a l.listing s.slots s.listing s.begins e, first)
     by (Some fault) e first = inr (fault, first)
 
 -- what the lister did, from a to b, with failures from f to g
@@ -199,7 +230,7 @@ wrote_lines a l w lines s none =
 -- ---- the end
 
 -- the whole list of a log: its lines so far, and the line of a yes if it passed
-whole : (a : Auditing) (l : Lister) (w : Traffic) (lines : List Line) (passed : Bool) → (passed ≡ true) ↔ (l.listing.audit.fault ≡ None) → l.output ≡ []
+whole : (a : Auditing) (l : Lister) (w : Traffic) (lines : List Line) (passed : Bool) → (passed ≡ true) ↔ (l.listing.fault ≡ None) → l.output ≡ []
     → (s : HasListed a l w lines) → WholeList a passed lines (s.written ++ yes_if passed l.slots)
 unfolding lines_list
 whole a l w lines passed test none s =
@@ -209,21 +240,21 @@ whole a l w lines passed test none s =
       say = s.say;
       faults = s.written ++ l.output;
       list = total.list;
-      answer = λ yes. slots_pass a l.listing.audit s.slots s.listing.audit s.begins (test.0 yes);
+      answer = λ yes. listed_pass a l.listing s.slots s.listing s.begins (test.0 yes);
       none = λ yes. nothing (test.0 yes);
-      some = λ failed. by l.listing.audit.fault refl failed s.first;
+      some = λ failed. by l.listing.fault refl failed s.first;
       whole = ap (λ n. s.written ++ yes_if passed n) s.count ∙ ap (λ (x : List ℕ). x ++ yes_if passed (length s.slots)) (sym (append-nil s.written) ∙ ap (λ (x : List ℕ). s.written ++ x) (sym none));
     }
   where
-    nothing : l.listing.audit.fault ≡ None → s.written ++ l.output ≡ []
+    nothing : l.listing.fault ≡ None → s.written ++ l.output ≡ []
     nothing e = subst (λ (o : Option AuditFault). MatchOption o (s.written ++ l.output ≡ []) (λ fault. BeginsWithNo a fault s.slots (s.written ++ l.output))) e s.first
 
-    by : (o : Option AuditFault) → l.listing.audit.fault ≡ o → passed ≡ false → MatchOption o (s.written ++ l.output ≡ []) (λ fault. BeginsWithNo a fault s.slots (s.written ++ l.output)) → (fault : AuditFault) × BeginsWithNo a fault s.slots (s.written ++ l.output)
+    by : (o : Option AuditFault) → l.listing.fault ≡ o → passed ≡ false → MatchOption o (s.written ++ l.output ≡ []) (λ fault. BeginsWithNo a fault s.slots (s.written ++ l.output)) → (fault : AuditFault) × BeginsWithNo a fault s.slots (s.written ++ l.output)
     by None e failed first = (let yes = test.1 e in absurd (cc))
     by (Some fault) e failed first = (fault, first)
 
 pub closes : (a : Auditing) (l : Lister) (lines : List Line) (passed : Bool) (out : List ℕ) (x y z : Option (List ℕ)) (f g h : ℕ) (r : Result (Unit {0}) WriteFault)
-    → HasListed a l (from x y f g) lines → (passed ≡ true) ↔ (l.listing.audit.fault ≡ None) → l.output ≡ [] → out ≡ l.output ++ yes_if passed l.slots
+    → HasListed a l (from x y f g) lines → (passed ≡ true) ↔ (l.listing.fault ≡ None) → l.output ≡ [] → out ≡ l.output ++ yes_if passed l.slots
     → Puts (from y z g h) out r → MatchResult r (λ _. WroteLines (WholeList a passed) (from x z f h) lines) (λ _. WrotePart (SomeList a) (from x z f h) lines)
 closes a l lines passed out x y z f g h (Ok done) s test none is put = record {
   written = s.written ++ yes_if passed l.slots;

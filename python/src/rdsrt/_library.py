@@ -76,8 +76,8 @@ class Version(ctypes.Structure):
     _fields_ = [("abi", u32), ("major", u32), ("minor", u32), ("patch", u32)]
 
 
-Receiver, Encoder, Audit, Listing = u32 * 66, u32 * 29, u32 * 52, u64 * 90
-SIZES: Dict[Any, int] = {Receiver: 264, Encoder: 116, Audit: 208, Listing: 720, Faults: 5, View: 84, OnAir: 75, Tags: 8,
+Receiver, Encoder, Audit, Listing = u32 * 66, u32 * 29, u32 * 52, u64 * 65
+SIZES: Dict[Any, int] = {Receiver: 264, Encoder: 116, Audit: 208, Listing: 520, Faults: 5, View: 84, OnAir: 75, Tags: 8,
                          Reply: 8, Wait: 12, HeldSegments: 8, Label: 32}
 ANY = ctypes.c_void_p
 CALLS: Dict[str, Tuple[Any, List[Any]]] = {

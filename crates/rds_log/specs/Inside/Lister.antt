@@ -18,12 +18,12 @@ pub record HasListed (a : Auditing) (l : Lister) (w : Traffic) (lines : List Lin
   pub say : AreSlots lines slots
   pub count : l.slots ≡ length slots
   pub listing : ListingStandsAt a.pi (spacing a) l.listing slots
-  pub begins : l.listing.audit.start ≡ a.start
+  pub begins : l.listing.start ≡ a.start
   pub written : List ℕ
   pub faults : List FaultSet
   pub are : AreFaultsOf a slots faults
   pub total : written ++ l.output ≡ list_lines faults
-  pub first : MatchOption l.listing.audit.fault (written ++ l.output ≡ [])
+  pub first : MatchOption l.listing.fault (written ++ l.output ≡ [])
       (λ fault. BeginsWithNo a fault slots (written ++ l.output))
   pub wrote : Appends w.before w.after written
   pub calm : IsCalm w

@@ -8,4 +8,4 @@ returns-clause-slots c small = search rules
 
 pub returns-clause-holds : goal.returns-clause-holds
 returns-clause-holds c stored small judged newest h =
-    slot_listed c.args.self.now.audit.distance newest judged (listing_stored c.args.self.now) _ stored.some (returns-clause-slots c small) (c.grow_older.ensures stored.distance) (c.grow_older-2.ensures stored.distance) h
+    slot_listed c.args.self.now.distance newest judged (listing_stored c.args.self.now) _ stored.some (returns-clause-slots c small) (c.grow_older.ensures stored.distance) (c.grow_older-2.ensures stored.distance) h
