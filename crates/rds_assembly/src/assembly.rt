@@ -59,7 +59,7 @@ impl<S: Service> Assembly<S> {
         ensures put { self.new ≡ map.insert self.old address bytes }
         ensures same { IsFalse result → self.new ≡ self.old }
     {
-        if is_held(&self.bytes, self.mask, address, bytes) {
+        if has_segment(&self.bytes, self.mask, address, bytes) {
             return false;
         }
         self.mask = hold(&mut self.bytes, self.mask, address, bytes);
@@ -92,7 +92,7 @@ impl<S: Service> Assembly<S> {
 }
 
 /// Returns whether this segment is held: its bit of the mask is 1, and these bytes are at its places.
-pub fn is_held(bytes: &[u8; LONGEST_TEXT], mask: u16, address: u8, segment: [u8; 4]) -> bool
+pub fn has_segment(bytes: &[u8; LONGEST_TEXT], mask: u16, address: u8, segment: [u8; 4]) -> bool
     requires { address < 16 }
     ensures { IsTrue result
         → held_cells mask bytes.now ≡ map.insert (held_cells mask bytes.now) address segment }

@@ -26,7 +26,7 @@ mod service;
 mod text;
 mod type_name;
 
-pub use assembly::{Assembly, hold, is_held, is_same_segment, whole};
+pub use assembly::{Assembly, has_segment, hold, is_same_segment, whole};
 pub use name::{Name, name_segment};
 pub use radio_text::{CARRIAGE_RETURN, RadioText};
 pub use service::Service;

@@ -79,7 +79,7 @@ fn restores_any_numbers(rt: HostRuntime) -> Result<(), Fail> {
     let dwell = Dwell::new(8).ok_or("dwell")?;
     let window = Window::new(2).ok_or("window")?;
     let mut stored = Receiver::tuned(PI, dwell, Some(window)).store();
-    stored.pair.is_held = 9;
+    stored.pair.is_there = 9;
     stored.pair.two.extra = 255;
     stored.pair_left = 255;
     stored.segments.flags = 0xFFFF_FFFF;

@@ -47,7 +47,7 @@ fn restores_any_numbers(rt: HostRuntime) -> Result<(), Fail> {
         flag: 7,
     };
     let mut pair = StoredPair::none();
-    pair.is_held = 9;
+    pair.is_there = 9;
     pair.one.class = 255;
     let mut stored = Receiver::new(1, Dwell::new(2).ok_or("dwell")?).store();
     stored.display = StoredDisplay {

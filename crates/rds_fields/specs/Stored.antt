@@ -22,8 +22,8 @@ fields_stored p = record {
 
 -- the stored pair, if there is one
 abbrev pub pair_stored : StoredPair → Option PairFields
-pair_stored p = if is_set p.is_held then Some (fields_stored p) else None
+pair_stored p = if is_set p.is_there then Some (fields_stored p) else None
 
 -- if a pair is stored, its numbers are valid
 abbrev pub IsStoredPair : StoredPair → Type 0
-IsStoredPair p = IsTrue (is_set p.is_held) → IsPair (fields_stored p)
+IsStoredPair p = IsTrue (is_set p.is_there) → IsPair (fields_stored p)

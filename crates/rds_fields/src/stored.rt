@@ -17,7 +17,7 @@ pub struct StoredTag {
     pub extra: u8,
 }
 
-/// A pair of tags as plain numbers. If `is_held` is 0, there is no pair. A bit is 0 for no and any other number for
+/// A pair of tags as plain numbers. If `is_there` is 0, there is no pair. A bit is 0 for no and any other number for
 /// yes.
 #[repr(C)]
 #[derive(Clone, Copy)]
@@ -26,7 +26,7 @@ pub struct StoredPair {
     pub running: u8,
     pub one: StoredTag,
     pub two: StoredTag,
-    pub is_held: u8,
+    pub is_there: u8,
 }
 
 impl StoredPair {
@@ -45,7 +45,7 @@ impl StoredPair {
             two: dummy,
             toggle: 0,
             running: 0,
-            is_held: 0,
+            is_there: 0,
         }
     }
 
@@ -62,7 +62,7 @@ impl StoredPair {
             two: stored_tag(pair.two()),
             toggle: u8::from(pair.toggle()),
             running: u8::from(pair.running()),
-            is_held: 1,
+            is_there: 1,
         }
     }
 
@@ -70,7 +70,7 @@ impl StoredPair {
     pub fn pair(&self) -> Option<TagPair>
         ensures { IsStoredPair self.now → result ≡ pair_stored self.now }
     {
-        if self.is_held == 0 {
+        if self.is_there == 0 {
             return None;
         }
         let Ok(one) = Tag::new(self.one.class, self.one.start, self.one.extra) else {

@@ -74,7 +74,7 @@ impl StoredDisplay {
         self.text.later = self.text.later.saturating_sub(rest);
         self.name.later = self.name.later.saturating_sub(rest);
         self.rest = rest;
-        if self.text.is_held() || self.pair.is_held == 0 {
+        if self.text.is_held() || self.pair.is_there == 0 {
             return text || name;
         }
         self.pair = StoredPair::none();

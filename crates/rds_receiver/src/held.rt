@@ -9,7 +9,7 @@ ghost use Rattle.rds_receiver.specs.Holds.{MakeAlike};
 ghost use Rattle.rds_receiver.specs.Stored.{age_stored};
 
 use crate::display::StoredSegments;
-use rds_assembly::{LONGEST_TEXT, Service, hold, is_held, whole};
+use rds_assembly::{LONGEST_TEXT, Service, has_segment, hold, whole};
 
 impl StoredSegments {
     /// Makes a `StoredSegments` without segments.
@@ -63,7 +63,7 @@ impl StoredSegments {
             → (flag ≡ is_set self.old.flag) ⊎ IsShown S.is_whole (held_cells self.old.mask self.old.bytes) None }
     {
         self.later = later;
-        if self.has_flag(flag) && is_held(&self.bytes, self.mask, address, bytes) {
+        if self.has_flag(flag) && has_segment(&self.bytes, self.mask, address, bytes) {
             return false;
         }
         self.add::<S>(flag, address, bytes)

@@ -103,10 +103,10 @@ fn is_same_tag(one: &StoredTag, other: &StoredTag) -> bool
 fn is_pair_part(one: &StoredPair, other: &StoredPair) -> bool
     ensures { IsTrue result → IsPairPart (pair_stored one.now) (pair_stored other.now) }
 {
-    if one.is_held == 0 {
+    if one.is_there == 0 {
         return true;
     }
-    one.is_held == other.is_held
+    one.is_there == other.is_there
         && one.toggle == other.toggle
         && one.running == other.running
         && is_same_tag(&one.one, &other.one)

@@ -6,7 +6,7 @@ use Rattle.std.proofs.lemmas.Nat.Bits.{shr_and_one}
 use Rattle.rds_assembly.specs.Body.{segment_of}
 use Rattle.rds_assembly.specs.Held.{held_cells}
 use Rattle.rds_assembly.proofs.HeldLemmas.{contains-held, held_again}
-use Rattle.rds_assembly.proofs.assembly.is_held.Goals as goal
+use Rattle.rds_assembly.proofs.assembly.has_segment.Goals as goal
 
 pub returns-then-mask-address-eq1 : goal.returns-then-mask-address-eq1
 returns-then-mask-address-eq1 c same =
