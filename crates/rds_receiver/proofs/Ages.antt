@@ -64,30 +64,6 @@ taken_held mask bytes cells a b now none =
 pub age_taken : (m rest : ℕ) (s : StoredSegments) (cells : Cells) (a : ℕ) (b : List ℕ) → held_cells s.mask s.bytes ≡ insert cells a b → s.later ≡ m - rest → age_stored m rest s ≡ 0
 age_taken m rest s cells a b now later = (let age = age_held m rest s (taken_held s.mask s.bytes cells a b now) in omega (arith, age, later))
 
--- no look is due: each age is one more
-pub waits : (m before rest : ℕ) (s : StoredSegments) → before ≡ rest + 1 → 0 < rest → before ≤ m → AreWithin m before s → AreOlder m (segments_stored m before s) (segments_stored m rest s)
-waits m before rest s next rests soon within = by (cases_eq s.mask 0)
-  where
-    by : (s.mask ≡ 0) ⊎ (s.mask ≢ 0) → AreOlder m (segments_stored m before s) (segments_stored m rest s)
-    by (inl none) =
-        let old = age_none m before s none in
-        let new = age_none m rest s none in
-        record {
-          gone = λ _ i. record { cells = held_cells s.mask s.bytes; flag = is_set s.flag; age = (new ∙ sym old) i };
-          older = λ l. absurd (omega (arith, l, old));
-          over = λ e. absurd (omega (arith, e, old));
-        }
-    by (inr some) =
-        let old = age_held m before s some in
-        let new = age_held m rest s some in
-        let left = within some in
-        let more : age_stored m rest s ≡ age_stored m before s + 1 = omega (arith, old, new, left, next) in
-        record {
-          gone = λ l. absurd (omega (arith, l, old, left, next, rests, soon));
-          older = λ _ i. record { cells = held_cells s.mask s.bytes; flag = is_set s.flag; age = more i };
-          over = λ e. absurd (omega (arith, e, old, left, next, rests, soon));
-        }
-
 -- a look: segments that it is due to are dropped
 pub looked : (m rest : ℕ) (s one after : StoredSegments) → 0 < m → AreWithin m 1 s → (0 < s.later → one ≡ s) → (s.later ≡ 0 → one ≡ record s { mask = 0 })
     → (one.mask ≢ 0 → rest ≤ one.later) → after ≡ record one { later = one.later - rest } → AreOlder m (segments_stored m 1 s) (segments_stored m rest after)
@@ -243,22 +219,6 @@ receiver_looked r rest text name later later_name pair stored texts names stays 
     none : age_stored r.dwell 1 r.text + 1 ≡ r.dwell → (r.text.later ≡ 0) ⊎ (r.text.later ≢ 0) → text.mask ≡ 0
     none last (inl now) = ap (λ (x : StoredSegments). x.mask) (texts.due now)
     none last (inr then_) = ap (λ (x : StoredSegments). x.mask) (texts.stays (omega (arith, then_))) ∙ by_mask then_ last (cases_eq r.text.mask 0)
-
--- a receiver in a slot without a look
-pub receiver_waits : (r : StoredDisplay) (rest : ℕ) → IsStoredDisplay r → r.rest ≡ rest + 1 → 0 < rest → IsOlder (display_stored r) (display_stored (record r { rest = rest }))
-receiver_waits r rest stored next rests = record {
-  dwell = refl;
-  text = waits r.dwell r.rest rest r.text next rests stored.soon stored.text;
-  name = waits r.dwell r.rest rest r.name next rests stored.soon stored.name;
-  pair = inl refl;
-  held = λ _. refl;
-  dropped = λ last. absurd (never last (cases_eq r.text.mask 0));
-  known = refl;
-}
-  where
-    never : age_stored r.dwell r.rest r.text + 1 ≡ r.dwell → (r.text.mask ≡ 0) ⊎ (r.text.mask ≢ 0) → ⊥
-    never last (inl none) = (let age = age_none r.dwell r.rest r.text none in omega (arith, age, last))
-    never last (inr some) = (let age = age_held r.dwell r.rest r.text some in let left = stored.text some in omega (arith, age, left, last, next, rests))
 
 -- why the segments of a run show nothing
 pub why_stored : (m t d rest : ℕ) (segs : List Segment) (s : StoredSegments) (why : WhyNone) → 0 < rest → rest ≤ d → d ≡ m → HoldsRun m t (run m t segs) (segments_stored d rest s)
