@@ -11,3 +11,4 @@ pub mod KeptReceivers
 pub mod Losses
 pub mod Rulings
 pub mod SameState
+pub mod LossSteps

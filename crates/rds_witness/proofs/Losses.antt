@@ -1,32 +1,32 @@
 -- What receivers get that lose different slots.
-use Rattle.std.proofs.Common.{◌≡◌, ◌∙◌, ◌∷◌, ◌+◌, ◌<◌, ◌≤◌, ◌⊎◌, inl, inr, ℕ, zero, suc, Bool, false, true, List, Option, None, Some, add-one, ap, arith, length, refl, sym}
-use Rattle.std.specs.Prelude.{◌&&◌, nat_le}
+use Rattle.std.proofs.Common.{◌≡◌, ◌∙◌, ◌∷◌, [], ◌+◌, ◌<◌, ◌≤◌, ◌⊎◌, inl, inr, ℕ, zero, suc, Bool, false, true, List, Option, None, Some, add-one, ap, arith, length, refl, sym}
+use Rattle.std.specs.Prelude.{◌&&◌, ◌||◌, nat_le}
 use Rattle.std.proofs.lemmas.Bool.{cases_lt}
 use Rattle.std.proofs.lemmas.Bool.Decides.{nat_tests}
 use Rattle.rds_block.specs.declared.group.Group.{Group}
 use Rattle.rds_witness.specs.Lost.{got, got-more, got-none, is_lost, received}
 use Rattle.rds_witness.specs.declared.burst.Burst.{Burst}
 
-pub not_lost_before : (burst : Burst) (n : ℕ) → n < burst.first → is_lost (Some burst) n ≡ false
+pub not_lost_before : (burst : Burst) (n : ℕ) → n < burst.first → is_lost (burst ∷ []) n ≡ false
 not_lost_before burst n less = let test : nat_le burst.first n ≡ false = grind (arith, nat_tests) in rw test refl
 
-pub not_lost_behind : (burst : Burst) (n : ℕ) → burst.last < n → is_lost (Some burst) n ≡ false
+pub not_lost_behind : (burst : Burst) (n : ℕ) → burst.last < n → is_lost (burst ∷ []) n ≡ false
 not_lost_behind burst n less = by_first (nat_le burst.first n)
   where
-    by_first : (before : Bool) → (before && nat_le n burst.last) ≡ false
+    by_first : (before : Bool) → ((before && nat_le n burst.last) || false) ≡ false
     by_first false = refl
-    by_first true = grind (arith, nat_tests)
+    by_first true = let test : nat_le n burst.last ≡ false = grind (arith, nat_tests) in rw test refl
 
-pub lost_inside : (burst : Burst) (n : ℕ) → burst.first ≤ n → n ≤ burst.last → is_lost (Some burst) n ≡ true
+pub lost_inside : (burst : Burst) (n : ℕ) → burst.first ≤ n → n ≤ burst.last → is_lost (burst ∷ []) n ≡ true
 lost_inside burst n from to =
     let one : nat_le burst.first n ≡ true = grind (arith, nat_tests) in
     let two : nat_le n burst.last ≡ true = grind (arith, nat_tests) in
     rw (one, two) refl
 
-received_alike : (one other : Option Burst) (log : List (Option Group)) (n : ℕ) → is_lost one n ≡ is_lost other n → received one log n ≡ received other log n
+received_alike : (one other : List Burst) (log : List (Option Group)) (n : ℕ) → is_lost one n ≡ is_lost other n → received one log n ≡ received other log n
 received_alike one other log n same = rw same refl
 
-pub got_alike : (one other : Option Burst) (log : List (Option Group)) (n : ℕ) → ((k : ℕ) → k < n → is_lost one k ≡ is_lost other k) → got one log n ≡ got other log n
+pub got_alike : (one other : List Burst) (log : List (Option Group)) (n : ℕ) → ((k : ℕ) → k < n → is_lost one k ≡ is_lost other k) → got one log n ≡ got other log n
 got_alike one other log zero alike = got-none one log ∙ sym (got-none other log)
 got_alike one other log (suc n) alike =
     let older : got one log n ≡ got other log n = got_alike one other log n (λ k less. alike k (omega (arith, less))) in
@@ -36,32 +36,32 @@ got_alike one other log (suc n) alike =
     ∙ sym (got-more other log n) ∙ ap (got other log) (add-one n)
 
 -- a burst that begins in slot n, up to it
-pub got_before : (burst : Burst) (log : List (Option Group)) (n : ℕ) → n ≤ burst.first → got (Some burst) log n ≡ got None log n
-got_before burst log n less = got_alike (Some burst) None log n (λ k before. not_lost_before burst k (omega (arith, less, before)))
+pub got_before : (burst : Burst) (log : List (Option Group)) (n : ℕ) → n ≤ burst.first → got (burst ∷ []) log n ≡ got [] log n
+got_before burst log n less = got_alike (burst ∷ []) [] log n (λ k before. not_lost_before burst k (omega (arith, less, before)))
 
 -- bursts that begin together, up to slot n, which is behind neither by more than one
-pub got_together : (one other : Burst) (log : List (Option Group)) (n : ℕ) → one.first ≡ other.first → n ≤ one.last + 1 → n ≤ other.last + 1 → got (Some one) log n ≡ got (Some other) log n
-got_together one other log n same one_more other_more = got_alike (Some one) (Some other) log n alike
+pub got_together : (one other : Burst) (log : List (Option Group)) (n : ℕ) → one.first ≡ other.first → n ≤ one.last + 1 → n ≤ other.last + 1 → got (one ∷ []) log n ≡ got (other ∷ []) log n
+got_together one other log n same one_more other_more = got_alike (one ∷ []) (other ∷ []) log n alike
   where
-    alike : (k : ℕ) → k < n → is_lost (Some one) k ≡ is_lost (Some other) k
+    alike : (k : ℕ) → k < n → is_lost (one ∷ []) k ≡ is_lost (other ∷ []) k
     alike k less = by_first (cases_lt k one.first)
       where
-        by_first : (k < one.first) ⊎ (one.first ≤ k) → is_lost (Some one) k ≡ is_lost (Some other) k
+        by_first : (k < one.first) ⊎ (one.first ≤ k) → is_lost (one ∷ []) k ≡ is_lost (other ∷ []) k
         by_first (inl before) = not_lost_before one k before ∙ sym (not_lost_before other k (omega (arith, same, before)))
         by_first (inr from) =
             lost_inside one k from (omega (arith, less, one_more)) ∙ sym (lost_inside other k (omega (arith, same, from)) (omega (arith, less, other_more)))
 
 -- the next slot, behind the burst and in it
-pub heard_next : (burst : Burst) (log : List (Option Group)) (n : ℕ) (group : Option Group) → burst.last < n → group ≡ received None log n → group ∷ got (Some burst) log n ≡ got (Some burst) log (n + 1)
+pub heard_next : (burst : Burst) (log : List (Option Group)) (n : ℕ) (group : Option Group) → burst.last < n → group ≡ received [] log n → group ∷ got (burst ∷ []) log n ≡ got (burst ∷ []) log (n + 1)
 heard_next burst log n group behind is =
-    ap (λ (g : Option Group). g ∷ got (Some burst) log n) (is ∙ received_alike None (Some burst) log n (sym (not_lost_behind burst n behind))) ∙ sym (got-more (Some burst) log n)
+    ap (λ (g : Option Group). g ∷ got (burst ∷ []) log n) (is ∙ received_alike [] (burst ∷ []) log n (sym (not_lost_behind burst n behind))) ∙ sym (got-more (burst ∷ []) log n)
 
-pub lost_next : (burst : Burst) (log : List (Option Group)) (n : ℕ) → burst.first ≤ n → n ≤ burst.last → None ∷ got (Some burst) log n ≡ got (Some burst) log (n + 1)
+pub lost_next : (burst : Burst) (log : List (Option Group)) (n : ℕ) → burst.first ≤ n → n ≤ burst.last → None ∷ got (burst ∷ []) log n ≡ got (burst ∷ []) log (n + 1)
 lost_next burst log n from to =
-    let nothing : None ≡ received (Some burst) log n = rw (lost_inside burst n from to) refl in
-    ap (λ (g : Option Group). g ∷ got (Some burst) log n) nothing ∙ sym (got-more (Some burst) log n)
+    let nothing : None ≡ received (burst ∷ []) log n = rw (lost_inside burst n from to) refl in
+    ap (λ (g : Option Group). g ∷ got (burst ∷ []) log n) nothing ∙ sym (got-more (burst ∷ []) log n)
 
-pub got_long : (lost : Option Burst) (log : List (Option Group)) (n : ℕ) → length (got lost log n) ≡ n
+pub got_long : (lost : List Burst) (log : List (Option Group)) (n : ℕ) → length (got lost log n) ≡ n
 got_long lost log zero = ap length (got-none lost log)
 got_long lost log (suc n) =
     let older = got_long lost log n in

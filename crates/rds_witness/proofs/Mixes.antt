@@ -77,74 +77,67 @@ contains_more xs y x (k, less, is) = (suc k, omega (arith, less), is)
 
 -- ---- lines
 
-module _ (t : Tuning) (log : List (Option Group)) (burst : Burst) (slot : ℕ) where
+module _ (t : Tuning) (ahead : ℕ) (log : List (Option Group)) (lost : List Burst) (words : List ℕ) (slot : ℕ) where
   -- before the first kind
-  no_lines : (lines : List ℕ) → lines ≡ [] → AreSomeMixLines 0 t log burst slot lines
-  no_lines lines none = record { things = []; mixes = All-nil (IsMix t log burst slot); all = λ thing below is. absurd (omega (arith, below)); are = none }
+  no_lines : (lines : List ℕ) → lines ≡ [] → AreSomeMixLines 0 t ahead log lost words slot lines
+  no_lines lines none = record { things = []; mixes = All-nil (IsMix t ahead log lost slot); all = λ thing below is. absurd (omega (arith, below)); are = none }
 
   -- after the last kind
-  pub all_kinds : (before after : List ℕ) → before ≡ [] → (AreSomeMixLines 0 t log burst slot before → AreSomeMixLines 4 t log burst slot after) → AreMixLines t log burst slot after
+  pub all_kinds : (before after : List ℕ) → before ≡ [] → (AreSomeMixLines 0 t ahead log lost words slot before → AreSomeMixLines 4 t ahead log lost words slot after) → AreMixLines t ahead log lost words slot after
   all_kinds before after none adds =
       let some = adds (no_lines before none) in
       record { things = some.things; mixes = some.mixes; all = λ thing is. some.all thing (kinds_below thing) is; are = some.are }
 
-  -- a burst that is not before the slot makes no mix
-  pub no_place : (lines : List ℕ) → lines ≡ [] → ((thing : Thing) → IsMix t log burst slot thing → ⊥) → AreMixLines t log burst slot lines
-  no_place lines none not = record { things = []; mixes = All-nil (IsMix t log burst slot); all = λ thing is. absurd (not thing is); are = none }
+  -- a slot without a mix
+  pub no_mixes : ((thing : Thing) → IsMix t ahead log lost slot thing → ⊥) → AreMixLines t ahead log lost words slot []
+  no_mixes not = record { things = []; mixes = All-nil (IsMix t ahead log lost slot); all = λ thing is. absurd (not thing is); are = refl }
 
   -- no thing of the kind is a mix
-  pub adds_none : (n : ℕ) (lines : List ℕ) → ((thing : Thing) → kind_of thing ≡ n → IsMix t log burst slot thing → ⊥) → AreSomeMixLines n t log burst slot lines → AreSomeMixLines (n + 1) t log burst slot lines
+  pub adds_none : (n : ℕ) (lines : List ℕ) → ((thing : Thing) → kind_of thing ≡ n → IsMix t ahead log lost slot thing → ⊥) → AreSomeMixLines n t ahead log lost words slot lines → AreSomeMixLines (n + 1) t ahead log lost words slot lines
   adds_none n lines none had = record { things = had.things; mixes = had.mixes; all = all; are = had.are }
     where
-      all : (thing : Thing) → kind_of thing < n + 1 → IsMix t log burst slot thing → Contains had.things thing
+      all : (thing : Thing) → kind_of thing < n + 1 → IsMix t ahead log lost slot thing → Contains had.things thing
       all thing below is = elim (cases_lt (kind_of thing) n) [
         | inl older ↦ had.all thing older is
         | inr here ↦ absurd (none thing (omega arith) is)
       ]
 
-  module _ (before after : ShownView) (around : AreAround t log burst slot before after) where
-    has_after : (thing : Thing) → IsMix t log burst slot thing → Has after thing
-    has_after thing is = subst (λ (v : ShownView). Has v thing) (same_view t (got (Some burst) log (slot + 1)) is.new.after after is.new.is around.is) is.new.has
+  module _ (before after : ShownView) (around : AreAround t log lost slot before after) where
+    has_after : (thing : Thing) → IsMix t ahead log lost slot thing → Has after thing
+    has_after thing is = subst (λ (v : ShownView). Has v thing) (same_view t (got lost log (slot + 1)) is.new.after after is.new.is around.is) is.new.has
 
-    not_before : (thing : Thing) → IsMix t log burst slot thing → Shows before thing → ⊥
-    not_before thing is = subst (λ (v : ShownView). Shows v thing → ⊥) (same_view t (got (Some burst) log slot) is.new.before before is.new.was around.was) is.new.not_shown
+    not_before : (thing : Thing) → IsMix t ahead log lost slot thing → Shows before thing → ⊥
+    not_before thing is = subst (λ (v : ShownView). Shows v thing → ⊥) (same_view t (got lost log slot) is.new.before before is.new.was around.was) is.new.not_shown
 
     -- the view has no thing of the kind
-    pub adds_nothing : (n : ℕ) (lines : List ℕ) → ((thing : Thing) → kind_of thing ≡ n → Has after thing → ⊥) → AreSomeMixLines n t log burst slot lines → AreSomeMixLines (n + 1) t log burst slot lines
+    pub adds_nothing : (n : ℕ) (lines : List ℕ) → ((thing : Thing) → kind_of thing ≡ n → Has after thing → ⊥) → AreSomeMixLines n t ahead log lost words slot lines → AreSomeMixLines (n + 1) t ahead log lost words slot lines
     adds_nothing n lines none = adds_none n lines (λ thing kind is. none thing kind (has_after thing is))
 
     -- the thing of the kind is no mix
-    pub adds_no_mix : (thing : Thing) (lines : List ℕ) → Has after thing → Shows before thing ⊎ (NeverShows t log (until t.dwell log slot) thing → ⊥) → AreSomeMixLines (kind_of thing) t log burst slot lines → AreSomeMixLines (kind_of thing + 1) t log burst slot lines
+    pub adds_no_mix : (thing : Thing) (lines : List ℕ) → Has after thing → Shows before thing ⊎ (NeverShows t log (until ahead log slot) thing → ⊥) → AreSomeMixLines (kind_of thing) t ahead log lost words slot lines → AreSomeMixLines (kind_of thing + 1) t ahead log lost words slot lines
     adds_no_mix thing lines has isnt = adds_none (kind_of thing) lines (λ other kind is.
-        not (subst (IsMix t log burst slot) (one_thing after other thing kind (has_after other is) has) is))
+        not (subst (IsMix t ahead log lost slot) (one_thing after other thing kind (has_after other is) has) is))
       where
-        not : IsMix t log burst slot thing → ⊥
+        not : IsMix t ahead log lost slot thing → ⊥
         not is = elim isnt [
           | inl shown ↦ not_before thing is shown
           | inr never ↦ never is.never
         ]
 
-    -- the line of a mix, part by part
-    pub adds_mix : (thing : Thing) (lines a b c more : List ℕ) → a ≡ lines ++ codes "lose " → b ≡ a ++ burst_text burst → c ≡ b ++ codes ": "
-        → more ≡ c ++ shown_line slot thing → Has after thing → IsMix t log burst slot thing → AreSomeMixLines (kind_of thing) t log burst slot lines → AreSomeMixLines (kind_of thing + 1) t log burst slot more
-    adds_mix thing lines a b c more first second third fourth has is had =
-        let lose = codes "lose " in
-        let text = burst_text burst in
-        let colon = codes ": " in
+    -- the line of a mix, after the words
+    pub adds_mix : (thing : Thing) (lines a more : List ℕ) → a ≡ lines ++ words → more ≡ a ++ shown_line slot thing → Has after thing → IsMix t ahead log lost slot thing
+        → AreSomeMixLines (kind_of thing) t ahead log lost words slot lines → AreSomeMixLines (kind_of thing + 1) t ahead log lost words slot more
+    adds_mix thing lines a more first second has is had =
         let shown = shown_line slot thing in
-        let whole : more ≡ lines ++ mix_line burst slot thing =
-        fourth ∙ ap (λ (l : List ℕ). l ++ shown) (third ∙ ap (λ (l : List ℕ). l ++ colon) (second ∙ ap (λ (l : List ℕ). l ++ text) first))
-        ∙ ap (λ (l : List ℕ). (l ++ colon) ++ shown) (append_assoc lines lose text)
-        ∙ ap (λ (l : List ℕ). l ++ shown) (append_assoc lines (lose ++ text) colon)
-        ∙ append_assoc lines ((lose ++ text) ++ colon) shown in
+        let whole : more ≡ lines ++ mix_line words slot thing = second ∙ ap (λ (l : List ℕ). l ++ shown) first ∙ append_assoc lines words shown in
         record {
           things = thing ∷ had.things;
-          mixes = All-cons (IsMix t log burst slot) thing had.things is had.mixes;
+          mixes = All-cons (IsMix t ahead log lost slot) thing had.things is had.mixes;
           all = all;
-          are = whole ∙ ap (λ (l : List ℕ). l ++ mix_line burst slot thing) had.are;
+          are = whole ∙ ap (λ (l : List ℕ). l ++ mix_line words slot thing) had.are;
         }
       where
-        all : (other : Thing) → kind_of other < kind_of thing + 1 → IsMix t log burst slot other → Contains (thing ∷ had.things) other
+        all : (other : Thing) → kind_of other < kind_of thing + 1 → IsMix t ahead log lost slot other → Contains (thing ∷ had.things) other
         all other below also = elim (cases_lt (kind_of other) (kind_of thing)) [
           | inl older ↦ contains_more had.things thing other (had.all other older also)
           | inr here ↦ subst (Contains (thing ∷ had.things)) (one_thing after thing other (omega arith) has (has_after other also)) (contains_here had.things thing)

@@ -75,7 +75,7 @@ same_run pi m old new group input young flag was is h (x ∷ k) heard now =
     ∙ ap (λ (l : List (Option Message)). begins_in (run_at text_fragment m 0 (x ∷ l))) (sym same_now)
 
 -- the same over the slots of a log
-pub same_run_of_log : (pi m n : ℕ) (log : List (Option Group)) (old new : ReceiverState) → old.display.text.age + 1 < old.display.dwell → old.display.text.flag ≡ new.display.text.flag → StandsAt (tuned pi m) old (got None log n) → StandsAt (tuned pi m) new (got None log (n + 1))
-    → (h k : List (Option Message)) → AreHeard pi (got None log n) h → AreHeard pi (got None log (n + 1)) k → begins_in (run_at text_fragment m 0 h) ≡ begins_in (run_at text_fragment m 0 k)
+pub same_run_of_log : (pi m n : ℕ) (log : List (Option Group)) (old new : ReceiverState) → old.display.text.age + 1 < old.display.dwell → old.display.text.flag ≡ new.display.text.flag → StandsAt (tuned pi m) old (got [] log n) → StandsAt (tuned pi m) new (got [] log (n + 1))
+    → (h k : List (Option Message)) → AreHeard pi (got [] log n) h → AreHeard pi (got [] log (n + 1)) k → begins_in (run_at text_fragment m 0 h) ≡ begins_in (run_at text_fragment m 0 k)
 same_run_of_log pi m n log old new young flag was is h k heard now =
-    same_run pi m old new (received None log n) (got None log n) young flag was (subst (StandsAt (tuned pi m) new) (got-more None log n) is) h k heard (subst (λ (l : List (Option Group)). AreHeard pi l k) (got-more None log n) now)
+    same_run pi m old new (received [] log n) (got [] log n) young flag was (subst (StandsAt (tuned pi m) new) (got-more [] log n) is) h k heard (subst (λ (l : List (Option Group)). AreHeard pi l k) (got-more [] log n) now)

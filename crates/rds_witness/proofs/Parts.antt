@@ -159,13 +159,13 @@ as_many why t [] (display ∷ older) are = absurd are
 as_many why t (slot ∷ before) [] are = absurd are
 as_many why t (slot ∷ before) (display ∷ older) are = (let rest = as_many why t before older are.1 in omega (arith, rest))
 
-got_length : (lost : Option Burst) (log : List (Option Group)) (n : ℕ) → length (got lost log n) ≡ n
+got_length : (lost : List Burst) (log : List (Option Group)) (n : ℕ) → length (got lost log n) ≡ n
 unfolding got
 got_length lost log zero = refl
 got_length lost log (suc n) = (let rest = got_length lost log n in omega (arith, rest))
 
 -- the lines of the changes up to any slot behind the one in which the thing is new
-prints_by : (why : Bool) (t : Tuning) (log : List (Option Group)) (lost : Option Burst) (slot : ℕ) (thing : Thing) (n : ℕ) (displays : List Display) → IsNew t log lost slot thing → slot < n
+prints_by : (why : Bool) (t : Tuning) (log : List (Option Group)) (lost : List Burst) (slot : ℕ) (thing : Thing) (n : ℕ) (displays : List Display) → IsNew t log lost slot thing → slot < n
     → AreDisplays why t (got lost log n) displays → HasLine (shown_line slot thing) (changes_of displays)
 unfolding got
 prints_by why t log lost slot thing zero displays new less are = absurd (omega arith)
@@ -189,6 +189,6 @@ prints_by why t log lost slot thing (suc n) (d ∷ older) new less are =
           line_right line (changes_of older) (change (slot_stamp (length older)) d.whys (newest older) d.view) (after_changes older) (subst (λ (k : ℕ). HasLine line (change (slot_stamp k) d.whys (newest older) d.view)) (sym place) changed))
     ]
 
-pub prints : (why : Bool) (t : Tuning) (log : List (Option Group)) (burst : Burst) (slot : ℕ) (thing : Thing) (displays : List Display) → IsMix t log burst slot thing
-    → AreDisplays why t (got (Some burst) log (length log)) displays → HasLine (shown_line slot thing) (changes_of displays)
-prints why t log burst slot thing displays mix are = prints_by why t log (Some burst) slot thing (length log) displays mix.new mix.place.inside are
+pub prints : (why : Bool) (t : Tuning) (ahead : ℕ) (log : List (Option Group)) (lost : List Burst) (slot : ℕ) (thing : Thing) (displays : List Display) → IsMix t ahead log lost slot thing
+    → AreDisplays why t (got lost log (length log)) displays → HasLine (shown_line slot thing) (changes_of displays)
+prints why t ahead log lost slot thing displays mix are = prints_by why t log lost slot thing (length log) displays mix.new mix.inside are

@@ -1,5 +1,5 @@
 -- Why a slot has no mix if receivers that hold all that others hold show nothing else than one that loses nothing.
-use Rattle.std.proofs.Common.{◌≡◌, ◌∙◌, ◌+◌, ◌<◌, ◌≤◌, ◌∷◌, ℕ, Bool, false, true, List, None, Option, Some, ap, arith, inl, inr, length, refl, subst, sym}
+use Rattle.std.proofs.Common.{[], ◌≡◌, ◌∙◌, ◌+◌, ◌<◌, ◌≤◌, ◌∷◌, ℕ, Bool, false, true, List, None, Option, Some, ap, arith, inl, inr, length, refl, subst, sym}
 use Rattle.std.specs.Prelude.{nat_le, if◌then◌else◌}
 use Rattle.std.proofs.lemmas.List.Elements.{All-contains}
 use Rattle.rds_block.specs.declared.group.Group.{Group}
@@ -18,7 +18,7 @@ use Rattle.rds_receiver.specs.Tags.{cut_by, pair_held, tag_of}
 use Rattle.rds_receiver.specs.Confirmed.{counted}
 use Rattle.rds_witness.specs.Covered.{Covers, IsCovered, IsInputPart}
 use Rattle.rds_witness.specs.Lost.{got}
-use Rattle.rds_witness.specs.Mix.{Has, IsMix, Name, Tag, Text, Thing, until}
+use Rattle.rds_witness.specs.Mix.{Has, IsBurstMix, Name, Tag, Text, Thing, until}
 use Rattle.rds_witness.specs.Part.{IsPairPart}
 use Rattle.rds_witness.specs.Search.{HasViews, IsReplaced, IsSeenBefore, IsTagOfRun, ShowOnlySeen, ShowsOnlySeen}
 use Rattle.rds_witness.specs.declared.burst.Burst.{Burst}
@@ -93,7 +93,7 @@ module _ (t : Tuning) (one other : List (Option Group)) (part : IsInputPart t on
 -- ---- the receiver that loses nothing
 
 -- it shows its own things in this slot
-own_tag : (t : Tuning) (log : List (Option Group)) (n slots : ℕ) (which : Which) (class : ℕ) (piece : List ℕ) (view : ShownView) → n < slots → (is : IsView t (got None log (n + 1)) view)
+own_tag : (t : Tuning) (log : List (Option Group)) (n slots : ℕ) (which : Which) (class : ℕ) (piece : List ℕ) (view : ShownView) → n < slots → (is : IsView t (got [] log (n + 1)) view)
     → tag_of which view.text (pair_held t.dwell t.first (counted t is.0)) ≡ Some (class, piece) → IsTagOfRun t log slots class piece
 own_tag t log n slots which class piece view less is has =
     let c = cuts which view.text (pair_held t.dwell t.first (counted t is.0)) class piece has in
@@ -110,7 +110,7 @@ own_tag t log n slots which class piece view less is has =
       cut = c.cut;
     }
 
-pub own_things : (t : Tuning) (log : List (Option Group)) (n slots : ℕ) (view : ShownView) (thing : Thing) → n < slots → IsView t (got None log (n + 1)) view → Has view thing → IsSeenBefore t log slots thing
+pub own_things : (t : Tuning) (log : List (Option Group)) (n slots : ℕ) (view : ShownView) (thing : Thing) → n < slots → IsView t (got [] log (n + 1)) view → Has view thing → IsSeenBefore t log slots thing
 own_things t log n slots view (Text x) less is has = record { slot = n; view = view; before = less; is = is; shows = has }
 own_things t log n slots view (Name x) less is has = record { slot = n; view = view; before = less; is = is; shows = has }
 own_things t log n slots view (Tag One class piece) less is has =
@@ -121,29 +121,29 @@ own_things t log n slots view (Tag Two class piece) less is has =
 -- ---- a slot without a mix
 
 -- a mix that is seen before is a tag of a replaced pair
-seen_mix : (t : Tuning) (log : List (Option Group)) (burst : Burst) (n : ℕ) (thing : Thing) → IsMix t log burst n thing → IsSeenBefore t log (until t.dwell log n) thing → IsReplaced t log (until t.dwell log n) thing
-seen_mix t log burst n (Text x) mix seen = mix.never seen.slot seen.view seen.before seen.is seen.shows
-seen_mix t log burst n (Name x) mix seen = mix.never seen.slot seen.view seen.before seen.is seen.shows
+seen_mix : (t : Tuning) (log : List (Option Group)) (burst : Burst) (n : ℕ) (thing : Thing) → IsBurstMix t log burst n thing → IsSeenBefore t log (until t.dwell log n) thing → IsReplaced t log (until t.dwell log n) thing
+seen_mix t log burst n (Text x) mix seen = mix.mix.never seen.slot seen.view seen.before seen.is seen.shows
+seen_mix t log burst n (Name x) mix seen = mix.mix.never seen.slot seen.view seen.before seen.is seen.shows
 seen_mix t log burst n (Tag which class piece) mix seen = seen
 
 pub no_mix : (t : Tuning) (log : List (Option Group)) (n slots : ℕ) → slots ≡ until t.dwell log n → n < slots → HasViews t log (length log) → (whole : Lossy) (receivers : List Lossy)
-    → ((input : List (Option Group)) → length input ≡ n + 1 → Covers t input whole → IsInputPart t input (got None log (n + 1)))
-    → ((burst : Burst) → burst.first ≤ burst.last → burst.last + 1 < n + 1 → IsCovered t (whole ∷ receivers) (got (Some burst) log (n + 1)))
-    → ShowOnlySeen t log slots receivers → (burst : Burst) (thing : Thing) → IsMix t log burst n thing → IsReplaced t log (until t.dwell log n) thing
+    → ((input : List (Option Group)) → length input ≡ n + 1 → Covers t input whole → IsInputPart t input (got [] log (n + 1)))
+    → ((burst : Burst) → burst.first ≤ burst.last → burst.last + 1 < n + 1 → IsCovered t (whole ∷ receivers) (got (burst ∷ []) log (n + 1)))
+    → ShowOnlySeen t log slots receivers → (burst : Burst) (thing : Thing) → IsBurstMix t log burst n thing → IsReplaced t log (until t.dwell log n) thing
 no_mix t log n slots is soon views whole receivers same_whole hold show burst thing mix =
     seen_mix t log burst n thing mix (subst (λ (u : ℕ). IsSeenBefore t log u thing) is
-    (by_first t whole receivers (got (Some burst) log (n + 1)) (IsSeenBefore t log slots thing) (hold burst mix.place.order (let behind = mix.place.before in omega (arith, behind))) by_whole by_other))
+    (by_first t whole receivers (got (burst ∷ []) log (n + 1)) (IsSeenBefore t log slots thing) (hold burst mix.place.order (let behind = mix.place.before in omega (arith, behind))) by_whole by_other))
   where
-    by_whole : Covers t (got (Some burst) log (n + 1)) whole → IsSeenBefore t log slots thing
+    by_whole : Covers t (got (burst ∷ []) log (n + 1)) whole → IsSeenBefore t log slots thing
     by_whole covers =
         let (view, here) = views n mix.place.inside in
-        own_things t log n slots view thing soon here (view_part t (got (Some burst) log (n + 1)) (got None log (n + 1)) (same_whole (got (Some burst) log (n + 1)) (got_long (Some burst) log (n + 1)) covers) mix.new.after view mix.new.is here thing mix.new.has)
+        own_things t log n slots view thing soon here (view_part t (got (burst ∷ []) log (n + 1)) (got [] log (n + 1)) (same_whole (got (burst ∷ []) log (n + 1)) (got_long (burst ∷ []) log (n + 1)) covers) mix.mix.new.after view mix.mix.new.is here thing mix.mix.new.has)
 
-    by_other : IsCovered t receivers (got (Some burst) log (n + 1)) → IsSeenBefore t log slots thing
+    by_other : IsCovered t receivers (got (burst ∷ []) log (n + 1)) → IsSeenBefore t log slots thing
     by_other covered =
         let shows : ShowsOnlySeen t log slots (receiver_stored covered.by.receiver) = All-contains (λ s. ShowsOnlySeen t log slots (receiver_stored s.receiver)) receivers covered.by show covered.is_there in
         let only = shows covered.covers.other covered.covers.stands in
-        only.seen thing (view_part t (got (Some burst) log (n + 1)) covered.covers.other covered.covers.part mix.new.after only.view mix.new.is only.is thing mix.new.has)
+        only.seen thing (view_part t (got (burst ∷ []) log (n + 1)) covered.covers.other covered.covers.part mix.mix.new.after only.view mix.mix.new.is only.is thing mix.mix.new.has)
 
 pub now_before_until : (dwell : ℕ) (log : List (Option Group)) (n : ℕ) → 0 < dwell → n < length log → n < until dwell log n
 now_before_until dwell log n some inside = by_end (nat_le (n + dwell) (length log))

@@ -8,6 +8,7 @@ pub mod Covered
 pub mod Search
 -- The output lines, and the promise of the call.
 pub mod Lines
+pub mod LossLines
 pub mod SomeLines
 pub mod Candidates
 pub mod Witness

@@ -8,7 +8,7 @@ use Rattle.rds_fields.specs.declared.pair.Which.{Which}
 use Rattle.rds_fields.specs.declared.pair.Which.TheVariants.{One, Two}
 use Rattle.rds_receiver.specs.Receipts.{Tuning}
 use Rattle.rds_view_lines.specs.Output.{line_of, quoted, slot_stamp, tag_content}
-use Rattle.rds_witness.specs.Mix.{IsMix, Name, Tag, Text, Thing}
+use Rattle.rds_witness.specs.Mix.{IsMix, IsPlace, Name, Tag, Text, Thing}
 use Rattle.rds_witness.specs.Search.{NoMixes, NoMixesIn}
 use Rattle.rds_witness.specs.declared.burst.Burst.{Burst}
 
@@ -28,22 +28,26 @@ abbrev pub burst_text : Burst → List ℕ
 burst_text burst =
     if burst.first == burst.last then decimal burst.first else decimal burst.first ++ codes "-" ++ decimal burst.last
 
--- the slots to lose, and the line of `decode` after that
-abbrev pub mix_line : Burst → ℕ → Thing → List ℕ
-mix_line burst slot thing = codes "lose " ++ burst_text burst ++ codes ": " ++ shown_line slot thing
+-- the words that name the slots to lose
+abbrev pub lose_words : Burst → List ℕ
+lose_words burst = codes "lose " ++ burst_text burst ++ codes ": "
+
+-- the line of a mix: these words, and the line of `decode`
+abbrev pub mix_line : List ℕ → ℕ → Thing → List ℕ
+mix_line words slot thing = words ++ shown_line slot thing
 
 -- the lines of mixes, the newest first in the list
-abbrev pub mix_lines : Burst → ℕ → List Thing → List ℕ
-mix_lines burst slot [] = []
-mix_lines burst slot (thing ∷ older) = mix_lines burst slot older ++ mix_line burst slot thing
+abbrev pub mix_lines : List ℕ → ℕ → List Thing → List ℕ
+mix_lines words slot [] = []
+mix_lines words slot (thing ∷ older) = mix_lines words slot older ++ mix_line words slot thing
 
--- these are lines of mixes, and each mix in this slot, with this burst lost, has its line
-pub record AreMixLines (t : Tuning) (log : List (Option Group)) (burst : Burst) (slot : ℕ)
-    (lines : List ℕ) : Type 0 where
+-- these are lines of mixes, and each mix in this slot, with these slots lost, has its line
+pub record AreMixLines (t : Tuning) (ahead : ℕ) (log : List (Option Group)) (lost : List Burst) (words : List ℕ)
+    (slot : ℕ) (lines : List ℕ) : Type 0 where
   pub things : List Thing
-  pub mixes : All (IsMix t log burst slot) things
-  pub all : (thing : Thing) → IsMix t log burst slot thing → Contains things thing
-  pub are : lines ≡ mix_lines burst slot things
+  pub mixes : All (IsMix t ahead log lost slot) things
+  pub all : (thing : Thing) → IsMix t ahead log lost slot thing → Contains things thing
+  pub are : lines ≡ mix_lines words slot things
 
 abbrev pub no_witness : List ℕ
 no_witness = codes "no witness found with one burst lost\n"
@@ -57,7 +61,8 @@ no_witness_up_to slot = codes "no witness found with one burst lost up to slot "
 -- that the station replaced.
 abbrev pub IsAnswer : Tuning → List (Option Group) → Bool → List ℕ → Type 0
 IsAnswer t log true written =
-    (burst : Burst) × (slot : ℕ) × AreMixLines t log burst slot written × (written ≢ []) × NoMixesIn t log slot
+    (burst : Burst) × (slot : ℕ) × IsPlace burst slot log
+    × AreMixLines t t.dwell log (burst ∷ []) (lose_words burst) slot written × (written ≢ []) × NoMixesIn t log slot
 IsAnswer t log false written =
     ((written ≡ no_witness) × NoMixes t log)
     ⊎ ((slot : ℕ) × (written ≡ no_witness_up_to slot) × NoMixesIn t log slot)

@@ -1,6 +1,7 @@
--- When the view of a receiver has a mix: a receiver that lost a burst newly shows a thing, and a receiver that lost
--- nothing does not show it in any slot up to a dwell later.
-use Rattle.std.specs.Prelude.{◌≡◌, ◌⊎◌, ◌≤◌, ◌<◌, ◌+◌, ℕ, List, Option, None, Some, length, nat_le, if◌then◌else◌}
+-- When the view of a receiver has a mix: a receiver that lost some slots newly shows a thing, and a receiver that lost
+-- nothing does not show it in any slot up to some slots later.
+use Rattle.std.specs.Prelude.{◌≡◌, ◌⊎◌, ◌≤◌, ◌<◌, ◌+◌, ◌∷◌, [], ℕ, List, Option, Some, length, nat_le}
+use Rattle.std.specs.Prelude.{if◌then◌else◌}
 use Rattle.rds_block.specs.declared.group.Group.{Group}
 use Rattle.rds_fields.specs.declared.pair.Which.{Which}
 use Rattle.rds_fields.specs.declared.pair.Which.TheVariants.{One, Two}
@@ -29,7 +30,7 @@ Has view (Tag One class piece) = view.one ≡ Some (class, piece)
 Has view (Tag Two class piece) = view.two ≡ Some (class, piece)
 
 -- with these slots lost, the view of slot t has the thing, and that of the slot before does not
-pub record IsNew (t : Tuning) (log : List (Option Group)) (lost : Option Burst) (slot : ℕ)
+pub record IsNew (t : Tuning) (log : List (Option Group)) (lost : List Burst) (slot : ℕ)
     (thing : Thing) : Type 0 where
   pub before : ShownView
   pub after : ShownView
@@ -41,11 +42,26 @@ pub record IsNew (t : Tuning) (log : List (Option Group)) (lost : Option Burst) 
 -- with nothing lost, no view of the first n slots shows the thing
 abbrev pub NeverShows : Tuning → List (Option Group) → ℕ → Thing → Type 0
 NeverShows t log n thing =
-    (slot : ℕ) (view : ShownView) → slot < n → IsView t (got None log (slot + 1)) view → Shows view thing → ⊥
+    (slot : ℕ) (view : ShownView) → slot < n → IsView t (got [] log (slot + 1)) view → Shows view thing → ⊥
 
--- slot + M, or the length of the log if that is less
+-- the number of slots up to `ahead` after the slot, or the length of the log if that is less
 abbrev pub until : ℕ → List (Option Group) → ℕ → ℕ
-until dwell log slot = if nat_le (slot + dwell) (length log) then slot + dwell else length log
+until ahead log slot = if nat_le (slot + ahead) (length log) then slot + ahead else length log
+
+-- the views before and after a slot of the log, with these slots lost
+pub record AreAround (t : Tuning) (log : List (Option Group)) (lost : List Burst) (slot : ℕ)
+    (before after : ShownView) : Type 0 where
+  pub inside : slot < length log
+  pub was : IsView t (got lost log slot) before
+  pub is : IsView t (got lost log (slot + 1)) after
+
+-- with these slots lost the thing is new in a slot of the log, and with nothing lost no slot less than `ahead` later
+-- shows it, nor any slot before
+pub record IsMix (t : Tuning) (ahead : ℕ) (log : List (Option Group)) (lost : List Burst) (slot : ℕ)
+    (thing : Thing) : Type 0 where
+  pub inside : slot < length log
+  pub new : IsNew t log lost slot thing
+  pub never : NeverShows t log (until ahead log slot) thing
 
 -- the burst is before the slot, and the log has both
 pub record IsPlace (burst : Burst) (slot : ℕ) (log : List (Option Group)) : Type 0 where
@@ -53,15 +69,8 @@ pub record IsPlace (burst : Burst) (slot : ℕ) (log : List (Option Group)) : Ty
   pub before : burst.last < slot
   pub inside : slot < length log
 
--- the views before and after the slot, with the burst lost
-pub record AreAround (t : Tuning) (log : List (Option Group)) (burst : Burst) (slot : ℕ)
-    (before after : ShownView) : Type 0 where
+-- the thing is a mix in the slot if this burst before it is lost
+pub record IsBurstMix (t : Tuning) (log : List (Option Group)) (burst : Burst) (slot : ℕ)
+    (thing : Thing) : Type 0 where
   pub place : IsPlace burst slot log
-  pub was : IsView t (got (Some burst) log slot) before
-  pub is : IsView t (got (Some burst) log (slot + 1)) after
-
--- with the burst lost the thing is new in the slot, and with nothing lost no slot up to a dwell later shows it
-pub record IsMix (t : Tuning) (log : List (Option Group)) (burst : Burst) (slot : ℕ) (thing : Thing) : Type 0 where
-  pub place : IsPlace burst slot log
-  pub new : IsNew t log (Some burst) slot thing
-  pub never : NeverShows t log (until t.dwell log slot) thing
+  pub mix : IsMix t t.dwell log (burst ∷ []) slot thing

@@ -1,5 +1,5 @@
 -- A search over all bursts at once (this project's own rule).
-use Rattle.std.specs.Prelude.{◌≡◌, ◌≤◌, ◌<◌, ◌+◌, ◌∷◌, ℕ, All, IsFalse, List, Option, Some, None, length}
+use Rattle.std.specs.Prelude.{◌≡◌, ◌⊎◌, ◌≤◌, ◌<◌, ◌+◌, ◌∷◌, [], ℕ, All, IsFalse, List, Option, Some, None, length}
 use Rattle.rds_block.specs.declared.group.Group.{Group}
 use Rattle.rds_fields.specs.declared.message.Message.{Message}
 use Rattle.rds_fields.specs.declared.pair.Which.{Which}
@@ -15,7 +15,7 @@ use Rattle.rds_receiver.specs.Tags.{cut_by, pair_held}
 use Rattle.rds_receiver.specs.Confirmed.{counted}
 use Rattle.rds_witness.specs.Covered.{IsAt, IsCovered}
 use Rattle.rds_witness.specs.Lost.{got}
-use Rattle.rds_witness.specs.Mix.{Has, IsMix, Name, Shows, Tag, Text, Thing, until}
+use Rattle.rds_witness.specs.Mix.{Has, IsBurstMix, Name, Shows, Tag, Text, Thing, until}
 use Rattle.rds_witness.specs.declared.burst.Burst.{Burst}
 use Rattle.rds_witness.specs.declared.covering.Lossy.{Lossy}
 use Rattle.rds_witness.specs.declared.seen.AllSeen.{AllSeen}
@@ -31,8 +31,8 @@ pub record IsOfRun (t : Tuning) (log : List (Option Group)) (n : ℕ) (pair : Pa
   pub before : slot < n
   pub old : List (Option Message)
   pub new : List (Option Message)
-  pub were : AreHeard t.programme (got None log (slot + 1)) old
-  pub are : AreHeard t.programme (got None log n) new
+  pub were : AreHeard t.programme (got [] log (slot + 1)) old
+  pub are : AreHeard t.programme (got [] log n) new
   pub held : pair_held t.dwell t.first (counted t old) ≡ Some pair
   pub same : begins_in (run_at text_fragment t.dwell t.first (counted t old))
       ≡ begins_in (run_at text_fragment t.dwell t.first (counted t new))
@@ -43,7 +43,7 @@ pub record IsTagOfRun (t : Tuning) (log : List (Option Group)) (n class : ℕ) (
   pub slot : ℕ
   pub before : slot < n
   pub view : ShownView
-  pub is : IsView t (got None log (slot + 1)) view
+  pub is : IsView t (got [] log (slot + 1)) view
   pub text : List ℕ
   pub shown : view.text ≡ Some text
   pub pair : PairFields
@@ -59,7 +59,7 @@ IsReplaced t log n (Tag which class piece) = IsTagOfRun t log n class piece
 
 -- no burst makes a receiver show a mix in the first n slots, except tags of replaced pairs
 abbrev pub NoMixesIn : Tuning → List (Option Group) → ℕ → Type 0
-NoMixesIn t log n = (burst : Burst) (slot : ℕ) (thing : Thing) → slot < n → IsMix t log burst slot thing
+NoMixesIn t log n = (burst : Burst) (slot : ℕ) (thing : Thing) → slot < n → IsBurstMix t log burst slot thing
     → IsReplaced t log (until t.dwell log slot) thing
 
 -- no burst makes a receiver show a mix, except tags of replaced pairs
@@ -70,24 +70,29 @@ NoMixes t log = NoMixesIn t log (length log)
 -- burst up to the newest slot; and receivers that with it hold all that any receiver holds that heard again after its
 -- burst
 pub record StandsAfter (t : Tuning) (log : List (Option Group)) (n : ℕ) (sweep : Sweep) : Type 0 where
-  pub whole : StandsAt t (receiver_stored sweep.whole.receiver) (got None log n)
+  pub whole : StandsAt t (receiver_stored sweep.whole.receiver) (got [] log n)
   pub stored : IsStored sweep.whole.receiver
   pub losing_at : All (IsAt t n) sweep.losing.items
   pub hearing_at : All (IsAt t n) sweep.hearing.items
   pub lose : (burst : Burst) → burst.first ≤ burst.last → burst.last + 1 ≡ n
-      → IsCovered t (sweep.whole ∷ sweep.losing.items) (got (Some burst) log n)
+      → IsCovered t (sweep.whole ∷ sweep.losing.items) (got (burst ∷ []) log n)
   pub hear : (burst : Burst) → burst.first ≤ burst.last → burst.last + 1 < n
-      → IsCovered t (sweep.whole ∷ sweep.hearing.items) (got (Some burst) log n)
+      → IsCovered t (sweep.whole ∷ sweep.hearing.items) (got (burst ∷ []) log n)
 
 -- a receiver that loses nothing shows this in one of the first n slots
 pub record IsShownBefore (t : Tuning) (log : List (Option Group)) (n : ℕ) (thing : Thing) : Type 0 where
   pub slot : ℕ
   pub view : ShownView
   pub before : slot < n
-  pub is : IsView t (got None log (slot + 1)) view
+  pub is : IsView t (got [] log (slot + 1)) view
   pub shows : Shows view thing
 
--- the same, and for a tag: it shows a text of which a pair of its run makes the tag
+-- a view shows the thing, or a receiver that loses nothing shows it in one of the first n slots
+abbrev pub IsKnown : Tuning → List (Option Group) → ℕ → ShownView → Thing → Type 0
+IsKnown t log n view thing = Shows view thing ⊎ IsShownBefore t log n thing
+
+-- a receiver that loses nothing shows the thing in one of the first n slots; and for a tag: it shows a text of which a
+-- pair of its run makes the tag
 abbrev pub IsSeenBefore : Tuning → List (Option Group) → ℕ → Thing → Type 0
 IsSeenBefore t log n (Text x) = IsShownBefore t log n (Text x)
 IsSeenBefore t log n (Name x) = IsShownBefore t log n (Name x)
@@ -96,13 +101,13 @@ IsSeenBefore t log n (Tag which class piece) = IsTagOfRun t log n class piece
 -- the receiver that loses nothing has this state after the slot, and the pair is one of its run of texts
 pub record IsSeen (t : Tuning) (log : List (Option Group)) (seen : Seen) : Type 0 where
   pub inside : seen.slot < length log
-  pub stands : StandsAt t (receiver_stored seen.receiver) (got None log (seen.slot + 1))
+  pub stands : StandsAt t (receiver_stored seen.receiver) (got [] log (seen.slot + 1))
   pub stored : IsStored seen.receiver
   pub pair : (pair : PairFields) → seen.pair ≡ Some pair → IsOfRun t log (seen.slot + 1) pair
 
 -- the receiver that loses nothing has a view in each of the first n slots
 abbrev pub HasViews : Tuning → List (Option Group) → ℕ → Type 0
-HasViews t log n = (slot : ℕ) → slot < n → (view : ShownView) × IsView t (got None log (slot + 1)) view
+HasViews t log n = (slot : ℕ) → slot < n → (view : ShownView) × IsView t (got [] log (slot + 1)) view
 
 abbrev pub AreSeen : Tuning → List (Option Group) → AllSeen → Type 0
 AreSeen t log all = All (IsSeen t log) all.seen.items × HasViews t log (length log)

@@ -16,9 +16,9 @@ kind_of (Tag One class piece) = 2
 kind_of (Tag Two class piece) = 3
 
 -- these are lines of mixes, and each mix of the first n kinds has its line
-pub record AreSomeMixLines (n : ℕ) (t : Tuning) (log : List (Option Group)) (burst : Burst) (slot : ℕ)
-    (lines : List ℕ) : Type 0 where
+pub record AreSomeMixLines (n : ℕ) (t : Tuning) (ahead : ℕ) (log : List (Option Group)) (lost : List Burst)
+    (words : List ℕ) (slot : ℕ) (lines : List ℕ) : Type 0 where
   pub things : List Thing
-  pub mixes : All (IsMix t log burst slot) things
-  pub all : (thing : Thing) → kind_of thing < n → IsMix t log burst slot thing → Contains things thing
-  pub are : lines ≡ mix_lines burst slot things
+  pub mixes : All (IsMix t ahead log lost slot) things
+  pub all : (thing : Thing) → kind_of thing < n → IsMix t ahead log lost slot thing → Contains things thing
+  pub are : lines ≡ mix_lines words slot things

@@ -10,33 +10,44 @@ use Rattle.rds_log.specs.Gather.{GathersAll, GathersNone}
 use Rattle.rds_io.specs.declared.fault.LogFault.{LogFault}
 use Rattle.rds_io.specs.declared.fault.LogFault.TheVariants.{BadLine, BadRow, Read, Write, TooLong, Memory}
 use Rattle.rds_witness.specs.Lines.{IsAnswer}
+use Rattle.rds_witness.specs.LossLines.{IsLossAnswer}
+use Rattle.rds_witness.specs.declared.burst.Burst.{Burst}
 
--- an answer to the log was written
-pub record WroteAnswer (t : Tuning) (log : List (Option Group)) (found : Bool) (w : Traffic) : Type 0 where
+-- an answer was written
+pub record WroteAnswer (Is : Bool → List ℕ → Type 0) (found : Bool) (w : Traffic) : Type 0 where
   pub written : List ℕ
-  pub answer : IsAnswer t log found written
+  pub answer : Is found written
   pub wrote : Appends w.before w.after written
   pub calm : IsCalm w
 
--- the writer failed: some first part of an answer to the log was written
-pub record WrotePart (t : Tuning) (log : List (Option Group)) (w : Traffic) : Type 0 where
+-- the writer failed: some first part of an answer was written
+pub record WrotePart (Is : Bool → List ℕ → Type 0) (w : Traffic) : Type 0 where
   pub found : Bool
   pub written : List ℕ
-  pub answer : IsAnswer t log found written
+  pub answer : Is found written
   pub wrote : AppendsPrefix w.before w.after written
   pub failed : HasFailed w
 
--- the output of the answer to the log
-abbrev pub Answers : Tuning → List (Option Group) → Traffic → Result Bool WriteFault → Type 0
-Answers t log w (Ok found) = WroteAnswer t log found w
-Answers t log w (Err fault) = WrotePart t log w
+-- the output of an answer
+abbrev pub Answers : (Bool → List ℕ → Type 0) → Traffic → Result Bool WriteFault → Type 0
+Answers Is w (Ok found) = WroteAnswer Is found w
+Answers Is w (Err fault) = WrotePart Is w
 
--- the result of `witness`: it read the log to its end and answered it, or came to a fault, which has its cause
+-- the log was read to its end and answered, or a fault came, which has its cause
+abbrev pub AnswersLog : (List (Option Group) → Bool → List ℕ → Type 0) → Traffic → Traffic → Result Bool LogFault
+    → Type 0
+AnswersLog Is r w (Ok found) = (log : List (Option Group)) × GathersAll r log × WroteAnswer (Is log) found w
+AnswersLog Is r w (Err Write) = (log : List (Option Group)) × GathersAll r log × WrotePart (Is log) w
+AnswersLog Is r w (Err Memory) = IsCalm r × PutsNothing w
+AnswersLog Is r w (Err (BadLine n)) = GathersNone (2 ^ 32) r (BadLine n) × PutsNothing w
+AnswersLog Is r w (Err Read) = GathersNone (2 ^ 32) r Read × PutsNothing w
+AnswersLog Is r w (Err TooLong) = GathersNone (2 ^ 32) r TooLong × PutsNothing w
+AnswersLog Is r w (Err (BadRow n)) = ⊥
+
+-- the result of `witness`
 abbrev pub Witnesses : Tuning → Traffic → Traffic → Result Bool LogFault → Type 0
-Witnesses t r w (Ok found) = (log : List (Option Group)) × GathersAll r log × WroteAnswer t log found w
-Witnesses t r w (Err Write) = (log : List (Option Group)) × GathersAll r log × WrotePart t log w
-Witnesses t r w (Err Memory) = IsCalm r × PutsNothing w
-Witnesses t r w (Err (BadLine n)) = GathersNone (2 ^ 32) r (BadLine n) × PutsNothing w
-Witnesses t r w (Err Read) = GathersNone (2 ^ 32) r Read × PutsNothing w
-Witnesses t r w (Err TooLong) = GathersNone (2 ^ 32) r TooLong × PutsNothing w
-Witnesses t r w (Err (BadRow n)) = ⊥
+Witnesses t r w result = AnswersLog (IsAnswer t) r w result
+
+-- the result of `witness` with given lost slots
+abbrev pub Loses : Tuning → ℕ → List Burst → Traffic → Traffic → Result Bool LogFault → Type 0
+Loses t ahead lost r w result = AnswersLog (IsLossAnswer t ahead lost) r w result

@@ -1,5 +1,5 @@
 //! Checks whether a receiver shows a mix.
-ghost use Rattle.std.specs.Prelude.{◌≡◌, ◌<◌, ◌≤◌, ◌+◌, ◌↔◌, IsTrue, None, Option, Some, length};
+ghost use Rattle.std.specs.Prelude.{◌≡◌, ◌<◌, ◌≤◌, ◌+◌, ◌↔◌, [], IsTrue, Option, Some, length};
 ghost use Rattle.rds_log.specs.LogWrites.{tuned};
 ghost use Rattle.rds_receiver.specs.StandsAt.{StandsAt};
 ghost use Rattle.rds_receiver.specs.Borrowed.{view_of};
@@ -18,11 +18,11 @@ pub(crate) fn receiver_before(
     log: &[Option<Blocks>],
     pi: u16,
     dwell: Dwell,
-    lost: Option<Burst>,
+    lost: &[Burst],
     slot: usize,
 ) -> Receiver
     requires { slot ≤ length log.now }
-    ensures { StandsAt (tuned pi dwell) result (got lost log.now slot) }
+    ensures { StandsAt (tuned pi dwell) result (got lost.now log.now slot) }
 {
     let mut receiver = Receiver::new(pi, dwell);
     for n in 0..slot {
@@ -44,7 +44,7 @@ pub(crate) fn is_never_shown(
 {
     let mut receiver = Receiver::new(pi, dwell);
     for n in 0..slots {
-        receiver.slot_blocks(received(log, None, n));
+        receiver.slot_blocks(received(log, &[], n));
         if shows(receiver.view(), thing) {
             return false;
         }
@@ -52,13 +52,13 @@ pub(crate) fn is_never_shown(
     true
 }
 
-/// Returns slot + M, or the length of the log if that is less.
-pub(crate) fn slots_until(log: &[Option<Blocks>], dwell: Dwell, slot: usize) -> usize
+/// Returns the number of slots up to `ahead` after the slot, or the length of the log if that is less.
+pub(crate) fn slots_until(log: &[Option<Blocks>], ahead: Dwell, slot: usize) -> usize
     requires { slot < length log.now }
-    ensures value { result ≡ until dwell log.now slot }
+    ensures value { result ≡ until ahead log.now slot }
     ensures within { result ≤ length log.now }
 {
-    let slots = usize::from(dwell.get());
+    let slots = usize::from(ahead.get());
     if slots <= log.len() - slot {
         slot + slots
     } else {

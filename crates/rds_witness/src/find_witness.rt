@@ -12,7 +12,6 @@ ghost use Rattle.rds_witness.specs.Lines.{IsAnswer, no_witness_up_to};
 ghost use Rattle.rds_witness.specs.Search.{IsSure};
 ghost use Rattle.rds_witness.specs.Witness.{Answers, Witnesses};
 
-use crate::candidate::Candidate;
 use crate::mix_lines::{ROOM, push_mixes};
 use crate::search::{Found, find};
 use rds_block::Blocks;
@@ -79,7 +78,7 @@ fn answer<W: TellingWrite>(
     writer: &mut W,
 ) -> Result<bool, WriteFault>
     ensures { IsSure (tuned pi dwell) log.now found
-        → Answers (tuned pi dwell) log.now (traffic W.contents W.failures writer.old writer.new) result }
+        → Answers (IsAnswer (tuned pi dwell) log.now) (traffic W.contents W.failures writer.old writer.new) result }
 {
     let mut lines = Lines::new();
     let is_found = push_answer(log, pi, dwell, found, &mut lines);
@@ -100,14 +99,7 @@ fn push_answer(
 {
     match found {
         Found::Doubt(burst, slot) => {
-            let candidate = Candidate {
-                log,
-                pi,
-                dwell,
-                burst,
-                slot,
-            };
-            push_mixes(&candidate, lines);
+            push_mixes(log, pi, dwell, burst, slot, lines);
             if !lines.bytes().is_empty() {
                 return true;
             }

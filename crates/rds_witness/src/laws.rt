@@ -1,5 +1,5 @@
 //! The laws of witnesses.
-ghost use Rattle.std.specs.Prelude.{◌≡◌, ◌<◌, ◌∷◌, ℕ, Bool, List, None, Option, Some, length, reverse};
+ghost use Rattle.std.specs.Prelude.{◌≡◌, ◌<◌, ◌∷◌, [], ℕ, Bool, List, Option, Some, length, reverse};
 ghost use Rattle.rds_block.specs.declared.group.Group.{Group};
 ghost use Rattle.rds_log.specs.LogWrites.{AreDisplays};
 ghost use Rattle.rds_view_lines.specs.Output.{Display, changes_of};
@@ -14,14 +14,14 @@ ghost use Rattle.rds_witness.specs.Part.{IsPart, IsTagPart};
 ghost use Rattle.rds_witness.specs.Prints.{HasLine};
 ghost use Rattle.rds_witness.specs.declared.burst.Burst.{Burst};
 
-/// Shows the meaning of a mix by `decode`: the output for the slots of the log without the burst has the line of the
+/// Shows the meaning of a mix by `decode`: the output for the slots of the log without the lost ones has the line of the
 /// thing, with reasons or without, and a receiver that loses nothing gets exactly the slots of the log.
 pub fn what_a_mix_means()
-    ensures prints { (why : Bool) (t : Tuning) (log : List (Option Group)) (burst : Burst) (slot : ℕ) (thing : Thing)
-        (displays : List Display) → IsMix t log burst slot thing
-        → AreDisplays why t (got (Some burst) log (length log)) displays
+    ensures prints { (why : Bool) (t : Tuning) (ahead : ℕ) (log : List (Option Group)) (lost : List Burst) (slot : ℕ)
+        (thing : Thing) (displays : List Display) → IsMix t ahead log lost slot thing
+        → AreDisplays why t (got lost log (length log)) displays
         → HasLine (shown_line slot thing) (changes_of displays) }
-    ensures whole { (log : List (Option Group)) → got None log (length log) ≡ reverse log }
+    ensures whole { (log : List (Option Group)) → got [] log (length log) ≡ reverse log }
 {}
 
 /// Shows that a receiver whose run is a part of another one's shows no text or name that the other one does not show,

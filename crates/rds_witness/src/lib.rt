@@ -4,6 +4,8 @@
 //! It stops at the first slot in which one of them shows a part that the receiver without a loss does not show. New
 //! receivers then play the log again, so that each written mix is a mix by the definitions of `decode` (`IsMix`). If
 //! there is no such slot, no burst makes a mix (`NoMixes`).
+//!
+//! [`lose_with_notes`] plays one receiver that loses given slots, and lists all its mixes.
 #![tactic(auto)]
 
 mod burst;
@@ -12,6 +14,7 @@ mod checking;
 mod covering;
 mod find_witness;
 mod laws;
+mod lose_log;
 mod mix_lines;
 mod search;
 mod seen;
@@ -21,3 +24,4 @@ mod thing;
 pub use burst::Burst;
 pub use find_witness::{witness, witness_with_notes};
 pub use laws::{a_part_shows_no_more, what_a_mix_means};
+pub use lose_log::{Losing, lose_with_notes};

@@ -1,11 +1,11 @@
 //! The lines of mixes.
-ghost use Rattle.std.specs.Prelude.{◌≡◌, ◌⊎◌, ◌≤◌, ◌<◌, ◌+◌, ◌++◌, [], IsTrue, false, length};
+ghost use Rattle.std.specs.Prelude.{◌≡◌, ◌≢◌, ◌⊎◌, ◌≤◌, ◌<◌, ◌+◌, ◌++◌, ◌∷◌, [], IsTrue, false, length};
+ghost use Rattle.rds_log.specs.LogWrites.{tuned};
 ghost use Rattle.rds_receiver.specs.Borrowed.{view_of};
 ghost use Rattle.rds_witness.specs.Borrowed.{IsShortThing, thing_of};
-ghost use Rattle.rds_witness.specs.Candidates.{AddsKindOfIt, AreAroundIt, AreItsMixLines, AreSomeOfItsMixLines};
-ghost use Rattle.rds_witness.specs.Candidates.{IsNeverShown};
-ghost use Rattle.rds_witness.specs.Lines.{burst_text, shown_line, tag_name};
-ghost use Rattle.rds_witness.specs.Mix.{Has, Shows};
+ghost use Rattle.rds_witness.specs.Candidates.{AddsKindOfIt, AreAroundIt, AreItsMixLines, IsNeverShown};
+ghost use Rattle.rds_witness.specs.Lines.{AreMixLines, burst_text, lose_words, shown_line, tag_name};
+ghost use Rattle.rds_witness.specs.Mix.{Has, IsPlace, Shows};
 ghost use Rattle.rds_witness.specs.SomeLines.{kind_of};
 
 use crate::burst::Burst;
@@ -21,9 +21,12 @@ use rds_view_lines::{push_class, push_quoted};
 /// The most bytes of the lines of the four things of a slot.
 pub(crate) const ROOM: usize = 2048;
 
+/// The most bytes of the words before a line.
+const WORDS: usize = 64;
+
 /// Appends the slots of a burst.
-fn push_burst(burst: Burst, lines: &mut Lines<ROOM>)
-    requires { length lines.old + 41 ≤ 2048 }
+fn push_burst(burst: Burst, lines: &mut Lines<WORDS>)
+    requires { length lines.old + 41 ≤ 64 }
     ensures burst { lines.new ≡ lines.old ++ burst_text burst }
     ensures room { length lines.new ≤ length lines.old + 41 }
 {
@@ -32,6 +35,17 @@ fn push_burst(burst: Burst, lines: &mut Lines<ROOM>)
         lines.push(b"-");
         lines.push_number(burst.last as u64);
     }
+}
+
+/// Appends the words that name the slots to lose.
+fn push_lose_words(burst: Burst, lines: &mut Lines<WORDS>)
+    requires { lines.old ≡ [] }
+    ensures words { lines.new ≡ lose_words burst }
+    ensures room { length lines.new ≤ 54 }
+{
+    lines.push(b"lose ");
+    push_burst(burst, lines);
+    lines.push(b": ");
 }
 
 /// Appends the line that `decode` writes if a thing is shown in a slot.
@@ -73,7 +87,7 @@ fn tag_name(which: Which) -> &'static [u8]
 }
 
 /// Returns whether a thing that is shown in a slot is a mix there: the slot before does not show it, and a receiver
-/// that loses nothing shows it in no slot.
+/// that loses nothing shows it in none of the slots to look at.
 fn is_mix(candidate: &Candidate<'_>, before: View<'_>, thing: Thing<'_>) -> bool
     requires { candidate.now.slot < length candidate.now.log.now }
     ensures new { IsTrue result → Shows (view_of before.entry) (thing_of thing.entry) → ⊥ }
@@ -84,7 +98,7 @@ fn is_mix(candidate: &Candidate<'_>, before: View<'_>, thing: Thing<'_>) -> bool
     if shows(before, thing) {
         return false;
     }
-    let until = slots_until(candidate.log, candidate.dwell, candidate.slot);
+    let until = slots_until(candidate.log, candidate.ahead, candidate.slot);
     is_never_shown(candidate.log, candidate.pi, candidate.dwell, until, thing)
 }
 
@@ -98,58 +112,63 @@ fn push_if_mix(
 )
     requires around { AreAroundIt candidate.now (view_of before) (view_of after) }
     requires has { Has (view_of after) (thing_of thing) }
+    requires words { length candidate.now.words.now ≤ 54 }
     requires short { IsShortThing thing }
     requires room { length lines.old + 364 ≤ 2048 }
     ensures mixes { AddsKindOfIt (kind_of (thing_of thing.entry)) candidate.now lines.old lines.new }
     ensures room { length lines.new ≤ length lines.old + 364 }
 {
     if is_mix(candidate, before, thing) {
-        lines.push(b"lose ");
-        push_burst(candidate.burst, lines);
-        lines.push(b": ");
+        lines.push(candidate.words);
         push_shown(candidate.slot, thing, lines);
     }
 }
 
-/// Appends the line of each thing that is a mix in the slot.
-pub(crate) fn push_mixes(candidate: &Candidate<'_>, lines: &mut Lines<ROOM>)
+/// Appends the line of each thing that is a mix in the slot if the burst is lost, with the slots to lose. Appends nothing
+/// if the burst is not before the slot.
+pub(crate) fn push_mixes(
+    log: &[Option<Blocks>],
+    pi: u16,
+    dwell: Dwell,
+    burst: Burst,
+    slot: usize,
+    lines: &mut Lines<ROOM>,
+)
     requires { lines.old ≡ [] }
-    ensures { AreItsMixLines candidate.now lines.new }
+    ensures { lines.new ≢ [] → IsPlace burst slot log.now
+        × AreMixLines (tuned pi dwell) dwell log.now (burst ∷ []) (lose_words burst) slot lines.new }
 {
-    let burst = candidate.burst;
-    if burst.first > burst.last
-        || burst.last >= candidate.slot
-        || candidate.slot >= candidate.log.len()
-    {
+    if burst.first > burst.last || burst.last >= slot || slot >= log.len() {
         return;
     }
-    let before = receiver_before(
-        candidate.log,
-        candidate.pi,
-        candidate.dwell,
-        Some(burst),
-        candidate.slot,
-    );
-    let after = receiver_before(
-        candidate.log,
-        candidate.pi,
-        candidate.dwell,
-        Some(burst),
-        candidate.slot + 1,
-    );
-    push_mixes_of(candidate, before.view(), after.view(), lines);
+    let lost = [burst];
+    let before = receiver_before(log, pi, dwell, &lost, slot);
+    let after = receiver_before(log, pi, dwell, &lost, slot + 1);
+    let mut words = Lines::new();
+    push_lose_words(burst, &mut words);
+    let candidate = Candidate {
+        log,
+        pi,
+        dwell,
+        ahead: dwell,
+        lost: &lost,
+        words: words.bytes(),
+        slot,
+    };
+    push_mixes_of(&candidate, before.view(), after.view(), lines);
 }
 
 /// Appends the line of each thing of the view after the slot that is a mix.
-fn push_mixes_of(
+pub(crate) fn push_mixes_of(
     candidate: &Candidate<'_>,
     before: View<'_>,
     after: View<'_>,
     lines: &mut Lines<ROOM>,
 )
     requires around { AreAroundIt candidate.now (view_of before) (view_of after) }
-    requires room { length lines.old + 1456 ≤ 2048 }
-    ensures { AreSomeOfItsMixLines 0 candidate.now lines.old → AreSomeOfItsMixLines 4 candidate.now lines.new }
+    requires words { length candidate.now.words.now ≤ 54 }
+    requires none { lines.old ≡ [] }
+    ensures { AreItsMixLines candidate.now lines.new }
 {
     push_text(candidate, before, after, lines);
     push_name(candidate, before, after, lines);
@@ -160,6 +179,7 @@ fn push_mixes_of(
 /// Appends the line of the text, if it is a mix.
 fn push_text(candidate: &Candidate<'_>, before: View<'_>, after: View<'_>, lines: &mut Lines<ROOM>)
     requires around { AreAroundIt candidate.now (view_of before) (view_of after) }
+    requires words { length candidate.now.words.now ≤ 54 }
     requires room { length lines.old + 364 ≤ 2048 }
     ensures mixes { AddsKindOfIt 0 candidate.now lines.old lines.new }
     ensures room { length lines.new ≤ length lines.old + 364 }
@@ -172,6 +192,7 @@ fn push_text(candidate: &Candidate<'_>, before: View<'_>, after: View<'_>, lines
 /// Appends the line of the name, if it is a mix.
 fn push_name(candidate: &Candidate<'_>, before: View<'_>, after: View<'_>, lines: &mut Lines<ROOM>)
     requires around { AreAroundIt candidate.now (view_of before) (view_of after) }
+    requires words { length candidate.now.words.now ≤ 54 }
     requires room { length lines.old + 364 ≤ 2048 }
     ensures mixes { AddsKindOfIt 1 candidate.now lines.old lines.new }
     ensures room { length lines.new ≤ length lines.old + 364 }
@@ -184,6 +205,7 @@ fn push_name(candidate: &Candidate<'_>, before: View<'_>, after: View<'_>, lines
 /// Appends the line of the first tag, if it is a mix.
 fn push_one(candidate: &Candidate<'_>, before: View<'_>, after: View<'_>, lines: &mut Lines<ROOM>)
     requires around { AreAroundIt candidate.now (view_of before) (view_of after) }
+    requires words { length candidate.now.words.now ≤ 54 }
     requires room { length lines.old + 364 ≤ 2048 }
     ensures mixes { AddsKindOfIt 2 candidate.now lines.old lines.new }
     ensures room { length lines.new ≤ length lines.old + 364 }
@@ -202,6 +224,7 @@ fn push_one(candidate: &Candidate<'_>, before: View<'_>, after: View<'_>, lines:
 /// Appends the line of the second tag, if it is a mix.
 fn push_two(candidate: &Candidate<'_>, before: View<'_>, after: View<'_>, lines: &mut Lines<ROOM>)
     requires around { AreAroundIt candidate.now (view_of before) (view_of after) }
+    requires words { length candidate.now.words.now ≤ 54 }
     requires room { length lines.old + 364 ≤ 2048 }
     ensures mixes { AddsKindOfIt 3 candidate.now lines.old lines.new }
     ensures room { length lines.new ≤ length lines.old + 364 }

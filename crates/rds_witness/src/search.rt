@@ -42,7 +42,7 @@ pub(crate) fn find(
     let mut sweep = Sweep::new(alloc, pi, dwell);
     let mut comparisons = 0u64;
     for slot in 0..log.len() {
-        sweep.next(alloc, &received(log, None, slot), slot)?;
+        sweep.next(alloc, &received(log, &[], slot), slot)?;
         comparisons = comparisons.saturating_add(sweep.comparisons());
         if comparisons > MOST_COMPARISONS {
             return Ok(Found::Stopped(slot));

@@ -1,5 +1,5 @@
 //! The parts that a receiver without a loss shows, and the first slot of each.
-ghost use Rattle.std.specs.Prelude.{◌≡◌, ◌+◌, ◌<◌, All, Bool, IfOk, IsTrue, List, None, OnOk, Option, Some, ℕ, length};
+ghost use Rattle.std.specs.Prelude.{◌≡◌, ◌+◌, ◌<◌, [], All, Bool, IfOk, IsTrue, List, OnOk, Option, Some, ℕ, length};
 ghost use Rattle.std.specs.Prelude.{slice_index_or, true};
 ghost use Rattle.std.specs.Option.{option_copied};
 ghost use Rattle.rds_block.specs.declared.group.Group.{Group};
@@ -19,11 +19,11 @@ ghost use Rattle.rds_witness.specs.Lost.{got};
 ghost use Rattle.rds_witness.specs.Mix as mix;
 ghost use Rattle.rds_witness.specs.declared.seen.AllSeen.{AllSeen};
 ghost use Rattle.rds_witness.specs.declared.seen.Seen.{Seen};
-ghost use Rattle.rds_witness.specs.Search.{AreSeen, IsChecked, IsOfRun, IsSeen, IsSeenBefore, ShowsOnlySeen};
+ghost use Rattle.rds_witness.specs.Search.{AreSeen, IsChecked, IsKnown, IsOfRun, IsSeen, IsSeenBefore, ShowsOnlySeen};
 
 use crate::burst::received;
 use crate::covering::Lossy;
-use crate::thing::{Thing, is_text};
+use crate::thing::{Thing, is_text, shows};
 use rds_block::Blocks;
 use rds_fields::{Dwell, Tag, TagPair, Which};
 use rds_receiver::{Receiver, StoredReceiver, View};
@@ -154,7 +154,7 @@ impl AllSeen {
         let mut whole = Receiver::new(pi, dwell).store();
         for slot in 0..log.len() {
             let old = whole;
-            let changed = whole.slot(received(log, None, slot));
+            let changed = whole.slot(received(log, &[], slot));
             all.drop_pairs(&old, &whole);
             if changed {
                 all.note(&whole, slot)?;
@@ -167,8 +167,8 @@ impl AllSeen {
     fn drop_pairs(&mut self, old: &StoredReceiver, new: &StoredReceiver)
         ensures seen { self.new.seen ≡ self.old.seen }
         ensures pairs { (pi m n : ℕ) (log : List (Option Group))
-            → StandsAt (tuned pi m) (receiver_stored old.now) (got None log n)
-            → StandsAt (tuned pi m) (receiver_stored new.now) (got None log (n + 1))
+            → StandsAt (tuned pi m) (receiver_stored old.now) (got [] log n)
+            → StandsAt (tuned pi m) (receiver_stored new.now) (got [] log (n + 1))
             → All (IsOfRun (tuned pi m) log n) self.old.pairs.items
             → All (IsOfRun (tuned pi m) log (n + 1)) self.new.pairs.items }
     {
@@ -180,10 +180,10 @@ impl AllSeen {
     /// Notes the parts that the receiver shows for the first time in this slot.
     fn note(&mut self, whole: &StoredReceiver, slot: usize) -> Result<(), AllocError>
         ensures { OnOk result ((t : Tuning) (log : List (Option Group)) → slot < length log → IsStored whole.now
-            → StandsAt t (receiver_stored whole.now) (got None log (slot + 1))
+            → StandsAt t (receiver_stored whole.now) (got [] log (slot + 1))
             → All (IsSeen t log) self.old.seen.items → All (IsOfRun t log (slot + 1)) self.old.pairs.items
             → All (IsSeen t log) self.new.seen.items × All (IsOfRun t log (slot + 1)) self.new.pairs.items
-            × ((view : ShownView) × IsView t (got None log (slot + 1)) view)) }
+            × ((view : ShownView) × IsView t (got [] log (slot + 1)) view)) }
     {
         let view = whole.view();
         self.keep_pair(whole.pair())?;
@@ -215,7 +215,7 @@ impl AllSeen {
         slot: usize,
     ) -> Result<(), AllocError>
         ensures { OnOk result ((t : Tuning) (log : List (Option Group)) → slot < length log → IsStored whole.now
-            → StandsAt t (receiver_stored whole.now) (got None log (slot + 1))
+            → StandsAt t (receiver_stored whole.now) (got [] log (slot + 1))
             → All (IsSeen t log) self.old.seen.items → All (IsOfRun t log (slot + 1)) self.old.pairs.items
             → All (IsSeen t log) self.new.seen.items × All (IsOfRun t log (slot + 1)) self.new.pairs.items) }
     {
@@ -236,7 +236,7 @@ impl AllSeen {
     ) -> Result<(), AllocError>
         ensures pairs { self.new.pairs ≡ self.old.pairs }
         ensures seen { OnOk result ((t : Tuning) (log : List (Option Group)) → slot < length log → IsStored whole.now
-            → StandsAt t (receiver_stored whole.now) (got None log (slot + 1))
+            → StandsAt t (receiver_stored whole.now) (got [] log (slot + 1))
             → ((held : PairFields) → pair ≡ Some held → IsOfRun t log (slot + 1) held)
             → All (IsSeen t log) self.old.seen.items → All (IsSeen t log) self.new.seen.items) }
     {
@@ -358,5 +358,89 @@ impl AllSeen {
             return false;
         }
         self.has_tag(slots, view.one) && self.has_tag(slots, view.two)
+    }
+
+    /// Returns whether the view before shows each part of a view, or a receiver that loses nothing is known to show it
+    /// in one of the first slots.
+    pub(crate) fn knows_all(&self, slots: usize, before: View<'_>, after: View<'_>) -> bool
+        ensures { IsTrue result → (t : Tuning) (log : List (Option Group)) → AreSeen t log self.now
+            → (thing : mix.Thing) → mix.Has (view_of after.entry) thing
+            → IsKnown t log slots (view_of before.entry) thing }
+    {
+        if !self.knows_text(slots, before, after.text) {
+            return false;
+        }
+        if !self.knows_name(slots, before, after.name) {
+            return false;
+        }
+        if !self.knows_tag(slots, before, Which::One, after.one) {
+            return false;
+        }
+        self.knows_tag(slots, before, Which::Two, after.two)
+    }
+
+    fn knows_text(&self, slots: usize, before: View<'_>, text: Option<&[u8]>) -> bool
+        ensures { IsTrue result → (t : Tuning) (log : List (Option Group)) → AreSeen t log self.now
+            → (x : List ℕ) → option_copied text.entry ≡ Some x
+            → IsKnown t log slots (view_of before.entry) (mix.Text x) }
+    {
+        match text {
+            Some(text) => self.knows(slots, before, Thing::Text(text), hash_of(TEXT_KIND, text)),
+            None => true,
+        }
+    }
+
+    fn knows_name(&self, slots: usize, before: View<'_>, name: Option<&[u8]>) -> bool
+        ensures { IsTrue result → (t : Tuning) (log : List (Option Group)) → AreSeen t log self.now
+            → (x : List ℕ) → option_copied name.entry ≡ Some x
+            → IsKnown t log slots (view_of before.entry) (mix.Name x) }
+    {
+        match name {
+            Some(name) => self.knows(slots, before, Thing::Name(name), hash_of(NAME_KIND, name)),
+            None => true,
+        }
+    }
+
+    fn knows_tag(
+        &self,
+        slots: usize,
+        before: View<'_>,
+        which: Which,
+        tag: Option<(u8, &[u8])>,
+    ) -> bool
+        ensures { IsTrue result → (t : Tuning) (log : List (Option Group)) → AreSeen t log self.now
+            → (class : ℕ) (piece : List ℕ) → borrowed_tag tag.entry ≡ Some (class, piece)
+            → IsKnown t log slots (view_of before.entry) (mix.Tag which class piece) }
+    {
+        match tag {
+            Some((class, piece)) => {
+                self.knows(
+                    slots,
+                    before,
+                    Thing::Tag(which, class, piece),
+                    hash_of(class, piece),
+                )
+            }
+            None => true,
+        }
+    }
+
+    /// Returns whether the view before shows the part, or a receiver that loses nothing is known to show it in one of
+    /// the first slots. If two parts have one hash, the answer may be false for one that is shown.
+    fn knows(&self, slots: usize, before: View<'_>, thing: Thing<'_>, hash: u64) -> bool
+        ensures { IsTrue result → (t : Tuning) (log : List (Option Group)) → AreSeen t log self.now
+            → IsKnown t log slots (view_of before.entry) (thing_of thing.entry) }
+    {
+        if shows(before, thing) {
+            return true;
+        }
+        let Some(place) = self.places.get(&hash) else {
+            return false;
+        };
+        if *place >= self.seen.len() {
+            return false;
+        }
+        let seen = seen_at(self.seen.as_slice(), *place);
+        seen.slot < slots && shows(seen.receiver.view(), thing)
     }
 }

@@ -51,7 +51,7 @@ impl Sweep {
         group: &Option<Blocks>,
         slot: usize,
     ) -> Result<(), AllocError>
-        ensures stands { OnOk result ((pi m n : ℕ) (log : List (Option Group)) → group.now ≡ received None log n
+        ensures stands { OnOk result ((pi m n : ℕ) (log : List (Option Group)) → group.now ≡ received [] log n
             → StandsAfter (tuned pi m) log n self.old → StandsAfter (tuned pi m) log (n + 1) self.new) }
         ensures checked { OnOk result ((pi m n k : ℕ) (log : List (Option Group))
             → StandsAfter (tuned pi m) log n self.old

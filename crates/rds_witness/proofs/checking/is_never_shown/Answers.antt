@@ -1,4 +1,4 @@
-use Rattle.std.proofs.Common.{IsTrue, None, arith, refl, subst, sym}
+use Rattle.std.proofs.Common.{IsTrue, [], arith, refl, subst, sym}
 use Rattle.rds_log.specs.LogWrites.{tuned}
 use Rattle.rds_receiver.specs.Borrowed.{view_of}
 use Rattle.rds_receiver.specs.StandsAt.{StandsAt}
@@ -12,14 +12,14 @@ pub loop-n-init : goal.loop-n-init
 loop-n-init c =
     let t = tuned c.args.pi c.args.dwell in
     record {
-      stands = subst (StandsAt t c.new-receiver.result) (sym (got-none None c.args.log.now)) (c.new-receiver.ensures.stands 0);
+      stands = subst (StandsAt t c.new-receiver.result) (sym (got-none [] c.args.log.now)) (c.new-receiver.ensures.stands 0);
       never = never_none t c.args.log.now (thing_of c.args.thing);
     }
 
 pub loop-n-preserved : goal.loop-n-preserved
 loop-n-preserved c =
     let t = tuned c.args.pi c.args.dwell in
-    let stands = stands_more t c.slot_blocks.new.self None c.args.log.now c.loop-n.n c.received.result c.received.ensures
+    let stands = stands_more t c.slot_blocks.new.self [] c.args.log.now c.loop-n.n c.received.result c.received.ensures
     (c.slot_blocks.ensures.stands _ _ c.loop-n.invariant.stands) in
     record {
       stands = stands;
@@ -30,7 +30,7 @@ loop-n-preserved c =
 pub returns-then-shows : goal.returns-then-shows
 returns-then-shows c =
     let t = tuned c.args.pi c.args.dwell in
-    let stands = stands_more t c.slot_blocks.new.self None c.args.log.now c.loop-n.n c.received.result c.received.ensures
+    let stands = stands_more t c.slot_blocks.new.self [] c.args.log.now c.loop-n.n c.received.result c.received.ensures
     (c.slot_blocks.ensures.stands _ _ c.loop-n.invariant.stands) in
     (λ holds. absurd (cc), λ never. absurd (never c.loop-n.n (view_of c.view.result) c.loop-n-test.true (c.view.ensures t _ stands) (c.shows.ensures.0 c.if-shows.true)))
 

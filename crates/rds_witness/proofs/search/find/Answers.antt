@@ -5,7 +5,7 @@ use Rattle.rds_log.specs.LogWrites.{tuned}
 use Rattle.rds_receiver.specs.Stored.{receiver_stored}
 use Rattle.rds_witness.specs.Covered.{Covers, IsInputPart}
 use Rattle.rds_witness.specs.Lost.{got}
-use Rattle.rds_witness.specs.Mix.{IsMix, until}
+use Rattle.rds_witness.specs.Mix.{IsBurstMix, until}
 use Rattle.rds_witness.specs.Search.{IsReplaced, ShowOnlySeen, ShowsOnlySeen}
 use Rattle.rds_witness.specs.declared.covering.Lossy.{Lossy}
 use Rattle.rds_witness.proofs.HeldParts.{same_part}
@@ -48,9 +48,9 @@ loop-slot-preserved c =
     let show = c.doubt_of.ensures c.in_default.is t (n + 1) log stands c.in_ok-all.ensures checked.0 checked.1 in
     let later : (items : List Lossy) → ShowOnlySeen t log slots items → ShowOnlySeen t log (until m log (n + 1)) items =
     λ items only k d less. only_later t log slots (until m log (n + 1)) _ (let more = until_later m log n in omega (arith, is, more)) (only k d less) in
-    let same_whole : (input : List (Option Group)) → length input ≡ n + 1 → Covers t input whole → IsInputPart t input (got None log (n + 1)) =
-    λ input long covers. input_through t (receiver_stored whole.receiver) input covers.other (got None log (n + 1)) covers.stands covers.part
-    (same_part pi m whole.receiver covers.other (got None log (n + 1)) covers.stands stands.whole (sym covers.part.long ∙ long ∙ sym (got_long None log (n + 1)))) in
+    let same_whole : (input : List (Option Group)) → length input ≡ n + 1 → Covers t input whole → IsInputPart t input (got [] log (n + 1)) =
+    λ input long covers. input_through t (receiver_stored whole.receiver) input covers.other (got [] log (n + 1)) covers.stands covers.part
+    (same_part pi m whole.receiver covers.other (got [] log (n + 1)) covers.stands stands.whole (sym covers.part.long ∙ long ∙ sym (got_long [] log (n + 1)))) in
     record {
       stands = stands;
       losing = later _ show.0;
@@ -59,7 +59,7 @@ loop-slot-preserved c =
         | inl before_slot ↦ before.none burst slot thing before_slot mix
         | inr from ↦ (
             let here : n ≡ slot = omega (arith, less, from) in
-            subst (λ (k : ℕ). IsMix t log burst k thing → IsReplaced t log (until m log k) thing) here
+            subst (λ (k : ℕ). IsBurstMix t log burst k thing → IsReplaced t log (until m log k) thing) here
             (no_mix t log n slots is soon c.in_ok-all.ensures.1 whole hearing same_whole stands.hear show.1 burst thing) mix)
       ];
     }

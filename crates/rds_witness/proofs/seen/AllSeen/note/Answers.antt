@@ -1,4 +1,4 @@
-use Rattle.std.proofs.Common.{◌∙◌, ◌+◌, All, None, arith, refl, subst, sym}
+use Rattle.std.proofs.Common.{[], ◌∙◌, ◌+◌, All, None, arith, refl, subst, sym}
 use Rattle.rds_witness.specs.Lost.{got}
 use Rattle.rds_witness.specs.Search.{IsOfRun, IsSeen}
 use Rattle.rds_witness.proofs.seen.AllSeen.note.Goals as goal
@@ -13,10 +13,10 @@ returns c t log inside stored stands seen pairs =
       new = stands.heard;
       were = stands.are;
       are = stands.are;
-      held = sym (c.pair.ensures stored t (got None log n) stands stands.heard stands.are) ∙ is;
+      held = sym (c.pair.ensures stored t (got [] log n) stands stands.heard stands.are) ∙ is;
       same = refl;
     }) pairs in
     let seen_one = c.in_ok-note_with.ensures.seen t log inside stored stands (λ held is. absurd (cc)) (subst (λ v. All (IsSeen t log) v.items) (sym c.keep_pair.ensures.seen) seen) in
     let pairs_one = subst (λ v. All (IsOfRun t log n) v.items) (sym c.note_with.ensures.pairs) with_pair in
     let all = c.in_ok-note_tags.ensures t log inside stored stands seen_one pairs_one in
-    (all.0, all.1, (_, c.view-view.ensures stored t (got None log n) stands))
+    (all.0, all.1, (_, c.view-view.ensures stored t (got [] log n) stands))

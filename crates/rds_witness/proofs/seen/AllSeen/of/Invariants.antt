@@ -1,4 +1,4 @@
-use Rattle.std.proofs.Common.{All, None}
+use Rattle.std.proofs.Common.{[], All, None}
 use Rattle.rds_log.specs.LogWrites.{tuned}
 use Rattle.rds_receiver.specs.Shown.{IsView, ShownView}
 use Rattle.rds_receiver.specs.StandsAt.{StandsAt}
@@ -9,9 +9,9 @@ use Rattle.rds_witness.proofs.seen.AllSeen.of.Given as goal
 
 abbrev pub invariant-loop-slot : goal.invariant-loop-slot
 invariant-loop-slot l = record {
-  stands : StandsAt (tuned l.fn.pi l.fn.dwell) (receiver_stored l.whole) (got None l.log l.slot);
+  stands : StandsAt (tuned l.fn.pi l.fn.dwell) (receiver_stored l.whole) (got [] l.log l.slot);
   stored : IsStored l.whole;
-  view : (view : ShownView) × IsView (tuned l.fn.pi l.fn.dwell) (got None l.log l.slot) view;
+  view : (view : ShownView) × IsView (tuned l.fn.pi l.fn.dwell) (got [] l.log l.slot) view;
   views : HasViews (tuned l.fn.pi l.fn.dwell) l.log l.slot;
   seen : All (IsSeen (tuned l.fn.pi l.fn.dwell) l.log) l.all.seen.items;
   pairs : All (IsOfRun (tuned l.fn.pi l.fn.dwell) l.log l.slot) l.all.pairs.items;

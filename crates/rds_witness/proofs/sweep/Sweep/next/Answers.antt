@@ -23,10 +23,10 @@ returns-clause-stands c pi m n log is old =
     let step = c.take_slot.ensures in
     let begins = c.lose_first.new.whole in
     let loses = c.lose_first.ensures in
-    let more : got None log (n + 1) ≡ group ∷ got None log n = got-more None log n ∙ ap (λ (g : Option Group). g ∷ got None log n) (sym is) in
-    let after : StandsAt t (receiver_stored whole.receiver) (got None log (n + 1)) = subst (StandsAt t (receiver_stored whole.receiver)) (sym more) (step.stands old.stored t (got None log n) old.whole) in
-    let its : IsAt t (n + 1) whole = record { input = got None log (n + 1); long = got_long None log (n + 1); stands = after; stored = step.good old.stored } in
-    let was_at : IsAt t n was = record { input = got None log n; long = got_long None log n; stands = old.whole; stored = old.stored } in
+    let more : got [] log (n + 1) ≡ group ∷ got [] log n = got-more [] log n ∙ ap (λ (g : Option Group). g ∷ got [] log n) (sym is) in
+    let after : StandsAt t (receiver_stored whole.receiver) (got [] log (n + 1)) = subst (StandsAt t (receiver_stored whole.receiver)) (sym more) (step.stands old.stored t (got [] log n) old.whole) in
+    let its : IsAt t (n + 1) whole = record { input = got [] log (n + 1); long = got_long [] log (n + 1); stands = after; stored = step.good old.stored } in
+    let was_at : IsAt t n was = record { input = got [] log n; long = got_long [] log n; stands = old.whole; stored = old.stored } in
     let none : (items : List Lossy) → items ≡ [] → All (IsAt t (n + 1)) items = λ items nothing. subst (All (IsAt t (n + 1))) (sym nothing) (All-nil (IsAt t (n + 1))) in
     let old_losing = c.args.self.now.losing.items in
     let were_hearing : c.as_slice.result.now ≡ c.args.self.now.hearing.items = c.as_slice.ensures.value in
@@ -42,19 +42,19 @@ returns-clause-stands c pi m n log is old =
     let end_losing : c.replace.new.dest.items ≡ losing = ap (λ v. v.items) c.replace.ensures.after in
     let lost_first : (input : List (Option Group)) → length input ≡ n → Covers t input was → IsCovered t (whole ∷ losing) (None ∷ input) =
     λ input long covers. lose_more.stays (None ∷ input) (one_more.more (None ∷ input) (omega (arith, long)) (covers_next pi m was begins None input loses.stands loses.good covers)) in
-    let lost : (input : List (Option Group)) (burst : Burst) → input ≡ got (Some burst) log n → burst.first ≤ n → n ≤ burst.last → IsCovered t (was ∷ old_losing) input
-    → IsCovered t (whole ∷ c.replace.new.dest.items) (got (Some burst) log (n + 1)) =
+    let lost : (input : List (Option Group)) (burst : Burst) → input ≡ got (burst ∷ []) log n → burst.first ≤ n → n ≤ burst.last → IsCovered t (was ∷ old_losing) input
+    → IsCovered t (whole ∷ c.replace.new.dest.items) (got (burst ∷ []) log (n + 1)) =
     λ input burst same from to covered.
-    let long : length input ≡ n = ap length same ∙ got_long (Some burst) log n in
-    subst (λ (l : List Lossy). IsCovered t (whole ∷ l) (got (Some burst) log (n + 1))) (sym end_losing)
+    let long : length input ≡ n = ap length same ∙ got_long (burst ∷ []) log n in
+    subst (λ (l : List Lossy). IsCovered t (whole ∷ l) (got (burst ∷ []) log (n + 1))) (sym end_losing)
     (subst (IsCovered t (whole ∷ losing)) (ap (λ (l : List (Option Group)). None ∷ l) same ∙ lost_next burst log n from to)
     (by_first t was old_losing input (IsCovered t (whole ∷ losing) (None ∷ input)) covered (lost_first input long)
     (λ others. lose_more.more input long (subst (λ (l : List Lossy). IsCovered t l input) (sym still_losing) others)))) in
-    let heard : (burst : Burst) (set : List Lossy) → burst.last < n → IsCovered t (was ∷ set) (got (Some burst) log n) → (IsCovered t set (got (Some burst) log n) → IsCovered t (whole ∷ hearing) (group ∷ got (Some burst) log n))
-    → IsCovered t (whole ∷ c.replace-losing.new.dest.items) (got (Some burst) log (n + 1)) =
+    let heard : (burst : Burst) (set : List Lossy) → burst.last < n → IsCovered t (was ∷ set) (got (burst ∷ []) log n) → (IsCovered t set (got (burst ∷ []) log n) → IsCovered t (whole ∷ hearing) (group ∷ got (burst ∷ []) log n))
+    → IsCovered t (whole ∷ c.replace-losing.new.dest.items) (got (burst ∷ []) log (n + 1)) =
     λ burst set behind covered others.
-    let input = got (Some burst) log n in
-    subst (λ (l : List Lossy). IsCovered t (whole ∷ l) (got (Some burst) log (n + 1))) (sym end_hearing)
+    let input = got (burst ∷ []) log n in
+    subst (λ (l : List Lossy). IsCovered t (whole ∷ l) (got (burst ∷ []) log (n + 1))) (sym end_hearing)
     (subst (IsCovered t (whole ∷ hearing)) (heard_next burst log n group behind is)
     (by_first t was set input (IsCovered t (whole ∷ hearing) (group ∷ input)) covered
     (λ covers. covered_first t whole hearing (group ∷ input) (covers_next pi m was whole group input step.stands step.good covers)) others)) in
@@ -66,16 +66,16 @@ returns-clause-stands c pi m n log is old =
       lose = λ burst order behind. elim (cases_lt burst.first n) [
         | inl before ↦ (
             let shorter : Burst = record { first = burst.first; last = n - 1 } in
-            lost (got (Some shorter) log n) burst (got_together shorter burst log n refl (omega arith) (omega (arith, behind))) (omega (arith, before)) (omega (arith, behind))
+            lost (got (shorter ∷ []) log n) burst (got_together shorter burst log n refl (omega arith) (omega (arith, behind))) (omega (arith, before)) (omega (arith, behind))
             (old.lose shorter (omega (arith, before)) (omega (arith, before))))
-        | inr from ↦ lost (got None log n) burst (sym (got_before burst log n from)) (omega (arith, order, behind)) (omega (arith, behind))
-            (covered_first t was old_losing (got None log n) (covers_itself pi m (got None log n) was old.whole old.stored))
+        | inr from ↦ lost (got [] log n) burst (sym (got_before burst log n from)) (omega (arith, order, behind)) (omega (arith, behind))
+            (covered_first t was old_losing (got [] log n) (covers_itself pi m (got [] log n) was old.whole old.stored))
       ];
       hear = λ burst order behind. elim (cases_lt (burst.last + 1) n) [
         | inl before ↦ heard burst c.args.self.now.hearing.items (omega (arith, before)) (old.hear burst order before)
-            (λ others. begin.stays _ (go_on.more (got (Some burst) log n) (got_long (Some burst) log n) (subst (λ (l : List Lossy). IsCovered t l (got (Some burst) log n)) (sym were_hearing) others)))
+            (λ others. begin.stays _ (go_on.more (got (burst ∷ []) log n) (got_long (burst ∷ []) log n) (subst (λ (l : List Lossy). IsCovered t l (got (burst ∷ []) log n)) (sym were_hearing) others)))
         | inr from ↦ heard burst old_losing (omega (arith, behind)) (old.lose burst order (omega (arith, behind, from)))
-            (λ others. begin.more (got (Some burst) log n) (got_long (Some burst) log n) (subst (λ (l : List Lossy). IsCovered t l (got (Some burst) log n)) (sym were_losing) others))
+            (λ others. begin.more (got (burst ∷ []) log n) (got_long (burst ∷ []) log n) (subst (λ (l : List Lossy). IsCovered t l (got (burst ∷ []) log n)) (sym were_losing) others))
       ];
     }
 
