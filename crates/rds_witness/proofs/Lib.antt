@@ -12,3 +12,5 @@ pub mod Losses
 pub mod Rulings
 pub mod SameState
 pub mod LossSteps
+pub mod SpanSteps
+pub mod WorkedRows

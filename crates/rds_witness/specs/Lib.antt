@@ -13,3 +13,5 @@ pub mod SomeLines
 pub mod Candidates
 pub mod Witness
 pub mod Prints
+-- The slots to lose, on a command line.
+pub mod Spans

@@ -18,6 +18,7 @@ mod lose_log;
 mod mix_lines;
 mod search;
 mod seen;
+mod spans;
 mod sweep;
 mod thing;
 
@@ -25,3 +26,4 @@ pub use burst::Burst;
 pub use find_witness::{witness, witness_with_notes};
 pub use laws::{a_part_shows_no_more, what_a_mix_means};
 pub use lose_log::{Losing, lose_with_notes};
+pub use spans::bursts_of;
