@@ -1,6 +1,6 @@
 -- The arguments of the program, as a simple command of `clap`, and what they ask for. This is the project's own command
 -- line.
-use Rattle.std.specs.Prelude.{◌≡◌, ◌&&◌, ◌∷◌, []}
+use Rattle.std.specs.Prelude.{◌≡◌, ◌&&◌, ◌||◌, ◌∷◌, []}
 use Rattle.std.specs.Prelude.{ℕ, Bool, List, Option, Some, None, false, true, codes, if◌then◌else◌}
 use Rattle.std.specs.Prelude.{is_some, length, nat_le, nat_lt, not, option_and_then, option_map, pos}
 use Rattle.std.specs.List.{list_all}
@@ -19,7 +19,7 @@ use Rattle.clap.specs.declared.error.kind.ErrorKind.TheVariants.{DisplayHelp, Di
 use Rattle.rds_io.specs.Digits.{HasWord}
 use Rattle.rds_cli.specs.declared.request.Programme.{Programme}
 use Rattle.rds_cli.specs.declared.request.Task.{Task}
-use Rattle.rds_cli.specs.declared.request.Task.TheVariants.{Audit, Decode, Encode, Simulate, Slots, Witness}
+use Rattle.rds_cli.specs.declared.request.Task.TheVariants.{Audit, Decode, Encode, Lose, Simulate, Slots, Witness}
 
 -- ---- the command line
 
@@ -83,6 +83,13 @@ all_rule = flag_rule (codes "all")
 abbrev pub flag_alone_rule : Rule
 flag_alone_rule = flag_rule (codes "flag-alone")
 
+-- `--lose SPANS`, which may be given
+abbrev pub lose_rule : Rule
+lose_rule = record (new_rule (codes "lose")) {
+  long = Some (codes "lose");
+  value_names = 1;
+}
+
 -- `--why`
 abbrev pub why_rule : Rule
 why_rule = flag_rule (codes "why")
@@ -114,6 +121,10 @@ late_app name = with_rule (log_app name) late_rule
 -- the subcommand that audits a log
 unfoldable pub audit_app : Text → App
 audit_app name = with_rule (with_rule (late_app name) running_rule) all_rule
+
+-- the subcommand that looks for lost slots that make a mix, or for the mixes of given ones
+unfoldable pub witness_app : Text → App
+witness_app name = with_rule (with_rule (log_app name) lose_rule) flag_alone_rule
 
 -- `--grain N`, from 0 to 87
 abbrev pub grain_rule : Rule
@@ -147,7 +158,7 @@ with_decode_app = with_subcommand top_app (decode_app (codes "decode")).top
 unfoldable pub log_readers_app : App
 log_readers_app =
     with_subcommand
-    (with_subcommand (with_subcommand with_decode_app (audit_app (codes "audit")).top) (log_app (codes "witness")).top)
+    (with_subcommand (with_subcommand with_decode_app (audit_app (codes "audit")).top) (witness_app (codes "witness")).top)
     (slots_app (codes "slots")).top
 
 -- with all subcommands except `sim`
@@ -164,10 +175,11 @@ TakesWords words = takes whole_app words ≡ true
 
 -- ---- the request of the arguments
 
--- the task, the argument of `--pi`, the dwell in slots, and whether warnings are left out
+-- the task, the argument of `--pi`, that of `--lose` or nothing, the dwell in slots, and whether warnings are left out
 pub record Requested : Type 0 where
   pub task : Task
   pub pi : Text
+  pub lose : Text
   pub dwell : ℕ
   pub quiet : Bool
 
@@ -233,6 +245,15 @@ window_in rows =
     then option_map Some (slots_in 2 255 (codes "confirm") rows)
     else Some None
 
+-- the argument of `--lose`, or nothing
+abbrev pub lose_in : List Row → Text
+lose_in rows = option_map_or (λ text. text) (first_of (codes "lose") rows) []
+
+-- the task of `witness`: with `--lose` or `--flag-alone` the slots to lose are given
+abbrev pub witness_in : List Row → Task
+witness_in rows =
+    if has_value (codes "lose") rows || flag_alone_in rows then Lose (flag_alone_in rows) else Witness
+
 abbrev pub programme_in : List Row → Option Programme
 programme_in rows = option_map (λ pty. record { pty = pty; tp = tp_in rows }) (pty_in rows)
 
@@ -250,14 +271,15 @@ task_in name rows =
     (window_in rows)
     else if bytes_eq name (codes "audit")
     then option_map (λ late. Audit late (running_in rows) (all_in rows)) (late_in rows)
-    else if bytes_eq name (codes "witness") then Some Witness
+    else if bytes_eq name (codes "witness") then Some (witness_in rows)
     else if bytes_eq name (codes "slots")
     then option_map (λ grain. Slots grain (has_value (codes "pi") rows)) (grain_in rows)
     else None
 
-abbrev pub asked : Option Task → Option Text → Option ℕ → Bool → Option Requested
-asked (Some task) (Some pi) (Some dwell) quiet = Some (record { task = task; pi = pi; dwell = dwell; quiet = quiet })
-asked _ _ _ _ = None
+abbrev pub asked : Option Task → Option Text → Text → Option ℕ → Bool → Option Requested
+asked (Some task) (Some pi) lose (Some dwell) quiet =
+    Some (record { task = task; pi = pi; lose = lose; dwell = dwell; quiet = quiet })
+asked _ _ _ _ _ = None
 
 -- the argument of `--pi`; the task of `slots` says whether it is given, and 0000 stands for none
 abbrev pub pi_in : Text → List Row → Option Text
@@ -266,7 +288,7 @@ pi_in name rows =
 
 -- the request of a subcommand and its options
 abbrev pub asked_of : Text × List Row → Option Requested
-asked_of p = asked (task_in p.0 p.1) (pi_in p.0 p.1) (dwell_in p.1) (quiet_in p.1)
+asked_of p = asked (task_in p.0 p.1) (pi_in p.0 p.1) (lose_in p.1) (dwell_in p.1) (quiet_in p.1)
 
 -- the request of the arguments, as `clap`'s definition reads them
 abbrev pub asked_in : List Text → Option Requested

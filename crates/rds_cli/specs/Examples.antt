@@ -3,7 +3,7 @@ use Rattle.std.specs.Prelude.{◌≡◌, ◌==◌, ◌∷◌, ℕ, Bool, List, [
 use Rattle.clap.specs.Words.{Text, fault_of, takes}
 use Rattle.clap.specs.declared.error.kind.ErrorKind.TheVariants.{DisplayHelp, InvalidSubcommand}
 use Rattle.rds_cli.specs.CommandLine.{AreRefused, Requested, whole_app}
-use Rattle.rds_cli.specs.declared.request.Task.TheVariants.{Audit, Decode, Encode, Simulate, Slots, Witness}
+use Rattle.rds_cli.specs.declared.request.Task.TheVariants.{Audit, Decode, Encode, Lose, Simulate, Slots, Witness}
 
 abbrev pub in_front : ℕ → List Text → List Text
 in_front c [] = (c ∷ []) ∷ []
@@ -25,24 +25,25 @@ pub record CallForHelp (words : List Text) : Type 0 where
   pub kinds : fault_of whole_app words ≡ DisplayHelp ∷ InvalidSubcommand ∷ []
 
 abbrev pub decoding : Text → ℕ → Requested
-decoding pi dwell = record { task = Decode None false; pi = pi; dwell = dwell; quiet = false }
+decoding pi dwell = record { task = Decode None false; pi = pi; lose = []; dwell = dwell; quiet = false }
 
 -- the same of what was heard twice within a window
 abbrev pub confirming : ℕ → ℕ → Requested
-confirming dwell window = record { task = Decode (Some window) false; pi = codes "C201"; dwell = dwell; quiet = false }
+confirming dwell window = record { task = Decode (Some window) false; pi = codes "C201"; lose = []; dwell = dwell; quiet = false }
 
 -- the same with reasons, without a window
 abbrev pub decoding_why : ℕ → Requested
-decoding_why dwell = record { task = Decode None true; pi = codes "C201"; dwell = dwell; quiet = false }
+decoding_why dwell = record { task = Decode None true; pi = codes "C201"; lose = []; dwell = dwell; quiet = false }
 
 abbrev pub encoding : ℕ → ℕ → Requested
 encoding dwell pty =
-    record { task = Encode (record { pty = pty; tp = false }) 0; pi = codes "C201"; dwell = dwell; quiet = false }
+    record { task = Encode (record { pty = pty; tp = false }) 0; pi = codes "C201"; lose = []; dwell = dwell; quiet = false }
 
 abbrev pub simulating : ℕ → ℕ → Bool → ℕ → Requested
 simulating dwell pty tp late = record {
   task = Simulate (record { pty = pty; tp = tp }) late None false false;
   pi = codes "C201";
+  lose = [];
   dwell = dwell;
   quiet = false;
 }
@@ -52,6 +53,7 @@ abbrev pub simulating_confirmed : ℕ → ℕ → Requested
 simulating_confirmed dwell window = record {
   task = Simulate (record { pty = 0; tp = false }) 0 (Some window) false false;
   pi = codes "C201";
+  lose = [];
   dwell = dwell;
   quiet = false;
 }
@@ -61,30 +63,35 @@ abbrev pub simulating_flag_alone : ℕ → Bool → Requested
 simulating_flag_alone dwell why = record {
   task = Simulate (record { pty = 0; tp = false }) 0 None true why;
   pi = codes "C201";
+  lose = [];
   dwell = dwell;
   quiet = false;
 }
 
 abbrev pub witnessing : ℕ → Requested
-witnessing dwell = record { task = Witness; pi = codes "C201"; dwell = dwell; quiet = false }
+witnessing dwell = record { task = Witness; pi = codes "C201"; lose = []; dwell = dwell; quiet = false }
+
+-- the mixes of a receiver that loses these slots; with the flag it follows the flag bit alone
+abbrev pub losing : Text → ℕ → Bool → Requested
+losing lose dwell alone = record { task = Lose alone; pi = codes "C201"; lose = lose; dwell = dwell; quiet = false }
 
 abbrev pub auditing : ℕ → ℕ → Requested
-auditing dwell late = record { task = Audit late false false; pi = codes "C201"; dwell = dwell; quiet = false }
+auditing dwell late = record { task = Audit late false false; pi = codes "C201"; lose = []; dwell = dwell; quiet = false }
 
 -- the audit of the log of a running station
 abbrev pub auditing_running : ℕ → Requested
-auditing_running dwell = record { task = Audit 0 true false; pi = codes "C201"; dwell = dwell; quiet = false }
+auditing_running dwell = record { task = Audit 0 true false; pi = codes "C201"; lose = []; dwell = dwell; quiet = false }
 
 -- the list of all faults of such a log
 abbrev pub listing_running : ℕ → Requested
-listing_running dwell = record { task = Audit 0 true true; pi = codes "C201"; dwell = dwell; quiet = false }
+listing_running dwell = record { task = Audit 0 true true; pi = codes "C201"; lose = []; dwell = dwell; quiet = false }
 
 abbrev pub filling : ℕ → ℕ → Requested
-filling dwell grain = record { task = Slots grain false; pi = codes "0000"; dwell = dwell; quiet = false }
+filling dwell grain = record { task = Slots grain false; pi = codes "0000"; lose = []; dwell = dwell; quiet = false }
 
 -- the same of the lines of one programme
 abbrev pub filling_one : Text → ℕ → ℕ → Requested
-filling_one pi dwell grain = record { task = Slots grain true; pi = pi; dwell = dwell; quiet = false }
+filling_one pi dwell grain = record { task = Slots grain true; pi = pi; lose = []; dwell = dwell; quiet = false }
 
 -- the same without warnings
 abbrev pub quietly : Requested → Requested

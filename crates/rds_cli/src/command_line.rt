@@ -4,9 +4,9 @@ ghost use Rattle.clap.specs.Words.{App, app_of, rule_of, with_subcommand};
 ghost use Rattle.clap.specs.declared.builder.command.Command.TheViews.{out-Command};
 ghost use Rattle.rds_cli.specs.CommandLine.{audit_app, confirm_rule, decode_app, dwell_rule, flag_rule, grain_rule};
 ghost use Rattle.rds_cli.specs.CommandLine.{all_rule, flag_alone_rule, late_app, late_rule};
-ghost use Rattle.rds_cli.specs.CommandLine.{log_app, number_rule, own_pi_rule, pi_rule, pty_rule, quiet_rule};
+ghost use Rattle.rds_cli.specs.CommandLine.{log_app, lose_rule, number_rule, own_pi_rule, pi_rule, pty_rule, quiet_rule};
 ghost use Rattle.rds_cli.specs.CommandLine.{running_rule, sim_app, slots_app, station_app, timed_app, top_app, tp_rule};
-ghost use Rattle.rds_cli.specs.CommandLine.{whole_app, why_rule};
+ghost use Rattle.rds_cli.specs.CommandLine.{whole_app, why_rule, witness_app};
 
 use clap::builder::ValueParser;
 use clap::{Arg, ArgAction, Command, value_parser};
@@ -203,6 +203,36 @@ fn flag_alone<'a>(alloc: Global) -> Arg<'a>
     )
 }
 
+/// Makes the option `--lose`. `clap` accepts any text; the engine checks the spans.
+fn lose<'a>(alloc: Global) -> Arg<'a>
+    ensures rule { rule_of result ≡ lose_rule }
+    ensures local { result.global ≡ false }
+{
+    let help = "Prints the mixes of a receiver that loses these slots, for example 3-7,12";
+    Arg::new(alloc, "lose")
+        .long("lose")
+        .value_name("SPANS")
+        .help(help)
+        .long_help(
+            "Prints the mixes of a receiver that loses these slots, for example 3-7,12: spans in\n\
+             ascending order with a comma between them, each its first and its last slot or its\n\
+             only one. Prints one line of `decode` for each mix, status 1.",
+        )
+}
+
+/// Makes the flag `--flag-alone` of `witness`.
+fn lossy_flag_alone<'a>(alloc: Global) -> Arg<'a>
+    ensures rule { rule_of result ≡ flag_alone_rule }
+    ensures local { result.global ≡ false }
+{
+    let help = "The receiver of --lose follows the A/B flag alone, as radios without a dwell do";
+    flag(alloc, "flag-alone", help).long_help(
+        "The receiver of --lose follows the A/B flag alone, as radios without a dwell do: it\n\
+         drops a text only after 65,535 slots without a part of it. M is then only the number\n\
+         of slots in which a receiver that loses nothing may still show the same.",
+    )
+}
+
 /// Makes the flag `--why`.
 fn why<'a>(alloc: Global) -> Arg<'a>
     ensures rule { rule_of result ≡ why_rule }
@@ -326,8 +356,9 @@ fn audit<'a>(alloc: Global) -> Result<Command<'a>, AllocError>
 }
 
 /// Makes the subcommand `witness`.
+#[tactic(auto, unfolding(crate::specs::CommandLine::witness_app))]
 fn witness<'a>(alloc: Global) -> Result<Command<'a>, AllocError>
-    ensures app { IfOk result (λ c. app_of c ≡ log_app (codes "witness")) }
+    ensures app { IfOk result (λ c. app_of c ≡ witness_app (codes "witness")) }
     ensures local { IfOk result (λ c. (out-Command c).has_globals ≡ false) }
 {
     let page = Page {
@@ -339,11 +370,17 @@ fn witness<'a>(alloc: Global) -> Result<Command<'a>, AllocError>
                  Prints `no witness found with one burst lost`, status 0, if no burst of lost slots\n\
                  makes a mix. Two bursts may still make one. If the line ends with ` up to slot N`,\n\
                  the search stopped there, and no burst makes a mix before that slot.\n\n\
+                 With --lose, prints the line of `decode` for each mix of a receiver that loses these\n\
+                 slots, status 1, or `no mix with these slots lost`, status 0.\n\n\
                  Example:\n  \
                    $ rdsrt witness --pi C201 --m 8 < examples/flags.log\n  \
-                   lose 2-3: 4 text \"POP  FM\"",
+                   lose 2-3: 4 text \"POP  FM\"\n  \
+                   $ rdsrt witness --pi C201 --m 8 --lose 2-3 < examples/flags.log\n  \
+                   4 text \"POP  FM\"",
     };
-    log_reader(alloc, "witness", page)
+    log_reader(alloc, "witness", page)?
+        .arg(lose(alloc))?
+        .arg(lossy_flag_alone(alloc))
 }
 
 /// Makes a subcommand that reads a log with times.

@@ -1,8 +1,9 @@
 //! What the definition of the command line says of written-out arguments.
-ghost use Rattle.std.specs.Prelude.{codes, false, true};
+ghost use Rattle.std.specs.Prelude.{[], codes, false, true};
 ghost use Rattle.rds_cli.specs.CommandLine.{AskFor, AskForHelp, default_dwell};
 ghost use Rattle.rds_cli.specs.Examples.{AreNotTaken, CallForHelp, auditing, auditing_running, confirming, decoding};
-ghost use Rattle.rds_cli.specs.Examples.{decoding_why, encoding, filling, filling_one, listing_running, quietly};
+ghost use Rattle.rds_cli.specs.Examples.{decoding_why, encoding, filling, filling_one, listing_running, losing};
+ghost use Rattle.rds_cli.specs.Examples.{quietly};
 ghost use Rattle.rds_cli.specs.Examples.{simulating, simulating_flag_alone, simulating_confirmed, typed, witnessing};
 
 /// Shows the definition at work. The arguments of README's examples are taken and ask for these tasks. A dwell of 0
@@ -25,6 +26,13 @@ pub fn words_of_the_examples()
     ensures audit_all { AskFor (typed (codes "rdsrt audit --running --all --pi C201"))
         (listing_running default_dwell) }
     ensures witness { AskFor (typed (codes "rdsrt witness --pi C201 --m 8")) (witnessing 8) }
+    ensures witness_lose { AskFor (typed (codes "rdsrt witness --pi C201 --m 8 --lose 3-7,12"))
+        (losing (codes "3-7,12") 8 false) }
+    ensures witness_flag_alone { AskFor (typed (codes "rdsrt witness --pi C201 -m 8 --flag-alone --lose 2-3"))
+        (losing (codes "2-3") 8 true) }
+    ensures witness_without_spans { AskFor (typed (codes "rdsrt witness --pi C201 -m 8 --flag-alone"))
+        (losing [] 8 true) }
+    ensures decode_lose { AreNotTaken (typed (codes "rdsrt decode --pi C201 --lose 2-3")) }
     ensures slots { AskFor (typed (codes "rdsrt slots")) (filling default_dwell 20) }
     ensures slots_grain { AskFor (typed (codes "rdsrt slots --m 8 --grain 0")) (filling 8 0) }
     ensures slots_pi { AskFor (typed (codes "rdsrt slots --pi C201")) (filling_one (codes "C201") default_dwell 20) }

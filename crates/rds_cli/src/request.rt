@@ -3,8 +3,8 @@ ghost use Rattle.std.specs.Prelude.{◌≡◌, ◌⊎◌, ℕ, IfErr, IfNone, If
 ghost use Rattle.clap.specs.Words.{FailsBy, fault_of, found_of, kind_of, rows_of};
 ghost use Rattle.rds_cli.specs.Asks.{asked_by};
 ghost use Rattle.rds_cli.specs.CommandLine.{AreRefused, AskForHelp, IsPi, TakesWords, asked_in, asked_of};
-ghost use Rattle.rds_cli.specs.CommandLine.{flag_in, grain_in, has_value, is_shown, pi_in};
-ghost use Rattle.rds_cli.specs.CommandLine.{programme_in, slots_in, task_in, whole_app, window_in};
+ghost use Rattle.rds_cli.specs.CommandLine.{flag_in, grain_in, has_value, is_shown, lose_in, pi_in};
+ghost use Rattle.rds_cli.specs.CommandLine.{programme_in, slots_in, task_in, whole_app, window_in, witness_in};
 
 use crate::command_line::whole;
 use clap::error::ErrorKind;
@@ -57,6 +57,11 @@ pub enum Task {
     },
     /// Print which slots of such a log a receiver has to lose to show a mix.
     Witness,
+    /// Print all mixes of a receiver that loses given slots of such a log.
+    Lose {
+        /// Whether the receiver follows the A/B flag bit alone.
+        flag_alone: bool,
+    },
     /// Print a log with times, and a line for each slot that it lacks. Its times are off by at most so many
     /// milliseconds. The flag: lines of other programmes are left out.
     Slots(Place<88>, bool),
@@ -68,6 +73,8 @@ pub struct Request<'a> {
     pub task: Task,
     /// The argument of `--pi`, unchecked.
     pub pi: &'a str,
+    /// The argument of `--lose`, unchecked. Empty if there is none.
+    pub lose: &'a str,
     pub dwell: Dwell,
     /// Whether warnings are left out.
     pub quiet: bool,
@@ -119,6 +126,7 @@ fn request_of<'a>(name: &'a str, inner: &ArgMatches<'a>) -> Option<Request<'a>>
     Some(Request {
         task: task_of(name, inner)?,
         pi: pi_of(name, inner)?,
+        lose: lose_of(inner),
         dwell: slots_of(inner, "m")?,
         quiet: is_given(inner, "quiet"),
     })
@@ -149,7 +157,7 @@ fn task_of(name: &str, inner: &ArgMatches<'_>) -> Option<Task>
             running: is_given(inner, "running"),
             lists_all: is_given(inner, "all"),
         }),
-        "witness" => Some(Task::Witness),
+        "witness" => Some(witness_of(inner)),
         "slots" => Some(Task::Slots(grain_of(inner)?, has_value(inner, "pi"))),
         _ => None,
     }
@@ -163,6 +171,28 @@ fn pi_of<'a>(name: &str, inner: &ArgMatches<'a>) -> Option<&'a str>
         return Some(pi);
     }
     if name == "slots" { Some("0000") } else { None }
+}
+
+/// Reads the argument of `--lose`. Empty if there is none.
+fn lose_of<'a>(inner: &ArgMatches<'a>) -> &'a str
+    ensures { result.now ≡ lose_in (rows_of (found_of inner.now)) }
+{
+    match inner.get_str("lose") {
+        Some(text) => text,
+        None => "",
+    }
+}
+
+/// Reads the task of `witness`.
+fn witness_of(inner: &ArgMatches<'_>) -> Task
+    ensures { result ≡ witness_in (rows_of (found_of inner.now)) }
+{
+    let flag_alone = is_given(inner, "flag-alone");
+    if has_value(inner, "lose") || flag_alone {
+        Task::Lose { flag_alone }
+    } else {
+        Task::Witness
+    }
 }
 
 /// Returns whether an option has a value.

@@ -1,6 +1,6 @@
 use Rattle.std.proofs.Common.{◌≡◌, ◌∙◌, IfOk, Ok, Result, ap, codes, subst}
 use Rattle.clap.specs.Words.{App, Shape, app_of, with_subcommand}
-use Rattle.rds_cli.specs.CommandLine.{audit_app, decode_app, log_app, log_readers_app, sim_app, slots_app, station_app, with_decode_app, without_sim_app}
+use Rattle.rds_cli.specs.CommandLine.{audit_app, decode_app, log_readers_app, sim_app, slots_app, station_app, with_decode_app, without_sim_app, witness_app}
 use Rattle.rds_cli.proofs.command_line.whole.Goals as goal
 
 -- a command that has one subcommand more than the one that was known
@@ -20,9 +20,9 @@ returns c =
     let audited : app_of c.in_ok-with_audit.with_audit ≡ with_subcommand with_decode_app (audit_app (codes "audit")).top =
     one_more app_of _ _ _ _ _ c.in_ok-with_audit.was
     (c.with-2.ensures (audit_app (codes "audit")) c.audit.ensures.app c.audit.ensures.local) decoder in
-    let witnessed : app_of c.in_ok-with_witness.with_witness ≡ with_subcommand (with_subcommand with_decode_app (audit_app (codes "audit")).top) (log_app (codes "witness")).top =
+    let witnessed : app_of c.in_ok-with_witness.with_witness ≡ with_subcommand (with_subcommand with_decode_app (audit_app (codes "audit")).top) (witness_app (codes "witness")).top =
     one_more app_of _ _ _ _ _ c.in_ok-with_witness.was
-    (c.with-3.ensures (log_app (codes "witness")) c.witness.ensures.app c.witness.ensures.local) audited in
+    (c.with-3.ensures (witness_app (codes "witness")) c.witness.ensures.app c.witness.ensures.local) audited in
     let log_readers : app_of c.in_ok-with_slots.with_slots ≡ log_readers_app =
     one_more app_of _ _ _ _ _ c.in_ok-with_slots.was
     (c.with-4.ensures (slots_app (codes "slots")) c.slots.ensures.app c.slots.ensures.local) witnessed in
