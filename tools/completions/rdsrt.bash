@@ -3,7 +3,7 @@ _rdsrt() {
     local word=${COMP_WORDS[COMP_CWORD]} before=${COMP_WORDS[COMP_CWORD - 1]} command='' it offered
     COMPREPLY=()
     # the value of an option
-    case $before in --pi | --m | -m | --confirm | --k | -k | --pty | --grain) return ;; esac
+    case $before in --pi | --m | -m | --confirm | --k | -k | --pty | --grain | --lose) return ;; esac
     for it in "${COMP_WORDS[@]:1:COMP_CWORD-1}"; do
         case $it in decode | audit | witness | slots | encode | sim | help) command=$it && break ;; esac
     done
@@ -11,7 +11,7 @@ _rdsrt() {
         '') offered='decode audit witness slots encode sim help --help --version' ;;
         help) offered='decode audit witness slots encode sim help' ;;
         decode) offered='--pi --m --confirm --why --quiet --help' ;;
-        witness) offered='--pi --m --quiet --help' ;;
+        witness) offered='--pi --m --lose --flag-alone --quiet --help' ;;
         audit) offered='--pi --m --k --running --all --quiet --help' ;;
         slots) offered='--pi --grain --m --quiet --help' ;;
         encode) offered='--pi --m --k --pty --tp --quiet --help' ;;

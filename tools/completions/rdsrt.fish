@@ -18,6 +18,8 @@ complete -c rdsrt -n "$no_help decode audit witness slots encode sim" -s m -l m 
 complete -c rdsrt -n "$no_help decode sim" -l confirm -x -d 'Shows only what was received twice within W slots, 2 to 255'
 complete -c rdsrt -n "$no_help decode sim" -l why -d 'Says why a text or a name is not shown any more'
 complete -c rdsrt -n "$no_help sim" -l flag-alone -d 'The receivers follow the A/B flag alone, as radios without a dwell do'
+complete -c rdsrt -n "$no_help witness" -l lose -x -d 'Prints the mixes of a receiver that loses these slots'
+complete -c rdsrt -n "$no_help witness" -l flag-alone -d 'The receiver of --lose follows the A/B flag alone, as radios without a dwell do'
 complete -c rdsrt -n "$no_help audit encode sim" -s k -l k -x -d 'Lateness K in slots, 0 to 1024'
 complete -c rdsrt -n "$no_help audit" -l running -d 'The station was on air before the log began'
 complete -c rdsrt -n "$no_help audit" -l all -d 'Prints each fault of the log'

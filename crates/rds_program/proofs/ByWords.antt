@@ -54,12 +54,12 @@ none_answered test words none answered = let bad : false ≡ true = rw none at a
 one_asked : {x y : Requested} → Some x ≡ Some y → x ≡ y
 one_asked e = cc
 
-pub by_words : (words : List (List ℕ)) (read : Result (Option Request) Error) (Engine : Task → Tuning → Type 0) (Rests : Type 0) (w : Traffic) (status : ℕ)
+pub by_words : (words : List (List ℕ)) (read : Result (Option Request) Error) (Engine : Task → List ℕ → Tuning → Type 0) (Rests : Type 0) (w : Traffic) (status : ℕ)
     → ReadAs words read → RunsRead read Engine Rests w status → RunsWords words Engine Rests w status
 by_words words (Ok (Some request)) Engine Rests w status known ran = record {
   runs = λ asked pi given is.
       let same : asked_by request ≡ asked = one_asked (known.ok ∙ given.ask) in
-      inr (subst (λ (a : Requested). Engine a.task (tuned pi a.dwell)) same (ran.runs pi (subst (λ (a : Requested). IsPi a.pi pi) (sym same) is)));
+      inr (subst (λ (a : Requested). Engine a.task a.lose (tuned pi a.dwell)) same (ran.runs pi (subst (λ (a : Requested). IsPi a.pi pi) (sym same) is)));
   fault_pi = λ asked given none.
       let same : asked_by request ≡ asked = one_asked (known.ok ∙ given.ask) in
       let (refused, rests) = ran.fault_pi (subst (λ (a : Requested). (pi : ℕ) → IsPi a.pi pi → ⊥) (sym same) none) in

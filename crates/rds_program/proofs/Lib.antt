@@ -1,2 +1,3 @@
 pub mod ByWords
 pub mod Premises
+pub mod Memory

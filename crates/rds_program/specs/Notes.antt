@@ -2,7 +2,7 @@
 use Rattle.std.specs.Prelude.{◌==◌, ◌&&◌, ◌++◌, ◌∷◌, [], ℕ, Bool, false, true, List, None, Some, Option}
 use Rattle.std.specs.Prelude.{if◌then◌else◌, is_some, nat_lt}
 use Rattle.rds_cli.specs.declared.request.Task.{Task}
-use Rattle.rds_cli.specs.declared.request.Task.TheVariants.{Audit, Decode, Encode, Simulate, Slots, Witness}
+use Rattle.rds_cli.specs.declared.request.Task.TheVariants.{Audit, Decode, Encode, Lose, Simulate, Slots, Witness}
 use Rattle.rds_log.specs.Heard.{count_of}
 use Rattle.rds_log.specs.declared.heard.GroupCounts.{GroupCounts}
 use Rattle.rds_log.specs.declared.notes.LogNotes.{LogNotes}
@@ -12,7 +12,7 @@ use Rattle.rds_program.specs.declared.note.Note.TheVariants.{NoGroup, NothingToR
 use Rattle.rds_program.specs.declared.note.Note.TheVariants.{ShortTexts, Untimed}
 use Rattle.rds_program.specs.declared.note.Note.TheVariants as note
 use Rattle.rds_program.specs.declared.notes.End.{End}
-use Rattle.rds_program.specs.declared.notes.End.TheVariants.{BadPi, BadWindow, Done, Fault, NotRun}
+use Rattle.rds_program.specs.declared.notes.End.TheVariants.{BadPi, BadSpans, BadWindow, Done, Fault, NotRun}
 use Rattle.rds_program.specs.declared.notes.Options.{Options}
 use Rattle.rds_program.specs.declared.notes.RunNotes.{RunNotes}
 
@@ -50,6 +50,7 @@ abbrev pub read_note : Bool → End → LogNotes → Option Note
 read_note judges NotRun log = None
 read_note judges BadPi log = None
 read_note judges BadWindow log = None
+read_note judges BadSpans log = None
 read_note judges (Fault fault) log = None
 read_note judges Done log =
     unless_no log.no (if log.heard.wanted then groups_note judges log.heard.counts else Some NoGroup)
@@ -60,6 +61,7 @@ log_note (Encode programme late) end log = None
 log_note (Simulate programme late window alone why) end log = None
 log_note (Audit late running all) end log = read_note true end log
 log_note Witness end log = read_note false end log
+log_note (Lose alone) end log = read_note false end log
 log_note (Slots grain only) end log = None
 
 -- the warnings of a command, after these notes
@@ -81,6 +83,7 @@ end_note NotRun gone = None
 end_note Done gone = None
 end_note BadPi gone = Some note.BadPi
 end_note BadWindow gone = Some note.BadWindow
+end_note BadSpans gone = Some note.BadSpans
 end_note (Fault fault) gone = if gone then None else Some note.Fault
 
 -- with `--quiet` only the note on why it stopped

@@ -12,6 +12,7 @@ use Rattle.rds_io.specs.Told.{HasFailed, IsCalm, PutsNothing, Traffic, traffic}
 use Rattle.rds_io.specs.declared.told.WriteFault.{WriteFault}
 use Rattle.rds_receiver.specs.Receipts.{Tuning}
 use Rattle.rds_world.specs.Premise.{Premise, lateness_in}
+use Rattle.rds_world.specs.ReceiverKind.{dwell_of}
 use Rattle.rds_world.specs.declared.receiver_kind.ReceiverKind.{ReceiverKind}
 use Rattle.rds_world.specs.declared.receiver_kind.ReceiverKind.TheVariants.{FlagAlone, WithDwell}
 use Rattle.rds_world.specs.declared.world.Config.{Config}
@@ -31,13 +32,15 @@ use Rattle.rds_script.specs.Play.{Plays, Reading, with_form}
 use Rattle.rds_io.specs.declared.fault.LogFault.{LogFault}
 use Rattle.rds_io.specs.declared.fault.LogFault.TheVariants.{BadLine, BadRow, Read, Write, TooLong, Memory}
 use Rattle.rds_script.specs.declared.form.Form.TheVariants.{Log, Simulation}
-use Rattle.rds_witness.specs.Witness.{Witnesses}
+use Rattle.rds_witness.specs.Spans.{bursts_in}
+use Rattle.rds_witness.specs.Witness.{Loses, Witnesses}
+use Rattle.rds_witness.specs.declared.burst.Burst.{Burst}
 use Rattle.rds_cli.specs.Asks.{asked_by}
 use Rattle.rds_cli.specs.CommandLine.{AreRefused, AskFor, AskForHelp, Requested, IsPi, TakesWords, asked_in, is_shown}
 use Rattle.rds_cli.specs.declared.request.Programme.{Programme}
 use Rattle.rds_cli.specs.declared.request.Request.{Request}
 use Rattle.rds_cli.specs.declared.request.Task.{Task}
-use Rattle.rds_cli.specs.declared.request.Task.TheVariants.{Audit, Decode, Encode, Simulate, Slots, Witness}
+use Rattle.rds_cli.specs.declared.request.Task.TheVariants.{Audit, Decode, Encode, Lose, Simulate, Slots, Witness}
 
 -- the traffic of a call begins with these bytes and this number of failures
 pub record StartsFrom (t : Traffic) (bytes : Option (List ℕ)) (failures : ℕ) : Type 0 where
@@ -77,6 +80,7 @@ mark_of (Encode programme late) = codes "# "
 mark_of (Simulate programme late window alone why) = []
 mark_of (Audit late running all) = []
 mark_of Witness = []
+mark_of (Lose alone) = []
 mark_of (Slots grain only) = codes "# "
 
 abbrev pub TellsFault : Task → List ℕ → Traffic → Type 0
@@ -170,6 +174,10 @@ abbrev pub filling_of : Tuning → ℕ → Bool → Filling
 filling_of t grain only =
     record { pi = if only then Some t.programme else None; grain = grain; dwell = t.dwell }
 
+-- the receiver that loses given slots has this dwell, or follows the flag bit alone
+abbrev pub lossy : Bool → Tuning → Tuning
+lossy alone t = record t { dwell = dwell_of (kind_for alone) t.dwell }
+
 -- the bytes of the reader of a script, and the fact that one of its reads failed
 abbrev pub script_in : ReaderOver → Reading
 script_in r = record { known = r.traffic.before; Failed = r.ReadFailed }
@@ -188,22 +196,40 @@ SimulationRuns why None task r w status = RefusesWindow task w status × r.Untou
 SimulationRuns why (Some station) task r w status =
     Runs (Plays (with_form (Simulation why) station) (2 ^ 32) (script_in r)) done task w status
 
--- the engine of the task ran, with receivers that are tuned so; the receiver of `decode` has the window of the task
-abbrev pub TaskRuns : Task → Tuning → ReaderOver → Traffic → ℕ → Type 0
-TaskRuns (Decode window why) t r w status =
+-- the slots to lose were refused: they are no spans in ascending order
+pub record RefusesSpans (task : Task) (w : Traffic) (status : ℕ) : Type 0 where
+  pub status_is : status ≡ 2
+  pub told : TellsFault task (codes "fault lose") w
+
+-- the program was out of memory for the slots to lose
+pub record NoMemoryFor (task : Task) (w : Traffic) (status : ℕ) : Type 0 where
+  pub status_is : status ≡ 1
+  pub told : PutsAfter task Memory w
+
+-- a receiver that is tuned so lost these slots, and a receiver that loses nothing was looked at for so many slots;
+-- without slots they were refused, and nothing was read
+abbrev pub LossRuns : Option (List Burst) → Tuning → ℕ → Task → ReaderOver → Traffic → ℕ → Type 0
+LossRuns None t ahead task r w status = (RefusesSpans task w status ⊎ NoMemoryFor task w status) × r.Untouched
+LossRuns (Some lost) t ahead task r w status = Runs (Loses t ahead lost r.traffic) witness_status task w status
+
+-- the engine of the task ran, with receivers that are tuned so; the receiver of `decode` has the window of the task, and
+-- with the task `Lose` the text gives the slots to lose
+abbrev pub TaskRuns : Task → List ℕ → Tuning → ReaderOver → Traffic → ℕ → Type 0
+TaskRuns (Decode window why) lose t r w status =
     Runs (Decodes (decoding_of t window why) (2 ^ 32) r.traffic) done (Decode window why) w status
-TaskRuns (Encode programme late) t r w status =
+TaskRuns (Encode programme late) lose t r w status =
     Runs (Plays (with_form Log (station_of t programme (once late) WithDwell)) (2 ^ 32) (script_in r)) done
     (Encode programme late) w status
-TaskRuns (Simulate programme late window alone why) t r w status =
+TaskRuns (Simulate programme late window alone why) lose t r w status =
     SimulationRuns why (simulated_station t programme late window alone) (Simulate programme late window alone why) r w
     status
-TaskRuns (Audit late running false) t r w status =
+TaskRuns (Audit late running false) lose t r w status =
     Runs (Audits (auditing_of t late running) (2 ^ 32) r.traffic) verdict_status (Audit late running false) w status
-TaskRuns (Audit late running true) t r w status =
+TaskRuns (Audit late running true) lose t r w status =
     Runs (Lists (auditing_of t late running) (2 ^ 32) r.traffic) verdict_status (Audit late running true) w status
-TaskRuns Witness t r w status = Runs (Witnesses t r.traffic) witness_status Witness w status
-TaskRuns (Slots grain only) t r w status =
+TaskRuns Witness lose t r w status = Runs (Witnesses t r.traffic) witness_status Witness w status
+TaskRuns (Lose alone) lose t r w status = LossRuns (bursts_in lose) (lossy alone t) t.dwell (Lose alone) r w status
+TaskRuns (Slots grain only) lose t r w status =
     Runs (Fills (filling_of t (1000 * grain) only) r.traffic) times_status (Slots grain only) w status
 
 -- the programme identification is refused
@@ -228,11 +254,12 @@ reader_before remaining failures reader =
 
 -- the engine of a task ran over a reader that was in this state, and it found a failed read only if one of its reads
 -- failed
-pub record RunsFrom (reader : ReaderBefore) (w : Traffic) (status : ℕ) (task : Task) (t : Tuning) : Type 0 where
+pub record RunsFrom (reader : ReaderBefore) (w : Traffic) (status : ℕ) (task : Task) (lose : List ℕ)
+    (t : Tuning) : Type 0 where
   pub r : Traffic
   pub starts : StartsFrom r reader.bytes reader.failures
   pub fails : HasFailed r → reader.ReadFailed
-  pub ran : TaskRuns task t
+  pub ran : TaskRuns task lose t
       (record { traffic = r; ReadFailed = reader.ReadFailed; Untouched = (r.after ≡ r.before) × IsCalm r }) w status
 
 -- the status of an answer of `clap`: 1 if the program is out of memory, 0 for help and the version, and 2 for a refusal
@@ -246,14 +273,14 @@ pub record TellsError (kind : ErrorKind) (w : Traffic) (status : ℕ) : Type 0 w
   pub no_memory : kind ≡ OutOfMemory → PutsLine (codes "fault memory\n") w
 
 -- the engine of a request ran, unless its programme identification is refused
-pub record AnswersRequest (asked : Requested) (Engine : Task → Tuning → Type 0) (Rests : Type 0) (w : Traffic)
+pub record AnswersRequest (asked : Requested) (Engine : Task → List ℕ → Tuning → Type 0) (Rests : Type 0) (w : Traffic)
     (status : ℕ) : Type 0 where
-  pub runs : (pi : ℕ) → IsPi asked.pi pi → Engine asked.task (tuned pi asked.dwell)
+  pub runs : (pi : ℕ) → IsPi asked.pi pi → Engine asked.task asked.lose (tuned pi asked.dwell)
   pub fault_pi : ((pi : ℕ) → IsPi asked.pi pi → ⊥) → RefusesPi asked.task w status × Rests
 
 -- what the program does, given the result of reading its arguments: it writes the answer of `clap`, or it does nothing,
 -- or it runs a request. Rests holds if no engine ran
-abbrev pub RunsRead : Result (Option Request) Error → (Task → Tuning → Type 0) → Type 0 → Traffic → ℕ → Type 0
+abbrev pub RunsRead : Result (Option Request) Error → (Task → List ℕ → Tuning → Type 0) → Type 0 → Traffic → ℕ → Type 0
 RunsRead (Err error) Engine Rests w status = TellsError (kind_of error) w status × Rests
 RunsRead (Ok None) Engine Rests w status = (status ≡ 2) × PutsNothing w × Rests
 RunsRead (Ok (Some request)) Engine Rests w status = AnswersRequest (asked_by request) Engine Rests w status
@@ -261,10 +288,10 @@ RunsRead (Ok (Some request)) Engine Rests w status = AnswersRequest (asked_by re
 -- what the program does over these arguments: it runs the engine of their task, or it refuses their programme
 -- identification. The other fields give its status if the arguments name no task, ask for help, are refused or are not
 -- taken. In each case the program may be out of memory instead. Rests holds if no engine ran
-pub record RunsWords (words : List (List ℕ)) (Engine : Task → Tuning → Type 0) (Rests : Type 0) (w : Traffic)
+pub record RunsWords (words : List (List ℕ)) (Engine : Task → List ℕ → Tuning → Type 0) (Rests : Type 0) (w : Traffic)
     (status : ℕ) : Type 0 where
   pub runs : (asked : Requested) (pi : ℕ) → AskFor words asked → IsPi asked.pi pi
-      → (NoMemory w status × Rests) ⊎ Engine asked.task (tuned pi asked.dwell)
+      → (NoMemory w status × Rests) ⊎ Engine asked.task asked.lose (tuned pi asked.dwell)
   pub fault_pi : (asked : Requested) → AskFor words asked → ((pi : ℕ) → IsPi asked.pi pi → ⊥)
       → (NoMemory w status ⊎ RefusesPi asked.task w status) × Rests
   pub nothing_asked : TakesWords words → asked_in words ≡ None

@@ -12,19 +12,21 @@ use Rattle.rds_script.specs.BorrowedReads.{plays_by}
 use Rattle.rds_script.specs.Play.{Plays, with_form}
 use Rattle.rds_script.specs.declared.play.Playing.{Playing}
 use Rattle.rds_script.specs.declared.form.Form.TheVariants.{Log, Simulation}
+use Rattle.rds_witness.specs.Spans.{bursts_in}
+use Rattle.rds_witness.specs.declared.burst.Burst.{Burst}
 use Rattle.rds_cli.specs.declared.request.Task.{Task}
-use Rattle.rds_cli.specs.declared.request.Task.TheVariants.{Audit, Decode, Encode, Simulate, Slots, Witness}
-use Rattle.rds_program.specs.Run.{NoMemory, Runs, RunsWords, SimulationRuns, TaskRuns}
-use Rattle.rds_program.specs.Run.{done, once, simulated_station, station_of}
+use Rattle.rds_cli.specs.declared.request.Task.TheVariants.{Audit, Decode, Encode, Lose, Simulate, Slots, Witness}
+use Rattle.rds_program.specs.Run.{LossRuns, NoMemory, Runs, RunsWords, SimulationRuns, TaskRuns}
+use Rattle.rds_program.specs.Run.{done, lossy, once, simulated_station, station_of}
 
 -- a run of engines that do more, with another statement for the case that no engine ran
-pub runs_by : {Rests Rested : Type 0} (words : List (List ℕ)) (Engine Weaker : Task → Tuning → Type 0) (w : Traffic)
-    (status : ℕ) → ((task : Task) (t : Tuning) → Engine task t → Weaker task t) → (Rests → Rested)
+pub runs_by : {Rests Rested : Type 0} (words : List (List ℕ)) (Engine Weaker : Task → List ℕ → Tuning → Type 0) (w : Traffic)
+    (status : ℕ) → ((task : Task) (lose : List ℕ) (t : Tuning) → Engine task lose t → Weaker task lose t) → (Rests → Rested)
     → RunsWords words Engine Rests w status → RunsWords words Weaker Rested w status
 runs_by words Engine Weaker w status engine rests did = record {
   runs = λ asked pi given is. elim (did.runs asked pi given is) [
     | inl memory ↦ inl (memory.0, rests memory.1)
-    | inr ran ↦ inr (engine asked.task (tuned pi asked.dwell) ran)
+    | inr ran ↦ inr (engine asked.task asked.lose (tuned pi asked.dwell) ran)
   ];
   fault_pi = λ asked given none. let it = did.fault_pi asked given none in (it.0, rests it.1);
   nothing_asked = λ takes none. let it = did.nothing_asked takes none in (it.0, rests it.1);
@@ -34,7 +36,7 @@ runs_by words Engine Weaker w status engine rests did = record {
 }
 
 -- a program that is out of memory for its arguments keeps every promise
-pub runs_without_memory : {Rests : Type 0} (words : List (List ℕ)) (Engine : Task → Tuning → Type 0) (w : Traffic)
+pub runs_without_memory : {Rests : Type 0} (words : List (List ℕ)) (Engine : Task → List ℕ → Tuning → Type 0) (w : Traffic)
     (status : ℕ) → NoMemory w status → Rests → RunsWords words Engine Rests w status
 runs_without_memory words Engine w status memory rests = record {
   runs = λ asked pi given is. inl (memory, rests);
@@ -68,19 +70,29 @@ simulation_by says rests why None task r w status ran = (ran.0, rests ran.1)
 simulation_by says rests why (Some station) task r w status ran =
     script_by says (with_form (Simulation why) station) task r.before w status ran
 
+-- the run of a receiver that loses given slots, with other statements about its reads
+loss_by : (P Q : Type 0) {U V : Type 0} → (U → V) → (lost : Option (List Burst)) (t : Tuning) (ahead : ℕ) (task : Task)
+    (r w : Traffic) (status : ℕ)
+    → LossRuns lost t ahead task (record { traffic = r; ReadFailed = P; Untouched = U }) w status
+    → LossRuns lost t ahead task (record { traffic = r; ReadFailed = Q; Untouched = V }) w status
+loss_by P Q rests None t ahead task r w status ran = (ran.0, rests ran.1)
+loss_by P Q rests (Some lost) t ahead task r w status ran = ran
+
 -- the run of a task, with other statements about its reads
-pub task_by : {P Q U V : Type 0} → (P → Q) → (U → V) → (task : Task) (t : Tuning) (r w : Traffic) (status : ℕ)
-    → TaskRuns task t (record { traffic = r; ReadFailed = P; Untouched = U }) w status
-    → TaskRuns task t (record { traffic = r; ReadFailed = Q; Untouched = V }) w status
-task_by says rests (Decode window why) t r w status ran = ran
-task_by says rests (Audit late running false) t r w status ran = ran
-task_by says rests (Audit late running true) t r w status ran = ran
-task_by says rests Witness t r w status ran = ran
-task_by says rests (Slots grain only) t r w status ran = ran
-task_by says rests (Encode programme late) t r w status ran =
+pub task_by : {P Q U V : Type 0} → (P → Q) → (U → V) → (task : Task) (lose : List ℕ) (t : Tuning) (r w : Traffic)
+    (status : ℕ) → TaskRuns task lose t (record { traffic = r; ReadFailed = P; Untouched = U }) w status
+    → TaskRuns task lose t (record { traffic = r; ReadFailed = Q; Untouched = V }) w status
+task_by says rests (Decode window why) lose t r w status ran = ran
+task_by says rests (Audit late running false) lose t r w status ran = ran
+task_by says rests (Audit late running true) lose t r w status ran = ran
+task_by says rests Witness lose t r w status ran = ran
+task_by says rests (Lose alone) lose t r w status ran =
+    loss_by _ _ rests (bursts_in lose) (lossy alone t) t.dwell (Lose alone) r w status ran
+task_by says rests (Slots grain only) lose t r w status ran = ran
+task_by says rests (Encode programme late) lose t r w status ran =
     script_by says (with_form Log (station_of t programme (once late) WithDwell)) (Encode programme late) r.before w
     status ran
-task_by says rests (Simulate programme late window alone why) t r w status ran =
+task_by says rests (Simulate programme late window alone why) lose t r w status ran =
     simulation_by says rests why (simulated_station t programme late window alone)
     (Simulate programme late window alone why) r w status ran
 

@@ -99,6 +99,7 @@ fn push_running(no: NoNote, task: Task, line: &mut Line) {
         | Task::Encode(..)
         | Task::Simulate { .. }
         | Task::Witness
+        | Task::Lose { .. }
         | Task::Slots(..) => false,
     };
     if takes_it && may_be_old {

@@ -56,6 +56,8 @@ pub(crate) enum Note {
     BadPi,
     /// Why the window of `sim` was refused.
     BadWindow,
+    /// Why the slots to lose were refused.
+    BadSpans,
     /// The fault at which the run stopped.
     Fault,
 }
@@ -121,7 +123,7 @@ fn log_note(task: Task, end: End, log: &LogNotes) -> Option<Note>
     ensures { result ≡ specs.log_note task end log.now }
 {
     match task {
-        Task::Decode { .. } | Task::Witness => read_note(false, end, log),
+        Task::Decode { .. } | Task::Witness | Task::Lose { .. } => read_note(false, end, log),
         Task::Audit { .. } => read_note(true, end, log),
         Task::Encode(..) | Task::Simulate { .. } | Task::Slots(..) => None,
     }
@@ -177,6 +179,7 @@ fn end_note(end: End, is_gone: bool) -> Option<Note>
         End::NotRun | End::Done => None,
         End::BadPi => Some(Note::BadPi),
         End::BadWindow => Some(Note::BadWindow),
+        End::BadSpans => Some(Note::BadSpans),
         End::Fault(_) if is_gone => None,
         End::Fault(_) => Some(Note::Fault),
     }

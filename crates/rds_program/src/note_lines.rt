@@ -97,6 +97,7 @@ fn line_of(note: Note, run: &RunNotes, reason: Option<&io::Error>) -> Line {
         Note::ShortTexts => push_short(run, "", "read", &mut line),
         Note::BadPi => push_pi(run.pi.as_slice(), &mut line),
         Note::BadWindow => push_window(&mut line),
+        Note::BadSpans => push_spans(&mut line),
         Note::Fault => push_fault(options.task, run, reason, &mut line),
     }
     line
@@ -115,6 +116,7 @@ fn push_nothing(task: Task, run: &RunNotes, line: &mut Line) {
         | Task::Encode(..)
         | Task::Simulate { .. }
         | Task::Witness
+        | Task::Lose { .. }
         | Task::Slots(..) => "read",
     };
     push_short(run, "; ", verb, line);
@@ -161,7 +163,7 @@ pub(crate) fn push_count(count: u64, one: &str, more: &str, line: &mut Line) {
 fn nothing_said(task: Task) -> &'static str {
     match task {
         Task::Audit { .. } => ": the yes says nothing",
-        Task::Witness => ": the search says nothing",
+        Task::Witness | Task::Lose { .. } => ": the search says nothing",
         Task::Decode { .. } | Task::Encode(..) | Task::Simulate { .. } | Task::Slots(..) => "",
     }
 }
@@ -215,7 +217,7 @@ fn lack_of(run: &RunNotes) -> Option<(u64, u64)> {
     match run.end {
         End::Done if run.log.no.is_none() => times.lack(run.log.slots),
         End::Done => times.early_lack(),
-        End::NotRun | End::BadPi | End::BadWindow | End::Fault(_) => None,
+        End::NotRun | End::BadPi | End::BadWindow | End::BadSpans | End::Fault(_) => None,
     }
 }
 
@@ -325,6 +327,14 @@ fn push_window(line: &mut Line) {
     );
 }
 
+/// Appends why the slots to lose are refused.
+fn push_spans(line: &mut Line) {
+    let _ = write!(
+        line,
+        "fault lose: --lose takes slots in ascending order, for example 3-7,12; --flag-alone needs --lose"
+    );
+}
+
 /// Appends a fault of the log or script, of the input or of the output.
 fn push_fault(task: Task, run: &RunNotes, reason: Option<&io::Error>, line: &mut Line) {
     let End::Fault(fault) = run.end else {
@@ -426,7 +436,11 @@ fn push_shown(bytes: &[u8], line: &mut Line) {
 fn reads_script(task: Task) -> bool {
     match task {
         Task::Encode(..) | Task::Simulate { .. } => true,
-        Task::Decode { .. } | Task::Audit { .. } | Task::Witness | Task::Slots(..) => false,
+        Task::Decode { .. }
+        | Task::Audit { .. }
+        | Task::Witness
+        | Task::Lose { .. }
+        | Task::Slots(..) => false,
     }
 }
 

@@ -23,6 +23,8 @@ pub enum End {
     BadPi,
     /// The window of `sim` is too long for the lateness.
     BadWindow,
+    /// The slots to lose are no spans in ascending order.
+    BadSpans,
     /// The engine ran to the end of its input.
     Done,
     /// The engine stopped at this fault.

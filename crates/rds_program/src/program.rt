@@ -8,11 +8,13 @@ ghost use Rattle.rds_audit.specs.AuditState.{start_if};
 ghost use Rattle.rds_cli.specs.CommandLine.{IsPi};
 ghost use Rattle.rds_program.specs.Run as specs;
 ghost use Rattle.rds_program.specs.Run.{EndsWith, IsUntouched, PutsAfter, PutsLine, RefusesPi, RunsFrom, RunsRead};
-ghost use Rattle.rds_program.specs.Run.{RunsWords};
+ghost use Rattle.rds_program.specs.Run.{LossRuns, RunsWords};
 ghost use Rattle.rds_program.specs.Run.{SimulationRuns, TaskRuns, TellsFault, done, mark_of, reader_before};
 ghost use Rattle.rds_program.specs.Run.{reader_over};
 ghost use Rattle.rds_program.specs.Run.{script_in, status_of, times_status};
 ghost use Rattle.rds_script.specs.Play.{Plays};
+ghost use Rattle.rds_witness.specs.Spans.{bursts_in};
+ghost use Rattle.rds_world.specs.ReceiverKind.{dwell_of};
 
 use crate::notes::{End, Options, RunNotes};
 use crate::status::{FAULT, NO, OK, REFUSED, write_no_memory};
@@ -29,7 +31,7 @@ use rds_log::{
 };
 use rds_receiver::Window;
 use rds_script::{Form, MOST_RECORDS, Playing, play_script};
-use rds_witness::witness_with_notes;
+use rds_witness::{Losing, bursts_of, lose_with_notes, witness_with_notes};
 use rds_world::{Config, Premise, ReceiverKind};
 use std::alloc::Global;
 use std::io::Write;
@@ -43,7 +45,7 @@ const FAULT_LINE: usize = 64;
 /// `decode` reads a log and writes the view of a receiver. With a window the receiver shows only what it heard twice.
 /// `encode` reads a script and writes the log of a station. `sim` reads a script and writes the station's groups and
 /// the views of its receivers. `audit` reads a log and writes whether it passes. `witness` reads a log and writes
-/// which slots a receiver must lose to show a mix. The line of a fault is the last line of the output.
+/// which slots a receiver must lose to show a mix, or the mixes of a receiver that loses given slots. The line of a fault is the last line of the output.
 ///
 /// If the arguments are refused or ask for help, `run` writes the text of `clap` and reads nothing: the contract of
 /// [`run_with_notes`] says so of its reader. `clap`'s contract does not promise that a number is in its range: for a
@@ -76,7 +78,7 @@ pub fn run_with_notes<R: TellingRead, W: TellingWrite>(
     notes: &mut RunNotes,
 ) -> u8
     ensures { RunsWords (map (λ w. w.now) words.entry.now)
-        (λ task t. TaskRuns task t (reader_over R.remaining R.failures R.reads reader.old reader.new)
+        (λ task lose t. TaskRuns task lose t (reader_over R.remaining R.failures R.reads reader.old reader.new)
         (traffic W.contents W.failures writer.old writer.new) result)
         (IsUntouched R.remaining R.failures R.reads reader.old reader.new)
         (traffic W.contents W.failures writer.old writer.new) result }
@@ -94,7 +96,7 @@ fn run_read<R: TellingRead, W: TellingWrite>(
     notes: &mut RunNotes,
 ) -> u8
     ensures { RunsRead read.entry
-        (λ task t. TaskRuns task t (reader_over R.remaining R.failures R.reads reader.old reader.new)
+        (λ task lose t. TaskRuns task lose t (reader_over R.remaining R.failures R.reads reader.old reader.new)
         (traffic W.contents W.failures writer.old writer.new) result)
         (IsUntouched R.remaining R.failures R.reads reader.old reader.new)
         (traffic W.contents W.failures writer.old writer.new) result }
@@ -136,7 +138,7 @@ fn answer<R: TellingRead, W: TellingWrite>(
     notes: &mut RunNotes,
 ) -> u8
     ensures runs { (pi : ℕ) → IsPi request.now.pi.now pi
-        → TaskRuns request.now.task (tuned pi request.now.dwell)
+        → TaskRuns request.now.task request.now.lose.now (tuned pi request.now.dwell)
         (reader_over R.remaining R.failures R.reads reader.old reader.new)
         (traffic W.contents W.failures writer.old writer.new) result }
     ensures fault_pi { ((pi : ℕ) → IsPi request.now.pi.now pi → ⊥)
@@ -154,33 +156,25 @@ fn answer<R: TellingRead, W: TellingWrite>(
         write_fault_text(request.task, b"fault pi", writer);
         return REFUSED;
     };
-    run_task(
-        alloc,
-        request.task,
-        pi,
-        request.dwell,
-        reader,
-        writer,
-        notes,
-    )
+    run_task(alloc, request, pi, reader, writer, notes)
 }
 
 /// Runs the engine of a command for its programme, and writes the line of its fault.
 fn run_task<R: TellingRead, W: TellingWrite>(
     alloc: Global,
-    task: Task,
+    request: &Request<'_>,
     pi: u16,
-    dwell: Dwell,
     reader: &mut R,
     writer: &mut W,
     notes: &mut RunNotes,
 ) -> u8
-    ensures { TaskRuns task (tuned pi dwell) (reader_over R.remaining R.failures R.reads reader.old reader.new)
+    ensures { TaskRuns request.now.task request.now.lose.now (tuned pi request.now.dwell)
+        (reader_over R.remaining R.failures R.reads reader.old reader.new)
         (traffic W.contents W.failures writer.old writer.new) result }
 {
     // Prover: a matched value is copied by a new name before its second use (docs/PROVER.md, "Workarounds").
-    let asked = task;
-    match task {
+    let (asked, dwell) = (request.task, request.dwell);
+    match request.task {
         Task::Decode { window, says_why } => {
             let decoding = Decoding {
                 pi,
@@ -246,7 +240,49 @@ fn run_task<R: TellingRead, W: TellingWrite>(
                 Err(fault) => fail_with(asked, fault, writer, &mut notes.end),
             }
         }
+        Task::Lose { flag_alone } => lose(alloc, request, pi, flag_alone, reader, writer, notes),
     }
+}
+
+/// Runs `witness` for a receiver that loses given slots. Refuses a text that does not give them.
+fn lose<R: TellingRead, W: TellingWrite>(
+    alloc: Global,
+    request: &Request<'_>,
+    pi: u16,
+    flag_alone: bool,
+    reader: &mut R,
+    writer: &mut W,
+    notes: &mut RunNotes,
+) -> u8
+    ensures { LossRuns (bursts_in request.now.lose.now) (specs.lossy flag_alone (tuned pi request.now.dwell))
+        request.now.dwell request.now.task (reader_over R.remaining R.failures R.reads reader.old reader.new)
+        (traffic W.contents W.failures writer.old writer.new) result }
+{
+    let Ok(bursts) = bursts_of(alloc, request.lose.as_bytes()) else {
+        return fail_with(request.task, LogFault::Memory, writer, &mut notes.end);
+    };
+    let Some(bursts) = bursts else {
+        notes.end = End::BadSpans;
+        write_fault_text(request.task, b"fault lose", writer);
+        return REFUSED;
+    };
+    let losing = Losing {
+        pi,
+        dwell: dwell_for(flag_alone, request.dwell),
+        ahead: request.dwell,
+        lost: bursts.as_slice(),
+    };
+    match lose_with_notes(alloc, reader, writer, &losing, &mut notes.log) {
+        Ok(found) => answer_by(found, NO, OK, &mut notes.end),
+        Err(fault) => fail_with(request.task, fault, writer, &mut notes.end),
+    }
+}
+
+/// Returns the dwell of a receiver that loses given slots.
+fn dwell_for(alone: bool, dwell: Dwell) -> Dwell
+    ensures { result ≡ dwell_of (specs.kind_for alone) dwell }
+{
+    if alone { Dwell::longest() } else { dwell }
 }
 
 /// Simulates a station and its receivers, and says why texts and names are not shown any more, if that is asked for.
@@ -458,7 +494,11 @@ fn mark(task: Task) -> &'static [u8]
 {
     match task {
         Task::Encode(..) | Task::Slots(..) => b"# ",
-        Task::Decode { .. } | Task::Simulate { .. } | Task::Audit { .. } | Task::Witness => b"",
+        Task::Decode { .. }
+        | Task::Simulate { .. }
+        | Task::Audit { .. }
+        | Task::Witness
+        | Task::Lose { .. } => b"",
     }
 }
 

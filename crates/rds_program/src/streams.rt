@@ -61,7 +61,7 @@ pub fn run_over<R: Read, W: Write, N: TellingWrite>(
     screen: &mut N,
 ) -> u8
     ensures { RunsWords (map (λ w. w.now) words.entry.now)
-        (λ task t. TaskRuns task t
+        (λ task lose t. TaskRuns task lose t
         (reader_over (λ i. R.remaining (prompting (reasoned (told (timed i))))) (λ i. failures_of (timed i))
         (λ i. reads_of (timed i)) input.old input.new)
         (traffic (λ o. W.contents (reasoned (writer_of (told o)))) failures_of output.old output.new) result)

@@ -5,10 +5,10 @@ use Rattle.rds_program.proofs.program.run.Goals as goal
 
 pub returns : goal.returns
 returns g c = runs_by _ _ _ _ c.run_with_notes.result
-    (λ task t ran. record {
+    (λ task lose t ran. record {
       r = traffic g.R.Read.remaining g.R.TellingRead.failures c.args.reader c.run_with_notes.new.reader;
       starts = record { bytes_are = refl; failures_are = refl };
       fails = λ failed. ∣ (c.args.reader, c.run_with_notes.new.reader, failed) ∣₁;
-      ran = task_by (λ failed. failed) (λ rests. (rests.bytes_are, rests.failures_are)) task t _ _ c.run_with_notes.result ran;
+      ran = task_by (λ failed. failed) (λ rests. (rests.bytes_are, rests.failures_are)) task lose t _ _ c.run_with_notes.result ran;
     })
     (λ _. tt) c.run_with_notes.ensures
