@@ -7,6 +7,7 @@ SIM = ["sim", "--pi", "C201", "--pty", "10"]
 ENCODE = ["encode", "--pi", "C201", "--pty", "10"]
 AUDIT = ["audit", "--pi", "C201"]
 WITNESS = ["witness", "--pi", "C201", "--m", "8"]
+LOSE = [*WITNESS, "--lose", "2-3"]
 SLOTS = ["slots", "--m", "2"]
 ALL_OPTIONS = ["sim", "--pi", "C201", "--m", "1", "--k", "2", "--pty", "24", "--tp"]
 # the commands of one station, which have the option --pi, and all of them
@@ -23,6 +24,7 @@ ENGINES = [
     ([*ENCODE, "--m", "1"], ENCODED_SCRIPT * 3, b"# "),
     (AUDIT, HI * 3, b""),
     (WITNESS, FLAGS, b""),
+    (LOSE, FLAGS, b""),
     (SLOTS, TIMED, b"# "),
     (DECODE, b"".join(MIXED_LOG.splitlines(keepends=True)[:9]), b""),
 ]

@@ -3,7 +3,7 @@ import os
 import subprocess
 
 from tests import preload
-from tests.calls import AUDIT, DECODE, ENCODE, FLAGS, SHOWS_HI, SIM, SLOTS, TIMED, WITNESS
+from tests.calls import AUDIT, DECODE, ENCODE, FLAGS, LOSE, SHOWS_HI, SIM, SLOTS, TIMED, WITNESS
 from tests.support import PROGRAM, SECONDS, Case, ProgramCase, path, ran, temporary_folder
 from tests.worked_rows import ENCODED_SCRIPT, HI, TAGS_ON_AIR, radios_and_what_is_on_air
 
@@ -22,6 +22,7 @@ CALLS = [
     ("no subcommand", [], b"", False, False),
     ("audit", AUDIT, HI, False, False),
     ("witness", WITNESS, FLAGS, False, False),
+    ("given lost slots", LOSE, FLAGS, False, False),
     ("slots", SLOTS, TIMED, False, False),
     ("help", ["--help"], b"", False, False),
 ]

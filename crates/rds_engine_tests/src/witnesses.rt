@@ -5,7 +5,7 @@ use crate::same::same;
 use rds_fields::Dwell;
 use rds_io::{LogFault, Told};
 use rds_log::{LogNotes, MOST_READS, gather};
-use rds_witness::witness;
+use rds_witness::{Losing, bursts_of, lose_with_notes, witness};
 use std::alloc::Global;
 use std::cell::Cell;
 use std::io::Read;
@@ -50,6 +50,47 @@ fn burst_that_joins_two_texts(rt: HostRuntime) -> Result<(), Fail> {
         written.as_slice(),
         b"no witness found with one burst lost\n",
     );
+    Ok(())
+}
+
+/// Returns the answer to three texts for a receiver that loses these slots, and the output.
+fn lost(
+    spans: &[u8],
+    reader: impl Read + Drop,
+    alloc: Global,
+) -> Result<(Result<bool, LogFault>, Vec<u8>), Fail> {
+    let mut output = Vec::new(alloc);
+    let bursts = bursts_of(alloc, spans)?.ok_or("spans")?;
+    let dwell = Dwell::new(8).ok_or("dwell")?;
+    let losing = Losing {
+        pi: 0xC201,
+        dwell,
+        ahead: dwell,
+        lost: bursts.as_slice(),
+    };
+    let found = lose_with_notes(
+        alloc,
+        &mut Told::new(reader),
+        &mut Told::new(&mut output),
+        &losing,
+        &mut LogNotes::new(0xC201),
+    );
+    Ok((found, output))
+}
+
+/// A receiver that loses the second text and the end of the third one shows a mix in no slot. One that loses the second
+/// text alone does.
+#[test]
+fn two_bursts_lost(rt: HostRuntime) -> Result<(), Fail> {
+    let (found, written) = lost(b"2-3", THREE_TEXTS, rt.alloc())?;
+    same(&rt, found, Ok(true));
+    same(&rt, written.as_slice(), b"4 text \"MNOPEF\"\n");
+    let (found, written) = lost(b"2-3,4-5", THREE_TEXTS, rt.alloc())?;
+    same(&rt, found, Ok(false));
+    same(&rt, written.as_slice(), b"no mix with these slots lost\n");
+    let (found, written) = lost(b"2-3", b"x\n".as_slice(), rt.alloc())?;
+    same(&rt, found, Err(LogFault::BadLine(1)));
+    same(&rt, written.as_slice(), b"");
     Ok(())
 }
 
