@@ -224,6 +224,15 @@ class Faults(ProgramCase):
 
 
 class Warnings(ProgramCase):
+    def test_slots_to_lose_that_are_none(self):
+        told = note("fault lose: --lose takes slots in ascending order, for example 3-7,12; --flag-alone needs --lose")
+        for options in ("--lose 3,2", "--flag-alone", "--quiet --lose 3,2"):
+            self.check(f"note on {options}", noted(f"witness --pi C201 {options}", HI), (2, b"fault lose\n", told))
+        flags = bytes_of("examples/flags.log")
+        self.check("note on another programme", noted("witness --pi C202 --lose 2-3", flags),
+                   (0, b"no mix with these slots lost\n",
+                    note("no group of C202 in 6 slots (C201: 6): the answer says nothing")))
+
     def test_a_pi_that_is_no_pi_or_that_no_group_has(self):
         for given in ("C20", "0xC201", "C201 ", "", "GGGG", "C201C201"):
             for words in ("decode", "audit", "witness", "encode", "sim"):

@@ -15,7 +15,7 @@ PACKAGE = "python/src/rdsrt/__init__.py"
 FAULTS = {"EarlyFlag", "Changed", "NotOneText", "EarlyTag", "TagOutside"}
 REPLIES = ("ok", "silent", "held", "notext", "outoftext")
 FAULT_LINES = ("fault line", "fault row", "fault read", "fault too long", "fault memory", "fault pi",
-               "fault confirm")
+               "fault confirm", "fault lose")
 # each time is in one page
 TIMES = ("8 to 13 minutes", "20 to 30 minutes")
 

@@ -15,6 +15,7 @@ ARGUMENTS = [
     ("subcommand that is not UTF-8", [b"sim\xff", "--pi", "C201"], HI, 2, b""),
     ("letters of options", [*SIM, "-m", "1", "-k1"], b"-,,1,\n" * 2 + b"text,HI,1,\n", 0, LATE_TEXT),
     ("window that is too long for the lateness", [*SIM, "--k", "1023", "--confirm", "3"], b"", 2, b"fault confirm\n"),
+    ("slots to lose that go back", ["witness", "--pi", "C201", "--lose", "3,2"], b"", 2, b"fault lose\n"),
     ("longest window for the lateness", [*SIM, "--k", "1023", "--confirm", "2"], b"", 0, b""),
     ("quiet", [*DECODE, "--quiet", "-m=1"], HI + NO_GROUP, 0, SHOWS_HI + b"1 text none\n"),
     ("quiet at a fault", [*DECODE, "--quiet"], HI + b"x\n", 1, SHOWS_HI + b"fault line 2\n"),

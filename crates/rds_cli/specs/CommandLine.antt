@@ -158,7 +158,8 @@ with_decode_app = with_subcommand top_app (decode_app (codes "decode")).top
 unfoldable pub log_readers_app : App
 log_readers_app =
     with_subcommand
-    (with_subcommand (with_subcommand with_decode_app (audit_app (codes "audit")).top) (witness_app (codes "witness")).top)
+    (with_subcommand (with_subcommand with_decode_app (audit_app (codes "audit")).top)
+    (witness_app (codes "witness")).top)
     (slots_app (codes "slots")).top
 
 -- with all subcommands except `sim`

@@ -29,7 +29,8 @@ decoding pi dwell = record { task = Decode None false; pi = pi; lose = []; dwell
 
 -- the same of what was heard twice within a window
 abbrev pub confirming : ℕ → ℕ → Requested
-confirming dwell window = record { task = Decode (Some window) false; pi = codes "C201"; lose = []; dwell = dwell; quiet = false }
+confirming dwell window =
+    record { task = Decode (Some window) false; pi = codes "C201"; lose = []; dwell = dwell; quiet = false }
 
 -- the same with reasons, without a window
 abbrev pub decoding_why : ℕ → Requested
@@ -37,7 +38,13 @@ decoding_why dwell = record { task = Decode None true; pi = codes "C201"; lose =
 
 abbrev pub encoding : ℕ → ℕ → Requested
 encoding dwell pty =
-    record { task = Encode (record { pty = pty; tp = false }) 0; pi = codes "C201"; lose = []; dwell = dwell; quiet = false }
+    record {
+      task = Encode (record { pty = pty; tp = false }) 0;
+      pi = codes "C201";
+      lose = [];
+      dwell = dwell;
+      quiet = false;
+    }
 
 abbrev pub simulating : ℕ → ℕ → Bool → ℕ → Requested
 simulating dwell pty tp late = record {
@@ -76,11 +83,13 @@ abbrev pub losing : Text → ℕ → Bool → Requested
 losing lose dwell alone = record { task = Lose alone; pi = codes "C201"; lose = lose; dwell = dwell; quiet = false }
 
 abbrev pub auditing : ℕ → ℕ → Requested
-auditing dwell late = record { task = Audit late false false; pi = codes "C201"; lose = []; dwell = dwell; quiet = false }
+auditing dwell late =
+    record { task = Audit late false false; pi = codes "C201"; lose = []; dwell = dwell; quiet = false }
 
 -- the audit of the log of a running station
 abbrev pub auditing_running : ℕ → Requested
-auditing_running dwell = record { task = Audit 0 true false; pi = codes "C201"; lose = []; dwell = dwell; quiet = false }
+auditing_running dwell =
+    record { task = Audit 0 true false; pi = codes "C201"; lose = []; dwell = dwell; quiet = false }
 
 -- the list of all faults of such a log
 abbrev pub listing_running : ℕ → Requested

@@ -4,9 +4,9 @@ ghost use Rattle.clap.specs.Words.{App, app_of, rule_of, with_subcommand};
 ghost use Rattle.clap.specs.declared.builder.command.Command.TheViews.{out-Command};
 ghost use Rattle.rds_cli.specs.CommandLine.{audit_app, confirm_rule, decode_app, dwell_rule, flag_rule, grain_rule};
 ghost use Rattle.rds_cli.specs.CommandLine.{all_rule, flag_alone_rule, late_app, late_rule};
-ghost use Rattle.rds_cli.specs.CommandLine.{log_app, lose_rule, number_rule, own_pi_rule, pi_rule, pty_rule, quiet_rule};
+ghost use Rattle.rds_cli.specs.CommandLine.{log_app, number_rule, own_pi_rule, pi_rule, pty_rule, quiet_rule};
 ghost use Rattle.rds_cli.specs.CommandLine.{running_rule, sim_app, slots_app, station_app, timed_app, top_app, tp_rule};
-ghost use Rattle.rds_cli.specs.CommandLine.{whole_app, why_rule, witness_app};
+ghost use Rattle.rds_cli.specs.CommandLine.{lose_rule, whole_app, why_rule, witness_app};
 
 use clap::builder::ValueParser;
 use clap::{Arg, ArgAction, Command, value_parser};

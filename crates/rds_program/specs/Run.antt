@@ -212,8 +212,8 @@ abbrev pub LossRuns : Option (List Burst) → Tuning → ℕ → Task → Reader
 LossRuns None t ahead task r w status = (RefusesSpans task w status ⊎ NoMemoryFor task w status) × r.Untouched
 LossRuns (Some lost) t ahead task r w status = Runs (Loses t ahead lost r.traffic) witness_status task w status
 
--- the engine of the task ran, with receivers that are tuned so; the receiver of `decode` has the window of the task, and
--- with the task `Lose` the text gives the slots to lose
+-- the engine of the task ran, with receivers that are tuned so; the receiver of `decode` has the window of the task,
+-- and the text gives the slots that the receiver of `Lose` loses
 abbrev pub TaskRuns : Task → List ℕ → Tuning → ReaderOver → Traffic → ℕ → Type 0
 TaskRuns (Decode window why) lose t r w status =
     Runs (Decodes (decoding_of t window why) (2 ^ 32) r.traffic) done (Decode window why) w status

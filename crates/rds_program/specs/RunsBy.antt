@@ -20,8 +20,9 @@ use Rattle.rds_program.specs.Run.{LossRuns, NoMemory, Runs, RunsWords, Simulatio
 use Rattle.rds_program.specs.Run.{done, lossy, once, simulated_station, station_of}
 
 -- a run of engines that do more, with another statement for the case that no engine ran
-pub runs_by : {Rests Rested : Type 0} (words : List (List ℕ)) (Engine Weaker : Task → List ℕ → Tuning → Type 0) (w : Traffic)
-    (status : ℕ) → ((task : Task) (lose : List ℕ) (t : Tuning) → Engine task lose t → Weaker task lose t) → (Rests → Rested)
+pub runs_by : {Rests Rested : Type 0} (words : List (List ℕ)) (Engine Weaker : Task → List ℕ → Tuning → Type 0)
+    (w : Traffic) (status : ℕ)
+    → ((task : Task) (lose : List ℕ) (t : Tuning) → Engine task lose t → Weaker task lose t) → (Rests → Rested)
     → RunsWords words Engine Rests w status → RunsWords words Weaker Rested w status
 runs_by words Engine Weaker w status engine rests did = record {
   runs = λ asked pi given is. elim (did.runs asked pi given is) [
@@ -36,8 +37,8 @@ runs_by words Engine Weaker w status engine rests did = record {
 }
 
 -- a program that is out of memory for its arguments keeps every promise
-pub runs_without_memory : {Rests : Type 0} (words : List (List ℕ)) (Engine : Task → List ℕ → Tuning → Type 0) (w : Traffic)
-    (status : ℕ) → NoMemory w status → Rests → RunsWords words Engine Rests w status
+pub runs_without_memory : {Rests : Type 0} (words : List (List ℕ)) (Engine : Task → List ℕ → Tuning → Type 0)
+    (w : Traffic) (status : ℕ) → NoMemory w status → Rests → RunsWords words Engine Rests w status
 runs_without_memory words Engine w status memory rests = record {
   runs = λ asked pi given is. inl (memory, rests);
   fault_pi = λ asked given none. (inl memory, rests);

@@ -163,7 +163,8 @@ pub(crate) fn push_count(count: u64, one: &str, more: &str, line: &mut Line) {
 fn nothing_said(task: Task) -> &'static str {
     match task {
         Task::Audit { .. } => ": the yes says nothing",
-        Task::Witness | Task::Lose { .. } => ": the search says nothing",
+        Task::Witness => ": the search says nothing",
+        Task::Lose { .. } => ": the answer says nothing",
         Task::Decode { .. } | Task::Encode(..) | Task::Simulate { .. } | Task::Slots(..) => "",
     }
 }

@@ -45,7 +45,8 @@ const FAULT_LINE: usize = 64;
 /// `decode` reads a log and writes the view of a receiver. With a window the receiver shows only what it heard twice.
 /// `encode` reads a script and writes the log of a station. `sim` reads a script and writes the station's groups and
 /// the views of its receivers. `audit` reads a log and writes whether it passes. `witness` reads a log and writes
-/// which slots a receiver must lose to show a mix, or the mixes of a receiver that loses given slots. The line of a fault is the last line of the output.
+/// which slots a receiver must lose to show a mix, or all mixes of a receiver that loses given slots. The line of a
+/// fault is the last line of the output.
 ///
 /// If the arguments are refused or ask for help, `run` writes the text of `clap` and reads nothing: the contract of
 /// [`run_with_notes`] says so of its reader. `clap`'s contract does not promise that a number is in its range: for a

@@ -1,5 +1,5 @@
 -- The lines of the mixes of a receiver that loses given slots, slot after slot.
-use Rattle.std.proofs.Common.{◌≡◌, ◌⊎◌, ◌++◌, ◌∷◌, ◌+◌, ◌<◌, [], ◌∙◌, ℕ, List, Option, ap, arith, codes, inl, inr, length, refl, subst, sym}
+use Rattle.std.proofs.Common.{◌≡◌, ◌++◌, ◌∷◌, ◌+◌, ◌<◌, [], ◌∙◌, ℕ, List, Option, ap, arith, codes, inl, inr, length, refl, subst, sym}
 use Rattle.std.specs.List.{Contains}
 use Rattle.std.proofs.lemmas.Bool.{cases_lt}
 use Rattle.rds_block.specs.declared.group.Group.{Group}
@@ -11,7 +11,7 @@ use Rattle.rds_witness.specs.Lines.{AreMixLines, mix_lines, shown_line}
 use Rattle.rds_witness.specs.LossLines.{AreLinesOfSlots, AreLossLines, joined}
 use Rattle.rds_witness.specs.Lost.{got}
 use Rattle.rds_witness.specs.Mix.{Has, IsMix, IsNew, Name, Shows, Tag, Text, Thing, until}
-use Rattle.rds_witness.specs.Search.{IsKnown, IsShownBefore}
+use Rattle.rds_witness.specs.Search.{IsKnown}
 use Rattle.rds_witness.specs.declared.burst.Burst.{Burst}
 
 has_shows : (view : ShownView) (thing : Thing) → Has view thing → Shows view thing

@@ -1,5 +1,5 @@
 -- How lines of mixes go on by the lines of a kind of things.
-use Rattle.std.proofs.Common.{◌≡◌, ◌⊎◌, ◌++◌, ◌∷◌, ◌+◌, ◌<◌, [], ◌∙◌, ℕ, List, Option, None, Some, ap, append_assoc, arith, codes, inl, inr, refl, subst, suc}
+use Rattle.std.proofs.Common.{◌≡◌, ◌⊎◌, ◌++◌, ◌∷◌, ◌+◌, ◌<◌, [], ◌∙◌, ℕ, List, Option, None, Some, ap, append_assoc, arith, inl, inr, refl, subst, suc}
 use Rattle.std.specs.List.{Contains}
 use Rattle.std.proofs.lemmas.Bool.{cases_lt}
 use Rattle.std.proofs.lemmas.List.Elements.{All-cons, All-nil}
@@ -8,7 +8,7 @@ use Rattle.rds_fields.specs.declared.pair.Which.TheVariants.{One, Two}
 use Rattle.rds_receiver.specs.OneView.{same_view}
 use Rattle.rds_receiver.specs.Receipts.{Tuning}
 use Rattle.rds_receiver.specs.Shown.{ShownView}
-use Rattle.rds_witness.specs.Lines.{AreMixLines, burst_text, mix_line, shown_line}
+use Rattle.rds_witness.specs.Lines.{AreMixLines, mix_line, shown_line}
 use Rattle.rds_witness.specs.Lost.{got}
 use Rattle.rds_witness.specs.Mix.{AreAround, Has, IsMix, Name, NeverShows, Shows, Tag, Text, Thing, until}
 use Rattle.rds_witness.specs.SomeLines.{AreSomeMixLines, kind_of}

@@ -1,5 +1,5 @@
 -- How receivers of a log go on by a slot.
-use Rattle.std.proofs.Common.{[], ◌≡◌, ◌+◌, ◌∷◌, ◌∙◌, ℕ, List, Option, None, ap, arith, inl, inr, subst, sym}
+use Rattle.std.proofs.Common.{[], ◌≡◌, ◌+◌, ◌∷◌, ◌∙◌, ℕ, List, Option, ap, arith, inl, inr, subst, sym}
 use Rattle.std.proofs.lemmas.Bool.{cases_lt}
 use Rattle.rds_block.specs.declared.group.Group.{Group}
 use Rattle.rds_receiver.specs.OneView.{same_view}

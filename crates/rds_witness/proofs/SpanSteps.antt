@@ -1,5 +1,5 @@
 -- How a text of spans is read on.
-use Rattle.std.proofs.Common.{◌≡◌, ◌≤◌, ◌<◌, ◌+◌, ◌∙◌, ◌⊎◌, ℕ, zero, suc, Bool, true, false, List, Option, None, Some, add-one, ap, arith, inl, inr, refl, subst, sym}
+use Rattle.std.proofs.Common.{◌≡◌, ◌≤◌, ◌<◌, ◌+◌, ◌∙◌, ◌⊎◌, ℕ, zero, suc, Bool, true, false, List, None, Some, add-one, ap, arith, inl, inr, subst, sym}
 use Rattle.std.specs.Prelude.{option_and_then, slice_index}
 use Rattle.std.proofs.lemmas.Bool.{cases_lt}
 use Rattle.rds_witness.specs.Spans.{IsReadAs, Reading, read, read-more, reading_of, with_byte}

@@ -1,5 +1,5 @@
--- What the lines of mixes say of a candidate: a log, the tuning of its receivers, how many slots to look ahead, the lost
--- slots, the words before each line, and a slot.
+-- What the lines of mixes say of a candidate: a log, the tuning of its receivers, how many slots to look ahead, the
+-- lost slots, the words before each line, and a slot.
 use Rattle.std.specs.Prelude.{◌+◌, ℕ, List}
 use Rattle.rds_log.specs.LogWrites.{tuned}
 use Rattle.rds_receiver.specs.Shown.{ShownView}

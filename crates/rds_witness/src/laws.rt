@@ -14,8 +14,8 @@ ghost use Rattle.rds_witness.specs.Part.{IsPart, IsTagPart};
 ghost use Rattle.rds_witness.specs.Prints.{HasLine};
 ghost use Rattle.rds_witness.specs.declared.burst.Burst.{Burst};
 
-/// Shows the meaning of a mix by `decode`: the output for the slots of the log without the lost ones has the line of the
-/// thing, with reasons or without, and a receiver that loses nothing gets exactly the slots of the log.
+/// Shows the meaning of a mix by `decode`: the output for the slots of the log without the lost ones has the line of
+/// the thing, with reasons or without, and a receiver that loses nothing gets exactly the slots of the log.
 pub fn what_a_mix_means()
     ensures prints { (why : Bool) (t : Tuning) (ahead : ℕ) (log : List (Option Group)) (lost : List Burst) (slot : ℕ)
         (thing : Thing) (displays : List Display) → IsMix t ahead log lost slot thing

@@ -39,8 +39,8 @@ pub struct Losing<'a> {
 }
 
 /// Reads a log of all groups of a station, one slot a line, and writes the line of each mix of a receiver that loses
-/// these slots, in the order of the slots. Returns whether there is one. If there is none, writes that. Takes notes for a
-/// person.
+/// these slots, in the order of the slots. Returns whether there is one. If there is none, writes that. Takes notes for
+/// a person.
 ///
 /// # Errors
 ///
@@ -99,8 +99,8 @@ fn lines_of(
     log: &[Option<Blocks>],
     losing: &Losing<'_>,
 ) -> Result<Vec<u8>, AllocError>
-    ensures { IfOk result (λ lines. AreLossLines (tuned losing.now.pi losing.now.dwell) losing.now.ahead log.now losing.now.lost.now
-        (length log.now) lines.items) }
+    ensures { IfOk result (λ lines. AreLossLines (tuned losing.now.pi losing.now.dwell) losing.now.ahead log.now
+        losing.now.lost.now (length log.now) lines.items) }
 {
     let (pi, dwell) = (losing.pi, losing.dwell);
     let all = AllSeen::of(alloc, log, pi, dwell)?;

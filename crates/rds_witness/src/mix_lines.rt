@@ -124,8 +124,8 @@ fn push_if_mix(
     }
 }
 
-/// Appends the line of each thing that is a mix in the slot if the burst is lost, with the slots to lose. Appends nothing
-/// if the burst is not before the slot.
+/// Appends the line of each thing that is a mix in the slot if the burst is lost, with the slots to lose. Appends
+/// nothing if the burst is not before the slot.
 pub(crate) fn push_mixes(
     log: &[Option<Blocks>],
     pi: u16,

@@ -1,4 +1,4 @@
-use Rattle.std.proofs.Common.{[], arith, subst, sym}
+use Rattle.std.proofs.Common.{subst, sym}
 use Rattle.rds_log.specs.LogWrites.{tuned}
 use Rattle.rds_receiver.specs.StandsAt.{StandsAt}
 use Rattle.rds_receiver.specs.State.{ReceiverState}

@@ -1,4 +1,4 @@
-use Rattle.std.proofs.Common.{◌+◌, ◌∙◌, List, Option, Some, ap, arith, length, sym, ℕ}
+use Rattle.std.proofs.Common.{◌+◌, ◌∙◌, Option, Some, ap, arith, length, sym}
 use Rattle.std.specs.Prelude.{option_and_then, option_map}
 use Rattle.rds_witness.specs.Spans.{Reading, ended, read-none}
 use Rattle.rds_witness.proofs.SpanSteps.{none_on, read_bad, read_good}

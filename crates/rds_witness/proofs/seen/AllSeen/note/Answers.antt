@@ -1,4 +1,4 @@
-use Rattle.std.proofs.Common.{[], ◌∙◌, ◌+◌, All, None, arith, refl, subst, sym}
+use Rattle.std.proofs.Common.{[], ◌∙◌, ◌+◌, All, arith, refl, subst, sym}
 use Rattle.rds_witness.specs.Lost.{got}
 use Rattle.rds_witness.specs.Search.{IsOfRun, IsSeen}
 use Rattle.rds_witness.proofs.seen.AllSeen.note.Goals as goal

@@ -1,4 +1,4 @@
-use Rattle.std.proofs.Common.{[], ◌≡◌, ◌+◌, ◌<◌, All, List, None, Option, length}
+use Rattle.std.proofs.Common.{[], ◌≡◌, ◌+◌, ◌<◌, All, List, Option, length}
 use Rattle.rds_block.specs.declared.group.Group.{Group}
 use Rattle.rds_receiver.specs.Receipts.{Tuning}
 use Rattle.rds_receiver.specs.StandsAt.{StandsAt}

@@ -1,4 +1,4 @@
-use Rattle.std.proofs.Common.{[], All, None}
+use Rattle.std.proofs.Common.{[], All}
 use Rattle.rds_log.specs.LogWrites.{tuned}
 use Rattle.rds_receiver.specs.Shown.{IsView, ShownView}
 use Rattle.rds_receiver.specs.StandsAt.{StandsAt}

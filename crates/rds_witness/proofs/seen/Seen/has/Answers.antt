@@ -1,4 +1,4 @@
-use Rattle.std.proofs.Common.{[], ◌+◌, None, subst, sym}
+use Rattle.std.proofs.Common.{[], ◌+◌, subst, sym}
 use Rattle.rds_witness.specs.Borrowed.{thing_of}
 use Rattle.rds_witness.specs.Lost.{got}
 use Rattle.rds_witness.specs.Search.{IsSeenBefore}

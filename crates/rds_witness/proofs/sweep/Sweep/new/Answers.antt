@@ -1,4 +1,4 @@
-use Rattle.std.proofs.Common.{[], All, None, arith, subst, sym}
+use Rattle.std.proofs.Common.{[], All, arith, subst, sym}
 use Rattle.std.proofs.lemmas.List.Elements.{All-nil}
 use Rattle.rds_log.specs.LogWrites.{tuned}
 use Rattle.rds_receiver.specs.StandsAt.{StandsAt}
