@@ -2,7 +2,7 @@
 import itertools
 
 from tests import preload
-from tests.calls import AUDIT, DECODE, ENCODE, ENGINES, SIM, WITNESS
+from tests.calls import AUDIT, DECODE, ENCODE, ENGINES, LOSE, SIM, WITNESS
 from tests.support import ProgramCase, ran, temporary_folder
 from tests.worked_rows import CHANGED, ENCODED_SCRIPT, HI, MIXED_LOG, TAGGED_LOG, TAGS_ON_AIR
 
@@ -24,7 +24,7 @@ class FailingCalls(ProgramCase):
         for words, given, mark in ENGINES:
             for number in range(1, len(given) + 9):
                 whole, _, _ = given[:number - 1].rpartition(b"\n")
-                wanted = b"" if words in (AUDIT, WITNESS) or not whole else ran(words, whole + b"\n")[1]
+                wanted = b"" if words in (AUDIT, LOSE, WITNESS) or not whole else ran(words, whole + b"\n")[1]
                 got, calls = self.failing(words, given, READ_MOST=1, READ_FAILS=number)
                 if "R" not in calls:
                     self.check(f"reads of a byte by {words[0]}", got, ran(words, given))
