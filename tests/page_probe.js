@@ -1,10 +1,118 @@
 "use strict";
-/* What the tests of the page ask of it, run in it: `probe`, and the parts of the page that they take hold of. */
-const page = $app, { logTab } = $log, { scriptTab } = $script, road = $road, rdsrt = $rdsrt, { Program } = $program;
+/* What the tests of the page ask of it, run in it: `probe`. A test names a tab, and here are the parts of the page that
+   it stands for. */
 const probe = (() => {
+  const page = $app, { logTab } = $log, { scriptTab } = $script, road = $road, rdsrt = $rdsrt, { Program } = $program;
   const painter = $painter, picture = $picture, { time } = $lines, changes = $changes;
   const at = (id) => document.getElementById(id);
-  const tabs = { log: logTab, script: scriptTab };
+  const tabs = { log: logTab, script: scriptTab }, timelineOf = (tab) => tabs[tab].timeline;
+
+  /* Whether the page is ready, or says that it cannot run. */
+  const isReady = () => page.state.ready || at("no-engine").textContent !== "";
+
+  /* Opens a file as if somebody chose it. */
+  const openFile = (file) => page.openFile(file);
+
+  /* Loses these slots of the log, and those that are lost. */
+  const lose = (...slots) => logTab.lose(slots);
+  const lost = () => [...logTab.lost];
+
+  /* How many slots the page reads in the log. */
+  const slotsOfLog = () => logTab.log.count;
+
+  /* Zooms a timeline to these slots, and draws it. */
+  function zoom(tab, from, to) {
+    timelineOf(tab).zoomTo(from, to);
+    timelineOf(tab).paint();
+  }
+
+  /* The first slot in sight, and how many are. */
+  const sight = (tab) => [timelineOf(tab).from, timelineOf(tab).across];
+
+  /* The names of the lanes, and the ends of them under the window's edge. */
+  const lanes = (tab) => timelineOf(tab).lanes.map(({ name }) => name);
+  function bottoms(tab) {
+    const { top } = timelineOf(tab).canvas.getBoundingClientRect();
+    return timelineOf(tab).lanes.map((lane) => top + lane.top + lane.height);
+  }
+
+  /* Where a part of a display of a tab shows another value, with the value: the displays of a script have a number too. */
+  const viewOf = (tab, which, receiver) => receiver === undefined ? tabs[tab][which] : tabs[tab][which][receiver];
+  function runs(tab, which, part, receiver) {
+    const all = viewOf(tab, which, receiver).parts[part];
+    return Array.from(all.starts, (from, i) => ({ from, to: all.to(i), value: all.value(i) }));
+  }
+
+  /* How many runs of a text the log's display has, and each so many-th of them. */
+  function someRuns(each) {
+    const { text } = logTab.view.parts, some = [...text.starts.keys()].filter((i) => i % each === 0);
+    return [text.length, some.map((i) => [text.from(i), text.value(i)])];
+  }
+
+  /* The bars of the receivers' lanes of the script. */
+  function bars() {
+    const all = scriptTab.timeline.lanes.filter((lane) => lane.kind === "bars" && lane.group !== undefined);
+    return all.map((lane) => [...lane.runs].map((run) => [lane.name, run.from, run.to, run.value, run.mix, Boolean(run.old)]));
+  }
+
+  /* The slots in which something begins in a lane of a timeline. */
+  const begins = (tab) => timelineOf(tab).lanes.flatMap((lane) => [...lane.runs ?? lane.marks ?? []].map(({ from }) => from));
+
+  /* The places and the words of all marks of a timeline. */
+  function marks(tab) {
+    const all = [...laneOf(timelineOf(tab), "events").marks];
+    return [all.map((mark) => timelineOf(tab).x(mark.from)), all.map((mark) => mark.label)];
+  }
+
+  /* The kinds of slots that a lane shows, as codes. */
+  const codes = (tab, name) => [...laneOf(timelineOf(tab), name).codes];
+
+  /* What the program printed for the script, as far as the page keeps it. */
+  const outputOfScript = () => scriptTab.output;
+
+  /* The last lines of a lane of the script: where each ends. */
+  const endsOfLanes = () =>
+    scriptTab.timeline.lanes.map((lane) => lane.codes?.length ?? [...lane.runs ?? []].at(-1)?.to ?? 0);
+
+  /* The witness that is shown. */
+  const witness = () => logTab.witness;
+  const showWitness = (found) => $verdict.showWitness(found, {});
+
+  /* Ends the worker that judges a log, as a browser without memory does. It cannot begin again. */
+  function endJudge(message) {
+    logTab.judge.worker.onerror({ message });
+    logTab.judge.compiled = null;
+  }
+
+  /* Keeps back the answers of workers that fit, until `letGo`. */
+  const { hear } = Program.prototype;
+  function keepBack(fits) {
+    Program.prototype.hear = function (data) { if (!data.answer || !fits(data.answer)) hear.call(this, data); };
+  }
+  function letGo() { Program.prototype.hear = hear; }
+
+  /* Counts how often the script is shown. */
+  let shows = 0;
+  function countShows() {
+    const { timeline } = scriptTab;
+    timeline.show = (...given) => { shows++; Object.getPrototypeOf(timeline).show.apply(timeline, given); };
+  }
+  const shownTimes = () => shows;
+
+  /* Waits until the road is played, and stops the car. */
+  async function stopRoad() {
+    await road.state.work;
+    road.drive.stop();
+  }
+  const roadIsPlayed = () => road.state.work;
+  const drives = () => road.drive.frame !== 0;
+  const tunnels = () => road.state.tunnels.map(({ from, to }) => [from, to]);
+  const roadAsScript = () => road.state.text;
+  const moveCar = (slot) => road.move(slot);
+  const plays = (tab) => timelineOf(tab).play.frame !== 0;
+
+  /* Where the program places its input and its output. */
+  const layout = (...sizes) => Object.entries(rdsrt.layout(...sizes));
 
   /* Opens a text in a tab with these options. */
   const open = (tab, text, options) => tabs[tab].open(text, options);
@@ -66,22 +174,27 @@ const probe = (() => {
 
   const chosenLine = (id) => at(id).value.slice(at(id).selectionStart, at(id).selectionEnd);
 
-  /* A place of the canvas in the window: the middle of a slot, and of the first lane that fits. */
-  function place(timeline, slot, fits) {
+  /* A place of the canvas in the window: the middle of a slot, and of the first lane with this name. */
+  function place(tab, slot, name) {
+    const timeline = timelineOf(tab);
     timeline.root.scrollIntoView();
     timeline.paint();
-    const box = timeline.canvas.getBoundingClientRect(), lane = timeline.lanes.find(fits);
+    const box = timeline.canvas.getBoundingClientRect(), lane = laneOf(timeline, name);
     return [box.left + timeline.x(slot + 0.5), box.top + lane.top + lane.height / 2];
   }
 
   /* The place of a slot's number on the axis. */
-  function axis(timeline, slot) {
-    const [x, y] = place(timeline, slot, () => true);
-    return [x, y - timeline.lanes[0].top - timeline.lanes[0].height / 2 + 8];
+  function axis(tab, slot) {
+    const [x] = place(tab, slot, lanes(tab)[0]);
+    return [x, timelineOf(tab).canvas.getBoundingClientRect().top + 8];
   }
 
+  /* The slot at a place of a timeline's canvas, with a fraction. */
+  const slotAt = (tab, x) => timelineOf(tab).slotAt({ offsetX: x });
+
   /* What a display shows in each of so many slots: for each part its value, as the program prints it, and the word for it. */
-  function displays(view, count) {
+  function displays(count, tab, which, receiver) {
+    const view = viewOf(tab, which, receiver);
     const inWords = (value) => typeof value === "string" ? value : `${value.kind} "${value.text}"`;
     const of = (run, slot) => run?.value == null ? null : [inWords(run.value), slot < run.mixTo ? "mix" : run.stale || "on air"];
     const at = (slot) => Object.fromEntries(Object.keys(view.parts).map((part) => [part, of(view.at(part, slot), slot)]));
@@ -107,26 +220,34 @@ const probe = (() => {
   }
 
   /* The shapes of the slots of a timeline's first lane from one to before another. */
-  function ticks(timeline, to, from = 0) {
+  function ticks(tab, to, from = 0) {
+    const timeline = timelineOf(tab);
     timeline.paint();
     const { canvas, lanes: [lane] } = timeline;
     return Array.from({ length: to - from }, (_, i) => column(canvas, timeline.x(from + i + 0.5), lane.top, lane.height));
   }
 
-  /* The code whose colour a slot's column of the first lane has. */
-  function sharesOf(timeline, slot) {
+  /* The swatch of the legend whose colour a slot's column of the first lane has. */
+  function sharesOf(tab, slot) {
+    const timeline = timelineOf(tab);
     timeline.paint();
-    const { canvas, ink, lanes: [lane] } = timeline;
-    Object.assign(reader.canvas, { width: canvas.width, height: canvas.height });
-    reader.drawImage(canvas, 0, 0);
-    const got = String(reader.getImageData(Math.floor(timeline.x(slot)), lane.top + 4, 1, 1).data);
-    return ink.codes.findIndex((color) => color && String(rgba(color)) === got);
+    const { canvas, lanes: [lane] } = timeline, scale = canvas.width / canvas.clientWidth;
+    const pixels = (from, x, y, height) => {
+      Object.assign(reader.canvas, { width: from.width, height: from.height });
+      reader.drawImage(from, 0, 0);
+      const { data } = reader.getImageData(x, y, 1, height);
+      return Array.from({ length: height }, (_, i) => String(data.slice(4 * i, 4 * i + 4)));
+    };
+    const [got] = pixels(canvas, Math.floor(timeline.x(slot) * scale), Math.floor((lane.top + 4) * scale), 1);
+    const all = [...document.querySelectorAll(".legend canvas")];
+    return all.find((it) => pixels(it, it.width / 2, 0, it.height).includes(got))?.dataset.shows;
   }
 
-  const laneOf = (timeline, name) => timeline.lanes.find((lane) => lane.name === name);
+  const laneOf = (timeline, name) => timeline.lanes.find((lane) => lane.name.trim() === name.trim());
 
   /* The labels that a timeline draws into a lane, each with its left and its right end. */
-  function labels(timeline, name) {
+  function labels(tab, name) {
+    const timeline = timelineOf(tab);
     const { prototype } = CanvasRenderingContext2D, { fillText } = prototype, { top, height } = laneOf(timeline, name), all = [];
     prototype.fillText = function (text, x, y) {
       if (text && x >= timeline.gutter && y > top && y < top + height) all.push([text, x, x + this.measureText(text).width]);
@@ -138,7 +259,8 @@ const probe = (() => {
   }
 
   /* The names of lanes that have no room beside them. */
-  function cutNames({ lanes, gutter, canvas }) {
+  function cutNames(tab) {
+    const { lanes, gutter, canvas } = timelineOf(tab);
     const ctx = canvas.getContext("2d"), name = (lane) => gutter < 100 ? lane.short ?? lane.name : lane.name;
     const isCut = (lane) => {
       ctx.font = `${lane.strong ? "600 " : ""}12px ${painter.FONT}`;
@@ -148,7 +270,8 @@ const probe = (() => {
   }
 
   /* The texts that a timeline draws above its lanes, each with its place. */
-  function axisTexts(timeline) {
+  function axisTexts(tab) {
+    const timeline = timelineOf(tab);
     const { prototype } = CanvasRenderingContext2D, { fillText } = prototype, all = [];
     prototype.fillText = function (text, x, y) {
       if (y < painter.AXIS) all.push([text, x, y]);
@@ -160,7 +283,8 @@ const probe = (() => {
   }
 
   /* In how many columns of a lane, of which number, each of these colours is to be seen. */
-  function columnsOf(timeline, name, ...inks) {
+  function columnsOf(tab, name, ...inks) {
+    const timeline = timelineOf(tab);
     timeline.paint();
     const { canvas, room, gutter, ink } = timeline, { top, height } = laneOf(timeline, name), width = Math.floor(room);
     Object.assign(reader.canvas, { width: canvas.width, height: canvas.height });
@@ -172,6 +296,19 @@ const probe = (() => {
       told[name] = Array.from({ length: width }, (_, x) => shows(x)).filter(Boolean).length;
     }
     return told;
+  }
+
+  /* In how many columns of a timeline a colour is to be seen. */
+  function columnsOfInk(tab, color) {
+    const timeline = timelineOf(tab), { canvas } = timeline, [r, g, b] = rgba(color);
+    timeline.paint();
+    Object.assign(reader.canvas, { width: canvas.width, height: canvas.height });
+    reader.drawImage(canvas, 0, 0);
+    const { data } = reader.getImageData(0, 0, canvas.width, canvas.height), columns = new Set();
+    for (let i = 0; i < data.length; i += 4) {
+      if (data[i] === r && data[i + 1] === g && data[i + 2] === b && data[i + 3] === 255) columns.add(i / 4 % canvas.width);
+    }
+    return columns.size;
   }
 
   // ---- contrast, by the formula of WCAG 2
@@ -259,7 +396,8 @@ const probe = (() => {
   }
 
   /* The hues of a lane, or of one of its slots. No cursor is drawn. */
-  function huesOfLane(timeline, number, slot = null) {
+  function huesOfLane(tab, number, slot = null) {
+    const timeline = timelineOf(tab);
     const { cursor, canvas } = timeline, { top, height } = timeline.lanes[number];
     timeline.cursor = -9;
     timeline.paint();
@@ -285,7 +423,8 @@ const probe = (() => {
   }
 
   /* The texts that the picture of a timeline has besides those of the timeline. */
-  function pictured(timeline) {
+  function pictured(tab) {
+    const timeline = timelineOf(tab);
     const { prototype } = CanvasRenderingContext2D, { fillText } = prototype, texts = [];
     prototype.fillText = function (text, ...given) {
       if (this.canvas !== timeline.canvas) texts.push(text);
@@ -296,7 +435,8 @@ const probe = (() => {
   }
 
   /* Whether the end of a timeline's picture is the timeline as the page shows it. */
-  function endsWithTimeline(timeline) {
+  function endsWithTimeline(tab) {
+    const timeline = timelineOf(tab);
     const { canvas } = timeline, drawn = picture.drawn(timeline), edge = (drawn.width - canvas.width) / 2;
     const pixels = (from, x, y) => {
       Object.assign(reader.canvas, { width: from.width, height: from.height });
@@ -416,8 +556,11 @@ const probe = (() => {
   }
 
   return {
-    axis, axisTexts, caption, choose, chosenLine, colour, column, columnsOf, contrasts, cutNames, displays, drop, dropAll, elementsOfHue,
-    endsWithTimeline, faint, fill, hue, huesOf, huesOfLane, idle, labels, large, longestTask, many, move, open, pick, pictured, place,
-    run, savedBy, scriptOf, sharesOf, swatches, tempt, ticks, time, typeAndLeave,
+    axis, axisTexts, bars, begins, bottoms, caption, choose, chosenLine, codes, colour, column, columnsOf, columnsOfInk, contrasts, countShows,
+    cutNames, displays, drives, drop, dropAll, elementsOfHue, endJudge, endsOfLanes, endsWithTimeline, faint, fill, hue, huesOf,
+    huesOfLane, idle, isReady, keepBack, labels, lanes, large, layout, letGo, longestTask, lose, lost, many, marks, move, moveCar,
+    open, openFile, outputOfScript, pick, pictured, place, plays, roadAsScript, roadIsPlayed, run, runs, savedBy, scriptOf,
+    sharesOf, showWitness, shownTimes, sight, slotAt, slotsOfLog, someRuns, stopRoad, swatches, tempt, ticks, time, tunnels,
+    typeAndLeave, witness, zoom,
   };
 })();

@@ -22,7 +22,7 @@ PROBE = path("tests/page_probe.js")
 SEED = 20261123
 TABS = ("log", "script", "dwell")
 SCHEMES = ("light", "dark")
-READY = "page.state.ready || !document.getElementById('no-engine').hidden"
+READY = "probe.isReady()"
 HI = "C201 2140 4849 0D20"
 NOTHING = "---- ---- ---- ----"
 GROUPS = [HI, "C201 2150 594F 0D20", "C201 2140 4A41 5A5A", "C201 2141 2046 4D0D", "C201 A140 504F 5020",
@@ -109,6 +109,11 @@ def to_tab(b, name):
 def move(b, tab, slot):
     """Chooses a slot of a tab's timeline."""
     call(b, "probe.move", tab, slot)
+
+
+def focus(b, tab):
+    """Gives a tab's timeline the focus."""
+    b.run(f"document.querySelector('#{tab}-time canvas').focus()")
 
 
 def cursor(b, tab):

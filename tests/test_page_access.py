@@ -1,6 +1,7 @@
 """The page by key, to be heard and to be read: controls, contrast, colours, motion, and small windows."""
 from tests.page_support import (GROUPS, HI, SCHEMES, TABS, ChromiumCase, FirefoxCase, call, click, example,
-                                first_examples, hidden, of, open_script, settle, settled_verdict, to_tab, verdict_of)
+                                first_examples, focus, hidden, of, open_script, settle, settled_verdict, to_tab,
+                                verdict_of)
 
 # of texts, and of shapes without a text
 CONTRAST, GRAPHIC_CONTRAST = 4.5, 3
@@ -39,7 +40,7 @@ class Access:
         b.key("ArrowRight")
         self.check("arrows choose the tab", (b.run("document.activeElement.id"), hidden(b)),
                    ("tab-script", ["log", "dwell"]))
-        b.run("scriptTab.timeline.canvas.focus()")
+        focus(b, "script")
         b.key("Enter")
         self.check("Enter goes to the command", b.run("document.activeElement.id"), "command")
 
@@ -49,7 +50,7 @@ class Access:
         call(b, "probe.choose", "log-example", 0)
         for tab in TABS[:2]:
             to_tab(b, tab)
-            b.run(f"{tab}Tab.timeline.canvas.focus()")
+            focus(b, tab)
             seen = []
             for key in ("", "?", "?"):
                 if key:
@@ -106,9 +107,9 @@ class Chromium(Access, ChromiumCase):
             first_examples(b)
             b.scheme(scheme, **{"forced-colors": "active"})
             settle(b)
-            self.check("the canvas has the system's text colour", b.run("logTab.timeline.ink.text"),
-                       b.run("getComputedStyle(document.body).color"))
             to_tab(b, "log")
+            ink = b.run("getComputedStyle(document.body).color")
+            self.check("the canvas has the system's text colour", call(b, "probe.columnsOfInk", "log", ink) > 9, True)
             first, *others = b.run(grounds.format("nav button"))
             self.check("the chosen tab", (first not in others, len(set(others))), (True, 1))
             mixed, calm = b.run(grounds.format("#log-radio .lcd")), b.run(grounds.format("#script-air .lcd"))
@@ -235,10 +236,10 @@ class Chromium(Access, ChromiumCase):
         for tab, display in (("log", "#log-radio"), ("script", "#script-air")):
             to_tab(b, tab)
             settle(b)
-            names = b.run(f"{tab}Tab.timeline.lanes.map(lane => lane.name.trim())")
+            names = call(b, "probe.lanes", tab)
             others = [it for it in names if "name" in it or "tag" in it]
             self.check(f"{tab} has lanes of a name and of tags", len(others) >= 4, True)
-            self.check(f"names that {tab} cuts", b.run(f"probe.cutNames({tab}Tab.timeline)"), [])
+            self.check(f"names that {tab} cuts", call(b, "probe.cutNames", tab), [])
             ends = b.run(f"[document.querySelector('#{tab}-time').getBoundingClientRect().bottom, "
                          f"document.querySelector('{display}').getBoundingClientRect().top]")
             self.check(f"the displays of {tab} begin behind the timeline", 0 <= ends[1] - ends[0] < 110, True)

@@ -13,8 +13,6 @@ SEED, SCRIPTS, SLOTS = 20261127, 40, 90
 TEXTS = (("ABCDEFG", "ABCDEFG"), ("STUVWXY", "STUVWXY"), (r"\x41BCDWXY", "ABCDWXY"), ("STUVEFG", "STUVEFG"),
          (r"caf\x82 noir", "café noir"), ('say "hi"', r"say \x22hi\x22"), (r"\x22", r"\x22"), ("", ""))
 NAMES = ((r"\x41BC", "ABC     "), ("JAZZ FM", "JAZZ FM "), ("JAZZ", "JAZZ    "))
-BARS = ("scriptTab.timeline.lanes.filter(lane => lane.kind === 'bars' && lane.group !== undefined)"
-        ".map(lane => [...lane.runs].map(run => [lane.name, run.from, run.to, run.value, run.mix, Boolean(run.old)]))")
 # lanes of a script by the kind that they show, and the codes of groups of each kind
 LANES = {"text": "on air", "name": "  its name", "tags": "  its tags"}
 CODES = {"text": (1, 9), "name": (2,), "tags": (3,)}
@@ -61,7 +59,7 @@ class Colours:
             dwell, (script, sets) = rng.randrange(2, 6), random_script(rng)
             open_script(b, script, m=dwell, k=0)
             airs, wrong = on_air(script, sets, dwell), []
-            for name, start, end, value, is_mix, is_old in [run for lane in b.run(BARS) for run in lane]:
+            for name, start, end, value, is_mix, is_old in [run for lane in call(b, "probe.bars") for run in lane]:
                 kind = "name" if "name" in name else "text"
                 if not isinstance(value, str):
                     continue
@@ -132,8 +130,8 @@ class Colours:
 
     def reds(self, tab):
         """Returns the lanes of a tab that have a red pixel, and the elements in sight that have a red colour."""
-        lanes = self.b.run(f"{tab}Tab.timeline.lanes.map(lane => lane.name)")
-        hues = [self.b.run(f"probe.huesOfLane({tab}Tab.timeline, {number})") for number in range(len(lanes))]
+        lanes = call(self.b, "probe.lanes", tab)
+        hues = [call(self.b, "probe.huesOfLane", tab, number) for number in range(len(lanes))]
         is_red = lambda hue: hue >= RED[0] or hue < RED[1]
         red_lanes = [name for name, some in zip(lanes, hues) if any(map(is_red, some))]
         return red_lanes, call(self.b, "probe.elementsOfHue", *RED)
@@ -153,12 +151,12 @@ class Colours:
             all_hues = [*hues.values(), 0]
             close = [(one, two) for i, one in enumerate(all_hues) for two in all_hues[:i] if apart(one, two) < APART]
             self.check(f"{scheme}: the kinds and red differ", close, [])
-            sent = b.run("[...scriptTab.timeline.lanes[0].codes]")
+            sent = call(b, "probe.codes", "script", "sent")
             for kind, lane in LANES.items():
-                number = b.run("scriptTab.timeline.lanes.map(lane => lane.name)").index(lane)
-                of_lane = b.run(f"probe.huesOfLane(scriptTab.timeline, {number})")
+                number = call(b, "probe.lanes", "script").index(lane)
+                of_lane = call(b, "probe.huesOfLane", "script", number)
                 slots = [slot for slot, code in enumerate(sent) if code in CODES[kind]]
-                ticks = [b.run(f"probe.huesOfLane(scriptTab.timeline, 0, {slot})") for slot in slots]
+                ticks = [call(b, "probe.huesOfLane", "script", 0, slot) for slot in slots]
                 swatch = "document.querySelector('#script .legend [data-shows=\"{}\"]')"
                 legend = [b.run(f"probe.huesOf({swatch.format(code)}, 6, 0, 2, 20)") for code in CODES[kind]]
                 for name, some in (("bars", [of_lane]), ("ticks", ticks), ("legend", legend)):
@@ -185,7 +183,7 @@ class Colours:
             self.check(f"{scheme}: a script with a mix", (set(lanes), len(elements) > 0), ({"  flag bit alone"}, True))
             passes = f"{HI}\n" * 20 + f"{NOTHING}\n" * 3 + f"{YO}\n" * 20
             verdict_of(b, passes, 8)
-            b.run("logTab.lose([4, 5, 6, 7])")
+            call(b, "probe.lose", 4, 5, 6, 7)
             settle(b)
             self.check(f"{scheme}: a log with lost slots that passes", self.reds("log"), ([], []))
             call(b, "probe.choose", "log-m", "0")

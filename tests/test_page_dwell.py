@@ -76,7 +76,7 @@ class DwellTab:
                 self.check(f"dwell-{field} {value!r}", got,
                            (f"{name} must be a whole number from {low} to {high}.", [], True))
             call(b, "probe.choose", f"dwell-{field}", was)
-        self.check("and a good number again", (of(b, "#dwell-fault", "hidden"), len(dwell_shows(b))), (True, 3))
+        self.check("and a good number again", (of(b, "#dwell-fault", "checkVisibility()"), len(dwell_shows(b))), (False, 3))
         for field, number in (("m", 128), ("s", 15)):
             call(b, "probe.choose", f"dwell-{field}", number)
 

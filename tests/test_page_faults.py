@@ -15,7 +15,7 @@ SOME_ROWS = ["-,,1,G"] * 6 + ['"-","",1,G', '""', "", "", '-,"a\n,b",1,G', '-,"a
 def results(b, tab):
     """Returns all that a tab shows of a result: texts, marks of a mix, lanes and lines. The road has its own displays."""
     found = lambda query: b.run(f"[...document.querySelectorAll('#{tab} {query}:not(#road *)')].map(it => it.textContent)")
-    lanes = b.run(f"{tab}Tab.timeline.lanes.length")
+    lanes = len(call(b, "probe.lanes", tab))
     return found(".lcd .text:not(.none)"), len(found(".mixed")), lanes, text_of(b, f"#{tab}-lines")
 
 
@@ -79,8 +79,7 @@ class Faults:
         move(b, "script", 3)
         self.check("a text is shown before a bad row", (shown(b, "script-radio"), shown(b, "script-alone")),
                    ("HI", "HI"))
-        last = "lane.codes?.length ?? [...lane.runs ?? []].at(-1)?.to ?? 0"
-        ends = b.run(f"scriptTab.timeline.lanes.map(lane => {last})")
+        ends = call(b, "probe.endsOfLanes")
         self.check("no lane goes on behind it", [it for it in ends if it > 5], [])
         for slot in (5, 11):
             move(b, "script", slot)
@@ -195,7 +194,7 @@ class Faults:
         """The page does not wait for ever."""
         b = self.b
         verdict_of(b, f"{HI}\n" * 20, 8)
-        b.run("logTab.judge.worker.onerror({ message: 'out of memory' }); logTab.judge.compiled = null")
+        b.run("probe.endJudge('out of memory')")
         call(b, "probe.open", "log", f"{HI}\n" * 30, {"pi": "C201", "m": 8})
         self.check("a log", (text_of(b, "#verdict h2"), len(text_of(b, "#verdict p")) > 5), ("No verdict", True))
 
@@ -209,7 +208,8 @@ class Faults:
         self.check("one that is held", text_of(b, "#script-note"),
                    "slot 11: name refused, the one before is still held for 14 slots more; accepted from slot 25 on.")
         open_script(b, "-,,1,G\n" * 8 + "text,HI,1,G\n", m=8, k=0)
-        self.check("no refused set", (text_of(b, "#script-note"), of(b, "#script-note", "hidden")), ("", True))
+        self.check("no refused set", (text_of(b, "#script-note"), of(b, "#script-note", "checkVisibility()")),
+                   ("", False))
 
 
 class Chromium(Faults, ChromiumCase):

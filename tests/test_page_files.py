@@ -66,7 +66,7 @@ class Files:
         for name, data in (("plain.log", log.encode()), ("mark.log", b"\xEF\xBB\xBF" + log.encode()),
                            ("small.txt", b"\xFF\xFE" + log.encode("utf-16-le")),
                            ("large.txt", b"\xFE\xFF" + log.encode("utf-16-be")), ("spread.csv", log.encode())):
-            b.run(f"page.openFile(new File([Uint8Array.from({list(data)})], '{name}'))")
+            b.run(f"probe.openFile(new File([Uint8Array.from({list(data)})], '{name}'))")
             settle(b)
             got = hidden(b), of(b, "#log-text", "value"), text_of(b, "#log-lines")
             self.check(name, got, (["script", "dwell"], log, '0 text "HI"\n'))
@@ -91,8 +91,8 @@ class Files:
         open_script(b, f"text,{long},1,G\n-,,1,G\n", m=8, k=0)
         move(b, "script", 0)
         b.run("document.getElementById('free').click()")
-        row = b.run("(row => [row.argument.length, row.free])(scriptTab.rows[0])")
-        self.check("an edit keeps it", [*row, of(b, "#argument", "readOnly")], [len(long), "0", True])
+        row = of(b, "#script-text", "value").split("\n")[0]
+        self.check("an edit keeps it", (row, of(b, "#argument", "readOnly")), (f"text,{long},0,G", True))
         move(b, "script", 1)
         self.check("and a short one can be typed", (of(b, "#argument", "readOnly"), of(b, "#argument", "value")),
                    (False, ""))
@@ -107,7 +107,7 @@ class Files:
         for mark in [*TURNS, "\x1b", "\x85"]:
             open_script(b, f"text,a{mark}b,1,G\n", m=8, k=0)
             found = set(text_of(b, "#script-fault")) & set(TURNS + "\x1b\x85")
-            self.check(f"U+{ord(mark):04X} in a fault", (found, of(b, "#script-fault", "hidden")), (set(), False))
+            self.check(f"U+{ord(mark):04X} in a fault", (found, of(b, "#script-fault", "checkVisibility()")), (set(), True))
         open_script(b, "text,\u0639,1,G\n", m=8, k=0)
         self.check("a quoted letter is isolated", text_of(b, "#script-fault bdi"), "'\u0639'")
         verdict_of(b, "C201 \u202e \u0639\n", 8)
@@ -173,7 +173,7 @@ class Files:
             for name, words in (("log", ["decode", "--pi", "C201", "--why"]), ("audit", ["audit", "--pi", "C201"])):
                 self.check(f"{words[0]} over a file that begins with {data[:12]}", text_of(b, f"#{name}-lines"),
                            program(words, plain)[1])
-            b.run("logTab.lose([0])")
+            call(b, "probe.lose", 0)
             self.check("and once a slot is lost", text_of(b, "#audit-lines"),
                        program(["audit", "--pi", "C201"], plain)[1])
         self.check("the last one passes, and the program takes no mark",
@@ -194,11 +194,11 @@ class Files:
         own = "new File([{}], 'own.log')"
         slow = ("Object.assign({}, {{ arrayBuffer: async function () {{ await new Promise(done => setTimeout(done, 300));"
                 " return File.prototype.arrayBuffer.call(this); }} }})")
-        b.run("page.openFile({ name: 'a <b>', arrayBuffer: async () => { throw new Error('a folder'); } })")
+        b.run("probe.openFile({ name: 'a <b>', arrayBuffer: async () => { throw new Error('a folder'); } })")
         settle(b)
         self.check("a folder", (text_of(b, "#verdict"), of(b, "#verdict", "className")),
                    ("The page cannot read a <b>.No log is open.", "verdict no"))
-        b.run(f"page.openFile({slow.format(own.format(repr(EVERY_100)))}); page.openFile({own.format(repr(HI))})")
+        b.run(f"probe.openFile({slow.format(own.format(repr(EVERY_100)))}); probe.openFile({own.format(repr(HI))})")
         b.until("new Promise(done => setTimeout(() => done(true), 600))")
         settle(b)
         self.check("two files", of(b, "#log-text", "value"), HI)
@@ -224,7 +224,7 @@ class Files:
         b = self.b
         log = example("flags.log").decode()
         # a file whose bytes are others each time
-        b.run("page.openFile(Object.assign(new File([], 'own.log'), { times: 0, arrayBuffer: async function () { "
+        b.run("probe.openFile(Object.assign(new File([], 'own.log'), { times: 0, arrayBuffer: async function () { "
               f"return new TextEncoder().encode(this.times++ ? {HI!r} : {log!r}).buffer; }} }}))")
         settle(b)
         call(b, "probe.choose", "log-m", 8)
@@ -277,7 +277,7 @@ class Files:
         b.run("document.querySelector('#log-text').closest('details').open = true")
         call(b, "probe.choose", "log-text", f"{HI}\n")
         settle(b)
-        self.check("an edited log is unsaved", b.run("logTab.isUnsaved()"), True)
+        self.check("an edited log is unsaved", b.run("dispatchEvent(new Event('beforeunload', { cancelable: true }))"), False)
         call(b, "probe.drop", "own.log", EVERY_100)
         settle(b)
         self.check("the page asks", (of(b, "#ask", "open"), of(b, "#log-text", "value")), (True, f"{HI}\n"))
@@ -310,7 +310,7 @@ class Chromium(Files, ChromiumCase):
             self.check("a saved script", waited_for(os.path.join(folder, "script.csv")), example("late.csv"))
             click(b, "#script-time [data-do=save]")
             data = waited_for(os.path.join(folder, "timeline.png"))
-            width = b.run("scriptTab.timeline.canvas.width + 32")
+            width = of(b, "#script-time canvas", "width + 32")
             self.check("a saved picture", (data[:8], struct.unpack(">I", data[16:20])),
                        (b"\x89PNG\r\n\x1a\n", (width,)))
 

@@ -41,14 +41,14 @@ class Chromium(ChromiumCase):
         self.check("they pass", b.run(f"probe.fill({SLOTS})"), f"yes {SLOTS}\n")
         for words, what in ((["decode", "--pi", "C201"], "log"), (["sim", "--pi", "C201"], "script")):
             data = b.run(f"probe.many.{what}").encode()
-            got = b.run(f"rdsrt.run({json.dumps(words)}, probe.many.{what}).output")
+            got = b.run(f"probe.run({json.dumps(words)}, probe.many.{what})[1]")
             self.check(f"{words[0]} of many slots", got, program(words, data)[1])
 
     def test_the_log_of_a_day_is_shown_in_windows(self):
         b = self.b
         log = day_of_slots()
         give_day(b, log)
-        b.run("page.openFile(day)")
+        b.run("probe.openFile(day)")
         call(b, "probe.choose", "log-m", 100)
         settle(b)
         move(b, "log", 981999)
@@ -58,7 +58,7 @@ class Chromium(ChromiumCase):
         self.check("its lines are a window around the slot", (len(rows) <= 102, rows[-1]), (True, f"982,000{log[-20:-1]}"))
         before, after = json.dumps(log[:10_000_000]), json.dumps(log[:100_000])
         b.run(f"window.day = new File([{before}, 'bad\\n', {after}], 'bad.log'); undefined")
-        b.run("page.openFile(day)")
+        b.run("probe.openFile(day)")
         idle(b)
         b.run("[...document.querySelectorAll('#verdict button')].at(-1).click()")
         self.check("the line of a fault is shown", (text_of(b, "#verdict h2"), text_of(b, "#log-rows [aria-current]")),

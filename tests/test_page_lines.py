@@ -78,8 +78,7 @@ class Lines:
 
     def test_the_memory_has_room_beyond_32_bits(self):
         b = self.b
-        at = dict(call(b, "((...sizes) => Object.entries(rdsrt.layout(...sizes)))", 100, 3_000_000_000, 5_000_000_000,
-                       1000))
+        at = dict(call(b, "probe.layout", 100, 3_000_000_000, 5_000_000_000, 1000))
         self.check("addresses of a large input",
                    [at[name] > at[before] for before, name in zip(list(at), list(at)[1:])], [True] * (len(at) - 1))
         self.check("each in its place", (at["output"] - at["input"] >= 3_000_000_000,

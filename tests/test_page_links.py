@@ -7,13 +7,22 @@ import tempfile
 import threading
 from http.server import SimpleHTTPRequestHandler, ThreadingHTTPServer
 
-from tests.page_support import (EVERY_100, FOLDER, SEED, URL, ChromiumCase, FirefoxCase, call, click, example, hidden,
-                                of, open_script, packed, printed, reload, settle, text_of, to_tab, visit, waited_for)
+from tests.page_support import (EVERY_100, FOLDER, SEED, URL, ChromiumCase, FirefoxCase, call, click, cursor, example,
+                                hidden, move, of, open_script, packed, printed, reload, settle, text_of, to_tab, visit,
+                                waited_for)
 
-SIGHT = "[scriptTab.timeline.cursor, scriptTab.chosen, scriptTab.timeline.from, scriptTab.timeline.across]"
-LOG_STATE = ("(({ timeline: { cursor, from, across }, lost }) => "
-             "[document.getElementById('log-lines').textContent, [...lost].sort((a, b) => a - b), cursor, from, "
-             "across, ...['pi', 'm', 'k'].map(it => document.getElementById(`log-${it}`).value)])(logTab)")
+
+
+def sight(b):
+    """Returns the slot of the script, its receiver by the displays, and the slots in sight."""
+    receiver = int(re.search(r"Receiver (\d+)", of(b, "#script-radio", "ariaLabel"))[1])
+    return [cursor(b, "script"), receiver, *call(b, "probe.sight", "script")]
+
+
+def log_state(b):
+    """Returns the lines of the log's display, its lost slots, the slot, the slots in sight, and the options."""
+    return [text_of(b, "#log-lines"), sorted(call(b, "probe.lost")), cursor(b, "log"), *call(b, "probe.sight", "log"),
+            *(of(b, f"#log-{it}", "value") for it in ("pi", "m", "k"))]
 
 
 @contextlib.contextmanager
@@ -80,16 +89,17 @@ class Links:
             self.check("files of the page are fetched", len(fetched) > 3, True)
             click(b, "#tab-script")
             call(b, "probe.choose", "script-example", 1)
-            b.run("scriptTab.chosen = 1; scriptTab.timeline.zoom(0.3, 20)")
-            b.run("scriptTab.timeline.move(23, { keep: true })")
+            b.drag(*[call(b, "probe.place", "script", 1, "receiver 1")] * 2)
+            b.drag(call(b, "probe.axis", "script", 14), call(b, "probe.axis", "script", 32))
+            move(b, "script", 23)
             click(b, "#script-share")
             b.until("document.querySelector('#script-saved').textContent !== ''")
             self.check("a link is copied", script_link(b)[0] in ("The link was copied.", "This is the link: copy it."),
                        True)
             link, before, made = of(b, "#script-link", "value"), printed(b), script_link(b)
             self.check("the address is the link", (b.run("location.href"), made[1:]), (link, [True, True, "1"]))
-            sight = b.run(f"{SIGHT}.map(Math.round)")
-            self.check("it was zoomed", (sight[:2], sight[3] < 30), ([23, 1], True))
+            seen = sight(b)
+            self.check("it was zoomed", (seen[:2], seen[3] < 30), ([23, 1], True))
             call(b, "probe.choose", "command", "restart")
             self.check("an edit drops the link", script_link(b), ["", False, False, ""])
             click(b, "#script-undo")
@@ -97,14 +107,13 @@ class Links:
             to_tab(b, "log")
             self.check("another tab has its own address", b.run("location.hash"), "#log")
             visit(b, link)
-            self.check("the link opens all that", [printed(b), b.run(SIGHT), hidden(b)],
-                       [before, sight, ["log", "dwell"]])
+            self.check("the link opens all that", [printed(b), sight(b), hidden(b)], [before, seen, ["log", "dwell"]])
             reload(b)
-            self.check("and a reload too", [printed(b), b.run(SIGHT), hidden(b)], [before, sight, ["log", "dwell"]])
+            self.check("and a reload too", [printed(b), sight(b), hidden(b)], [before, seen, ["log", "dwell"]])
             for more in ("&slot=9999999&from=-1&across=0&receiver=9", "&slot=x&from=1e9&across=1e9&receiver="):
                 visit(b, f"{re.sub('&slot=.*', '', link)}{more}&end")
-                self.check(f"a link with {more}", [printed(b), b.run(f"{SIGHT}[3] > 7 && {SIGHT}[1] < 2")],
-                           [before, True])
+                _, receiver, _, across = sight(b)
+                self.check(f"a link with {more}", [printed(b), across > 7 and receiver < 2], [before, True])
 
     def test_a_link_of_a_log_keeps_its_options_and_lost_slots(self):
         """It keeps the slot and the zoom too, and stays in the address."""
@@ -115,26 +124,26 @@ class Links:
             to_tab(b, "log")
             call(b, "probe.open", "log", EVERY_100, {"pi": "C201", "m": 100, "k": 3, "lost": [2, 3, 4, 9, 100]})
             settle(b)
-            b.run("logTab.timeline.zoom(0.1, 90); logTab.timeline.move(103, { keep: true })")
-            b.run("(it => { it.from = Math.round(it.from); it.across = Math.round(it.across); })(logTab.timeline)")
-            before = b.run(LOG_STATE)
+            call(b, "probe.zoom", "log", 81, 111)
+            move(b, "log", 103)
+            before = log_state(b)
             click(b, "#log-share")
             b.until("document.getElementById('log-saved').textContent !== ''")
             link = of(b, "#log-link", "value")
             self.check("the address is the link", (b.run("location.href"), len(link) < 1000, "lost=2-4.9.100" in link),
                        (link, True, True))
-            b.run("logTab.lose([7])")
+            call(b, "probe.lose", 7)
             settle(b)
             self.check("a lost slot drops the link", (told(), b.run(address), of(b, "#log-link", "hidden")),
                        ("", False, True))
-            b.run("logTab.lose([7])")
+            call(b, "probe.lose", 7)
             settle(b)
             self.check("and without it the address has it again", (told(), b.run(address)), ("", True))
             visit(b, link)
-            self.check("the link opens all that", [b.run(LOG_STATE), hidden(b)], [before, ["script", "dwell"]])
+            self.check("the link opens all that", [log_state(b), hidden(b)], [before, ["script", "dwell"]])
             bare = re.sub("&.*", "", link)
             visit(b, f"{bare}&m=128&lost=0-9999999&end")
-            state = b.run(LOG_STATE)
+            state = log_state(b)
             self.check("a link with many lost slots", (told(), state[5:], len(state[1])), ("", ["C201", "128", "0"], 200_000))
             damaged = "The link is damaged: an option of it is wrong."
             for name, broken, why in (
@@ -161,7 +170,7 @@ class Links:
         b.run(f"location.hash = 'log={packed(EVERY_100.encode())}&m=8&lost=0-149&end'; undefined")
         b.until("document.querySelector('#log-lines').textContent !== ''")
         settle(b)
-        self.check("a link with many lost slots", b.run("logTab.lost.size"), 150)
+        self.check("a link with many lost slots", len(call(b, "probe.lost")), 150)
         click(b, "#tab-dwell")
         b.run("history.back()")
         b.until("!document.querySelector('#log').hidden")

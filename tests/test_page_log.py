@@ -3,7 +3,7 @@ import random
 import re
 
 from tests.page_support import (EVERY_100, GROUPS, HI, NOTHING, SEED, YO, ChromiumCase, FirefoxCase, call, click,
-                                cursor, example, first_examples, idle, move, of, program, run_program, settle,
+                                cursor, example, first_examples, focus, idle, move, of, program, run_program, settle,
                                 settled_verdict, shown, text_of, to_tab, verdict_of)
 
 GROUP_WORDS = [
@@ -44,7 +44,7 @@ EXPLAINED = [
 
 def lost(b):
     """Returns the slots that the reader lost."""
-    return b.run("[...logTab.lost]")
+    return call(b, "probe.lost")
 
 
 def with_times(dice):
@@ -87,7 +87,7 @@ class LogTab:
         self.check("it shows the mix", (shown(b, "log-radio"), of(b, "#log-radio", "className")),
                    ("JAZZMIX", "radio mixed"))
         self.check("its lines", text_of(b, "#log-lines"), '1 text "JAZZ FM"\n5 text "JAZZMIX"\n')
-        b.run("logTab.timeline.canvas.focus()")
+        focus(b, "log")
         b.key("ArrowLeft")
         self.check("a key moves a slot back", (cursor(b, "log"), shown(b, "log-radio")), (4, "JAZZ FM"))
         b.key("l")
@@ -101,7 +101,7 @@ class LogTab:
         click(b, "#verdict .witness button")
         self.check("the button loses the slots of the witness", (lost(b), shown(b, "log-radio")), ([2, 3], "POP  FM"))
         click(b, "#log-click")
-        at = b.run("probe.place(logTab.timeline, 0, lane => lane.lost)")
+        at = call(b, "probe.place", "log", 0, "received")
         b.drag(at, at)
         self.check("a click loses a slot", lost(b), [2, 3, 0])
         click(b, "#log-click")
@@ -111,7 +111,7 @@ class LogTab:
         call(b, "probe.open", "log", f"{HI}\n" * 20, {"pi": "C201", "m": 8, "k": 0})
         click(b, "#log-click")
         self.check("nothing to undo", of(b, "#log-undo", "disabled"), True)
-        slots = [b.run(f"probe.place(logTab.timeline, {slot}, lane => lane.lost)") for slot in range(20)]
+        slots = [call(b, "probe.place", "log", slot, "received") for slot in range(20)]
         for first, last, left in ((3, 11, range(3, 12)), (9, 15, range(3, 9))):
             b.drag(slots[first], slots[last])
             idle(b)
@@ -136,7 +136,9 @@ class LogTab:
             self.check(f"log {number}: display", text_of(b, "#log-lines"), shown_lines, log)
             answer = program(["audit", "--all", "--pi", "C201", "--m", str(m), "--k", str(k + w - 1)], log.encode())[1]
             self.check(f"log {number}: audit", text_of(b, "#audit-lines"), answer, log)
-            self.check(f"log {number}: link", f"&w={w}" in b.run("logTab.options()"), True)
+            click(b, "#log-share")
+            b.until("location.hash.includes('log=')")
+            self.check(f"log {number}: link", f"&w={w}&" in b.run("location.hash"), True)
         call(b, "probe.open", "log", example("corrected.log").decode(), {"pi": "C201", "m": 8, "k": 0, "w": 1})
         self.check("a window of 1", text_of(b, "#verdict"),
                    "No verdictWindow W must be a whole number from 2 to 255.")
@@ -196,7 +198,7 @@ class LogTab:
             before = "\n".join(good[:int(bad[1]) - 1]) + "\n" if bad else log
             slots = program(["decode", "--pi", "C201", "--m", "1"], before.encode())[0]
             count = sum(1 for line in before.split("\n") if line.strip("\r") and line[0] not in "<#%")
-            self.check(f"seed {SEED}, slots of odd log {number}", (b.run("logTab.log.count"), slots), (count, 0),
+            self.check(f"seed {SEED}, slots of odd log {number}", (call(b, "probe.slotsOfLog"), slots), (count, 0),
                        log)
 
     def test_the_list_has_each_change_and_can_be_filtered(self):
@@ -269,7 +271,7 @@ class LogTab:
                 self.check(f"seed {SEED}, log {number} passes", "✓ Passes with M = " in said, True, log)
                 continue
             told = program(["witness", *options], log.encode())[1].splitlines()
-            its = b.run("logTab.witness")
+            its = call(b, "probe.witness")
             slots = its["lost"] and "-".join(map(str, sorted(set(its["lost"]))))
             self.check(f"seed {SEED}, witness of log {number}, M {m}",
                        [f"lose {slots}: {line}" for line in its["shown"]]
@@ -277,7 +279,7 @@ class LogTab:
             found += bool(its["shown"])
         self.check_all("witnesses were found", found > 5, True)
         verdict_of(b, example("flags.log").decode(), 8)
-        b.run("$verdict.showWitness({ lost: null, shown: [], failure: 'no memory for this input' }, {})")
+        call(b, "probe.showWitness", {"lost": None, "shown": [], "failure": "no memory for this input"})
         self.check("a search that fails", text_of(b, "#witness"),
                    "No witness: no memory for this input. A no says that a rule was broken.")
         # one text of one segment, whose flag turns each time, makes no mix
@@ -293,7 +295,7 @@ class LogTab:
         log = example("flags.log").decode()
         call(b, "probe.open", "log", log + f"{NOTHING}\n" * 40, {"pi": "C201", "m": 8, "k": 0})
         settled_verdict(b)
-        self.check("the cursor", (cursor(b, "log"), b.run("logTab.no.slot")), (4, 4))
+        self.check("the cursor", (cursor(b, "log"), text_of(b, "#verdict [data-act=goTo]")), (4, "slot 4"))
         call(b, "probe.open", "log", log, {"pi": "C201", "m": 2, "k": 3})
         settled_verdict(b)
         idle(b)
@@ -325,8 +327,7 @@ class LogTab:
         settled_verdict(b)
         settle(b)
         b.run("scrollTo(0, 0)")
-        box = "document.querySelector('#log-time canvas').getBoundingClientRect().top"
-        ends = b.run(f"logTab.timeline.lanes.map(lane => {box} + lane.top + lane.height)")
+        ends = call(b, "probe.bottoms", "log")
         rows = b.run("document.querySelector('#log-rows [aria-current]').getBoundingClientRect().bottom")
         self.check("in sight", (sum(end <= 800 for end in ends) >= 5, rows <= 800), (True, True), f"{ends} {rows}")
         b.size(1280, 900)

@@ -62,47 +62,43 @@ class Long:
         b = self.b
         to_tab(b, "script")
         call(b, "probe.open", "script", b.run("probe.scriptOf(20000)"), {"m": 8, "k": 0})
-        b.run("window.drawn = 0; window.show = scriptTab.timeline.show; scriptTab.timeline.show = "
-              "function (...given) { drawn++; show.apply(this, given); }; undefined")
+        b.run("probe.countShows()")
         move(b, "script", 10)
         b.run("['restart', 'tags', '-', 'restart'].forEach(command => probe.choose('command', command))")
-        self.check("the row has the last edit at once", b.run("scriptTab.rows[10].command"), "restart")
+        row = of(b, "#script-text", "value").splitlines()[10]
+        self.check("the row has the last edit at once", row.split(",")[0], "restart")
         idle(b)
-        script = b.run("scriptTab.text")
+        script = of(b, "#script-text", "value")
         wanted = program(["sim", "--pi", "C201", "--pty", "10", "--m", "8", "--k", "0", "--why"], script.encode())[1]
         self.check("one result is shown, the last one's",
-                   (b.run("drawn"), b.run("scriptTab.output") == wanted[:1_600_004]), (1, True))
-        b.run("scriptTab.timeline.show = show; undefined")
+                   (call(b, "probe.shownTimes"), call(b, "probe.outputOfScript") == wanted[:1_600_004]), (1, True))
 
     def test_a_script_that_plays_for_long_can_be_stopped_and_is_not_waited_for(self):
         """After a second a button ends the run, and a newer number does so at once. The answer of the run is kept back, for
         a fast machine plays any script within a second."""
         b = self.b
         to_tab(b, "script")
-        b.run("window.hear = Program.prototype.hear; window.isHeld = true; Program.prototype.hear = function (data) {"
-              "  if (!isHeld || !data.answer?.replies) hear.call(this, data); }; undefined")
+        b.run("probe.keepBack(answer => answer.replies)")
         button = "document.querySelector('#script-stop')"
-        shows, stop = f"{button}.checkVisibility()", f"{button}.click()"
+        shows, stop = f"{button}.checkVisibility({{ visibilityProperty: true }})", f"{button}.click()"
         for m in (100, 101):
             b.run(f"probe.choose('script-m', {m})")
             self.check("a button", b.until(shows), True)
             if m == 100:
                 b.run(stop)
                 self.check("stops it at once", (text_of(b, "#script-fault"), b.run(shows)), ("Playing was stopped.", False))
-        b.run("isHeld = false; probe.choose('script-m', 9)")
+        b.run("probe.letGo(); probe.choose('script-m', 9)")
         b.until("document.querySelector('#script-command').textContent.includes('--m 9 ')")
         idle(b)
         self.check("a newer M", (text_of(b, "#script-command"), text_of(b, "#script-fault"), b.run(shows)),
                    ("rdsrt sim --pi C201 --pty 10 --m 9 --k 0 --why", "", False))
-        b.run("Program.prototype.hear = hear; undefined")
 
     def test_the_search_for_a_witness_says_how_long_it_takes_and_can_be_stopped(self):
         """The answer of the search is kept back, for a fast machine searches a day of slots within a second."""
         b = self.b
-        b.run("window.hear = Program.prototype.hear; Program.prototype.hear = function (data) {"
-              "  if (data.answer?.shown === undefined) hear.call(this, data); }; undefined")
+        b.run("probe.keepBack(answer => answer.shown)")
         groups = "".join(f"C201 21{flag}0 {text} 0D20\\n" * 2 for flag, text in ((4, "4849"), (5, "594F")))
-        b.run(f"page.openFile(new File(['{groups}'.repeat({DAY // 4})], 'day.log')); undefined")
+        b.run(f"probe.openFile(new File(['{groups}'.repeat({DAY // 4})], 'day.log')); undefined")
         searches = b.until("document.querySelector('#search-stop')?.hidden === false")
         self.check("a button stops it", searches, True)
         told = re.fullmatch(r"Looking for lost slots that make a mix in ([\d,]+) slots, for (\d+) s …",
@@ -111,7 +107,7 @@ class Long:
         b.run("document.querySelector('#search-stop').click()")
         self.check("it stops at once", text_of(b, "#witness"),
                    "No witness: the search was stopped. A no says that a rule was broken.")
-        b.run("Program.prototype.hear = hear; undefined")
+        b.run("probe.letGo()")
         idle(b)
         self.check("and stays so", text_of(b, "#witness"),
                    "No witness: the search was stopped. A no says that a rule was broken.")
@@ -129,9 +125,9 @@ class Chromium(Long, ChromiumCase):
         b = self.b
         to_tab(b, "script")
         b.run(f"window.long = probe.scriptOf({ROWS}); undefined")
-        edit = f"(scriptTab.timeline.move(900), probe.typeAndLeave({TYPED!r}, 960))"
-        steps = {"opened": "scriptTab.open(long, { m: 128, k: 0 })", "a letter is typed": edit,
-                 "a reception": "(scriptTab.timeline.canvas.focus(), scriptTab.timeline.onKey('l', {}))",
+        edit = f"(probe.move('script', 900), probe.typeAndLeave({TYPED!r}, 960))"
+        steps = {"opened": "probe.open('script', long, { m: 128, k: 0 })", "a letter is typed": edit,
+                 "a reception": "document.querySelector('#script-time canvas').dispatchEvent(new KeyboardEvent('keydown', { key: 'l' }))",
                  "undone": "document.querySelector('#script-undo').click()",
                  "another M": "probe.choose('script-m', 100)",
                  "fewer receivers": f"probe.choose('script-n', {RECEIVERS - 1})"}
@@ -140,10 +136,10 @@ class Chromium(Long, ChromiumCase):
             self.check(f"{name}: no task of more than {LONGEST_TASK} ms", longest <= LONGEST_TASK or longest, True)
             if name != "a letter is typed":
                 continue
-            self.check("the row has the text", b.run("scriptTab.rows[900].argument"), TYPED)
-            script = b.run("scriptTab.text").encode()
+            self.check("the row has the text", of(b, "#script-text", "value").split("\n")[900].split(",")[1], TYPED)
+            script = of(b, "#script-text", "value").encode()
             wanted = program(["sim", "--pi", "C201", "--pty", "10", "--m", "128", "--k", "0", "--why"], script)[1]
-            self.check("it is played", b.run("scriptTab.output") == wanted[:1_600_004], True)
+            self.check("it is played", call(b, "probe.outputOfScript") == wanted[:1_600_004], True)
             move(b, "script", 1000)
             self.check("and shown", shown(b, "script-air"), TYPED)
             waits = "document.querySelector('#script-wait').checkVisibility()"
@@ -163,25 +159,23 @@ class Chromium(Long, ChromiumCase):
             file_of(b, file.name)
             self.nothing_holds_up(b)
         groups = list(turning())
-        for slot in b.run("[...logTab.lost]"):
+        for slot in call(b, "probe.lost"):
             groups[slot] = f"{NOTHING}\n"
         output = program(["decode", "--pi", "C201", "--m", "64"], "".join(groups).encode())[1]
         told = [[int(slot), text or None] for slot, text in re.findall('^(\\d+) text (?:"(.*)"|none)$', output, re.M)]
-        runs = "logTab.view.parts.text"
-        some = b.run(f"Array.from({runs}.starts.keys()).filter(i => i % {EACH} === 0)"
-                     f".map(i => [{runs}.from(i), {runs}.value(i)])")
-        self.check("some of what is shown", (b.run(f"{runs}.length"), some), (len(told), told[::EACH]))
+        self.check("some of what is shown", call(b, "probe.someRuns", EACH), [len(told), told[::EACH]])
         shows = sum(1 for _, text in told if text)
         self.check("its changes", text_of(b, "#log-found").partition(" of ")[2], f"{shows:,} changes")
         self.check("its answer", text_of(b, "#verdict h2 code"), "EarlyFlag")
 
     def nothing_holds_up(self, b):
         """Measures each step over the open log."""
-        steps = {"opened": "page.openFile(day)", "another M": "probe.choose('log-m', 100)",
-                 "a lost slot": "logTab.lose([500_001 + 2 * logTab.lost.size])",
+        steps = {"opened": "probe.openFile(day)", "another M": "probe.choose('log-m', 100)",
+                 "a lost slot": "probe.lose(500_001 + 2 * probe.lost().length)",
                  "another M then": "probe.choose('log-m', 64)",
-                 "at the end": f"logTab.timeline.move({DAY - 1})", "its list": "probe.choose('log-find', '45678')",
-                 "all in sight": "logTab.timeline.act('all')", "the next text": "logTab.timeline.act('next')"}
+                 "at the end": f"probe.move('log', {DAY - 1})", "its list": "probe.choose('log-find', '45678')",
+                 "all in sight": "document.querySelector('#log-time [data-do=all]').click()",
+                 "the next text": "document.querySelector('#log-time [data-do=next]').click()"}
         for name, step in steps.items():
             longest = longest_task(b, step, LONGEST_TASK)
             memory = memory_of_renderers(b.driver)

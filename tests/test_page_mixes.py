@@ -5,9 +5,10 @@ from tests.page_support import (HI, NOTHING, ChromiumCase, FirefoxCase, call, cl
                                 open_script, program, reload, shown, text_of, to_tab)
 
 
-def runs_of(b, view, part="text"):
-    """Returns the slots from which a view shows another value of a part, with the value."""
-    runs = b.run(f"[...{view}.parts.{part}].map(run => [run.from, run.value])")
+def runs_of(b, *view):
+    """Returns the slots from which a display of a tab shows another text, with the text."""
+    tab, which, *receiver = view
+    runs = [[it["from"], it["value"]] for it in call(b, "probe.runs", tab, which, "text", *receiver)]
     return [run for before, run in zip([[0, None, "none"], *runs], runs) if before[-1] != run[-1]]
 
 
@@ -47,10 +48,10 @@ class Mixes:
             words = ["decode", "--pi", of(b, "#log-pi", "value"), "--m", "65535"]
             told = re.findall(r'^(\d+) text (?:"(.*)"|none)$', program(words, example(name))[1], re.M)
             wanted = [[int(slot), text or None] for slot, text in told]
-            self.check(f"the flag bit alone over {name}", (runs_of(b, "logTab.alone"), len(wanted) > 0),
+            self.check(f"the flag bit alone over {name}", (runs_of(b, "log", "alone"), len(wanted) > 0),
                        (wanted, True))
         open_script(b, "".join(f"text,HI,1,{letter}\n" for letter in "GGRGLR"), m=1, k=0)
-        self.check("it restarts with its receiver", runs_of(b, "scriptTab.alone[0]"),
+        self.check("it restarts with its receiver", runs_of(b, "script", "alone", 0),
                    [[1, "HI"], [2, None], [3, "HI"], [5, None]])
         for slot, word in ((2, "restarted"), (5, "dropped")):
             move(b, "script", slot)
@@ -59,7 +60,8 @@ class Mixes:
         many = f"{HI}\n" + f"{NOTHING}\n" * 65_534
         for text, wanted in ((many * 2, [[0, 131_070]]), (many + f"{NOTHING}\n", [[0, 65_535], [65_535, 65_536]])):
             call(b, "probe.open", "log", text, {"pi": "C201", "m": 8})
-            got = b.run("[...logTab.alone.parts.text].map(run => [run.from, run.to])")
+            runs = call(b, "probe.runs", "log", "alone", "text")
+            got = [[it["from"], it["to"]] for it in runs]
             self.check(f"what it keeps of {text.count(chr(10))} slots", got, wanted)
 
     def test_the_examples_say_why_no_text_is_shown(self):
@@ -103,7 +105,7 @@ class Mixes:
         for name, script, mixes in (("without the empty text", without, ["Road B7: closed", "Road B7: opesed"]),
                                     ("with the empty text", with_it, [])):
             open_script(b, "".join(f"{row}\n" for row in script), m=8, k=0)
-            all_shown = [text for _, text in runs_of(b, "scriptTab.alone[0]") if text is not None]
+            all_shown = [text for _, text in runs_of(b, "script", "alone", 0) if text is not None]
             told = ("With the flag bit alone, receivers show mixes: 2 texts. With the dwell none does."
                     if mixes
                     else "No receiver shows a mix here. Lose more slots: a whole text and the next flip of the flag.")

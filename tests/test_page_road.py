@@ -2,18 +2,18 @@
 import random
 import re
 
-from tests.page_support import (EVERY_100, SEED, URL, ChromiumCase, FirefoxCase, call, click, cursor, hidden, of,
-                                packed, program, settle, text_of, to_tab, visit)
+from tests.page_support import (EVERY_100, SEED, URL, ChromiumCase, FirefoxCase, call, click, cursor, focus, hidden,
+                                move, of, packed, program, settle, text_of, to_tab, visit)
 
 SLOTS, DRAGS = 96, 20
 WORDS = ["sim", "--pi", "C201", "--pty", "10", "--m", "8", "--k", "0"]
 # the text of each display in each slot, and whether it is red
-DISPLAYS = (f"Array.from({{ length: {SLOTS} }}, (_, slot) => {{ road.show(slot); return ['air', 'dwell', 'alone'].map(it => "
+DISPLAYS = (f"Array.from({{ length: {SLOTS} }}, (_, slot) => {{ probe.moveCar(slot); return ['air', 'dwell', 'alone'].map(it => "
             "[document.querySelector(`#road-${it} .text`).textContent, "
             "document.getElementById(`road-${it}`).classList.contains('mixed')]); })")
 HANDLES = ("[...document.querySelectorAll('#road-band .end')].map(it => it.getBoundingClientRect())"
            ".map(it => [it.left + it.width / 2, it.top + it.height / 2])")
-TUNNELS = "road.state.tunnels.map(it => [it.from, it.to])"
+CAR = "Number(document.querySelector('#road-car').ariaValueNow)"
 
 
 def through(output, part):
@@ -44,24 +44,24 @@ def shown(b):
 class Road:
     def test_the_displays_follow_each_drag_as_the_program_says(self):
         b, dice, mixes = self.b, random.Random(SEED), 0
-        b.run("road.state.work.then(() => road.drive.stop())")
+        b.run("probe.stopRoad()")
         for number in range(DRAGS + 1):
-            script, got = b.run("road.state.text"), shown(b)
+            script, got = call(b, "probe.roadAsScript"), shown(b)
             self.check(f"drag {number}", got, wanted(script), script.encode())
-            tunnels = b.run(TUNNELS)
+            tunnels = call(b, "probe.tunnels")
             lost = [slot for slot, row in enumerate(script.splitlines()) if row.endswith("L")]
             self.check(f"drag {number}: the tunnels are the lost slots", lost,
                        [slot for first, end in tunnels for slot in range(first, end)], script.encode())
             mixes += any(is_mixed for *_, (_, is_mixed) in got)
             x, y = dice.choice(b.run(HANDLES))
             b.drag((x, y), (min(1240, max(30, x + dice.randrange(-400, 400))), y))
-            b.run("road.state.work")
+            b.run("probe.roadIsPlayed()")
         self.check_all("roads with a mix and without", 0 < mixes <= DRAGS, True)
 
     def test_the_first_road_shows_the_mix(self):
         """The car drives up to it. Who asks for reduced motion sees it at once."""
         b = self.b
-        self.check("it stops at the mix", b.until("road.state.slot === 52 && !road.drive.frame"), True)
+        self.check("it stops at the mix", b.until(f"{CAR} === 52 && !probe.drives()"), True)
         self.check("displays", [text_of(b, f"#road-{it} .text") for it in ("air", "dwell", "alone")],
                    ["B7: closed today", "— no text —", "A1: closed today"])
         self.check("words", text_of(b, "#road-says"), "“A1: closed today” was never on air. The receiver with the dwell "
@@ -69,49 +69,50 @@ class Road:
         click(b, "#road-open")
         self.check("as a script", (b.until("document.querySelector('#script-text').value !== ''"), hidden(b)),
                    (True, ["log", "dwell"]))
-        self.check("its rows", of(b, "#script-text", "value"), b.run("road.state.text"))
+        self.check("its rows", of(b, "#script-text", "value"), call(b, "probe.roadAsScript"))
 
     def test_keys_move_tunnels_and_car(self):
         b = self.b
-        b.run("road.state.work.then(() => road.drive.stop())")
-        before = b.run(TUNNELS)
+        b.run("probe.stopRoad()")
+        before = call(b, "probe.tunnels")
         b.run("document.querySelector('#road-band .tunnel').focus()")
         b.key("ArrowRight")
-        b.run("road.state.work")
-        self.check("a tunnel goes on by a slot", b.run(TUNNELS), [[it + 1 for it in before[0]], before[1]])
+        b.run("probe.roadIsPlayed()")
+        self.check("a tunnel goes on by a slot", call(b, "probe.tunnels"), [[it + 1 for it in before[0]], before[1]])
         b.run("document.querySelector('#road-car').focus()")
         b.key("End")
-        self.check("the car goes to the end", b.run("road.state.slot"), SLOTS - 1)
+        self.check("the car goes to the end", b.run(CAR), SLOTS - 1)
         call(b, "probe.choose", "road-speed", 32)
         click(b, "#road-play")
-        self.check("it plays from the start", b.until("road.state.slot > 0 && road.state.slot < 95"), True)
-        self.check("and stops at the end", b.until("road.state.slot === 95 && !road.drive.frame"), True)
+        self.check("it plays from the start", b.until(f"{CAR} > 0 && {CAR} < 95"), True)
+        self.check("and stops at the end", b.until(f"{CAR} === 95 && !probe.drives()"), True)
 
     def test_a_log_and_a_script_play(self):
         """A button and the space bar run the cursor. A link with `&play` plays at once."""
         b = self.b
         call(b, "probe.open", "log", EVERY_100, {"pi": "C201", "m": 8})
         settle(b)
-        for tab, opened in (("log", "logTab"), ("script", "scriptTab")):
+        for tab in ("log", "script"):
             to_tab(b, tab)
-            timeline = f"{opened}.timeline"
-            b.run(f"document.querySelector('#{tab}-time select').value = 32; {timeline}.move(3)")
+            slot = f"Number(document.querySelector('#{tab}-time canvas').ariaValueNow)"
+            last = int(of(b, f"#{tab}-time canvas", "ariaValueMax"))
+            b.run(f"document.querySelector('#{tab}-time select').value = 32")
+            move(b, tab, 3)
             click(b, f"#{tab}-time .play")
-            self.check(f"{tab}: it plays", b.until(f"{timeline}.cursor > 5"), True)
-            b.run(f"{timeline}.canvas.focus()")
+            self.check(f"{tab}: it plays", b.until(f"{slot} > 5"), True)
+            focus(b, tab)
             b.key(" ")
-            stopped = b.run(f"[{timeline}.play.frame, {timeline}.cursor]")
-            self.check(f"{tab}: the space bar stops it", (stopped[0], b.run(f"{timeline}.cursor")), (0, stopped[1]))
-            b.run(f"{timeline}.move({timeline}.count - 9)")
+            stopped = b.run(f"[probe.plays('{tab}'), {slot}]")
+            self.check(f"{tab}: the space bar stops it", (stopped[0], cursor(b, tab)), (False, stopped[1]))
+            move(b, tab, last - 8)
             b.key(" ")
-            self.check(f"{tab}: it stops at the end",
-                       b.until(f"{timeline}.cursor === {timeline}.count - 1 && !{timeline}.play.frame"), True)
+            self.check(f"{tab}: it stops at the end", b.until(f"{slot} === {last} && !probe.plays('{tab}')"), True)
         script = packed("".join(f"text,{it},1,G\n" for it in range(40)).encode())
         visit(b, f"{URL}#script={script}&m=8&slot=4&play&end")
         if b.run("matchMedia('(prefers-reduced-motion: reduce)').matches"):
             self.check("but not for who wants no motion", cursor(b, "script"), 4)
         else:
-            self.check("a link plays", b.until("scriptTab.timeline.cursor > 6"), True)
+            self.check("a link plays", b.until("Number(document.querySelector('#script-time canvas').ariaValueNow) > 6"), True)
 
     def test_a_link_leads_over_the_road(self):
         b = self.b
@@ -125,8 +126,8 @@ class Chromium(Road, ChromiumCase):
         b = self.b
         b.scheme("light", **{"prefers-reduced-motion": "reduce"})
         visit(b, URL)
-        b.run("road.state.work")
-        self.check("the car stands at the mix", b.run("[road.state.slot, road.drive.frame]"), [52, 0])
+        b.run("probe.roadIsPlayed()")
+        self.check("the car stands at the mix", b.run(f"[{CAR}, probe.drives()]"), [52, False])
 
 
 class Firefox(Road, FirefoxCase):

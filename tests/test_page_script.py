@@ -1,5 +1,5 @@
 """The tab that plays a script: its editor, its brush, and the lanes of names and tags."""
-from tests.page_support import (ChromiumCase, FirefoxCase, call, click, example, move, of, open_script, printed,
+from tests.page_support import (ChromiumCase, FirefoxCase, call, click, example, focus, move, of, open_script, printed,
                                 program, settle, shown, text_of)
 
 
@@ -23,7 +23,7 @@ class ScriptTab:
         self.check("a command is edited", "30 restart\n" in printed(b), True)
         click(b, "#script-undo")
         self.check("undone", (printed(b), of(b, "#script-redo", "disabled")), (before, False))
-        b.run("scriptTab.timeline.canvas.focus()")
+        focus(b, "script")
         b.key("y", modifiers=2)
         self.check("and done again by key", "30 restart\n" in printed(b), True)
         b.key("z", modifiers=2)
@@ -31,18 +31,18 @@ class ScriptTab:
         self.brush()
         call(b, "probe.choose", "script-n", 8)
         settle(b)
-        self.check("eight receivers", b.run("scriptTab.rows[0].receptions.length"), 8)
+        self.check("eight receivers", len(of(b, "#script-text", "value").split("\n")[0].split(",")[3]), 8)
 
     def brush(self):
         """Paints with the brush over a receiver's lane, and undoes the stroke."""
         b = self.b
-        got = "scriptTab.rows.slice(8, 17).map(row => row.receptions[0]).join('')"
+        got = lambda: "".join(it.split(",")[-1][0] for it in of(b, "#script-text", "value").splitlines()[8:17])
         click(b, "[name=brush][value=L]")
-        b.drag(*(b.run(f"probe.place(scriptTab.timeline, {slot}, lane => lane.group === 0)") for slot in (10, 14)))
-        self.check("the brush loses slots", b.run(got), "GGLLLLLGG")
+        b.drag(*(call(b, "probe.place", "script", slot, "receiver 0") for slot in (10, 14)))
+        self.check("the brush loses slots", got(), "GGLLLLLGG")
         click(b, "[name=brush][value=look]")
         click(b, "#script-undo")
-        self.check("a stroke is undone as one", b.run(got), "GGGGGGGGG")
+        self.check("a stroke is undone as one", got(), "GGGGGGGGG")
 
     def test_a_typed_text_belongs_to_its_slot(self):
         """Even if another slot is chosen before the page plays it."""
@@ -79,7 +79,7 @@ class ScriptTab:
         self.check("an edit changes its row alone", of(b, "#script-text", "value"), f"{text}\n\n")
         self.check("and the fault stays", (text_of(b, "#script-fault"), "row 2 (line 3)" in fault), (fault, True))
         click(b, "#script-undo")
-        self.check("undone", b.run("scriptTab.text"), f"{wanted}\n\n")
+        self.check("undone", of(b, "#script-text", "value"), f"{wanted}\n\n".replace("\r\n", "\n"))
         call(b, "probe.open", "script", wanted.replace("\r", ""), {"m": 8, "k": 0})
         call(b, "probe.choose", "script-slots", 5)
         settle(b)
@@ -92,18 +92,17 @@ class ScriptTab:
     def test_names_and_tags_have_lanes(self):
         b = self.b
         open_script(b, "".join(f"{line}GG\n" for line in example("chanson.csv").decode().splitlines()), m=8, k=0)
-        names = b.run("scriptTab.timeline.lanes.map(lane => lane.name.trim())")
+        names = [it.strip() for it in call(b, "probe.lanes", "script")]
         self.check("names and tags have lanes", (names.count("its name"), names.count("its tags")), (5, 5))
-        views = "[...scriptTab.alone, ...scriptTab.views]"
-        last = b.run(f"{views}.map(view => [...view.parts.tag1].at(-1).value.text)")
+        last = [call(b, "probe.runs", "script", which, "tag1", receiver)[-1]["value"]["text"]
+                for which in ("alone", "views") for receiver in (0, 1)]
         self.check("tags of both kinds of receivers", last, ["Édith Piaf"] * 4)
         self.check("nothing is taken for a mix", "No receiver shows a mix" in text_of(b, "#script-count"), True)
-        sent = "[...scriptTab.timeline.lanes[0].codes]"
-        self.check("tags have their colour", b.run(f"{sent}.includes(3)"), True)
+        self.check("tags have their colour", 3 in call(b, "probe.codes", "script", "sent"), True)
         open_script(b, example("mix.csv").decode(), m=8, k=0)
         wanted = ["text" if "sent C201 2" in line else "other" for line in printed(b).splitlines() if " sent " in line]
-        kinds = "['', 'text', 'name', 'tags', 'other']"
-        got = b.run(f"{sent}.filter(code => code).map(code => {kinds}[code & 7])")
+        kinds = ["", "text", "name", "tags", "other"]
+        got = [kinds[code & 7] for code in call(b, "probe.codes", "script", "sent") if code]
         self.check("announcements of tags have not", (got, "other" in got), (wanted, True))
 
 
@@ -127,7 +126,7 @@ class ScriptTab:
         move(b, "script", 9)
         sent = text_of(b, "#script-lines").splitlines()[-1].split()
         click(b, "[name=brush][value=W]")
-        place = b.run(f"probe.place(scriptTab.timeline, {sent[0]}, lane => lane.group === 0)")
+        place = call(b, "probe.place", "script", int(sent[0]), "receiver 0")
         b.drag(place, place)
         settle(b)
         click(b, "[name=brush][value=look]")
@@ -141,10 +140,9 @@ class Chromium(ScriptTab, ChromiumCase):
         """The lane shows it while the pointer is down, before the script is played. Escape ends the brush."""
         b = self.b
         open_script(b, "-,,1,GG\n" * 40, m=8, k=0)
-        lane = "scriptTab.timeline.lanes.find(lane => lane.kind === 'ticks' && lane.group === 1)"
-        codes, drawn = f"[...{lane}.codes.slice(8, 17)]", "scriptTab.timeline.canvas.toDataURL()"
-        pointer = "scriptTab.timeline.canvas.classList.contains('brushes')"
-        places = [b.run(f"probe.place(scriptTab.timeline, {slot}, lane => lane.group === 1)") for slot in (10, 14)]
+        codes, drawn = "probe.codes('script', 'receiver 1').slice(8, 17)", "document.querySelector('#script-time canvas').toDataURL()"
+        pointer = "getComputedStyle(document.querySelector('#script-time canvas')).cursor.startsWith('url')"
+        places = [call(b, "probe.place", "script", slot, "receiver 1") for slot in (10, 14)]
         mouse(b, "mouseMoved", places[0], 0)
         self.check("no brush", (text_of(b, "#brush-on"), b.run(pointer)), ("", False))
         click(b, "[name=brush][value=L]")

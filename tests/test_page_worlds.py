@@ -75,14 +75,14 @@ class Worlds:
             replies, groups, _, _ = outputs.parts_of(ran(words, given)[1], False)
             accepted = accepted_in(replies)
             airs = on_air(rows, accepted, Diary(rows, accepted))
-            air = values(call(b, "((count) => probe.displays(scriptTab.air, count))", SLOTS))
+            air = values(call(b, "probe.displays", SLOTS, "script", "air"))
             self.check(f"{name}: on air", [things(it) for it in air], [things(it) for it in airs], given)
             for receiver, receptions in enumerate(each):
                 lines = [NOTHING if it == "R" else heard(it, slot, groups) for slot, it in enumerate(receptions)]
-                shown = values(call(b, f"((count) => probe.displays(scriptTab.views[{receiver}], count))", SLOTS))
+                shown = values(call(b, "probe.displays", SLOTS, "script", "views", receiver))
                 self.check(f"{name}: receiver {receiver}", [things(it) for it in shown],
                            with_dwell(lines, receptions, dwell), given)
-                radio = call(b, f"((count) => probe.displays(scriptTab.alone[{receiver}], count))", SLOTS)
+                radio = call(b, "probe.displays", SLOTS, "script", "alone", receiver)
                 plain = with_flag_alone(lines, receptions)
                 self.check(f"{name}: radio {receiver}", [things(it) for it in values(radio)],
                            [things(it) for it in plain], given)
@@ -110,19 +110,19 @@ class Worlds:
                 first, last = sorted(rng.sample(range(len(slots)), 2))
                 last = min(last, first + 14)
                 lost = lost - {*range(first, last + 1)} if first in lost else lost | {*range(first, last + 1)}
-                places = [b.run(f"probe.place(logTab.timeline, {it}, lane => lane.lost)") for it in (first, last)]
+                places = [call(b, "probe.place", "log", it, "received") for it in (first, last)]
                 b.run("document.querySelector('#log-click').checked = true")
                 b.drag(*places)
                 idle(b)
             name = f"log {number}, M {dwell}"
-            self.check(f"{name}: the lost slots", sorted(b.run("[...logTab.lost]")), sorted(lost), text.encode())
+            self.check(f"{name}: the lost slots", sorted(call(b, "probe.lost")), sorted(lost), text.encode())
             heard_slots = [NOTHING if slot in lost else it for slot, it in enumerate(slots)]
             whole = [printed(now) | things(radio) for (now, _), radio in zip(plain_views(slots, dwell),
                                                                              with_flag_alone(slots, ["G"] * len(slots)))]
             known = [set().union(*whole[:slot + dwell]) for slot in range(len(slots))]
             for which, plain in (("view", with_dwell(heard_slots, ["G"] * len(slots), dwell)),
                                  ("alone", [things(it) for it in with_flag_alone(heard_slots, ["G"] * len(slots))])):
-                shown = call(b, f"((count) => probe.displays(logTab.{which}, count))", len(slots))
+                shown = call(b, "probe.displays", len(slots), "log", which)
                 self.check(f"{name}: {which}", [things(it) for it in values(shown)], plain, text.encode())
                 is_mix = lambda it, part: it[part] and it[part][1] == "mix"
                 mixes = [things({part: it[part][0] for part in PARTS if is_mix(it, part)}) for it in shown]

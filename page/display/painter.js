@@ -6,16 +6,20 @@ import { lastAt } from "./runs.js";
 
 /* The heights of the axis, of a lane of ticks, and of one of bars or marks. */
 export const AXIS = 36;
-const TICKS = 20;
-const BARS = 22;
+const TICKS = 20, BARS = 22;
 export const FONT = "system-ui, 'Noto Sans', 'DejaVu Sans', sans-serif";
+/* Each kind has one hue in three shades. */
+const SHADES = ["text", "name", "tags"].flatMap((kind) => [0, 1, 2].map((shade) => `shade-${kind}-${shade}`));
 const INKS = [
   "card", "text", "dim", "line", "lane", "chosen", "bad", "wrong", "cursor", "stale", "stale-text", "on-bar",
-  "on-wrong", "other",
+  "on-wrong", "other", ...SHADES,
 ];
-/* Each kind has one hue. Texts, names and tags are told apart by its shades. */
-const KINDS = ["text", "name", "tags"];
-const SHADES = [0, 1, 2];
+const INK_OF = {
+  [lines.TEXT]: "shade-text-0", [lines.TEXT | lines.FLAG]: "shade-text-1", [lines.NAME]: "shade-name-0",
+  [lines.TAGS]: "shade-tags-0", [lines.OTHER]: "other", [lines.NOTHING]: "dim",
+};
+/* The modes of a page that change its colours. */
+const MODES = ["(prefers-color-scheme: dark)", "(forced-colors: active)"];
 /* The steps of the axis, in slots and in seconds, and the least pixels between two of its labels. */
 const STEPS = [1, 2, 5, 10, 20, 50, 100, 200, 500, 1000, 2000, 5000, 10000, 20000, 50000, 100000, 200000];
 const TIMES = [1, 2, 5, 10, 30, 60, 120, 300, 600, 1800, 3600, 7200, 14400];
@@ -31,8 +35,8 @@ const SHAPES = {
 /* A lost slot differs in shape from one without a group. */
 const LOST = [[0, 2], [14, TALL]];
 
-/* Returns the colours of the page's style. In forced colours these are the system's. */
-export function inks(root) {
+/* The colours of the page's style. In forced colours these are the system's. */
+function inks(root) {
   const probe = root.appendChild(document.createElement("i"));
   probe.style.forcedColorAdjust = "none";
   const ink = (name) => {
@@ -40,28 +44,43 @@ export function inks(root) {
     return getComputedStyle(probe).color;
   };
   const all = Object.fromEntries(INKS.map((name) => [name, ink(name)]));
-  const shadesOf = (kind) => SHADES.map((shade) => ink(`shade-${kind}-${shade}`));
-  all.shades = Object.fromEntries(KINDS.map((kind) => [kind, shadesOf(kind)]));
-  const { text, name, tags } = all.shades;
-  all.codes = [];
-  all.codes[lines.TEXT] = text[0];
-  all.codes[lines.TEXT | lines.FLAG] = text[1];
-  all.codes[lines.NAME] = name[0];
-  all.codes[lines.TAGS] = tags[0];
-  all.codes[lines.OTHER] = all.other;
   probe.remove();
   return all;
+}
+
+/* Hands over the colours of the page, now and whenever they change. */
+export function watchInks(root, take) {
+  for (const mode of MODES) matchMedia(mode).addEventListener("change", () => take(inks(root)));
+  take(inks(root));
+}
+
+/* Gives a canvas its width and its height, in pixels of the screen. Returns its clean context. What is above `top` is
+   out of sight. */
+export function sized(canvas, width, height, top = 0) {
+  const scale = devicePixelRatio || 1, [w, h] = [width, height - top].map((length) => Math.round(length * scale));
+  if (canvas.style.height !== `${height - top}px`) canvas.style.height = `${height - top}px`;
+  if (canvas.width !== w || canvas.height !== h) Object.assign(canvas, { width: w, height: h });
+  const ctx = canvas.getContext("2d");
+  ctx.setTransform(scale, 0, 0, scale, 0, -top * scale);
+  ctx.clearRect(0, 0, width, height);
+  return ctx;
 }
 
 /* Places the lanes one under the other. Returns the height of all. */
 export function place(lanes) {
   let top = AXIS;
   for (const lane of lanes) {
-    lane.height = lane.kind === "ticks" ? TICKS : BARS;
-    lane.top = top + (lane.gap ?? 4);
+    Object.assign(lane, { top: top + (lane.gap ?? 4), height: lane.kind === "ticks" ? TICKS : BARS });
     top = lane.top + lane.height;
   }
   return top + 6;
+}
+
+/* Fills a place, which is [x, y, width, height]. */
+function rect(ctx, color, place, alpha = 1) {
+  Object.assign(ctx, { fillStyle: color, globalAlpha: alpha });
+  ctx.fillRect(...place);
+  ctx.globalAlpha = 1;
 }
 
 function clipped(ctx, x, y, width, height, draw) {
@@ -73,7 +92,6 @@ function clipped(ctx, x, y, width, height, draw) {
   ctx.restore();
 }
 
-/* Fills the shape that these points surround. */
 function fillPoints(ctx, ...points) {
   ctx.beginPath();
   for (const [x, y] of points) ctx.lineTo(x, y);
@@ -101,22 +119,21 @@ function multiples(step, from, to) {
   return Array.from({ length }, (_, i) => (first + i) * step);
 }
 
-/* A time of the axis. */
 export function timeOf(seconds, step) {
   const two = (it) => String(Math.floor(it)).padStart(2, "0");
   const all = [seconds / 3600 % 24, seconds / 60 % 60, seconds % 60].map(two);
   return all.slice(0, step < MINUTE ? 3 : 2).join(":");
 }
 
-/* The axis: the times of the slots in sight, and their numbers. */
+/* The first and the last slot in sight. */
+export const ends = ({ from, across }) => [Math.floor(from), Math.ceil(from + across) - 1];
+
 function axis(ctx, sight, ink, height) {
-  const first = Math.floor(sight.from), last = Math.ceil(sight.from + sight.across) - 1;
-  const pixels = sight.room / sight.across;
-  const { seconds, name } = sight.times(first, last), from = seconds(first), to = seconds(last);
+  const [first, last] = ends(sight), { seconds, name } = sight.times(first), from = seconds(first), to = seconds(last);
   const step = TIMES.find((it) => it / Math.max(1, to - from) * sight.room > APART) ?? TIMES.at(-1);
   const slotAt = (time) => first + lastAt(last - first + 1, (i) => seconds(first + i), time - 1e-6) + 1;
   const times = multiples(step, from, to).map((time) => [slotAt(time), timeOf(time, step)]);
-  const slots = multiples(STEPS.find((it) => it * pixels > APART) ?? STEPS.at(-1), first, last);
+  const slots = multiples(STEPS.find((it) => it / sight.across * sight.room > APART) ?? STEPS.at(-1), first, last);
   ctx.font = `11px ${FONT}`;
   ctx.fillStyle = ink.line;
   for (const [slot] of times) ctx.fillRect(Math.round(sight.x(slot)), 4, 1, height - 10);
@@ -136,17 +153,20 @@ function shapeOf({ lost, losses }, slot, code) {
   return code === lines.NOTHING && !lost ? [] : SHAPES[code];
 }
 
+/* Draws a shape, except above `most`. */
+function tick(ctx, color, shape, x, { top }, width, most = 0) {
+  for (const [start, end] of shape) {
+    const from = Math.max(most, start);
+    if (from < end) rect(ctx, color, [x, top + 2 + from, width, end - from]);
+  }
+}
+
 /* Draws slots that are two pixels wide, or wider. */
 function wideTicks(ctx, lane, sight, ink) {
-  const each = sight.room / sight.across;
-  const width = Math.max(1, each > 4 ? each - 1 : each);
-  const end = Math.min(lane.codes.length, Math.ceil(sight.from + sight.across));
-  for (let slot = Math.max(0, Math.floor(sight.from)); slot < end; slot++) {
+  const each = sight.room / sight.across, width = Math.max(1, each > 4 ? each - 1 : each), [first, last] = ends(sight);
+  for (let slot = Math.max(0, first); slot <= Math.min(lane.codes.length - 1, last); slot++) {
     const code = lane.lost?.has(slot) ? lines.NOTHING : lane.codes[slot];
-    ctx.fillStyle = ink.codes[code] ?? ink.dim;
-    for (const [from, to] of shapeOf(lane, slot, code)) {
-      ctx.fillRect(sight.x(slot), lane.top + 2 + from, width, to - from);
-    }
+    tick(ctx, ink[INK_OF[code]], shapeOf(lane, slot, code), sight.x(slot), lane, width);
   }
 }
 
@@ -159,32 +179,17 @@ function codeOfTexts(low, high) {
 /* Draws more slots than pixels: a column is as high as the share of its slots with a group, and has the flag of its
    texts. */
 function narrowTicks(ctx, lane, sight, ink) {
-  const { codes } = lane;
-  const counts = new Uint32Array(16);
+  const { codes } = lane, counts = new Uint32Array(16);
   const slotAt = (column) => Math.floor(sight.from + column / sight.room * sight.across);
   for (let column = 0; column < sight.room && slotAt(column) < codes.length; column++) {
-    const from = slotAt(column);
-    const to = Math.min(codes.length, Math.max(from + 1, slotAt(column + 1)));
+    const from = slotAt(column), to = Math.min(codes.length, Math.max(from + 1, slotAt(column + 1)));
     counts.fill(0);
     for (let slot = from; slot < to; slot++) counts[codes[slot]]++;
-    const none = counts[lines.NOTHING];
-    const code = codeOfTexts(counts[lines.TEXT], counts[lines.TEXT | lines.FLAG]);
-    const top = Math.round(none / (to - from) * TALL);
-    const draw = (color, shape, most = 0) => {
-      ctx.fillStyle = color;
-      for (const [start, end] of shape) {
-        const begin = Math.max(most, start);
-        if (begin < end) ctx.fillRect(sight.gutter + column, lane.top + 2 + begin, 1, end - begin);
-      }
-    };
-    draw(ink.codes[code], SHAPES[code === lines.OTHER ? lines.TEXT : code], top);
-    if (2 * none > to - from) draw(ink.dim, shapeOf(lane, from, lines.NOTHING));
+    const none = counts[lines.NOTHING], top = Math.round(none / (to - from) * TALL);
+    const code = codeOfTexts(counts[lines.TEXT], counts[lines.TEXT | lines.FLAG]), x = sight.gutter + column;
+    tick(ctx, ink[INK_OF[code]], SHAPES[code === lines.OTHER ? lines.TEXT : code], x, lane, 1, top);
+    if (2 * none > to - from) tick(ctx, ink.dim, shapeOf(lane, from, lines.NOTHING), x, lane, 1);
   }
-}
-
-function ticks(ctx, lane, sight, ink) {
-  if (sight.room / sight.across >= 2) wideTicks(ctx, lane, sight, ink);
-  else narrowTicks(ctx, lane, sight, ink);
 }
 
 // ---- bars
@@ -206,9 +211,8 @@ function hatch(ctx, x, { top, height }, width, end, ink) {
 /* Draws a bar without its label: filled in a shade of its kind, an outline of dashes if it is old, hatched if nobody
    sent it. */
 function ground(ctx, run, x, width, lane, sight, ink) {
-  const isOld = run.old && !run.mix;
-  const shade = isOld ? ink.stale : ink.shades[run.kind]?.[run.shade];
-  ctx.fillStyle = ctx.strokeStyle = run.mix ? ink.wrong : shade;
+  const isOld = run.old && !run.mix, shade = isOld ? "stale" : `shade-${run.kind}-${run.shade}`;
+  ctx.fillStyle = ctx.strokeStyle = ink[run.mix ? "wrong" : shade];
   ctx.beginPath();
   if (isOld && width > 4) {
     ctx.setLineDash([4, 2]);
@@ -224,51 +228,42 @@ function ground(ctx, run, x, width, lane, sight, ink) {
   if (run.mix && width > 3) hatch(ctx, x, lane, width, sight.width, ink);
 }
 
-function inkOfLabel({ mix, old }, ink) {
-  if (mix) return ink["on-wrong"];
-  return old ? ink["stale-text"] : ink["on-bar"];
-}
-
 function bar(ctx, run, x, end, lane, sight, ink) {
   const width = Math.max(1, end - x - (end - x > 6 ? 1 : 0));
   ground(ctx, run, x, width, lane, sight, ink);
   if (width <= 22) return;
-  const start = Math.max(x, sight.gutter) + 6;
-  const room = Math.min(x + width, sight.gutter + sight.room) - 4 - start;
+  const start = Math.max(x, sight.gutter) + 6, room = Math.min(x + width, sight.gutter + sight.room) - 4 - start;
   const label = fitted(ctx, (run.mix ? "⚠ " : "") + run.label, room);
   clipped(ctx, x, lane.top, width - 3, lane.height, () => {
-    ctx.fillStyle = ink.wrong;
-    if (run.mix) ctx.fillRect(start - 4, lane.top + 4, ctx.measureText(label).width + 8, lane.height - 8);
-    ctx.fillStyle = inkOfLabel(run, ink);
+    const plain = run.old ? "stale-text" : "on-bar", wide = ctx.measureText(label).width + 8;
+    if (run.mix) rect(ctx, ink.wrong, [start - 4, lane.top + 4, wide, lane.height - 8]);
+    ctx.fillStyle = ink[run.mix ? "on-wrong" : plain];
     ctx.fillText(label, start, lane.top + lane.height / 2 + 0.5);
   });
 }
 
 function bars(ctx, lane, sight, ink) {
-  const { runs } = lane;
-  const end = sight.from + sight.across;
+  const { runs } = lane, end = sight.from + sight.across;
   const edge = (slot) => sight.x(Math.min(Math.max(slot, sight.from - 1), end + 1));
   ctx.font = `12px ${FONT}`;
-  let i = runs.firstBehind(sight.from);
-  while (i < runs.length && runs.from(i) < end) {
-    const from = edge(runs.from(i));
+  for (let i = runs.firstBehind(sight.from); i < runs.length && runs.from(i) < end;) {
+    const from = edge(runs.from(i)), isNarrow = edge(runs.to(i)) - from < 1;
     for (const piece of runs.isShown(i) ? runs.pieces(i) : []) {
       const isInSight = piece.to > sight.from && piece.from < end;
       if (isInSight) bar(ctx, piece, edge(piece.from), edge(piece.to), lane, sight, ink);
     }
+    i++;
     // of bars of less than a pixel, on to the first that reaches the next one
-    const column = Math.floor(from - sight.gutter) + 1;
-    const next = sight.from + column / sight.room * sight.across;
-    i = edge(runs.to(i)) - from < 1 ? Math.max(runs.firstBehind(next, i + 1), i + 1) : i + 1;
+    const next = sight.from + (Math.floor(from - sight.gutter) + 1) / sight.room * sight.across;
+    if (isNarrow) i = runs.firstBehind(next, i);
   }
 }
 
 // ---- marks
 
 /* Draws a mark: a flag, or a diamond on a pole for a refused command or a no. Red is for a no alone. */
-function mark(ctx, x, { kind }, { top, height }, ink) {
-  const middle = top + height / 2;
-  const half = height / 2 - 3;
+function mark(ctx, x, kind, { top, height }, ink) {
+  const middle = top + height / 2, half = height / 2 - 3;
   ctx.fillStyle = kind === "no" ? ink.bad : ink.text;
   if (kind === "") { fillPoints(ctx, [x, middle - half], [x + 7, middle], [x, middle + half]); return; }
   ctx.fillRect(x - 1, top + 1, 2, height - 2);
@@ -278,13 +273,9 @@ function mark(ctx, x, { kind }, { top, height }, ink) {
 /* Draws marks, and the labels that have room before the next mark. Marks that are too close for their shapes are
    strokes in a calm colour. A no comes last, so that no other mark hides it. */
 function marks(ctx, lane, sight, ink) {
-  const { marks: all } = lane;
-  const near = NEAR / sight.room * sight.across;
-  const outside = (i) => i < 0 ? -Infinity : Infinity;
-  const at = (i) => i >= 0 && i < all.length ? all.from(i) : outside(i);
+  const { marks: all } = lane, near = NEAR / sight.room * sight.across, apart = [], noes = [];
+  const at = (i) => all.starts[i] ?? (i < 0 ? -Infinity : Infinity);
   const isNear = (i) => at(i) - at(i - 1) < near || at(i + 1) - at(i) < near;
-  const apart = [];
-  const noes = [];
   let stroke = 0;
   ctx.font = `11px ${FONT}`;
   ctx.fillStyle = ink.dim;
@@ -296,68 +287,49 @@ function marks(ctx, lane, sight, ink) {
     stroke = column;
   }
   for (const i of [...apart, ...noes]) {
-    const x = sight.x(at(i));
-    const [{ label, kind }] = all.pieces(i);
-    const start = x + (kind ? 13 : 10);
-    const end = start + ctx.measureText(label).width;
-    mark(ctx, x, { kind }, lane, ink);
-    if (end > Math.min(sight.x(at(i + 1)) - 4, sight.gutter + sight.room)) continue;
-    ctx.fillText(label, start, lane.top + lane.height / 2 + 0.5);
+    const x = sight.x(at(i)), [{ label, kind }] = all.pieces(i), start = x + (kind ? 13 : 10);
+    const room = Math.min(sight.x(at(i + 1)) - 4, sight.gutter + sight.room) - start;
+    mark(ctx, x, kind, lane, ink);
+    if (ctx.measureText(label).width <= room) ctx.fillText(label, start, lane.top + lane.height / 2 + 0.5);
   }
 }
 
 // ---- all of it
 
-const DRAW = { ticks, bars, marks };
-
 function laneOf(ctx, lane, sight, ink) {
-  const { top, height } = lane;
-  const { gutter, room } = sight;
+  const { top, height } = lane, { gutter, room } = sight, ticks = room / sight.across < 2 ? narrowTicks : wideTicks;
   const isChosen = lane.group !== undefined && lane.group === sight.chosen;
-  ctx.fillStyle = isChosen ? ink.chosen : ink.lane;
-  ctx.fillRect(gutter, top, room, height);
-  ctx.fillStyle = ink.cursor;
-  if (isChosen) ctx.fillRect(gutter - 4, top, 3, height);
+  rect(ctx, isChosen ? ink.chosen : ink.lane, [gutter, top, room, height]);
+  if (isChosen) rect(ctx, ink.cursor, [gutter - 4, top, 3, height]);
   ctx.font = `${lane.strong ? "600 " : ""}12px ${FONT}`;
   ctx.fillStyle = isChosen || lane.strong ? ink.text : ink.dim;
   const name = gutter < 100 ? lane.short ?? lane.name : lane.name;
   if (gutter) ctx.fillText(fitted(ctx, name, gutter - 10), 4, top + height / 2);
-  clipped(ctx, gutter, top, room, height, () => DRAW[lane.kind](ctx, lane, sight, ink));
+  clipped(ctx, gutter, top, room, height, () => ({ ticks, bars, marks })[lane.kind](ctx, lane, sight, ink));
 }
 
 function cursor(ctx, sight, ink, height) {
-  const x = Math.max(sight.gutter, sight.x(sight.cursor));
-  const end = Math.max(sight.x(sight.cursor + 1), sight.x(sight.cursor) + 2);
+  const start = sight.x(sight.cursor), end = Math.max(sight.x(sight.cursor + 1), start + 2);
+  const x = Math.max(sight.gutter, start);
   if (end < sight.gutter || x > sight.gutter + sight.room) return;
-  ctx.fillStyle = ink.cursor;
-  ctx.globalAlpha = 0.16;
-  ctx.fillRect(x, AXIS - 4, end - x, height - AXIS - 2);
-  ctx.globalAlpha = 1;
-  ctx.fillRect(x - 0.75, AXIS - 4, 1.5, height - AXIS - 2);
+  rect(ctx, ink.cursor, [x, AXIS - 4, end - x, height - AXIS - 2], 0.16);
+  rect(ctx, ink.cursor, [x - 0.75, AXIS - 4, 1.5, height - AXIS - 2]);
   fillPoints(ctx, [x - 5, AXIS - 9], [x + 5, AXIS - 9], [x, AXIS - 2]);
 }
 
-/* Shades the slots that are selected on the axis. */
 function selection(ctx, sight, ink, height) {
   const within = (x) => Math.min(sight.gutter + sight.room, Math.max(sight.gutter, x));
   const [from, to] = sight.span.map((slot) => within(sight.x(slot)));
-  ctx.fillStyle = ink.cursor;
-  ctx.globalAlpha = 0.25;
-  ctx.fillRect(from, 0, to - from, height - 6);
-  ctx.globalAlpha = 1;
-  for (const x of [from, to]) ctx.fillRect(x - 1, 0, 2, height - 6);
+  rect(ctx, ink.cursor, [from, 0, to - from, height - 6], 0.25);
+  for (const x of [from, to]) rect(ctx, ink.cursor, [x - 1, 0, 2, height - 6]);
 }
 
 /* Draws a swatch of a legend: a tick by its code, a bar that is a "mix" or "old", or a slot that is "lost". */
 export function swatch(canvas, ink) {
-  const { shows } = canvas.dataset;
-  const width = 14;
-  const scale = 2;
-  const ctx = canvas.getContext("2d");
+  const { shows } = canvas.dataset, width = 14, scale = 2, ctx = canvas.getContext("2d");
   Object.assign(canvas, { width: width * scale, height: TICKS * scale });
   ctx.scale(scale, scale);
-  ctx.fillStyle = ink.lane;
-  ctx.fillRect(0, 0, width, TICKS);
+  rect(ctx, ink.lane, [0, 0, width, TICKS]);
   const sight = { from: 0, across: 1, room: width, gutter: 0, width, x: (slot) => slot * width };
   const lane = { top: 0, height: TICKS, codes: [Number(shows)], lost: new Set(shows === "lost" ? [0] : []) };
   const isBar = shows === "mix" || shows === "old";

@@ -48,8 +48,7 @@ class List {
     return i < this.length && this.to(i) <= slot ? i + 1 : i;
   }
 
-  /* Where the nearest piece begins behind the slot (1) or before it (-1), of those that fit; undefined if there is
-     none. */
+  /* Where the nearest piece that fits begins behind the slot (1) or before it (-1); undefined if there is none. */
   nearest(slot, by, fits = () => true) {
     for (let i = Math.max(0, this.indexAt(slot)); i >= 0 && i < this.length; i += by) {
       const starts = this.pieces(i).filter(fits).map((piece) => piece.from).filter((from) => by * (from - slot) > 0);
@@ -93,7 +92,6 @@ class Runs extends List {
     return { from: this.from(i), to: this.to(i), value, why, mixTo: this.mixTo(i), stale: this.stale(i) };
   }
 
-  /* The first run from this one on that fits; -1 if none does. */
   find(fits, from = 0) {
     for (let i = from; i < this.length; i++) if (fits(i)) return i;
     return -1;
@@ -147,7 +145,6 @@ export class Marks extends List {
   to(i) { return this.starts[i] + 1; }
   pieces(i) { return [{ from: this.starts[i], ...this.labels[this.numbers[i]] }]; }
 
-  /* These marks, and one more. */
   with(slot, label) {
     const at = this.indexAt(slot) + 1;
     const inserted = (all, it) => Int32Array.from(Array.from(all).toSpliced(at, 0, it));
@@ -167,7 +164,6 @@ export class View {
     this.parts = Object.fromEntries(PARTS.map((part) => [part, runsOf(part)]));
   }
 
-  /* The run of a part in this slot; null if there is none. */
   at(part, slot) {
     const runs = this.parts[part], i = runs.indexAt(slot);
     return i >= 0 && slot < runs.to(i) ? runs.at(i) : null;
@@ -176,11 +172,11 @@ export class View {
   shows(...parts) { return parts.some((part) => this.parts[part].find((i) => this.parts[part].isShown(i)) >= 0); }
 
   /* The lanes of all that this display shows; the first one is of its text. `names` has a name and one for a phone of
-     each. */
-  lanes({ text, name, tags }, more = {}) {
+     each. All lanes have what is in `more`, and the first one what is in `first` too. */
+  lanes({ text, name, tags }, more, first) {
     const lane = ([long, short], runs) => ({ name: long, short, kind: "bars", runs, gap: 3, ...more });
     return [
-      lane(text, this.parts.text),
+      { ...lane(text, this.parts.text), ...first },
       ...this.shows("name") ? [lane(name, this.parts.name)] : [],
       ...this.shows("tag1", "tag2") ? [lane(tags, new TagRuns([this.parts.tag1, this.parts.tag2]))] : [],
     ];

@@ -1,9 +1,11 @@
-/* Reads what `audit --all` prints: a line for each fault of a log, and a note for each kind. */
+/* Reads what `audit --all` prints: a line for each fault of a log, and a note for each kind. And what `witness`
+   prints. */
 
 const LINE = /^no (\d+) (\w+)$/gm;
 const COUNT = /^(\d+ of \d+ \w+): (\w+)(?:, first)? in (slot .*?)(?:, last in (slot .*))?$/;
 const PLACE = /^slot (\d+) \(line \d+(?:, (.*))?\)$/;
 const CLOCK = /\d\d:\d\d:\d\d/;
+const LOSE = /^lose (\d+)(?:-(\d+))?: ((\d+) .*)$/gm, UP_TO = / up to slot (\d+)$/m;
 
 /* Returns the names of the kinds, and for each fault its slot and the number of its kind. A log of a day may have
    hundreds of thousands of faults, so they are in typed arrays. */
@@ -28,4 +30,13 @@ function placeIn(words) {
 export function counts(notes) {
   return notes.map((note) => COUNT.exec(note)).filter(Boolean).map(([note, count, kind, ...places]) =>
     ({ note, count, kind, places: places.filter(Boolean).map(placeIn) }));
+}
+
+/* Returns the slots that a receiver has to lose to show what a receiver that loses nothing does not show, the slot of
+   the mix, and its lines of `decode`; or the slot at which the search stopped. */
+export function witness(output) {
+  const [found, ...more] = output.matchAll(LOSE), stopped = UP_TO.exec(output);
+  if (!found) return { lost: null, shown: [], upto: stopped && Number(stopped[1]) };
+  const [, first, last = first, line, slot] = found, shown = [line, ...more.map((it) => it[3])];
+  return { slot: Number(slot), lost: [Number(first), Number(last)], shown, upto: null };
 }

@@ -12,7 +12,6 @@ export function time(slots) {
   return minutes < 60 ? short : `${Math.floor(minutes / 60)} h ${short}`;
 }
 
-/* The four blocks of a line. */
 export const groupIn = (line) => line.split(" ").map((word) => parseInt(word, 16));
 
 /* The notes of a run, one a line, without the name of the program. */
@@ -22,14 +21,14 @@ export const notes = (text) => text.split("\n").filter((line) => line).map((line
 const ADVICE = ". To look for lost slots";
 export const noteOf = (all, begin) => (all.find((note) => note.startsWith(begin)) ?? "").split(ADVICE)[0];
 
-/* The second block has the group type and its version, TP and PTY, and the bits of the service: for a text its A/B
-   flag and its segment. */
+/* The second block has the group type with its version, and for a text its A/B flag. */
 const KIND_SHIFT = 11;
-const FLAG_BIT = 0x10, TEXT_SEGMENT = 0x0F, NAME_SEGMENT = 0x01;
+export const FLAG_BIT = 0x10;
 export const typeOf = (group) => `${group[1] >> 12}${group[1] >> KIND_SHIFT & 1 ? "B" : "A"}`;
 
 /* The kinds of groups. In a list of codes FLAG marks a text whose A/B flag is 1. */
 const NOTHING = 0, TEXT = 1, NAME = 2, TAGS = 3, OTHER = 4, FLAG = 8;
+export { FLAG, NAME, NOTHING, OTHER, TAGS, TEXT };
 /* The group types of the services, with their versions: 2A, 10A and 11A. */
 const SERVICES = { [2 << 1]: TEXT, [10 << 1]: NAME, [11 << 1]: TAGS };
 export function codeOf(group, pi) {
@@ -40,5 +39,3 @@ export function markedCodeOf(group, pi) {
   const kind = codeOf(group, pi);
   return kind === TEXT && group[1] & FLAG_BIT ? kind | FLAG : kind;
 }
-
-export { FLAG, FLAG_BIT, NAME, NAME_SEGMENT, NOTHING, OTHER, TAGS, TEXT, TEXT_SEGMENT };

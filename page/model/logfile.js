@@ -9,8 +9,7 @@ const NOTES = [..."<#%"].map((letter) => letter.charCodeAt(0));
 export const BLOCKS = 19;
 /* The bytes after which the reader says again how far it is. */
 const PER_STEP = 1 << 21;
-const MISSING = -1;
-const MALFORMED = -2;
+const MISSING = -1, MALFORMED = -2;
 const LOST = new TextEncoder().encode(lines.LOST);
 
 /* The value of each hexadecimal digit, and 16 for every other byte. */
@@ -19,8 +18,7 @@ for (const digit of "0123456789abcdefABCDEF") DIGITS[digit.charCodeAt(0)] = pars
 
 /* Returns the block at this place, MISSING for `----`, or MALFORMED. */
 function blockAt(bytes, at) {
-  let block = 0;
-  let dashes = 0;
+  let block = 0, dashes = 0;
   for (let i = at; i < at + 4; i++) {
     const digit = DIGITS[bytes[i]];
     if (digit < 16) block = block << 4 | digit;
@@ -36,20 +34,9 @@ export function endOf(bytes, start) {
   return newline < 0 ? bytes.length : newline;
 }
 
-/* Returns whether a line is empty or a note. */
-function isSkipped(bytes, start, end) {
-  return start === end || (bytes[start] === RETURN && end === start + 1) || NOTES.includes(bytes[start]);
-}
-
-/* Returns whether the line ends after its blocks, or goes on with a space. */
-function endsWell(bytes, at) {
-  const next = bytes[at];
-  if (next === undefined || next === NEWLINE || next === SPACE) return true;
-  return next === RETURN && (bytes[at + 1] === undefined || bytes[at + 1] === NEWLINE);
-}
-
-/* Returns whether a slot's line has its blocks alone. */
-const isBare = (bytes, start) => bytes[start + BLOCKS] === undefined || bytes[start + BLOCKS] === NEWLINE;
+/* Returns whether a line ends here; and whether it does, maybe after a carriage return. */
+const isEnd = (bytes, at) => bytes[at] === undefined || bytes[at] === NEWLINE;
+const endsAt = (bytes, at) => isEnd(bytes, at) || (bytes[at] === RETURN && isEnd(bytes, at + 1));
 
 /* The seconds of the day in a part of a line, written as 07:58:12; NaN if it has none. */
 function clockIn(bytes, from, end) {
@@ -73,11 +60,11 @@ function goOn(clocks) {
 
 /* Writes the blocks of the line at `start` as those of slot `slot`. Returns false if it is no slot line. */
 function take(log, bytes, start, slot) {
-  if (start + BLOCKS > bytes.length || !endsWell(bytes, start + BLOCKS)) return false;
+  const behind = start + BLOCKS;
+  if (behind > bytes.length || !(bytes[behind] === SPACE || endsAt(bytes, behind))) return false;
   let missing = 0;
   for (let i = 0; i < 4; i++) {
-    const at = start + 5 * i;
-    const block = blockAt(bytes, at);
+    const at = start + 5 * i, block = blockAt(bytes, at);
     if (block === MALFORMED || (i < 3 && bytes[at + 4] !== SPACE)) return false;
     if (block === MISSING) missing |= 1 << i;
     log.words[4 * slot + i] = block;
@@ -96,17 +83,15 @@ export function parse(bytes, tell = () => {}) {
     words: new Uint16Array(4 * most), missing: new Uint8Array(most), starts: new Uint32Array(most),
     numbers: new Uint32Array(most), clocks: new Float64Array(most),
   };
-  let slot = 0;
-  let start = 0;
-  let next = PER_STEP;
+  let slot = 0, start = 0, next = PER_STEP;
   for (let number = 1; start < bytes.length; number++) {
     const isSlot = take(log, bytes, start, slot);
-    const end = isSlot && isBare(bytes, start) ? start + BLOCKS : endOf(bytes, start);
+    const end = isSlot && isEnd(bytes, start + BLOCKS) ? start + BLOCKS : endOf(bytes, start);
     if (isSlot) {
       log.clocks[slot] = clockIn(bytes, start + BLOCKS, end);
       log.numbers[slot++] = number;
     }
-    if (!isSlot && !isSkipped(bytes, start, end)) break;
+    if (!isSlot && !endsAt(bytes, start) && !NOTES.includes(bytes[start])) break;
     start = end + 1;
     if (start > next) {
       tell(start / bytes.length);
@@ -131,15 +116,11 @@ export function programmes({ words, missing, count }) {
   return [...counts].sort((a, b) => b[1] - a[1]);
 }
 
-/* Returns the code of each slot for a programme. */
 export function codes({ words, missing, count }, pi) {
-  const all = new Uint8Array(count);
-  const group = [0, 0];
+  const all = new Uint8Array(count), group = [0, 0];
   for (let slot = 0; slot < count; slot++) {
-    if (missing[slot]) continue;
-    group[0] = words[4 * slot];
-    group[1] = words[4 * slot + 1];
-    all[slot] = lines.markedCodeOf(group, pi);
+    [group[0], group[1]] = [words[4 * slot], words[4 * slot + 1]];
+    if (!missing[slot]) all[slot] = lines.markedCodeOf(group, pi);
   }
   return all;
 }
@@ -149,9 +130,5 @@ export function whileLost(bytes, { starts, count }, lost, call) {
   const places = lost.filter((slot) => slot < count).map((slot) => starts[slot]);
   const kept = places.map((at) => bytes.slice(at, at + BLOCKS));
   for (const at of places) bytes.set(LOST, at);
-  try {
-    return call();
-  } finally {
-    places.forEach((at, i) => bytes.set(kept[i], at));
-  }
+  try { return call(); } finally { places.forEach((at, i) => bytes.set(kept[i], at)); }
 }

@@ -1,16 +1,16 @@
 /* Reads the output of `decode` and of `sim`: what receivers show, and what is on air, from which slot on. The log of a
    day may change its display a million times, so a display is packed into typed arrays. display/runs.js reads them. */
 
-const PARTS = ["text", "name", "tag1", "tag2"];
 /* The kind of each part. A kind has one hue in three shades. */
-const KIND_OF = { text: "text", name: "name", tag1: "tags", tag2: "tags" };
+export const KIND_OF = { text: "text", name: "name", tag1: "tags", tag2: "tags" };
+export const PARTS = Object.keys(KIND_OF);
 const SHADES = 3;
-const NOTHING = -1, NEVER = 2 ** 31 - 1;
+export const NOTHING = -1;
+export const NEVER = 2 ** 31 - 1;
 /* What a run that shows something is, as the program says. */
-const STATES = ["on air", "mix", "old", "replaced"];
-/* Why a run shows nothing, as the program says: nothing was shown before, the segments are incomplete, none came for M
-   slots, or the receiver restarted. */
-const WHYS = ["", "incomplete", "dropped", "restarted"];
+export const STATES = ["on air", "mix", "old", "replaced"];
+/* Why a run shows nothing, as the program says. Nothing was shown before the first one. */
+export const WHYS = ["", "incomplete", "dropped", "restarted"];
 /* The most letters of an output that a page shows. */
 const MOST_SHOWN = 1_600_004;
 
@@ -28,16 +28,15 @@ export class Values {
   /* All values as one text, which is handed over faster than many; and for each where it ends in the text, and a shade:
      those of its kind, in turn. */
   packed() {
-    const all = [...this.numbers.keys()], { length } = all, counts = {};
-    const shades = new Uint8Array(length), ends = new Int32Array(length);
-    let end = 0;
-    all.forEach((value, number) => {
-      const kind = value.slice(0, value.indexOf(" "));
+    const all = [...this.numbers.keys()], counts = {};
+    const shadeOf = (value) => {
+      const [kind] = value.split(" ", 1);
       counts[kind] = (counts[kind] ?? -1) + 1;
-      shades[number] = counts[kind] % SHADES;
-      ends[number] = end += value.length;
-    });
-    return { text: all.join(""), ends, shades };
+      return counts[kind] % SHADES;
+    };
+    let end = 0;
+    const ends = Int32Array.from(all, ({ length }) => end += length);
+    return { text: all.join(""), ends, shades: Uint8Array.from(all, shadeOf) };
   }
 }
 
@@ -45,9 +44,8 @@ export class Values {
    and its state, or with NOTHING and the reason. */
 class Display {
   constructor(values) {
-    this.values = values;
-    const none = () => ({ starts: [], numbers: [], states: [], state: 0 });
-    this.parts = Object.fromEntries(PARTS.map((part) => [part, none()]));
+    const none = (part) => [part, { starts: [], numbers: [], states: [], state: 0 }];
+    Object.assign(this, { values, parts: Object.fromEntries(PARTS.map(none)) });
   }
 
   change({ starts, numbers, states }, slot, number, state) {
@@ -64,7 +62,6 @@ class Display {
     else if (number !== NOTHING) this.change(runs, slot, number, state);
   }
 
-  /* The display, whose runs end before this slot. */
   packed(end) {
     const pack = ({ starts, numbers, states }) =>
       ({ starts: Int32Array.from(starts), numbers: Int32Array.from(numbers), states: Uint8Array.from(states), end });
@@ -93,16 +90,13 @@ export function read(output, values, tell = null) {
 export const displayOf = (output, values) => read(output, values).displays[""] ?? new Display(values);
 export const beginOf = (output) => output.slice(0, MOST_SHOWN);
 
-/* The slots in which a packed display shows something else, in order: four times the slot, and the number of the part.
-   */
+/* Where a packed display shows something else, in order: four times the slot, and the number of the part. */
 export function changesOf(display) {
-  const keys = PARTS.map((part, i) => {
+  const keys = PARTS.flatMap((part, i) => {
     const { starts, numbers } = display[part];
-    return starts.map((slot) => 4 * slot + i).filter((_, run) => numbers[run] !== NOTHING);
+    return [...starts.map((slot) => 4 * slot + i).filter((_, run) => numbers[run] !== NOTHING)];
   });
-  const all = new Int32Array(keys.reduce((sum, { length }) => sum + length, 0));
-  keys.reduce((at, some) => { all.set(some, at); return at + some.length; }, 0);
-  return all.sort();
+  return Int32Array.from(keys).sort();
 }
 
 /* The slots in which a text or a name went, each with the number of its event. */
@@ -124,5 +118,3 @@ export function firstShown(all, count) {
   }
   return first;
 }
-
-export { KIND_OF, NEVER, NOTHING, PARTS, STATES, WHYS };

@@ -5,68 +5,46 @@ import * as rdsrt from "../program/rdsrt.js";
 import * as lines from "./lines.js";
 import * as records from "./records.js";
 
-// ---- what a receiver gets
+/* The station of a script. */
+export const PI = "C201";
 
-/* The slot whose group a receiver gets in this slot, late or not; -1 if it gets none. */
-function sourceOf(letter, slot) {
-  if (letter?.[0] !== "G") return -1;
-  return letter.length > 1 ? slot - Number(letter.slice(1)) : slot;
+/* The kind of what a receiver gets in a slot: a wrong group, one of this slot, or a late one. `codes` has the code of
+   each slot's group. A group that has nothing to do with texts is not printed. */
+export function kindHeard(codes, reception = "L", slot) {
+  const [letter, rest] = [reception[0], reception.slice(1)], source = slot - Number(rest);
+  if (letter === "W") return lines.codeOf(lines.groupIn(`${PI} ${rest.match(/.{4}/g).join(" ")}`), null);
+  return letter === "G" && source >= 0 ? codes[source] & ~lines.FLAG || lines.OTHER : lines.NOTHING;
 }
-
-/* The line of a wrong group. */
-const isWrong = (letter) => letter?.[0] === "W";
-const wrongLine = (pi, letter) => `${pi} ${letter.slice(1).match(/.{4}/g).join(" ")}`;
-
-/* The kind of what a receiver gets in a slot. `codes` has the code of each slot's group. A group that has nothing to
-   do with texts is not printed. */
-export function kindHeard(codes, pi, letter, slot) {
-  if (isWrong(letter)) return lines.codeOf(lines.groupIn(wrongLine(pi, letter)), null);
-  const source = sourceOf(letter, slot);
-  return source < 0 ? lines.NOTHING : codes[source] & ~lines.FLAG || lines.OTHER;
-}
-
-/* The kind of what receiver i gets in each slot. */
-function heardBy(i, { pi, rows, codes }) {
-  return Uint8Array.from(rows, ({ receptions }, slot) => kindHeard(codes, pi, receptions[i], slot));
-}
-
-// ---- playing
-
-/* Room for the groups of so many slots. */
-const groupsOf = (count) => ({
-  count, words: new Uint16Array(4 * count), missing: new Uint8Array(count).fill(15), codes: new Uint8Array(count),
-});
 
 /* Reads the output of `sim` over so many rows: the displays, the groups in typed arrays as those of a log are, with
    their codes, and the replies. */
 function read(text, count, values) {
-  const replies = [], sent = groupsOf(count);
-  const send = (slot, group) => {
-    sent.words.set(group, 4 * slot);
-    sent.missing[slot] = 0;
-    sent.codes[slot] = lines.markedCodeOf(group, null);
-  };
-  const { displays, fault } = output.read(text, values, (slot, what, reply) => {
-    if (what === "sent") send(slot, lines.groupIn(reply)); else replies.push({ slot, what, reply });
+  const words = new Uint16Array(4 * count), missing = new Uint8Array(count).fill(15), codes = new Uint8Array(count);
+  const replies = [], { displays, fault } = output.read(text, values, (slot, what, reply) => {
+    if (what !== "sent") { replies.push({ slot, what, reply }); return; }
+    const group = lines.groupIn(reply);
+    words.set(group, 4 * slot);
+    missing[slot] = 0;
+    codes[slot] = lines.markedCodeOf(group, null);
   });
   // the rows from a bad one on are not played
   const bad = /^fault row (\d+)/.exec(fault), played = bad ? Math.min(count, Number(bad[1]) - 1) : count;
-  const packed = (by) => displays[by]?.packed(played);
-  return { packed, replies, sent: { ...sent, count: played }, fault, played };
+  const packed = (by) => displays[by]?.packed(played), sent = { count: played, words, missing, codes };
+  return { packed, replies, sent: { ...sent, codes: codes.slice(0, played) }, fault, played };
 }
 
 /* Plays a script with its receivers, and with radios in their places. `input` is the program's input for its text, if
    that is another one. */
-export function play({ text, input = text, words, pi }) {
+export function play({ text, input = text, pty, m, k, w }) {
+  const words = ["sim", "--pi", PI, "--pty", pty, "--m", m, "--k", k, ...rdsrt.windowWords(w), "--why"];
   const got = rdsrt.run(words, input), rows = records.read(text), values = new output.Values();
   const { packed, replies, sent, fault, played } = read(got.output, rows.length, values);
   const radios = read(rdsrt.run([...words, "--flag-alone"], input).output, rows.length, values);
-  const given = { pi, rows: rows.slice(0, played), codes: sent.codes };
-  const each = Array.from(rows[0]?.receptions ?? [], (_, i) => i);
-  const displaysOf = (it) => each.map((i) => it.packed(`r${i}`));
+  const each = [...rows[0]?.receptions.keys() ?? []], some = rows.slice(0, played);
+  const heardBy = (i) => Uint8Array.from(some, (row, slot) => kindHeard(sent.codes, row.receptions[i], slot));
   return {
-    output: output.beginOf(got.output), notes: got.notes, replies, fault, played,
-    sent: { ...sent, codes: sent.codes.slice(0, played) }, heard: each.map((i) => heardBy(i, given)),
-    receivers: displaysOf({ packed }), alone: displaysOf(radios), air: radios.packed("air"), values: values.packed(),
+    command: rdsrt.command(words), output: output.beginOf(got.output), notes: got.notes, replies, fault, played, sent,
+    heard: each.map(heardBy), views: each.map((i) => packed(`r${i}`)), alone: each.map((i) => radios.packed(`r${i}`)),
+    air: radios.packed("air"), values: values.packed(),
   };
 }

@@ -1,16 +1,12 @@
-/* Keeps the states before and after the present one, up to a bound. */
+/* Keeps the states before and after the present one, up to a bound of states and of letters. */
+const MOST = 200, LETTERS = 40e6;
 
 export class Undo {
-  static MOST = 200;
-  static LETTERS = 40e6;
-
   constructor(changed) { Object.assign(this, { changed, all: [], now: -1 }); }
 
-  /* Begins anew. */
   begin(text) {
-    this.all = [text];
-    this.now = 0;
-    this.changed(this);
+    Object.assign(this, { all: [], now: -1 });
+    this.note(text);
   }
 
   /* Adds a state, and drops the undone ones. */
@@ -18,7 +14,7 @@ export class Undo {
     if (this.all[this.now] === text) return;
     this.all.splice(this.now + 1, Infinity, text);
     const letters = () => this.all.reduce((sum, { length }) => sum + length, 0);
-    while (this.all.length > 2 && (this.all.length > Undo.MOST || letters() > Undo.LETTERS)) this.all.shift();
+    while (this.all.length > 2 && (this.all.length > MOST || letters() > LETTERS)) this.all.shift();
     this.now = this.all.length - 1;
     this.changed(this);
   }

@@ -7,7 +7,7 @@ const PATIENCE = 300;
 
 export class Program {
   constructor(compiled, patience = PATIENCE) {
-    Object.assign(this, { compiled, patience, worker: null, input: null, asked: null, queue: [], last: 0 });
+    Object.assign(this, { compiled, patience, worker: null, input: null, asked: null, queue: [] });
   }
 
   /* Takes the bytes of another log, and drops all questions on the one before. */
@@ -19,13 +19,13 @@ export class Program {
   /* The worker comes from a text of the page: a page that was opened from a disk may load no script for it. */
   start() {
     const url = URL.createObjectURL(new Blob([RDSRT_WORKER], { type: "text/javascript" }));
-    this.worker = new Worker(url);
+    const worker = this.worker = new Worker(url);
     URL.revokeObjectURL(url);
-    this.worker.onmessage = ({ data }) => this.hear(data);
-    this.worker.onerror = ({ message }) => this.end(new Error(`a worker of the page stopped: ${message}`));
+    worker.onmessage = ({ data }) => { if (worker === this.worker) this.hear(data); };
+    worker.onerror = ({ message }) => this.end(new Error(`a worker of the page stopped: ${message}`));
     const first = [["begin", this.compiled], ...this.input ? [["keep", this.input]] : []];
-    const fail = (error) => this.end(error);
-    this.queue.unshift(...first.map(([call, given]) => ({ call, given, tell() {}, resolve() {}, reject: fail })));
+    const reject = (error) => this.end(error), resolve = () => {};
+    this.queue.unshift(...first.map(([call, given]) => ({ call, given, resolve, reject })));
   }
 
   /* Ends the worker, which frees its memory. Whoever waits gets the error. The next question starts another worker. */
@@ -58,10 +58,8 @@ export class Program {
   next() {
     if (!this.worker) this.start();
     while (!this.asked && this.queue.length) {
-      const question = this.queue.shift();
-      if (question.signal?.aborted) continue;
-      this.asked = Object.assign(question, { id: ++this.last });
-      this.worker.postMessage({ id: question.id, call: question.call, given: question.given });
+      const { call, given, signal } = this.asked = this.queue.shift();
+      if (signal?.aborted) this.asked = null; else this.worker.postMessage({ call, given });
     }
   }
 
@@ -72,9 +70,8 @@ export class Program {
     if (this.queue.length) this.next();
   }
 
-  hear({ id, done, answer, error }) {
+  hear({ done, answer, error }) {
     const { asked } = this;
-    if (id !== asked?.id) return;
     if (done !== undefined) { asked.tell(done); return; }
     this.asked = null;
     if (error === undefined) asked.resolve(answer); else asked.reject(new Error(error));

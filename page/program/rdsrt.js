@@ -15,7 +15,6 @@ export async function load() {
   return compiled;
 }
 
-/* Begins with a module that is compiled already. */
 export async function begin(compiled) { module = (await WebAssembly.instantiate(compiled, {})).exports; }
 
 /* Places words, input, output, notes and heap of one run in memory, after the module's own. */
@@ -55,28 +54,24 @@ function call(words, input, room, heap) {
 const bytesAt = (at, length) => new Uint8Array(module.memory.buffer, at, length);
 const textAt = (at, length) => decoder.decode(bytesAt(at, length));
 
-/* The notes of a call, as far as they have room: its lines without the name of the program. */
-const notesOf = (got) => lines.notes(textAt(got.at.notes, Math.min(got.noted, NOTES)));
-
 /* Runs the program. Where there was no memory, or no room for the output, it runs again with more. The output is
-   bytes in the program's memory, up to the next run. */
+   bytes in the program's memory, up to the next run. The notes are those that have room. */
 export function runBytes(words, input) {
   const given = encoder.encode(["rdsrt", ...words].join("\n"));
   const bytes = typeof input === "string" ? encoder.encode(input) : input, from = performance.now();
   let room = ROOM + 4 * bytes.length, heap = HEAP + 2 * room;
   for (;;) {
-    const got = call(given, bytes, room, heap), fits = got.length <= room;
-    const last = Math.min(got.length, FAULT.length), lastAt = got.at.output + got.length - last;
-    const hasFault = fits && textAt(lastAt, last) === FAULT;
-    if (got.failures > 0 || hasFault) {
+    const { at, status, failures, noted, length, heap: used } = call(given, bytes, room, heap), fits = length <= room;
+    const last = Math.min(length, FAULT.length), hasFault = fits && textAt(at.output + length - last, last) === FAULT;
+    if (failures > 0 || hasFault) {
       heap *= 4;
       if (heap > MOST) throw new Error("no memory for this input");
     } else if (!fits) {
-      room = got.length;
+      room = length;
       heap = Math.max(heap, HEAP + 2 * room);
     } else {
-      const bytes = bytesAt(got.at.output, got.length), ms = performance.now() - from;
-      return { status: got.status, bytes, notes: notesOf(got), heap: got.heap, ms };
+      const notes = lines.notes(textAt(at.notes, Math.min(noted, NOTES)));
+      return { status, bytes: bytesAt(at.output, length), notes, heap: used, ms: performance.now() - from };
     }
   }
 }
@@ -87,5 +82,5 @@ export function run(words, input) {
   return { ...got, output: decoder.decode(bytes) };
 }
 
-/* The words for a window of W slots, if there is one. */
 export const windowWords = (w) => w ? ["--confirm", w] : [];
+export const command = (words) => ["rdsrt", ...words].join(" ");

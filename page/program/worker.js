@@ -1,12 +1,10 @@
-/* Runs the program over a log or a script, so that the page never waits for it. Each message is a request by its name;
-   its answer has the same id. */
+/* Runs the program over a log or a script, so that the page never waits for it. A message is a request by its name. */
 import * as faults from "../model/faults.js";
 import * as lines from "../model/lines.js";
 import * as logfile from "../model/logfile.js";
 import * as output from "../model/output.js";
 import * as player from "../model/player.js";
 import * as rdsrt from "./rdsrt.js";
-import { look } from "./witness.js";
 
 /* The bytes of the log, and what is known of it and does not depend on M: it is read when somebody asks for it. */
 const state = { bytes: new Uint8Array(0), log: null, alone: null, whole: null };
@@ -14,7 +12,7 @@ const state = { bytes: new Uint8Array(0), log: null, alone: null, whole: null };
    many slots (the_flag_alone_is_a_long_dwell of rds_safety). */
 const LONGEST_DWELL = "65535";
 
-/* The typed arrays in an object. Those of an answer in `fresh` are handed over without a copy. */
+/* The typed arrays in an answer. They are handed over without a copy. */
 function arraysIn(it) {
   if (ArrayBuffer.isView(it)) return [it];
   return it !== null && typeof it === "object" ? Object.values(it).flatMap(arraysIn) : [];
@@ -43,15 +41,12 @@ function timesOf() {
   return { untimed: Number(untimed?.[1] ?? 0), notes: notes.filter(isOf), looksTimed: looksTimed(state.log) };
 }
 
-// ---- displays
-
 const decoding = ({ pi, m, w }) => ["decode", "--pi", pi, "--m", m, ...rdsrt.windowWords(w), "--why"];
 
 /* What a receiver shows of the log as it is now. */
 function shownBy(asked, values) {
-  const got = run(decoding(asked));
-  const view = output.displayOf(got.output, values).packed(state.log.count);
-  return { output: output.beginOf(got.output), notes: got.notes, view };
+  const words = decoding(asked), got = run(words), view = output.displayOf(got.output, values).packed(state.log.count);
+  return { command: rdsrt.command(words), output: output.beginOf(got.output), view };
 }
 
 /* What receivers show that lose nothing, with the dwell and with the flag bit alone. The last answer is kept: it is
@@ -74,14 +69,13 @@ function lossyOf(asked) {
     return { ...shownBy(asked, values), alone: shownBy({ pi, m: LONGEST_DWELL }, values).view };
   });
   const until = output.firstShown([whole.view, whole.alone], values.length);
-  for (let i = 0; i < until.length; i++) if (until[i] !== output.NEVER) until[i] -= Number(m) - 1;
+  for (let i = 0; i < until.length; i++) if (until[i] !== output.NEVER) until[i] -= m - 1;
   for (const slot of lost) if (slot < codes.length) codes[slot] = lines.NOTHING;
   return { ...shown, values, until, codes };
 }
 
-// ---- the judgement
-
-const auditing = ({ pi, m, k, running }) => ["audit", "--pi", pi, "--m", m, "--k", k, ...running ? ["--running"] : []];
+const auditing = ({ pi, m, k, running }, ...more) =>
+  ["audit", ...more, "--pi", pi, "--m", m, "--k", k, ...running ? ["--running"] : []];
 
 /* The first so many lines of the log. */
 function head(count) {
@@ -93,16 +87,14 @@ function head(count) {
 /* All faults of the log, and the note that the log lacks slots by its times. After a no the note on its rule is that of
    the audit that stops there, and only the lines up to it can lack slots. */
 function audit(asked) {
-  const { output: printed, notes } = run([...auditing(asked), "--all"]), list = faults.read(printed);
+  const words = auditing(asked, "--all"), { output: printed, notes } = run(words), list = faults.read(printed);
   const rule = list.slots.length ? run(auditing(asked)).notes : [];
   const line = /^slot \d+ \(line (\d+)/m.exec(rule.join("\n"));
   const read = line ? run(["decode", "--pi", asked.pi], head(Number(line[1]))).notes : notes;
   const lack = lines.noteOf(read, "the log spans "), end = lines.noteOf(notes, "fault ").slice("fault ".length);
   const told = { counts: faults.counts(notes), end, lack, notes: [...rule, ...notes] };
-  return { ...told, output: output.beginOf(printed), fresh: { list } };
+  return { ...told, list, command: rdsrt.command(words), output: output.beginOf(printed) };
 }
-
-// ---- the requests
 
 const REQUESTS = {
   /* Takes the bytes of a log. A blob is handed over without a copy. */
@@ -112,18 +104,16 @@ const REQUESTS = {
 
   /* The slots of the log, its programmes, the number of its whole groups, and its times. */
   open(_, tell) {
-    const log = { ...logOf(tell) }, programmes = logfile.programmes(log);
-    for (const name of ["words", "missing", "starts", "numbers", "clocks"]) log[name] = log[name].slice();
+    const log = structuredClone(logOf(tell)), programmes = logfile.programmes(log);
     const groups = programmes.reduce((sum, [, number]) => sum + number, 0);
-    return { fresh: { log }, programmes, groups, times: timesOf() };
+    return { log, programmes, groups, times: timesOf() };
   },
 
   decode(asked) {
     logOf();
     const { view, alone, until = null, codes, values, ...shown } = asked.lost.length ? lossyOf(asked) : wholeOf(asked);
-    const copy = Object.fromEntries(Object.entries({ view, alone }).map(([name, it]) => [name, structuredClone(it)]));
-    const made = { until, codes: codes.slice(), values: values.packed(), events: output.eventsOf(view) };
-    return { ...shown, fresh: { ...copy, ...made, changes: output.changesOf(view) } };
+    const copy = structuredClone({ view, alone, codes }), events = output.eventsOf(view);
+    return { ...shown, ...copy, until, values: values.packed(), events, changes: output.changesOf(view) };
   },
 
   /* The text that a receiver without losses shows in a slot. */
@@ -142,7 +132,7 @@ const REQUESTS = {
   witness({ pi, m, near, far, isAll }, tell) {
     const search = ({ slots, bytes }) => {
       tell(slots);
-      return look(run(["witness", "--pi", pi, "--m", String(m)], state.bytes.subarray(0, bytes)).output);
+      return faults.witness(run(["witness", "--pi", pi, "--m", m], state.bytes.subarray(0, bytes)).output);
     };
     const first = search(near);
     if (near.slots >= far.slots || (first.lost && first.slot + m <= near.slots)) return first;
@@ -151,17 +141,14 @@ const REQUESTS = {
   },
 
   /* The log with a line for each slot that its times say it lacks. */
-  fill: ({ m }) => ({ fresh: { bytes: rdsrt.runBytes(["slots", "--m", m], state.bytes).bytes.slice() } }),
-  play: (given) => ({ fresh: player.play(given) }),
+  fill: ({ m }) => ({ bytes: rdsrt.runBytes(["slots", "--m", m], state.bytes).bytes.slice() }),
+  play: player.play,
+  begin: rdsrt.begin,
 };
 
-/* Answers one message. */
-async function answerTo({ id, call, given }) {
+onmessage = async ({ data: { call, given } }) => {
   try {
-    const tell = (done) => postMessage({ id, done });
-    const { fresh, ...rest } = await (call === "begin" ? rdsrt.begin(given) : REQUESTS[call](given, tell)) ?? {};
-    postMessage({ id, answer: { ...rest, ...fresh } }, arraysIn(fresh).map((array) => array.buffer));
-  } catch (error) { postMessage({ id, error: error.message }); }
-}
-
-onmessage = ({ data }) => { answerTo(data); };
+    const answer = await REQUESTS[call](given, (done) => postMessage({ done }));
+    postMessage({ answer }, arraysIn(answer).map((array) => array.buffer));
+  } catch ({ message }) { postMessage({ error: message }); }
+};

@@ -1,8 +1,7 @@
 /* The page: its tabs, the files that are dropped on it, and its begin. */
 import * as rdsrt from "../program/rdsrt.js";
 import * as links from "./links.js";
-import * as parts from "./parts.js";
-import { $, make } from "./parts.js";
+import { $, counted, entitle, isolated, make } from "./parts.js";
 import { Play } from "./play.js";
 import * as road from "./road.js";
 import { TABS } from "./tab.js";
@@ -12,7 +11,6 @@ import { scriptTab } from "./script.js";
 import "./dwell.js";
 
 const named = (id) => TABS.find((it) => it.id === id);
-const buttonOf = ({ id }) => $(`tab-${id}`);
 /* `files` counts the files that were chosen: only the newest one is opened. */
 export const state = { ready: false, files: 0 };
 /* The M and the K of a file: those that the program takes without options. */
@@ -23,35 +21,32 @@ const BEGIN = 10_000;
 
 export function tab(id, focus = false) {
   for (const other of TABS) {
-    const isOpen = other.id === id, button = buttonOf(other);
+    const isOpen = other.id === id;
     $(other.id).hidden = !isOpen;
-    button.ariaSelected = isOpen;
-    button.tabIndex = isOpen ? 0 : -1;
-    if (isOpen && focus) button.focus();
+    Object.assign($(`tab-${other.id}`), { ariaSelected: isOpen, tabIndex: isOpen ? 0 : -1 });
   }
+  if (focus) $(`tab-${id}`).focus();
   // both tabs with a timeline share one legend
   $(id).querySelector(".explains")?.append($("legend"));
   $("legend").hidden = false;
-  links.putAddress(id);
-  parts.entitle();
+  links.putAddress(named(id));
+  entitle();
   named(id).timeline?.draw();
 }
 
 /* Makes the row of tabs, which arrow keys go along, and the section of a tab that index.html does not have. */
 function beginTabs() {
   TABS.forEach(({ id, title }, i) => {
-    const end = TABS.length - 1;
-    const moves = { ArrowRight: i < end ? i + 1 : 0, ArrowLeft: i ? i - 1 : end, Home: 0, End: end };
-    const button = make("button", { type: "button", role: "tab", id: `tab-${id}`, textContent: title });
-    button.onclick = () => tab(id);
-    button.setAttribute("aria-controls", id);
-    if (!$(id)) document.querySelector("main").append(make("section", { id, role: "tabpanel", ariaLabel: title }));
-    button.onkeydown = (event) => {
-      if (!(event.key in moves)) return;
+    const onclick = () => tab(id), onkeydown = (event) => {
+      const to = { ArrowRight: (i + 1) % TABS.length, ArrowLeft: i - 1, Home: 0, End: -1 }[event.key];
+      if (to === undefined) return;
       event.preventDefault();
-      tab(TABS[moves[event.key]].id, true);
+      tab(TABS.at(to).id, true);
     };
-    $("tabs").append(button);
+    const props = { type: "button", role: "tab", id: `tab-${id}`, textContent: title, onclick, onkeydown };
+    if (!$(id)) document.querySelector("main").append(make("section", { id, role: "tabpanel", ariaLabel: title }));
+    $("tabs").append(make("button", props));
+    $(`tab-${id}`).setAttribute("aria-controls", id);
   });
 }
 
@@ -65,15 +60,11 @@ const isScript = (name, text) => SCRIPT.test(text) || (/\.csv$/i.test(name) && !
 
 /* The bytes of a file in UTF-8. Windows writes some text in UTF-16. */
 function inUtf8(bytes) {
-  const encoding = { "255 254": "utf-16le", "254 255": "utf-16be" }[`${bytes[0]} ${bytes[1]}`];
+  const encoding = { "255,254": "utf-16le", "254,255": "utf-16be" }[String(bytes.subarray(0, 2))];
   return encoding ? new TextEncoder().encode(new TextDecoder(encoding).decode(bytes)) : bytes;
 }
 
-/* The bytes of a log without a byte-order mark. */
-function plainLog(bytes) {
-  const [first, second, third] = bytes;
-  return first === 0xEF && second === 0xBB && third === 0xBF ? bytes.subarray(3) : bytes;
-}
+const plainLog = (bytes) => String(bytes.subarray(0, 3)) === "239,187,191" ? bytes.subarray(3) : bytes;
 
 /* Asks whether edits that nobody saved may go. Until it is answered, another question gets a no. */
 function ask({ id }) {
@@ -96,7 +87,8 @@ async function replace(it, open, keep = () => {}) {
 export async function openFile(file) {
   const number = ++state.files, buffer = await file.arrayBuffer().catch(() => null);
   if (state.files !== number) return false;
-  if (!buffer) return replace(logTab, () => refuse(logTab, `The page cannot read ${file.name}.`));
+  const refuse = () => { tab("log"); return logTab.refuse(`The page cannot read ${file.name}.`, DEFAULTS); };
+  if (!buffer) return replace(logTab, refuse);
   const bytes = new Uint8Array(buffer), input = inUtf8(bytes), plain = plainLog(input);
   const isOfScript = isScript(file.name, decoder.decode(plain.subarray(0, BEGIN)));
   const options = { ...DEFAULTS, file: file.name }, it = isOfScript ? scriptTab : logTab;
@@ -111,21 +103,13 @@ export async function openFile(file) {
   });
 }
 
-/* Says why nothing is opened, in place of what was open. */
-async function refuse(it, why) {
-  tab(it.id);
-  await it.refuse(why, DEFAULTS);
-  return false;
-}
-
 /* Opens the first of the dropped files, and says how many it left out. */
 async function openDropped([first, ...others]) {
   if (!first || !(await openFile(first)) || !others.length) return;
-  const left = ` and left out ${parts.counted(others.length, "other file")}.`;
-  $("left-out").replaceChildren("The page shows one file at a time. It opened ", parts.isolated(first.name), left);
+  const left = ` and left out ${counted(others.length, "other file")}.`;
+  $("left-out").replaceChildren("The page shows one file at a time. It opened ", isolated(first.name), left);
 }
 
-/* Opens what was pasted, unless it belongs to a field. */
 function paste({ target, clipboardData }) {
   if (target.closest("input, textarea, dialog")) return;
   const text = clipboardData.getData("text");
@@ -134,23 +118,19 @@ function paste({ target, clipboardData }) {
 }
 
 function drops() {
-  const showOver = (isOver) => document.body.classList.toggle("over", isOver);
-  document.ondragover = (event) => {
+  const over = (event) => {
     event.preventDefault();
-    showOver(true);
+    document.body.classList.toggle("over", event.type === "dragover");
   };
-  document.ondragleave = (event) => { if (!event.relatedTarget) showOver(false); };
+  document.ondragover = over;
+  document.ondragleave = (event) => { if (!event.relatedTarget) over(event); };
   document.ondrop = (event) => {
-    event.preventDefault();
-    showOver(false);
+    over(event);
     openDropped(event.dataTransfer.files);
   };
   document.onpaste = paste;
 }
 
-// ---- examples
-
-/* Opens an example by its number. */
 function openExample(it, number) {
   const example = RDSRT_EXAMPLES[it.id][number];
   const text = example.from ? rdsrt.run(example.from, example.text).output : example.text;
@@ -158,38 +138,29 @@ function openExample(it, number) {
 }
 
 /* Opens the file that is chosen in a field. An empty field hears the choice of the same file again. */
-function takeFile(field) {
-  field.onchange = () => {
-    const [file] = field.files;
-    field.value = "";
-    if (file) openFile(file);
-  };
+function takeFile({ target }) {
+  const [file] = target.files;
+  target.value = "";
+  if (file) openFile(file);
 }
 
-/* The examples of a tab in its field, and its field for a file. */
 function beginInput(it) {
   const select = it.field("example"), open = () => openExample(it, select.value);
-  const options = RDSRT_EXAMPLES[it.id].map(({ name }, i) => new Option(name, i));
+  const options = RDSRT_EXAMPLES[it.id].map(({ name }, i) => new Option(name, i)), own = () => { select.value = ""; };
   select.replaceChildren(...options, new Option("your own", ""));
-  select.value = "";
-  select.onchange = () => { if (select.value) replace(it, open, () => { select.value = ""; }); };
-  takeFile(it.field("file"));
+  own();
+  select.onchange = () => { if (select.value) replace(it, open, own); };
 }
 
-/* The start of the log tab: a field for a file, and the examples as buttons. */
 function beginStart() {
   const exampleButton = ({ name }, i) => {
     // the start is hidden then, so the focus goes to the same examples in the bar
     const onclick = () => { openExample(logTab, i); $("log-example").focus(); };
     return make("li", {}, make("button", { type: "button", textContent: name, onclick }));
   };
-  takeFile($("log-start-file"));
   $("log-start-examples").replaceChildren(...RDSRT_EXAMPLES.log.map(exampleButton));
 }
 
-// ---- the begin
-
-/* The key ? opens and closes the list of keys. */
 function toggleKeys(event) {
   if (event.key !== "?" || event.target.matches("input, select, textarea")) return;
   const keys = document.querySelector("[role=tabpanel]:not([hidden]) .keys");
@@ -211,12 +182,10 @@ async function openAddress() {
   const it = linked ?? named(hash.split("&")[0]) ?? logTab;
   const number = given.get("example"), isThere = RDSRT_EXAMPLES[it.id]?.[number];
   const open = async () => {
-    try {
-      await it.openLink(hash, DEFAULTS);
-    } catch (error) {
-      const why = links.whyNot(it.id, error);
+    try { await it.openLink(hash, DEFAULTS); } catch (error) {
+      const why = links.whyNot(it, error);
       await it.refuse(why, DEFAULTS);
-      links.tell(it.id, why);
+      links.tell(it, why);
     }
   };
   if (linked) await replace(it, open);
@@ -224,17 +193,14 @@ async function openAddress() {
   return it.id;
 }
 
-function noEngine(error) {
-  $("no-engine").hidden = false;
-  $("no-engine").textContent = "This browser cannot run the program. It needs WebAssembly with 64-bit memory: "
-    + `Chrome or Edge 133, Firefox 134, or later. (${error.message})`;
-}
-
-/* Compiles the program. Says it if the browser cannot. */
 async function compile() {
   try {
     return await rdsrt.load();
-  } catch (error) { return noEngine(error); } finally { $("loading").hidden = true; }
+  } catch ({ message }) {
+    $("no-engine").textContent = "This browser cannot run the program. It needs WebAssembly with 64-bit memory: "
+      + `Chrome or Edge 133, Firefox 134, or later. (${message})`;
+    return null;
+  } finally { $("loading").hidden = true; }
 }
 
 async function begin() {
@@ -246,14 +212,14 @@ async function begin() {
   for (const it of TABS) it.begin(compiled);
   for (const it of withInput) beginInput(it);
   beginStart();
+  for (const field of document.querySelectorAll("[type=file]")) field.onchange = takeFile;
   $("skip").onclick = skip;
   road.begin(compiled, (...script) => replace(scriptTab, () => {
     tab("script", true);
     return scriptTab.open(...script);
   }));
   await openExample(scriptTab, 0);
-  for (const answer of ["yes", "no"]) $(`ask-${answer}`).onclick = () => $("ask").close(answer);
-  for (const form of document.forms) form.onsubmit = (event) => event.preventDefault();
+  for (const form of document.querySelectorAll("form:not([method])")) form.onsubmit = (event) => event.preventDefault();
   drops();
   document.addEventListener("keydown", toggleKeys);
   document.addEventListener("keydown", Play.space);

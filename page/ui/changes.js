@@ -5,17 +5,16 @@ import { KIND_OF, PARTS } from "../model/output.js";
 import { $, counted, make, number, soon } from "./parts.js";
 import { Rows } from "./rows.js";
 
-const NAMES = { text: "text", name: "PTYN", tag1: "tag", tag2: "tag" };
+const NAMES = { text: "text", name: "PTYN", tags: "tag" };
 /* Milliseconds after which the search of a long list lets the page do other things. */
 const PATIENCE = 40;
 /* The view, all its changes, and those that were found: each is four times its slot and the number of its part. */
-export const state = { view: null, all: [], found: [], slot: 0, turn: 0, work: Promise.resolve(), about: {} };
+export const state = { view: null, all: [], found: [], slot: 0, turn: 0, work: Promise.resolve(), tab: null };
 const rows = new Rows($("log-changes"), row);
 const slotOf = (key) => key >> 2, partOf = (key) => PARTS[key & 3];
 
-/* Shows the changes of a view. `about` has what a row says of its slot, and where a click leads. */
-export function show(view, all, about) {
-  Object.assign(state, { view, all, about });
+export function show(view, all, tab) {
+  Object.assign(state, { view, all, tab });
   find();
 }
 
@@ -50,20 +49,18 @@ async function keysWith(words, turn) {
 const rowAt = (slot) => lastAt(state.found.length, (i) => slotOf(state.found[i]), slot);
 
 function row(i) {
-  const key = state.found[i], slot = slotOf(key), part = partOf(key), { about } = state;
-  const runs = state.view.parts[part], run = runs.indexAt(slot), isMix = runs.isMix(run);
-  const text = labelOf(runs.value(run));
+  const { found, tab, view } = state, slot = slotOf(found[i]), part = partOf(found[i]), runs = view.parts[part];
+  const run = runs.indexAt(slot), isMix = runs.isMix(run), text = labelOf(runs.value(run));
   const cell = (className, textContent) => make("span", { className, textContent });
   return {
-    className: isMix ? "mix" : "", title: [about.line(slot), text].join(": "), act: () => about.goTo(slot),
+    className: isMix ? "mix" : "", title: `${tab.line(slot)}: ${text}`, act: () => tab.goTo(slot),
     cells: [
-      cell("slot", number(slot)), cell("time", about.clock(slot) || lines.time(slot)),
-      cell(`part ${KIND_OF[part]}`, NAMES[part]), cell("value", isMix ? `⚠ ${text}` : text),
+      cell("slot", number(slot)), cell("time", tab.clock(slot) || lines.time(slot)),
+      cell(`part ${KIND_OF[part]}`, NAMES[KIND_OF[part]]), cell("value", isMix ? `⚠ ${text}` : text),
     ],
   };
 }
 
-/* Follows the chosen slot. */
 export function move(slot) {
   state.slot = slot;
   rows.choose(rowAt(slot));

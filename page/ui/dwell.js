@@ -1,41 +1,31 @@
 /* The tab of the dwell: M, K and the share of free slots in seconds, and the M for texts that change every so often. */
 import * as lines from "../model/lines.js";
-import * as parts from "./parts.js";
-import { $, make, number } from "./parts.js";
+import { $, counted, filled, number, problemOf } from "./parts.js";
 import { added } from "./tab.js";
 
 /* The groups of the longest text, the largest M, and the seconds of an hour. */
-const LONGEST = 32;
-const MOST = 65535;
-const HOUR = 3600;
+const LONGEST = 32, MOST = 65535, HOUR = 3600;
 /* The number at a place of a slider. The slider of M counts tenths of a power of two. */
 const NUMBER_AT = { m: (place) => Math.min(MOST, Math.round(2 ** (place / 10))), k: Number, f: Number };
 const PLACE_OF = { m: (number) => Math.round(10 * Math.log2(number)), k: Number, f: Number };
 
 const percent = (share) => `${Math.round(share * 100)} %`;
 
-/* How often so many slots fit into an hour. */
 function timesAnHour(slots) {
   const times = HOUR / lines.seconds(slots);
   return times >= 10 ? number(Math.floor(times)) : times.toFixed(1);
 }
 
-/* How long a receiver needs for the longest text. */
 function longestText(m, free) {
-  const slots = Math.ceil(LONGEST / free);
-  const share = percent(free);
-  const time = lines.time(slots);
-  return slots <= m
-    ? [time, "A receiver that gets every free slot shows a text of 64 characters within this time "
-      + `(32 free slots at ${share}).`]
-    : ["not always",
-      `The longest text may need 32 free slots. At ${share} they take ${time}: longer than the dwell.`];
+  const slots = Math.ceil(LONGEST / free), share = percent(free), time = lines.time(slots);
+  return slots > m
+    ? ["not always", `The longest text may need 32 free slots. At ${share} they take ${time}: longer than the dwell.`]
+    : [time, "A receiver that gets every free slot shows a text of 64 characters within this time "
+      + `(32 free slots at ${share}).`];
 }
 
-/* Shows the times of these numbers, each in the elements that name it. */
 function showTimes({ m, k, free }) {
-  const spacing = m + k;
-  const [longest, longestWords] = longestText(m, free);
+  const spacing = m + k, [longest, longestWords] = longestText(m, free);
   const values = {
     spacing: lines.time(spacing), spacingSlots: number(spacing), spacingTimes: timesAnHour(spacing),
     kept: lines.time(2 * spacing), keptSlots: number(2 * spacing), keptTimes: timesAnHour(2 * spacing),
@@ -46,38 +36,27 @@ function showTimes({ m, k, free }) {
   }
 }
 
-/* Which M the longest text needs at this share of free slots, up to the greatest one. */
-function range(free, greatest) {
-  const least = Math.ceil(LONGEST / free);
-  const needs = `A text of 64 characters needs M = ${least} at ${percent(free)} free slots`;
-  return greatest < least
-    ? `${needs}: send shorter texts, free more slots, or change texts less often. `
-    : `${needs}, so M can be from ${least} to ${number(greatest)}. `;
-}
-
-/* An answer: the largest M + K, whether the chosen one fits, and a button for the largest M with the chosen K. */
-function answer(title, reason, most, { m, k, free }) {
-  const greatest = Math.min(MOST, most - k);
-  const words = ` M + K can be at most ${parts.counted(most, "slot")} (${lines.time(most)}). ${reason} `
-    + (greatest > 0 ? range(free, greatest) : "")
-    + `The chosen M + K = ${number(m + k)} ${m + k <= most ? "fits" : "is too large"}. `;
+/* An answer: the largest M + K, whether the chosen one fits, which M the longest text needs at this share of free
+   slots, and a button for the largest M with the chosen K. */
+function answer(isOwn, most, { m, k, free }) {
+  const greatest = Math.min(MOST, most - k), least = Math.ceil(LONGEST / free);
   const set = () => {
     $("dwell-m").value = greatest;
     choose();
     $("dwell-m").focus();
   };
-  const button = make("button", { type: "button", textContent: `Set M = ${number(greatest)}`, onclick: set });
-  return make("p", {}, make("b", { textContent: title }), words, greatest > 0 ? button : `With K = ${k} no M fits.`);
+  return filled("dwell-answer", {
+    isOwn, isSafe: !isOwn, most: `${counted(most, "slot")} (${lines.time(most)})`, sum: number(m + k),
+    fits: m + k <= most ? "fits" : "is too large", k, isAny: greatest > 0, isNone: greatest <= 0,
+    needs: `M = ${least} at ${percent(free)} free slots`, isLong: greatest < least, isShort: greatest >= least, least,
+    greatest: number(greatest), set,
+  });
 }
 
+/* The last group of a text is in its last slot, and the second text after it begins that many slots and one later. */
 function answers(seconds, chosen) {
   const slots = Math.floor(seconds / lines.SLOT);
-  return [
-    // the last group of a text is in its last slot, and the second text after it begins this many slots later
-    answer("Safe:", "A text may reuse the A/B flag M + K slots after the last group of the text before the previous "
-      + "one.", slots + 1, chosen),
-    answer("With our own encoder:", "It keeps each text on air for 2 (M + K) slots.", Math.floor(slots / 2), chosen),
-  ];
+  return [...answer(false, slots + 1, chosen), ...answer(true, Math.floor(slots / 2), chosen)];
 }
 
 /* Shows why the numbers have no result, and no result of other numbers. */
@@ -85,7 +64,6 @@ function showProblem(problem) {
   for (const id of ["answers", "m-words", "k-words", "f-words"]) $(id).replaceChildren();
   $("dwell-times").hidden = problem !== "";
   $("dwell-fault").textContent = problem;
-  $("dwell-fault").hidden = problem === "";
 }
 
 /* Puts a slider where its number is, and shows the number in words. */
@@ -99,7 +77,7 @@ function showNumber(name, number, words) {
 const inTime = (slots) => `${slots === 1 ? "slot" : "slots"}, ${lines.time(slots)}`;
 
 function choose() {
-  const problem = parts.problemOf($("dwell-form"));
+  const problem = problemOf($("dwell-form"));
   showProblem(problem);
   if (problem) return;
   const [m, k, f, seconds] = ["m", "k", "f", "s"].map((name) => Number($(`dwell-${name}`).value));

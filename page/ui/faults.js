@@ -5,24 +5,19 @@ import { $, grouped, make, nodesOf, number } from "./parts.js";
 
 /* The most columns of the strip, each wide enough for a click, the most labels under them, and the seconds that a
    column may have. A day has 25 columns if it does not begin with an hour. */
-const COLUMNS = 26, LABELS = 6;
-const MINUTE = 60, HOUR = 3600, DAY = 24 * HOUR;
-const STEPS = [MINUTE, 10 * MINUTE, HOUR, 6 * HOUR, DAY];
+const COLUMNS = 26, LABELS = 6, STEPS = [60, 600, 3600, 21_600, 86_400];
 
 /* The columns of a log: parts of the day by its clock, or even parts if a line has no time. `of` returns the column of
    a slot, and `name` the words for a column. */
 function columnsOf({ clocks, count }) {
-  const [low, high] = [Math.min, Math.max].map((one) => clocks.reduce((a, b) => one(a, b)));
-  if (Number.isNaN(low)) {
-    const step = Math.ceil(count / COLUMNS);
-    const name = (column) => `slot ${number(column * step)}`;
-    return { length: Math.ceil(count / step), of: (slot) => Math.floor(slot / step), name };
-  }
-  const step = STEPS.find((it) => (high - low) / it < COLUMNS - 1) ?? high - low, from = Math.floor(low / step);
+  const [first, last] = [Math.min, Math.max].map((one) => clocks.reduce((a, b) => one(a, b)));
+  const isTimed = !Number.isNaN(first), [low, high] = isTimed ? [first, last] : [0, count - 1];
+  const timed = STEPS.find((it) => (high - low) / it < COLUMNS - 1) ?? high - low;
+  const step = isTimed ? timed : Math.ceil(count / COLUMNS), from = Math.floor(low / step);
   return {
     length: Math.floor(high / step) - from + 1,
-    of: (slot) => Math.floor(clocks[slot] / step) - from,
-    name: (column) => timeOf((from + column) * step, step),
+    of: (slot) => Math.floor((isTimed ? clocks[slot] : slot) / step) - from,
+    name: (column) => isTimed ? timeOf((from + column) * step, step) : `slot ${number(column * step)}`,
   };
 }
 
@@ -89,5 +84,4 @@ export function show({ list, counts, end, isSure }, log, goTo) {
   $("log-faults-end").replaceChildren(...end ? nodesOf(`The list ends before ${end}.`) : []);
 }
 
-/* Shows none. */
 export const hide = () => show({ list: { slots: [] } });

@@ -1,27 +1,21 @@
 /* Links that hold a log or a script, and the address of the page. A link has the letters of the text, the options, the
    slot, the zoom and an end mark. */
 import { $, make } from "./parts.js";
-import { Timeline } from "./timeline.js";
 
-/* A few letters can hold many bytes, so both ways have a bound of bytes. */
+/* The most bytes of a link, and of its text: a few letters can hold many bytes. */
 const MOST = 8000;
 export const MOST_PLAIN = 4_000_000;
 /* No text of a link has more lines with a group. */
 const MOST_SLOTS = MOST_PLAIN / 20;
-/* Why a link is not opened. */
 class Refusal extends Error {}
 export const damaged = () => new Refusal("The link is damaged: an option of it is wrong.");
 /* A link without it at its end was cut, and may have lost options. */
 const END = "&end";
 const FROM_DISK = "This page was opened from a disk, so its links are of no use to others. Save the file and share "
   + "it. ";
-/* The link of each tab: the text and the options that it holds, its hash, and whether the tab still holds them. */
-const made = {};
-
-// ---- a text as letters
 
 /* Reads the stream up to a bound, and no further. Returns null beyond it. */
-async function squeezed(bytes, by, most = Infinity) {
+async function squeezed(bytes, by, most) {
   const pieces = [];
   let length = 0;
   for await (const piece of new Blob([bytes]).stream().pipeThrough(by)) {
@@ -34,83 +28,71 @@ async function squeezed(bytes, by, most = Infinity) {
 
 /* Returns a text as letters; null if it is too long. */
 async function pack(text) {
-  if (text === null) return null;
-  const plain = new TextEncoder().encode(text);
-  if (plain.length > MOST_PLAIN) return null;
-  const bytes = await squeezed(plain, new CompressionStream("deflate-raw"));
-  if (bytes.length > MOST) return null;
-  return btoa(String.fromCharCode(...bytes)).replaceAll("+", "-").replaceAll("/", "_").replace(/=+$/, "");
+  const plain = text === null ? null : new TextEncoder().encode(text);
+  const isShort = plain && plain.length <= MOST_PLAIN;
+  const bytes = isShort ? await squeezed(plain, new CompressionStream("deflate-raw"), MOST) : null;
+  return bytes && btoa(String.fromCharCode(...bytes)).replaceAll("+", "-").replaceAll("/", "_").replace(/=+$/, "");
 }
 
-async function unpack(tab, packed) {
-  const plain = atob(packed.replaceAll("-", "+").replaceAll("_", "/"));
-  const packedBytes = Uint8Array.from(plain, (c) => c.charCodeAt(0));
-  const bytes = await squeezed(packedBytes, new DecompressionStream("deflate-raw"), MOST_PLAIN);
-  if (!bytes) throw new Refusal(`The link holds a ${tab} of more than 4 MB. The page does not open it.`);
+async function unpack(id, packed) {
+  const letters = atob(packed.replaceAll("-", "+").replaceAll("_", "/"));
+  const given = Uint8Array.from(letters, (c) => c.charCodeAt(0));
+  const bytes = await squeezed(given, new DecompressionStream("deflate-raw"), MOST_PLAIN);
+  if (!bytes) throw new Refusal(`The link holds a ${id} of more than 4 MB. The page does not open it.`);
   return new TextDecoder("utf-8", { fatal: true, ignoreBOM: true }).decode(bytes);
 }
 
-// ---- the address
-
-/* The hash of the address while a tab is open: its link, or its name with its example if the tab holds another input by
-   now. */
-function hashOf(tab) {
-  const example = $(`${tab}-example`)?.value;
-  if (made[tab]?.isNow) return made[tab].hash;
-  return example ? `${tab}&example=${example}` : tab;
+/* The hash of the address while a tab is open: its link, or its name with its example if it holds another input now. */
+function hashOf({ id, link }) {
+  const example = $(`${id}-example`)?.value;
+  if (link?.isNow) return link.hash;
+  return example ? `${id}&example=${example}` : id;
 }
 
 export function putAddress(tab) {
   const hash = `#${hashOf(tab)}`;
-  if (location.hash === hash) return;
+  if ($(tab.id).hidden || location.hash === hash) return;
   try { history.replaceState(null, "", hash); } catch { /* some browsers refuse it to a file */ }
 }
 
-const isOpen = (tab) => !$(tab).hidden;
-
-/* Notes the link of a tab. */
-export function hold(tab, { text, options }, hash) {
-  made[tab] = { text, options, hash, isNow: true };
-  if (isOpen(tab)) putAddress(tab);
+/* Notes the link of a tab: the text and the options that it holds, and its hash. */
+export function hold(tab, link) {
+  tab.link = { ...link, isNow: true };
+  putAddress(tab);
 }
 
 /* Drops the link of a tab if the tab holds another input by now. */
-export function keep(tab, { text, options }) {
-  const link = made[tab];
-  const isNow = link?.text === text && link.options === options;
+export function keep(tab) {
+  const { link } = tab, isNow = link?.text === tab.text && link.options === tab.options();
   if (link) link.isNow = isNow;
-  if (isOpen(tab)) putAddress(tab);
+  putAddress(tab);
   if (isNow) return;
-  $(`${tab}-link`).hidden = true;
+  tab.field("link").hidden = true;
   tell(tab, "");
 }
 
-// ---- making one, and opening one
+export const tell = (tab, ...words) => tab.field("saved").replaceChildren(...words);
 
-export const tell = (tab, ...words) => $(`${tab}-saved`).replaceChildren(...words);
-
-/* The slot and the zoom of a timeline, as a link has them. */
-export function sightOf({ cursor, from, across, count }) {
+function sightOf({ cursor, from, across, count }) {
   const zoom = across < count ? `&from=${Math.round(from)}&across=${Math.round(across)}` : "";
   return `slot=${cursor}${zoom}`;
 }
 
-/* Makes the link of a tab, and shows and copies it; answers whether it does. `save` saves the text as a file. */
-export async function give(tab, { text, options, sight }, save) {
-  const packed = await pack(text);
-  const field = $(`${tab}-link`);
-  const isShown = packed !== null && location.protocol !== "file:";
-  field.hidden = !isShown;
-  if (packed === null) { tell(tab, `This ${tab} is too long for a link: save it as a file.`); return false; }
-  hold(tab, { text, options }, `${tab}=${packed}&${options}&${sight}${END}`);
-  if (isShown) await copy(tab, field);
-  else tell(tab, FROM_DISK, make("button", { type: "button", textContent: `Save the ${tab}`, onclick: save }));
-  return isShown;
+export async function give(tab) {
+  const { id, text } = tab, options = tab.options(), sight = sightOf(tab.timeline) + tab.moreSight();
+  const packed = await pack(text), isShown = packed !== null && location.protocol !== "file:";
+  tab.field("link").hidden = !isShown;
+  if (packed === null) { tell(tab, `This ${id} is too long for a link: save it as a file.`); return; }
+  hold(tab, { text, options, hash: `${id}=${packed}&${options}&${sight}${END}` });
+  const save = make("button", { type: "button", textContent: `Save the ${id}`, onclick: () => tab.save() });
+  if (!isShown) { tell(tab, FROM_DISK, save); return; }
+  await copy(tab);
+  tab.shared(text);
 }
 
-async function copy(tab, field) {
-  [field.value] = location.href.split("#");
-  field.value += `#${hashOf(tab)}`;
+async function copy(tab) {
+  const field = tab.field("link");
+  field.value = `${location.href.split("#")[0]}#${hashOf(tab)}`;
   field.focus();
   field.select();
   try {
@@ -121,7 +103,7 @@ async function copy(tab, field) {
 
 /* Reads the text of a link, and its numbers within bounds. `option` gives a number without which the link is damaged,
    unless it has another one to take in its place. */
-export async function read(tab, hash) {
+export async function read({ id }, hash) {
   if (!hash.endsWith(END)) throw new Refusal("The link was cut: copy the whole link.");
   const given = new URLSearchParams(hash);
   const within = (name, low, high) => {
@@ -133,23 +115,16 @@ export async function read(tab, hash) {
     if (number === undefined) throw damaged();
     return number;
   };
-  return { text: await unpack(tab, given.get(tab)), given, option, within };
+  return { text: await unpack(id, given.get(id)), given, option, within };
 }
 
 /* Shows the slot and the zoom of a link. A link with `&play` plays from there. */
 export function look(timeline, { given, within }) {
-  const { count } = timeline;
-  const slot = within("slot", 0, count - 1);
-  const from = within("from", 0, count - 1);
-  const across = within("across", 1, count);
-  if (across !== undefined) timeline.across = Math.max(Math.min(Timeline.LEAST, count), across);
-  if (from !== undefined) timeline.from = timeline.within(from);
-  if (slot !== undefined) timeline.move(slot, { keep: true });
-  else timeline.draw();
+  const { count } = timeline, slot = within("slot", 0, count - 1) ?? timeline.cursor;
+  timeline.sight(within("from", 0, count - 1) ?? timeline.from, within("across", 1, count) ?? timeline.across);
+  timeline.move(slot, { keep: true });
   if (given.has("play")) timeline.play.greet();
 }
-
-// ---- lost slots
 
 /* Slots as a link has them: 2-4.9 is 2, 3, 4 and 9. */
 export function inLetters(slots) {
@@ -176,5 +151,4 @@ export function slotsOf(letters, end = MOST_SLOTS) {
   return all;
 }
 
-/* Why a link was not opened. */
-export const whyNot = (tab, error) => error instanceof Refusal ? error.message : `The link has no ${tab}.`;
+export const whyNot = ({ id }, error) => error instanceof Refusal ? error.message : `The link has no ${id}.`;

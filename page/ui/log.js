@@ -9,28 +9,20 @@ import * as changes from "./changes.js";
 import * as faults from "./faults.js";
 import * as groups from "./groups.js";
 import * as links from "./links.js";
-import * as parts from "./parts.js";
-import { $, make } from "./parts.js";
+import { $, counted, hex, make, number, radio, soon, whyNoMix } from "./parts.js";
 import * as picture from "./picture.js";
 import * as report from "./report.js";
 import { Rows } from "./rows.js";
 import { Tab, added } from "./tab.js";
-import { Timeline } from "./timeline.js";
 import * as verdict from "./verdict.js";
 
-/* The station of a log without a group. */
-const PI = "C201";
-/* The worker that has searched a log of more slots ends, to free its memory. */
-const LONG = 100_000;
-/* A log of more bytes cannot be edited here. */
-const MOST_EDITED = 400_000;
-/* How many dwells after a no are searched first for a witness: most are there, and a log may be a day. */
-const NEAR = 4;
-/* How many slots after that are searched too, about a day: each takes some 41 bytes of memory. */
-const FAR = 1_000_000;
-const SECOND = 1000;
+/* The worker that has searched a log of more slots ends, to free its memory. A log of more bytes cannot be edited. */
+const LONG = 100_000, MOST_EDITED = 400_000;
+/* How many dwells after a no are searched first for a witness, since most are there; and how many slots after that,
+   about a day: each takes some 41 bytes of memory. */
+const NEAR = 4, FAR = 1_000_000;
 /* A display takes no longer with another M, and a new worker would have to read the log again. */
-const PATIENCE = 20 * SECOND;
+const SECOND = 1000, PATIENCE = 20 * SECOND;
 const NO_SEARCH = "the search is for a receiver without a window", STOPPED = "the search was stopped";
 /* The names of the lanes of a receiver, each with the one on a phone. */
 const LANES = { text: ["text", "text"], name: ["name (PTYN)", "name"], tags: ["tags", "tags"] };
@@ -38,10 +30,12 @@ const ALONE = { text: ["flag bit alone", "flag bit"], name: ["  its name", " nam
 const KINDS = ["nothing", "text", "name", "tags", "other"];
 const CLOCK = /\d\d:\d\d:\d\d/, LONGEST_LINE = 96;
 const encoder = new TextEncoder(), decoder = new TextDecoder("utf-8", { ignoreBOM: true });
+/* The station of a log without a group. */
+const NO_STATION = "C201";
 const NO_LOG = { count: 0, end: 0, words: [], missing: new Uint8Array(0), starts: [], numbers: [] };
 const empty = () => ({
   view: new View(), alone: new View(), codes: new Uint8Array(0),
-  events: { slots: new Int32Array(0), numbers: new Int32Array(0) }, no: null, answer: null, witness: null,
+  events: { slots: new Int32Array(0), numbers: new Int32Array(0) }, answer: null, witness: null,
 });
 
 class LogTab extends Tab {
@@ -51,18 +45,16 @@ class LogTab extends Tab {
       bytes: new Uint8Array(0), text: "", source: {}, isEdited: false, lost: new Set(), brush: null,
       log: NO_LOG, programmes: [], groups: 0, times: {}, pi: 0, w: 0,
     });
-    this.timeline = new Timeline($("log-time"), {
-      label: "Slot of the log", onMove: (slot) => this.showSlot(slot), clock: (slot) => this.clock(slot),
-      seconds: (slot) => this.log.clocks?.[slot] ?? NaN,
-      line: (slot) => this.line(slot), onPaint: (...given) => this.paint(...given),
-      onKey: (...given) => this.key(...given),
-    });
     this.rows = new Rows($("log-rows"), (i) => this.row(i));
-    this.timeline.about = () => ({ station: this.value("pi"), answer: $("verdict").querySelector("h2").textContent });
-    this.about = {
-      goTo: (slot) => { this.timeline.move(slot); this.timeline.canvas.focus(); },
-      clock: (slot) => this.clock(slot), line: (slot) => this.line(slot),
-    };
+  }
+
+  get no() { return this.answer?.no ?? null; }
+  get station() { return this.value("pi"); }
+  get inOneLine() { return $("verdict").querySelector("h2").textContent; }
+
+  goTo(slot) {
+    this.timeline.move(slot);
+    this.timeline.canvas.focus();
   }
 
   // ---- lost slots
@@ -86,20 +78,21 @@ class LogTab extends Tab {
 
   /* Loses the slots of a drag while it goes on, or gives them back if its first slot was lost. */
   paint(lane, from, to, event) {
-    if (!lane) {
-      if (this.brush) this.lostChanged();
-      this.brush = null;
-      return false;
-    }
-    if (!this.brush && !event.shiftKey && !(lane.lost && $("log-click").checked)) return false;
+    const isBrush = lane && (event.shiftKey || (lane.lost && $("log-click").checked));
+    if (!this.brush && !isBrush) return false;
     this.brush ??= this.lost.has(from) ? "delete" : "add";
     for (let slot = from; slot <= to; slot++) this.lost[this.brush](slot);
     this.timeline.draw();
     return true;
   }
 
+  painted() {
+    this.brush = null;
+    this.lostChanged();
+  }
+
   key(key, event) {
-    if (this.undoKey(key, event)) return true;
+    if (super.key(key, event)) return true;
     if (key === "l") this.lose([this.timeline.cursor]);
     return key === "l";
   }
@@ -109,44 +102,42 @@ class LogTab extends Tab {
   /* Opens a log: its text, or the bytes of its file. Returns when its display and its verdict are shown. The workers
      read the page's own bytes: a file may change while it is open. */
   open(content, settings = {}) {
-    const { m, k, w = "", running = false, lost = [], example = "", file = "" } = settings;
-    this.bytes = typeof content === "string" ? encoder.encode(content) : content;
-    const source = { file, example, ...settings.source }, isEdited = Boolean(settings.isEdited);
-    Object.assign(this, empty(), { log: NO_LOG, source, isEdited, lost: new Set(lost), brush: null });
+    const { m, k, w, running = false, lost = [], example = "", file = "", isEdited = false } = settings;
+    const bytes = typeof content === "string" ? encoder.encode(content) : content, blob = new Blob([bytes]);
+    // a link holds no longer text
+    const text = bytes.length > links.MOST_PLAIN ? null : decoder.decode(bytes);
+    const source = { file, ...settings.source }, isLong = bytes.length > MOST_EDITED;
+    Object.assign(this, empty(), { log: NO_LOG, bytes, text, source, isEdited, lost: new Set(lost), brush: null });
     $("log").classList.remove("unopened");
     this.rows.show(0);
     this.undo.begin(links.inLetters(this.lost));
-    parts.nameFile("log", file);
-    this.setFields({ example, m, k, w });
+    this.nameFile(file);
+    this.setFields({ example, m, k, w: w || "" });
     $("log-running").checked = running;
-    const isLong = this.bytes.length > MOST_EDITED;
-    // a link holds no longer text
-    this.text = this.bytes.length > links.MOST_PLAIN ? null : decoder.decode(this.bytes);
     $("log-text").closest("details").hidden = isLong;
-    parts.fill("log-text", isLong ? "" : this.text);
-    report.take(this.source.bytes ?? this.bytes);
-    const blob = new Blob([this.bytes]);
+    this.fillText(isLong ? "" : text);
+    report.take(source.bytes ?? bytes);
     for (const program of [this.display, this.judge]) program.keep(blob);
     return this.look({ opens: true, pi: settings.pi });
   }
 
-  get waitsFor() {
-    return this.log === NO_LOG ? "Reading the log" : `Decoding with M = ${parts.number(Number(this.value("m")))}`;
-  }
-
-  /* Reads the slots of the log. */
   async read(pi, signal) {
     const tell = (share) => { $("log-progress").value = share; };
     Object.assign(this, await this.display.ask("open", undefined, { signal, tell }));
-    const name = ([p, n]) => new Option(`${parts.hex(p)} (${parts.counted(n, "group")})`, parts.hex(p));
-    const options = this.programmes.map(name);
-    $("log-pi").replaceChildren(...options.length ? options : [new Option("no group", PI)]);
+    const options = this.programmes.map(([p, n]) => new Option(`${hex(p)} (${counted(n, "group")})`, hex(p)));
+    $("log-pi").replaceChildren(...options.length ? options : [new Option("no group", NO_STATION)]);
     if (options.some(({ value }) => value === pi)) $("log-pi").value = pi;
     $("log").classList.toggle("without-slots", !this.log.count);
     this.rows.show(this.log.count + (this.log.end < this.bytes.length));
   }
 
-  showWait() {
+  get waitsFor() {
+    return this.log === NO_LOG ? "Reading the log" : `Decoding with M = ${number(Number(this.value("m")))}`;
+  }
+
+  wait(isWaiting) {
+    super.wait(isWaiting);
+    if (!isWaiting) return;
     $("log-progress").removeAttribute("value");
     if (!this.answer) verdict.showNone(`${this.waitsFor} …`, "");
     if (this.log !== NO_LOG) return;
@@ -156,16 +147,16 @@ class LogTab extends Tab {
 
   /* What the form holds. A window makes what it shows later by its length less one. */
   asking() {
-    const [pi, m, k, w] = ["pi", "m", "k", "w"].map((name) => this.value(name));
-    return { pi, m, k: String(Number(k) + (w ? Number(w) - 1 : 0)), w, running: $("log-running").checked };
+    const [m, k, w] = ["m", "k", "w"].map((name) => Number(this.value(name)));
+    return { pi: this.value("pi"), m, k: k + Math.max(0, w - 1), w, running: $("log-running").checked };
   }
 
   prepare() { $("log-unlose").hidden = !this.lost.size; }
 
   async show(signal, { opens = false, pi }) {
     if (this.log === NO_LOG) await this.read(pi, signal);
-    links.keep("log", { text: this.text, options: this.options() });
-    Object.assign(this, { no: null, answer: null });
+    links.keep(this);
+    this.answer = null;
     const asked = { ...this.asking(), lost: [...this.lost] };
     await Promise.all([this.showDisplay(asked, opens, signal), this.showAnswer(asked, signal)]);
     if (opens) this.timeline.move(this.firstSlot(), { keep: true });
@@ -176,40 +167,46 @@ class LogTab extends Tab {
     const got = await this.display.ask("decode", asked, { signal }), values = new Texts(got.values);
     const [view, alone] = [got.view, got.alone].map((packed) => new View(packed, values, got.until));
     const { codes, events } = got, pi = parseInt(asked.pi, 16);
-    Object.assign(this, { view, alone, codes, events, pi, w: Number(asked.w) });
+    Object.assign(this, { view, alone, codes, events, pi, w: asked.w });
+    alone.parts.text.oldFrom = this.oldFrom();
     this.timeline.show(this.lanes(), this.log.count, { fit });
-    const confirm = asked.w ? ` --confirm ${asked.w}` : "";
-    this.tellLines("log", `rdsrt decode --pi ${asked.pi} --m ${asked.m}${confirm} --why`, got.output);
-    changes.show(view, got.changes, this.about);
+    this.tellLines("log", got.command, got.output);
+    changes.show(view, got.changes, this);
   }
 
   async showAnswer(asked, signal) {
-    const { pi, m, k, running } = asked, audit = await this.judge.ask("audit", asked, { signal });
-    const { log, groups, times } = this, given = { audit, log, groups, times, running, w: Number(asked.w) };
-    this.answer = verdict.show({ ...given, pi: parseInt(pi, 16), m: Number(m), k: Number(k) }, this.actions);
-    this.no = this.answer.no;
-    const command = `rdsrt audit --all --pi ${pi} --m ${m} --k ${k}${running ? " --running" : ""}`;
-    Object.assign(this.answer, { audit, command });
-    this.tellLines("audit", command, audit.output);
-    faults.show({ ...audit, isSure: this.answer.isSure }, log, this.about.goTo);
+    const audit = await this.judge.ask("audit", asked, { signal }), { log, groups, times } = this;
+    this.answer = { ...verdict.show({ ...asked, audit, log, groups, times }, this.actions), audit };
+    this.tellLines("audit", audit.command, audit.output);
+    faults.show({ ...audit, isSure: this.answer.isSure }, log, (slot) => this.goTo(slot));
     // the row of the fault is red
     this.rows.layOut(Math.max(0, this.rows.chosen));
     // the answer has a mark in the lane of events
     if (this.no && this.timeline.lanes.length) this.timeline.show(this.lanes(), log.count);
   }
 
-  /* The slot to look at first: that of a no if no slot is lost, or else the first mix of a text, or else the last text.
-     */
+  /* The slot to look at first: that of a no if no slot is lost, or else the first mix, or else the last text. */
   firstSlot() {
     if (this.no && !this.lost.size) return this.no.slot;
-    const both = [this.view.parts.text, this.alone.parts.text];
-    for (const runs of both) {
+    const { parts: { text } } = this.view, last = text.numbers.findLastIndex((value) => value !== output.NOTHING);
+    for (const runs of [text, this.alone.parts.text]) {
       const mix = runs.find((i) => runs.isMix(i));
       if (mix >= 0) return runs.from(mix);
     }
-    const last = Array.from(both[0].numbers).findLastIndex((number) => number !== output.NOTHING);
-    return last < 0 ? 0 : both[0].from(last);
+    return last < 0 ? 0 : text.from(last);
   }
+
+  /* Shows why nothing is decoded, and no result of what was there before. What the page refuses is red. */
+  showProblem(problem, { isRefused = false } = {}) {
+    Object.assign(this, empty());
+    this.timeline.show([], this.log.count);
+    changes.show(this.view, [], this);
+    faults.hide();
+    if (isRefused) verdict.showNone(problem, "No log is open.", "no"); else verdict.showNone("No verdict", problem);
+    for (const name of ["log", "audit"]) this.tellLines(name, "", "");
+  }
+
+  // ---- after a no
 
   /* What takes longer after a no: what a receiver without losses shows, and a witness. */
   async searchMore(asked, signal) {
@@ -226,28 +223,26 @@ class LogTab extends Tab {
 
   /* Looks for a witness after a no. Says each second how long, and in how many slots. */
   async search(asked, signal) {
-    const { no, log } = this, m = Number(asked.m);
+    const { no, log } = this, { pi, m, k, w } = asked, from = performance.now();
     const end = (slots) => ({ slots, bytes: log.starts[slots] ?? this.bytes.length });
     const near = end(Math.min(log.count, no.slot + NEAR * m)), far = end(Math.min(log.count, near.slots + FAR));
-    const from = performance.now();
     let slots = 0, failure = NO_SEARCH, found = null;
     const say = () => verdict.showSearch({ slots, seconds: Math.round((performance.now() - from) / SECOND) });
     const timer = setInterval(say, SECOND), tell = (count) => { slots = count; };
     this.searching = new AbortController();
     const ends = AbortSignal.any([signal, this.searching.signal]);
     try {
-      const given = { pi: asked.pi, m, near, far, isAll: far.slots === log.count };
-      if (!asked.w) found = await this.judge.ask("witness", given, { signal: ends, tell });
+      const given = { pi, m, near, far, isAll: far.slots === log.count };
+      if (!w) found = await this.judge.ask("witness", given, { signal: ends, tell });
     } catch (error) { failure = this.searching.signal.aborted ? STOPPED : error.message; }
     clearInterval(timer);
     if (signal.aborted) return;
     this.witness = found ?? { lost: null, shown: [], failure };
-    verdict.showWitness({ ...this.witness, k: Number(asked.k) }, this.actions);
+    verdict.showWitness({ ...this.witness, k }, this.actions);
   }
 
-  /* The actions of the verdict's buttons. */
   actions = {
-    goTo: (slot) => this.about.goTo(slot),
+    goTo: (slot) => this.goTo(slot),
     showFault: () => this.rows.choose(this.log.count),
     fill: () => this.working(this.fill().catch((error) => this.showProblem(`${error.message}.`))),
     stopSearch: () => this.searching.abort(),
@@ -255,7 +250,7 @@ class LogTab extends Tab {
     lose: async (slot, first, last) => {
       this.lost = new Set(Array.from({ length: last - first + 1 }, (_, i) => first + i));
       await this.lostChanged();
-      this.about.goTo(slot);
+      this.goTo(slot);
     },
   };
 
@@ -265,16 +260,6 @@ class LogTab extends Tab {
     const { bytes } = await this.display.ask("fill", { m }), file = `${this.source.file || "log"}, with its lost slots`;
     const source = { ...this.source, file, before: `rdsrt slots --m ${m} < ` };
     await this.open(bytes, { pi, m, k, w, running, isEdited, file, source });
-  }
-
-  /* Shows why nothing is decoded, and no result of what was there before. What the page refuses is red. */
-  showProblem(problem, { isRefused = false } = {}) {
-    Object.assign(this, empty());
-    this.timeline.show([], this.log.count);
-    changes.show(this.view, [], this.about);
-    faults.hide();
-    if (isRefused) verdict.showNone(problem, "No log is open.", "no"); else verdict.showNone("No verdict", problem);
-    for (const name of ["log", "audit"]) this.tellLines(name, "", "");
   }
 
   // ---- the lanes
@@ -292,19 +277,16 @@ class LogTab extends Tab {
   }
 
   lanes() {
-    const { view, alone, codes, lost } = this, all = alone.lanes(ALONE);
-    all[0].runs = Object.assign(Object.create(all[0].runs), { oldFrom: this.oldFrom() });
-    all[0].gap = 12;
-    const own = view.lanes(LANES);
-    Object.assign(own[0], { strong: true, gap: 10 });
-    // a slot without a group may have been silent: it is not drawn as lost
-    const received = { name: "received", kind: "ticks", codes, lost };
-    return [received, { name: "events", kind: "marks", marks: this.marks() }, ...own, ...all];
+    const { view, alone, codes, lost } = this;
+    return [
+      // a slot without a group may have been silent: it is not drawn as lost
+      { name: "received", kind: "ticks", codes, lost }, { name: "events", kind: "marks", marks: this.marks() },
+      ...view.lanes(LANES, {}, { strong: true, gap: 10 }), ...alone.lanes(ALONE, {}, { gap: 12 }),
+    ];
   }
 
   // ---- a slot
 
-  /* The text of the line that begins at this byte. */
   lineAt(start) {
     const end = Math.min(logfile.endOf(this.bytes, start), start + LONGEST_LINE);
     const text = decoder.decode(this.bytes.subarray(start, end)).trimEnd();
@@ -317,18 +299,18 @@ class LogTab extends Tab {
     return CLOCK.exec(this.lineAt(this.log.starts[slot]).slice(logfile.BLOCKS))?.[0] ?? "";
   }
 
-  /* The line of a slot, in words. */
-  line(slot) { return slot < this.log.count ? `line ${parts.number(this.log.numbers[slot])}` : ""; }
+  line(slot) { return slot < this.log.count ? `line ${number(this.log.numbers[slot])}` : ""; }
+  seconds(slot) { return this.log.clocks?.[slot] ?? NaN; }
 
   /* A row of the log itself: the line of a slot, or the one behind all slots, which is malformed. */
   row(slot) {
     const { log, no, answer } = this, isSlot = slot < log.count, before = slot ? log.numbers[slot - 1] : 0;
-    const number = isSlot ? log.numbers[slot] : before + 1;
+    const textContent = number(isSlot ? log.numbers[slot] : before + 1);
     return {
       className: isSlot && no?.slot === slot && answer.isSure ? "fault" : "",
-      act: () => this.about.goTo(Math.min(slot, log.count - 1)),
+      act: () => this.goTo(Math.min(slot, log.count - 1)),
       cells: [
-        make("span", { className: "number", textContent: parts.number(number) }),
+        make("span", { className: "number", textContent }),
         make("code", { textContent: this.lineAt(isSlot ? log.starts[slot] : log.end) }),
       ],
     };
@@ -337,15 +319,14 @@ class LogTab extends Tab {
   showSlot(slot) {
     const { log, view, alone } = this, group = logfile.groupAt(log, slot);
     const sent = group ? `${KINDS[lines.codeOf(group, this.pi)]} group` : "nothing received";
-    const what = this.lost.has(slot) ? "lost" : sent, options = { led: this.answer ? what : "" };
-    const kind = this.w ? `The receiver, with the dwell and W = ${this.w}` : "The receiver, with the dwell";
-    parts.radio($("log-radio"), kind, view, slot, options);
-    parts.radio($("log-alone"), "Flag bit alone: decode --m 65535", alone, slot);
-    $("log-why").textContent = parts.whyNoMix(view, alone, slot);
+    const what = this.lost.has(slot) ? "lost" : sent, window = this.w ? ` and W = ${this.w}` : "";
+    const led = this.answer ? what : "";
+    const shown = radio($("log-radio"), `The receiver, with the dwell${window}`, view, slot, { led });
+    const other = radio($("log-alone"), "Flag bit alone: decode --m 65535", alone, slot);
+    $("log-why").textContent = whyNoMix(view, alone, slot);
     $("log-group").textContent = log.count ? groups.ofSlot(log, slot, this.pi) : "";
     this.rows.choose(slot);
     changes.move(slot);
-    const shown = parts.inWords(view, slot, options), other = parts.inWords(alone, slot);
     return `${what}. The receiver shows ${shown}. With the flag bit alone: ${other}.`;
   }
 
@@ -368,14 +349,13 @@ class LogTab extends Tab {
 
   save() {
     this.isEdited = false;
-    picture.saveAs(picture.nameFor("log", ".log"), new Blob([this.bytes], { type: "text/plain" }));
+    picture.saveAs(picture.nameFor("log", ".log"), this.bytes, "text/plain");
   }
 
-  /* Begins with the compiled program. */
   begin(compiled) {
     super.begin(["pi", "m", "k", "w", "running"], () => this.look());
     Object.assign(this, { display: new Program(compiled, PATIENCE), judge: new Program(compiled) });
-    $("log-text").oninput = parts.soon(() => {
+    $("log-text").oninput = soon(() => {
       const { pi, w, running } = this.asking();
       this.open($("log-text").value, { pi, w, running, isEdited: true });
     });

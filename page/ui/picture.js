@@ -1,13 +1,12 @@
-/* Files to save, and a timeline as a picture with a caption. `timeline.about` gives the station and the answer. */
+/* Files to save, and a timeline as a picture with a caption. */
 import * as painter from "../display/painter.js";
 import * as lines from "../model/lines.js";
 import { $, make, number } from "./parts.js";
 
-const EDGE = 16;
-const LINE = 20;
+const EDGE = 16, LINE = 20;
 
-export function saveAs(name, blob) {
-  const url = URL.createObjectURL(blob);
+export function saveAs(name, content, type) {
+  const url = URL.createObjectURL(new Blob([content], { type }));
   make("a", { href: url, download: name }).click();
   setTimeout(() => URL.revokeObjectURL(url), 10000);
 }
@@ -22,16 +21,14 @@ export function nameFor(tab, end) {
 
 /* What the picture shows: the input, its station and the options, the slots in sight with their times, the answer. */
 export function caption(timeline) {
-  const tab = timeline.root.closest("[role=tabpanel]").id;
-  const { station, answer } = timeline.about();
-  const input = $(`${tab}-file-name`).textContent || $(`${tab}-example`).selectedOptions[0]?.textContent;
-  const option = (name) => $(`${tab}-${name}`).value && `${name.toUpperCase()} = ${$(`${tab}-${name}`).value}`;
-  const ends = [Math.floor(timeline.from), Math.ceil(timeline.from + timeline.across) - 1];
+  const { tab, count } = timeline, ends = painter.ends(timeline);
+  const input = tab.field("file-name").textContent || tab.field("example").selectedOptions[0]?.textContent;
+  const options = ["m", "k", "w"].filter((name) => tab.value(name));
   const rows = [
-    [input, `station ${station}`, ["m", "k", "w"].map(option).filter(Boolean).join(", ")],
-    [`slots ${ends.map(number).join(" to ")} of ${number(timeline.count)}`, ends.map(lines.time).join(" to "),
-      ends.map(timeline.clock).filter(Boolean).join(" to ")],
-    [answer],
+    [input, `station ${tab.station}`, options.map((name) => `${name.toUpperCase()} = ${tab.value(name)}`).join(", ")],
+    [`slots ${ends.map(number).join(" to ")} of ${number(count)}`, ends.map(lines.time).join(" to "),
+      ends.map((slot) => tab.clock(slot)).filter(Boolean).join(" to ")],
+    [tab.inOneLine],
   ];
   return rows.map((words) => words.filter(Boolean).join(" · "));
 }
@@ -40,12 +37,9 @@ export function caption(timeline) {
 export function drawn(timeline) {
   const { canvas, ink } = timeline;
   timeline.paint();
-  const texts = caption(timeline);
-  const top = EDGE + LINE * texts.length;
-  const scale = canvas.width / canvas.clientWidth;
+  const texts = caption(timeline), top = EDGE + LINE * texts.length, scale = canvas.width / canvas.clientWidth;
   const [width, height] = [canvas.width + 2 * EDGE * scale, canvas.height + (top + EDGE) * scale];
-  const copy = make("canvas", { width, height });
-  const ctx = copy.getContext("2d");
+  const copy = make("canvas", { width, height }), ctx = copy.getContext("2d");
   ctx.fillStyle = ink.card;
   ctx.fillRect(0, 0, width, height);
   ctx.drawImage(canvas, EDGE * scale, top * scale);
@@ -56,4 +50,4 @@ export function drawn(timeline) {
   return copy;
 }
 
-export const save = (timeline) => drawn(timeline).toBlob((blob) => saveAs("timeline.png", blob), "image/png");
+export const save = (timeline) => drawn(timeline).toBlob((blob) => saveAs("timeline.png", blob, "image/png"));

@@ -2,32 +2,32 @@
    bar. It stops at the end, and when its button goes out of sight. */
 import * as lines from "../model/lines.js";
 
-export class Play {
-  static all = [];
-  static SPEEDS = [1, 8, 32];
+const SPEEDS = [1, 8, 32];
 
-  /* `at` returns the slot, `show` goes to one, and `count` returns how many there are. */
-  constructor({ button, speed, at, show, count }) {
-    Object.assign(this, { button, speed, at, show, count, frame: 0 });
-    speed.replaceChildren(...Play.SPEEDS.map((it) => new Option(`×${it}`, it)));
-    button.onclick = () => this.toggle();
-    Play.all.push(this);
+export class Play {
+  /* The button and the speeds are in the root. The slots have a number, a cursor, and `move`. */
+  constructor(root, slots) {
+    const [button, speed] = [".play", ".time-bar select"].map((query) => root.querySelector(query));
+    Object.assign(this, { button, speed, slots, frame: 0 });
+    speed.replaceChildren(...SPEEDS.map((it) => new Option(`×${it}`, it)));
+    button.onclick = () => { if (this.frame) this.stop(); else this.start(); };
   }
 
   /* Goes on up to a slot. From there it begins anew. */
-  start(end = this.count() - 1) {
+  start(end = this.slots.count - 1) {
     this.stop();
-    let slot = this.at() < end ? this.at() : 0, last = performance.now();
+    const { slots } = this;
+    let slot = slots.cursor < end ? slots.cursor : 0, last = performance.now();
     const step = (now) => {
       // a pointer or a key moved the cursor
-      if (Math.floor(slot) !== this.at()) slot = this.at();
+      if (Math.floor(slot) !== slots.cursor) slot = slots.cursor;
       slot = Math.min(end, slot + Number(this.speed.value) * (now - last) / 1000 / lines.SLOT);
       last = now;
-      if (Math.floor(slot) !== this.at()) this.show(Math.floor(slot));
+      if (Math.floor(slot) !== slots.cursor) slots.move(Math.floor(slot));
       if (slot < end && this.button.checkVisibility()) this.frame = requestAnimationFrame(step);
       else this.stop();
     };
-    this.show(slot);
+    slots.move(slot);
     this.frame = requestAnimationFrame(step);
     this.tell();
   }
@@ -38,7 +38,6 @@ export class Play {
     this.tell();
   }
 
-  toggle() { if (this.frame) this.stop(); else this.start(); }
   /* A button with a name of its own shows a sign alone. */
   tell() {
     const sign = this.frame ? "❚❚" : "▶", word = this.frame ? " Pause" : " Play";
@@ -52,9 +51,8 @@ export class Play {
   /* The space bar starts and stops what is in sight, unless it belongs to a control. */
   static space(event) {
     if (event.key !== " " || event.target.closest("button, input, select, textarea, summary, a, dialog")) return;
-    const play = Play.all.find((it) => it.button.checkVisibility());
-    if (!play) return;
-    event.preventDefault();
-    play.toggle();
+    const button = [...document.querySelectorAll(".play")].find((it) => it.checkVisibility());
+    if (button) event.preventDefault();
+    button?.click();
   }
 }

@@ -1,7 +1,7 @@
 /* The report on a log: one page to print and to send. It has what the program said, and how to ask it again. */
 import * as lines from "../model/lines.js";
 import * as rdsrt from "../program/rdsrt.js";
-import { $, counted, make } from "./parts.js";
+import { $, counted, filled, make } from "./parts.js";
 import * as picture from "./picture.js";
 
 /* The newest log, and the SHA-256 of its file. */
@@ -10,35 +10,30 @@ const state = { tab: null, bytes: null, hash: "" };
 /* Takes the bytes of a file. A page that was not sent safely has no call for a hash. */
 export async function take(bytes) {
   Object.assign(state, { bytes, hash: "not computed: the page came over http" });
-  const hash = await crypto.subtle?.digest("SHA-256", bytes);
-  const digits = (byte) => byte.toString(16).padStart(2, "0");
+  const hash = await crypto.subtle?.digest("SHA-256", bytes), digits = (byte) => byte.toString(16).padStart(2, "0");
   if (hash && state.bytes === bytes) state.hash = Array.from(new Uint8Array(hash), digits).join("");
 }
 
 /* A file name for a shell. */
 const quoted = (name) => /^[\w./-]+$/.test(name) ? name : `'${name.replaceAll("'", "'\\''")}'`;
 
-/* The command that gives the answer again. */
 function command({ source: { file, origin = file, before }, answer }) {
   const name = quoted(origin || "station.log");
-  return before ? `${before}${name} | ${answer.command}` : `${answer.command} < ${name}`;
+  return before ? `${before}${name} | ${answer.audit.command}` : `${answer.audit.command} < ${name}`;
 }
 
-/* The sentences of the card, without its buttons. */
 function sentences() {
   const all = [...$("verdict").querySelectorAll("p:not([hidden])")].map((it) => it.cloneNode(true));
   for (const it of all) for (const button of it.querySelectorAll(".act")) button.remove();
   return all.map((it) => it.textContent.trim()).filter(Boolean);
 }
 
-/* The faults by kind, in the words of the program. */
 function faultsOf({ answer }) {
   const { audit } = answer ?? {};
   if (!audit?.counts.length) return audit?.output.startsWith("yes ") ? "none found" : "not judged";
   return [...audit.counts.map(({ note }) => note), ...audit.end ? [`The list ends before ${audit.end}.`] : []];
 }
 
-/* The rows of the report, each a name and its words. */
 function rows(tab) {
   const { log, source, answer } = tab, times = [0, Math.max(0, log.count - 1)].map((slot) => tab.clock(slot));
   const from = times[0] && times[1] ? `, from ${times[0]} to ${times[1]} by its lines` : "";
@@ -49,7 +44,7 @@ function rows(tab) {
     ["Station", `PI ${pi}, ${counted(tab.groups, "group")} of all stations`],
     ["Length", `${counted(log.count, "slot")}, ${lines.time(log.count)}${from}`],
     ["Receiver", `M = ${m} (${lines.time(Number(m))}), K = ${k}${w ? `, W = ${w}` : ""}`],
-    ["Answer", $("verdict").querySelector("h2").textContent],
+    ["Answer", tab.inOneLine],
     ["In words", sentences()],
     ["Faults", faultsOf(tab)],
     ["Command", answer ? command(tab) : "none"],
@@ -59,17 +54,16 @@ function rows(tab) {
 
 function fill() {
   if (state.tab.bytes.length === 0 && !state.tab.answer) return;
-  const cells = ([name, words]) => [make("dt", { textContent: name }),
-    make("dd", {}, ...[words].flat().map((textContent) => make("p", { textContent })))];
+  const inside = (words) => [words].flat().map((textContent) => make("p", { textContent }));
+  const cells = ([name, words]) => filled("report-row", { name, words: inside(words) });
   $("report-rows").replaceChildren(...rows(state.tab).flatMap(cells));
 }
 
 function save() {
   const text = rows(state.tab).map(([name, words]) => `${name}: ${[words].flat().join("\n  ")}\n`).join("");
-  picture.saveAs(picture.nameFor("log", " report.txt"), new Blob([text], { type: "text/plain" }));
+  picture.saveAs(picture.nameFor("log", " report.txt"), text, "text/plain");
 }
 
-/* Begins with the tab of a log. */
 export function begin(tab) {
   state.tab = tab;
   $("log-report").onclick = () => {
@@ -78,6 +72,5 @@ export function begin(tab) {
   };
   $("report-print").onclick = () => print();
   $("report-save").onclick = save;
-  $("report-close").onclick = () => $("report").close();
   addEventListener("beforeprint", fill);
 }

@@ -5,36 +5,33 @@ import * as painter from "../display/painter.js";
 import * as lines from "../model/lines.js";
 import * as records from "../model/records.js";
 import { Program } from "../program/program.js";
-import * as parts from "./parts.js";
-import { $, make } from "./parts.js";
+import { $, MIXED, make, radio, whyNoMix } from "./parts.js";
 import { Play } from "./play.js";
 import { Timeline } from "./timeline.js";
 
 /* The receiver of the example whose lost slots are the first tunnels. */
-const RECEIVER = 1, PI = "C201";
+const RECEIVER = 1;
 const STEPS = { ...Timeline.STEPS, ArrowUp: 1, ArrowDown: -1 };
-export const state = { rows: [], tunnels: [], text: "", slot: 0, views: {}, work: Promise.resolve(), held: null };
-let program = null, ink = null, words = [];
-const count = () => state.rows.length;
-export const drive = new Play({ button: $("road-play"), speed: $("road-speed"), at: () => state.slot, show, count });
+export const state = {
+  rows: [], tunnels: [], text: "", cursor: 0, views: {}, work: Promise.resolve(), held: null, move,
+  get count() { return this.rows.length; },
+};
+let program = null, ink = null;
+export const drive = new Play($("road"), state);
 const within = (low, slot, high) => Math.max(low, Math.min(slot, high));
-const percent = (slot) => `${100 * slot / count()}%`;
+const percent = (slot) => `${100 * slot / state.count}%`;
 
 // ---- the tunnels
 
 /* The slots [from, to) that the receiver loses, as tunnels. */
 function tunnelsOf(rows) {
-  const all = [];
-  rows.forEach(({ receptions }, slot) => {
-    if (receptions[RECEIVER] !== "L") return;
-    if (all.at(-1)?.to === slot) all.at(-1).to++;
-    else all.push({ from: slot, to: slot + 1 });
-  });
-  return all;
+  const isLost = (slot) => rows[slot]?.receptions[RECEIVER] === "L", slots = [...rows.keys()];
+  const ends = slots.filter((slot) => isLost(slot) && !isLost(slot + 1));
+  return slots.filter((slot) => isLost(slot) && !isLost(slot - 1)).map((from, i) => ({ from, to: ends[i] + 1 }));
 }
 
 /* The slots from the tunnel before to the one behind, with one between. */
-const roomOf = (i) => [(state.tunnels[i - 1]?.to ?? -1) + 1, (state.tunnels[i + 1]?.from ?? count() + 1) - 1];
+const roomOf = (i) => [(state.tunnels[i - 1]?.to ?? -1) + 1, (state.tunnels[i + 1]?.from ?? state.count + 1) - 1];
 
 /* What a pointer or a key moves: the tunnel, or one of its ends. Each sets its slot as near as the others let it. */
 const MOVES = {
@@ -48,9 +45,9 @@ const MOVES = {
 };
 
 function moveTunnel(i, what, slot) {
-  const it = state.tunnels[i], before = `${it.from} ${it.to}`;
+  const it = state.tunnels[i], { from, to } = it;
   MOVES[what](it, slot, roomOf(i));
-  if (before === `${it.from} ${it.to}`) return;
+  if (it.from === from && it.to === to) return;
   state.held = it;
   showTunnels();
   play();
@@ -73,14 +70,14 @@ async function playNow() {
   const isLost = (slot) => state.tunnels.some(({ from, to }) => from <= slot && slot < to);
   state.rows.forEach((row, slot) => records.edit(row, { receptions: [isLost(slot) ? "L" : "G"] }));
   state.text = records.write(state.rows);
-  const got = await program.ask("play", { text: state.text, words, pi: PI });
+  const got = await program.ask("play", { ...RDSRT_EXAMPLES.script[0], text: state.text });
   const values = new Texts(got.values), view = (packed) => new View(packed, values);
-  const [air, dwell, alone] = [got.air, got.receivers[0], got.alone[0]].map(view);
+  const [air, dwell, alone] = [got.air, got.views[0], got.alone[0]].map(view);
   state.views = { air, dwell, alone };
   // the texts keep their shades while the receivers show others
   air.parts.text.numbers.forEach((number, i) => { values.shades[number] = i % 3; });
   const mix = firstMix();
-  show(mix ? mix.from : state.held?.to ?? state.slot);
+  move(mix ? mix.from : state.held?.to ?? state.cursor);
 }
 
 /* Where the radio first shows a mix, as the program says; undefined if it shows none. */
@@ -91,16 +88,13 @@ function firstMix() {
 
 // ---- the car
 
-export function show(slot) {
-  state.slot = within(0, slot, count() - 1);
-  const { air, dwell, alone } = state.views, at = state.slot;
-  parts.radio($("road-air"), "On air", air, at, { none: "silence" });
-  parts.radio($("road-dwell"), "Receiver with the dwell", dwell, at);
-  parts.radio($("road-alone"), "Radio with the flag bit alone", alone, at, { mixed: parts.MIXED });
-  const place = `slot ${at}, ${lines.time(at)}`, radio = parts.inWords(alone, at, { mixed: parts.MIXED });
-  $("road-at").textContent = place;
-  put($("road-car"), at, `${place}. On air ${parts.inWords(air, at)}. `
-    + `Receiver: ${parts.inWords(dwell, at)}. Radio: ${radio}`);
+export function move(slot) {
+  const at = state.cursor = within(0, slot, state.count - 1), { air, dwell, alone } = state.views;
+  const onAir = radio($("road-air"), "On air", air, at, { none: "silence" });
+  const shown = radio($("road-dwell"), "Receiver with the dwell", dwell, at);
+  const other = radio($("road-alone"), "Radio with the flag bit alone", alone, at, { mixed: MIXED });
+  const place = $("road-at").textContent = `slot ${at}, ${lines.time(at)}`;
+  put($("road-car"), at, `${place}. On air ${onAir}. Receiver: ${shown}. Radio: ${other}`);
   $("road-car").style.left = percent(at + 0.5);
   tell();
   paint();
@@ -108,24 +102,24 @@ export function show(slot) {
 
 /* Says in a sentence what the displays show, if it is worth one. */
 function tell() {
-  const { slot, views: { dwell, alone } } = state;
+  const { cursor: slot, views: { dwell, alone } } = state;
   if (!alone) return;
   const mix = firstMix(), run = alone.at("text", slot);
   const later = mix && `The radio first shows a mix at ${lines.time(mix.from)}.`;
-  const now = slot < run?.mixTo && `“${run.value}” was never on air. ${parts.whyNoMix(dwell, alone, slot)}`;
+  const now = slot < run?.mixTo && `“${run.value}” was never on air. ${whyNoMix(dwell, alone, slot)}`;
   const sentence = now || later || "No display shows a mix on this road. Drag the ends of the tunnels.";
   if ($("road-says").textContent !== sentence) $("road-says").textContent = sentence;
 }
 
 function put(slider, now, text) {
-  Object.assign(slider, { ariaValueMax: count(), ariaValueNow: now, ariaValueText: text });
+  Object.assign(slider, { ariaValueMax: state.count, ariaValueNow: now, ariaValueText: text });
 }
 
 // ---- pointer and keys
 
 const slotAt = ({ clientX }) => {
   const { left, width } = $("road-band").getBoundingClientRect();
-  return (clientX - left) / width * count();
+  return (clientX - left) / width * state.count;
 };
 
 /* A slider on the road: `value` reads its slot, `move` sets it. One that jumps goes to the pointer at once. */
@@ -169,10 +163,10 @@ function tunnelOf(it, i) {
 
 function showTunnels() {
   for (const { from, to, place, exit } of state.tunnels) {
-    const length = lines.time(to - from), text = `tunnel from slot ${from} to ${to}, ${length}`;
+    const length = place.firstChild.textContent = lines.time(to - from);
+    const text = `tunnel from slot ${from} to ${to}, ${length}`;
     Object.assign(place.style, { left: percent(from), width: percent(to - from) });
     exit.style.left = percent(to);
-    place.firstChild.textContent = length;
     put(place, from, text);
     put(exit, to, text);
   }
@@ -184,15 +178,13 @@ function paint() {
   const canvas = $("road-lanes"), width = canvas.clientWidth, { air, dwell, alone } = state.views;
   if (!width || !air) return;
   const lane = (name, view) => ({ name, kind: "bars", runs: view.parts.text, gap: 20 });
-  const lanes = [lane("on air", air), lane("receiver with the dwell", dwell),
-    lane("radio with the flag bit alone", alone)];
-  const height = painter.place(lanes), scale = devicePixelRatio || 1, ctx = canvas.getContext("2d");
-  canvas.style.height = `${height - painter.AXIS}px`;
-  Object.assign(canvas, { width: Math.round(width * scale), height: Math.round((height - painter.AXIS) * scale) });
+  const lanes = [
+    lane("on air", air), lane("receiver with the dwell", dwell), lane("radio with the flag bit alone", alone),
+  ];
   // the road stands in place of the axis
-  ctx.setTransform(scale, 0, 0, scale, 0, -painter.AXIS * scale);
-  const x = (slot) => slot / count() * width;
-  const sight = { from: 0, across: count(), room: width, gutter: 0, width, cursor: state.slot, x };
+  const height = painter.place(lanes), ctx = painter.sized(canvas, width, height, painter.AXIS);
+  const { count, cursor } = state, x = (slot) => slot / count * width;
+  const sight = { from: 0, across: count, room: width, gutter: 0, width, cursor, x };
   painter.paint(ctx, lanes, sight, { ...ink, line: "transparent" }, height);
   ctx.font = `12px ${painter.FONT}`;
   ctx.fillStyle = ink.dim;
@@ -203,20 +195,17 @@ function paint() {
 export function begin(compiled, open) {
   const { text, m, k, pty } = RDSRT_EXAMPLES.script[0];
   program = new Program(compiled);
-  words = ["sim", "--pi", PI, "--pty", pty, "--m", m, "--k", k, "--why"];
   state.rows = records.read(text);
   state.tunnels = tunnelsOf(state.rows);
   $("road-band").prepend(...state.tunnels.flatMap(tunnelOf));
-  const car = $("road-car"), slot = () => state.slot;
-  slider(car, slot, show);
-  for (const id of ["road-lanes", "road-band"]) slider($(id), slot, show, { focus: car, jumps: true });
+  const car = $("road-car"), slot = () => state.cursor;
+  slider(car, slot, move);
+  for (const id of ["road-lanes", "road-band"]) slider($(id), slot, move, { focus: car, jumps: true });
   $("road-open").onclick = () => open(state.text, { m, k, pty });
-  const recolour = () => { ink = painter.inks($("road")); paint(); };
-  for (const mode of Timeline.MODES) matchMedia(mode).addEventListener("change", recolour);
-  recolour();
+  painter.watchInks($("road"), (it) => { ink = it; paint(); });
   new ResizeObserver(paint).observe($("road-lanes"));
   showTunnels();
-  show(0);
+  move(0);
   play();
 }
 
@@ -225,6 +214,6 @@ export async function greet() {
   await state.work;
   const mix = state.views.alone && firstMix();
   if (!mix || !$("road").checkVisibility()) return;
-  show(mix.from);
+  move(mix.from);
   drive.greet(mix.from);
 }

@@ -5,23 +5,19 @@ import * as logfile from "../model/logfile.js";
 import * as player from "../model/player.js";
 import * as records from "../model/records.js";
 import { Program } from "../program/program.js";
-import * as rdsrt from "../program/rdsrt.js";
 import * as links from "./links.js";
-import * as parts from "./parts.js";
-import { $, number } from "./parts.js";
+import { $, MIXED, counted, hex, make, nodesOf, number, problemOf, radio, soon, staleAt, whyNoMix } from "./parts.js";
 import * as picture from "./picture.js";
 import { Tab, added } from "./tab.js";
-import { Timeline } from "./timeline.js";
 
-const COMMANDS = ["-", "text", "name", "tags", "restart"], PI = "C201";
-const HINTS = { text: "the text", name: "the name", tags: "1 1 4 0 3 1 7 7" };
 const UNPLAYED = "not played", LOOK = "look";
+/* The commands that take an argument. */
+const HINTS = { text: "the text", name: "the name", tags: "1 1 4 0 3 1 7 7" };
 /* What each brush makes a receiver do. */
 const BRUSHES = { L: "lose", G: "get", R: "restart in", W: "get a wrong group in" };
 /* The most letters of an argument that the form takes: a text has 64 characters, and an escape is four letters. */
 const LONG_ARGUMENT = 400;
-/* The names of lanes, each with the one on a phone: of the station, of a receiver, and of one with the flag bit alone.
-   */
+/* The names of lanes, each with the one on a phone. */
 const AIR = { text: ["on air", "on air"], name: ["  its name", " name"], tags: ["  its tags", " tags"] };
 const OTHERS = { name: ["  its name", "  name"], tags: ["  its tags", "  tags"] };
 const DWELL = { text: ["  with the dwell", " dwell"], ...OTHERS };
@@ -31,31 +27,34 @@ const unplayed = () => ({
   played: 0, air: new View(), views: [], alone: [], heard: [], sent: NOTHING_SENT, fault: null, replies: new Map(),
   notes: [], firstMix: null,
 });
-const brushNow = () => document.querySelector("[name=brush]:checked").value;
+const brushes = () => [...document.querySelectorAll("[name=brush]")];
+const brushNow = () => brushes().find((it) => it.checked).value;
+const receiversOf = (rows) => rows[0]?.receptions.length ?? 0;
 
 class ScriptTab extends Tab {
   constructor() {
     super("script", "Play a script");
     Object.assign(this, unplayed(), {
-      rows: [], text: "", chosen: 0, pty: "10", m: 0, opened: { text: "", input: "", file: "", example: "" }, saved: "",
+      rows: [], text: "", chosen: 0, pty: "10", opened: { text: "", input: "", file: "", example: "" }, saved: "",
     });
-    this.timeline = new Timeline($("script-time"), {
-      label: "Slot of the script", onMove: (slot) => this.showSlot(slot), onPaint: (...given) => this.paint(...given),
-      onKey: (...given) => this.key(...given),
-      onLane: (group) => { this.chosen = group; this.showSlot(this.timeline.cursor); },
-    });
-    this.timeline.about = () => ({ station: PI, answer: $("script-count").textContent });
-    this.playedSoon = parts.soon(() => this.edited());
+    this.playedSoon = soon(() => this.edited());
   }
 
-  get waitsFor() { return "Playing the script"; }
+  station = player.PI;
+  waitsFor = "Playing the script";
+  get inOneLine() { return $("script-count").textContent; }
   get receivers() { return Number(this.value("n")); }
+
+  /* Chooses a receiver, as far as there is one. */
+  choose(receiver) {
+    this.chosen = Math.max(0, Math.min(receiver, this.receivers - 1));
+    this.timeline.chosen = this.receivers ? this.chosen : null;
+  }
 
   // ---- edits
 
   paint(lane, from, to) {
     const letter = brushNow();
-    if (lane === null) { this.edited(); return true; }
     if (letter === LOOK || lane?.group === undefined) return false;
     for (let slot = from; slot <= to; slot++) this.setReception(slot, lane.group, letter);
     this.turn.abort();
@@ -67,44 +66,32 @@ class ScriptTab extends Tab {
   showStroke(receiver, from, to) {
     const ticks = this.timeline.lanes.find((lane) => lane.kind === "ticks" && lane.group === receiver);
     for (let slot = from; slot < Math.min(to + 1, ticks?.codes.length ?? 0); slot++) {
-      ticks.codes[slot] = player.kindHeard(this.sent.codes, PI, this.rows[slot].receptions[receiver], slot);
+      ticks.codes[slot] = player.kindHeard(this.sent.codes, this.rows[slot].receptions[receiver], slot);
     }
     this.timeline.draw();
   }
 
-  /* Says how the brush works while it is on. */
+  painted() { this.edited(); }
+
   showBrush() {
     const action = BRUSHES[brushNow()];
     const words = `A click or a drag on a receiver makes it ${action} the slots. Escape returns to “look”.`;
     $("brush-on").textContent = action ? words : "";
-    this.timeline.canvas.classList.remove("brushes");
-  }
-
-  /* Escape puts the brush away. */
-  putBrushAway({ key }) {
-    if (key !== "Escape" || brushNow() === LOOK) return;
-    document.querySelector(`[name=brush][value=${LOOK}]`).checked = true;
-    this.showBrush();
-  }
-
-  /* The pointer over a receiver has the form of a brush while the brush is on. */
-  point({ clientY }) {
-    const { canvas } = this.timeline, lane = this.timeline.laneAt(clientY - canvas.getBoundingClientRect().top);
-    canvas.classList.toggle("brushes", lane?.group !== undefined && brushNow() !== LOOK);
   }
 
   key(key, event) {
-    if (this.undoKey(key, event)) return true;
-    if (key === "Enter") { $("command").focus(); return true; }
-    const n = this.receivers, { timeline } = this;
-    if (n && (key === "ArrowDown" || key === "ArrowUp")) {
-      this.chosen = timeline.chosen = (this.chosen + (key === "ArrowDown" ? 1 : n - 1)) % n;
+    if (super.key(key, event)) return true;
+    const { timeline, chosen, receivers: n } = this, by = { ArrowDown: 1, ArrowUp: -1 }[key];
+    const letter = "lgr".includes(key) && key.toUpperCase();
+    if (key === "Enter") $("command").focus();
+    else if (!n || !(by || letter)) return false;
+    else if (letter) {
+      this.setReception(timeline.cursor, chosen, letter);
+      this.edited();
+    } else {
+      this.choose((chosen + n + by) % n);
       timeline.move(timeline.cursor, { keep: true });
-      return true;
     }
-    if (!n || !["l", "g", "r"].includes(key)) return false;
-    this.setReception(timeline.cursor, this.chosen, key.toUpperCase());
-    this.edited();
     return true;
   }
 
@@ -115,21 +102,17 @@ class ScriptTab extends Tab {
 
   /* A reception of the slot's group with the last bit wrong; a lost slot if none was sent. */
   wrongIn(slot) {
-    const [, second, third, fourth] = logfile.groupAt(this.sent, slot) ?? [];
-    return second === undefined ? "L" : `W${[second, third, fourth ^ 1].map(parts.hex).join("")}`;
+    const group = logfile.groupAt(this.sent, slot);
+    return group ? `W${group.with(3, group[3] ^ 1).slice(1).map(hex).join("")}` : "L";
   }
 
-  /* The rows were edited: notes the script for the undo, and plays it. */
   edited(how) {
     this.text = records.write(this.rows);
     this.undo.note(this.text);
     this.look(how);
   }
 
-  back(by) {
-    this.playedSoon.now();
-    super.back(by);
-  }
+  settle() { this.playedSoon.now(); }
 
   takeUndone(text) {
     this.take(text);
@@ -149,8 +132,7 @@ class ScriptTab extends Tab {
 
   commandChanged() { if (this.writeCommand()) this.edited(); }
 
-  /* A letter was typed: the row of its slot gets it at once, for another slot may be chosen before the rows are played.
-     */
+  /* The row of the slot gets each typed letter at once: another slot may be chosen before the rows are played. */
   argumentTyped() {
     if (!this.writeCommand()) return;
     this.turn.abort();
@@ -159,24 +141,21 @@ class ScriptTab extends Tab {
 
   /* A number of the form was changed: a script of another size is edited, and one of the same is played again. */
   formChanged() {
-    const n = this.rows[0]?.receptions.length ?? 0, count = Number(this.value("slots"));
-    const isSame = this.receivers === n && count === Math.max(1, this.rows.length);
-    if (isSame || parts.problemOf(this.field("form"))) { this.look(); return; }
-    while (this.rows.length < count) this.rows.push(records.empty(this.receivers));
-    this.rows.length = count;
-    if (this.receivers !== n) for (const row of this.rows) records.editReceivers(row, this.receivers);
-    this.chosen = Math.max(0, Math.min(this.chosen, this.receivers - 1));
+    const { rows, receivers } = this, n = receiversOf(rows), count = Number(this.value("slots"));
+    const isSame = receivers === n && count === Math.max(1, rows.length);
+    if (isSame || problemOf(this.field("form"))) { this.look(); return; }
+    while (rows.length < count) rows.push(records.empty(receivers));
+    rows.length = count;
+    if (receivers !== n) for (const row of rows) records.editReceivers(row, receivers);
     this.edited({ fit: true });
   }
 
   // ---- a script
 
-  /* Takes the rows of a script, and fills the form by them. */
   take(text) {
-    Object.assign(this, { text, rows: records.read(text) });
-    this.field("n").value = this.rows[0]?.receptions.length ?? 0;
-    this.field("slots").value = Math.max(1, this.rows.length);
-    this.chosen = Math.max(0, Math.min(this.chosen, this.receivers - 1));
+    const rows = records.read(text);
+    Object.assign(this, { text, rows });
+    this.setFields({ n: receiversOf(rows), slots: Math.max(1, rows.length) });
   }
 
   /* Opens a script: its text, and the program's input for this text, which for a file is the file's bytes. Returns when
@@ -188,67 +167,58 @@ class ScriptTab extends Tab {
     this.undo.begin(text);
     if (!await this.look({ fit: true })) return;
     const { firstMix, timeline, air: { parts: { text: onAir } } } = this;
-    if (firstMix) this.chosen = timeline.chosen = firstMix.receiver;
-    if (firstMix) timeline.move(firstMix.slot, { keep: true });
-    else if (onAir.length) timeline.move(Math.min(this.rows.length - 1, onAir.from(0) + this.m), { keep: true });
-  }
-
-  /* Names the example or the file of the text, and drops the link of another text. */
-  nameInput() {
-    const { opened, text } = this, isOpened = text === opened.text;
-    this.field("example").value = isOpened ? opened.example : "";
-    parts.nameFile("script", opened.file, !isOpened);
-    links.keep("script", { text, options: this.options() });
+    const behindFirst = onAir.length ? onAir.from(0) + Number(this.value("m")) : timeline.cursor;
+    if (firstMix) this.choose(firstMix.receiver);
+    timeline.move(firstMix?.slot ?? behindFirst, { keep: true });
   }
 
   prepare() {
-    this.nameInput();
-    parts.fill("script-text", this.text);
+    const { opened, text } = this, isOpened = text === opened.text;
+    this.setFields({ example: isOpened ? opened.example : "" });
+    this.nameFile(opened.file, !isOpened);
+    links.keep(this);
+    this.fillText(text);
   }
 
-  /* Plays the script in the worker, and shows what comes of it. */
   async show(signal, { fit = false }) {
     const { text, opened } = this, input = text === opened.text ? opened.input : text;
     const [m, k, w] = ["m", "k", "w"].map((name) => this.value(name));
-    const words = ["sim", "--pi", PI, "--pty", this.pty, "--m", m, "--k", k, ...rdsrt.windowWords(w), "--why"];
-    const given = { text, input: input === text ? undefined : input, words, pi: PI };
+    const given = { text, input: input === text ? undefined : input, pty: this.pty, m, k, w };
     const got = await this.program.ask("play", given, { signal }), values = new Texts(got.values);
-    const view = (packed) => new View(packed, values), { played, sent, fault, heard, notes } = got;
+    const view = (packed) => new View(packed, values), replies = new Map(got.replies.map((it) => [it.slot, it]));
+    const shown = { views: got.views.map(view), alone: got.alone.map(view), air: view(got.air), replies };
+    Object.assign(this, got, shown);
     $("brush-wrong").hidden = !w;
-    const shown = { views: got.receivers.map(view), alone: got.alone.map(view), air: view(got.air) };
-    Object.assign(this, shown, { played, sent, fault, heard, notes, m: Number(m), output: got.output });
-    this.replies = new Map(got.replies.map((it) => [it.slot, it]));
-    this.timeline.chosen = this.receivers ? this.chosen : null;
+    this.choose(this.chosen);
     this.timeline.show(this.lanes(), this.rows.length, { fit });
-    this.tellLines("script", `rdsrt ${words.join(" ")}`, got.output);
-    this.tellMixes();
-    const wait = lines.noteOf(notes, "slot ");
-    $("script-note").textContent = wait && `${wait}.`;
-    $("script-note").hidden = !wait;
-    this.tellFault();
+    this.tellLines("script", got.command, got.output);
+    const wait = lines.noteOf(got.notes, "slot ");
+    this.tell(this.mixesInWords(), wait && `${wait}.`, this.faultInNodes());
   }
 
   /* Why the page does not play these rows; empty if it does. */
   problem() {
-    const n = this.rows[0]?.receptions.length ?? 0, most = (name) => Number(this.field(name).max);
+    const n = receiversOf(this.rows), most = (name) => Number(this.field(name).max);
     if (n > most("n")) return `The script has ${number(n)} receivers. The page plays at most ${most("n")}.`;
     if (this.rows.length <= most("slots")) return super.problem();
-    return `The script has ${parts.counted(this.rows.length, "row")}. The page plays at most ${number(most("slots"))}.`;
+    return `The script has ${counted(this.rows.length, "row")}. The page plays at most ${number(most("slots"))}.`;
   }
 
   /* Shows why nothing is played, and no result of what was there before. What the page refuses is red. */
   showProblem(problem, { isRefused = false } = {}) {
     Object.assign(this, unplayed());
     this.timeline.show([], this.rows.length);
-    for (const id of ["script-count", "script-note"]) $(id).textContent = "";
-    $("script-note").hidden = true;
     this.tellLines("script", "", "");
-    $("script-fault").textContent = problem;
-    $("script-fault").classList.toggle("no", isRefused);
-    $("script-fault").hidden = false;
+    this.tell("", "", [problem], isRefused);
   }
 
-  /* The marks of restarts, of tags, and of what the station did not do. */
+  tell(count, note, fault, isRefused = false) {
+    $("script-count").textContent = count;
+    $("script-note").textContent = note;
+    $("script-fault").replaceChildren(...fault);
+    $("script-fault").classList.toggle("no", isRefused);
+  }
+
   marks() {
     return Marks.of([...this.replies.values()].flatMap(({ slot, what, reply }) => {
       if (what !== "restart" && reply !== "ok") return [{ slot, label: `${what} ${reply}`, kind: "refused" }];
@@ -257,73 +227,76 @@ class ScriptTab extends Tab {
   }
 
   lanes() {
-    const onAir = this.air.lanes(AIR), receivers = this.heard.flatMap((codes, group) => [
+    const receivers = this.heard.flatMap((codes, group) => [
       { name: `receiver ${group}`, kind: "ticks", codes, losses: true, group, gap: 14 },
       ...this.views[group].lanes(DWELL, { group, gap: 2 }), ...this.alone[group].lanes(ALONE, { group, gap: 2 }),
     ]);
-    Object.assign(onAir[0], { strong: true, gap: 8 });
     const sent = { name: "sent", kind: "ticks", codes: this.sent.codes };
-    return [sent, { name: "station", kind: "marks", marks: this.marks() }, ...onAir, ...receivers];
+    const station = { name: "station", kind: "marks", marks: this.marks() };
+    return [sent, station, ...this.air.lanes(AIR, {}, { strong: true, gap: 8 }), ...receivers];
   }
 
   // ---- mixes and faults
 
   /* How many texts, names and tags are mixes, in words. That no receiver with the dwell shows one is proved, so the
      page does not count these. */
-  tellMixes() {
+  mixesInWords() {
     const mixes = this.alone.flatMap((view, receiver) => Object.entries(view.parts).flatMap(([part, runs]) =>
       runs.mixes().map((i) => ({ receiver, slot: runs.from(i), part: part.replace(/[12]$/, "") }))));
-    const first = mixes.filter(({ receiver }) => receiver === mixes[0].receiver);
-    this.firstMix = first.length ? first.reduce((one, other) => other.slot < one.slot ? other : one) : null;
+    mixes.sort((one, other) => one.receiver - other.receiver || one.slot - other.slot);
+    const [first = null] = mixes;
+    this.firstMix = first;
     const count = (part) => mixes.filter((it) => it.part === part).length;
-    const inWords = (part) => count(part) === 1 ? `a ${part}` : parts.counted(count(part), part);
+    const inWords = (part) => count(part) === 1 ? `a ${part}` : counted(count(part), part);
     const kinds = ["text", "name", "tag"].filter(count).map(inWords);
-    const words = mixes.length ? `With the flag bit alone, receivers show ${mixes.length === 1 ? "a mix" : "mixes"}: `
-      + `${kinds.join(" and ")}. With the dwell none does.`
-      : "No receiver shows a mix here. Lose more slots: a whole text and the next flip of the flag.";
-    $("script-count").textContent = this.receivers === 0 || this.fault ? "" : words;
+    if (this.receivers === 0 || this.fault) return "";
+    if (!first) return "No receiver shows a mix here. Lose more slots: a whole text and the next flip of the flag.";
+    const one = mixes.length === 1 ? "a mix" : "mixes";
+    return `With the flag bit alone, receivers show ${one}: ${kinds.join(" and ")}. With the dwell none does.`;
   }
 
-  /* A fault of the script, by the program's note; and a button to the line of a bad row in the text that was played. */
-  tellFault() {
-    const { fault } = this, root = $("script-fault"), row = /^fault row (\d+)/.exec(fault ?? "");
-    root.hidden = !fault;
-    root.classList.remove("no");
-    root.replaceChildren();
-    if (!fault) return;
-    root.append(...parts.nodesOf(`${lines.noteOf(this.notes, fault) || fault}.`));
-    const bad = row && records.read(this.text)[Number(row[1]) - 1];
-    if (!bad) return;
-    const button = parts.make("button", { type: "button", textContent: "Show the line" });
-    button.onclick = () => parts.goToLine("script-text", bad.line);
-    root.append(" The rows after it are not played. ", button);
+  /* A fault of the script, by the program's note; and a button to a bad row in the text that was played. */
+  faultInNodes() {
+    const { fault, notes, text } = this, row = /^fault row (\d+)/.exec(fault ?? "");
+    const bad = row && records.read(text)[Number(row[1]) - 1], onclick = () => this.showRow(bad);
+    const button = make("button", { type: "button", textContent: "Show the line", onclick });
+    const words = fault ? nodesOf(`${lines.noteOf(notes, fault) || fault}.`) : [];
+    return [...words, ...bad ? [" The rows after it are not played. ", button] : []];
+  }
+
+  /* Opens the text and chooses the line in which a row begins. Each line end is one letter of the field. */
+  showRow({ start }) {
+    const area = $("script-text"), before = this.text.slice(0, start).replace(/\r\n?/g, "\n"), { length } = before;
+    area.closest("details").open = true;
+    area.focus();
+    area.setSelectionRange(length, length + area.value.slice(length).search(/$/m));
+    const line = before.split("\n").length, { lineHeight } = getComputedStyle(area);
+    area.scrollTop = Math.max(0, (line - 4) * parseFloat(lineHeight));
   }
 
   // ---- a slot
 
-  /* Names what the receiver does in the slot. */
   receptionInWords(letter, slot) {
     if (letter[0] !== "G") return { L: "loses", R: "restarts", W: "gets a wrong group" }[letter[0]] ?? "";
     return letter.length > 1 ? `gets slot ${slot - Number(letter.slice(1))}` : "gets";
   }
 
   showSlot(slot) {
-    const i = this.chosen, row = this.rows[slot], n = this.receivers, reply = this.replies.get(slot);
-    const isPlayed = slot < this.played;
+    const { chosen, receivers: n } = this, row = this.rows[slot], reply = this.replies.get(slot);
+    const view = this.views[chosen], alone = this.alone[chosen], isPlayed = slot < this.played;
     const orUnplayed = (word) => isPlayed ? word : UNPLAYED, none = isPlayed ? undefined : UNPLAYED;
-    const got = orUnplayed(this.receptionInWords(row?.receptions[i] ?? "", slot));
-    const view = this.views[i], radio = this.alone[i], named = (what) => n ? `Receiver ${i}, ${what}` : "No receiver";
-    const airLed = reply ? `${reply.what} ${reply.reply}` : orUnplayed(logfile.groupAt(this.sent, slot) ? "sends" : "");
-    const radioOptions = { led: orUnplayed(parts.staleAt(radio, slot)), none, mixed: parts.MIXED };
-    parts.radio($("script-air"), "On air", this.air, slot, { led: airLed, none: orUnplayed("silence") });
-    parts.radio($("script-radio"), named("with the dwell"), view, slot, { led: got, none });
-    parts.radio($("script-alone"), named("flag bit alone"), radio, slot, radioOptions);
-    $("script-why").textContent = parts.whyNoMix(view, radio, slot);
+    const named = (what) => n ? `Receiver ${chosen}, ${what}` : "No receiver";
+    const got = orUnplayed(this.receptionInWords(row?.receptions[chosen] ?? "", slot));
+    const sent = reply ? `${reply.what} ${reply.reply}` : orUnplayed(logfile.groupAt(this.sent, slot) ? "sends" : "");
+    const stale = { led: orUnplayed(staleAt(alone, slot)), none, mixed: MIXED };
+    const onAir = radio($("script-air"), "On air", this.air, slot, { led: sent, none: orUnplayed("silence") });
+    const shown = radio($("script-radio"), named("with the dwell"), view, slot, { led: got, none });
+    const other = radio($("script-alone"), named("flag bit alone"), alone, slot, stale);
+    $("script-why").textContent = whyNoMix(view, alone, slot);
     this.showCommand(slot, row);
     if (!isPlayed) return `${UNPLAYED}.`;
-    const air = `On air ${parts.inWords(this.air, slot)}.`;
-    const shown = parts.inWords(view, slot), otherShown = parts.inWords(radio, slot, radioOptions);
-    return n ? `${air} Receiver ${i} ${got}: ${shown}. With the flag bit alone: ${otherShown}.` : air;
+    const received = n ? ` Receiver ${chosen} ${got}: ${shown}. With the flag bit alone: ${other}.` : "";
+    return `On air ${onAir}.${received}`;
   }
 
   /* The field shows the begin of an argument that is far too long, and takes no letters then. */
@@ -331,7 +304,8 @@ class ScriptTab extends Tab {
     const field = $("argument"), isLong = argument.length > LONG_ARGUMENT;
     $("at-slot").textContent = `Slot ${number(slot)}`;
     if (document.activeElement !== field || field.readOnly) {
-      $("command").value = COMMANDS.includes(command) ? command : "-";
+      $("command").value = command;
+      $("command").value ||= "-";
       field.value = isLong ? `${argument.slice(0, LONG_ARGUMENT)}…` : argument;
       field.readOnly = isLong;
     }
@@ -343,37 +317,26 @@ class ScriptTab extends Tab {
   // ---- saving, and a link
 
   isUnsaved() {
-    this.playedSoon.now();
+    this.settle();
     return this.text !== this.saved && this.text !== this.opened.text;
   }
 
   save() {
-    this.playedSoon.now();
+    this.settle();
     this.saved = this.text;
-    picture.saveAs(picture.nameFor("script", ".csv"), new Blob([this.text], { type: "text/csv" }));
+    picture.saveAs(picture.nameFor("script", ".csv"), this.text, "text/csv");
   }
 
   options() { return `${super.options()}&pty=${this.pty}`; }
   moreSight() { return `&receiver=${this.chosen}`; }
   shared(text) { this.saved = text; }
-
-  share() {
-    this.playedSoon.now();
-    return super.share();
-  }
-
   settingsOf({ option }) { return { pty: String(option("pty", 0, 31, 10)) }; }
+  afterLink({ within }) { this.choose(within("receiver", 0, this.receivers - 1) ?? this.chosen); }
 
-  afterLink({ within }) {
-    this.chosen = within("receiver", 0, this.receivers - 1) ?? this.chosen;
-    this.timeline.chosen = this.receivers ? this.chosen : null;
-  }
-
-  /* Begins with the compiled program. */
   begin(compiled) {
     super.begin(["m", "k", "w", "n", "slots"], () => this.formChanged());
     this.program = new Program(compiled);
-    $("script-text").oninput = parts.soon(() => {
+    $("script-text").oninput = soon(() => {
       const area = $("script-text"), at = area.selectionStart;
       this.take(area.value);
       this.undo.note(this.text);
@@ -381,9 +344,9 @@ class ScriptTab extends Tab {
       area.selectionStart = area.selectionEnd = at;
     });
     for (const id of ["command", "free"]) $(id).onchange = () => this.commandChanged();
-    for (const it of document.querySelectorAll("[name=brush]")) it.onchange = () => this.showBrush();
-    $("script").addEventListener("keydown", (event) => this.putBrushAway(event));
-    this.timeline.canvas.addEventListener("pointermove", (event) => this.point(event));
+    for (const it of brushes()) it.onchange = () => this.showBrush();
+    // Escape puts the brush away
+    $("script").onkeydown = ({ key }) => { if (key === "Escape" && brushNow() !== LOOK) brushes()[0].click(); };
     $("argument").oninput = () => this.argumentTyped();
     $("command-form").addEventListener("submit", () => this.commandChanged());
     $("script-stop").onclick = () => this.turn.abort(new Error("Playing was stopped"));

@@ -1,14 +1,17 @@
-/* What the tabs of a log and of a script share: one look at a time, undo, links, and what is not saved. A tab has
-   `text` for a link, `show` for a look, `showProblem`, `settingsOf` for the options of a link, `open`, `save` and
-   `isUnsaved`. */
+/* What the tabs of a log and of a script share: a timeline, one look at a time, undo, links, and what is not saved. A
+   tab has `text` for a link, `show` for a look, `showProblem`, `settingsOf` for the options of a link, `open`, `save`
+   and `isUnsaved`, and for its timeline `showSlot`, `paint` and `painted`, `station`, and its answer `inOneLine`. */
 import { Undo } from "../model/undo.js";
 import * as links from "./links.js";
-import { $, fill, problemOf, soon, waits } from "./parts.js";
+import { $, entitle, isolated, problemOf, soon } from "./parts.js";
+import { Timeline } from "./timeline.js";
 
 /* The tabs of the page in their order. A file adds its own: an object with an id, which is that of its section, a title
    and `begin`. One with an input has `open` too. */
 export const TABS = [];
 export const added = (it) => TABS[TABS.push(it) - 1];
+/* The milliseconds after which a tab shows that it waits, and the most letters of an output that is shown. */
+const PATIENCE = 150, MOST = 400_000;
 
 export class Tab {
   constructor(id, title) {
@@ -16,6 +19,7 @@ export class Tab {
     this.undo = new Undo((it) => {
       for (const [name, by] of [["undo", -1], ["redo", 1]]) this.field(name).disabled = !it.has(by);
     });
+    this.timeline = new Timeline(this);
   }
 
   field(name) { return $(`${this.id}-${name}`); }
@@ -25,6 +29,27 @@ export class Tab {
     for (const [name, value] of Object.entries(values)) if (value !== undefined) this.field(name).value = value;
   }
 
+  /* Shows which file the tab holds, and whether it was edited; nothing if it holds none. */
+  nameFile(name, isEdited = false) {
+    this.field("file-name").replaceChildren(...name ? [isolated(name), isEdited ? ", edited" : ""] : []);
+    entitle();
+  }
+
+  /* Shows what a command prints. A long text is closed: then the browser does not lay it out. */
+  tellLines(name, command, text) {
+    const element = $(`${name}-lines`), isLong = text.length > MOST;
+    if (isLong) element.closest("details").open = false;
+    element.textContent = isLong ? `${text.slice(0, MOST)}…` : text;
+    $(`${name}-command`).textContent = command;
+  }
+
+  fillText(text) {
+    if (text.length > MOST) this.field("text").closest("details").open = false;
+    if (this.value("text") !== text) this.field("text").value = text;
+  }
+
+  // ---- a look
+
   /* Notes what is in work, so that a test can wait for it. */
   working(promise) { return this.work = promise; }
 
@@ -32,66 +57,79 @@ export class Tab {
   look(how = {}) { return this.working(this.lookNow(how)); }
   async lookNow(how) {
     this.turn.abort();
-    this.turn = new AbortController();
-    const { signal } = this.turn, done = waits(this.id, this.waitsFor, () => this.showWait());
+    const { signal } = this.turn = new AbortController();
+    clearTimeout(this.timer);
+    const timer = this.timer = setTimeout(() => this.wait(true), PATIENCE);
     try {
       this.prepare();
       const problem = this.problem();
       if (problem) throw new Error(problem);
       await this.show(signal, how);
+      return true;
     } catch (error) {
       // another look has taken the place of this one
       if (signal.reason?.name !== "AbortError") this.showProblem(error.message.replace(/\.?$/, "."));
       return false;
-    } finally { done(); }
-    return true;
+    } finally {
+      clearTimeout(timer);
+      if (this.timer === timer) this.wait(false);
+    }
+  }
+
+  wait(isWaiting) {
+    $(this.id).ariaBusy = isWaiting ? "true" : null;
+    this.field("wait").hidden = !isWaiting;
+    if (isWaiting) this.field("waits").textContent = this.waitsFor;
   }
 
   prepare() {}
-  showWait() {}
   problem() { return problemOf(this.field("form")); }
 
-  /* The numbers of the form as a link has them. */
-  options() {
-    const w = this.value("w");
-    return `m=${this.value("m")}&k=${this.value("k")}${w ? `&w=${w}` : ""}`;
-  }
+  // ---- what a timeline asks for
 
-  /* Shows what a command prints. */
-  tellLines(name, command, text) {
-    $(`${name}-command`).textContent = command;
-    fill(`${name}-lines`, text);
-  }
+  choose() {}
+  /* The clock, the line, and the seconds of the day of a slot. */
+  clock() { return ""; }
+  line() { return ""; }
+  seconds() { return NaN; }
 
-  /* Goes back (-1) or forth (1) over the edits. */
-  back(by) {
-    const text = this.undo.go(by);
-    if (text !== undefined) this.takeUndone(text);
-  }
-
-  /* The keys of a timeline that edits: undo and redo. */
-  undoKey(key, event) {
+  /* The keys of undo and redo. Returns whether it is one with Ctrl. */
+  key(key, event) {
     if (!event.ctrlKey && !event.metaKey) return false;
     if (key === "z" || key === "y") this.back(key === "y" || event.shiftKey ? 1 : -1);
     return true;
   }
 
-  async share() {
-    const { id, text } = this, sight = links.sightOf(this.timeline) + this.moreSight();
-    if (await links.give(id, { text, options: this.options(), sight }, () => this.save())) this.shared(text);
+  /* Goes back (-1) or forth (1) over the edits. */
+  back(by) {
+    this.settle();
+    const text = this.undo.go(by);
+    if (text !== undefined) this.takeUndone(text);
+  }
+
+  // ---- links
+
+  options() {
+    return ["m", "k", "w"].filter((it) => this.value(it)).map((it) => `${it}=${this.value(it)}`).join("&");
   }
 
   moreSight() { return ""; }
   shared() {}
+  /* Takes what was typed last at once. */
+  settle() {}
 
-  /* Opens a link, and returns when it is shown. */
+  share() {
+    this.settle();
+    return links.give(this);
+  }
+
   async openLink(hash, defaults) {
-    const it = await links.read(this.id, hash), { text, option } = it;
+    const it = await links.read(this, hash), { text, option } = it;
     const numbers = { m: option("m", 1, 65535), k: option("k", 0, 1024, defaults.k), w: option("w", 2, 255, "") };
     await this.open(text, { ...numbers, ...this.settingsOf(it) });
     this.afterLink(it);
     links.look(this.timeline, it);
-    links.hold(this.id, { text, options: this.options() }, hash);
+    links.hold(this, { text, options: this.options(), hash });
   }
 
   /* Opens nothing, and says why. */
@@ -105,7 +143,6 @@ export class Tab {
     for (const name of names) this.field(name).oninput = soon(changed);
     this.field("undo").onclick = () => this.back(-1);
     this.field("redo").onclick = () => this.back(1);
-    this.field("share").onclick = () => this.share();
-    this.field("save").onclick = () => this.save();
+    for (const name of ["share", "save"]) this.field(name).onclick = () => this[name]();
   }
 }
