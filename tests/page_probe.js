@@ -49,18 +49,20 @@ const probe = (() => {
     return [text.length, some.map((i) => [text.from(i), text.value(i)])];
   }
 
+  const piecesOf = (list) => Array.from({ length: list?.length ?? 0 }, (_, i) => list.pieces(i)).flat();
+
   /* The bars of the receivers' lanes of the script. */
   function bars() {
     const all = scriptTab.timeline.lanes.filter((lane) => lane.kind === "bars" && lane.group !== undefined);
-    return all.map((lane) => [...lane.runs].map((run) => [lane.name, run.from, run.to, run.value, run.mix, Boolean(run.old)]));
+    return all.map((lane) => piecesOf(lane.runs).map((run) => [lane.name, run.from, run.to, run.value, run.mix, Boolean(run.old)]));
   }
 
   /* The slots in which something begins in a lane of a timeline. */
-  const begins = (tab) => timelineOf(tab).lanes.flatMap((lane) => [...lane.runs ?? lane.marks ?? []].map(({ from }) => from));
+  const begins = (tab) => timelineOf(tab).lanes.flatMap((lane) => piecesOf(lane.runs ?? lane.marks).map(({ from }) => from));
 
   /* The places and the words of all marks of a timeline. */
   function marks(tab) {
-    const all = [...laneOf(timelineOf(tab), "events").marks];
+    const all = piecesOf(laneOf(timelineOf(tab), "events").marks);
     return [all.map((mark) => timelineOf(tab).x(mark.from)), all.map((mark) => mark.label)];
   }
 
@@ -72,7 +74,7 @@ const probe = (() => {
 
   /* The last lines of a lane of the script: where each ends. */
   const endsOfLanes = () =>
-    scriptTab.timeline.lanes.map((lane) => lane.codes?.length ?? [...lane.runs ?? []].at(-1)?.to ?? 0);
+    scriptTab.timeline.lanes.map((lane) => lane.codes?.length ?? piecesOf(lane.runs).at(-1)?.to ?? 0);
 
   /* The witness that is shown. */
   const witness = () => logTab.witness;
@@ -132,9 +134,9 @@ const probe = (() => {
     return name;
   }
 
-  /* Status, output and notes of the program in the page over these bytes. */
-  function run(words, bytes) {
-    const { status, output, notes } = rdsrt.run(words, Uint8Array.from(bytes));
+  /* Status, output and notes of the program in the page over this text, or over these bytes. */
+  function run(words, input) {
+    const { status, output, notes } = rdsrt.run(words, typeof input === "string" ? input : Uint8Array.from(input));
     return [status, output, notes];
   }
 

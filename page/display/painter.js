@@ -54,8 +54,7 @@ export function watchInks(root, take) {
   take(inks(root));
 }
 
-/* Gives a canvas its width and its height, in pixels of the screen. Returns its clean context. What is above `top` is
-   out of sight. */
+/* Sizes a canvas in pixels of the screen, and returns its clean context. What is above `top` is out of sight. */
 export function sized(canvas, width, height, top = 0) {
   const scale = devicePixelRatio || 1, [w, h] = [width, height - top].map((length) => Math.round(length * scale));
   if (canvas.style.height !== `${height - top}px`) canvas.style.height = `${height - top}px`;
@@ -176,8 +175,7 @@ function codeOfTexts(low, high) {
   return high ? lines.TEXT | lines.FLAG : lines.TEXT;
 }
 
-/* Draws more slots than pixels: a column is as high as the share of its slots with a group, and has the flag of its
-   texts. */
+/* Draws more slots than pixels. A column is as high as its share of groups, and has the flag of its texts. */
 function narrowTicks(ctx, lane, sight, ink) {
   const { codes } = lane, counts = new Uint32Array(16);
   const slotAt = (column) => Math.floor(sight.from + column / sight.room * sight.across);
@@ -208,8 +206,7 @@ function hatch(ctx, x, { top, height }, width, end, ink) {
   });
 }
 
-/* Draws a bar without its label: filled in a shade of its kind, an outline of dashes if it is old, hatched if nobody
-   sent it. */
+/* Draws a bar without its label: filled, an outline of dashes if it is old, hatched if nobody sent it. */
 function ground(ctx, run, x, width, lane, sight, ink) {
   const isOld = run.old && !run.mix, shade = isOld ? "stale" : `shade-${run.kind}-${run.shade}`;
   ctx.fillStyle = ctx.strokeStyle = ink[run.mix ? "wrong" : shade];

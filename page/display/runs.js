@@ -14,7 +14,6 @@ export function labelOf(value) {
 /* The values of displays: strings, and tags as { kind, text }. */
 export class Texts {
   constructor({ text, ends, shades }) { Object.assign(this, { text, ends, shades }); }
-  get length() { return this.shades.length; }
 
   at(number) {
     const packed = this.text.slice(number ? this.ends[number - 1] : 0, this.ends[number]);
@@ -34,8 +33,6 @@ export function lastAt(length, slotOf, slot) {
 }
 
 class List {
-  *[Symbol.iterator]() { for (let i = 0; i < this.length; i++) yield* this.pieces(i); }
-
   get length() { return this.starts.length; }
   from(i) { return this.starts[i]; }
   to(i) { return i + 1 < this.length ? this.starts[i + 1] : this.end; }

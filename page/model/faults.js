@@ -1,5 +1,4 @@
-/* Reads what `audit --all` prints: a line for each fault of a log, and a note for each kind. And what `witness`
-   prints. */
+/* Reads what `audit --all` prints: a line for each fault, and a note for each kind. And what `witness` prints. */
 
 const LINE = /^no (\d+) (\w+)$/gm;
 const COUNT = /^(\d+ of \d+ \w+): (\w+)(?:, first)? in (slot .*?)(?:, last in (slot .*))?$/;
@@ -25,8 +24,7 @@ function placeIn(words) {
   return { words, slot: Number(slot), clock: CLOCK.exec(time)?.[0] ?? time };
 }
 
-/* Returns the kinds in the notes: how many, of what kind, and the first and the last of them. A single fault is only
-   the first. */
+/* Returns the kinds in the notes: how many, of what kind, and the first and the last. A single fault is the first. */
 export function counts(notes) {
   return notes.map((note) => COUNT.exec(note)).filter(Boolean).map(([note, count, kind, ...places]) =>
     ({ note, count, kind, places: places.filter(Boolean).map(placeIn) }));

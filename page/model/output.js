@@ -28,12 +28,8 @@ export class Values {
   /* All values as one text, which is handed over faster than many; and for each where it ends in the text, and a shade:
      those of its kind, in turn. */
   packed() {
-    const all = [...this.numbers.keys()], counts = {};
-    const shadeOf = (value) => {
-      const [kind] = value.split(" ", 1);
-      counts[kind] = (counts[kind] ?? -1) + 1;
-      return counts[kind] % SHADES;
-    };
+    const all = [...this.numbers.keys()], counts = { text: 0, name: 0, tags: 0 };
+    const shadeOf = (value) => counts[value.slice(0, value.indexOf(" "))]++ % SHADES;
     let end = 0;
     const ends = Int32Array.from(all, ({ length }) => end += length);
     return { text: all.join(""), ends, shades: Uint8Array.from(all, shadeOf) };

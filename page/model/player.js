@@ -16,8 +16,7 @@ export function kindHeard(codes, reception = "L", slot) {
   return letter === "G" && source >= 0 ? codes[source] & ~lines.FLAG || lines.OTHER : lines.NOTHING;
 }
 
-/* Reads the output of `sim` over so many rows: the displays, the groups in typed arrays as those of a log are, with
-   their codes, and the replies. */
+/* Reads the output of `sim`: the displays, the groups in typed arrays as those of a log are, and the replies. */
 function read(text, count, values) {
   const words = new Uint16Array(4 * count), missing = new Uint8Array(count).fill(15), codes = new Uint8Array(count);
   const replies = [], { displays, fault } = output.read(text, values, (slot, what, reply) => {
@@ -33,8 +32,7 @@ function read(text, count, values) {
   return { packed, replies, sent: { ...sent, codes: codes.slice(0, played) }, fault, played };
 }
 
-/* Plays a script with its receivers, and with radios in their places. `input` is the program's input for its text, if
-   that is another one. */
+/* Plays a script with its receivers, and with radios in their places. `input` is what the program gets. */
 export function play({ text, input = text, pty, m, k, w }) {
   const words = ["sim", "--pi", PI, "--pty", pty, "--m", m, "--k", k, ...rdsrt.windowWords(w), "--why"];
   const got = rdsrt.run(words, input), rows = records.read(text), values = new output.Values();

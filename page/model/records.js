@@ -1,7 +1,6 @@
 /* The records of a script, as its definition reads them. */
 
-/* A field and what ends it. The rules are those of the program's reader: quotation marks are those at its start, and a
-   carriage return ends a record too. */
+/* A field and what ends it, as the program reads them. Quotation marks within a field are letters of it. */
 const FIELD = /(?:"([^"]*(?:""[^"]*)*)("?))?([^,\r\n]*)(,|\r\n|[\r\n]|$)/y;
 
 /* Reads the record that begins at `at`: its fields, the end behind its line end, and whether it ends in quotes. */

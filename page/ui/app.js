@@ -52,8 +52,7 @@ function beginTabs() {
 
 // ---- files
 
-/* A script has a comma in its first line. No line of a log has one before its 20th byte. The content decides before the
-   extension does. */
+/* The content decides before the extension: a script has a comma in its first line, and a log has blocks there. */
 const SCRIPT = /^\uFEFF?(?:\r?\n)*(?:-|text|name|tags|restart|"[a-z-]+"),/;
 const LOG = /^\uFEFF?(?:(?:[<#%].*|[ \t]*)\r?\n)*(?:[\dA-Fa-f]{4}|----) (?:[\dA-Fa-f]{4}|----) /;
 const isScript = (name, text) => SCRIPT.test(text) || (/\.csv$/i.test(name) && !LOG.test(text));

@@ -36,8 +36,7 @@ function showTimes({ m, k, free }) {
   }
 }
 
-/* An answer: the largest M + K, whether the chosen one fits, which M the longest text needs at this share of free
-   slots, and a button for the largest M with the chosen K. */
+/* An answer: the largest M + K, whether the chosen one fits, the M for the longest text, and a button for M. */
 function answer(isOwn, most, { m, k, free }) {
   const greatest = Math.min(MOST, most - k), least = Math.ceil(LONGEST / free);
   const set = () => {

@@ -1,5 +1,4 @@
-/* All faults of a log, as the program lists them: a strip with a row for each kind and a column for each hour, and a
-   table with the program's counts. */
+/* All faults of a log, as the program lists them: a strip by kind and hour, and a table with its counts. */
 import { timeOf } from "../display/painter.js";
 import { $, grouped, make, nodesOf, number } from "./parts.js";
 
@@ -7,8 +6,7 @@ import { $, grouped, make, nodesOf, number } from "./parts.js";
    column may have. A day has 25 columns if it does not begin with an hour. */
 const COLUMNS = 26, LABELS = 6, STEPS = [60, 600, 3600, 21_600, 86_400];
 
-/* The columns of a log: parts of the day by its clock, or even parts if a line has no time. `of` returns the column of
-   a slot, and `name` the words for a column. */
+/* The columns of a log: parts of the day by its clock, or even parts if a line has no time. */
 function columnsOf({ clocks, count }) {
   const [first, last] = [Math.min, Math.max].map((one) => clocks.reduce((a, b) => one(a, b)));
   const isTimed = !Number.isNaN(first), [low, high] = isTimed ? [first, last] : [0, count - 1];

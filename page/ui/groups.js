@@ -19,8 +19,7 @@ function characters(pi, third, fourth) {
   return SHOWN.exec(rdsrt.run(["decode", "--pi", pi], text).output)?.[1] ?? "";
 }
 
-/* Of a text or a name its flag, its segment and its characters. Of an announcement the data service, by its number
-   (AID), and the group type that carries it. */
+/* The flag, the segment and the characters of a text or a name; the number (AID) and the group of a service. */
 function details([pi, second, third, fourth], type) {
   const service = second & SERVICE, carrier = `${service >> 1}${service & 1 ? "B" : "A"}`;
   const aid = `AID ${hex(fourth)}${fourth === RADIOTEXT_PLUS ? " (RadioText Plus)" : ""}`;

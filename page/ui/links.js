@@ -1,5 +1,4 @@
-/* Links that hold a log or a script, and the address of the page. A link has the letters of the text, the options, the
-   slot, the zoom and an end mark. */
+/* Links that hold a log or a script, with the options, the slot, the zoom and an end mark; and the address. */
 import { $, make } from "./parts.js";
 
 /* The most bytes of a link, and of its text: a few letters can hold many bytes. */

@@ -11,8 +11,7 @@ export const make = (tag, props = {}, ...inside) => {
   element.append(...inside);
   return element;
 };
-/* Copies the elements of a template. `given` has by name the words or the nodes for an element, what a button does, and
-   whether there is an element at all. */
+/* Copies a template. `given` has the words or nodes of elements, what buttons do, and whether elements are there. */
 export function filled(id, given) {
   const copy = $(id).content.cloneNode(true), named = (name) => copy.querySelectorAll(`[data-${name}]`);
   for (const it of named("if")) if (!given[it.dataset.if]) it.remove();

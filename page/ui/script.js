@@ -238,8 +238,7 @@ class ScriptTab extends Tab {
 
   // ---- mixes and faults
 
-  /* How many texts, names and tags are mixes, in words. That no receiver with the dwell shows one is proved, so the
-     page does not count these. */
+  /* How many texts, names and tags are mixes. That no receiver with the dwell shows one is proved. */
   mixesInWords() {
     const mixes = this.alone.flatMap((view, receiver) => Object.entries(view.parts).flatMap(([part, runs]) =>
       runs.mixes().map((i) => ({ receiver, slot: runs.from(i), part: part.replace(/[12]$/, "") }))));

@@ -6,8 +6,7 @@ import { $, number } from "./parts.js";
 import * as picture from "./picture.js";
 import { Play } from "./play.js";
 
-/* The fewest slots in sight, the pixels that a pointer may move in a click, and the pixels of a wheel that show twice
-   or half as many slots. */
+/* The fewest slots in sight, the pixels that a click may move, and those of a wheel that double the slots. */
 const LEAST = 8, STILL = 3, WHEEL = 300;
 
 export class Timeline {
@@ -183,8 +182,7 @@ export class Timeline {
     this.follow(second, go, () => {});
   }
 
-  /* The wheel shows fewer slots, or more until all are in sight. Sideways, or with Shift, it shows earlier and later
-     ones. */
+  /* The wheel shows fewer slots, or more until all are in sight. Sideways, or with Shift, it moves them. */
   wheel(event) {
     const { deltaX, deltaY, shiftKey } = event, isSideways = shiftKey || Math.abs(deltaX) > Math.abs(deltaY);
     if (this.across >= this.count && (isSideways || deltaY > 0)) return;

@@ -36,8 +36,7 @@ function told(note) {
   return `${words.slice(0, 1).toUpperCase()}${words.slice(1)}.`;
 }
 
-/* The slot and the fault of a no, where it is and the rule that is broken there, in the words of the program, and the
-   cure; nothing after another answer. */
+/* The slot and the fault of a no, the rule in the words of the program, and the cure; null after another answer. */
 function noOf({ audit: { output, notes }, log, pi }, { goTo, stopSearch }) {
   const [, digits, fault] = /^no (\d+) (\w+)/.exec(output) ?? [], slot = Number(digits);
   if (!fault) return null;
@@ -71,8 +70,7 @@ function doubtsOf({ audit, log, groups, times }) {
   };
 }
 
-/* The first and the last slot of the pause that made a text begin anew, if the log has no group in it: the recording
-   lost them, or nothing was sent. */
+/* The ends of the pause that made a text begin anew, if the log has no group in it: were its slots recorded? */
 function lostPause({ audit, log, m, k }) {
   const pause = PAUSE.exec(audit.notes.join("\n"));
   if (!pause) return null;
