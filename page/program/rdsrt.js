@@ -40,15 +40,9 @@ function call(words, input, room, heap) {
   module.rdsrt_heap(BigInt(at.heap), BigInt(at.end));
   const given = [at.words, words.length, at.input, input.length], taken = [at.output, room, at.notes, NOTES];
   module.rdsrt_run(...[at.ended, ...given, ...taken].map(BigInt));
-  const ended = new DataView(module.memory.buffer, at.ended, 32);
-  return {
-    length: Number(ended.getBigUint64(0, true)),
-    failures: Number(ended.getBigUint64(8, true)),
-    noted: Number(ended.getBigUint64(16, true)),
-    status: ended.getUint8(24),
-    at,
-    heap: Number(module.rdsrt_heap_at()) - at.heap,
-  };
+  const ended = new DataView(module.memory.buffer, at.ended, 32), used = Number(module.rdsrt_heap_at()) - at.heap;
+  const [length, failures, noted] = [0, 8, 16].map((place) => Number(ended.getBigUint64(place, true)));
+  return { at, length, failures, noted, status: ended.getUint8(24), used };
 }
 
 const bytesAt = (at, length) => new Uint8Array(module.memory.buffer, at, length);
@@ -61,7 +55,7 @@ export function runBytes(words, input) {
   const bytes = typeof input === "string" ? encoder.encode(input) : input, from = performance.now();
   let room = ROOM + 4 * bytes.length, heap = HEAP + 2 * room;
   for (;;) {
-    const { at, status, failures, noted, length, heap: used } = call(given, bytes, room, heap), fits = length <= room;
+    const { at, length, failures, noted, status, used } = call(given, bytes, room, heap), fits = length <= room;
     const last = Math.min(length, FAULT.length), hasFault = fits && textAt(at.output + length - last, last) === FAULT;
     if (failures > 0 || hasFault) {
       heap *= 4;

@@ -24,7 +24,7 @@ const run = (words, bytes = state.bytes) => rdsrt.run(words, bytes);
 /* Whether most of some lines have digits of a time behind their blocks. */
 const SOME = 1000, TIME = /\d[:.]\d/, LONGEST = 80;
 function looksTimed({ starts, count }) {
-  const step = Math.ceil(count / SOME), some = Array.from(starts).filter((_, slot) => slot % step === 0);
+  const step = Math.ceil(count / SOME), some = starts.filter((_, slot) => slot % step === 0);
   const end = (at) => Math.min(logfile.endOf(state.bytes, at), at + LONGEST);
   const rest = (at) => new TextDecoder().decode(state.bytes.subarray(at + logfile.BLOCKS, end(at)));
   return 2 * some.filter((at) => TIME.test(rest(at))).length > some.length;

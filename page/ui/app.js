@@ -57,12 +57,11 @@ const SCRIPT = /^\uFEFF?(?:\r?\n)*(?:-|text|name|tags|restart|"[a-z-]+"),/;
 const LOG = /^\uFEFF?(?:(?:[<#%].*|[ \t]*)\r?\n)*(?:[\dA-Fa-f]{4}|----) (?:[\dA-Fa-f]{4}|----) /;
 const isScript = (name, text) => SCRIPT.test(text) || (/\.csv$/i.test(name) && !LOG.test(text));
 
-/* The bytes of a file in UTF-8. Windows writes some text in UTF-16. */
+/* The bytes of a file in UTF-8. Windows writes some text in UTF-16. A log is read without a byte-order mark. */
 function inUtf8(bytes) {
   const encoding = { "255,254": "utf-16le", "254,255": "utf-16be" }[String(bytes.subarray(0, 2))];
   return encoding ? new TextEncoder().encode(new TextDecoder(encoding).decode(bytes)) : bytes;
 }
-
 const plainLog = (bytes) => String(bytes.subarray(0, 3)) === "239,187,191" ? bytes.subarray(3) : bytes;
 
 /* Asks whether edits that nobody saved may go. Until it is answered, another question gets a no. */
@@ -152,12 +151,10 @@ function beginInput(it) {
 }
 
 function beginStart() {
-  const exampleButton = ({ name }, i) => {
-    // the start is hidden then, so the focus goes to the same examples in the bar
-    const onclick = () => { openExample(logTab, i); $("log-example").focus(); };
-    return make("li", {}, make("button", { type: "button", textContent: name, onclick }));
-  };
-  $("log-start-examples").replaceChildren(...RDSRT_EXAMPLES.log.map(exampleButton));
+  // the start is hidden then, so the focus goes to the same examples in the bar
+  const open = (i) => { openExample(logTab, i); $("log-example").focus(); };
+  $("log-start-examples").replaceChildren(...RDSRT_EXAMPLES.log.map(({ name }, i) =>
+    make("li", {}, make("button", { type: "button", textContent: name, onclick: () => open(i) }))));
 }
 
 function toggleKeys(event) {

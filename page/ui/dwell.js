@@ -58,13 +58,6 @@ function answers(seconds, chosen) {
   return [...answer(false, slots + 1, chosen), ...answer(true, Math.floor(slots / 2), chosen)];
 }
 
-/* Shows why the numbers have no result, and no result of other numbers. */
-function showProblem(problem) {
-  for (const id of ["answers", "m-words", "k-words", "f-words"]) $(id).replaceChildren();
-  $("dwell-times").hidden = problem !== "";
-  $("dwell-fault").textContent = problem;
-}
-
 /* Puts a slider where its number is, and shows the number in words. */
 function showNumber(name, number, words) {
   const slider = $(`${name}-range`);
@@ -76,8 +69,9 @@ function showNumber(name, number, words) {
 const inTime = (slots) => `${slots === 1 ? "slot" : "slots"}, ${lines.time(slots)}`;
 
 function choose() {
-  const problem = problemOf($("dwell-form"));
-  showProblem(problem);
+  const problem = $("dwell-fault").textContent = problemOf($("dwell-form"));
+  $("dwell-times").hidden = problem !== "";
+  for (const id of ["answers", "m-words", "k-words", "f-words"]) $(id).replaceChildren();
   if (problem) return;
   const [m, k, f, seconds] = ["m", "k", "f", "s"].map((name) => Number($(`dwell-${name}`).value));
   const chosen = { m, k, free: f / 100 };

@@ -43,7 +43,7 @@ class LogTab extends Tab {
     super("log", "Look at a log");
     Object.assign(this, empty(), {
       bytes: new Uint8Array(0), text: "", source: {}, isEdited: false, lost: new Set(), brush: null,
-      log: NO_LOG, programmes: [], groups: 0, times: {}, pi: 0, w: 0,
+      log: NO_LOG, groups: 0, times: {}, pi: 0, w: 0,
     });
     this.rows = new Rows($("log-rows"), (i) => this.row(i));
   }
@@ -123,8 +123,9 @@ class LogTab extends Tab {
 
   async read(pi, signal) {
     const tell = (share) => { $("log-progress").value = share; };
-    Object.assign(this, await this.display.ask("open", undefined, { signal, tell }));
-    const options = this.programmes.map(([p, n]) => new Option(`${hex(p)} (${counted(n, "group")})`, hex(p)));
+    const { programmes, ...read } = await this.display.ask("open", undefined, { signal, tell });
+    const options = programmes.map(([p, n]) => new Option(`${hex(p)} (${counted(n, "group")})`, hex(p)));
+    Object.assign(this, read);
     $("log-pi").replaceChildren(...options.length ? options : [new Option("no group", NO_STATION)]);
     if (options.some(({ value }) => value === pi)) $("log-pi").value = pi;
     $("log").classList.toggle("without-slots", !this.log.count);

@@ -5,7 +5,7 @@ import * as painter from "../display/painter.js";
 import * as lines from "../model/lines.js";
 import * as records from "../model/records.js";
 import { Program } from "../program/program.js";
-import { $, MIXED, make, radio, whyNoMix } from "./parts.js";
+import { $, MIXED, filled, radio, whyNoMix } from "./parts.js";
 import { Play } from "./play.js";
 import { Timeline } from "./timeline.js";
 
@@ -30,23 +30,15 @@ function tunnelsOf(rows) {
   return slots.filter((slot) => isLost(slot) && !isLost(slot - 1)).map((from, i) => ({ from, to: ends[i] + 1 }));
 }
 
-/* The slots from the tunnel before to the one behind, with one between. */
-const roomOf = (i) => [(state.tunnels[i - 1]?.to ?? -1) + 1, (state.tunnels[i + 1]?.from ?? state.count + 1) - 1];
-
-/* What a pointer or a key moves: the tunnel, or one of its ends. Each sets its slot as near as the others let it. */
-const MOVES = {
-  whole: (it, slot, [low, high]) => {
-    const length = it.to - it.from;
-    it.from = within(low, slot, high - length);
-    it.to = it.from + length;
-  },
-  from: (it, slot, [low]) => { it.from = within(low, slot, it.to - 1); },
-  to: (it, slot, [, high]) => { it.to = within(it.from + 1, slot, high); },
-};
-
+/* Moves a tunnel to a slot, or one of its ends, as near as the tunnels before and behind it let it. One slot stays
+   between two tunnels. */
 function moveTunnel(i, what, slot) {
-  const it = state.tunnels[i], { from, to } = it;
-  MOVES[what](it, slot, roomOf(i));
+  const it = state.tunnels[i], { from, to } = it, { to: before = -1 } = state.tunnels[i - 1] ?? {};
+  const { from: behind = state.count + 1 } = state.tunnels[i + 1] ?? {};
+  if (what === "from") it.from = within(before + 1, slot, to - 1);
+  if (what === "to") it.to = within(from + 1, slot, behind - 1);
+  if (what === "whole") it.from = within(before + 1, slot, behind - 1 - (to - from));
+  if (what === "whole") it.to = it.from + to - from;
   if (it.from === from && it.to === to) return;
   state.held = it;
   showTunnels();
@@ -148,17 +140,14 @@ function slider(element, value, move, { focus = element, jumps = false } = {}) {
 
 /* The elements of a tunnel: its place with its entry, and its exit. The keys need no third slider for the entry. */
 function tunnelOf(it, i) {
-  const part = (what, className, label, ...inside) => {
-    const element = make("div", { className, tabIndex: 0, role: "slider", ariaValueMin: 0 }, ...inside);
-    element.ariaLabel = `${["First", "Second"][i] ?? "Next"} tunnel, ${label}`;
-    slider(element, () => what === "to" ? it.to : it.from, (slot) => moveTunnel(i, what, slot));
-    return element;
-  };
-  const entry = make("div", { className: "end" });
-  it.exit = part("to", "end", "its exit");
-  it.place = part("whole", "tunnel", "its place", make("span"), entry);
-  slider(entry, () => it.from, (slot) => moveTunnel(i, "from", slot), { focus: it.place });
-  return [it.place, it.exit];
+  const [place, exit] = filled("tunnel", {}), name = `${["First", "Second"][i] ?? "Next"} tunnel`;
+  Object.assign(it, { place, exit });
+  place.ariaLabel = `${name}, its place`;
+  exit.ariaLabel = `${name}, its exit`;
+  slider(place, () => it.from, (slot) => moveTunnel(i, "whole", slot));
+  slider(exit, () => it.to, (slot) => moveTunnel(i, "to", slot));
+  slider(place.lastChild, () => it.from, (slot) => moveTunnel(i, "from", slot), { focus: place });
+  return [place, exit];
 }
 
 function showTunnels() {

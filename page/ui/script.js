@@ -53,22 +53,18 @@ class ScriptTab extends Tab {
 
   // ---- edits
 
+  /* Edits the receptions of a stroke. Its lane shows them before the script is played. */
   paint(lane, from, to) {
-    const letter = brushNow();
-    if (letter === LOOK || lane?.group === undefined) return false;
-    for (let slot = from; slot <= to; slot++) this.setReception(slot, lane.group, letter);
-    this.turn.abort();
-    this.showStroke(lane.group, from, to);
-    return true;
-  }
-
-  /* Shows a stroke of the brush on a receiver before the script is played. */
-  showStroke(receiver, from, to) {
-    const ticks = this.timeline.lanes.find((lane) => lane.kind === "ticks" && lane.group === receiver);
-    for (let slot = from; slot < Math.min(to + 1, ticks?.codes.length ?? 0); slot++) {
-      ticks.codes[slot] = player.kindHeard(this.sent.codes, this.rows[slot].receptions[receiver], slot);
+    const letter = brushNow(), { group } = lane ?? {}, { timeline, sent, rows } = this;
+    if (letter === LOOK || group === undefined) return false;
+    const { codes } = timeline.lanes.find((it) => it.kind === "ticks" && it.group === group);
+    for (let slot = from; slot <= to; slot++) {
+      this.setReception(slot, group, letter);
+      if (slot < codes.length) codes[slot] = player.kindHeard(sent.codes, rows[slot].receptions[group], slot);
     }
-    this.timeline.draw();
+    this.turn.abort();
+    timeline.draw();
+    return true;
   }
 
   painted() { this.edited(); }
@@ -119,24 +115,15 @@ class ScriptTab extends Tab {
     this.look();
   }
 
-  /* Writes the form's command into the row of the chosen slot; answers whether there is one. */
-  writeCommand() {
+  /* Writes the form's command into the row of the chosen slot, if there is one, and goes on. */
+  writeCommand(goOn) {
     const row = this.rows[this.timeline.cursor], field = $("argument");
     const command = $("command").value, takes = command in HINTS;
     field.hidden = !takes;
-    if (!row) return false;
+    if (!row) return;
     const argument = field.readOnly ? row.argument : field.value;
     records.edit(row, { command, argument: takes ? argument : "", free: $("free").checked ? "1" : "0" });
-    return true;
-  }
-
-  commandChanged() { if (this.writeCommand()) this.edited(); }
-
-  /* The row of the slot gets each typed letter at once: another slot may be chosen before the rows are played. */
-  argumentTyped() {
-    if (!this.writeCommand()) return;
-    this.turn.abort();
-    this.playedSoon();
+    goOn();
   }
 
   /* A number of the form was changed: a script of another size is edited, and one of the same is played again. */
@@ -342,12 +329,14 @@ class ScriptTab extends Tab {
       this.look({ fit: true });
       area.selectionStart = area.selectionEnd = at;
     });
-    for (const id of ["command", "free"]) $(id).onchange = () => this.commandChanged();
+    const command = () => this.writeCommand(() => this.edited());
+    for (const id of ["command", "free"]) $(id).onchange = command;
     for (const it of brushes()) it.onchange = () => this.showBrush();
     // Escape puts the brush away
     $("script").onkeydown = ({ key }) => { if (key === "Escape" && brushNow() !== LOOK) brushes()[0].click(); };
-    $("argument").oninput = () => this.argumentTyped();
-    $("command-form").addEventListener("submit", () => this.commandChanged());
+    // the row gets each typed letter at once: another slot may be chosen before the rows are played
+    $("argument").oninput = () => this.writeCommand(() => { this.turn.abort(); this.playedSoon(); });
+    $("command-form").addEventListener("submit", command);
     $("script-stop").onclick = () => this.turn.abort(new Error("Playing was stopped"));
   }
 }

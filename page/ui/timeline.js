@@ -68,13 +68,6 @@ export class Timeline {
     this.move(this.cursor, { keep: true });
   }
 
-  /* The width is asked of the page once a frame, since each question may lay it out. */
-  measure() {
-    this.width = this.canvas.clientWidth;
-    this.gutter = this.width < 560 ? 74 : 132;
-    this.room = Math.max(20, this.width - this.gutter - 4);
-  }
-
   x(slot) { return this.gutter + (slot - this.from) / this.across * this.room; }
 
   /* The place of a pointer in slots, with a fraction; and the slot under it. */
@@ -276,8 +269,10 @@ export class Timeline {
   }
 
   paint() {
-    this.measure();
-    const { canvas, width, lanes: all, scroll, from, across, count } = this, height = painter.place(all);
+    const { canvas, lanes: all, scroll, from, across, count } = this, height = painter.place(all);
+    // the width is asked of the page once a frame, since each question may lay it out
+    const width = canvas.clientWidth, gutter = width < 560 ? 74 : 132;
+    Object.assign(this, { width, gutter, room: Math.max(20, width - gutter - 4) });
     if (!width) return;
     painter.paint(painter.sized(canvas, width, height), all, this, this.ink, height);
     const ariaValueText = `slots ${painter.ends(this).map(number).join(" to ")} of ${number(count)}`;
