@@ -10,7 +10,7 @@ from tests.support import PROGRAM, ROOT, SECONDS, Case, text_of
 from tests.test_commands import MANUAL, manual
 from shipped import anchors
 
-HEADER, CURES = "include/rdsrt.h", "page/ui/verdict.js"
+HEADER, CURES = "include/rdsrt.h", "page/index.html"
 PACKAGE = "python/src/rdsrt/__init__.py"
 FAULTS = {"EarlyFlag", "Changed", "NotOneText", "EarlyTag", "TagOutside"}
 REPLIES = ("ok", "silent", "held", "notext", "outoftext")

@@ -118,11 +118,8 @@ function multiples(step, from, to) {
   return Array.from({ length }, (_, i) => (first + i) * step);
 }
 
-export function timeOf(seconds, step) {
-  const two = (it) => String(Math.floor(it)).padStart(2, "0");
-  const all = [seconds / 3600 % 24, seconds / 60 % 60, seconds % 60].map(two);
-  return all.slice(0, step < MINUTE ? 3 : 2).join(":");
-}
+/* A time of the day, as 07:58, and with its seconds if a step is shorter than a minute. */
+export const timeOf = (seconds, step) => new Date(1000 * seconds).toISOString().slice(11, step < MINUTE ? 19 : 16);
 
 /* The first and the last slot in sight. */
 export const ends = ({ from, across }) => [Math.floor(from), Math.ceil(from + across) - 1];

@@ -12,21 +12,16 @@ const PER_STEP = 1 << 21;
 const MISSING = -1, MALFORMED = -2;
 const LOST = new TextEncoder().encode(lines.LOST);
 
-/* The value of each hexadecimal digit, and 16 for every other byte. */
-const DIGITS = new Uint8Array(256).fill(16);
+/* The value of each hexadecimal digit, DASHED for a dash, and 16 for every other byte. */
+const DIGITS = new Uint8Array(256).fill(16), DASHED = 32;
 for (const digit of "0123456789abcdefABCDEF") DIGITS[digit.charCodeAt(0)] = parseInt(digit, 16);
+DIGITS[DASH] = DASHED;
 
 /* Returns the block at this place, MISSING for `----`, or MALFORMED. */
 function blockAt(bytes, at) {
-  let block = 0, dashes = 0;
-  for (let i = at; i < at + 4; i++) {
-    const digit = DIGITS[bytes[i]];
-    if (digit < 16) block = block << 4 | digit;
-    else if (bytes[i] === DASH) dashes++;
-    else return MALFORMED;
-  }
-  if (dashes === 0) return block;
-  return dashes === 4 ? MISSING : MALFORMED;
+  const a = DIGITS[bytes[at]], b = DIGITS[bytes[at + 1]], c = DIGITS[bytes[at + 2]], d = DIGITS[bytes[at + 3]];
+  if ((a | b | c | d) < 16) return a << 12 | b << 8 | c << 4 | d;
+  return (a & b & c & d) === DASHED ? MISSING : MALFORMED;
 }
 
 export function endOf(bytes, start) {

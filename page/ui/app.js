@@ -50,8 +50,6 @@ function beginTabs() {
   });
 }
 
-// ---- files
-
 /* The content decides before the extension: a script has a comma in its first line, and a log has blocks there. */
 const SCRIPT = /^\uFEFF?(?:\r?\n)*(?:-|text|name|tags|restart|"[a-z-]+"),/;
 const LOG = /^\uFEFF?(?:(?:[<#%].*|[ \t]*)\r?\n)*(?:[\dA-Fa-f]{4}|----) (?:[\dA-Fa-f]{4}|----) /;

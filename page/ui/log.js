@@ -30,8 +30,6 @@ const ALONE = { text: ["flag bit alone", "flag bit"], name: ["  its name", " nam
 const KINDS = ["nothing", "text", "name", "tags", "other"];
 const CLOCK = /\d\d:\d\d:\d\d/, LONGEST_LINE = 96;
 const encoder = new TextEncoder(), decoder = new TextDecoder("utf-8", { ignoreBOM: true });
-/* The station of a log without a group. */
-const NO_STATION = "C201";
 const NO_LOG = { count: 0, end: 0, words: [], missing: new Uint8Array(0), starts: [], numbers: [] };
 const empty = () => ({
   view: new View(), alone: new View(), codes: new Uint8Array(0),
@@ -66,7 +64,7 @@ class LogTab extends Tab {
   }
 
   lostChanged() {
-    this.undo.note(links.inLetters(this.lost));
+    this.note(links.inLetters(this.lost));
     return this.look();
   }
 
@@ -110,7 +108,7 @@ class LogTab extends Tab {
     Object.assign(this, empty(), { log: NO_LOG, bytes, text, source, isEdited, lost: new Set(lost), brush: null });
     $("log").classList.remove("unopened");
     this.rows.show(0);
-    this.undo.begin(links.inLetters(this.lost));
+    this.note(links.inLetters(this.lost), { isFirst: true });
     this.nameFile(file);
     this.setFields({ example, m, k, w: w || "" });
     $("log-running").checked = running;
@@ -126,7 +124,7 @@ class LogTab extends Tab {
     const { programmes, ...read } = await this.display.ask("open", undefined, { signal, tell });
     const options = programmes.map(([p, n]) => new Option(`${hex(p)} (${counted(n, "group")})`, hex(p)));
     Object.assign(this, read);
-    $("log-pi").replaceChildren(...options.length ? options : [new Option("no group", NO_STATION)]);
+    $("log-pi").replaceChildren(...options.length ? options : [new Option("no group", "C201")]);
     if (options.some(({ value }) => value === pi)) $("log-pi").value = pi;
     $("log").classList.toggle("without-slots", !this.log.count);
     this.rows.show(this.log.count + (this.log.end < this.bytes.length));
@@ -217,8 +215,8 @@ class LogTab extends Tab {
       const { text } = await this.display.ask("textAt", { ...asked, slot: no.slot }, { signal });
       if (text !== null) verdict.showWithoutLoss(no, text);
     };
-    const all = [no.fault === "Changed" ? textAt() : null, this.search(asked, signal)];
-    await Promise.all(all).catch((error) => { if (!signal.aborted) this.showProblem(`${error.message}.`); });
+    const all = [no.fault === "Changed" && textAt(), this.search(asked, signal)];
+    await Promise.all(all).catch(({ message }) => { if (!signal.aborted) this.showProblem(`${message}.`); });
     if (this.log.count > LONG && !signal.aborted) this.judge.stop();
   }
 

@@ -21,8 +21,6 @@ export const drive = new Play($("road"), state);
 const within = (low, slot, high) => Math.max(low, Math.min(slot, high));
 const percent = (slot) => `${100 * slot / state.count}%`;
 
-// ---- the tunnels
-
 /* The slots [from, to) that the receiver loses, as tunnels. */
 function tunnelsOf(rows) {
   const isLost = (slot) => rows[slot]?.receptions[RECEIVER] === "L", slots = [...rows.keys()];
@@ -78,8 +76,6 @@ function firstMix() {
   return i === undefined ? undefined : text.at(i);
 }
 
-// ---- the car
-
 export function move(slot) {
   const at = state.cursor = within(0, slot, state.count - 1), { air, dwell, alone } = state.views;
   const onAir = radio($("road-air"), "On air", air, at, { none: "silence" });
@@ -106,8 +102,6 @@ function tell() {
 function put(slider, now, text) {
   Object.assign(slider, { ariaValueMax: state.count, ariaValueNow: now, ariaValueText: text });
 }
-
-// ---- pointer and keys
 
 const slotAt = ({ clientX }) => {
   const { left, width } = $("road-band").getBoundingClientRect();
@@ -160,8 +154,6 @@ function showTunnels() {
     put(exit, to, text);
   }
 }
-
-// ---- the lanes under the road
 
 function paint() {
   const canvas = $("road-lanes"), width = canvas.clientWidth, { air, dwell, alone } = state.views;

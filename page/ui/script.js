@@ -11,10 +11,6 @@ import * as picture from "./picture.js";
 import { Tab, added } from "./tab.js";
 
 const UNPLAYED = "not played", LOOK = "look";
-/* The commands that take an argument. */
-const HINTS = { text: "the text", name: "the name", tags: "1 1 4 0 3 1 7 7" };
-/* What each brush makes a receiver do. */
-const BRUSHES = { L: "lose", G: "get", R: "restart in", W: "get a wrong group in" };
 /* The most letters of an argument that the form takes: a text has 64 characters, and an escape is four letters. */
 const LONG_ARGUMENT = 400;
 /* The names of lanes, each with the one on a phone. */
@@ -28,7 +24,9 @@ const unplayed = () => ({
   notes: [], firstMix: null,
 });
 const brushes = () => [...document.querySelectorAll("[name=brush]")];
-const brushNow = () => brushes().find((it) => it.checked).value;
+const brushNow = () => brushes().find((it) => it.checked);
+/* The example of an argument of the form's command; undefined if it takes none. */
+const hintNow = () => $("command").selectedOptions[0].dataset.hint;
 const receiversOf = (rows) => rows[0]?.receptions.length ?? 0;
 
 class ScriptTab extends Tab {
@@ -55,7 +53,7 @@ class ScriptTab extends Tab {
 
   /* Edits the receptions of a stroke. Its lane shows them before the script is played. */
   paint(lane, from, to) {
-    const letter = brushNow(), { group } = lane ?? {}, { timeline, sent, rows } = this;
+    const letter = brushNow().value, { group } = lane ?? {}, { timeline, sent, rows } = this;
     if (letter === LOOK || group === undefined) return false;
     const { codes } = timeline.lanes.find((it) => it.kind === "ticks" && it.group === group);
     for (let slot = from; slot <= to; slot++) {
@@ -70,7 +68,7 @@ class ScriptTab extends Tab {
   painted() { this.edited(); }
 
   showBrush() {
-    const action = BRUSHES[brushNow()];
+    const action = brushNow().dataset.does;
     const words = `A click or a drag on a receiver makes it ${action} the slots. Escape returns to “look”.`;
     $("brush-on").textContent = action ? words : "";
   }
@@ -104,7 +102,7 @@ class ScriptTab extends Tab {
 
   edited(how) {
     this.text = records.write(this.rows);
-    this.undo.note(this.text);
+    this.note(this.text);
     this.look(how);
   }
 
@@ -118,11 +116,11 @@ class ScriptTab extends Tab {
   /* Writes the form's command into the row of the chosen slot, if there is one, and goes on. */
   writeCommand(goOn) {
     const row = this.rows[this.timeline.cursor], field = $("argument");
-    const command = $("command").value, takes = command in HINTS;
-    field.hidden = !takes;
+    const { value: command } = $("command"), free = $("free").checked ? "1" : "0";
+    field.hidden = !hintNow();
     if (!row) return;
     const argument = field.readOnly ? row.argument : field.value;
-    records.edit(row, { command, argument: takes ? argument : "", free: $("free").checked ? "1" : "0" });
+    records.edit(row, { command, argument: hintNow() ? argument : "", free });
     goOn();
   }
 
@@ -151,7 +149,7 @@ class ScriptTab extends Tab {
     Object.assign(this, { pty, opened: { text, input, file, example }, saved: text });
     this.setFields({ m, k, w });
     this.take(text);
-    this.undo.begin(text);
+    this.note(text, { isFirst: true });
     if (!await this.look({ fit: true })) return;
     const { firstMix, timeline, air: { parts: { text: onAir } } } = this;
     const behindFirst = onAir.length ? onAir.from(0) + Number(this.value("m")) : timeline.cursor;
@@ -295,8 +293,8 @@ class ScriptTab extends Tab {
       field.value = isLong ? `${argument.slice(0, LONG_ARGUMENT)}…` : argument;
       field.readOnly = isLong;
     }
-    field.hidden = !($("command").value in HINTS);
-    field.placeholder = HINTS[$("command").value] ?? "";
+    field.hidden = !hintNow();
+    field.placeholder = hintNow() ?? "";
     $("free").checked = free !== "0";
   }
 
@@ -325,7 +323,7 @@ class ScriptTab extends Tab {
     $("script-text").oninput = soon(() => {
       const area = $("script-text"), at = area.selectionStart;
       this.take(area.value);
-      this.undo.note(this.text);
+      this.note(this.text);
       this.look({ fit: true });
       area.selectionStart = area.selectionEnd = at;
     });
@@ -333,7 +331,7 @@ class ScriptTab extends Tab {
     for (const id of ["command", "free"]) $(id).onchange = command;
     for (const it of brushes()) it.onchange = () => this.showBrush();
     // Escape puts the brush away
-    $("script").onkeydown = ({ key }) => { if (key === "Escape" && brushNow() !== LOOK) brushes()[0].click(); };
+    $("script").onkeydown = ({ key }) => { if (key === "Escape" && brushNow().value !== LOOK) brushes()[0].click(); };
     // the row gets each typed letter at once: another slot may be chosen before the rows are played
     $("argument").oninput = () => this.writeCommand(() => { this.turn.abort(); this.playedSoon(); });
     $("command-form").addEventListener("submit", command);

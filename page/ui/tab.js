@@ -1,7 +1,6 @@
 /* What the tabs of a log and of a script share: a timeline, one look at a time, undo, links, and what is not saved. A
    tab has `text` for a link, `show` for a look, `showProblem`, `settingsOf` for the options of a link, `open`, `save`
    and `isUnsaved`, and for its timeline `showSlot`, `paint` and `painted`, `station`, and its answer `inOneLine`. */
-import { Undo } from "../model/undo.js";
 import * as links from "./links.js";
 import { $, entitle, isolated, problemOf, soon } from "./parts.js";
 import { Timeline } from "./timeline.js";
@@ -12,13 +11,12 @@ export const TABS = [];
 export const added = (it) => TABS[TABS.push(it) - 1];
 /* The milliseconds after which a tab shows that it waits, and the most letters of an output that is shown. */
 const PATIENCE = 150, MOST = 400_000;
+/* The most states of the undo, and the most letters in all of them. */
+const MOST_STATES = 200, MOST_LETTERS = 40e6;
 
 export class Tab {
   constructor(id, title) {
-    Object.assign(this, { id, title, work: Promise.resolve(), turn: new AbortController() });
-    this.undo = new Undo((it) => {
-      for (const [name, by] of [["undo", -1], ["redo", 1]]) this.field(name).disabled = !it.has(by);
-    });
+    Object.assign(this, { id, title, work: Promise.resolve(), turn: new AbortController(), states: [], now: -1 });
     this.timeline = new Timeline(this);
   }
 
@@ -47,8 +45,6 @@ export class Tab {
     if (text.length > MOST) this.field("text").closest("details").open = false;
     if (this.value("text") !== text) this.field("text").value = text;
   }
-
-  // ---- a look
 
   /* Notes what is in work, so that a test can wait for it. */
   working(promise) { return this.work = promise; }
@@ -85,10 +81,8 @@ export class Tab {
   prepare() {}
   problem() { return problemOf(this.field("form")); }
 
-  // ---- what a timeline asks for
-
+  /* What a timeline asks for: the choice of a receiver; the clock, the line, and the seconds of the day of a slot. */
   choose() {}
-  /* The clock, the line, and the seconds of the day of a slot. */
   clock() { return ""; }
   line() { return ""; }
   seconds() { return NaN; }
@@ -100,14 +94,30 @@ export class Tab {
     return true;
   }
 
+  /* Notes a state of the edits, and drops the undone ones; or begins anew with it. */
+  note(text, { isFirst = false } = {}) {
+    if (isFirst) this.states = [];
+    const { states } = this, letters = () => states.reduce((sum, { length }) => sum + length, 0);
+    if (states[this.now] === text) return;
+    states.splice(this.now + 1, Infinity, text);
+    while (states.length > 2 && (states.length > MOST_STATES || letters() > MOST_LETTERS)) states.shift();
+    this.standAt(states.length - 1);
+  }
+
+  standAt(now) {
+    this.now = now;
+    this.field("undo").disabled = now === 0;
+    this.field("redo").disabled = now === this.states.length - 1;
+  }
+
   /* Goes back (-1) or forth (1) over the edits. */
   back(by) {
     this.settle();
-    const text = this.undo.go(by);
-    if (text !== undefined) this.takeUndone(text);
+    const now = this.now + by, text = this.states[now];
+    if (text === undefined) return;
+    this.standAt(now);
+    this.takeUndone(text);
   }
-
-  // ---- links
 
   options() {
     return ["m", "k", "w"].filter((it) => this.value(it)).map((it) => `${it}=${this.value(it)}`).join("&");

@@ -4,18 +4,6 @@ import * as lines from "../model/lines.js";
 import * as logfile from "../model/logfile.js";
 import { $, counted, filled, grouped, nodesOf, number } from "./parts.js";
 
-/* The cure of each fault, as in docs/FORMATS.md. */
-const CURES = {
-  EarlyFlag: "Keep each text on air for at least M + K slots, and flip the flag only for a new text.",
-  Changed: "Flip the flag with every change, even of one word.",
-  NotOneText: "Send printable characters, end the text with one carriage return, fill its segment with spaces, and "
-    + "send no segment past it.",
-  EarlyTag: "Send the first tags M + K slots after the start of their text. If this 11A is not RT+, empty its lines "
-    + "before the audit.",
-  TagOutside: "Count the start from 0, send the number of characters less one as the length, and set the tags after "
-    + "their text.",
-};
-const WHOLE_NAME = "A name has eight printable characters, filled with spaces.";
 /* A yes over fewer slots with a group says too little. */
 const LEAST_SHARE = 0.9;
 /* The pause in the note of a no. */
@@ -44,7 +32,7 @@ function noOf({ audit: { output, notes }, log, pi }, { goTo, stopSearch }) {
   return {
     slot, fault, goTo: () => goTo(slot), stopSearch, place: `slot ${number(slot)}`, time: lines.time(slot),
     rule: grouped(lines.noteOf(notes, "slot ").slice(`slot ${slot}`.length)),
-    cure: fault === "NotOneText" && isName ? WHOLE_NAME : CURES[fault] ?? "",
+    cure: filled(fault === "NotOneText" && isName ? "NotOneName" : fault, {}),
   };
 }
 
