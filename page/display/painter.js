@@ -141,8 +141,6 @@ function axis(ctx, sight, ink, height) {
   labels(ctx, sight, AXIS - 12, slots.map((slot) => [slot, slot.toLocaleString("en")]));
 }
 
-// ---- ticks
-
 /* The shape of a slot: lost, without a group, or of its code. A lane of groups that were sent has only the last. */
 function shapeOf({ lost, losses }, slot, code) {
   if (lost?.has(slot) || (losses && code === lines.NOTHING)) return LOST;
@@ -186,8 +184,6 @@ function narrowTicks(ctx, lane, sight, ink) {
     if (2 * none > to - from) tick(ctx, ink.dim, shapeOf(lane, from, lines.NOTHING), x, lane, 1);
   }
 }
-
-// ---- bars
 
 function hatch(ctx, x, { top, height }, width, end, ink) {
   clipped(ctx, x, top + 1, width, height - 2, () => {
@@ -253,8 +249,6 @@ function bars(ctx, lane, sight, ink) {
   }
 }
 
-// ---- marks
-
 /* Draws a mark: a flag, or a diamond on a pole for a refused command or a no. Red is for a no alone. */
 function mark(ctx, x, kind, { top, height }, ink) {
   const middle = top + height / 2, half = height / 2 - 3;
@@ -287,8 +281,6 @@ function marks(ctx, lane, sight, ink) {
     if (ctx.measureText(label).width <= room) ctx.fillText(label, start, lane.top + lane.height / 2 + 0.5);
   }
 }
-
-// ---- all of it
 
 function laneOf(ctx, lane, sight, ink) {
   const { top, height } = lane, { gutter, room } = sight, ticks = room / sight.across < 2 ? narrowTicks : wideTicks;

@@ -69,9 +69,8 @@ function take(log, bytes, start, slot) {
   return true;
 }
 
-/* Reads a log up to its first malformed line. `words` has four blocks a slot, `missing` a bit for each block that was
-   not received, `starts` the first byte of the slot's line, `numbers` its number and `clocks` its time of the day in
-   seconds. `end` is the first byte that was not read. */
+/* Reads a log up to its first malformed line. A slot has four `words`, a bit of `missing` for each block that was not
+   received, and the first byte, the number and the time of the day of its line. `end` is the first byte not read. */
 export function parse(bytes, tell = () => {}) {
   const most = Math.floor((bytes.length + 1) / (BLOCKS + 1));
   const log = {

@@ -1,6 +1,5 @@
-/* Asks a worker to run the program: program/worker.js. The worker gets one question at a time. A question is dropped
-   when its signal aborts. If the worker is at it then and for some time after, the worker ends, and a new one takes its
-   place. */
+/* Asks a worker to run the program, one question at a time. If the signal of a question aborts, it is dropped. A worker
+   that is still at it after some time ends, and a new one takes its place. */
 
 /* The milliseconds of this time, if nobody names others. */
 const PATIENCE = 300;

@@ -27,9 +27,8 @@ async function squeezed(bytes, by, most) {
 
 /* Returns a text as letters; null if it is too long. */
 async function pack(text) {
-  const plain = text === null ? null : new TextEncoder().encode(text);
-  const isShort = plain && plain.length <= MOST_PLAIN;
-  const bytes = isShort ? await squeezed(plain, new CompressionStream("deflate-raw"), MOST) : null;
+  const plain = new TextEncoder().encode(text ?? ""), isLong = text === null || plain.length > MOST_PLAIN;
+  const bytes = isLong ? null : await squeezed(plain, new CompressionStream("deflate-raw"), MOST);
   return bytes && btoa(String.fromCharCode(...bytes)).replaceAll("+", "-").replaceAll("/", "_").replace(/=+$/, "");
 }
 
@@ -78,6 +77,7 @@ function sightOf({ cursor, from, across, count }) {
 }
 
 export async function give(tab) {
+  tab.settle();
   const { id, text } = tab, options = tab.options(), sight = sightOf(tab.timeline) + tab.moreSight();
   const packed = await pack(text), isShown = packed !== null && location.protocol !== "file:";
   tab.field("link").hidden = !isShown;

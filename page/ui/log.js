@@ -205,8 +205,6 @@ class LogTab extends Tab {
     for (const name of ["log", "audit"]) this.tellLines(name, "", "");
   }
 
-  // ---- after a no
-
   /* What takes longer after a no: what a receiver without losses shows, and a witness. */
   async searchMore(asked, signal) {
     const { no, answer } = this;
@@ -284,8 +282,6 @@ class LogTab extends Tab {
     ];
   }
 
-  // ---- a slot
-
   lineAt(start) {
     const end = Math.min(logfile.endOf(this.bytes, start), start + LONGEST_LINE);
     const text = decoder.decode(this.bytes.subarray(start, end)).trimEnd();
@@ -328,8 +324,6 @@ class LogTab extends Tab {
     changes.move(slot);
     return `${what}. The receiver shows ${shown}. With the flag bit alone: ${other}.`;
   }
-
-  // ---- links and files
 
   options() {
     const lost = this.lost.size ? `&lost=${links.inLetters(this.lost)}` : "";

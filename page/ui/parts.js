@@ -62,8 +62,6 @@ export function entitle() {
   document.title = name ? `${isolated} – ${TITLE}` : TITLE;
 }
 
-// ---- displays
-
 const WORDS = {
   text: (text) => `“${text}”`, name: (name) => `name ${name.trim()}`, tag1: wordsOfTag, tag2: wordsOfTag,
 };

@@ -66,10 +66,7 @@ function save() {
 
 export function begin(tab) {
   state.tab = tab;
-  $("log-report").onclick = () => {
-    fill();
-    $("report").showModal();
-  };
+  $("log-report").onclick = () => { fill(); $("report").showModal(); };
   $("report-print").onclick = () => print();
   $("report-save").onclick = save;
   addEventListener("beforeprint", fill);

@@ -47,6 +47,7 @@ class ScriptTab extends Tab {
   choose(receiver) {
     this.chosen = Math.max(0, Math.min(receiver, this.receivers - 1));
     this.timeline.chosen = this.receivers ? this.chosen : null;
+    this.timeline.move(this.timeline.cursor, { keep: true });
   }
 
   // ---- edits
@@ -79,12 +80,10 @@ class ScriptTab extends Tab {
     const letter = "lgr".includes(key) && key.toUpperCase();
     if (key === "Enter") $("command").focus();
     else if (!n || !(by || letter)) return false;
-    else if (letter) {
+    else if (by) this.choose((chosen + n + by) % n);
+    else {
       this.setReception(timeline.cursor, chosen, letter);
       this.edited();
-    } else {
-      this.choose((chosen + n + by) % n);
-      timeline.move(timeline.cursor, { keep: true });
     }
     return true;
   }
@@ -221,8 +220,6 @@ class ScriptTab extends Tab {
     return [sent, station, ...this.air.lanes(AIR, {}, { strong: true, gap: 8 }), ...receivers];
   }
 
-  // ---- mixes and faults
-
   /* How many texts, names and tags are mixes. That no receiver with the dwell shows one is proved. */
   mixesInWords() {
     const mixes = this.alone.flatMap((view, receiver) => Object.entries(view.parts).flatMap(([part, runs]) =>
@@ -297,8 +294,6 @@ class ScriptTab extends Tab {
     field.placeholder = hintNow() ?? "";
     $("free").checked = free !== "0";
   }
-
-  // ---- saving, and a link
 
   isUnsaved() {
     this.settle();

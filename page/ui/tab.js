@@ -128,10 +128,7 @@ export class Tab {
   /* Takes what was typed last at once. */
   settle() {}
 
-  share() {
-    this.settle();
-    return links.give(this);
-  }
+  share() { return links.give(this); }
 
   async openLink(hash, defaults) {
     const it = await links.read(this, hash), { text, option } = it;

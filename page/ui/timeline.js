@@ -38,14 +38,12 @@ export class Timeline {
   }
 
   listen() {
-    const { canvas, scroll } = this, heard = {
-      pointerdown: (event) => this.press(event),
-      pointermove: (event) => this.hover(event),
-      dblclick: (event) => { if (this.isAxis(event)) this.act("all"); },
-      keydown: (event) => this.key(event),
-      wheel: (event) => this.wheel(event),
-    };
-    for (const [kind, hear] of Object.entries(heard)) canvas.addEventListener(kind, hear, { passive: false });
+    const { canvas, scroll } = this;
+    canvas.onpointerdown = (event) => this.press(event);
+    canvas.onpointermove = (event) => this.hover(event);
+    canvas.ondblclick = (event) => { if (this.isAxis(event)) this.act("all"); };
+    canvas.onkeydown = (event) => this.key(event);
+    canvas.onwheel = (event) => this.wheel(event);
     for (const button of this.root.querySelectorAll("[data-do]")) button.onclick = () => this.act(button.dataset.do);
     scroll.oninput = () => this.showFrom(Number(scroll.value));
     new ResizeObserver(() => this.draw()).observe(canvas);
@@ -108,8 +106,6 @@ export class Timeline {
     this.sight(this.from + fixed * (this.across - across), across);
   }
 
-  // ---- the chosen slot
-
   /* Goes to the next text, or to the next change of any part (1), or to the one before (-1). */
   step(by, { isText = false } = {}) {
     const lanes = this.lanes.filter((lane) => lane.strong || !isText), fits = ({ label }) => !isText || label !== null;
@@ -152,10 +148,7 @@ export class Timeline {
     if (this.pressed && this.pressed.pointerId !== event.pointerId) { this.pinch(this.pressed, event); return; }
     if (this.isAxis(event)) { this.select(event); return; }
     const lane = this.laneAt(event), slot = this.slotUnder(event);
-    if (lane?.group !== undefined) {
-      this.tab.choose(lane.group);
-      this.move(this.cursor, { keep: true });
-    }
+    if (lane?.group !== undefined) this.tab.choose(lane.group);
     if (this.slotAt(event) < this.from) this.draw();
     else if (this.tab.paint(lane, slot, slot, event)) this.brush(event, lane);
     else this.pan(event);
@@ -241,8 +234,6 @@ export class Timeline {
     });
   }
 
-  // ---- buttons and keys
-
   act(name) { Timeline.ACTIONS[name][1](this); }
 
   key(event) {
@@ -256,8 +247,6 @@ export class Timeline {
     }
     event.preventDefault();
   }
-
-  // ---- drawing
 
   draw() {
     if (this.isWaiting) return;
