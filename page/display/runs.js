@@ -39,6 +39,12 @@ class List {
   isShown() { return true; }
   indexAt(slot) { return lastAt(this.length, (i) => this.starts[i], slot); }
 
+  /* The first entry from this one on that fits; -1 if none does. */
+  find(fits, from = 0) {
+    for (let i = from; i < this.length; i++) if (fits(i)) return i;
+    return -1;
+  }
+
   /* The first entry from this one on that ends behind the slot. */
   firstBehind(slot, from = 0) {
     const i = Math.max(from, this.indexAt(slot));
@@ -46,7 +52,7 @@ class List {
   }
 
   /* Where the nearest piece that fits begins behind the slot (1) or before it (-1); undefined if there is none. */
-  nearest(slot, by, fits = () => true) {
+  nearest(slot, by, fits) {
     for (let i = Math.max(0, this.indexAt(slot)); i >= 0 && i < this.length; i += by) {
       const starts = this.pieces(i).filter(fits).map((piece) => piece.from).filter((from) => by * (from - slot) > 0);
       if (starts.length) return by > 0 ? starts[0] : starts.at(-1);
@@ -87,11 +93,6 @@ class Runs extends List {
   at(i) {
     const value = this.value(i), why = value === null ? WHYS[this.states[i]] : "";
     return { from: this.from(i), to: this.to(i), value, why, mixTo: this.mixTo(i), stale: this.stale(i) };
-  }
-
-  find(fits, from = 0) {
-    for (let i = from; i < this.length; i++) if (fits(i)) return i;
-    return -1;
   }
 
   pieces(i) {
@@ -166,16 +167,12 @@ export class View {
     return i >= 0 && slot < runs.to(i) ? runs.at(i) : null;
   }
 
-  shows(...parts) { return parts.some((part) => this.parts[part].find((i) => this.parts[part].isShown(i)) >= 0); }
-
   /* The lanes of all that this display shows; the first one is of its text. `names` has a name and one for a phone of
      each. All lanes have what is in `more`, and the first one what is in `first` too. */
   lanes({ text, name, tags }, more, first) {
     const lane = ([long, short], runs) => ({ name: long, short, kind: "bars", runs, gap: 3, ...more });
-    return [
-      { ...lane(text, this.parts.text), ...first },
-      ...this.shows("name") ? [lane(name, this.parts.name)] : [],
-      ...this.shows("tag1", "tag2") ? [lane(tags, new TagRuns([this.parts.tag1, this.parts.tag2]))] : [],
-    ];
+    const { parts } = this, others = [lane(name, parts.name), lane(tags, new TagRuns([parts.tag1, parts.tag2]))];
+    const shown = others.filter(({ runs }) => runs.find((i) => runs.isShown(i)) >= 0);
+    return [{ ...lane(text, parts.text), ...first }, ...shown];
   }
 }

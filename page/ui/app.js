@@ -187,18 +187,12 @@ async function openAddress() {
   return it.id;
 }
 
-async function compile() {
-  try {
-    return await rdsrt.load();
-  } catch ({ message }) {
+async function begin() {
+  const compiled = await rdsrt.load().catch(({ message }) => {
     $("no-engine").textContent = "This browser cannot run the program. It needs WebAssembly with 64-bit memory: "
       + `Chrome or Edge 133, Firefox 134, or later. (${message})`;
-    return null;
-  } finally { $("loading").hidden = true; }
-}
-
-async function begin() {
-  const compiled = await compile();
+  });
+  $("loading").hidden = true;
   if (!compiled) return;
   document.querySelector("main").hidden = false;
   beginTabs();

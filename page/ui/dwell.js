@@ -40,8 +40,7 @@ function showTimes({ m, k, free }) {
 function answer(isOwn, most, { m, k, free }) {
   const greatest = Math.min(MOST, most - k), least = Math.ceil(LONGEST / free);
   const set = () => {
-    $("dwell-m").value = greatest;
-    choose();
+    put("m", greatest);
     $("dwell-m").focus();
   };
   return filled("dwell-answer", {
@@ -82,12 +81,14 @@ function choose() {
   showTimes(chosen);
 }
 
+function put(name, number) {
+  $(`dwell-${name}`).value = number;
+  choose();
+}
+
 function begin() {
   for (const name of ["m", "k", "f"]) {
-    $(`${name}-range`).oninput = ({ target }) => {
-      $(`dwell-${name}`).value = NUMBER_AT[name](target.value);
-      choose();
-    };
+    $(`${name}-range`).oninput = ({ target }) => put(name, NUMBER_AT[name](target.value));
   }
   for (const name of ["m", "k", "f", "s"]) $(`dwell-${name}`).oninput = choose;
   choose();

@@ -8,9 +8,8 @@ const TYPES = {
   "3A": "announcement of a data service",
   "4A": "clock time", "10A": "programme type name (PTYN)", "11A": "data service (RadioText Plus, if announced)",
 };
-/* The bits of the second block that have the segment, by the group type. */
-const SEGMENTS = { "2A": 0x0F, "10A": 0x01 };
-const SERVICE = 0x1F, RADIOTEXT_PLUS = 0x4BD7;
+/* The bits of the second block that have the segment, by the group type, and those that have the data service. */
+const SEGMENTS = { "2A": 0x0F, "10A": 0x01 }, SERVICE = 0x1F, RADIOTEXT_PLUS = 0x4BD7;
 const SHOWN = /^\d+ text "(.*)"$/m;
 
 /* The characters of two blocks, as the program prints them; empty if they fit no text. */

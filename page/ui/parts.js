@@ -21,7 +21,7 @@ export function filled(id, given) {
 }
 
 export const hex = (n) => n.toString(16).toUpperCase().padStart(4, "0");
-export const counted = (n, one, more = `${one}s`) => `${number(n)} ${n === 1 ? one : more}`;
+export const counted = (n, one) => `${number(n)} ${one}${n === 1 ? "" : "s"}`;
 /* Delays a call until no further one comes. Its `now` makes a delayed call at once. */
 export const soon = (what) => {
   let timer = 0;

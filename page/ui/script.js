@@ -88,15 +88,11 @@ class ScriptTab extends Tab {
     return true;
   }
 
+  /* Edits what a receiver does. A wrong group is the one of the slot with its last bit wrong, if one was sent. */
   setReception(slot, receiver, letter) {
-    const row = this.rows[slot];
-    if (row) records.editReception(row, receiver, letter === "W" ? this.wrongIn(slot) : letter);
-  }
-
-  /* A reception of the slot's group with the last bit wrong; a lost slot if none was sent. */
-  wrongIn(slot) {
-    const group = logfile.groupAt(this.sent, slot);
-    return group ? `W${group.with(3, group[3] ^ 1).slice(1).map(hex).join("")}` : "L";
+    const row = this.rows[slot], group = letter === "W" && logfile.groupAt(this.sent, slot);
+    const wrong = group ? `W${group.with(3, group[3] ^ 1).slice(1).map(hex).join("")}` : "L";
+    if (row) records.editReception(row, receiver, letter === "W" ? wrong : letter);
   }
 
   edited(how) {
