@@ -1,6 +1,5 @@
-/* Draws the lanes of a timeline on a canvas. What is out of sight is not drawn, so a frame costs what its pixels do and
-   not what its slots do. A lane is { name, short, kind, group, gap, strong } with the codes of "ticks" or the runs of
-   "bars" or the marks of "marks", as its kind says. Runs and marks are those of runs.js. */
+/* Draws the lanes of a timeline on a canvas, and nothing out of sight: a frame costs what its pixels do. A lane is
+   { name, short, kind, group, gap, strong } with the codes of "ticks", or runs of "bars" or marks, those of runs.js. */
 import * as lines from "../model/lines.js";
 import { lastAt } from "./runs.js";
 

@@ -1,6 +1,5 @@
-/* Displays over time as a page reads them, and what lanes draw: lists of typed arrays, in order of their slots.
-   `pieces(i)` makes the things to draw of one entry when it is in sight: bars with from, to, value, label, kind, shade,
-   mix and old, or marks with from, label and kind. */
+/* Displays over time, and what lanes draw: lists of typed arrays, in order of their slots. `pieces(i)` makes what is
+   drawn of an entry: bars with from, to, value, label, kind, shade, mix and old, or marks with from, label and kind. */
 import { KIND_OF, NOTHING, PARTS, STATES, WHYS } from "../model/output.js";
 
 /* A class of RadioText Plus in small letters, as ITEM.ARTIST. */

@@ -55,8 +55,6 @@ class LogTab extends Tab {
     this.timeline.canvas.focus();
   }
 
-  // ---- lost slots
-
   /* Loses these slots, or gives back those that are lost. */
   lose(slots) {
     for (const slot of slots) if (!this.lost.delete(slot)) this.lost.add(slot);
@@ -94,8 +92,6 @@ class LogTab extends Tab {
     if (key === "l") this.lose([this.timeline.cursor]);
     return key === "l";
   }
-
-  // ---- opening a log
 
   /* Opens a log: its text, or the bytes of its file. Returns when its display and its verdict are shown. The workers
      read the page's own bytes: a file may change while it is open. */
@@ -259,8 +255,6 @@ class LogTab extends Tab {
     await this.open(bytes, { pi, m, k, w, running, isEdited, file, source });
   }
 
-  // ---- the lanes
-
   /* The events of the display, and the answer of the audit, which is red if it is no doubtful one. */
   marks() {
     const { events: { slots, numbers }, no, answer } = this, all = new Marks(slots, numbers, output.EVENTS);
@@ -314,9 +308,9 @@ class LogTab extends Tab {
   showSlot(slot) {
     const { log, view, alone } = this, group = logfile.groupAt(log, slot);
     const sent = group ? `${KINDS[lines.codeOf(group, this.pi)]} group` : "nothing received";
-    const what = this.lost.has(slot) ? "lost" : sent, window = this.w ? ` and W = ${this.w}` : "";
+    const what = this.lost.has(slot) ? "lost" : sent, more = this.w ? ` and W = ${this.w}` : "";
     const led = this.answer ? what : "";
-    const shown = radio($("log-radio"), `The receiver, with the dwell${window}`, view, slot, { led });
+    const shown = radio($("log-radio"), `The receiver, with the dwell${more}`, view, slot, { led });
     const other = radio($("log-alone"), "Flag bit alone: decode --m 65535", alone, slot);
     $("log-why").textContent = whyNoMix(view, alone, slot);
     $("log-group").textContent = log.count ? groups.ofSlot(log, slot, this.pi) : "";

@@ -50,8 +50,6 @@ class ScriptTab extends Tab {
     this.timeline.move(this.timeline.cursor, { keep: true });
   }
 
-  // ---- edits
-
   /* Edits the receptions of a stroke. Its lane shows them before the script is played. */
   paint(lane, from, to) {
     const letter = brushNow().value, { group } = lane ?? {}, { timeline, sent, rows } = this;
@@ -129,8 +127,6 @@ class ScriptTab extends Tab {
     if (receivers !== n) for (const row of rows) records.editReceivers(row, receivers);
     this.edited({ fit: true });
   }
-
-  // ---- a script
 
   take(text) {
     const rows = records.read(text);
@@ -250,8 +246,6 @@ class ScriptTab extends Tab {
     const line = before.split("\n").length, { lineHeight } = getComputedStyle(area);
     area.scrollTop = Math.max(0, (line - 4) * parseFloat(lineHeight));
   }
-
-  // ---- a slot
 
   receptionInWords(letter, slot) {
     if (letter[0] !== "G") return { L: "loses", R: "restarts", W: "gets a wrong group" }[letter[0]] ?? "";

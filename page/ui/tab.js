@@ -1,6 +1,5 @@
-/* What the tabs of a log and of a script share: a timeline, one look at a time, undo, links, and what is not saved. A
-   tab has `text` for a link, `show` for a look, `showProblem`, `settingsOf` for the options of a link, `open`, `save`
-   and `isUnsaved`, and for its timeline `showSlot`, `paint` and `painted`, `station`, and its answer `inOneLine`. */
+/* What the tabs of a log and of a script share. A tab has `text`, `show` for a look, `showProblem`, `settingsOf` for a
+   link, `open`, `save`, `isUnsaved`, and for its timeline `showSlot`, `paint`, `painted`, `station`, `inOneLine`. */
 import * as links from "./links.js";
 import { $, entitle, isolated, problemOf, soon } from "./parts.js";
 import { Timeline } from "./timeline.js";
@@ -29,7 +28,8 @@ export class Tab {
 
   /* Shows which file the tab holds, and whether it was edited; nothing if it holds none. */
   nameFile(name, isEdited = false) {
-    this.field("file-name").replaceChildren(...name ? [isolated(name), isEdited ? ", edited" : ""] : []);
+    const edited = isEdited ? ", edited" : "";
+    this.field("file-name").replaceChildren(...name ? [isolated(name), edited] : []);
     entitle();
   }
 

@@ -56,8 +56,6 @@ export class Timeline {
     this.draw();
   }
 
-  // ---- the slots in sight
-
   /* Shows these lanes. All slots come into sight if their number is another one. */
   show(lanes, count, { fit = false } = {}) {
     const before = this.count;
@@ -129,8 +127,6 @@ export class Timeline {
     const { cursor, tab } = this, slot = `slot ${number(cursor)} of ${number(this.count)}`;
     return [slot, tab.line(cursor), lines.time(cursor), tab.clock(cursor)].filter(Boolean).join(" · ");
   }
-
-  // ---- the pointer
 
   /* Returns whether a pointer is on the axis, the row of slot numbers. */
   isAxis({ offsetX, offsetY }) { return offsetY < painter.AXIS && offsetX >= this.gutter; }

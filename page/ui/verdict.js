@@ -69,7 +69,8 @@ function lostPause({ audit, log, m, k }) {
 /* The kind of the card and its elements. A no may be the recording's and not the encoder's. */
 function answer(given, no, actions) {
   const { audit, log, groups, m, k, w } = given, { few, ...doubts } = { ...doubtsOf(given), ...actions };
-  const dwell = `M = ${number(m)} (${lines.time(m)})${k ? ` and K ${w ? "+ W - 1 " : ""}= ${number(k)}` : ""}`;
+  const more = w ? "+ W - 1 " : "", late = k ? ` and K ${more}= ${number(k)}` : "";
+  const dwell = `M = ${number(m)} (${lines.time(m)})${late}`;
   if (no) {
     const pause = lostPause(given), lost = pause ? `: the recording lost slots ${pause.map(number).join(" to ")}` : "";
     const isDoubted = pause || audit.lack, gaps = filled("doubts", { gaps: doubts.gaps, ...actions });
