@@ -66,3 +66,4 @@ class Chromium(ChromiumCase):
                 click(b, "#script-save")
                 self.check("a saved script is not unsaved",
                            (waited_for(os.path.join(saved, "script.csv")) != b"", b.run(leaves)), (True, True))
+                os.remove(os.path.join(saved, "script.csv"))
