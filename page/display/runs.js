@@ -60,27 +60,20 @@ class List {
   }
 }
 
-/* The runs [from, to) of a part of a display. If there is `until`, it has by the value's number the slot before which
-   nobody sent it. A run may be drawn old from the slot on that `oldFrom` gives for its first slot that is no mix. */
+/* The runs [from, to) of a part of a display. A run that is no mix may be drawn old from the slot on that `oldFrom`
+   gives for its first one. */
 class Runs extends List {
-  constructor({ starts, numbers, states, end }, values, until, kind) {
+  constructor({ starts, numbers, states, end }, values, kind) {
     super();
-    Object.assign(this, { starts, numbers, states, end, values, until, kind, oldFrom: () => Infinity });
+    Object.assign(this, { starts, numbers, states, end, values, kind, oldFrom: () => Infinity });
   }
 
   isShown(i) { return this.numbers[i] !== NOTHING; }
   value(i) { return this.isShown(i) ? this.values.at(this.numbers[i]) : null; }
 
-  /* Whether a run begins as one that nobody sent, and up to where it is so. */
-  isMix(i) {
-    if (!this.isShown(i)) return false;
-    return this.until ? this.until[this.numbers[i]] > this.starts[i] : STATES[this.states[i]] === "mix";
-  }
-
-  mixTo(i) {
-    if (!this.isMix(i)) return this.from(i);
-    return this.until ? Math.min(this.to(i), this.until[this.numbers[i]]) : this.to(i);
-  }
+  isMix(i) { return this.isShown(i) && STATES[this.states[i]] === "mix"; }
+  /* Up to where a run is a mix. */
+  mixTo(i) { return this.isMix(i) ? this.to(i) : this.from(i); }
 
   /* The word for what was on air before; empty for other runs. */
   stale(i) {
@@ -156,8 +149,8 @@ const NO_RUNS = { starts: new Int32Array(0), numbers: new Int32Array(0), states:
 
 /* A display over time: the runs of each part. */
 export class View {
-  constructor(packed = {}, values = null, until = null) {
-    const runsOf = (part) => new Runs(packed[part] ?? NO_RUNS, values, until, KIND_OF[part]);
+  constructor(packed = {}, values = null) {
+    const runsOf = (part) => new Runs(packed[part] ?? NO_RUNS, values, KIND_OF[part]);
     this.parts = Object.fromEntries(PARTS.map((part) => [part, runsOf(part)]));
   }
 

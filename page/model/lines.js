@@ -12,6 +12,16 @@ export function time(slots) {
   return minutes < 60 ? short : `${Math.floor(minutes / 60)} h ${short}`;
 }
 
+/* Slots as spans, in order: 2-4 and 9 are 2, 3, 4 and 9. */
+export function spansOf(slots) {
+  const spans = [];
+  for (const slot of [...slots].sort((a, b) => a - b)) {
+    const last = spans.at(-1);
+    if (last && last[1] + 1 === slot) last[1] = slot; else spans.push([slot, slot]);
+  }
+  return spans.map(([first, last]) => first === last ? `${first}` : `${first}-${last}`);
+}
+
 export const groupIn = (line) => line.split(" ").map((word) => parseInt(word, 16));
 
 /* The notes of a run, one a line, without the name of the program. */

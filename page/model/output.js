@@ -6,7 +6,6 @@ export const KIND_OF = { text: "text", name: "name", tag1: "tags", tag2: "tags" 
 export const PARTS = Object.keys(KIND_OF);
 const SHADES = 3;
 export const NOTHING = -1;
-export const NEVER = 2 ** 31 - 1;
 /* What a run that shows something is, as the program says. */
 export const STATES = ["on air", "mix", "old", "replaced"];
 /* Why a run shows nothing, as the program says. Nothing was shown before the first one. */
@@ -106,11 +105,13 @@ export function eventsOf({ text, name }) {
   return { slots: Int32Array.from(gone, (it) => it.slot), numbers: Int32Array.from(gone, (it) => it.event) };
 }
 
-/* The slot in which one of these packed displays shows each value first; NEVER for those that none shows. */
-export function firstShown(all, count) {
-  const first = new Int32Array(count).fill(NEVER);
-  for (const { starts, numbers } of all.flatMap((display) => Object.values(display))) {
-    numbers.forEach((number, i) => { if (number !== NOTHING) first[number] = Math.min(first[number], starts[i]); });
+/* Marks the runs of a packed display that are mixes, by the lines of `witness --lose`, which are in order. */
+const MIX = STATES.indexOf("mix");
+export function markMixes(display, printed) {
+  const from = {};
+  for (const [, slot, , part] of printed.matchAll(new RegExp(LINE, "gm"))) {
+    const { starts, states } = display[part], at = starts.indexOf(Number(slot), from[part]);
+    states[at] = MIX;
+    from[part] = at;
   }
-  return first;
 }

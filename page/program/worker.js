@@ -61,17 +61,17 @@ function wholeOf(asked) {
   return { ...state.whole, values: state.alone.values, alone: state.alone.view, codes: state.alone.codes.slice() };
 }
 
-/* What receivers show that lose these slots. Nobody sent what no receiver without losses shows before, or within M
-   slots. */
+/* What receivers show that lose these slots, and what of it is a mix, as `witness` says: it knows no window. */
 function lossyOf(asked) {
-  const { pi, m, lost } = asked, whole = wholeOf(asked), { values, codes } = whole;
+  const { pi, m, w, lost } = asked, { values, codes } = wholeOf(asked);
   const shown = logfile.whileLost(state.bytes, state.log, lost, () => {
     return { ...shownBy(asked, values), alone: shownBy({ pi, m: LONGEST_DWELL }, values).view };
   });
-  const until = output.firstShown([whole.view, whole.alone], values.length);
-  for (let i = 0; i < until.length; i++) if (until[i] !== output.NEVER) until[i] -= m - 1;
+  const losing = ["witness", "--pi", pi, "--m", m, "--lose", lines.spansOf(lost).join(",")];
+  if (!w) output.markMixes(shown.view, run(losing).output);
+  output.markMixes(shown.alone, run([...losing, "--flag-alone"]).output);
   for (const slot of lost) if (slot < codes.length) codes[slot] = lines.NOTHING;
-  return { ...shown, values, until, codes };
+  return { ...shown, values, codes };
 }
 
 const auditing = ({ pi, m, k, running }, ...more) =>
@@ -111,9 +111,9 @@ const REQUESTS = {
 
   decode(asked) {
     logOf();
-    const { view, alone, until = null, codes, values, ...shown } = asked.lost.length ? lossyOf(asked) : wholeOf(asked);
+    const { view, alone, codes, values, ...shown } = asked.lost.length ? lossyOf(asked) : wholeOf(asked);
     const copy = structuredClone({ view, alone, codes }), events = output.eventsOf(view);
-    return { ...shown, ...copy, until, values: values.packed(), events, changes: output.changesOf(view) };
+    return { ...shown, ...copy, values: values.packed(), events, changes: output.changesOf(view) };
   },
 
   /* The text that a receiver without losses shows in a slot. */

@@ -1,4 +1,5 @@
 /* Links that hold a log or a script, with the options, the slot, the zoom and an end mark; and the address. */
+import * as lines from "../model/lines.js";
 import { $, make } from "./parts.js";
 
 /* The most bytes of a link, and of its text: a few letters can hold many bytes. */
@@ -126,14 +127,7 @@ export function look(timeline, { given, within }) {
 }
 
 /* Slots as a link has them: 2-4.9 is 2, 3, 4 and 9. */
-export function inLetters(slots) {
-  const spans = [];
-  for (const slot of [...slots].sort((a, b) => a - b)) {
-    const last = spans.at(-1);
-    if (last && last[1] + 1 === slot) last[1] = slot; else spans.push([slot, slot]);
-  }
-  return spans.map(([first, last]) => first === last ? first : `${first}-${last}`).join(".");
-}
+export const inLetters = (slots) => lines.spansOf(slots).join(".");
 
 /* The slots of these letters, as far as a log may have them. Throws at other letters, and if they do not ascend. */
 export function slotsOf(letters, end = MOST_SLOTS) {

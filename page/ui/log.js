@@ -160,7 +160,7 @@ class LogTab extends Tab {
 
   async showDisplay(asked, fit, signal) {
     const got = await this.display.ask("decode", asked, { signal }), values = new Texts(got.values);
-    const [view, alone] = [got.view, got.alone].map((packed) => new View(packed, values, got.until));
+    const [view, alone] = [got.view, got.alone].map((packed) => new View(packed, values));
     const { codes, events } = got, pi = parseInt(asked.pi, 16);
     Object.assign(this, { view, alone, codes, events, pi, w: asked.w });
     alone.parts.text.oldFrom = this.oldFrom();
