@@ -58,7 +58,7 @@ export function runBytes(words, input) {
     const { at, length, failures, noted, status, used } = call(given, bytes, room, heap), fits = length <= room;
     const last = Math.min(length, FAULT.length), hasFault = fits && textAt(at.output + length - last, last) === FAULT;
     if (failures > 0 || hasFault) {
-      heap *= 4;
+      heap *= 2;
       if (heap > MOST) throw new Error("no memory for this input");
     } else if (!fits) {
       room = length;
