@@ -206,11 +206,13 @@ pub record NoMemoryFor (task : Task) (w : Traffic) (status : ℕ) : Type 0 where
   pub status_is : status ≡ 1
   pub told : PutsAfter task Memory w
 
--- a receiver that is tuned so lost these slots, and a receiver that loses nothing was looked at for so many slots;
--- without slots they were refused, and nothing was read
-abbrev pub LossRuns : Option (List Burst) → Tuning → ℕ → Task → ReaderOver → Traffic → ℕ → Type 0
-LossRuns None t ahead task r w status = (RefusesSpans task w status ⊎ NoMemoryFor task w status) × r.Untouched
-LossRuns (Some lost) t ahead task r w status = Runs (Loses t ahead lost r.traffic) witness_status task w status
+-- a receiver lost these slots, with this dwell or with the flag bit alone, and a receiver that loses nothing was looked
+-- at for a dwell; without slots they were refused, and nothing was read
+abbrev pub LossRuns : Option (List Burst) → Bool → Tuning → ReaderOver → Traffic → ℕ → Type 0
+LossRuns None alone t r w status =
+    (RefusesSpans (Lose alone) w status ⊎ NoMemoryFor (Lose alone) w status) × r.Untouched
+LossRuns (Some lost) alone t r w status =
+    Runs (Loses (lossy alone t) t.dwell lost r.traffic) witness_status (Lose alone) w status
 
 -- the engine of the task ran, with receivers that are tuned so; the receiver of `decode` has the window of the task,
 -- and the text gives the slots that the receiver of `Lose` loses
@@ -228,7 +230,7 @@ TaskRuns (Audit late running false) lose t r w status =
 TaskRuns (Audit late running true) lose t r w status =
     Runs (Lists (auditing_of t late running) (2 ^ 32) r.traffic) verdict_status (Audit late running true) w status
 TaskRuns Witness lose t r w status = Runs (Witnesses t r.traffic) witness_status Witness w status
-TaskRuns (Lose alone) lose t r w status = LossRuns (bursts_in lose) (lossy alone t) t.dwell (Lose alone) r w status
+TaskRuns (Lose alone) lose t r w status = LossRuns (bursts_in lose) alone t r w status
 TaskRuns (Slots grain only) lose t r w status =
     Runs (Fills (filling_of t (1000 * grain) only) r.traffic) times_status (Slots grain only) w status
 

@@ -72,12 +72,12 @@ simulation_by says rests why (Some station) task r w status ran =
     script_by says (with_form (Simulation why) station) task r.before w status ran
 
 -- the run of a receiver that loses given slots, with other statements about its reads
-loss_by : (P Q : Type 0) {U V : Type 0} → (U → V) → (lost : Option (List Burst)) (t : Tuning) (ahead : ℕ) (task : Task)
+loss_by : (P Q : Type 0) {U V : Type 0} → (U → V) → (lost : Option (List Burst)) (alone : Bool) (t : Tuning)
     (r w : Traffic) (status : ℕ)
-    → LossRuns lost t ahead task (record { traffic = r; ReadFailed = P; Untouched = U }) w status
-    → LossRuns lost t ahead task (record { traffic = r; ReadFailed = Q; Untouched = V }) w status
-loss_by P Q rests None t ahead task r w status ran = (ran.0, rests ran.1)
-loss_by P Q rests (Some lost) t ahead task r w status ran = ran
+    → LossRuns lost alone t (record { traffic = r; ReadFailed = P; Untouched = U }) w status
+    → LossRuns lost alone t (record { traffic = r; ReadFailed = Q; Untouched = V }) w status
+loss_by P Q rests None alone t r w status ran = (ran.0, rests ran.1)
+loss_by P Q rests (Some lost) alone t r w status ran = ran
 
 -- the run of a task, with other statements about its reads
 pub task_by : {P Q U V : Type 0} → (P → Q) → (U → V) → (task : Task) (lose : List ℕ) (t : Tuning) (r w : Traffic)
@@ -88,7 +88,7 @@ task_by says rests (Audit late running false) lose t r w status ran = ran
 task_by says rests (Audit late running true) lose t r w status ran = ran
 task_by says rests Witness lose t r w status ran = ran
 task_by says rests (Lose alone) lose t r w status ran =
-    loss_by _ _ rests (bursts_in lose) (lossy alone t) t.dwell (Lose alone) r w status ran
+    loss_by _ _ rests (bursts_in lose) alone t r w status ran
 task_by says rests (Slots grain only) lose t r w status ran = ran
 task_by says rests (Encode programme late) lose t r w status ran =
     script_by says (with_form Log (station_of t programme (once late) WithDwell)) (Encode programme late) r.before w

@@ -255,16 +255,17 @@ fn lose<R: TellingRead, W: TellingWrite>(
     writer: &mut W,
     notes: &mut RunNotes,
 ) -> u8
-    ensures { LossRuns (bursts_in request.now.lose.now) (specs.lossy flag_alone (tuned pi request.now.dwell))
-        request.now.dwell request.now.task (reader_over R.remaining R.failures R.reads reader.old reader.new)
+    ensures { LossRuns (bursts_in request.now.lose.now) flag_alone (tuned pi request.now.dwell)
+        (reader_over R.remaining R.failures R.reads reader.old reader.new)
         (traffic W.contents W.failures writer.old writer.new) result }
 {
+    let task = Task::Lose { flag_alone };
     let Ok(bursts) = bursts_of(alloc, request.lose.as_bytes()) else {
-        return fail_with(request.task, LogFault::Memory, writer, &mut notes.end);
+        return fail_with(task, LogFault::Memory, writer, &mut notes.end);
     };
     let Some(bursts) = bursts else {
         notes.end = End::BadSpans;
-        write_fault_text(request.task, b"fault lose", writer);
+        write_fault_text(task, b"fault lose", writer);
         return REFUSED;
     };
     let losing = Losing {
@@ -275,7 +276,7 @@ fn lose<R: TellingRead, W: TellingWrite>(
     };
     match lose_with_notes(alloc, reader, writer, &losing, &mut notes.log) {
         Ok(found) => answer_by(found, NO, OK, &mut notes.end),
-        Err(fault) => fail_with(request.task, fault, writer, &mut notes.end),
+        Err(fault) => fail_with(task, fault, writer, &mut notes.end),
     }
 }
 
