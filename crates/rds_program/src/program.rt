@@ -246,6 +246,8 @@ fn run_task<R: TellingRead, W: TellingWrite>(
 }
 
 /// Runs `witness` for a receiver that loses given slots. Refuses a text that does not give them.
+// A function of its own: inside its caller it would change how the loops of the other engines are compiled.
+#[inline(never)]
 fn lose<R: TellingRead, W: TellingWrite>(
     alloc: Global,
     request: &Request<'_>,
