@@ -1,8 +1,8 @@
 -- Lemmas of filled logs.
 pub mod Counting
-pub mod Dates
 pub mod Digits
 pub mod Filling
+pub mod Minutes
 pub mod SafeViews
 pub mod Short
 pub mod WorkedRows

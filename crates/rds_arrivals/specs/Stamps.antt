@@ -63,12 +63,17 @@ date_at text place =
     then days_to (100 * century + year) month day else None)
     (two_at text (place + 8))) (two_at text (place + 5))) (two_at text (place + 2))) (two_at text place)
 
--- `07:58:12`; a leap second is the second after it
-abbrev pub second_of_day_at : List ℕ → ℕ → Option ℕ
-second_of_day_at text place =
-    option_and_then (λ hour. option_and_then (λ minute. option_and_then (λ second.
-    if has text (place + 2) 58 && has text (place + 5) 58 then Some ((hour * 60 + minute) * 60 + second) else None)
-    (up_to 60 (two_at text (place + 6)))) (up_to 59 (two_at text (place + 3)))) (up_to 23 (two_at text place))
+-- `2024/06/01 07:58` or `2024-06-01T07:58`; the year 0 begins with minute 0
+abbrev pub minute_at : List ℕ → ℕ → Option ℕ
+minute_at text place =
+    option_and_then (λ days. option_and_then (λ hour. option_and_then (λ minute.
+    if has_either text (place + 10) 32 84 && has text (place + 13) 58
+    then Some ((days * 24 + hour) * 60 + minute) else None)
+    (up_to 59 (two_at text (place + 14)))) (up_to 23 (two_at text (place + 11)))) (date_at text place)
+
+-- `:12`; a leap second is the second after it
+abbrev pub second_at : List ℕ → ℕ → Option ℕ
+second_at text place = if has text place 58 then up_to 60 (two_at text (place + 1)) else None
 
 -- ---- fractions, zones, seconds
 
@@ -128,13 +133,10 @@ zoned text local place =
 abbrev pub dated : List ℕ → Option Stamp
 dated text =
     let at = if has text 0 64 then 1 else 0 in
-    option_and_then (λ days.
-    if has_either text (at + 10) 32 84
-    then option_and_then (λ second. let rest = fraction_at text (at + 19) in
-    zoned text ((days * 86400 + second) * 1000000 + rest.time) rest.end)
-    (second_of_day_at text (at + 11))
-    else None)
-    (date_at text at)
+    option_and_then (λ minutes. option_and_then (λ second. let rest = fraction_at text (at + 19) in
+    zoned text ((minutes * 60 + second) * 1000000 + rest.time) rest.end)
+    (second_at text (at + 16)))
+    (minute_at text at)
 
 -- the number of the first n bytes, which are digits
 abbrev pub number_of : List ℕ → ℕ → ℕ

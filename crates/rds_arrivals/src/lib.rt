@@ -11,14 +11,14 @@
 
 mod calendar;
 mod grain;
-mod last_date;
+mod last_minute;
 mod laws;
 mod lost;
 mod stamp;
 mod stretch;
 
 pub use grain::Grain;
-pub use last_date::LastDate;
+pub use last_minute::LastMinute;
 pub use laws::{
     a_slot_is_too_much, filled_logs_are_on_time, filled_logs_are_safe, lost_slots_are_counted,
 };

@@ -3,7 +3,7 @@ ghost use Rattle.rds_arrivals.specs.Stamps as specs;
 ghost use Rattle.std.specs.Prelude.{◌≡◌, ◌≤◌, ◌<◌, ◌+◌, ◌^◌, ℕ, IfSome, IsTrue, length, slice_index};
 
 use crate::calendar::days_to;
-use crate::last_date::LastDate;
+use crate::last_minute::LastMinute;
 
 /// A time in microseconds, and the place after it in the text.
 #[derive(Clone, Copy)]
@@ -22,12 +22,12 @@ pub fn stamp_in(text: &[u8]) -> Option<Stamp>
     ensures value { result ≡ specs.stamp_in text.now }
     ensures within { IfSome result (λ stamp. stamp.end ≤ length text.now) }
 {
-    stamp_after(&mut LastDate::new(), text)
+    stamp_after(&mut LastMinute::new(), text)
 }
 
-/// Does what [`stamp_in`] does for a text of many, and keeps its date: most times have the date of the one before.
+/// Does what [`stamp_in`] does for a text of many, and keeps its minute: most times have the minute of the one before.
 #[tactic(auto, unfolding(crate::specs::Stamps::stamp_in))]
-pub fn stamp_after(last: &mut LastDate, text: &[u8]) -> Option<Stamp>
+pub fn stamp_after(last: &mut LastMinute, text: &[u8]) -> Option<Stamp>
     requires { length text.now ≤ 64 }
     ensures value { result ≡ specs.stamp_in text.now }
     ensures within { IfSome result (λ stamp. stamp.end ≤ length text.now) }
@@ -102,7 +102,7 @@ fn two_up_to(text: &[u8], place: usize, most: u64) -> Option<u64>
 }
 
 /// Returns the time of a date and a time of day.
-fn dated(last: &mut LastDate, text: &[u8]) -> Option<Stamp>
+fn dated(last: &mut LastMinute, text: &[u8]) -> Option<Stamp>
     requires { length text.now ≤ 64 }
     ensures { result ≡ specs.dated text.now }
 {
@@ -110,18 +110,33 @@ fn dated(last: &mut LastDate, text: &[u8]) -> Option<Stamp>
     if text.len() < at + 19 {
         return None;
     }
-    let days = last.days_at(text, at)?;
-    if !has_either(text, at + 10, b' ', b'T') {
-        return None;
-    }
-    let second = second_of_day_at(text, at + 11)?;
+    let minutes = last.minutes_at(text, at)?;
+    let second = second_at(text, at + 16)?;
     let fraction = fraction_at(text, at + 19);
-    let local = (days * 86_400 + second) * SECOND + fraction.time;
+    let local = (minutes * 60 + second) * SECOND + fraction.time;
     zoned(text, local, fraction.end)
 }
 
+/// Returns the minute of a date and a time of day at this place, such as `2024/06/01 07:58`. The year 0 begins with
+/// minute 0.
+// Cold path.
+#[inline(never)]
+pub(crate) fn minute_at(text: &[u8], place: usize) -> Option<u64>
+    requires { place ≤ 1 }
+    ensures value { result ≡ specs.minute_at text.now place }
+    ensures small { IfSome result (λ minutes. minutes < 2 ^ 33) }
+{
+    let days = date_at(text, place)?;
+    let hour = two_up_to(text, place + 11, 23)?;
+    let minute = two_up_to(text, place + 14, 59)?;
+    if !has_either(text, place + 10, b' ', b'T') || !has(text, place + 13, b':') {
+        return None;
+    }
+    Some((days * 24 + hour) * 60 + minute)
+}
+
 /// Returns the day of a date at this place, such as `2024/06/01` or `2024-06-01`.
-pub(crate) fn date_at(text: &[u8], place: usize) -> Option<u64>
+fn date_at(text: &[u8], place: usize) -> Option<u64>
     requires { place ≤ 1 }
     ensures value { result ≡ specs.date_at text.now place }
     ensures small { IfSome result (λ days. days ≤ 4000000) }
@@ -136,19 +151,16 @@ pub(crate) fn date_at(text: &[u8], place: usize) -> Option<u64>
     days_to(100 * century + year, month, day)
 }
 
-/// Returns the second of a time of day at this place, such as `07:58:12`. A leap second is the one after it.
-fn second_of_day_at(text: &[u8], place: usize) -> Option<u64>
-    requires { place ≤ 12 }
-    ensures value { result ≡ specs.second_of_day_at text.now place }
-    ensures small { IfSome result (λ second. second ≤ 86400) }
+/// Returns the second at this place, such as `:12`. A leap second is the one after it.
+fn second_at(text: &[u8], place: usize) -> Option<u64>
+    requires { place ≤ 17 }
+    ensures value { result ≡ specs.second_at text.now place }
+    ensures small { IfSome result (λ second. second ≤ 60) }
 {
-    let hour = two_up_to(text, place, 23)?;
-    let minute = two_up_to(text, place + 3, 59)?;
-    let second = two_up_to(text, place + 6, 60)?;
-    if !has(text, place + 2, b':') || !has(text, place + 5, b':') {
+    if !has(text, place, b':') {
         return None;
     }
-    Some((hour * 60 + minute) * 60 + second)
+    two_up_to(text, place + 1, 60)
 }
 
 /// Returns the microseconds of a fraction at this place, such as `.25`. There may be none. Its first six digits count.

@@ -12,7 +12,7 @@ ghost use Rattle.rds_log.specs.declared.filler.TheConstants.{FILLED_ROOM, LINE_R
 
 use crate::log_line::{DECIDING, LogLine};
 use crate::pace::Pace;
-use rds_arrivals::{Break, Grain, LastDate, Stamp, lost_between, stamp_after};
+use rds_arrivals::{Break, Grain, LastMinute, Stamp, lost_between, stamp_after};
 use rds_fields::Dwell;
 use rds_io::{Lines, TellingWrite, WriteFault, word_at};
 
@@ -100,12 +100,12 @@ impl Filler {
         Times::Fine
     }
 
-    /// Takes a line with this meaning, from its first bytes, and keeps its date.
+    /// Takes a line with this meaning, from its first bytes, and keeps its minute.
     pub(crate) fn line<W: TellingWrite>(
         &mut self,
         said: LogLine,
         first: &[u8],
-        date: &mut LastDate,
+        minute: &mut LastMinute,
         writer: &mut W,
     ) -> Result<(), WriteFault>
         requires { length first.now ≤ 60 }
@@ -120,7 +120,7 @@ impl Filler {
     {
         match said {
             LogLine::Skip => Ok(()),
-            LogLine::Slot(group) => self.slot(group.is_some(), first, date, writer),
+            LogLine::Slot(group) => self.slot(group.is_some(), first, minute, writer),
         }
     }
 
@@ -130,7 +130,7 @@ impl Filler {
         &mut self,
         is_group: bool,
         first: &[u8],
-        date: &mut LastDate,
+        minute: &mut LastMinute,
         writer: &mut W,
     ) -> Result<(), WriteFault>
         requires { length first.now ≤ 60 }
@@ -143,7 +143,7 @@ impl Filler {
             (λ _. WroteFilledPart self.old.filling
             (traffic W.contents W.failures start writer.new) (line ∷ lines)) }
     {
-        let Some(stamp) = stamp_of(date, first) else {
+        let Some(stamp) = stamp_of(minute, first) else {
             self.count_untimed(is_group);
             return Ok(());
         };
@@ -314,8 +314,8 @@ impl Filler {
     }
 }
 
-/// Returns the time of a slot's line, from its first bytes, and keeps its date.
-pub(crate) fn stamp_of(date: &mut LastDate, start: &[u8]) -> Option<Stamp>
+/// Returns the time of a slot's line, from its first bytes, and keeps its minute.
+pub(crate) fn stamp_of(minute: &mut LastMinute, start: &[u8]) -> Option<Stamp>
     requires { length start.now ≤ 60 }
     ensures value { result ≡ time_of start.now }
     ensures within { IfSome result (λ stamp. 20 + stamp.end ≤ length start.now) }
@@ -323,7 +323,7 @@ pub(crate) fn stamp_of(date: &mut LastDate, start: &[u8]) -> Option<Stamp>
     if start.len() < TIME {
         return None;
     }
-    ended_within(stamp_after(date, &start[TIME..]))
+    ended_within(stamp_after(minute, &start[TIME..]))
 }
 
 /// Returns this time if it ends before the last of the bytes that are kept of a line, so that the line shows where it

@@ -3,7 +3,7 @@ ghost use Rattle.std.specs.Prelude.{◌≤◌, length};
 
 use crate::filler::{TIME, stamp_of};
 use arrayvec::ArrayVec;
-use rds_arrivals::LastDate;
+use rds_arrivals::LastMinute;
 
 /// The most bytes of a time that is kept.
 const LONGEST: usize = 40;
@@ -31,7 +31,7 @@ impl LineTime {
         requires { length start.now ≤ 60 }
     {
         let mut time = LineTime::none();
-        let Some(stamp) = stamp_of(&mut LastDate::new(), start) else {
+        let Some(stamp) = stamp_of(&mut LastMinute::new(), start) else {
             return time;
         };
         let text = &start[TIME..TIME + stamp.end];

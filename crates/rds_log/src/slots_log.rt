@@ -10,7 +10,7 @@ use crate::filler::{Filler, Filling, Times};
 use crate::log_line::LogLine;
 use crate::notes::BadStart;
 use crate::source::Source;
-use rds_arrivals::{LastDate, Stretch};
+use rds_arrivals::{LastMinute, Stretch};
 use rds_io::{LogFault, TellingRead, TellingWrite};
 
 /// Notes of `slots` for a person.
@@ -68,10 +68,10 @@ pub fn fill_with_notes<R: TellingRead, W: TellingWrite>(
     let mut source = Source::new(MOST_READS);
     let mut filler = Filler::new(filling);
     let mut said = LogLine::Skip;
-    let mut date = LastDate::new();
+    let mut minute = LastMinute::new();
     loop {
         match source.next(reader, &mut said) {
-            Ok(true) => filler.line(said, source.start(), &mut date, writer)?,
+            Ok(true) => filler.line(said, source.start(), &mut minute, writer)?,
             Ok(false) => {
                 notes.untimed = filler.untimed;
                 notes.others = filler.others;
