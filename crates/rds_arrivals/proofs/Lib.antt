@@ -2,6 +2,7 @@
 pub mod Counting
 pub mod Digits
 pub mod Filling
+pub mod Fractions
 pub mod Minutes
 pub mod SafeViews
 pub mod Short

@@ -176,38 +176,15 @@ fn fraction_at(text: &[u8], place: usize) -> Stamp
             end: place,
         };
     }
-    let first = place + 1;
-    let end = after_digits(text, first);
-    let thousands = 100 * digit_before(text, first, end)
-        + 10 * digit_before(text, first + 1, end)
-        + digit_before(text, first + 2, end);
-    if end <= first + 3 {
-        return Stamp {
-            time: 1000 * thousands,
-            end,
-        };
+    let mut time = 0;
+    let mut weight = 100_000;
+    let mut end = place + 1;
+    while let Some(digit) = digit_at(text, end) {
+        time += weight * digit;
+        weight /= 10;
+        end += 1;
     }
-    let ones = 100 * digit_before(text, first + 3, end)
-        + 10 * digit_before(text, first + 4, end)
-        + digit_before(text, first + 5, end);
-    Stamp {
-        time: 1000 * thousands + ones,
-        end,
-    }
-}
-
-/// Returns the digit at this place, or 0 if the digits end before.
-fn digit_before(text: &[u8], place: usize, end: usize) -> u64
-    ensures value { result ≡ specs.digit_before text.now place end }
-    ensures small { result ≤ 9 }
-{
-    if place >= end {
-        return 0;
-    }
-    match digit_at(text, place) {
-        Some(digit) => digit,
-        None => 0,
-    }
+    Stamp { time, end }
 }
 
 /// Returns the first place from this one on that has no digit.
