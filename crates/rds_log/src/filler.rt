@@ -218,6 +218,9 @@ impl Filler {
             (λ _. LostOutput (traffic W.contents W.failures start writer.new)
             (total ++ more_lines why self.old.told lost)) }
     {
+        if why.is_none() && lost <= self.told {
+            return Ok(());
+        }
         let more = lost.saturating_sub(self.told);
         self.told = self.told.max(lost);
         self.push_comment(why, writer)?;
