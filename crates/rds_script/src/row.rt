@@ -291,33 +291,45 @@ fn read_receptions(field: &[u8], receptions: &mut ArrayVec<Reception, MOST_RECEI
     let _message: Option<Message> = None;
     let mut rest = field;
     while let Some((letter, after)) = rest.split_first() {
-        let Some((reception, others)) = next_reception(*letter, after) else {
-            return false;
-        };
         if receptions.len() == MOST_RECEIVERS {
             return false;
         }
+        if let Some(reception) = plain_reception(*letter, after) {
+            receptions.push(reception);
+            rest = after;
+            continue;
+        }
+        let Some((reception, others)) = next_reception(*letter, after) else {
+            return false;
+        };
         receptions.push(reception);
         rest = others;
     }
     true
 }
 
-/// Returns the reception of a letter and the digits after it, and what comes after them. Most letters have no digits,
-/// and pay for none.
+/// Returns the reception of a letter that no digit follows, as most are. `None` for others.
 #[inline(always)]
+fn plain_reception(byte: u8, after: &[u8]) -> Option<Reception>
+    ensures { IfSome result (λ reception. IsDigitCut after.now [] after.now
+        × (byte ≡ letter reception) × HasDigits reception []) }
+{
+    if digits_in_front(after) > 0 {
+        return None;
+    }
+    letter_alone(byte)
+}
+
+/// Returns the reception of a letter and the digits after it, and what comes after them.
+// Cold path.
+#[inline(never)]
 fn next_reception(byte: u8, after: &[u8]) -> Option<(Reception, &[u8])>
     ensures some { IfSome result (λ next. (digits : List ℕ) × IsDigitCut after.now digits next.1.now
         × (byte ≡ letter next.0) × HasDigits next.0 digits) }
     ensures none { IfNone result ((digits rest : List ℕ) → IsDigitCut after.now digits rest
         → (reception : Reception) → byte ≡ letter reception → HasDigits reception digits → ⊥) }
 {
-    let count = digits_in_front(after);
-    if count == 0 {
-        let reception = reception_of(byte, &[])?;
-        return Some((reception, after));
-    }
-    let (digits, rest) = after.split_at(count);
+    let (digits, rest) = after.split_at(digits_in_front(after));
     Some((reception_of(byte, digits)?, rest))
 }
 
@@ -338,19 +350,33 @@ pub(crate) fn digits_in_front(text: &[u8]) -> usize
 }
 
 /// Returns the reception of a letter and the digits after it.
-#[inline(always)]
 pub(crate) fn reception_of(byte: u8, digits: &[u8]) -> Option<Reception>
     ensures some { IfSome result (λ reception. (byte ≡ letter reception)
         × HasDigits reception digits.now) }
     ensures none { IfNone result ((reception : Reception) → byte ≡ letter reception
         → HasDigits reception digits.now → ⊥) }
 {
+    if digits.is_empty() {
+        return letter_alone(byte);
+    }
     match byte {
-        b'G' if digits.is_empty() => Some(Reception::Got(0)),
         b'G' => Some(Reception::Got(lateness_of(digits)?)),
-        b'L' if digits.is_empty() => Some(Reception::Lost),
-        b'R' if digits.is_empty() => Some(Reception::Restart),
         b'W' => Some(Reception::Wrong(wrong_message(digits)?)),
+        _ => None,
+    }
+}
+
+/// Returns the reception of a letter without digits.
+#[inline(always)]
+fn letter_alone(byte: u8) -> Option<Reception>
+    ensures some { IfSome result (λ reception. (byte ≡ letter reception) × HasDigits reception []) }
+    ensures none { IfNone result ((reception : Reception) → byte ≡ letter reception
+        → HasDigits reception [] → ⊥) }
+{
+    match byte {
+        b'G' => Some(Reception::Got(0)),
+        b'L' => Some(Reception::Lost),
+        b'R' => Some(Reception::Restart),
         _ => None,
     }
 }

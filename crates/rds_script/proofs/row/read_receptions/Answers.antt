@@ -15,8 +15,15 @@ returns-then-len-eq-MOST_RECEIVERS-clause-none c _ =
 pub loop-letter-preserved : goal.loop-letter-preserved
 loop-letter-preserved c =
     let (digits, cut, byte, has) = c.in-Some-next_reception.ensures.some in
-    let pushed : c.push.new.self.items ≡ c.loop-letter.receptions.items ++ c.in-Some-next_reception.reception ∷ [] = search rules in
+    let pushed : c.push-in-Some.new.self.items ≡ c.loop-letter.receptions.items ++ c.in-Some-next_reception.reception ∷ [] = search rules in
     rw pushed (one_more c.args.field.now c.loop-letter.rest.now c.in-Some.after.now digits c.in-Some-next_reception.others.now c.loop-letter.receptions.items c.in-Some.letter.now c.in-Some-next_reception.reception
+    c.loop-letter.invariant c.in-Some.ensures.cases.0 cut byte has)
+
+pub loop-letter-preserved-in-Some-plain_reception : goal.loop-letter-preserved-in-Some-plain_reception
+loop-letter-preserved-in-Some-plain_reception c =
+    let (cut, byte, has) = c.in-Some-plain_reception.ensures in
+    let pushed : c.push.new.self.items ≡ c.loop-letter.receptions.items ++ c.in-Some-plain_reception.reception ∷ [] = search rules in
+    rw pushed (one_more c.args.field.now c.loop-letter.rest.now c.in-Some.after.now [] c.in-Some.after.now c.loop-letter.receptions.items c.in-Some.letter.now c.in-Some-plain_reception.reception
     c.loop-letter.invariant c.in-Some.ensures.cases.0 cut byte has)
 
 pub returns-clause-some : goal.returns-clause-some
