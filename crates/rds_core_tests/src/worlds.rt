@@ -332,10 +332,11 @@ fn late_group_not_played(rt: HostRuntime) -> Result<(), Fail> {
 }
 
 /// A receiver shows what it showed but where a text becomes whole or is given up; of one that is not there nothing is
-/// known.
+/// known. All stay if each does: here the second receiver loses each slot.
 #[test]
 fn stays(rt: HostRuntime) -> Result<(), Fail> {
-    let mut world = new_world(rt.alloc(), 1)?;
+    let mut world = new_world(rt.alloc(), 2)?;
+    assert!(rt; !world.all_stay());
     for slot in 0..9 {
         let command = if slot == 4 {
             set_text(b"HI")?
@@ -343,9 +344,11 @@ fn stays(rt: HostRuntime) -> Result<(), Fail> {
             Command::Quiet
         };
         let free = slot < 5;
-        assert!(rt; play_slot(&mut world, &slot_event(command, free, &[GOT])?).is_ok());
-        same(&rt, (slot, world.stays(0)), (slot, slot != 4 && slot != 8));
-        assert!(rt; !world.stays(1));
+        assert!(rt; play_slot(&mut world, &slot_event(command, free, &[GOT, LOST])?).is_ok());
+        let whole = slot != 4 && slot != 8;
+        same(&rt, (slot, world.stays(0)), (slot, whole));
+        same(&rt, (slot, world.all_stay()), (slot, whole));
+        assert!(rt; world.stays(1) && !world.stays(2));
     }
     Ok(())
 }

@@ -71,3 +71,8 @@ pub stay_changes : (slot i : ℕ) (whys : ℕ → Option Whys) (before now : Lis
 stay_changes slot i whys before now start lines same had =
     let none = ap (λ (v : ShownView). change (receiver_stamp slot i) (whys i) (view_at before i) v) same ∙ no_change (receiver_stamp slot i) (whys i) (view_at before i) in
     had ∙ ap (λ (l : List ℕ). start ++ l) (sym (append-nil (receiver_changes slot i whys before now)) ∙ ap (λ (l : List ℕ). receiver_changes slot i whys before now ++ l) (sym none) ∙ one_changes slot i whys before now)
+
+-- no receiver shows anything else
+pub none_changes : (slot n : ℕ) (whys : ℕ → Option Whys) (views : List ShownView) (start : List ℕ) → start ≡ start ++ receiver_changes slot n whys views views
+none_changes slot zero whys views start = no_changes slot whys start views views
+none_changes slot (suc n) whys views start = rw add-one at (stay_changes slot n whys views views start start refl (none_changes slot n whys views start))

@@ -173,7 +173,8 @@ fn nothing_shown(receivers: usize) -> ArrayVec<KeptView, MOST_RECEIVERS>
     shown
 }
 
-/// Appends the changes at each receiver, and keeps its view. Skips a receiver whose view did not change.
+/// Appends the changes at each receiver, and keeps its view. Skips a receiver whose view did not change. In most slots
+/// none did.
 fn push_views(
     form: Form,
     slot: u64,
@@ -195,6 +196,9 @@ fn push_views(
     ensures count { length shown.new ≡ length shown.old }
     ensures room { length lines.new ≤ length lines.old + MOST_RECEIVERS * SLOT_ROOM }
 {
+    if world.all_stay() {
+        return;
+    }
     for i in 0..shown.len() {
         if world.stays(i) {
             continue;

@@ -1,5 +1,5 @@
 -- Lemmas: the input of a receiver after one more slot, and one entry of a list after it was written.
-use Rattle.std.proofs.Common.{◌≡◌, ◌≢◌, ◌<◌, ℕ, zero, suc, Bool, true, false, List, [], ◌∷◌, Option, Some, None, refl, ap, subst, inl, take, arith}
+use Rattle.std.proofs.Common.{◌≡◌, ◌&&◌, ◌≢◌, ◌<◌, ℕ, zero, suc, Bool, true, false, List, [], ◌∷◌, Option, Some, None, refl, ap, subst, inl, take, arith}
 use Rattle.std.specs.List.{AllByRecursion}
 use Rattle.std.specs.Prelude.{slice_get, slice_index_or, slice_set}
 use Rattle.rds_block.specs.declared.group.Group.{Group}
@@ -87,6 +87,11 @@ other_marked (y ∷ xs) zero zero x d ne = absurd (ne refl)
 other_marked (y ∷ xs) zero (suc k) x d ne = refl
 other_marked (y ∷ xs) (suc i) zero x d ne = refl
 other_marked (y ∷ xs) (suc i) (suc k) x d ne = other_marked xs i k x d (λ e. ne (ap suc e))
+
+-- two marks that both hold
+pub both_hold : (a b : Bool) → (a && b) ≡ true → (a ≡ true) × (b ≡ true)
+both_hold true b e = (refl, e)
+both_hold false b e = absurd (cc)
 
 pub marked : (xs : List Bool) (i : ℕ) (b : Bool) → slice_index_or (slice_set xs i b) i false ≡ true → b ≡ true
 marked [] i b e = absurd (cc)

@@ -46,14 +46,34 @@ fn new_receiver(config: &Config) -> Receiver
     Receiver::tuned(config.head.pi, dwell, kind.window(config.premise.window()))
 }
 
-/// Gives each receiver its reception of a slot from the recent groups. Returns a mark for each: if it is true, the
-/// view of that receiver did not change.
+/// Which receivers show what they showed before a slot.
+#[derive(Clone, Copy)]
+pub(crate) struct Stays {
+    /// A mark for each receiver. If it is true, the view of that receiver did not change.
+    pub(crate) each: [bool; MOST_RECEIVERS],
+    /// Whether all receivers have the mark.
+    pub(crate) all: bool,
+}
+
+impl Stays {
+    /// Returns the marks before the first slot.
+    pub(crate) fn none() -> Stays
+        ensures all { result.all ≡ false }
+    {
+        Stays {
+            each: [false; MOST_RECEIVERS],
+            all: false,
+        }
+    }
+}
+
+/// Gives each receiver its reception of a slot from the recent groups. Marks the receivers whose view did not change.
 pub(crate) fn hand_out(
     receivers: &mut [Receiver],
     config: &Config,
     receptions: &[Reception],
     recent: &Recent,
-) -> [bool; MOST_RECEIVERS]
+) -> Stays
     requires same { length receptions.now ≡ length receivers.old }
     requires few { length receivers.old ≤ MOST_RECEIVERS }
     ensures count { length receivers.new ≡ length receivers.old }
@@ -61,18 +81,23 @@ pub(crate) fn hand_out(
         (λ slot sent inputs. AllHaveHeard config.now
         (all_received receptions.now slot sent inputs) receivers.new) }
     ensures stays { WhereTheyListen config.now receptions.now recent.now.items receivers.old
-        (λ slot sent inputs. (i : ℕ) → slice_index_or result i false ≡ true
+        (λ slot sent inputs. (i : ℕ) → slice_index_or result.each i false ≡ true
         → StaysShown config.now (inputs i) (all_received receptions.now slot sent inputs i)) }
+    ensures all { result.all ≡ true → (i : ℕ) → i < length receivers.old
+        → slice_index_or result.each i false ≡ true }
 {
     let mut stays = [false; MOST_RECEIVERS];
+    let mut all = true;
     if receivers.is_empty() {
-        return stays;
+        return Stays { each: stays, all };
     }
     let newest = recent.back(0);
     for i in 0..receivers.len() {
-        stays[i] = receive(&mut receivers[i], config, receptions[i], recent, &newest);
+        let same = receive(&mut receivers[i], config, receptions[i], recent, &newest);
+        stays[i] = same;
+        all &= same;
     }
-    stays
+    Stays { each: stays, all }
 }
 
 /// Gives one receiver its reception of a slot. If it returns true, the view did not change.

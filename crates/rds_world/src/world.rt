@@ -1,5 +1,5 @@
 //! The world: a station and its receivers, slot by slot.
-ghost use Rattle.std.specs.Prelude.{◌≡◌, ◌≢◌, ◌+◌, ◌<◌, ◌≤◌, ◌↔◌, [], ◌∷◌};
+ghost use Rattle.std.specs.Prelude.{◌≡◌, ◌≢◌, ◌+◌, ◌<◌, ◌≤◌, ◌↔◌, [], ◌∷◌, ℕ};
 ghost use Rattle.std.specs.Prelude.{IsErrOf, IsOk, IsSome, IsTrue, IfOk, IfSome};
 ghost use Rattle.std.specs.Prelude.{MatchResult, OnErr, OnOk, length, slice_get};
 ghost use Rattle.std.specs.Option.{option_copied};
@@ -16,7 +16,7 @@ ghost use Rattle.rds_world.specs.declared.event.TheConstants.{MOST_RECEIVERS};
 
 use crate::past::{Past, check_wrong, new_pasts, note_wrong};
 use crate::reach::{Reach, reaches_after};
-use crate::receivers::{eight_receivers, hand_out};
+use crate::receivers::{Stays, eight_receivers, hand_out};
 use crate::recent::Recent;
 use crate::station::{new_encoder, obey};
 use crate::{
@@ -49,7 +49,7 @@ pub struct World {
     config: Config,
     encoder: Encoder,
     receivers: [Receiver; MOST_RECEIVERS],
-    stays: [bool; MOST_RECEIVERS],
+    stays: Stays,
     reaches: [Reach; MOST_RECEIVERS],
     pasts: Vec<Past>,
     count: usize,
@@ -57,7 +57,7 @@ pub struct World {
 }
 
 impl Model for World {
-    ghost use Rattle.std.specs.Prelude.{◌≡◌, ◌≤◌, ◌+◌, length, take};
+    ghost use Rattle.std.specs.Prelude.{◌≡◌, ◌≤◌, ◌<◌, ◌+◌, ℕ, false, length, slice_index_or, take, true};
     ghost use Rattle.std.specs.Coded.{codes};
     ghost use Rattle.rds_receiver.specs.Codes.{receiver_code};
     ghost use Rattle.rds_world.specs.State.{WorldState};
@@ -71,7 +71,7 @@ impl Model for World {
       config = w.config;
       encoder = w.encoder;
       receivers = take w.count w.receivers;
-      stays = w.stays;
+      stays = w.stays.each;
       reaches = take w.count w.reaches;
       pasts = w.pasts.items;
       sent = w.recent.items;
@@ -79,7 +79,8 @@ impl Model for World {
 
     ghost invariant = { λ w. (w.count ≤ MOST_RECEIVERS) × (length w.receivers ≡ MOST_RECEIVERS)
         × (length w.reaches ≡ MOST_RECEIVERS) × (w.recent.capacity ≡ w.config.premise.late + 1)
-        × (length w.pasts.items ≡ w.count) };
+        × (length w.pasts.items ≡ w.count)
+        × (w.stays.all ≡ true → (i : ℕ) → i < w.count → slice_index_or w.stays.each i false ≡ true) };
 }
 
 impl World {
@@ -106,7 +107,7 @@ impl World {
             config,
             encoder: new_encoder(&config),
             receivers: eight_receivers(&config),
-            stays: [false; MOST_RECEIVERS],
+            stays: Stays::none(),
             reaches: [Reach::new(); MOST_RECEIVERS],
             pasts,
             count: receivers,
@@ -202,9 +203,17 @@ impl World {
         ensures { IsTrue result → WhereItStands self.now
             (λ config events. ShowsStill config i events) }
     {
-        match self.stays.get(i) {
+        match self.stays.each.get(i) {
             Some(stays) => *stays,
             None => false,
         }
+    }
+
+    /// Returns true only if each receiver shows what it showed before the last slot.
+    pub fn all_stay(&self) -> bool
+        ensures { IsTrue result → WhereItStands self.now (λ config events.
+            (i : ℕ) → i < length self.now.receivers → ShowsStill config i events) }
+    {
+        self.stays.all
     }
 }

@@ -5,7 +5,7 @@ use Rattle.rds_world.specs.StandsAt.{IsViewOfInput}
 use Rattle.rds_world.specs.State.{distance}
 use Rattle.rds_view_lines.specs.KeptView.{view_kept}
 use Rattle.rds_script.specs.Outcomes.{view_at, whys_at}
-use Rattle.rds_script.proofs.Changes.{at_last, at_set, next_changes, no_changes, other_set, stay_changes}
+use Rattle.rds_script.proofs.Changes.{at_last, at_set, next_changes, no_changes, none_changes, other_set, stay_changes}
 use Rattle.rds_script.proofs.PlayedRows.{still_shown}
 use Rattle.rds_script.proofs.watched.push_views.Goals as goal
 
@@ -54,3 +54,12 @@ loop-i-preserved-then-stays c =
       ];
       later = λ j l. c.loop-i.invariant.later j (omega (arith, l));
     }
+
+pub returns-then-all_stay-clause-lines : goal.returns-then-all_stay-clause-lines
+returns-then-all_stay-clause-lines c same config events s =
+    none_changes c.args.slot (length c.args.shown.now) (whys_at c.args.form config c.args.event.now.receptions events) (map view_kept c.args.shown.now) c.args.lines.now
+
+pub returns-then-all_stay-clause-views : goal.returns-then-all_stay-clause-views
+returns-then-all_stay-clause-views c same config events s were i below =
+    let views = map view_kept c.args.shown.now in
+    still_shown config (length c.args.shown.now) i events views views (c.all_stay.ensures c.if-all_stay.true config events s i (omega (arith, same, below))) were below refl

@@ -1,7 +1,7 @@
 use Rattle.std.proofs.Common.{◌≡◌, ◌∷◌, [], ℕ, zero, suc, Some, false, length, sym, true, ◌∙◌, subst, arith, inl, inr, refl}
 use Rattle.std.specs.Prelude.{slice_get, slice_index_or, slice_set}
 use Rattle.std.proofs.lemmas.Bool.{cases_lt}
-use Rattle.std.proofs.lemmas.List.{get_or_default, length-set}
+use Rattle.std.proofs.lemmas.List.{get_or-set_same, get_or_default, length-set}
 use Rattle.std.proofs.lemmas.Option.{slice_get_read, slice_get_within}
 use Rattle.rds_receiver.specs.State.{ReceiverState}
 use Rattle.rds_world.specs.declared.event.Reception.TheVariants.{Lost}
@@ -9,7 +9,7 @@ use Rattle.rds_world.specs.declared.event.Reception.{Reception}
 use Rattle.rds_world.specs.Due.{IsDue}
 use Rattle.rds_world.specs.Slots.{received}
 use Rattle.rds_world.specs.StandsAt.{HasHeard, StaysShown}
-use Rattle.rds_world.proofs.Received.{marked, other_kept, other_marked, written}
+use Rattle.rds_world.proofs.Received.{both_hold, marked, other_kept, other_marked, written}
 use Rattle.rds_world.proofs.receivers.hand_out.Goals as goal
 
 pub loop-i-init : goal.loop-i-init
@@ -19,6 +19,8 @@ loop-i-init c = record {
   done = λ slot sent inputs last kept due all k r below e. absurd (omega (arith, below));
   later = λ k h. none_of_eight k;
   stays = λ slot sent inputs last kept due all k below is. absurd (omega (arith, below));
+  eight = refl;
+  all = λ every k below. absurd (omega (arith, below));
 }
   where
     none_of_eight : (k : ℕ) → slice_index_or (false ∷ false ∷ false ∷ false ∷ false ∷ false ∷ false ∷ false ∷ []) k false ≡ false
@@ -36,7 +38,7 @@ pub loop-i-preserved : goal.loop-i-preserved
 loop-i-preserved c =
     let rs = c.loop-i.receivers in
     let i = c.loop-i.i in
-    let new = c.receive.new.receiver in
+    let new = c.receive-same.new.receiver in
     let config = c.args.config.now in
     let long : length rs ≡ length c.args.receivers.now = c.loop-i.invariant.count in
     let given : length c.args.receptions.now ≡ length c.args.receivers.now = c.requires.same in
@@ -50,25 +52,36 @@ loop-i-preserved c =
         | inr more ↦ (
             let here : k ≡ i = omega arith in
             let old : HasHeard config (inputs i) c.index-receivers-i.result = all.each i c.index-receivers-i.result (sym (c.loop-i.invariant.rest i (omega arith)) ∙ at) in
-            let has = c.receive.ensures.heard slot sent (inputs i) (last i) kept (subst (λ (x : Reception). IsDue c.args.config.now.premise.late slot (last i) x) told (due i)) (rw (← c.index-receivers-i.is) old) in
+            let has = c.receive-same.ensures.heard slot sent (inputs i) (last i) kept (subst (λ (x : Reception). IsDue c.args.config.now.premise.late slot (last i) x) told (due i)) (rw (← c.index-receivers-i.is) old) in
             let same : new ≡ r = written rs i new r (subst (λ n. slice_get (slice_set rs i new) n ≡ Some r) here e) in
             subst (λ n. HasHeard config (received (slice_index_or c.args.receptions.now n Lost) slot sent (inputs n)) r) (sym here)
             (subst (λ (x : ReceiverState). HasHeard config (received (slice_index_or c.args.receptions.now i Lost) slot sent (inputs i)) x) same
             (subst (λ (x : Reception). HasHeard config (received x slot sent (inputs i)) new) (sym told) has))
             )
       ];
-      later = λ k h. other_marked c.loop-i.stays i k c.receive.result false (omega (arith, h)) ∙ c.loop-i.invariant.later k (omega (arith, h));
+      later = λ k h. other_marked c.loop-i.stays i k c.receive-same.result false (omega (arith, h)) ∙ c.loop-i.invariant.later k (omega (arith, h));
       stays = λ slot sent inputs last kept due all k h is. elim (cases_lt k i) [
-        | inl less ↦ c.loop-i.invariant.stays slot sent inputs last kept due all k less (sym (other_marked c.loop-i.stays i k c.receive.result false (omega (arith, less))) ∙ is)
+        | inl less ↦ c.loop-i.invariant.stays slot sent inputs last kept due all k less (sym (other_marked c.loop-i.stays i k c.receive-same.result false (omega (arith, less))) ∙ is)
         | inr more ↦ (
             let here : k ≡ i = omega (arith, h, more) in
             let old : HasHeard config (inputs i) c.index-receivers-i.result = all.each i c.index-receivers-i.result (sym (c.loop-i.invariant.rest i (omega arith)) ∙ at) in
-            let yes : c.receive.result ≡ true = marked c.loop-i.stays i c.receive.result (subst (λ n. slice_index_or (slice_set c.loop-i.stays i c.receive.result) n false ≡ true) here is) in
-            let stay = c.receive.ensures.stays slot sent (inputs i) (last i) kept (subst (λ (x : Reception). IsDue c.args.config.now.premise.late slot (last i) x) told (due i)) (rw (← c.index-receivers-i.is) old) yes in
+            let yes : c.receive-same.result ≡ true = marked c.loop-i.stays i c.receive-same.result (subst (λ n. slice_index_or (slice_set c.loop-i.stays i c.receive-same.result) n false ≡ true) here is) in
+            let stay = c.receive-same.ensures.stays slot sent (inputs i) (last i) kept (subst (λ (x : Reception). IsDue c.args.config.now.premise.late slot (last i) x) told (due i)) (rw (← c.index-receivers-i.is) old) yes in
             subst (λ n. StaysShown config (inputs n) (received (slice_index_or c.args.receptions.now n Lost) slot sent (inputs n))) (sym here)
             (subst (λ (x : Reception). StaysShown config (inputs i) (received x slot sent (inputs i))) (sym told) stay)
             )
       ];
+      eight = length-set _ _ _ ∙ c.loop-i.invariant.eight;
+      all = λ every k below.
+          let (before, same) = both_hold c.loop-i.all c.receive-same.result every in
+          elim (cases_lt k i) [
+            | inl less ↦ other_marked c.loop-i.stays i k c.receive-same.result false (λ e. omega (arith, less, e)) ∙ c.loop-i.invariant.all before k less
+            | inr more ↦ (
+                let here : i ≡ k = omega (arith, below, more) in
+                subst (λ n. slice_index_or (slice_set c.loop-i.stays i c.receive-same.result) n false ≡ true) here
+                (get_or-set_same c.loop-i.stays i c.receive-same.result false (omega (arith, c.loop-i.invariant.eight, c.requires.few, c.loop-i-test.true)) ∙ same)
+                )
+          ];
     }
 
 pub returns-clause-stays : goal.returns-clause-stays

@@ -22,4 +22,6 @@ invariant-loop-i l = record {
       → ((k : ℕ) → IsDue l.config.premise.late slot (last k) (slice_index_or l.receptions k Lost)) → AllHaveHeard l.config inputs l.fn.receivers
       → (k : ℕ) → k < l.i → slice_index_or l.stays k false ≡ true
       → StaysShown l.config (inputs k) (received (slice_index_or l.receptions k Lost) slot sent (inputs k));
+  eight : length l.stays ≡ 8;
+  all : l.all ≡ true → (k : ℕ) → k < l.i → slice_index_or l.stays k false ≡ true;
 }

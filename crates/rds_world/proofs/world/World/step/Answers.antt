@@ -60,12 +60,12 @@ returns-clause-stands c config events st =
     (subst (λ (w : Option ℕ). HavePasts w (e ∷ events) noted) c.window-2.ensures
     (c.note_wrong.ensures.pasts events (subst (λ (w : Option ℕ). HavePasts w events c.as_mut_slice.result.now) (sym c.window-2.ensures)
     (subst (λ (xs : List (Buffer (Option Message))). HavePasts window events xs) (sym c.as_mut_slice.ensures.value) own.pasts))))) in
-    let old : WorldState = record { config = set; encoder = world.encoder; receivers = take world.count world.receivers; stays = world.stays; reaches = take world.count world.reaches; pasts = world.pasts.items; sent = world.recent.items } in
+    let old : WorldState = record { config = set; encoder = world.encoder; receivers = take world.count world.receivers; stays = world.stays.each; reaches = take world.count world.reaches; pasts = world.pasts.items; sent = world.recent.items } in
     let new : WorldState = record {
       config = set;
       encoder = c.tick-sent.new.self;
       receivers = take world.count (c.hand_out-self-inside.new.receivers ++ drop world.count world.receivers);
-      stays = c.hand_out-self-inside.result;
+      stays = c.hand_out-self-inside.result.each;
       reaches = take world.count c.in-Ok.reaches;
       pasts = take world.pasts.len (noted ++ rest);
       sent = c.push.new.self.items;
