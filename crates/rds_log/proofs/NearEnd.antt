@@ -1,12 +1,12 @@
 -- The first line feed of the bytes that are asked at once.
-use Rattle.std.proofs.Common.{◌≡◌, ◌≢◌, ◌+◌, ◌<◌, ◌≤◌, ℕ, true, false, List, map, take, length, eqb, not, refl, ap, ◌∙◌, arith, inl, inr}
+use Rattle.std.proofs.Common.{◌≡◌, ◌≢◌, ◌+◌, ◌*◌, ◌%◌, ◌^◌, ◌<◌, ◌≤◌, ℕ, zero, suc, Bool, true, false, List, [], ◌∷◌, cond, map, length, replicate, slice_index, eqb, not, refl, ap, sym, ◌∙◌, arith, inl, inr, w8}
 use Rattle.std.proofs.lemmas.Bool.{cases_lt}
 use Rattle.std.proofs.lemmas.Bool.Decides.{nat_tests}
-use Rattle.std.proofs.lemmas.List.{get_or-take, length-take-le}
-use Rattle.std.proofs.lemmas.Simd.{run_in_chunk_fails, run_in_chunk_stops, trailing_mask_l}
+use Rattle.std.proofs.lemmas.List.{get_or-take, get_or_default, length-take-le}
+use Rattle.std.proofs.lemmas.Simd.{bitmask_splat, length-chunk, none_from_empty_mask, run_in_chunk_fails, run_in_chunk_stops, trailing_mask_l}
 use Rattle.std.specs.List.{prefix_len}
 use lib.Count.{count_trailing_zeros}
-use lib.Lanes.{chunk, mask_l}
+use lib.Lanes.{chunk, mask_l, top, zip2}
 use Rattle.rds_log.specs.LogLines.{EndsAt}
 
 no_feed : (b : ℕ) → eqb b 10 ≡ false → b ≢ 10
@@ -15,26 +15,49 @@ no_feed b e = grind (arith, nat_tests)
 a_feed : (b : ℕ) → eqb b 10 ≡ true → b ≡ 10
 a_feed b e = grind (arith, nat_tests)
 
-none_set : count_trailing_zeros 64 0 ≡ 64
-unfolding count_trailing_zeros
-none_set = refl
+-- the mask of sixteen bytes: a bit for each line feed
+abbrev pub feeds : List ℕ → ℕ → ℕ
+feeds bytes from = mask_l (map (λ b. eqb b 10) (chunk from 16 bytes))
 
-some_set : (mask : ℕ) → count_trailing_zeros 64 mask < 64 → 0 < mask
-some_set mask less =
-    elim (cases_lt 0 mask) [
-      | inl some ↦ some
-      | inr none ↦ (let zero : mask ≡ 0 = omega arith in absurd (omega (arith, none_set, rw zero at less)))
-    ]
+pub feeds_of_lanes : (bytes : List ℕ) (from : ℕ) → from + 16 ≤ length bytes
+    → mask_l (map (top 7) (zip2 (λ a b. cond (eqb a b) 255 0) (chunk from 16 bytes) (replicate 16 10))) % 2 ^ 64 ≡ feeds bytes from
+feeds_of_lanes bytes from long = bitmask_splat w8 eqb (chunk from 16 bytes) 16 10 (length-chunk from 16 bytes long) (omega arith)
 
-pub ends_near : (bytes : List ℕ) (mask : ℕ) → 64 ≤ length bytes → mask ≡ mask_l (map (λ b. eqb b 10) (take 64 bytes)) → count_trailing_zeros 64 mask < 64 → EndsAt bytes (count_trailing_zeros 64 mask)
-ends_near bytes mask long is less =
+-- no line feed in sixteen bytes more
+pub no_feeds : (bytes : List ℕ) (from i : ℕ) → from + 16 ≤ length bytes → feeds bytes from ≡ 0 → ((k : ℕ) → k < from → slice_index bytes k ≢ 10) → i < from + 16 → slice_index bytes i ≢ 10
+no_feeds bytes from i long none before below = elim (cases_lt i from) [
+  | inl less ↦ before i less
+  | inr more ↦ no_feed _ (none_from_empty_mask (λ b. eqb b 10) bytes from 16 0 long none i more below)
+]
+
+some_lane : (p : ℕ → Bool) (xs : List ℕ) → 0 < mask_l (map p xs) → prefix_len (λ x. not (p x)) xs < length xs
+some_lane p [] set = absurd (omega (arith, set))
+some_lane p (x ∷ xs) set = by (p x) (mask_l (map p xs)) (prefix_len (λ x. not (p x)) xs) set (some_lane p xs)
+  where
+    by : (t : Bool) (mask n : ℕ) → 0 < cond t 1 0 + 2 * mask → (0 < mask → n < length xs) → cond (not t) (1 + n) 0 < suc (length xs)
+    by true mask n set rest = omega arith
+    by false mask n set rest = (let less = rest (omega (arith, set)) in omega (arith, less))
+
+-- the first of them
+pub ends_near : (bytes : List ℕ) (from mask : ℕ) → from + 16 ≤ length bytes → mask ≡ feeds bytes from → mask ≢ 0 → ((k : ℕ) → k < from → slice_index bytes k ≢ 10)
+    → EndsAt bytes (from + count_trailing_zeros 64 mask)
+ends_near bytes from mask long is some before =
     let n = count_trailing_zeros 64 mask in
-    let counted : n ≡ prefix_len (λ b. not (eqb b 10)) (chunk 0 64 bytes) =
-    ap (count_trailing_zeros 64) is ∙ trailing_mask_l (λ b. eqb b 10) 64 (chunk 0 64 bytes) (omega (arith, length-take-le 64 bytes long)) (rw is at (some_set mask less)) in
-    let front : 0 + n ≡ n = omega arith in
+    let lanes = length-chunk from 16 bytes long in
+    let set : 0 < mask_l (map (λ b. eqb b 10) (chunk from 16 bytes)) = rw (← is) (positive mask some) in
+    let counted : n ≡ prefix_len (λ b. not (eqb b 10)) (chunk from 16 bytes) =
+    ap (count_trailing_zeros 64) is ∙ trailing_mask_l (λ b. eqb b 10) 64 (chunk from 16 bytes) (omega (arith, lanes)) set in
+    let less : n < 16 = (let there = some_lane (λ b. eqb b 10) (chunk from 16 bytes) set in omega (arith, counted, lanes, there)) in
     record {
-      within = omega arith;
-      line = λ i d below. (let inside : i < n = omega (arith, length-take-le n bytes (omega arith)) in
-          rw (get_or-take n bytes i d inside) (no_feed _ (run_in_chunk_fails (λ b. eqb b 10) bytes 0 64 n d (omega arith) counted i (omega arith) (omega arith))));
-      feed = a_feed _ (rw front at (run_in_chunk_stops (λ b. eqb b 10) bytes 0 64 n 0 (omega arith) counted less));
+      within = omega (arith, less, long);
+      line = λ i d below. (let inside : i < from + n = omega (arith, length-take-le (from + n) bytes (omega (arith, less, long)), below) in
+          rw (get_or-take (from + n) bytes i d inside) (elim (cases_lt i from) [
+            | inl earlier ↦ (λ e. before i earlier (sym (get_or_default bytes i d 0 (omega (arith, earlier, long))) ∙ e))
+            | inr later ↦ no_feed _ (run_in_chunk_fails (λ b. eqb b 10) bytes from 16 n d long counted i later inside)
+          ]));
+      feed = a_feed _ (run_in_chunk_stops (λ b. eqb b 10) bytes from 16 n 0 long counted less);
     }
+  where
+    positive : (mask : ℕ) → mask ≢ 0 → 0 < mask
+    positive zero some = absurd (some refl)
+    positive (suc mask) some = omega arith

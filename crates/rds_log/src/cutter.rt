@@ -15,7 +15,10 @@ use rds_io::BadLine;
 use std::simd::prelude::*;
 
 /// How many bytes are searched for a line feed at once.
-const LANES: usize = 64;
+const LANES: usize = 16;
+
+/// How many bytes are searched in lanes. Most lines are shorter.
+const NEAR: usize = 64;
 
 /// No place in a chunk: it is behind the last byte.
 pub(crate) const ELSEWHERE: usize = 65536;
@@ -199,18 +202,23 @@ pub(crate) fn line_end(bytes: &[u8]) -> Option<usize>
     memchr(b'\n', bytes)
 }
 
-/// Returns the place of the first line feed, if it is one of the first 64 bytes and there are as many. All are searched
-/// at once.
+/// Returns the place of the first line feed, if it is one of the first 64 bytes and there are as many.
 #[inline(always)]
 fn near_end(bytes: &[u8]) -> Option<usize>
     ensures { IfSome result (EndsAt bytes.now) }
 {
-    if bytes.len() < LANES {
+    if bytes.len() < NEAR {
         return None;
     }
-    let feeds = u8x64::from_slice(bytes)
-        .simd_eq(u8x64::splat(b'\n'))
-        .to_bitmask();
-    let count = feeds.trailing_zeros() as usize;
-    if count < LANES { Some(count) } else { None }
+    let mut from = 0;
+    while from < NEAR {
+        let feeds = u8x16::from_slice(&bytes[from..])
+            .simd_eq(u8x16::splat(b'\n'))
+            .to_bitmask();
+        if feeds != 0 {
+            return Some(from + feeds.trailing_zeros() as usize);
+        }
+        from += LANES;
+    }
+    None
 }

@@ -1,11 +1,28 @@
-use Rattle.std.proofs.Common.{eqb, arith, w8}
-use Rattle.std.proofs.lemmas.List.{length-take-le}
-use Rattle.std.proofs.lemmas.Simd.{bitmask_splat}
-use lib.ListN.{take}
-use Rattle.rds_log.proofs.NearEnd.{ends_near}
+use Rattle.std.proofs.Common.{◌+◌, ◌≤◌, ◌∙◌, arith, length, refl, rules, sym}
+use Rattle.rds_log.proofs.NearEnd.{ends_near, feeds_of_lanes, no_feeds}
 use Rattle.rds_log.proofs.cutter.near_end.Goals as goal
 
-pub returns-then-count-lt-LANES : goal.returns-then-count-lt-LANES
-returns-then-count-lt-LANES c =
-    let bytes = c.args.bytes.now in
-    ends_near bytes _ c.if-bytes-lt-LANES.false (bitmask_splat w8 eqb (take 64 bytes) 64 10 (length-take-le 64 bytes c.if-bytes-lt-LANES.false) (omega arith)) c.if-count-lt-LANES.true
+pub loop-from-init : goal.loop-from-init
+loop-from-init c = record { lanes = (0, refl); near = omega arith; none = λ i below. absurd (omega (arith, below)) }
+
+pub bounds-bytes-from : goal.bounds-bytes-from
+bounds-bytes-from c =
+    let (k, at) = c.loop-from.invariant.lanes in
+    let room : c.loop-from.from + 16 ≤ length c.args.bytes.now = omega (arith, at, c.loop-from-test.true, c.if-bytes-lt-NEAR.false) in
+    search (rules, room)
+
+pub returns-then-feeds-ne0 : goal.returns-then-feeds-ne0
+returns-then-feeds-ne0 c =
+    let (k, at) = c.loop-from.invariant.lanes in
+    let room : c.loop-from.from + 16 ≤ length c.args.bytes.now = omega (arith, at, c.loop-from-test.true, c.if-bytes-lt-NEAR.false) in
+    ends_near c.args.bytes.now c.loop-from.from _ room (feeds_of_lanes c.args.bytes.now c.loop-from.from room) c.if-feeds-ne0.true c.loop-from.invariant.none
+
+pub loop-from-preserved : goal.loop-from-preserved
+loop-from-preserved c =
+    let (k, at) = c.loop-from.invariant.lanes in
+    let room : c.loop-from.from + 16 ≤ length c.args.bytes.now = omega (arith, at, c.loop-from-test.true, c.if-bytes-lt-NEAR.false) in
+    record {
+      lanes = (k + 1, omega (arith, at));
+      near = omega (arith, at, c.loop-from-test.true);
+      none = λ i below. no_feeds c.args.bytes.now c.loop-from.from i room (sym (feeds_of_lanes c.args.bytes.now c.loop-from.from room) ∙ c.if-feeds-ne0.false) c.loop-from.invariant.none below;
+    }
