@@ -4,7 +4,11 @@ ghost use Rattle.std.specs.Prelude.{ℕ, Bool, List, Option, IsOk, IsTrue, Match
 ghost use Rattle.rds_block.specs.declared.group.Group.{Group};
 ghost use Rattle.rds_io.specs.Told.{IsCalm, Traffic, traffic};
 ghost use Rattle.rds_receiver.specs.Receipts.{Tuning};
+ghost use Rattle.rds_receiver.specs.Shown.{IsView};
 ghost use Rattle.rds_receiver.specs.StandsAt.{StandsAt, WhereItStands};
+ghost use Rattle.rds_view_lines.specs.KeptView.{view_kept};
+ghost use Rattle.rds_view_lines.specs.Output.{change};
+ghost use Rattle.rds_view_lines.specs.Part.{stamp_of};
 ghost use Rattle.rds_log.specs.LogLines.{Line};
 ghost use Rattle.rds_log.specs.LogWrites.{LinesWrite, SayWhys, tuning_of};
 ghost use Rattle.rds_log.specs.LineSays.{LineSays};
@@ -57,8 +61,8 @@ impl ViewLines {
             self.slot += 1;
             return;
         }
-        show(
-            Stamp::Slot(self.slot),
+        show_slot(
+            self.slot,
             self.whys(),
             &mut self.shown,
             &self.receiver,
@@ -77,6 +81,25 @@ impl ViewLines {
             None
         }
     }
+}
+
+/// Appends the line of each part of a view that changed in this slot. Few slots change one, so the stamp is made here.
+// Cold path.
+#[inline(never)]
+fn show_slot<const N: usize>(
+    slot: u64,
+    whys: Option<Whys>,
+    shown: &mut KeptView,
+    receiver: &Receiver,
+    lines: &mut Lines<N>,
+)
+    requires { length lines.old + SLOT_ROOM ≤ N }
+    ensures changes { lines.new
+        ≡ lines.old ++ change (stamp_of (Stamp.Slot slot)) whys (view_kept shown.old) (view_kept shown.new) }
+    ensures shows { WhereItStands receiver.now (λ t input. IsView t input (view_kept shown.new)) }
+    ensures room { length lines.new ≤ length lines.old + SLOT_ROOM }
+{
+    show(Stamp::Slot(slot), whys, shown, receiver, lines);
 }
 
 /// The most bytes of output that wait to be written.
