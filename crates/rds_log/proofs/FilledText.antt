@@ -115,7 +115,7 @@ feedless (b ∷ rest) e =
 
 dashes : LineSays (codes "---- ---- ---- ----") (Slot None)
 dashes = (
-  record { at_least = omega arith; first_space = refl; second_space = refl; third_space = refl; ends = inl refl },
+  record { at_least = omega arith; spaces = record { first = refl; second = refl; third = refl }; ends = inl refl },
   record {
     a = Missing;
     b = Missing;

@@ -63,9 +63,11 @@ same_slot p q slot s says = record {
 same_layout : (p q : Line) → 20 ≤ content_length p → 19 ≤ content_length q → SameBytes p q → IsLaidOut p → IsLaidOut q
 same_layout p q from to s laid = record {
   at_least = to;
-  first_space = sym (s 4 (omega arith)) ∙ laid.first_space;
-  second_space = sym (s 9 (omega arith)) ∙ laid.second_space;
-  third_space = sym (s 14 (omega arith)) ∙ laid.third_space;
+  spaces = record {
+    first = sym (s 4 (omega arith)) ∙ laid.spaces.first;
+    second = sym (s 9 (omega arith)) ∙ laid.spaces.second;
+    third = sym (s 14 (omega arith)) ∙ laid.spaces.third;
+  };
   ends = elim laid.ends [
     | inl e ↦ absurd (omega (arith, e, from))
     | inr space ↦ inr (sym (s 19 (omega arith)) ∙ space)

@@ -57,12 +57,16 @@ abbrev pub block_word : Block → Option ℕ
 block_word (Word w) = Some w
 block_word Missing = None
 
+-- one space between the blocks
+pub record HasSpaces (line : Line) : Type 0 where
+  pub first : slice_index line 4 ≡ space
+  pub second : slice_index line 9 ≡ space
+  pub third : slice_index line 14 ≡ space
+
 -- one space between the blocks, and the end or one more space after them
 pub record IsLaidOut (line : Line) : Type 0 where
   pub at_least : blocks ≤ content_length line
-  pub first_space : slice_index line 4 ≡ space
-  pub second_space : slice_index line 9 ≡ space
-  pub third_space : slice_index line 14 ≡ space
+  pub spaces : HasSpaces line
   pub ends : (content_length line ≡ blocks) ⊎ (slice_index line blocks ≡ space)
 
 -- the group that four blocks carry: none if a block is missing

@@ -5,7 +5,7 @@ ghost use Rattle.rds_block.specs.declared.group.Group.{Group};
 ghost use Rattle.rds_log.specs.declared.log_line.Block.{Block};
 ghost use Rattle.rds_log.specs.declared.log_line.LogLine.{LogLine};
 ghost use Rattle.rds_log.specs.LogLines.{content_length};
-ghost use Rattle.rds_log.specs.LineSays.{Carry, HasDashes, IsBad, IsBlock, IsLaidOut};
+ghost use Rattle.rds_log.specs.LineSays.{Carry, HasDashes, HasSpaces, IsBad, IsBlock, IsLaidOut};
 ghost use Rattle.rds_log.specs.LineSays.{IsSkipped, LineSays, SaysSlot, block_word};
 
 use arrayvec::ArrayVec;
@@ -69,8 +69,7 @@ pub(crate) fn said_by(line: &[u8]) -> Option<LogLine>
 fn group_of(line: &[u8]) -> Option<Blocks>
     ensures { IfSome result (λ group. LineSays line.now (LogLine.Slot (Some group))) }
 {
-    let length = content_length(line);
-    if !is_laid_out(line, length) {
+    if !is_laid_out(line) {
         return None;
     }
     let words = four_words(line)?;
@@ -85,13 +84,13 @@ fn said_otherwise(line: &[u8]) -> Option<LogLine>
     ensures none { IfNone result (IsBad line.now) }
 {
     let length = content_length(line);
-    if is_laid_out(line, length) && has_no_word(line) {
+    if is_laid_out(line) && has_no_word(line) {
         return Some(LogLine::Slot(None));
     }
     if is_skipped(line, length) {
         return Some(LogLine::Skip);
     }
-    if !is_laid_out(line, length) {
+    if !is_laid_out(line) {
         return None;
     }
     let slot = slot_of_blocks(line)?;
@@ -127,16 +126,37 @@ pub(crate) fn is_skipped(line: &[u8], length: usize) -> bool
     length == 0 || line[0] == b'<' || line[0] == b'#' || line[0] == b'%'
 }
 
+/// Returns whether a line has the layout of a slot. Most have a text behind their blocks, and need no look at their end.
 #[inline(always)]
-fn is_laid_out(line: &[u8], length: usize) -> bool
-    requires { length ≡ content_length line.now }
+fn is_laid_out(line: &[u8]) -> bool
     ensures { IsTrue result ↔ IsLaidOut line.now }
 {
-    length >= BLOCKS
-        && line[4] == b' '
-        && line[9] == b' '
-        && line[14] == b' '
-        && (length == BLOCKS || line[BLOCKS] == b' ')
+    has_text(line) || is_blocks_alone(line)
+}
+
+/// Returns whether a text follows the blocks of a line.
+#[inline(always)]
+fn has_text(line: &[u8]) -> bool
+    ensures { IsTrue result ↔ ((19 < length line.now) × HasSpaces line.now × (slice_index line.now 19 ≡ 32)) }
+{
+    line.len() > BLOCKS && has_spaces(line) && line[BLOCKS] == b' '
+}
+
+/// Returns whether a line has the blocks and nothing behind them.
+#[inline(always)]
+fn is_blocks_alone(line: &[u8]) -> bool
+    ensures { IsTrue result ↔ ((content_length line.now ≡ 19) × HasSpaces line.now) }
+{
+    content_length(line) == BLOCKS && has_spaces(line)
+}
+
+/// Returns whether there are spaces between the blocks.
+#[inline(always)]
+fn has_spaces(line: &[u8]) -> bool
+    requires { 19 ≤ length line.now }
+    ensures { IsTrue result ↔ HasSpaces line.now }
+{
+    line[4] == b' ' && line[9] == b' ' && line[14] == b' '
 }
 
 /// Returns the group of a line's four blocks. `None` if a block is malformed.
