@@ -28,10 +28,10 @@ pub enum Command {
 /// What a receiver gets in a slot.
 #[derive(Clone, Copy)]
 pub enum Reception {
+    /// Nothing. It comes first, so that an empty list of receptions is made by zeros.
+    Lost,
     /// The group that was sent this many slots before, or nothing if none was sent.
     Got(u16),
-    /// Nothing.
-    Lost,
     /// A wrong group of the programme, which spells this message.
     Wrong(Message),
     /// A new receiver in its place, which gets nothing in this slot.
