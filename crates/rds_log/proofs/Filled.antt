@@ -1,5 +1,5 @@
 -- How the output of a filler goes on: it waits, it is written, or the writer fails at it.
-use Rattle.std.proofs.Common.{◌≡◌, ◌⊎◌, ◌+◌, ◌-◌, ◌<◌, ◌≤◌, ℕ, zero, suc, List, [], ◌∷◌, ◌++◌, Option, Some, None, append_assoc, add-one, ap, sym, subst, ◌∙◌, refl, inl, inr, arith, codes, cond, false, is_some, max, take, true, Bool, ◌↔◌}
+use Rattle.std.proofs.Common.{◌≡◌, ◌⊎◌, ◌+◌, ◌-◌, ◌*◌, ◌<◌, ◌≤◌, ℕ, zero, suc, List, [], ◌∷◌, ◌++◌, Option, Some, None, append_assoc, add-one, ap, sym, subst, ◌∙◌, refl, inl, inr, arith, codes, cond, false, is_some, max, take, true, Bool, ◌↔◌}
 use Rattle.std.specs.Prelude.{Err, MatchResult, Ok, OnOk, Result}
 use Rattle.rds_io.specs.declared.told.WriteFault.{WriteFault}
 use Rattle.std.proofs.lemmas.Bool.{cases_lt}
@@ -45,6 +45,13 @@ lost_split i (suc n) h = by (cases_lt n i) (λ less. lost_split i n less)
 -- one lost slot more
 pub more_lost : (total : List ℕ) (n : ℕ) → (total ++ lost_lines n) ++ codes "---- ---- ---- ----\n" ≡ total ++ lost_lines (n + 1)
 more_lost total n = rw add-one (append_assoc total (lost_lines n) (codes "---- ---- ---- ----\n"))
+
+-- two more
+pub two_more_lost : (total : List ℕ) (n : ℕ) → (total ++ lost_lines (2 * n)) ++ codes "---- ---- ---- ----\n---- ---- ---- ----\n" ≡ total ++ lost_lines (2 * (n + 1))
+two_more_lost total n =
+    let one = codes "---- ---- ---- ----\n" in
+    let later : 2 * n + 1 + 1 ≡ 2 * (n + 1) = omega arith in
+    sym (append_assoc (total ++ lost_lines (2 * n)) one one) ∙ ap (λ (l : List ℕ). l ++ one) (more_lost total (2 * n)) ∙ more_lost total (2 * n + 1) ∙ ap (λ (m : ℕ). total ++ lost_lines m) later
 
 -- from a to b, with failures from f to g
 abbrev pub from : Option (List ℕ) → Option (List ℕ) → ℕ → ℕ → Traffic

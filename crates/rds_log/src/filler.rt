@@ -1,5 +1,5 @@
 //! The lines of a filled log: each group with its time, and a line for each slot that was lost before it.
-ghost use Rattle.std.specs.Prelude.{◌≡◌, ◌⊎◌, ◌<◌, ◌≤◌, ◌+◌, ◌++◌, ◌∷◌, ◌↔◌, [], ℕ, List, Option};
+ghost use Rattle.std.specs.Prelude.{◌≡◌, ◌⊎◌, ◌<◌, ◌≤◌, ◌+◌, ◌*◌, ◌++◌, ◌∷◌, ◌↔◌, [], ℕ, List, Option};
 ghost use Rattle.std.specs.Prelude.{IfSome, IsOk, IsTrue, MatchResult, None, OnOk, Some, codes, is_some, length, max};
 ghost use Rattle.std.specs.Prelude.{take, true};
 ghost use Rattle.rds_block.specs.declared.group.Group.{Group};
@@ -25,7 +25,11 @@ const LINE_ROOM: usize = 61;
 /// The place of the time in a line: after the blocks and a space.
 pub(crate) const TIME: usize = 20;
 
-const LOST: &[u8] = b"---- ---- ---- ----\n";
+/// The line of a lost slot, without its line feed.
+const LOST: &[u8] = b"---- ---- ---- ----";
+
+/// The lines of two lost slots.
+const TWO_LOST: &[u8] = b"---- ---- ---- ----\n---- ---- ---- ----\n";
 
 /// How `slots` fills a log.
 #[derive(Clone, Copy)]
@@ -256,9 +260,27 @@ impl Filler {
             (λ _. HasOutput (traffic W.contents W.failures start writer.new) self.new (total ++ lost_lines lost))
             (λ _. LostOutput (traffic W.contents W.failures start writer.new) (total ++ lost_lines lost)) }
     {
-        for _put in 0..lost {
+        self.push_pairs(lost / 2, writer)?;
+        if lost % 2 == 0 {
+            return Ok(());
+        }
+        self.push_line(LOST, writer)
+    }
+
+    /// Appends lines of lost slots, two at a time.
+    fn push_pairs<W: TellingWrite>(&mut self, pairs: u32, writer: &mut W) -> Result<(), WriteFault>
+        ensures keeps { KeepsTime self.old self.new }
+        ensures pushed { (start : W) (total : List ℕ)
+            → HasOutput (traffic W.contents W.failures start writer.old) self.old total
+            → MatchResult result
+            (λ _. HasOutput (traffic W.contents W.failures start writer.new) self.new
+            (total ++ lost_lines (2 * pairs)))
+            (λ _. LostOutput (traffic W.contents W.failures start writer.new)
+            (total ++ lost_lines (2 * pairs))) }
+    {
+        for _put in 0..pairs {
             self.make_room(writer)?;
-            self.output.push(LOST);
+            self.output.push(TWO_LOST);
         }
         Ok(())
     }

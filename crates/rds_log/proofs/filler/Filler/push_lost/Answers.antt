@@ -1,37 +1,23 @@
-use Rattle.std.proofs.Common.{◌≡◌, ◌++◌, ◌∙◌, List, ℕ, ap, append_assoc, arith, subst, sym}
+use Rattle.std.proofs.Common.{◌≡◌, ◌+◌, ◌*◌, ◌/◌, ◌++◌, ◌∙◌, List, ℕ, ap, append_assoc, arith, subst, sym}
 use Rattle.std.proofs.lemmas.Result.{err_from_is_err_and}
 use Rattle.rds_io.specs.Told.{traffic}
 use Rattle.rds_log.specs.Fill.{lost_lines}
-use Rattle.rds_log.specs.Inside.Filler.{HasOutput, LostOutput}
-use Rattle.rds_log.proofs.Filled.{lost_longer, lost_split, more_lost, waits}
+use Rattle.rds_log.specs.Inside.Filler.{LostOutput}
+use Rattle.rds_log.proofs.Filled.{lost_longer, lost_split, more_lost, same_pushed}
 use Rattle.rds_log.proofs.filler.Filler.push_lost.Goals as goal
 
-pub loop-put-preserved : goal.loop-put-preserved
-loop-put-preserved g c =
-    let room = c.in_ok-make_room.ensures.keeps in
-    let before = c.loop-put.invariant.keeps in
-    record {
-      keeps = record { filling = room.filling ∙ before.filling; pace = room.pace ∙ before.pace; untimed = room.untimed ∙ before.untimed; told = room.told ∙ before.told };
-      pushed = λ start total has.
-          subst (HasOutput (traffic g.W.Write.contents g.W.TellingWrite.failures start c.make_room.new.writer) _) (more_lost total c.loop-put._put)
-          (waits c.make_room.new.self _ _ (total ++ lost_lines c.loop-put._put) _
-          (c.in_ok-make_room.ensures.wrote start (total ++ lost_lines c.loop-put._put) (c.loop-put.invariant.pushed start total has)) c.push.ensures);
-    }
-
-pub returns-in_err-make_room-clause-pushed : goal.returns-in_err-make_room-clause-pushed
-returns-in_err-make_room-clause-pushed g c start total has =
+pub returns-in_err-push_pairs-clause-pushed : goal.returns-in_err-push_pairs-clause-pushed
+returns-in_err-push_pairs-clause-pushed g c start total has =
     let p = err_from_is_err_and c.from_residual.result c.from_residual.ensures.1 in
-    let w = traffic g.W.Write.contents g.W.TellingWrite.failures start c.make_room.new.writer in
-    let n = c.loop-put._put in
-    let test = c.loop-put-test.true in
-    let split = lost_split n c.args.lost (omega (arith, test)) in
-    let all : (total ++ lost_lines n) ++ split.0 ≡ total ++ lost_lines c.args.lost = append_assoc total (lost_lines n) split.0 ∙ ap (λ (l : List ℕ). total ++ l) (sym split.1) in
-    rw p.1 (subst (LostOutput w) all (lost_longer w (total ++ lost_lines n) split.0 (c.in_err-make_room.ensures.wrote start (total ++ lost_lines n) (c.loop-put.invariant.pushed start total has))))
+    let w = traffic g.W.Write.contents g.W.TellingWrite.failures start c.push_pairs.new.writer in
+    let n = c.args.lost / 2 in
+    let split = lost_split (2 * n) c.args.lost (omega arith) in
+    let all : (total ++ lost_lines (2 * n)) ++ split.0 ≡ total ++ lost_lines c.args.lost = append_assoc total (lost_lines (2 * n)) split.0 ∙ ap (λ (l : List ℕ). total ++ l) (sym split.1) in
+    rw p.1 (subst (LostOutput w) all (lost_longer w (total ++ lost_lines (2 * n)) split.0 (c.in_err-push_pairs.ensures.pushed start total has)))
 
 pub returns-clause-pushed : goal.returns-clause-pushed
 returns-clause-pushed g c start total has =
-    let test = c.loop-put-test.false in
-    let end = c.loop-put.auto._put-end in
-    let same : c.loop-put._put ≡ c.args.lost = omega (arith, test, end) in
-    subst (λ (n : ℕ). HasOutput (traffic g.W.Write.contents g.W.TellingWrite.failures start c.loop-put.writer) c.loop-put.self (total ++ lost_lines n)) same
-    (c.loop-put.invariant.pushed start total has)
+    let n = c.args.lost / 2 in
+    let odd : 2 * n + 1 ≡ c.args.lost = omega (arith, c.if-lost-eq0.false) in
+    same_pushed _ _ c.push_line.result _ _ (more_lost total (2 * n) ∙ ap (λ (m : ℕ). total ++ lost_lines m) odd)
+    (c.push_line.ensures.pushed start (total ++ lost_lines (2 * n)) (c.in_ok-push_pairs.ensures.pushed start total has))
