@@ -314,15 +314,14 @@ fn plain_reception(byte: u8, after: &[u8]) -> Option<Reception>
     ensures { IfSome result (λ reception. IsDigitCut after.now [] after.now
         × (byte ≡ letter reception) × HasDigits reception []) }
 {
-    if digits_in_front(after) > 0 {
-        return None;
+    match after.first() {
+        None | Some(b'G'..=b'Z') => letter_alone(byte),
+        Some(_) => None,
     }
-    letter_alone(byte)
 }
 
 /// Returns the reception of a letter and the digits after it, and what comes after them.
-// Cold path.
-#[inline(never)]
+#[inline(always)]
 fn next_reception(byte: u8, after: &[u8]) -> Option<(Reception, &[u8])>
     ensures some { IfSome result (λ next. (digits : List ℕ) × IsDigitCut after.now digits next.1.now
         × (byte ≡ letter next.0) × HasDigits next.0 digits) }
@@ -340,16 +339,13 @@ pub(crate) fn digits_in_front(text: &[u8]) -> usize
     ensures digits { (k : ℕ) → k < result → IsAsciiHexdigit (slice_index text.now k) }
     ensures ends { result < length text.now → IsNotAsciiHexdigit (slice_index text.now result) }
 {
-    match text.first() {
-        None | Some(b'G'..=b'Z') => 0,
-        Some(_) => text
-            .iter()
-            .position(|byte| !byte.is_ascii_hexdigit())
-            .unwrap_or(text.len()),
-    }
+    text.iter()
+        .position(|byte| !byte.is_ascii_hexdigit())
+        .unwrap_or(text.len())
 }
 
 /// Returns the reception of a letter and the digits after it.
+#[inline(always)]
 pub(crate) fn reception_of(byte: u8, digits: &[u8]) -> Option<Reception>
     ensures some { IfSome result (λ reception. (byte ≡ letter reception)
         × HasDigits reception digits.now) }
