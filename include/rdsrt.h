@@ -66,7 +66,7 @@
  *     rdsrt_receiver_view              232  208    rdsrt_audit_slot                  28   48
  *     rdsrt_receiver_held                8    0    rdsrt_audit_passed                 8    0
  *     rdsrt_slot_time                    8    0    rdsrt_audit_texts_turn_the_flag    8    0
- *     rdsrt_time_in                    120  144    rdsrt_audit_names_turn_the_flag    8    0
+ *     rdsrt_time_in                    120  112    rdsrt_audit_names_turn_the_flag    8    0
  *     rdsrt_lost_slots                   8    0    rdsrt_text_to_display            296  304
  *     rdsrt_encoder_init                16    0    rdsrt_text_to_utf8               360  368
  *     rdsrt_encoder_set_text           248  256    rdsrt_text_from_utf8             128  128

@@ -61,6 +61,7 @@ FORMS = [
     rf"  {LOCAL} = extractvalue {ANY_PAIR} {LOCAL}, [01]", rf"  {LOCAL} = ptrtoaddr ptr {LOCAL} to i32",
     rf"  {LOCAL} = insertvalue \{{ i8, ptr \}} (?:poison|{LOCAL}), (?:i8|ptr) {LOCAL}, [01]",
     rf"  {LOCAL} = insertelement {VECTOR} (?:{LOCAL}|zeroinitializer), i(?:8|16) {LOCAL}, i32 \d+",
+    rf"  {LOCAL} = extractelement {VECTOR} {LOCAL}, i32 \d+",
     rf"  {LOCAL} = shufflevector {VECTOR} {LOCAL}, {VECTOR} zeroinitializer, <\d+ x i32> <[i\d, ]+>",
     rf"  {LOCAL} = bitcast {VECTOR} {LOCAL} to (?:i16|i64|{VECTOR})",
     rf"  br (?:i1 {VALUE}, label {LOCAL}, )?label {LOCAL}", rf"  switch {INT} {VALUE}, label {LOCAL} \[",
