@@ -128,6 +128,10 @@ class Edits(Case):
         self.check("the borrow checker does not cover it", self.judged(covered + END), (False, why))
         lost = f"{proof}`c.get` is not in scope\n{name}: not proved\n"
         self.check("its proof names what is gone", self.judged(lost + END)[0], False)
+        wrapped = f"{proof}`returns`: record `c` (nearest: .set)\n      has no field `get`\n{name}: not proved\n"
+        self.check("in a message of two lines", self.judged(wrapped + END),
+                   (False, f"only the form of {name[3:]}: `returns`: record `c` (nearest: .set) has no field `get`"))
+        self.check("and a goal fails", self.judged(f"{proof}`returns`: `search`: no proof\n{wrapped}{END}")[0], True)
         self.check("and a goal fails", self.judged(f"{proof}`returns`: `search`: no proof\n{lost}{END}")[0], True)
         for status, output in ((1, "src/dwell.rt:5:1: error[unknown-field]: no\n"),
                                (1, f"src/dwell.rt:5:1: error[borrow]: no\n{name}: not proved\n{END}"),
