@@ -1,10 +1,13 @@
 -- What receivers get that lose different slots.
 use Rattle.std.proofs.Common.{◌≡◌, ◌∙◌, ◌∷◌, [], ◌+◌, ◌<◌, ◌≤◌, ◌⊎◌, inl, inr, ℕ, zero, suc, Bool, false, true, List, Option, None, add-one, ap, arith, length, refl, sym}
-use Rattle.std.specs.Prelude.{◌&&◌, ◌||◌, nat_le}
+use Rattle.std.specs.Prelude.{◌&&◌, ◌||◌, if◌then◌else◌, nat_le, slice_index_or}
 use Rattle.std.proofs.lemmas.Bool.{cases_lt}
+use Rattle.std.proofs.lemmas.List.Folds.{list_any_more}
+use Rattle.std.proofs.Math.ListN.{get_or}
+use Rattle.std.specs.Prelude.{take}
 use Rattle.std.proofs.lemmas.Bool.Decides.{nat_tests}
 use Rattle.rds_block.specs.declared.group.Group.{Group}
-use Rattle.rds_witness.specs.Lost.{got, got-more, got-none, is_lost, received}
+use Rattle.rds_witness.specs.Lost.{got, got-more, got-none, has_slot, is_lost, received}
 use Rattle.rds_witness.specs.declared.burst.Burst.{Burst}
 
 pub not_lost_before : (burst : Burst) (n : ℕ) → n < burst.first → is_lost (burst ∷ []) n ≡ false
@@ -22,6 +25,36 @@ lost_inside burst n from to =
     let one : nat_le burst.first n ≡ true = grind (arith, nat_tests) in
     let two : nat_le n burst.last ≡ true = grind (arith, nat_tests) in
     rw (one, two) refl
+
+-- a slot of a log with nothing in this burst, and otherwise as before
+pub emptied : (burst : Burst) (n : ℕ) (old new : List (Option Group))
+    → (burst.first ≤ n → n ≤ burst.last → slice_index_or new n None ≡ None)
+    → (n < burst.first → slice_index_or new n None ≡ slice_index_or old n None)
+    → (burst.first ≤ n → burst.last < n → slice_index_or new n None ≡ slice_index_or old n None)
+    → slice_index_or new n None ≡ if has_slot burst n then None else slice_index_or old n None
+emptied burst n old new inside before behind = by (cases_lt n burst.first) (cases_lt burst.last n)
+  where
+    by : (n < burst.first) ⊎ (burst.first ≤ n) → (burst.last < n) ⊎ (n ≤ burst.last)
+        → slice_index_or new n None ≡ if has_slot burst n then None else slice_index_or old n None
+    by (inl less) other = let test : has_slot burst n ≡ false = grind (arith, nat_tests) in rw test (before less)
+    by (inr from) (inl more) = let test : has_slot burst n ≡ false = grind (arith, nat_tests) in rw test (behind from more)
+    by (inr from) (inr to) = let test : has_slot burst n ≡ true = grind (arith, nat_tests) in rw test (inside from to)
+
+-- one burst more is lost
+pub burst_more : (lost : List Burst) (k : ℕ) (d : Burst) (log old new : List (Option Group)) (n : ℕ) → k < length lost
+    → slice_index_or old n None ≡ received (take k lost) log n
+    → slice_index_or new n None ≡ if has_slot (get_or lost k d) n then None else slice_index_or old n None
+    → slice_index_or new n None ≡ received (take (k + 1) lost) log n
+burst_more lost k d log old new n inside was is =
+    let test = list_any_more (λ (burst : Burst). has_slot burst n) lost k d inside in
+    is ∙ ap (λ (o : Option Group). if has_slot (get_or lost k d) n then None else o) was
+    ∙ nested (is_lost (take k lost) n) (has_slot (get_or lost k d) n) (slice_index_or log n None)
+    ∙ ap (λ (b : Bool). if b then None else slice_index_or log n None) (sym test)
+  where
+    nested : (a b : Bool) (group : Option Group) → if b then None else (if a then None else group) ≡ if a || b then None else group
+    nested true true group = refl
+    nested true false group = refl
+    nested false b group = refl
 
 received_alike : (one other : List Burst) (log : List (Option Group)) (n : ℕ) → is_lost one n ≡ is_lost other n → received one log n ≡ received other log n
 received_alike one other log n same = rw same refl

@@ -1,7 +1,7 @@
 -- The input of a receiver that loses some bursts of a log, each of which is a range of slots. A log has its oldest slot
 -- first, and the input of a receiver the newest first.
 use Rattle.std.proofs.Common.{add-one, ap, refl}
-use Rattle.std.specs.Prelude.{◌≡◌, ◌&&◌, ◌+◌, ◌∷◌, [], ℕ, Bool, List, Option, None, nat_le}
+use Rattle.std.specs.Prelude.{◌≡◌, ◌<◌, ◌&&◌, ◌+◌, ◌∷◌, [], ℕ, Bool, List, Option, None, length, nat_le}
 use Rattle.std.specs.Prelude.{slice_index_or, if◌then◌else◌, suc, zero}
 use Rattle.std.specs.List.{list_any}
 use Rattle.rds_block.specs.declared.group.Group.{Group}
@@ -18,6 +18,11 @@ is_lost lost n = list_any (λ (burst : Burst). has_slot burst n) lost
 -- the group of slot n
 abbrev pub received : List Burst → List (Option Group) → ℕ → Option Group
 received lost log n = if is_lost lost n then None else slice_index_or log n None
+
+-- these are the groups of all slots
+pub record IsReceived (lost : List Burst) (log got : List (Option Group)) : Type 0 where
+  pub long : length got ≡ length log
+  pub each : (n : ℕ) → n < length log → slice_index_or got n None ≡ received lost log n
 
 -- the input before slot n
 unfoldable pub got : List Burst → List (Option Group) → ℕ → List (Option Group)

@@ -11,11 +11,12 @@ ghost use Rattle.rds_receiver.specs.Receipts.{Tuning};
 ghost use Rattle.rds_receiver.specs.Stored.{IsStored, receiver_stored};
 ghost use Rattle.rds_witness.specs.Candidates.{AddsSlotOfIt, StandsBefore};
 ghost use Rattle.rds_witness.specs.LossLines.{AreLossLines, IsLossAnswer};
+ghost use Rattle.rds_witness.specs.Lost.{received};
 ghost use Rattle.rds_witness.specs.Search.{AreSeen};
 ghost use Rattle.rds_witness.specs.Witness.{Answers, Loses};
 ghost use Rattle.rds_witness.specs.declared.burst.Burst.{Burst};
 
-use crate::burst::{Burst, received};
+use crate::burst::{Burst, received_of};
 use crate::candidate::Candidate;
 use crate::checking::slots_until;
 use crate::mix_lines::{ROOM, push_mixes_of};
@@ -104,6 +105,7 @@ fn lines_of(
 {
     let (pi, dwell) = (losing.pi, losing.dwell);
     let all = AllSeen::of(alloc, log, pi, dwell)?;
+    let got = received_of(alloc, log, losing.lost)?;
     let mut receiver = Receiver::new(pi, dwell).store();
     let mut lines = Vec::new(alloc);
     for slot in 0..log.len() {
@@ -116,20 +118,22 @@ fn lines_of(
             words: b"",
             slot,
         };
-        play_slot(&all, &candidate, &mut receiver, &mut lines)?;
+        play_slot(&all, &candidate, got[slot], &mut receiver, &mut lines)?;
     }
     Ok(lines)
 }
 
-/// Lets the receiver handle the slot, or lose it, and appends the lines of the mixes that it shows then.
+/// Lets the receiver handle what it gets in the slot, and appends the lines of the mixes that it shows then.
 fn play_slot(
     all: &AllSeen,
     candidate: &Candidate<'_>,
+    group: Option<Blocks>,
     receiver: &mut StoredReceiver,
     lines: &mut Vec<u8>,
 ) -> Result<(), AllocError>
     requires inside { candidate.now.slot < length candidate.now.log.now }
     requires words { candidate.now.words.now ≡ [] }
+    requires got { group ≡ received candidate.now.lost.now candidate.now.log.now candidate.now.slot }
     requires seen { AreSeen (tuned candidate.now.pi candidate.now.dwell) candidate.now.log.now all.now }
     requires stored { IsStored receiver.old }
     requires stands { StandsBefore candidate.now.slot candidate.now (receiver_stored receiver.old) }
@@ -138,7 +142,7 @@ fn play_slot(
     ensures lines { OnOk result (AddsSlotOfIt candidate.now lines.old.items lines.new.items) }
 {
     let old = *receiver;
-    let changed = receiver.slot(received(candidate.log, candidate.lost, candidate.slot));
+    let changed = receiver.slot(group);
     if !changed {
         return Ok(());
     }

@@ -16,25 +16,25 @@ use Rattle.rds_witness.proofs.lose_log.play_slot.Goals as goal
 pub returns-then-not-changed-clause-stands : goal.returns-then-not-changed-clause-stands
 returns-then-not-changed-clause-stands c =
     let candidate = c.args.candidate.now in
-    stands_more (tuned candidate.pi candidate.dwell) (receiver_stored c.slot-changed.new.self) candidate.lost.now candidate.log.now candidate.slot c.received.result c.received.ensures
+    stands_more (tuned candidate.pi candidate.dwell) (receiver_stored c.slot-changed.new.self) candidate.lost.now candidate.log.now candidate.slot c.args.group c.requires.got
     (c.slot-changed.ensures.stands c.requires.stored _ _ c.requires.stands)
 
 pub returns-then-knows_all-clause-stands : goal.returns-then-knows_all-clause-stands
 returns-then-knows_all-clause-stands c =
     let candidate = c.args.candidate.now in
-    stands_more (tuned candidate.pi candidate.dwell) (receiver_stored c.slot-changed.new.self) candidate.lost.now candidate.log.now candidate.slot c.received.result c.received.ensures
+    stands_more (tuned candidate.pi candidate.dwell) (receiver_stored c.slot-changed.new.self) candidate.lost.now candidate.log.now candidate.slot c.args.group c.requires.got
     (c.slot-changed.ensures.stands c.requires.stored _ _ c.requires.stands)
 
 pub returns-in_err-extend_from_slice-clause-stands : goal.returns-in_err-extend_from_slice-clause-stands
 returns-in_err-extend_from_slice-clause-stands c =
     let candidate = c.args.candidate.now in
-    stands_more (tuned candidate.pi candidate.dwell) (receiver_stored c.slot-changed.new.self) candidate.lost.now candidate.log.now candidate.slot c.received.result c.received.ensures
+    stands_more (tuned candidate.pi candidate.dwell) (receiver_stored c.slot-changed.new.self) candidate.lost.now candidate.log.now candidate.slot c.args.group c.requires.got
     (c.slot-changed.ensures.stands c.requires.stored _ _ c.requires.stands)
 
 pub returns-clause-stands : goal.returns-clause-stands
 returns-clause-stands c =
     let candidate = c.args.candidate.now in
-    stands_more (tuned candidate.pi candidate.dwell) (receiver_stored c.slot-changed.new.self) candidate.lost.now candidate.log.now candidate.slot c.received.result c.received.ensures
+    stands_more (tuned candidate.pi candidate.dwell) (receiver_stored c.slot-changed.new.self) candidate.lost.now candidate.log.now candidate.slot c.args.group c.requires.got
     (c.slot-changed.ensures.stands c.requires.stored _ _ c.requires.stands)
 
 pub returns-then-not-changed-clause-lines : goal.returns-then-not-changed-clause-lines
@@ -44,7 +44,7 @@ returns-then-not-changed-clause-lines c =
     let log = candidate.log.now in
     let lost = candidate.lost.now in
     let n = candidate.slot in
-    let next : got lost log (n + 1) ≡ c.received.result ∷ got lost log n = got-more lost log n ∙ ap (λ (g : Option Group). g ∷ got lost log n) (sym c.received.ensures) in
+    let next : got lost log (n + 1) ≡ c.args.group ∷ got lost log n = got-more lost log n ∙ ap (λ (g : Option Group). g ∷ got lost log n) (sym c.requires.got) in
     adds_slot t candidate.ahead log lost n c.args.lines.now.items [] c.args.lines.now.items
     (no_mixes t candidate.ahead log lost [] n
     (stays_none t candidate.ahead log lost n (λ view is. subst (λ (l : List (Option Group)). IsView t l view) (sym next) (c.slot-changed.ensures.same c.requires.stored c.if-not-changed.true view t (got lost log n) c.requires.stands is))))
@@ -58,7 +58,7 @@ returns-then-knows_all-clause-lines c =
     let lost = candidate.lost.now in
     let n = candidate.slot in
     let before = view_of c.view-before.result in
-    let stands = stands_more t (receiver_stored c.slot-changed.new.self) lost log n c.received.result c.received.ensures
+    let stands = stands_more t (receiver_stored c.slot-changed.new.self) lost log n c.args.group c.requires.got
     (c.slot-changed.ensures.stands c.requires.stored _ _ c.requires.stands) in
     adds_slot t candidate.ahead log lost n c.args.lines.now.items [] c.args.lines.now.items
     (no_mixes t candidate.ahead log lost [] n
@@ -71,7 +71,7 @@ pub push_mixes_of-requires-clause-around : goal.push_mixes_of-requires-clause-ar
 push_mixes_of-requires-clause-around c =
     let candidate = c.args.candidate.now in
     let t = tuned candidate.pi candidate.dwell in
-    let stands = stands_more t (receiver_stored c.slot-changed.new.self) candidate.lost.now candidate.log.now candidate.slot c.received.result c.received.ensures
+    let stands = stands_more t (receiver_stored c.slot-changed.new.self) candidate.lost.now candidate.log.now candidate.slot c.args.group c.requires.got
     (c.slot-changed.ensures.stands c.requires.stored _ _ c.requires.stands) in
     record {
       inside = c.requires.inside;
