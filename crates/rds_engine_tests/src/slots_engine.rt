@@ -4,7 +4,7 @@ use crate::same::same;
 use rds_arrivals::Grain;
 use rds_fields::Dwell;
 use rds_io::{LogFault, Told};
-use rds_log::{Filling, SlotNotes, Times, fill_with_notes};
+use rds_log::{Filling, Gap, SlotNotes, Times, fill_with_notes};
 use std::test::Fail;
 
 /// Groups of two programmes. The third has no time. The time of the last is before that of the fourth.
@@ -82,13 +82,47 @@ fn whole_seconds(rt: HostRuntime) -> Result<(), Fail> {
     Ok(())
 }
 
+/// If all groups of a log are of other programmes, all were left out. A line with a lost block is no group.
+#[test]
+fn other_programmes_alone(rt: HostRuntime) -> Result<(), Fail> {
+    let log = b"C202 2140 4849 0D20 1.0\nC202 2140 4849 0D20 2.0\n".as_slice();
+    let mut notes = SlotNotes::new();
+    let (done, written) = filled(&rt, log, Some(0xC201), &mut notes)?;
+    same(&rt, done, Ok(Times::AllLeftOut));
+    same(&rt, (written.len(), notes.others), (0, 2));
+    let lost = b"C202 ---- ---- ---- 1.0\n".as_slice();
+    let (done, _) = filled(&rt, lost, Some(0xC201), &mut notes)?;
+    same(&rt, (done, notes.others), (Ok(Times::Fine), 1));
+    Ok(())
+}
+
+/// The longest gap is noted with the line after it, and so is a group that does not fit a line without a group: by the
+/// time in line 5, 43 slots were lost, and by the time in line 6 none. The lost slots stay.
+#[test]
+fn gaps(rt: HostRuntime) -> Result<(), Fail> {
+    let log =
+        b"C201 2140 4849 0D20 0.00\nC201 2140 4849 0D20 1.14\n# note\nC201 2140 4849 0D20 1.67\n\
+        ---- ---- ---- ---- 5.5\nC201 2140 4849 0D20 1.76\n"
+            .as_slice();
+    let mut notes = SlotNotes::new();
+    let (done, _) = filled(&rt, log, None, &mut notes)?;
+    same(&rt, done, Ok(Times::Coarse));
+    same(&rt, notes.gap, Gap { lost: 43, line: 6 });
+    same(&rt, notes.misfit, Some(6));
+    let (done, _) = filled(&rt, &log[..82], None, &mut notes)?;
+    same(&rt, done, Ok(Times::Fine));
+    same(&rt, notes.gap, Gap { lost: 12, line: 2 });
+    same(&rt, notes.misfit, None);
+    Ok(())
+}
+
 /// A log whose groups have no time is not understood, and its output is empty. A slot without a group is not counted.
 #[test]
 fn no_times(rt: HostRuntime) -> Result<(), Fail> {
     let log = b"---- ---- ---- ----\nC201 2140 4849 0D20 07:58:12\n".as_slice();
     let mut notes = SlotNotes::new();
     let (done, written) = filled(&rt, log, None, &mut notes)?;
-    same(&rt, done, Ok(Times::NotUnderstood));
+    same(&rt, done, Ok(Times::AllLeftOut));
     same(&rt, (written.len(), notes.untimed), (0, 1));
     Ok(())
 }

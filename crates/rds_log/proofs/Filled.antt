@@ -1,6 +1,6 @@
 -- How the output of a filler goes on: it waits, it is written, or the writer fails at it.
 use Rattle.std.proofs.Common.{◌≡◌, ◌⊎◌, ◌+◌, ◌-◌, ◌*◌, ◌<◌, ◌≤◌, ℕ, zero, suc, List, [], ◌∷◌, ◌++◌, Option, Some, None, append_assoc, add-one, ap, sym, subst, ◌∙◌, refl, inl, inr, arith, codes, cond, false, is_some, max, take, true, Bool, ◌↔◌}
-use Rattle.std.specs.Prelude.{Err, MatchResult, Ok, OnOk, Result}
+use Rattle.std.specs.Prelude.{Err, IsTrue, MatchResult, Ok, OnOk, Result}
 use Rattle.rds_io.specs.declared.told.WriteFault.{WriteFault}
 use Rattle.std.proofs.lemmas.Bool.{cases_lt}
 use Rattle.std.proofs.lemmas.Bool.Decides.{nat_tests}
@@ -18,7 +18,7 @@ use Rattle.rds_arrivals.specs.declared.lost.Break.TheVariants.{Back, Day}
 use Rattle.rds_arrivals.specs.declared.stamp.Stamp.{Stamp}
 use Rattle.rds_log.specs.LogLines.{Line}
 use Rattle.rds_log.specs.LineSays.{LineSays, deciding}
-use Rattle.rds_log.specs.Fill.{AddsNothing, AreFilled, HasUntimed, IsOfAnother, IsUntimed, SoFar, WroteFilled, WroteFilledPart, gap_lines, lost_lines, more_lines, newest_time, shown, time_of}
+use Rattle.rds_log.specs.Fill.{AddsNothing, AreFilled, HasLeftOut, IsLeftOut, IsOfAnother, SoFar, WroteFilled, WroteFilledPart, gap_lines, lost_lines, more_lines, newest_time, shown, time_of}
 use Rattle.rds_log.specs.Inside.Filler.{HasFilled, HasOutput, KeepsPace, KeepsTime, LostOutput, last_time, told_after}
 use Rattle.rds_log.specs.Inside.Pace.{PaceStandsAt}
 use Rattle.rds_log.specs.declared.pace.Pace.{Pace}
@@ -135,9 +135,17 @@ same_pushed d w r total other same out = subst (λ (l : List ℕ). MatchResult r
 
 -- ---- lines
 
+-- a filler with the same settings, which left out a group or did not, as these lines have it
+left_out_kept : (s after : Filler) (has : Bool) (lines : List Line)
+    → after.filling ≡ s.filling → after.has_left_out ≡ has → IsTrue has ↔ HasLeftOut s.filling.pi lines
+    → IsTrue after.has_left_out ↔ HasLeftOut after.filling.pi lines
+left_out_kept s after has lines f u same =
+    subst (λ (g : Filling). IsTrue after.has_left_out ↔ HasLeftOut g.pi lines) (sym f)
+    (subst (λ (b : Bool). IsTrue b ↔ HasLeftOut s.filling.pi lines) (sym u) same)
+
 -- a line that adds nothing
 pub adds_none : (s after : Filler) (w : Traffic) (lines : List Line) (line : Line) → AddsNothing s.filling line
-    → after.filling ≡ s.filling → after.pace ≡ s.pace → after.told ≡ s.told → (0 < after.untimed) ↔ HasUntimed (line ∷ lines) → after.output ≡ s.output
+    → after.filling ≡ s.filling → after.pace ≡ s.pace → after.told ≡ s.told → IsTrue after.has_left_out ↔ HasLeftOut s.filling.pi (line ∷ lines) → after.output ≡ s.output
     → HasFilled s w lines → HasFilled after w (line ∷ lines)
 adds_none s after w lines line none f p d u o has = record {
   so_far = has.so_far;
@@ -145,7 +153,7 @@ adds_none s after w lines line none f p d u o has = record {
   pace = rw p has.pace;
   grain = ap (λ (x : Pace). x.grain) p ∙ has.grain ∙ ap (λ (g : Filling). g.grain) (sym f);
   told = d ∙ has.told;
-  untimed = u;
+  left_out = left_out_kept s after after.has_left_out (line ∷ lines) f refl u;
   output = same_output s after w has.so_far.written has.output o;
 }
 
@@ -154,31 +162,47 @@ same_gap : (s : Filler) (w : Traffic) (lines : List Line) (has : HasFilled s w l
 same_gap s w lines has came time =
     ap (λ (o : Option ℕ). gap_lines s.filling came o s.told time) has.pace.last ∙ ap (λ (n : ℕ). gap_lines s.filling came (newest_time has.so_far.came) n time) has.told
 
--- a line with a time, or one without a group, is not a group without a time
-pub no_untimed : (line : Line) (lines : List Line) (n : ℕ) → (IsUntimed line → ⊥) → (0 < n) ↔ HasUntimed lines → (0 < n) ↔ HasUntimed (line ∷ lines)
-no_untimed line lines n not same = (λ some. inr (same.0 some), λ any. elim any [ inl here ↦ absurd (not here) | inr before ↦ same.1 before ])
-
--- no line is two things
-said_other : (line : Line) (said : LogLine) → LineSays line said → ((group : Group) → said ≡ Slot (Some group) → ⊥) → IsUntimed line → ⊥
-said_other line said says other untimed = other untimed.group (same_said line said (Slot (Some untimed.group)) says untimed.says)
-
-pub skipped : (line : Line) → LineSays line Skip → IsUntimed line → ⊥
-skipped line says = said_other line Skip says (λ group same. absurd (cc))
-
--- a slot without a time is one more group without a time, if it has a group
-pub untimed_now : (line : Line) (lines : List Line) (slot : Option Group) (n after : ℕ) → LineSays line (Slot slot) → time_of (take deciding line) ≡ None
-    → (0 < after) ↔ ((0 < n) ⊎ (is_some slot ≡ true)) → (0 < n) ↔ HasUntimed lines → (0 < after) ↔ HasUntimed (line ∷ lines)
-untimed_now line lines (Some group) n after says none count same =
-    (λ some. inl (record { group = group; says = says; untimed = none }), λ any. count.1 (inr refl))
-untimed_now line lines None n after says none count same = (
-  λ some. elim (count.0 some) [ inl before ↦ inr (same.0 before) | inr bad ↦ absurd (cc) ],
-  λ any. elim any [ inl here ↦ absurd (said_other line (Slot None) says (λ group bad. absurd (cc)) here) | inr before ↦ count.1 (inl (same.1 before)) ],
+-- a line of this programme with a time, or one without a group, is no group that is left out
+pub none_left_out : (pi : Option ℕ) (line : Line) (lines : List Line) (has : Bool)
+    → (IsLeftOut pi line → ⊥) → IsTrue has ↔ HasLeftOut pi lines → IsTrue has ↔ HasLeftOut pi (line ∷ lines)
+none_left_out pi line lines has not same = (
+  λ some. inr (same.0 some),
+  λ any. elim any [ inl here ↦ absurd (not here) | inr before ↦ same.1 before ],
 )
 
-pub timed : (line : Line) (stamp : Stamp) (first : List ℕ) → first ≡ take deciding line → time_of first ≡ Some stamp → IsUntimed line → ⊥
-timed line stamp first is found untimed =
-    let bad : None ≡ Some stamp = sym untimed.untimed ∙ ap time_of (sym is) ∙ found in
-    cc
+-- no line is two things
+said_other : (pi : Option ℕ) (line : Line) (said : LogLine)
+    → LineSays line said → ((group : Group) → said ≡ Slot (Some group) → ⊥) → IsLeftOut pi line → ⊥
+said_other pi line said says other out = other out.group (same_said line said (Slot (Some out.group)) says out.says)
+
+pub skipped : (pi : Option ℕ) (line : Line) → LineSays line Skip → IsLeftOut pi line → ⊥
+skipped pi line says = said_other pi line Skip says (λ group same. absurd (cc))
+
+-- the slot of a line that is left out is one more group that is, if it has a group
+pub left_out_now : (pi : Option ℕ) (line : Line) (lines : List Line) (slot : Option Group) (has after : Bool)
+    → LineSays line (Slot slot) → (time_of (take deciding line) ≡ None) ⊎ IsOfAnother pi (take deciding line)
+    → IsTrue after ↔ (IsTrue has ⊎ (is_some slot ≡ true)) → IsTrue has ↔ HasLeftOut pi lines
+    → IsTrue after ↔ HasLeftOut pi (line ∷ lines)
+left_out_now pi line lines (Some group) has after says out count same =
+    (λ some. inl (record { group = group; says = says; left_out = out }), λ any. count.1 (inr refl))
+left_out_now pi line lines None has after says out count same = (
+  λ some. elim (count.0 some) [ inl before ↦ inr (same.0 before) | inr bad ↦ absurd (cc) ],
+  λ any. elim any [
+    | inl here ↦ absurd (said_other pi line (Slot None) says (λ group bad. absurd (cc)) here)
+    | inr before ↦ count.1 (inl (same.1 before))
+  ],
+)
+
+-- a line of this programme with a time is not left out
+pub counted : (pi : Option ℕ) (line : Line) (stamp : Stamp) (first : List ℕ) → first ≡ take deciding line
+    → time_of first ≡ Some stamp → (IsOfAnother pi first → ⊥) → IsLeftOut pi line → ⊥
+counted pi line stamp first is found own out = by out.left_out
+  where
+    by : (time_of (take deciding line) ≡ None) ⊎ IsOfAnother pi (take deciding line) → ⊥
+    by (inl none) =
+        let bad : None ≡ Some stamp = sym none ∙ ap time_of (sym is) ∙ found in
+        cc
+    by (inr other) = own (rw is other)
 
 -- what is so far after a line with a whole group, and after one without
 abbrev pub after_group : SoFar → Group → ℕ → List ℕ → SoFar
@@ -265,14 +289,15 @@ time_done s after w v lines line None stamp first says none is timed_at own has 
       grain = ap (λ (x : Pace). x.grain) keeps.pace ∙ has.grain ∙ ap (λ (g : Filling). g.grain) (sym keeps.filling);
       told = told ∙ ap (λ (o : Option ℕ). told_after s.filling o s.told stamp.time) has.pace.last ∙ ap (λ (n : ℕ). told_after s.filling (newest_time has.so_far.came) n stamp.time) has.told
           ∙ told_is s.filling has.so_far.came has.so_far.told stamp.time;
-      untimed = no_untimed line lines after.untimed (timed line stamp first is timed_at) (rw keeps.untimed has.untimed);
+      left_out = left_out_kept s after s.has_left_out (line ∷ lines) keeps.filling keeps.left_out
+          (none_left_out s.filling.pi line lines s.has_left_out (counted s.filling.pi line stamp first is timed_at own) has.left_out);
       output = out;
     }
 
 -- the output of a line with a group was added, or the writer failed at it
 pub group_done : (s after : Filler) (w v : Traffic) (lines : List Line) (line : Line) (slot : Option Group) (stamp : Stamp) (first : List ℕ) (r : Result (Unit {0}) WriteFault)
     → LineSays line (Slot slot) → is_some slot ≡ true → first ≡ take deciding line → time_of first ≡ Some stamp → (IsOfAnother s.filling.pi first → ⊥) → (has : HasFilled s w lines)
-    → after.filling ≡ s.filling → ((a : Arrival Group) → a.told ≡ s.told → a.time ≡ stamp.time → PaceStandsAt after.pace (a ∷ has.so_far.came)) → after.pace.grain ≡ s.pace.grain → after.told ≡ 0 → after.untimed ≡ s.untimed
+    → after.filling ≡ s.filling → ((a : Arrival Group) → a.told ≡ s.told → a.time ≡ stamp.time → PaceStandsAt after.pace (a ∷ has.so_far.came)) → after.pace.grain ≡ s.pace.grain → after.told ≡ 0 → after.has_left_out ≡ s.has_left_out
     → MatchResult r (λ _. HasOutput v after (has.so_far.written ++ gap_lines s.filling true (last_time s) s.told stamp.time ++ shown first stamp))
     (λ _. LostOutput v (has.so_far.written ++ gap_lines s.filling true (last_time s) s.told stamp.time ++ shown first stamp))
     → MatchResult r (λ _. HasFilled after v (line ∷ lines)) (λ _. WroteFilledPart s.filling v (line ∷ lines))
@@ -285,7 +310,8 @@ group_done s after w v lines line (Some group) stamp first (Ok done) says some i
       pace = p _ (sym has.told) refl;
       grain = k ∙ has.grain ∙ ap (λ (g : Filling). g.grain) (sym f);
       told = d;
-      untimed = no_untimed line lines after.untimed (timed line stamp first is timed_at) (rw u has.untimed);
+      left_out = left_out_kept s after s.has_left_out (line ∷ lines) f u
+          (none_left_out s.filling.pi line lines s.has_left_out (counted s.filling.pi line stamp first is timed_at own) has.left_out);
       output = out;
     }
 group_done s after w v lines line (Some group) stamp first (Err fault) says some is timed_at own has f p k d u out = record {
@@ -307,7 +333,7 @@ flushed s after w v lines (Ok done) has keeps out = record {
   pace = rw keeps.pace has.pace;
   grain = ap (λ (x : Pace). x.grain) keeps.pace ∙ has.grain ∙ ap (λ (g : Filling). g.grain) (sym keeps.filling);
   told = keeps.told ∙ has.told;
-  untimed = rw keeps.untimed has.untimed;
+  left_out = left_out_kept s after s.has_left_out lines keeps.filling keeps.left_out has.left_out;
   output = out;
 }
 flushed s after w v lines (Err fault) has keeps out = record { so_far = has.so_far; fill = has.fill; wrote = out.wrote; failed = out.failed }

@@ -16,7 +16,7 @@ use Rattle.rds_log.proofs.Filled.{wrote_filled}
 
 -- the log ended, and the output was written
 pub fills_all : (f : Filling) (d : Filler) (s : Source) (start now : ReaderState) (w : Traffic) (lines : List Line) → GivesNext s (2 ^ 32) start now lines None
-    → d.filling ≡ f → (has : HasFilled d w lines) → d.output ≡ [] → (times : Times) → TimesAre d.filling.grain lines has.so_far.came times → Fills f (since start now) w (Ok times)
+    → d.filling ≡ f → (has : HasFilled d w lines) → d.output ≡ [] → (times : Times) → TimesAre d.filling lines has.so_far.came times → Fills f (since start now) w (Ok times)
 unfolding wrote_filled
 fills_all f d s start now w lines (stands, through) same has none times are = record {
   text = through.text;
@@ -25,7 +25,7 @@ fills_all f d s start now w lines (stands, through) same has none times are = re
   end = through.end;
   are = through.are;
   wrote = wrote_filled f d w lines same has none;
-  answer = subst (λ (g : Filling). TimesAre g.grain lines has.so_far.came times) same are;
+  answer = subst (λ (g : Filling). TimesAre g lines has.so_far.came times) same are;
   calm = stands.reads.calm;
 }
 

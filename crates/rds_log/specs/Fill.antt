@@ -22,7 +22,7 @@ use Rattle.rds_io.specs.declared.fault.LogFault.TheVariants.{BadLine, BadRow, Re
 use Rattle.rds_log.specs.declared.filler.Filling.{Filling}
 use Rattle.rds_log.specs.declared.log_line.LogLine.TheVariants.{Skip, Slot}
 use Rattle.rds_log.specs.declared.filler.Times.{Times}
-use Rattle.rds_log.specs.declared.filler.Times.TheVariants.{Coarse, Fine, NotUnderstood}
+use Rattle.rds_log.specs.declared.filler.Times.TheVariants.{AllLeftOut, Coarse, Fine}
 
 -- ---- a line, by its first bytes
 
@@ -129,23 +129,23 @@ pub record WroteFilledPart (f : Filling) (w : Traffic) (lines : List Line) : Typ
   pub wrote : AppendsPrefix w.before w.after so_far.written
   pub failed : HasFailed w
 
--- the line is a group without a time
-pub record IsUntimed (line : Line) : Type 0 where
+-- the line is a group that is left out: it has no time, or it is of another programme
+pub record IsLeftOut (pi : Option ℕ) (line : Line) : Type 0 where
   pub group : Group
   pub says : LineSays line (Slot (Some group))
-  pub untimed : time_of (take deciding line) ≡ None
+  pub left_out : (time_of (take deciding line) ≡ None) ⊎ IsOfAnother pi (take deciding line)
 
 -- one of these lines is so
-abbrev pub HasUntimed : List Line → Type 0
-HasUntimed [] = ⊥
-HasUntimed (line ∷ before) = IsUntimed line ⊎ HasUntimed before
+abbrev pub HasLeftOut : Option ℕ → List Line → Type 0
+HasLeftOut pi [] = ⊥
+HasLeftOut pi (line ∷ before) = IsLeftOut pi line ⊎ HasLeftOut pi before
 
--- whether the slots of the log can be counted by the times of these lines, which have these groups: no time was
--- understood, or the times are coarse, or neither
-abbrev pub TimesAre : ℕ → List Line → List (Arrival Group) → Times → Type 0
-TimesAre grain lines came Fine = ((came ≡ []) × HasUntimed lines → ⊥) × (AreCoarse grain came → ⊥)
-TimesAre grain lines came Coarse = AreCoarse grain came
-TimesAre grain lines came NotUnderstood = (came ≡ []) × HasUntimed lines
+-- whether the slots of the log can be counted by the times of these lines, which have these groups: all groups were
+-- left out, or the times are coarse, or neither
+abbrev pub TimesAre : Filling → List Line → List (Arrival Group) → Times → Type 0
+TimesAre f lines came Fine = ((came ≡ []) × HasLeftOut f.pi lines → ⊥) × (AreCoarse f.grain came → ⊥)
+TimesAre f lines came Coarse = AreCoarse f.grain came
+TimesAre f lines came AllLeftOut = (came ≡ []) × HasLeftOut f.pi lines
 
 -- the output of a whole log was written, and the answer says what its times are
 pub record FillsAll (f : Filling) (r w : Traffic) (times : Times) : Type 0 where
@@ -155,7 +155,7 @@ pub record FillsAll (f : Filling) (r w : Traffic) (times : Times) : Type 0 where
   pub end : IsAtEnd r.after
   pub are : AreLines text lines
   pub wrote : WroteFilled f w lines
-  pub answer : TimesAre f.grain lines wrote.so_far.came times
+  pub answer : TimesAre f lines wrote.so_far.came times
   pub calm : IsCalm r
 
 -- the result of `slots`: each fault has its cause

@@ -45,12 +45,21 @@ pub struct Filling {
 /// Whether the lost slots of a log can be counted by its times (this project's own rule).
 #[derive(Clone, Copy, Debug, PartialEq, Eq)]
 pub enum Times {
-    /// They can, or there is no group whose time could be missing.
+    /// They can, or the log has no group.
     Fine,
     /// The times are too coarse: more slots were counted than a station sends in that time.
     Coarse,
-    /// There are groups without a time, and none of the programme with one.
-    NotUnderstood,
+    /// The log has groups, and all of them were left out: each has no time or is of another programme.
+    AllLeftOut,
+}
+
+/// The lost slots between two groups of a log (this project's own rule).
+#[derive(Clone, Copy, Debug, Default, PartialEq, Eq)]
+pub struct Gap {
+    /// How many slots were lost.
+    pub lost: u32,
+    /// The line of the second group, counted from 1.
+    pub line: u64,
 }
 
 /// Takes the lines of a log with times, and keeps their output until it is written.
@@ -60,12 +69,18 @@ pub(crate) struct Filler {
     pub(crate) pace: Pace,
     /// How many lost slots are written since the last group.
     told: u32,
+    /// Whether a group was left out.
+    has_left_out: bool,
     /// The number of groups without a time.
     pub(crate) untimed: u64,
     /// The number of lines of other programmes with a time.
     pub(crate) others: u64,
     /// The number of breaks.
     pub(crate) breaks: u64,
+    /// The longest gap.
+    pub(crate) gap: Gap,
+    /// The line of the newest group that did not fit a line without a group before it.
+    pub(crate) misfit: Option<u64>,
     output: Lines<FILLED_ROOM>,
 }
 
@@ -83,9 +98,12 @@ impl Filler {
             filling,
             pace: Pace::new(filling.grain),
             told: 0,
+            has_left_out: false,
             untimed: 0,
             others: 0,
             breaks: 0,
+            gap: Gap::default(),
+            misfit: None,
             output: Lines::new(),
         }
     }
@@ -93,21 +111,22 @@ impl Filler {
     /// Returns whether the lost slots so far can be counted by the times.
     pub(crate) fn times(&self) -> Times
         ensures { (w : Traffic) (lines : List Line) (has : HasFilled self.now w lines)
-            → TimesAre self.now.filling.grain lines has.so_far.came result }
+            → TimesAre self.now.filling lines has.so_far.came result }
     {
         if self.pace.coarse.is_some() {
             return Times::Coarse;
         }
-        if self.pace.stretch.is_none() && self.untimed > 0 {
-            return Times::NotUnderstood;
+        if self.pace.stretch.is_none() && self.has_left_out {
+            return Times::AllLeftOut;
         }
         Times::Fine
     }
 
-    /// Takes a line with this meaning, from its first bytes, and keeps its minute.
+    /// Takes a line with this meaning and number, from its first bytes, and keeps its minute.
     pub(crate) fn line<W: TellingWrite>(
         &mut self,
         said: LogLine,
+        number: u64,
         first: &[u8],
         minute: &mut LastMinute,
         writer: &mut W,
@@ -124,7 +143,7 @@ impl Filler {
     {
         match said {
             LogLine::Skip => Ok(()),
-            LogLine::Slot(group) => self.slot(group.is_some(), first, minute, writer),
+            LogLine::Slot(group) => self.slot(group.is_some(), number, first, minute, writer),
         }
     }
 
@@ -133,6 +152,7 @@ impl Filler {
     fn slot<W: TellingWrite>(
         &mut self,
         is_group: bool,
+        number: u64,
         first: &[u8],
         minute: &mut LastMinute,
         writer: &mut W,
@@ -148,11 +168,13 @@ impl Filler {
             (traffic W.contents W.failures start writer.new) (line ∷ lines)) }
     {
         let Some(stamp) = stamp_of(minute, first) else {
-            self.count_untimed(is_group);
+            self.untimed = self.untimed.saturating_add(u64::from(is_group));
+            self.leave_out(is_group);
             return Ok(());
         };
         if is_of_another(self.filling.pi, first) {
             self.others = self.others.saturating_add(1);
+            self.leave_out(is_group);
             return Ok(());
         }
         let told = self.told;
@@ -160,18 +182,39 @@ impl Filler {
         if !is_group {
             return Ok(());
         }
+        self.note_gap(told, stamp.time, number);
         self.pace.add(told, stamp.time);
         self.told = 0;
         self.push_line(&first[..TIME + stamp.end], writer)
     }
 
-    /// Counts a line of a slot without a time, if it has a group.
-    fn count_untimed(&mut self, is_group: bool)
-        ensures count { (0 < self.new.untimed) ↔ ((0 < self.old.untimed) ⊎ (is_group ≡ true)) }
-        ensures kept { self.new ≡ record self.old { untimed = self.new.untimed } }
+    /// Leaves out a line of a slot, with a whole group or without.
+    fn leave_out(&mut self, is_group: bool)
+        ensures count { IsTrue self.new.has_left_out ↔ (IsTrue self.old.has_left_out ⊎ (is_group ≡ true)) }
+        ensures kept { self.new ≡ record self.old { has_left_out = self.new.has_left_out } }
     {
-        if is_group {
-            self.untimed = self.untimed.saturating_add(1);
+        self.has_left_out = self.has_left_out || is_group;
+    }
+
+    /// Notes the lost slots before the group of this line, if they are the most so far. `told` of them were told by
+    /// lines without a group: if that is more than the time of the group gives, such a line does not fit.
+    fn note_gap(&mut self, told: u32, time: u64, number: u64)
+        ensures { self.new ≡ record self.old { gap = self.new.gap; misfit = self.new.misfit } }
+    {
+        if self.told > self.gap.lost {
+            self.gap = Gap {
+                lost: self.told,
+                line: number,
+            };
+        }
+        if told == 0 {
+            return;
+        }
+        if let Some(stretch) = self.pace.stretch
+            && let Ok(lost) = lost_between(stretch.last, time, self.filling.grain)
+            && lost < told
+        {
+            self.misfit = Some(number);
         }
     }
 

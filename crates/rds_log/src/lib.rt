@@ -34,7 +34,7 @@ mod verdict;
 
 pub use audit_log::{Auditing, audit, audit_with_notes, audit_within};
 pub use decode_log::{Decoding, MOST_READS, decode, decode_with_notes, decode_within};
-pub use filler::{Filling, Times, comment_of};
+pub use filler::{Filling, Gap, Times, comment_of};
 pub use gather_log::gather;
 pub use heard::{GroupCounts, Heard};
 pub use laws::{
@@ -46,6 +46,7 @@ pub use line_time::LineTime;
 pub use list_log::list_with_notes;
 pub use list_notes::{FaultCount, FaultCounts, FaultPlace, ListNotes};
 pub use notes::{BadStart, LogNotes, NoNote, Pause};
+pub use rds_io::LogFault;
 pub use segment_cause::SegmentCause;
 pub use slots_log::{SlotNotes, fill_with_notes};
 pub use verdict::fault_name;

@@ -82,8 +82,7 @@ fn list<R: TellingRead, W: TellingWrite>(
                 notes.heard.line(pi, said);
                 let line = said;
                 let found = lister.line(said);
-                let slots = lister.slots;
-                notes.listed.count(&source, line, found, slots);
+                notes.listed.count(&source, line, found, &lister);
             }
             Ok(false) => {
                 notes.slots = lister.slots;

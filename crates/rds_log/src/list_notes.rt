@@ -1,6 +1,7 @@
 //! How often each fault of a log came, for a person.
 
 use crate::line_time::LineTime;
+use crate::lister::Lister;
 use crate::log_line::LogLine;
 use crate::notes::is_name;
 use crate::source::Source;
@@ -38,6 +39,8 @@ pub struct FaultCounts {
 pub struct ListNotes {
     /// The number of slots with a fault.
     pub faults: u64,
+    /// Those of tags before the first text.
+    pub before: FaultCounts,
     /// Those of its texts.
     pub texts: FaultCounts,
     /// Those of its names.
@@ -49,25 +52,34 @@ impl ListNotes {
     pub(crate) fn new() -> ListNotes {
         ListNotes {
             faults: 0,
+            before: FaultCounts::new(),
             texts: FaultCounts::new(),
             names: FaultCounts::new(),
         }
     }
 
-    /// Counts the faults of the newest of these slots, whose line the source read last.
+    /// Counts the faults of the newest slot of the list, whose line the source read last.
     #[inline(always)]
-    pub(crate) fn count(&mut self, source: &Source, said: LogLine, found: FaultSet, slots: u64) {
+    pub(crate) fn count(
+        &mut self,
+        source: &Source,
+        said: LogLine,
+        found: FaultSet,
+        lister: &Lister,
+    ) {
         if found.is_empty() {
             return;
         }
         self.faults = self.faults.saturating_add(1);
         let place = FaultPlace {
-            slot: slots.saturating_sub(1),
+            slot: lister.slots.saturating_sub(1),
             line: source.lines(),
             time: LineTime::of(source.start()),
         };
         if is_name(said) {
             self.names.add(found, place);
+        } else if lister.texts().values == 0 {
+            self.before.add(found, place);
         } else {
             self.texts.add(found, place);
         }

@@ -6,7 +6,7 @@ ghost use Rattle.rds_log.specs.Notes.{NotesFault};
 ghost use Rattle.rds_log.specs.Reads.{MadeReads};
 
 use crate::decode_log::MOST_READS;
-use crate::filler::{Filler, Filling, Times};
+use crate::filler::{Filler, Filling, Gap, Times};
 use crate::log_line::LogLine;
 use crate::notes::BadStart;
 use crate::source::Source;
@@ -24,6 +24,11 @@ pub struct SlotNotes {
     pub breaks: u64,
     /// The newest stretch whose times were too coarse to count slots by, up to its newest group at which they were.
     pub coarse: Option<Stretch>,
+    /// The longest gap.
+    pub gap: Gap,
+    /// The line of the newest group that did not fit a line without a group before it: by the time of that line, more
+    /// slots were lost than by the time of the group.
+    pub misfit: Option<u64>,
     /// The note on a malformed line.
     pub bad: Option<BadStart>,
 }
@@ -38,6 +43,8 @@ impl SlotNotes {
             others: 0,
             breaks: 0,
             coarse: None,
+            gap: Gap::default(),
+            misfit: None,
             bad: None,
         }
     }
@@ -71,12 +78,14 @@ pub fn fill_with_notes<R: TellingRead, W: TellingWrite>(
     let mut minute = LastMinute::new();
     loop {
         match source.next(reader, &mut said) {
-            Ok(true) => filler.line(said, source.start(), &mut minute, writer)?,
+            Ok(true) => filler.line(said, source.lines(), source.start(), &mut minute, writer)?,
             Ok(false) => {
                 notes.untimed = filler.untimed;
                 notes.others = filler.others;
                 notes.breaks = filler.breaks;
                 notes.coarse = filler.pace.coarse;
+                notes.gap = filler.gap;
+                notes.misfit = filler.misfit;
                 return Ok(filler.times());
             }
             Err(fault) => {

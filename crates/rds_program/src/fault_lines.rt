@@ -11,6 +11,14 @@ use std::io::Write;
 /// Prints how often each fault of a log came, a line each.
 pub(crate) fn print_listed<N: TellingWrite>(run: &RunNotes, screen: &mut N) {
     let log = &run.log;
+    for count in log.listed.before.counts {
+        if let Some(count) = count {
+            let mut line = begun();
+            let _ = write!(line, "tags before the first text");
+            push_found(count, &mut line);
+            print(line, screen);
+        }
+    }
     print_counts(&log.listed.texts, log.texts, "text", "texts", screen);
     print_counts(&log.listed.names, log.names, "name", "names", screen);
 }

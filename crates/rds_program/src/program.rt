@@ -411,7 +411,7 @@ fn can_count(times: Times) -> bool
 {
     match times {
         Times::Fine => true,
-        Times::Coarse | Times::NotUnderstood => false,
+        Times::Coarse | Times::AllLeftOut => false,
     }
 }
 

@@ -1,10 +1,10 @@
 -- The state of the filler of a log after these lines, the newest first. w is the traffic with the writer.
-use Rattle.std.specs.Prelude.{◌≡◌, ◌<◌, ◌++◌, ◌↔◌, ℕ, List, None, Option, Some, max, option_map}
+use Rattle.std.specs.Prelude.{◌≡◌, ◌++◌, ◌↔◌, ℕ, IsTrue, List, None, Option, Some, max, option_map}
 use Rattle.std.specs.Io.KnownBytes.{Appends}
 use Rattle.rds_io.specs.Told.{AppendsPrefix, HasFailed, IsCalm, Traffic}
 use Rattle.rds_arrivals.specs.Arrivals.{lost_between}
 use Rattle.rds_log.specs.LogLines.{Line}
-use Rattle.rds_log.specs.Fill.{AreFilled, HasUntimed, SoFar}
+use Rattle.rds_log.specs.Fill.{AreFilled, HasLeftOut, SoFar}
 use Rattle.rds_log.specs.Inside.Pace.{PaceStandsAt}
 use Rattle.rds_log.specs.declared.filler.Filler.{Filler}
 use Rattle.rds_log.specs.declared.filler.Filling.{Filling}
@@ -37,18 +37,18 @@ pub record HasFilled (f : Filler) (w : Traffic) (lines : List Line) : Type 0 whe
   pub pace : PaceStandsAt f.pace so_far.came
   pub grain : f.pace.grain ≡ f.filling.grain
   pub told : f.told ≡ so_far.told
-  pub untimed : (0 < f.untimed) ↔ HasUntimed lines
+  pub left_out : IsTrue f.has_left_out ↔ HasLeftOut f.filling.pi lines
   pub output : HasOutput w f so_far.written
 
 -- the same settings, and the same times
 pub record KeepsPace (before after : Filler) : Type 0 where
   pub filling : after.filling ≡ before.filling
   pub pace : after.pace ≡ before.pace
-  pub untimed : after.untimed ≡ before.untimed
+  pub left_out : after.has_left_out ≡ before.has_left_out
 
 -- and as many lost slots since
 pub record KeepsTime (before after : Filler) : Type 0 where
   pub filling : after.filling ≡ before.filling
   pub pace : after.pace ≡ before.pace
-  pub untimed : after.untimed ≡ before.untimed
+  pub left_out : after.has_left_out ≡ before.has_left_out
   pub told : after.told ≡ before.told

@@ -80,3 +80,16 @@ loop-filler-preserved g c =
       bad = c.loop-filler.invariant.bad;
       stands = (line ∷ lines, further, c.in_ok-line-in-Ok-true.ensures.filled _ lines line says (c.start.ensures.bytes ∙ is) has);
     }
+
+pub loop-filler-preserved-in-Continue-branch-3 : goal.loop-filler-preserved-in-Continue-branch-3
+loop-filler-preserved-in-Continue-branch-3 g c =
+    let (lines, stands, has) = c.loop-filler.invariant.stands in
+    let (line, says, further, is) = rw c.in-Ok-true.field-0-test at (c.in-Ok-true.ensures.gives _ _ lines stands) in
+    let taken = c.in_ok-line-in-Ok-true.ensures in
+    let wrote = c.in_ok-write.ensures in
+    record {
+      filling = wrote.keeps.filling ∙ taken.filling ∙ c.loop-filler.invariant.filling;
+      empty = λ _. wrote.empty;
+      bad = c.loop-filler.invariant.bad;
+      stands = (line ∷ lines, further, wrote.filled _ (line ∷ lines) (taken.filled _ lines line says (c.start.ensures.bytes ∙ is) has));
+    }

@@ -1,5 +1,5 @@
 use Rattle.std.proofs.Common.{inl, refl}
-use Rattle.rds_log.proofs.Filled.{adds_none, no_untimed, skipped}
+use Rattle.rds_log.proofs.Filled.{adds_none, none_left_out, skipped}
 use Rattle.rds_log.proofs.filler.Filler.line.Goals as goal
 
 pub returns-in-Slot-clause-filled : goal.returns-in-Slot-clause-filled
@@ -8,4 +8,5 @@ returns-in-Slot-clause-filled g c start lines line says first has = c.slot.ensur
 pub returns-in-Skip-clause-filled : goal.returns-in-Skip-clause-filled
 returns-in-Skip-clause-filled g c start lines line says first has =
     let skip = rw c.in-Skip.is at says in
-    adds_none c.args.self.now _ _ lines line (inl skip) refl refl refl (no_untimed line lines _ (skipped line skip) has.untimed) refl has
+    adds_none c.args.self.now _ _ lines line (inl skip) refl refl refl
+    (none_left_out c.args.self.now.filling.pi line lines c.args.self.now.has_left_out (skipped _ line skip) has.left_out) refl has

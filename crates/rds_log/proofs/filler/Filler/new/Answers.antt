@@ -1,4 +1,4 @@
-use Rattle.std.proofs.Common.{[], arith, refl, rules}
+use Rattle.std.proofs.Common.{[], refl, rules}
 use Rattle.rds_log.proofs.filler.Filler.new.Goals as goal
 
 pub returns-clause-filled : goal.returns-clause-filled
@@ -8,6 +8,6 @@ returns-clause-filled c w same calm = record {
   pace = c.new.ensures.stands;
   grain = c.new.ensures.grain;
   told = refl;
-  untimed = (λ some. omega (arith, some), λ none. absurd none);
+  left_out = (λ some. cc, λ none. absurd none);
   output = search rules;
 }

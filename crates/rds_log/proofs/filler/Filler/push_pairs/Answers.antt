@@ -11,7 +11,7 @@ loop-put-preserved g c =
     let room = c.in_ok-make_room.ensures.keeps in
     let before = c.loop-put.invariant.keeps in
     record {
-      keeps = record { filling = room.filling ∙ before.filling; pace = room.pace ∙ before.pace; untimed = room.untimed ∙ before.untimed; told = room.told ∙ before.told };
+      keeps = record { filling = room.filling ∙ before.filling; pace = room.pace ∙ before.pace; left_out = room.left_out ∙ before.left_out; told = room.told ∙ before.told };
       pushed = λ start total has.
           subst (HasOutput (traffic g.W.Write.contents g.W.TellingWrite.failures start c.make_room.new.writer) _) (two_more_lost total c.loop-put._put)
           (waits c.make_room.new.self _ _ (total ++ lost_lines (2 * c.loop-put._put)) _

@@ -9,4 +9,4 @@ returns-clause-wrote g c start total has =
     has c.write.ensures.empty c.write.ensures.puts
 
 pub returns-clause-filled : goal.returns-clause-filled
-returns-clause-filled g c start lines has = flushed c.args.self.now _ _ _ lines c.write.result has record { filling = refl; pace = refl; untimed = refl; told = refl } (returns-clause-wrote g c start has.so_far.written has.output)
+returns-clause-filled g c start lines has = flushed c.args.self.now _ _ _ lines c.write.result has record { filling = refl; pace = refl; left_out = refl; told = refl } (returns-clause-wrote g c start has.so_far.written has.output)
