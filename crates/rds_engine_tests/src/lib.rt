@@ -1,5 +1,5 @@
-//! The tests of rds_log, rds_witness and rds_script, which make their public calls as rds_program does. Worked rows,
-//! from words and input to output and status, are cases of the built program.
+//! The tests of rds_log, rds_witness and rds_script, which make their public calls as rds_program does, and of the public
+//! call of rds_program. The other worked rows are cases of the built program.
 //!
 //! They are in a crate of their own, since a crate with tests is proved once more for them.
 #![tactic(auto)]
@@ -12,6 +12,8 @@ mod failing_writes;
 mod log_notes;
 #[cfg(test)]
 mod logs;
+#[cfg(test)]
+mod programs;
 #[cfg(test)]
 mod row_causes;
 #[cfg(test)]

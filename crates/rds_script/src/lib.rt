@@ -28,4 +28,5 @@ pub use notes::{BadRow, EarlySet, ScriptNotes, Thing};
 pub use play::{
     MOST_RECORDS, Playing, encode, encode_within, play_script, simulate, simulate_within,
 };
+pub use rds_io::LogFault;
 pub use row_cause::{RowCause, TagNumber};
