@@ -225,8 +225,9 @@ class Faults(ProgramCase):
 
 class Warnings(ProgramCase):
     def test_slots_to_lose_that_are_none(self):
-        told = note("fault lose: --lose takes slots in ascending order, for example 3-7,12; --flag-alone needs --lose")
-        for options in ("--lose 3,2", "--flag-alone", "--quiet --lose 3,2"):
+        told = note("fault lose: --lose takes slots below 4294967296 in ascending order, for example 3-7,12; "
+                    "--flag-alone needs --lose")
+        for options in ("--lose 3,2", "--flag-alone", "--quiet --lose 3,2", "--lose 4294967296", "--lose 9999999999"):
             self.check(f"note on {options}", noted(f"witness --pi C201 {options}", HI), (2, b"fault lose\n", told))
         flags = bytes_of("examples/flags.log")
         self.check("note on another programme", noted("witness --pi C202 --lose 2-3", flags),
@@ -332,9 +333,32 @@ class Warnings(ProgramCase):
             self.check(f"{words} of {log}", (got[0], got[2]), (0, note(told)))
             self.check(f"{words} --quiet", noted(f"{words} --quiet", log), (0, got[1], ""))
 
-    def test_a_refused_set_has_the_slot_from_which_it_is_accepted(self):
-        silent = ("slot 0: text refused, the station is silent after a restart for 128 slots more; "
-                  "accepted from slot 128 on")
+    def test_the_faults_of_a_log_are_not_counted_after_a_failed_write(self):
+        """Each text has other bytes than the one before, and its flag. The output is more than the pipe of head takes."""
+        log = b"".join(b"C201 2140 %04X 0D20\n" % (0x4141 + number % 26) for number in range(20_000))
+        call = f"{PROGRAM} audit --all --running --pi C201 | head -n 2"
+        done = subprocess.run(["bash", "-c", call], input=log, capture_output=True, timeout=SECONDS)
+        self.check("audit --all | head", (len(done.stdout.splitlines()), done.stderr), (2, b""))
+        with open("/dev/full", "wb") as full:
+            done = subprocess.run([PROGRAM, *AUDIT.split(), "--all"], input=log, stdout=full, stderr=subprocess.PIPE,
+                                  timeout=SECONDS)
+        self.check("audit --all > /dev/full", (done.returncode, done.stderr.decode()),
+                   (1, note("writing standard output failed: No space left on device (os error 28)")))
+
+    def test_tags_before_the_first_text_are_counted_by_themselves(self):
+        """They are of no text, so they are not one of so many texts."""
+        text, tags = b"C201 2140 4849 0D20\n", b"C201 B148 2002 0000\n"
+        before = note("tags before the first text: EarlyTag in slot 0 (line 1)")
+        judged = "judged in {} slots: {}, 0 names, {} pairs of tags".format
+        for log, told in ((tags + text + tags, before + note("1 of 1 text: EarlyTag in slot 2 (line 3)")
+                           + note(judged(3, "1 text", 2))),
+                          (tags * 2, before + note(judged(2, "0 texts", 2)))):
+            self.check(f"audit --all of {log}", noted(f"{AUDIT} --all", log)[2], told)
+
+    def test_a_refused_set_has_the_slot_in_which_it_can_be_accepted(self):
+        """Tags wait for a text of their own, which takes a slot. A restart makes each of them wait longer."""
+        silent = ("slot 0: text refused, the station is silent after a restart for 128 slots more: "
+                  "set it in slot 128 at the earliest, if the encoder does not restart")
         for words in ("encode", "sim"):
             got = noted(f"{words} --pi C201", b"text,HI,1,\n" * 3)
             self.check(f"note on the first refused set: {words}", (got[0], got[2]), (0, note(silent)))
@@ -343,8 +367,18 @@ class Warnings(ProgramCase):
                        True)
         held = noted("sim --pi C201 --m 4",
                      b"-,,1,\n" * 4 + b"text,HI,1,\nname,POP,1,\n-,,1,\nname,JAZZ,1,\ntext,YO,1,\n")[2]
-        wanted = "slot 7: name refused, the one before is still held for 6 slots more; accepted from slot 13 on"
+        wanted = ("slot 7: name refused, the one before is still held for 6 slots more: "
+                  "set it in slot 13 at the earliest, if the encoder does not restart")
         self.check("note on what is held", held, note(wanted))
+        tags = b"tags,0 1 1 0 1 0 0 0,1,\n"
+        wanted = ("slot 0: tags refused, the station is silent after a restart for 4 slots more: "
+                  "set a text first, then tags in slot 5 at the earliest, if the encoder does not restart")
+        got = noted("encode --pi C201 --m 4", tags + b"-,,1,\n" * 3 + tags)
+        self.check("tags in the slot after the silence", (b"# 4 tags notext\n" in got[1], got[2]), (True, note(wanted)))
+        restarted = noted("encode --pi C201 --m 4", b"text,HI,1,\nrestart,,1,\n" + b"-,,1,\n" * 2 + b"text,HI,1,\n")
+        wanted = ("slot 0: text refused, the station is silent after a restart for 4 slots more: "
+                  "set it in slot 4 at the earliest, if the encoder does not restart")
+        self.check("a restart", (b"# 4 text silent 1\n" in restarted[1], restarted[2]), (True, note(wanted)))
         both = noted("encode --pi C201", b"text,HI,1,\nx\n")[2]
         self.check("a warning and a fault", both, note(silent) + note(
             "fault row 2 (line 2): expected 4 fields (COMMAND,ARGUMENT,FREE,RECEPTIONS), found 1"))

@@ -267,7 +267,7 @@ class Live(ProgramCase):
     def test_a_command_that_reads_a_log_notes_that_it_lacks_slots(self):
         """The note comes while the log is still open, and once; not for a log with all its slots."""
         line = f"{HI} {{}}\n".format
-        lacks = "rdsrt: the log spans 23 slots by its times and has 2 lines: put rdsrt slots before this command\n"
+        lacks = "rdsrt: the first 2 lines span 23 slots by the times in them: put rdsrt slots before this command\n"
         for command in ("decode", "audit", "witness"):
             words = [PROGRAM, command, "--pi", "C201"]
             with subprocess.Popen(words, stdin=subprocess.PIPE, stdout=subprocess.DEVNULL, stderr=subprocess.PIPE,
@@ -277,7 +277,7 @@ class Live(ProgramCase):
                 self.check(f"{command}, live", program.stderr.readline() if is_there else None, lacks.encode())
                 program.stdin.write(line("9.0").encode())
                 program.stdin.close()
-                self.check(f"{command}, once", b"spans" in program.stderr.read(), False)
+                self.check(f"{command}, once", b"put rdsrt slots" in program.stderr.read(), False)
         whole = "".join(line(f"{number * NINETEEN_SLOTS / 19e6:.2f}") for number in range(200)).encode()
         many = "".join(line(f"{number / 4:.2f}") for number in range(4000)).encode()
         for name, given, wanted in (("whole", whole, 0), ("long", many, 1), ("no times", f"{HI}\n".encode() * 9, 0)):
@@ -293,6 +293,46 @@ class Live(ProgramCase):
                 self.check(f"{command} of a filled log to {day}", done.stderr.count(b"put rdsrt slots"), 0)
         quiet = subprocess.run([PROGRAM, *DECODE, "--quiet"], input=many, capture_output=True, timeout=SECONDS)
         self.check("--quiet", quiet.stderr, b"")
+
+    def test_after_a_no_the_note_counts_the_lines_that_it_speaks_of(self):
+        """The log spans 11413 slots and has 2000 lines, but after a no its first 16384 bytes decide. Line 614 ends in
+        them, and its time is 306.5 s: 3499 slots and more after the first one."""
+        lines = [f"{HI} {number / 2:.2f}\n" for number in range(2000)]
+        lines[3] = f"C201 2140 484F 0D20 {3 / 2:.2f}\n"
+        for options, count, spans in (("", "the first 614 lines span 3500 slots by the times in them", 614),
+                                      ("--all", "the log spans 11413 slots by its times and has 2000 lines", 2000)):
+            done = subprocess.run([PROGRAM, "audit", "--running", "--pi", "C201", *options.split()],
+                                  input="".join(lines).encode(), capture_output=True, timeout=SECONDS)
+            self.check(f"audit {options}", [it for it in done.stderr.decode().splitlines() if "by " in it],
+                       [f"rdsrt: {count}: put rdsrt slots before this command"])
+        self.check("the lines of 16384 bytes", len("".join(lines)[:16384].splitlines()), 615)
+
+    def test_a_log_of_other_programmes_alone_has_status_1(self):
+        """It has groups, and none of them is of the programme and has a time."""
+        other = "C202 2140 4849 0D20 {}\n".format
+        for log, wanted in ((other("1.0") + other("2.0"), 1), (other(""), 1), (other("1.0") + f"{HI} 1.5\n", 0),
+                            ("C202 ---- ---- ---- 1.0\n", 0), ("", 0)):
+            done = subprocess.run([PROGRAM, "slots", "--pi", "C201"], input=log.encode(), capture_output=True,
+                                  timeout=SECONDS)
+            self.check(f"slots --pi C201 of {log}", done.returncode, wanted)
+
+    def test_coarse_times_have_a_cause(self):
+        """A clock that was set one hour on, and a line without a group that came too early."""
+        times = [number * NINETEEN_SLOTS / 19e6 + 3600 * (number >= 150) + number % 2 / 100
+                 for number in range(300)]
+        jump = "".join(f"{HI} {time:.3f}\n" for time in times)
+        # line 151 comes 3600.078 s after line 150: 41106.6 slots, rounded up less one are lost
+        cause = "The longest gap has 41106 lost slots, before line 151: if a clock was set there, cut the log in two"
+        for name, log, words, wanted in (
+                ("a clock that was set", jump, ["--grain", "0"], cause),
+                ("whole seconds", f"{HI} 7\n{HI} 7\n{HI} 8\n", [], None),
+                ("a line without a group", f"{HI} 0.0\n---- ---- ---- ---- 5.0\n{HI} 1.0512\n", ["--m", "128"],
+                 "A line without a group before line 3 has a time that does not fit the group of that line")):
+            done = subprocess.run([PROGRAM, "slots", *words], input=log.encode(), capture_output=True, timeout=SECONDS)
+            told = done.stderr.decode()
+            self.check(f"{name}: coarse", (done.returncode, "vary by more than the grain" in told), (1, True), log)
+            self.check(name, told.rstrip("\n").endswith(f". {wanted or 'If the recording lost nothing, audit the log itself'}"),
+                       True, told)
 
     def test_full_output_is_noted(self):
         with open("/dev/full", "wb") as full:

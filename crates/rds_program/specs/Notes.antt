@@ -3,6 +3,7 @@ use Rattle.std.specs.Prelude.{◌==◌, ◌&&◌, ◌++◌, ◌∷◌, [], ℕ, 
 use Rattle.std.specs.Prelude.{if◌then◌else◌, is_some, nat_lt}
 use Rattle.rds_cli.specs.declared.request.Task.{Task}
 use Rattle.rds_cli.specs.declared.request.Task.TheVariants.{Audit, Decode, Encode, Lose, Simulate, Slots, Witness}
+use Rattle.rds_io.specs.declared.fault.LogFault.TheVariants.{Write}
 use Rattle.rds_log.specs.Heard.{count_of}
 use Rattle.rds_log.specs.declared.heard.GroupCounts.{GroupCounts}
 use Rattle.rds_log.specs.declared.notes.LogNotes.{LogNotes}
@@ -64,6 +65,11 @@ log_note Witness end log = read_note false end log
 log_note (Lose alone) end log = read_note false end log
 log_note (Slots grain only) end log = None
 
+-- whether the faults of a log were counted: after a failed write they were not all taken
+abbrev pub counts_faults : End → ℕ → Bool
+counts_faults (Fault Write) faults = false
+counts_faults end faults = nat_lt 0 faults
+
 -- the warnings of a command, after these notes
 abbrev pub add_warnings : Task → RunNotes → Bool → List Note → List Note
 add_warnings task run lacks notes =
@@ -73,7 +79,7 @@ add_warnings task run lacks notes =
     (add_if (nat_lt 0 run.slots.others) OthersLeftOut
     (add_if (nat_lt 0 run.slots.untimed) Untimed
     (add_if lacks Lacking
-    (add_if (nat_lt 0 run.log.listed.faults) Listed
+    (add_if (counts_faults run.end run.log.listed.faults) Listed
     (add_if (is_some run.log.no) BrokenRule
     (add_if (is_some run.script.wait) SetTooEarly notes))))))))
 

@@ -7,7 +7,7 @@ use crate::notes::{End, RunNotes};
 use arrayvec::ArrayVec;
 use rds_cli::Task;
 use rds_fields::RTPLUS_CODE;
-use rds_log::{GroupCounts, LogNotes};
+use rds_log::{GroupCounts, LogFault, LogNotes};
 
 /// The most notes of a run.
 pub(crate) const MOST_NOTES: usize = 10;
@@ -87,13 +87,24 @@ fn add_warnings(task: Task, run: &RunNotes, lacks: bool, notes: &mut Notes)
 {
     add_if(run.script.wait.is_some(), Note::SetTooEarly, notes);
     add_if(run.log.no.is_some(), Note::BrokenRule, notes);
-    add_if(run.log.listed.faults > 0, Note::Listed, notes);
+    add_if(
+        counts_faults(run.end, run.log.listed.faults),
+        Note::Listed,
+        notes,
+    );
     add_if(lacks, Note::Lacking, notes);
     add_if(run.slots.untimed > 0, Note::Untimed, notes);
     add_if(run.slots.others > 0, Note::OthersLeftOut, notes);
     add_if(run.slots.coarse.is_some(), Note::Coarse, notes);
     add_if(run.slots.breaks > 0, Note::Breaks, notes);
     add(log_note(task, run.end, &run.log), notes);
+}
+
+/// Returns whether the faults of a log were counted. After a failed write they were not all taken.
+fn counts_faults(end: End, faults: u64) -> bool
+    ensures { result ≡ specs.counts_faults end faults }
+{
+    !matches!(end, End::Fault(LogFault::Write)) && faults > 0
 }
 
 /// Adds a note if this is so.

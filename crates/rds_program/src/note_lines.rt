@@ -3,13 +3,15 @@
 use crate::fault_lines::{print_listed, push_no};
 use crate::note::{Note, notes_of, short_texts};
 use crate::notes::{End, RunNotes};
+use crate::times::Lack;
 use arrayvec::ArrayVec;
 use memchr::memchr;
 use rds_arrivals::{Break, Grain};
 use rds_cli::Task;
 use rds_encoder::Refusal;
+use rds_fields::Dwell;
 use rds_io::{LogFault, TellingWrite, put};
-use rds_log::{BadStart, comment_of};
+use rds_log::{BadStart, Gap, comment_of};
 use rds_script::Thing;
 use std::io::{self, ErrorKind, Write};
 
@@ -89,7 +91,7 @@ fn line_of(note: Note, run: &RunNotes, reason: Option<&io::Error>) -> Line {
         Note::Lacking => push_lack(lack_of(run), &mut line),
         Note::Untimed => push_untimed(run.slots.untimed, &mut line),
         Note::OthersLeftOut => push_others(run, &mut line),
-        Note::Coarse => push_coarse(options.task, run, &mut line),
+        Note::Coarse => push_coarse(options.task, options.dwell, run, &mut line),
         Note::Breaks => push_breaks(run.slots.breaks, &mut line),
         Note::NoGroup => push_no_group(options.task, run, &mut line),
         Note::NothingToRead => push_nothing(options.task, run, &mut line),
@@ -169,7 +171,7 @@ fn nothing_said(task: Task) -> &'static str {
     }
 }
 
-/// Appends that something was set too early, and from when it is accepted.
+/// Appends that something was set too early, and in which slot it can be accepted.
 fn push_wait(run: &RunNotes, line: &mut Line) {
     let Some(wait) = run.script.wait else {
         return;
@@ -185,10 +187,21 @@ fn push_wait(run: &RunNotes, line: &mut Line) {
         Refusal::NoText | Refusal::OutOfText(_) => return,
     };
     let slot = wait.slot;
-    let from = slot.saturating_add(u64::from(slots));
+    let end = slot.saturating_add(u64::from(slots));
     let _ = write!(line, "slot {slot}: {thing} refused, {why} for ");
     push_count(u64::from(slots), "slot more", "slots more", line);
-    let _ = write!(line, "; accepted from slot {from} on");
+    let _ = match (wait.thing, wait.refusal) {
+        // a slot of its own has the text that the tags need
+        (Thing::Tags, Refusal::Silent(_)) => {
+            let from = end.saturating_add(1);
+            write!(
+                line,
+                ": set a text first, then tags in slot {from} at the earliest"
+            )
+        }
+        _ => write!(line, ": set it in slot {end} at the earliest"),
+    };
+    let _ = write!(line, ", if the encoder does not restart");
 }
 
 /// Appends that the log has no group of the wanted programme, and which programmes it has.
@@ -211,9 +224,9 @@ fn push_no_group(task: Task, run: &RunNotes, line: &mut Line) {
     let _ = write!(line, "{}", nothing_said(task));
 }
 
-/// Returns the slots of a log by its times and its lines, if these are too few. After a no the first lines decide: the
-/// log was not read to its end.
-fn lack_of(run: &RunNotes) -> Option<(u64, u64)> {
+/// Returns by how much a log has too few lines for its times. After a no the first lines decide: the log was not read to
+/// its end.
+fn lack_of(run: &RunNotes) -> Option<Lack> {
     let times = run.times.as_ref()?;
     match run.end {
         End::Done if run.log.no.is_none() => times.lack(run.log.slots),
@@ -223,19 +236,32 @@ fn lack_of(run: &RunNotes) -> Option<(u64, u64)> {
 }
 
 /// Prints that a log spans more slots by its times than it has lines.
-pub(crate) fn print_lack<N: TellingWrite>(slots: u64, lines: u64, screen: &mut N) {
+pub(crate) fn print_lack<N: TellingWrite>(lack: Lack, screen: &mut N) {
     let mut line = begun();
-    push_lack(Some((slots, lines)), &mut line);
+    push_lack(Some(lack), &mut line);
     print(line, screen);
 }
 
-/// Appends that a log spans more slots by its times than it has lines.
-fn push_lack(lack: Option<(u64, u64)>, line: &mut Line) {
-    let Some((slots, lines)) = lack else {
+/// Appends that a log, or its start, spans more slots by its times than it has lines.
+fn push_lack(lack: Option<Lack>, line: &mut Line) {
+    let Some(
+        Lack {
+            slots,
+            lines,
+            is_of_start,
+        },
+    ) = lack
+    else {
         return;
     };
-    let _ = write!(line, "the log spans {slots} slots by its times and has ");
-    push_count(lines, "line", "lines", line);
+    if is_of_start {
+        let _ = write!(line, "the first ");
+        push_count(lines, "line spans", "lines span", line);
+        let _ = write!(line, " {slots} slots by the times in them");
+    } else {
+        let _ = write!(line, "the log spans {slots} slots by its times and has ");
+        push_count(lines, "line", "lines", line);
+    }
     let _ = write!(line, ": put rdsrt slots before this command");
 }
 
@@ -291,8 +317,9 @@ fn push_left_out(count: u64, line: &mut Line) {
     let _ = write!(line, " {verb} left out");
 }
 
-/// Appends that the times of a log are too coarse, with the slots of the newest stretch that shows it.
-fn push_coarse(task: Task, run: &RunNotes, line: &mut Line) {
+/// Appends that the times of a log are too coarse, with the slots of the newest stretch that shows it, and what else may
+/// be the cause.
+fn push_coarse(task: Task, dwell: Dwell, run: &RunNotes, line: &mut Line) {
     let Some(stretch) = run.slots.coarse else {
         return;
     };
@@ -307,6 +334,26 @@ fn push_coarse(task: Task, run: &RunNotes, line: &mut Line) {
         line,
         " counted where a station sends {room} at most, so slots may be missing elsewhere. Do not audit this output. \
          If the recording lost nothing, audit the log itself"
+    );
+    push_jump(run.slots.gap, dwell, line);
+    if let Some(number) = run.slots.misfit {
+        let _ = write!(
+            line,
+            ". A line without a group before line {number} has a time that does not fit the group of that line"
+        );
+    }
+}
+
+/// Appends the longest gap of a log, if a clock may have been set in it: more than M slots were lost.
+fn push_jump(gap: Gap, dwell: Dwell, line: &mut Line) {
+    let lost = gap.lost;
+    if lost <= u32::from(dwell.get()) {
+        return;
+    }
+    let _ = write!(
+        line,
+        ". The longest gap has {lost} lost slots, before line {}: if a clock was set there, cut the log in two",
+        gap.line
     );
 }
 
@@ -332,7 +379,8 @@ fn push_window(line: &mut Line) {
 fn push_spans(line: &mut Line) {
     let _ = write!(
         line,
-        "fault lose: --lose takes slots in ascending order, for example 3-7,12; --flag-alone needs --lose"
+        "fault lose: --lose takes slots below 4294967296 in ascending order, for example 3-7,12; --flag-alone needs \
+         --lose"
     );
 }
 
@@ -381,7 +429,7 @@ fn push_no_memory(task: Task, line: &mut Line) {
     if reads_script(task) {
         let _ = write!(
             line,
-            ", or a line of the script has some 65,536 commas or more"
+            ", or a line of the script has more than 65,536 commas"
         );
     }
 }

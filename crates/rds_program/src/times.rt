@@ -26,6 +26,16 @@ const LONGEST: usize = 60;
 /// The most lines in which a time is looked for at each end of a read.
 const LINES: usize = 16;
 
+/// By how much a log has too few lines (this project's own rule).
+#[derive(Clone, Copy)]
+pub(crate) struct Lack {
+    /// The slots that the log, or its start, spans by its times.
+    pub(crate) slots: u64,
+    pub(crate) lines: u64,
+    /// Whether these are the slots and lines of its start alone.
+    pub(crate) is_of_start: bool,
+}
+
 /// The times of a log, as far as the reads show them (this project's own rule).
 #[derive(Drop)]
 pub struct LogTimes {
@@ -102,30 +112,32 @@ impl LogTimes {
         }
     }
 
-    /// Returns whether the first lines are too few by their times: the slots and the lines.
-    pub(crate) fn early_lack(&self) -> Option<(u64, u64)> {
-        self.lack_until(self.early, self.lines)
+    /// Returns by how much the first lines are too few for their times.
+    pub(crate) fn early_lack(&self) -> Option<Lack> {
+        self.lack_until(self.early, self.lines, true)
     }
 
-    /// Returns whether so many lines are too few by the times of the log: the slots and the lines. After a break the
-    /// first lines decide.
-    pub(crate) fn lack(&self, lines: u64) -> Option<(u64, u64)> {
+    /// Returns by how much so many lines are too few for the times of the log. After a break the first lines decide.
+    pub(crate) fn lack(&self, lines: u64) -> Option<Lack> {
         if self.is_broken {
             return self.early_lack();
         }
         let last = time_of(self.last.as_slice())?;
-        self.lack_until(last, lines)
+        self.lack_until(last, lines, false)
     }
 
     /// Returns the slots from the first time to this one, and the lines, if the slots are more by over a second.
-    fn lack_until(&self, last: u64, lines: u64) -> Option<(u64, u64)> {
+    fn lack_until(&self, last: u64, lines: u64, is_of_start: bool) -> Option<Lack> {
         let apart = last.checked_sub(self.first?)?;
         let slots = slots_in(apart).saturating_add(1);
-        if slots > lines.saturating_add(SECOND) {
-            Some((slots, lines))
-        } else {
-            None
+        if slots <= lines.saturating_add(SECOND) {
+            return None;
         }
+        Some(Lack {
+            slots,
+            lines,
+            is_of_start,
+        })
     }
 }
 
@@ -234,10 +246,10 @@ impl<R, N: TellingWrite> Timing<R, N> {
         if !is_last || times.bytes > EARLY {
             return;
         }
-        if let Some((slots, lines)) = times.early_lack()
+        if let Some(lack) = times.early_lack()
             && let Some(screen) = &mut self.screen
         {
-            print_lack(slots, lines, screen);
+            print_lack(lack, screen);
             self.times = None;
         }
     }
