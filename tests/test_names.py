@@ -1,4 +1,4 @@
-"""The names in the pages that can be looked up: each crate, file, edit and test that a page cites exists.
+"""The names in the pages that can be looked up: each crate, type, file, edit and test that a page cites exists.
 
 test_pages checks the links.
 """
@@ -18,22 +18,26 @@ FOLDER = rf"(?:crates|docs|tests|tools|bench|examples|experiments|include|page|{
 # no .log, .csv or .txt: without a folder such a file is a user's
 FILE = r"[\w/-]+(?:\.[\w-]+)*\.(?:rt|antt|py|js|c|h|md|edit|html|css|png)\b"
 PATH = rf"(?<![\w/.$-])(?:\.\./)*({FOLDER}|{FILE})"
+# a type, a definition or a clause in mixed case
+MIXED = r"`(?:\w+::)*([A-Z][a-z]\w+)(?:::\w+)?`"
+# names of the kit and of other programs
+OTHERS = {"Stdin", "Stdout", "Exitval"}
 # one name, or several in a row
 NAMES = r"((?:`?\w+`?(?:, and |, | and )?)+)"
 # files that a command or a user makes
 MADE = {"hi.c", "tests/out", "page/out", "page/out/index.html", "crates/rds_ffi/out/librds_ffi.a",
         "crates/NAME/edits/what_is_wrong.edit"}
 # paragraphs that each cite one name that does not exist
-STALE = ["The crate rds_nowhere.", "See `specs/Nowhere`.", "See tests/nowhere.py.", "The edit restores_no_faults.",
-         "The test neighbours_in_two_slots.", "By rds_core_tests `latenesses` and `neighbours_in_two_slots`.",
+STALE = ["The crate rds_nowhere.", "`DecodesNowhere` says so.", "See `specs/Nowhere`.", "See tests/nowhere.py.",
+         "The edit restores_no_faults.", "The test neighbours_in_two_slots.", "By rds_core_tests `latenesses` and `neighbours_in_two_slots`.",
          "| Task | Used in |\n|---|---|\n| play | `latenesses`, `neighbours_in_two_slots` |\n"]
 
 
 class Sources:
-    """The files and folders of the repository, its edits, and its tests."""
+    """The files and folders of the repository, its edits, its tests, and all words of its code and definitions."""
 
     def __init__(self):
-        self.paths, self.edits, self.tests = [], set(), set()
+        self.paths, self.edits, self.tests, self.words = [], set(), set(), set()
         for at, folders, names in os.walk(ROOT):
             folders[:] = {*folders} - {".git", "out", "__pycache__"}
             self.paths += [os.path.relpath(os.path.join(at, it), ROOT) for it in [*folders, *names]]
@@ -45,6 +49,8 @@ class Sources:
                 self.tests |= set(re.findall(r"#\[test\]\s*fn (\w+)", text_of(path)))
             elif kind == ".py" and name.startswith("test_"):
                 self.tests.add(name)
+            if kind in (".rt", ".antt", ".h") or path.startswith(("python/src/", "tools/")) and kind == ".py":
+                self.words |= set(re.findall(r"\w+", text_of(path)))
 
     def has_file(self, path):
         """Returns whether a path ends so. A file of a crate may be without its ending. NAME stands for any word."""
@@ -65,6 +71,7 @@ def stale(sources, page):
     page = re.sub(r"```.*?```", "", page, flags=re.S)
     text = " ".join(page.split())
     yield from (f"crate {it}" for it in re.findall(CRATE, text) if it not in crates.listed())
+    yield from (f"name {it}" for it in re.findall(MIXED, text) if it not in sources.words | OTHERS)
     yield from (f"file {it}" for it in re.findall(PATH, text) if it not in MADE and not sources.has_file(it))
     for kind, names in re.findall(rf"\b(edit|test)s? {NAMES}", text):
         known = sources.edits if kind == "edit" else sources.tests | {*crates.listed()}
