@@ -74,7 +74,7 @@ fn dwell<'a>(alloc: Global) -> Arg<'a>
     .long_help(
         "Dwell M in slots, 1 to 65535. A slot is the time of one group, about 88 ms.\n\
              A receiver drops a text if no part of it arrived for M slots. The station needs\n\
-             the same M or a larger one. Then no receiver shows a mix of two texts.",
+             the same M or a larger one. Then lost groups make no mix of two texts.",
     )
 }
 
@@ -198,8 +198,8 @@ fn flag_alone<'a>(alloc: Global) -> Arg<'a>
          groups. Prints too what is on air, as in `9 air text \"HI\"`. If what a receiver shows\n\
          was not on air in the last M + K slots, with --confirm in the last M + K + W - 1, a\n\
          line says which it is: `12 r0 text mix` if nobody sent it so far, `old` if it was on\n\
-         air before, `replaced` if it is a tag in whose place the station sent another one for\n\
-         the same text.",
+         air before, `replaced` if it is a tag that the station sent for this text and has\n\
+         replaced since.",
     )
 }
 
@@ -287,8 +287,7 @@ fn decode<'a>(alloc: Global) -> Result<Command<'a>, AllocError>
 {
     let page = Page {
         about: "Reads a log of received groups and prints what a receiver shows",
-        ending: "Prints one line for each change of the text, the name or the RT+ tags.\n\
-                 name: the programme type name (PTYN, group 10A); the station name (PS) is not handled.\n\
+        ending: "Prints one line for each change of the text, the name (PTYN) or the RT+ tags.\n\
                  A log has one line for each slot, lost slots too (---- ---- ---- ----).\n\n\
                  A receiver counts its own slots and needs M alone, so decode has no --k. K belongs\n\
                  to the station: encode, sim and audit have it.\n\n\
@@ -321,8 +320,8 @@ fn audit<'a>(alloc: Global) -> Result<Command<'a>, AllocError>
         ending: "Prints `yes N` with the number of slots, status 0, or `no SLOT NAME` with the first\n\
                  slot that breaks a rule and the name of the fault, status 1.\n\n\
                  Yes: no receiver with this M shows a mix of two texts, whichever groups it loses,\n\
-                 if its groups come at most K slots late. A log without a group of this PI gets a\n\
-                 yes too, and a warning.\n\
+                 if it counts every slot and its groups come unchanged, in order and at most K slots\n\
+                 late. A log without a group of this PI gets a yes too, and a warning.\n\
                  No: a rule was broken. A receiver may or may not show a mix; `witness` looks for\n\
                  one. A station that keeps the rules can get a no if it has few free slots.\n\n\
                  The log begins when the station starts. For a recording, give --running.\n\n\
@@ -344,8 +343,7 @@ fn audit<'a>(alloc: Global) -> Result<Command<'a>, AllocError>
                    TagOutside  An RT+ tag ends past the end of its text. Count the start from 0,\n              \
                                send the number of characters less one as the length, and set\n              \
                                the tags after their text.\n\
-                 Names (PTYN) have the first three faults too.\n\
-                 name: the programme type name (PTYN, group 10A); the station name (PS) is not handled.\n\n\
+                 Names (PTYN) have the first three faults too.\n\n\
                  Example:\n  \
                    $ rdsrt audit --pi C201 --m 8 < examples/flags.log\n  \
                    no 4 EarlyFlag",
@@ -364,12 +362,12 @@ fn witness<'a>(alloc: Global) -> Result<Command<'a>, AllocError>
     let page = Page {
         about: "Reads a log of all groups that a station sent and looks for lost slots that make a mix",
         ending: "Prints `lose A-B: ` and a line of `decode`, status 1: a receiver with this M that loses\n\
-                 the slots A to B shows this text, name or tag in that slot. A receiver that loses\n\
-                 nothing does not show it up to M - 1 slots after that slot.\n\
-                 name: the programme type name (PTYN, group 10A); the station name (PS) is not handled.\n\
+                 the slots A to B shows this text, name (PTYN) or tag in that slot. A receiver that\n\
+                 loses nothing does not show it up to M - 1 slots after that slot.\n\n\
                  Prints `no witness found with one burst lost`, status 0, if no burst of lost slots\n\
-                 makes a mix. Two bursts may still make one. If the line ends with ` up to slot N`,\n\
-                 the search stopped there, and no burst makes a mix before that slot.\n\n\
+                 makes a mix. The search leaves out tags that the station replaced for the same text.\n\
+                 Two bursts may still make a mix. If the line ends with ` up to slot N`, the search\n\
+                 stopped there, and no burst makes a mix before that slot.\n\n\
                  With --lose, prints the line of `decode` for each mix of a receiver that loses these\n\
                  slots, status 1, or `no mix with these slots lost`, status 0.\n\n\
                  Example:\n  \
@@ -408,8 +406,9 @@ fn slots<'a>(alloc: Global) -> Result<Command<'a>, AllocError>
                  line for each slot, so put this one before them. Give it their M.\n\n\
                  A time stands after the group: @2024/06/01 07:58:12.08, 2024-06-01T07:58:12.08Z, or\n\
                  seconds such as 12.5. A group without a time is left out. A line with a time and a\n\
-                 lost block says that no group came until then. If a time is earlier than the one\n\
-                 before it, or more than a day later, a comment and M lost slots are added.\n\n\
+                 lost block says that no group came until then. If a group's time is earlier than\n\
+                 that of the group before it, or more than a day later, a comment and at least M lost\n\
+                 slots are added.\n\n\
                  No slot is missing if the delay of the groups varies by less than a slot (87.5 ms)\n\
                  less the grain. None is added in vain if it varies by at most the grain. If more are\n\
                  counted than a station sends in that time, the times are too coarse: status 1.\n\n\
@@ -442,8 +441,7 @@ fn encode<'a>(alloc: Global) -> Result<Command<'a>, AllocError>
         ending: "A row of the script is one slot: COMMAND,ARGUMENT,FREE,RECEPTIONS. The last field is\n\
                  empty here, for example text,HI,1, or -,,1, if nothing is set. Replies to commands\n\
                  are comments in the log. The station is silent in the first M + K rows. At the\n\
-                 default M of 128, put 128 rows such as -,,1, before the first text.\n\
-                 name: the programme type name (PTYN, group 10A); the station name (PS) is not handled.\n\n\
+                 default M of 128, put 128 rows such as -,,1, before the first text.\n\n\
                  Example:\n  \
                    $ printf -- '-,,1,\\ntext,HI,1,\\n' | rdsrt encode --pi C201 --m 1\n  \
                    ---- ---- ---- ----\n  \
@@ -466,8 +464,7 @@ fn simulate<'a>(alloc: Global) -> Result<Command<'a>, AllocError>
                  slot, G3 gets the group sent 3 slots before, L loses it, R restarts. With --confirm,\n\
                  W214048490D20 gets a wrong group: W and its blocks 2 to 4. The station is silent in\n\
                  the first M + K rows, with --confirm in M + K + W - 1. At the default M of 128, put\n\
-                 128 rows such as -,,1,GGL before the first text.\n\
-                 name: the programme type name (PTYN, group 10A); the station name (PS) is not handled.\n\n\
+                 128 rows such as -,,1,GGL before the first text.\n\n\
                  Example:\n  \
                    $ printf -- '-,,1,G\\ntext,HI,1,G\\n' | rdsrt sim --pi C201 --m 1\n  \
                    1 text ok\n  \
@@ -487,9 +484,10 @@ fn top<'a>(alloc: Global) -> Command<'a>
     Command::new(alloc, "rdsrt")
         .version("0.1.0")
         .about(
-            "Encoder, receiver and audit for RDS texts that are never a mix of two\n\
+            "Checks RDS encoders, and sends and receives RadioText so that lost groups mix no texts\n\
              Each command reads standard input and writes standard output.\n\
-             name: the programme type name (PTYN, group 10A); the station name (PS) is not handled.",
+             Beside RadioText it handles the programme type name (PTYN, group 10A), here called\n\
+             name, and RT+ tags. It does not handle the station name (PS).",
         )
         .after_help(
             "Example:\n  \
