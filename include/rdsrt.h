@@ -307,8 +307,8 @@ uint32_t rdsrt_audit_init_running(struct rdsrt_audit *audit, uint16_t pi, uint16
 uint32_t rdsrt_audit_slot(struct rdsrt_audit *audit, const uint16_t *blocks, size_t count);
 
 /* Returns 1 until a rule is broken, and then 0. 1 means that no receiver with this dwell shows a mix of two of these
- * texts or names, whichever groups it loses, if its groups come at most `late` slots late. An audit that met no group
- * of the programme returns 1 too. */
+ * texts or names, whichever groups it loses, if it ends every slot, and its groups come unchanged, in order and at most
+ * `late` slots late. An audit that met no group of the programme returns 1 too. */
 uint32_t rdsrt_audit_passed(const struct rdsrt_audit *audit);
 
 /* Returns 1 if no rule is broken so far and the A/B flag turned with each new text, and else 0; the second call says it

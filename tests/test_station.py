@@ -9,6 +9,7 @@ import itertools
 import os
 import random
 import subprocess
+import sys
 import tempfile
 import time
 
@@ -19,6 +20,17 @@ from tests.support import PROGRAM, SECONDS, Case, bytes_of, needs, path
 STATION = path("examples/station")
 SEED = 20261125
 LOST = "---- ---- ---- ----"
+# runs a station by a clock of the test: it waits for a line in place of each sleep
+BY_LINES = """import runpy, sys, time
+clock = 0
+def sleep(seconds):
+    global clock
+    clock += seconds
+    sys.stdin.readline()
+time.sleep, time.monotonic = sleep, lambda: clock
+sys.argv = sys.argv[1:]
+runpy.run_path(sys.argv[0], run_name="__main__")
+"""
 
 
 def rows_of(text, *words):
@@ -38,15 +50,17 @@ def encoded(rows, dwell):
 
 
 def fed(words, texts, folder=None, slots=40):
-    """Returns status and rows of a station. Its file gets each of these texts after so many rows, or with a folder its
-    file of names there."""
+    """Returns status and rows of a station by a clock of the test. Its file gets each of these texts after so many rows, or
+    with a folder its file of names there."""
     with tempfile.TemporaryDirectory() as own:
         now, rows = os.path.join(own, "now.txt"), []
         name, state = (os.path.join(folder or own, it) for it in ("name.txt", "state"))
         words = words + ["--name", name, "--state", state] if folder else words
-        call = [STATION, *words, "--one-in", "1", "--slots", str(slots), now]
+        call = [sys.executable, "-c", BY_LINES, STATION, *words, "--one-in", "1", "--slots", str(slots), now]
         names = package.environment_of_process()
-        with subprocess.Popen(call, stdout=subprocess.PIPE, text=True, bufsize=1, env=names) as station:
+        with subprocess.Popen(call, stdin=subprocess.PIPE, stdout=subprocess.PIPE, text=True, bufsize=1,
+                              env=names) as station:
+            station.stdin.write("\n")
             for row in station.stdout:
                 rows.append(row)
                 if len(rows) in texts:
@@ -54,6 +68,8 @@ def fed(words, texts, folder=None, slots=40):
                     with open(written + ".new", "w", encoding="utf-8") as file:
                         file.write(texts[len(rows)])
                     os.replace(written + ".new", written)
+                if len(rows) < slots:
+                    station.stdin.write("\n")
         return station.returncode, rows
 
 
@@ -205,16 +221,19 @@ class Rows(Case):
 @needs("cc")
 class Live(Case):
     def test_no_text_of_a_live_station_is_refused_and_the_newest_counts(self):
-        """A row comes in the time of each slot."""
-        begins = time.monotonic()
         status, rows = fed(["--m", "4"], {2: "ONE", 14: "TWO", 16: "THREE"})
-        took = time.monotonic() - begins
         self.check("status", status, 0)
-        self.check("40 rows take 39 slots at least", took >= 39 * SLOT, True)
         told = [line for line in encoded("".join(rows), 4).stdout.decode().splitlines() if line[0] == "#"]
         self.check("texts on air", (told, [row for row in rows if "text" in row]),
                    (["# 4 text ok", "# 12 text ok", "# 20 text ok"],
                     ['text,"",1,\n', 'text,"ONE",1,\n', 'text,"THREE",1,\n']))
+
+    def test_a_row_comes_in_the_time_of_each_slot(self):
+        names, begins = package.environment_of_process(), time.monotonic()
+        done = subprocess.run([STATION, "--m", "4", "--slots", "12", os.devnull], capture_output=True, timeout=SECONDS,
+                              env=names)
+        took = time.monotonic() - begins
+        self.check("12 rows take 11 slots at least", (done.stdout.count(b"\n"), took >= 11 * SLOT), (12, True))
 
 
 @needs("cc")
