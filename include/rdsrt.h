@@ -111,7 +111,7 @@ extern "C" {
 /* The default dwell of the program rdsrt, in slots: about 11 s. */
 #define RDSRT_DEFAULT_DWELL 128
 
-/* Two times do not tell how many slots were lost between them. */
+/* What rdsrt_lost_slots returns if nobody knows how many slots were lost. */
 #define RDSRT_UNKNOWN UINT32_C(4294967295)
 
 struct rdsrt_version { uint32_t abi, major, minor, patch; };
