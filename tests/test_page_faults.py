@@ -7,6 +7,8 @@ from tests.page_support import (EVERY_100, HI, NOTHING, SEED, YO, ChromiumCase, 
                                 verdict_of)
 from tests.slot import SLOT
 
+# the same text of another station
+OTHER = HI.replace("C201", "F000")
 BAD_ROW = re.compile(r"fault row (\d+) \(line (\d+)\)")
 SOME_ROWS = ["-,,1,G"] * 6 + ['"-","",1,G', '""', "", "", '-,"a\n,b",1,G', '-,"a""b",1,G', '-,"a"b,1,G', '"a\n\nb"',
                               "restart,,1,G"]
@@ -148,7 +150,9 @@ class Faults:
             # between the first and the last time a clock has room for 4.7 slots
             ("coarse", coarse, ["Coarse times: The times vary by more than the grain: ", "a station sends 4 at most"]),
             ("few", f"{HI} 0\n{NOTHING}\n",
-             ["Lost slots: 1 of 2 slots have a group (50 %). The log says nothing of the others."]),
+             ["Lost slots: 1 of 2 slots have a group of C201 (50 %). The log says nothing of the others."]),
+            ("few of this station", f"{HI} 0\n{OTHER} {SLOT:.2f}\n",
+             ["Lost slots: 1 of 2 slots have a group of C201 (50 %). The log says nothing of the others."]),
         ]
         for name, log, wanted in rows:
             said = verdict_of(b, log, 8)
@@ -159,12 +163,26 @@ class Faults:
         said = verdict_of(b, f"{nine}{NOTHING}\n", 8)
         self.check("nine slots in ten", "✓ Passes with M = 8" in said, True, said)
 
+    def test_a_group_of_another_station_is_a_slot_without_a_group(self):
+        """The verdict is the one of the log with lost slots in their places."""
+        b = self.b
+        dice, headings = random.Random(SEED), set()
+        for number in range(20):
+            share, is_timed = dice.choice([1, 0.95, 0.5, 0.05]), dice.random() < 0.5
+            lines = [f"{HI if dice.random() < share else OTHER}{f' {slot * SLOT:.2f}' if is_timed else ''}\n"
+                     for slot in range(dice.choice([40, 400]))]
+            log = f"{HI}{' 0' if is_timed else ''}\n" + "".join(lines[1:])
+            got, wanted = (verdict_of(b, it, 32) for it in (log, log.replace(OTHER, NOTHING)))
+            self.check(f"seed {SEED}, log {number}", got, wanted, log)
+            headings.add(wanted.split(" with ")[0])
+        self.check_all("several verdicts", len(headings) > 1, True)
+
     def test_times_that_the_program_does_not_read_are_grey(self):
         """A time of day, for example: slots may be missing. Words that are no time change nothing."""
         b = self.b
         timed = "".join(f"{HI} 07:00:{second:02d}.{part:02d}\n" for second in range(60) for part in range(0, 99, 9))
         said = verdict_of(b, timed, 8)
-        self.check("a time of day", (text_of(b, "#verdict h2"), "the program reads none in 660 of 660 groups" in said),
+        self.check("a time of day", (text_of(b, "#verdict h2"), "the program reads none in 660 groups." in said),
                    ("Cannot say", True), said)
         for name, log in (("a date", timed.replace(" 07:", " @2024/06/01 07:").replace("\n", "\n", 1)),
                           ("words", f"{HI} noted\n" * 20), ("nothing", f"{HI}\n" * 20)):

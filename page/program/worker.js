@@ -102,11 +102,10 @@ const REQUESTS = {
     Object.assign(state, { bytes: new Uint8Array(await blob.arrayBuffer()), log: null, alone: null, whole: null });
   },
 
-  /* The slots of the log, its programmes, the number of its whole groups, and its times. */
+  /* The slots of the log, its programmes, and its times. */
   open(_, tell) {
-    const log = structuredClone(logOf(tell)), programmes = logfile.programmes(log);
-    const groups = programmes.reduce((sum, [, number]) => sum + number, 0);
-    return { log, programmes, groups, times: timesOf() };
+    const log = structuredClone(logOf(tell));
+    return { log, programmes: logfile.programmes(log), times: timesOf() };
   },
 
   decode(asked) {

@@ -41,7 +41,7 @@ class LogTab extends Tab {
     super("log", "Look at a log");
     Object.assign(this, empty(), {
       bytes: new Uint8Array(0), text: "", source: {}, isEdited: false, lost: new Set(), brush: null,
-      log: NO_LOG, groups: 0, times: {}, pi: 0, w: 0,
+      log: NO_LOG, times: {}, pi: 0, w: 0,
     });
     this.rows = new Rows($("log-rows"), (i) => this.row(i));
   }
@@ -170,8 +170,8 @@ class LogTab extends Tab {
   }
 
   async showAnswer(asked, signal) {
-    const audit = await this.judge.ask("audit", asked, { signal }), { log, groups, times } = this;
-    this.answer = { ...verdict.show({ ...asked, audit, log, groups, times }, this.actions), audit };
+    const audit = await this.judge.ask("audit", asked, { signal }), { log, times } = this;
+    this.answer = { ...verdict.show({ ...asked, audit, log, times }, this.actions), audit };
     this.tellLines("audit", audit.command, audit.output);
     faults.show({ ...audit, isSure: this.answer.isSure }, log, (slot) => this.goTo(slot));
     // the row of the fault is red

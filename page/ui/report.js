@@ -41,7 +41,7 @@ function rows(tab) {
   return [
     ["File", source.origin || source.file || "none: an example or a text of the page"],
     ["SHA-256", state.hash],
-    ["Station", `PI ${pi}, ${counted(tab.groups, "group")} of all stations`],
+    ["Station", `PI ${pi}`],
     ["Length", `${counted(log.count, "slot")}, ${lines.time(log.count)}${from}`],
     ["Receiver", `M = ${m} (${lines.time(Number(m))}), K = ${k}${w ? `, W = ${w}` : ""}`],
     ["Answer", tab.inOneLine],

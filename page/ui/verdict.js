@@ -4,8 +4,10 @@ import * as lines from "../model/lines.js";
 import * as logfile from "../model/logfile.js";
 import { $, counted, filled, grouped, nodesOf, number } from "./parts.js";
 
-/* A yes over fewer slots with a group says too little. */
+/* A yes over fewer slots with a group of the station says too little. */
 const LEAST_SHARE = 0.9;
+/* The note on what a yes covers: its slots, and those without a group of the station. */
+const JUDGED = /^judged in (\d+) slots?(?:, (\d+) without a group)?:/;
 /* The pause in the note of a no. */
 const PAUSE = /no segment (?:from slot (\d+) to|for M \+ K slots or more up to slot) (\d+), so/;
 
@@ -43,18 +45,24 @@ function faulty({ output, notes }, actions) {
   return filled("malformed", { line: number(Number(line)), reason: nodesOf(`${reason}.`), ...actions });
 }
 
+/* What the program says that a yes covers: how many slots, and how many of them have a group of the station. */
+function coveredBy({ notes }) {
+  const note = notes.find((it) => JUDGED.test(it)) ?? "", [, slots, without = 0] = JUDGED.exec(note) ?? [];
+  return { note, slots: Number(slots ?? 0), groups: Number(slots ?? 0) - Number(without) };
+}
+
 /* What makes a yes doubtful: the log lacks slots by the times of the lines, the program cannot count slots by these,
    since it does not read them or they are too coarse, or few slots of a log with times have a group. Without times a
    slot without a group may have been silent. */
-function doubtsOf({ audit, log, groups, times }) {
+function doubtsOf({ audit, pi, times }, { slots, groups }) {
   const isCoarse = (note) => note.startsWith("the times vary"), [coarse] = times.notes.filter(isCoarse);
   const gaps = [audit.lack, ...times.notes.filter((note) => !isCoarse(note))].filter(Boolean);
-  const isUnread = !coarse && times.looksTimed && 2 * times.untimed > groups, share = groups / log.count;
+  const isUnread = groups && !coarse && times.looksTimed && 2 * times.untimed > groups, share = groups / slots;
   const isFew = 2 * times.untimed <= groups && share < LEAST_SHARE;
   return {
     gaps: gaps.map(told).join(" "), coarse: coarse && told(coarse),
-    unread: isUnread && `${number(times.untimed)} of ${counted(groups, "group")}`,
-    few: isFew && `${number(groups)} of ${number(log.count)} slots have a group (${Math.floor(100 * share)} %)`,
+    unread: isUnread && counted(times.untimed, "group"),
+    few: isFew && `${number(groups)} of ${number(slots)} slots have a group of ${pi} (${Math.floor(100 * share)} %)`,
   };
 }
 
@@ -68,7 +76,8 @@ function lostPause({ audit, log, m, k }) {
 
 /* The kind of the card and its elements. A no may be the recording's and not the encoder's. */
 function answer(given, no, actions) {
-  const { audit, log, groups, m, k, w } = given, { few, ...doubts } = { ...doubtsOf(given), ...actions };
+  const { audit, m, k, w } = given, { note: judged, slots, groups } = coveredBy(audit);
+  const { few, ...doubts } = { ...doubtsOf(given, { slots, groups }), ...actions };
   const more = w ? "+ W - 1 " : "", late = k ? ` and K ${more}= ${number(k)}` : "";
   const dwell = `M = ${number(m)} (${lines.time(m)})${late}`;
   if (no) {
@@ -77,17 +86,17 @@ function answer(given, no, actions) {
     return [isDoubted ? "empty" : "no", ...filled(isDoubted ? "doubted" : "refused", { ...no, dwell, lost }), ...gaps];
   }
   if (!audit.output.startsWith("yes ")) return ["fault", ...faulty(audit, actions)];
-  const note = audit.notes.find((it) => it.includes("the yes says nothing")), missing = log.count > groups;
+  const note = audit.notes.find((it) => it.includes("the yes says nothing")), missing = slots > groups;
   if (note) return ["empty", ...filled("nothing", { note }), ...filled("doubts", doubts)];
-  const covered = told(audit.notes.find((it) => it.startsWith("judged ")) ?? "");
+  const covered = told(judged);
   const isSure = !(doubts.gaps || doubts.coarse || doubts.unread || few);
   if (!isSure) return ["empty", ...filled("unsure", { dwell, covered }), ...filled("doubts", { ...doubts, few })];
   const keeps = groups === 1 ? "slot keeps" : "slots keep", texts = missing ? "the recorded texts" : "two texts";
   return ["", ...filled("passed", { dwell, keeps, texts, covered, missing })];
 }
 
-/* Shows the answer over a log, which has so many whole groups. Returns the slot and the fault of a no, and whether the
-   card says yes or no: a grey card says neither. */
+/* Shows the answer over a log. Returns the slot and the fault of a no, and whether the card says yes or no: a grey card
+   says neither. */
 export function show(given, actions) {
   const { m, k, w, running } = given, no = noOf(given, actions), [kind, ...elements] = answer(given, no, actions);
   const spacing = `M + K${w ? " + W - 1" : ""} = ${m + k} slots (${lines.time(m + k)})`;
