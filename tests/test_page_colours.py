@@ -89,6 +89,18 @@ class Colours:
             self.check(f"{name}: it is red", (of(b, "#script-alone", "className"), text_of(b, "#script-alone .led")),
                        ("radio alone mixed", "mix"))
 
+    def test_no_text_of_a_log_is_old(self):
+        """The program does not say it of a log: after a pause the same text is on air again."""
+        b = self.b
+        other = "C201 0408 1234 5678\n"
+        log = f"{HI}\n" + other * 10 + f"{HI}\n{other}" * 15
+        verdict_of(b, log, 8)
+        texts = [(it["from"], it["value"]) for it in call(b, "probe.runs", "log", "view", "text")]
+        self.check("the dwell drops the text and shows it again", texts, [(0, "HI"), (8, None), (11, "HI")])
+        move(b, "log", 20)
+        inks = call(b, "probe.columnsOf", "log", "flag bit alone", "stale", "shade-text-0")
+        self.check("one calm bar", (inks["stale"], inks["shade-text-0"] > inks["width"] / 2), (0, True), log)
+
     def test_a_replaced_tag_is_not_red(self):
         """The station replaced the tag before the radio had the text whole. The words name it, and no mix is counted."""
         b = self.b

@@ -60,12 +60,11 @@ class List {
   }
 }
 
-/* The runs [from, to) of a part of a display. A run that is no mix may be drawn old from the slot on that `oldFrom`
-   gives for its first one. */
+/* The runs [from, to) of a part of a display. */
 class Runs extends List {
   constructor({ starts, numbers, states, end }, values, kind) {
     super();
-    Object.assign(this, { starts, numbers, states, end, values, kind, oldFrom: () => Infinity });
+    Object.assign(this, { starts, numbers, states, end, values, kind });
   }
 
   isShown(i) { return this.numbers[i] !== NOTHING; }
@@ -88,12 +87,9 @@ class Runs extends List {
   }
 
   pieces(i) {
-    const from = this.from(i), to = this.to(i), mixTo = this.mixTo(i), value = this.value(i);
-    const old = this.isShown(i) ? Math.min(to, Math.max(mixTo, this.stale(i) ? mixTo : this.oldFrom(mixTo))) : to;
-    const shade = value === null ? 0 : this.values.shades[this.numbers[i]];
-    const bar = { value, label: labelOf(value), kind: this.kind, shade, mix: false };
-    const all = [{ from, to: mixTo, mix: true }, { from: mixTo, to: old }, { from: old, to, old: true }];
-    return all.filter((it) => it.from < it.to).map((it) => ({ ...bar, ...it }));
+    const from = this.from(i), to = this.to(i), value = this.value(i), { kind, values, numbers } = this;
+    const shade = value === null ? 0 : values.shades[numbers[i]], mix = this.isMix(i), old = this.stale(i) !== "";
+    return from < to ? [{ from, to, value, label: labelOf(value), kind, shade, mix, old }] : [];
   }
 }
 

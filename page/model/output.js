@@ -96,7 +96,6 @@ export function changesOf(display) {
 
 /* The slots in which a text or a name went, each with the number of its event. */
 export const EVENTS = ["text", "name"].flatMap((part) => WHYS.map((why) => ({ label: `${part}: ${why}`, kind: "" })));
-export const TEXT_DROPPED = WHYS.indexOf("dropped");
 export function eventsOf({ text, name }) {
   const gone = [text, name].flatMap(({ starts, states, numbers }, part) => Array.from(starts.keys())
     .filter((i) => numbers[i] === NOTHING && states[i] > 0)

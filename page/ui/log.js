@@ -1,6 +1,6 @@
 /* The tab of a log: the receiver's display, the audit's answer, the log itself, and the lost slots. One worker shows
    what receivers show, another one judges. */
-import { Marks, Texts, View, lastAt } from "../display/runs.js";
+import { Marks, Texts, View } from "../display/runs.js";
 import * as lines from "../model/lines.js";
 import * as logfile from "../model/logfile.js";
 import * as output from "../model/output.js";
@@ -163,7 +163,6 @@ class LogTab extends Tab {
     const [view, alone] = [got.view, got.alone].map((packed) => new View(packed, values));
     const { codes, events } = got, pi = parseInt(asked.pi, 16);
     Object.assign(this, { view, alone, codes, events, pi, w: asked.w });
-    alone.parts.text.oldFrom = this.oldFrom();
     this.timeline.show(this.lanes(), this.log.count, { fit });
     this.tellLines("log", got.command, got.output);
     changes.show(view, got.changes, this);
@@ -259,12 +258,6 @@ class LogTab extends Tab {
   marks() {
     const { events: { slots, numbers }, no, answer } = this, all = new Marks(slots, numbers, output.EVENTS);
     return no ? all.with(no.slot, { label: no.fault, kind: answer.isSure ? "no" : "refused" }) : all;
-  }
-
-  /* Where a text of the receiver with the flag bit alone is old: from where the other one dropped its text. */
-  oldFrom() {
-    const { slots, numbers } = this.events, dropped = slots.filter((_, i) => numbers[i] === output.TEXT_DROPPED);
-    return (from) => dropped[lastAt(dropped.length, (i) => dropped[i], from) + 1] ?? Infinity;
   }
 
   lanes() {
