@@ -1,4 +1,6 @@
 """All faults of a log: the strip, the table and the report, by the list of the program."""
+import re
+
 from tests.page_support import (HI, NOTHING, YO, ChromiumCase, FirefoxCase, call, click, cursor, first_examples, of,
                                 settle, text_of, to_tab, verdict_of)
 
@@ -99,6 +101,27 @@ class Listing:
         b.run("document.querySelector('#log-strip button').focus()")
         b.key("ArrowRight")
         self.check("arrow keys go along the strip", b.run("document.activeElement.title"), strip(b)[1][1])
+
+    def test_a_slot_of_a_line_with_a_time_has_no_time_by_its_number(self):
+        """An hour is missing before the fault. Without times a slot is so many slots after the first."""
+        b = self.b
+        hours = [(HI, f"{hour}:00:00.{part:02d}") for hour in ("07", "08") for part in (0, 9, 18)]
+        for name, log, wanted in (
+                ("a clock", timed(*hours, (OTHER, "08:00:00.27")), ["slot 6 of 7 · line 7 · 08:00:00", "",
+                 "7 slots, from 07:00:00 to 08:00:00 by its lines", "08:00:00"]),
+                ("seconds", "".join(f"{HI} {at}\n" for at in ("0.00", "0.09", "3600.1")) + f"{OTHER} 3600.2\n",
+                 ["slot 3 of 4 · line 4", "", "4 slots", ""]),
+                ("none", f"{HI}\n" * 6 + f"{OTHER}\n",
+                 ["slot 6 of 7 · line 7 · 0.53 s", "This slot is 0.53 s after the first.", "7 slots, 0.61 s", "0.53 s"])):
+            opened(b, log)
+            told = "".join(re.findall(r"This slot is [\d.]+ s after the first\.", text_of(b, "#verdict")))
+            click(b, "#log-report")
+            length = b.run("[...document.querySelectorAll('#report-rows dt')].find(it => it.textContent === 'Length')"
+                           ".nextSibling.textContent")
+            click(b, "#report-close")
+            changed = text_of(b, "#log-changes li:last-child .time")
+            self.check(name, [text_of(b, "#log-time output"), told, length, changed], wanted, log)
+        first_examples(b)
 
     def test_the_report_has_the_faults_by_kind(self):
         """And where the list ends, if a line behind the first fault is malformed."""

@@ -180,7 +180,7 @@ class Timeline:
         captions["script"] = call(b, "probe.caption", "script")
         self.check("captions", captions, {
             "log": ["own.log · station C201 · M = 128, K = 0",
-                    "slots 4 to 13 of 20 · 0.35 s to 1.14 s · 07:58:16 to 07:58:25", "Cannot say"],
+                    "slots 4 to 13 of 20 · 07:58:16 to 07:58:25", "Cannot say"],
             "window": ["A wrong group, heard twice · station C201 · M = 8, K = 0, W = 8"],
             "script": ["The mix: a long tunnel · station C201 · M = 8, K = 0",
                        f"slots 0 to {count - 1} of {count} · 0.00 s to {call(b, 'probe.time', count - 1)}",

@@ -1,6 +1,5 @@
 /* The list of changes of a log: what the receiver shows, from which slot on. A field filters it. */
 import { labelOf, lastAt } from "../display/runs.js";
-import * as lines from "../model/lines.js";
 import { KIND_OF, PARTS } from "../model/output.js";
 import { $, counted, make, number, soon } from "./parts.js";
 import { Rows } from "./rows.js";
@@ -55,7 +54,7 @@ function row(i) {
   return {
     className: isMix ? "mix" : "", title: `${tab.line(slot)}: ${text}`, act: () => tab.goTo(slot),
     cells: [
-      cell("slot", number(slot)), cell("time", tab.clock(slot) || lines.time(slot)),
+      cell("slot", number(slot)), cell("time", tab.clock(slot) || tab.elapsed(slot)),
       cell(`part ${KIND_OF[part]}`, NAMES[KIND_OF[part]]), cell("value", isMix ? `⚠ ${text}` : text),
     ],
   };

@@ -281,6 +281,8 @@ class LogTab extends Tab {
     return CLOCK.exec(this.lineAt(this.log.starts[slot]).slice(logfile.BLOCKS))?.[0] ?? "";
   }
 
+  /* Empty if the lines have times: slots may be missing between two lines. */
+  elapsed(slot) { return this.times.looksTimed || this.clock(slot) ? "" : super.elapsed(slot); }
   line(slot) { return slot < this.log.count ? `line ${number(this.log.numbers[slot])}` : ""; }
   seconds(slot) { return this.log.clocks?.[slot] ?? NaN; }
 

@@ -1,6 +1,5 @@
 /* Files to save, and a timeline as a picture with a caption. */
 import * as painter from "../display/painter.js";
-import * as lines from "../model/lines.js";
 import { $, make, number } from "./parts.js";
 
 const EDGE = 16, LINE = 20;
@@ -26,8 +25,8 @@ export function caption(timeline) {
   const options = ["m", "k", "w"].filter((name) => tab.value(name));
   const rows = [
     [input, `station ${tab.station}`, options.map((name) => `${name.toUpperCase()} = ${tab.value(name)}`).join(", ")],
-    [`slots ${ends.map(number).join(" to ")} of ${number(count)}`, ends.map(lines.time).join(" to "),
-      ends.map((slot) => tab.clock(slot)).filter(Boolean).join(" to ")],
+    [`slots ${ends.map(number).join(" to ")} of ${number(count)}`,
+      ...["elapsed", "clock"].map((time) => ends.map((slot) => tab[time](slot)).filter(Boolean).join(" to "))],
     [tab.inOneLine],
   ];
   return rows.map((words) => words.filter(Boolean).join(" · "));

@@ -36,13 +36,14 @@ function faultsOf({ answer }) {
 
 function rows(tab) {
   const { log, source, answer } = tab, times = [0, Math.max(0, log.count - 1)].map((slot) => tab.clock(slot));
-  const from = times[0] && times[1] ? `, from ${times[0]} to ${times[1]} by its lines` : "";
+  const byLines = times[0] && times[1] ? `from ${times[0]} to ${times[1]} by its lines` : "";
+  const length = [counted(log.count, "slot"), byLines || tab.elapsed(log.count)].filter(Boolean).join(", ");
   const [pi, m, k, w] = ["pi", "m", "k", "w"].map((name) => tab.value(name));
   return [
     ["File", source.origin || source.file || "none: an example or a text of the page"],
     ["SHA-256", state.hash],
     ["Station", `PI ${pi}`],
-    ["Length", `${counted(log.count, "slot")}, ${lines.time(log.count)}${from}`],
+    ["Length", length],
     ["Receiver", `M = ${m} (${lines.time(Number(m))}), K = ${k}${w ? `, W = ${w}` : ""}`],
     ["Answer", tab.inOneLine],
     ["In words", sentences()],

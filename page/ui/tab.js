@@ -1,5 +1,6 @@
 /* What the tabs of a log and of a script share. A tab has `text`, `show` for a look, `showProblem`, `settingsOf` for a
    link, `open`, `save`, `isUnsaved`, and for its timeline `showSlot`, `paint`, `painted`, `station`, `inOneLine`. */
+import * as lines from "../model/lines.js";
 import * as links from "./links.js";
 import { $, entitle, isolated, problemOf, soon } from "./parts.js";
 import { Timeline } from "./timeline.js";
@@ -81,9 +82,11 @@ export class Tab {
   prepare() {}
   problem() { return problemOf(this.field("form")); }
 
-  /* What a timeline asks for: the choice of a receiver; the clock, the line, and the seconds of the day of a slot. */
+  /* What a timeline asks for: the choice of a receiver; of a slot the clock, the time since the first slot, the line,
+     and the seconds of the day. */
   choose() {}
   clock() { return ""; }
+  elapsed(slot) { return lines.time(slot); }
   line() { return ""; }
   seconds() { return NaN; }
 

@@ -125,7 +125,7 @@ export class Timeline {
 
   place() {
     const { cursor, tab } = this, slot = `slot ${number(cursor)} of ${number(this.count)}`;
-    return [slot, tab.line(cursor), lines.time(cursor), tab.clock(cursor)].filter(Boolean).join(" · ");
+    return [slot, tab.line(cursor), tab.elapsed(cursor), tab.clock(cursor)].filter(Boolean).join(" · ");
   }
 
   /* Returns whether a pointer is on the axis, the row of slot numbers. */

@@ -30,10 +30,12 @@ function told(note) {
 function noOf({ audit: { output, notes }, log, pi }, { goTo, stopSearch }) {
   const [, digits, fault] = /^no (\d+) (\w+)/.exec(output) ?? [], slot = Number(digits);
   if (!fault) return null;
+  const rule = lines.noteOf(notes, "slot ").slice(`slot ${slot}`.length);
   const isName = lines.codeOf(logfile.groupAt(log, slot), parseInt(pi, 16)) === lines.NAME;
   return {
-    slot, fault, goTo: () => goTo(slot), stopSearch, place: `slot ${number(slot)}`, time: lines.time(slot),
-    rule: grouped(lines.noteOf(notes, "slot ").slice(`slot ${slot}`.length)),
+    slot, fault, goTo: () => goTo(slot), stopSearch, place: `slot ${number(slot)}`, rule: grouped(rule),
+    // a line with a time says itself when it was: slots may be missing before it
+    time: / \(line \d+\)/.test(rule) && lines.time(slot),
     cure: filled(fault === "NotOneText" && isName ? "NotOneName" : fault, {}),
   };
 }
