@@ -208,6 +208,16 @@ class Faults:
             has = ["What the encoder should do" in said, "Looking for" in said or "itness" in said]
             self.check(f"{name}: what a no has", has, [kind == "verdict no"] * 2, said)
 
+    def test_lost_slots_before_a_no_are_those_of_the_lines_up_to_it(self):
+        b = self.b
+        tags = "C201 B158 8002 0000"
+        said = verdict_of(b, f"# noted\n{HI} 0.00\n{tags} 9.40\n{HI} 9.50\n{HI} 99.50\n", 8)
+        # the second group comes 107 slots after the first; a comment is no line of a slot
+        self.check("up to the no", "Lost slots: Up to line 3, the log spans 108 slots by its times and has 2 lines. " in said,
+                   True, said)
+        said = verdict_of(b, f"{HI} 0.00\n{HI} 9.40\n", 8)
+        self.check("after a yes", "Lost slots: The log spans 108 slots by its times and has 2 lines. " in said, True, said)
+
     def test_a_worker_that_ends_is_said(self):
         """The page does not wait for ever."""
         b = self.b

@@ -85,14 +85,14 @@ function head(count) {
 }
 
 /* All faults of the log, and the note that the log lacks slots by its times. After a no the note on its rule is that of
-   the audit that stops there, and only the lines up to it can lack slots. */
+   the audit that stops there, and only the lines up to it can lack slots: `lackTo` is the last of them. */
 function audit(asked) {
   const words = auditing(asked, "--all"), { output: printed, notes } = run(words), list = faults.read(printed);
   const rule = list.slots.length ? run(auditing(asked)).notes : [];
   const line = /^slot \d+ \(line (\d+)/m.exec(rule.join("\n"));
   const read = line ? run(["decode", "--pi", asked.pi], head(Number(line[1]))).notes : notes;
   const lack = lines.noteOf(read, "the log spans "), end = lines.noteOf(notes, "fault ").slice("fault ".length);
-  const told = { counts: faults.counts(notes), end, lack, notes: [...rule, ...notes] };
+  const told = { counts: faults.counts(notes), end, lack, lackTo: line && Number(line[1]), notes: [...rule, ...notes] };
   return { ...told, list, command: rdsrt.command(words), output: output.beginOf(printed) };
 }
 

@@ -58,7 +58,8 @@ function coveredBy({ notes }) {
    slot without a group may have been silent. */
 function doubtsOf({ audit, pi, times }, { slots, groups }) {
   const isCoarse = (note) => note.startsWith("the times vary"), [coarse] = times.notes.filter(isCoarse);
-  const gaps = [audit.lack, ...times.notes.filter((note) => !isCoarse(note))].filter(Boolean);
+  const lack = audit.lack && audit.lackTo ? `up to line ${audit.lackTo}, ${audit.lack}` : audit.lack;
+  const gaps = [lack, ...times.notes.filter((note) => !isCoarse(note))].filter(Boolean);
   const isUnread = groups && !coarse && times.looksTimed && 2 * times.untimed > groups, share = groups / slots;
   const isFew = 2 * times.untimed <= groups && share < LEAST_SHARE;
   return {
