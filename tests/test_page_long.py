@@ -3,8 +3,9 @@ import os
 import re
 import tempfile
 
-from tests.page_support import (NOTHING, ChromiumCase, FirefoxCase, call, idle, longest_task, move, of, program, settle,
-                                shown, text_of, to_tab)
+from tests.page_support import (HI, NOTHING, URL, ChromiumCase, FirefoxCase, call, idle, longest_task, move, of, program,
+                                settle, shown, text_of, to_tab, verdict_of, visit)
+from tests.slot import SLOT
 
 # milliseconds: on a quiet machine no task is above 200, and other work may triple that
 LONGEST_TASK = 600
@@ -57,7 +58,33 @@ def memory_of_renderers(driver):
     return max(size for pid, size in sizes.items() if is_below(pid))
 
 
+# a worker that refuses to make a string of so many bytes, as a browser does above 512 MB
+MOST_DECODED = 100_000
+SHORT_STRINGS = """
+window.Blob = class extends Blob {
+  constructor(parts, options) { super(options?.type === "text/javascript" ? [`
+    const { decode } = TextDecoder.prototype;
+    TextDecoder.prototype.decode = function (bytes, ...more) {
+      if (bytes?.byteLength > %d) throw new RangeError("too long");
+      return decode.call(this, bytes, ...more);
+    };`, ...parts] : parts, options); }
+};""" % MOST_DECODED
+
+
 class Long:
+    def test_no_string_holds_a_whole_log(self):
+        """The page looks for the comments of `slots` in the bytes. It offers no lost slots that are in the log."""
+        b = self.b
+        undo = b.before_load(SHORT_STRINGS)
+        visit(b, URL)
+        undo()
+        hour = "".join(f"{HI} {slot * SLOT:.2f}\n" for slot in range(5_000))
+        for name, between, is_offered in (("a break", "", True),
+                                          ("one with its comment", "# time went back\n" + f"{NOTHING}\n" * 8, False)):
+            said = verdict_of(b, hour + between + hour, 8)
+            self.check(f"a long log with {name}", ("went back, or on by more than a day." in said, "✓ Passes" in said),
+                       (is_offered, not is_offered), said)
+
     def test_of_several_edits_only_the_last_ones_result_is_shown(self):
         b = self.b
         to_tab(b, "script")

@@ -23,6 +23,7 @@ const run = (words, bytes = state.bytes) => rdsrt.run(words, bytes);
 
 /* Whether most of some lines have digits of a time behind their blocks. */
 const SOME = 1000, TIME = /\d[:.]\d/, LONGEST = 80;
+const [NEWLINE, HASH] = [..."\n#"].map((letter) => letter.charCodeAt(0));
 function looksTimed({ starts, count }) {
   const step = Math.ceil(count / SOME), some = starts.filter((_, slot) => slot % step === 0);
   const end = (at) => Math.min(logfile.endOf(state.bytes, at), at + LONGEST);
@@ -30,14 +31,22 @@ function looksTimed({ starts, count }) {
   return 2 * some.filter((at) => TIME.test(rest(at))).length > some.length;
 }
 
+/* Whether the log has a comment of `slots` on a break. A browser makes no string of more than 512 MB. */
+function hasBreaks() {
+  const { bytes } = state, isLine = (at) => at === 0 || bytes[at - 1] === NEWLINE;
+  for (let at = bytes.indexOf(HASH); at >= 0; at = bytes.indexOf(HASH, at + 1)) {
+    if (isLine(at) && BREAK.test(new TextDecoder().decode(bytes.subarray(at, at + LONGEST)))) return true;
+  }
+  return false;
+}
+
 /* The notes of `slots` on the times of the log: how many groups have no time that it reads, and its other notes. A log
    that `slots` wrote has its breaks already. */
-const UNTIMED = /^(\d+) groups? without a time/, BREAK = /^# (?:time went back|more than a day passed)/m;
+const UNTIMED = /^(\d+) groups? without a time/, BREAK = /^# (?:time went back|more than a day passed)/;
 function timesOf() {
   const { notes } = rdsrt.runBytes(["slots", "--m", "1"], state.bytes);
   const [untimed] = notes.map((note) => UNTIMED.exec(note)).filter(Boolean);
-  const hasBreaks = BREAK.test(new TextDecoder().decode(state.bytes));
-  const isOf = (note) => note.startsWith("the times vary") || (note.includes(" went back, or on by") && !hasBreaks);
+  const isOf = (note) => note.startsWith("the times vary") || (note.includes(" went back, or on by") && !hasBreaks());
   return { untimed: Number(untimed?.[1] ?? 0), notes: notes.filter(isOf), looksTimed: looksTimed(state.log) };
 }
 
