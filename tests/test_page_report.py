@@ -32,22 +32,30 @@ class Report:
         """The command gives the same answer from the file."""
         b = self.b
         gap = "".join(f"{HI} {slot * 0.0876:.2f}\n" for slot in range(400) if not 100 <= slot < 130)
-        for name, log, answer in (("every 100.log", EVERY_100, "✗ EarlyFlag with M = 128 (11.2 s)"),
-                                  ("yes.log", f"{HI}\n" * 200, "✓ Passes with M = 128 (11.2 s)"),
-                                  ("bad.log", f"{HI}\nbad\n", "Line 2 is malformed"), ("gap's.log", gap, "Cannot say")):
-            call(b, "probe.drop", name, log)
+        passes, breaks = "✓ Passes with M = 128 (11.2 s)", "✗ EarlyFlag with M = 128 (11.2 s)"
+        wide, marked = "read as UTF-16", "read without its byte-order mark"
+        for name, log, how, answer in (
+                ("every 100.log", EVERY_100.encode(), "", breaks), ("yes.log", f"{HI}\n".encode() * 200, "", passes),
+                ("bad.log", f"{HI}\nbad\n".encode(), "", "Line 2 is malformed"), ("gap's.log", gap.encode(), "", "Cannot say"),
+                ("utf-16.log", f"# é\n{EVERY_100}".encode("utf-16"), wide, breaks),
+                ("-be.log", b"\xFE\xFF" + EVERY_100.encode("utf-16-be"), wide, breaks),
+                ("gap.txt", gap.encode("utf-16"), wide, "Cannot say"),
+                ("two marks.log", f"\uFEFF{HI}\n".encode("utf-16"), wide, "Line 1 is malformed"),
+                ("mark.log", EVERY_100.encode("utf-8-sig"), marked, breaks),
+                ("mark.txt", gap.encode("utf-8-sig"), marked, "Cannot say")):
+            call(b, "probe.drop", name, list(log))
             settle(b)
             rows = report(b)
             self.check(f"{name}: its rows", list(rows), NAMES)
             self.check(f"{name}: file, sum, answer, version",
                        [rows[it] for it in ("File", "SHA-256", "Answer", "Program")],
-                       [name, hashlib.sha256(log.encode()).hexdigest(), answer,
+                       [f"{name}, {how}" if how else name, hashlib.sha256(log).hexdigest(), answer,
                         run_program(["--version"], b"")[1].strip()])
             self.check(f"{name}: no button in its words", "Add the lost" in rows["In words"], False)
             self.check(f"{name}: its faults", rows["Faults"].split(".")[0],
                        {"✗": "1 of 3 texts: EarlyFlag in slot 200 (line 201)", "L": "not judged"}.get(answer[0], "none found"))
             with tempfile.TemporaryDirectory() as folder:
-                with open(os.path.join(folder, name), "w", encoding="utf-8") as file:
+                with open(os.path.join(folder, name), "wb") as file:
                     file.write(log)
                 self.check(f"{name}: the command again", again(rows["Command"], folder), text_of(b, "#audit-lines"))
                 click(b, "#report-close")

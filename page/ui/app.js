@@ -55,12 +55,16 @@ const SCRIPT = /^\uFEFF?(?:\r?\n)*(?:-|text|name|tags|restart|"[a-z-]+"),/;
 const LOG = /^\uFEFF?(?:(?:[<#%].*|[ \t]*)\r?\n)*(?:[\dA-Fa-f]{4}|----) (?:[\dA-Fa-f]{4}|----) /;
 const isScript = (name, text) => SCRIPT.test(text) || (/\.csv$/i.test(name) && !LOG.test(text));
 
-/* The bytes of a file in UTF-8. Windows writes some text in UTF-16. A log is read without a byte-order mark. */
+/* How the page reads a file that Windows wrote, and the command that does the same: the program takes plain ASCII. */
+const UTF_16 = { as: "read as UTF-16", by: "iconv -f UTF-16 -t UTF-8" };
+const MARKED = { as: "read without its byte-order mark", by: "tail -c +4" };
+/* Returns the bytes of a file in UTF-8, the same as a log without a byte-order mark, and how the log was read. */
 function inUtf8(bytes) {
   const encoding = { "255,254": "utf-16le", "254,255": "utf-16be" }[String(bytes.subarray(0, 2))];
-  return encoding ? new TextEncoder().encode(new TextDecoder(encoding).decode(bytes)) : bytes;
+  const input = encoding ? new TextEncoder().encode(new TextDecoder(encoding).decode(bytes)) : bytes;
+  const isMarked = String(bytes.subarray(0, 3)) === "239,187,191", plain = isMarked ? bytes.subarray(3) : input;
+  return { input, plain, read: encoding ? UTF_16 : isMarked && MARKED };
 }
-const plainLog = (bytes) => String(bytes.subarray(0, 3)) === "239,187,191" ? bytes.subarray(3) : bytes;
 
 /* Asks whether edits that nobody saved may go. Until it is answered, another question gets a no. */
 function ask({ id }) {
@@ -85,7 +89,7 @@ export async function openFile(file) {
   if (state.files !== number) return false;
   const refuse = () => { tab("log"); return logTab.refuse(`The page cannot read ${file.name}.`, DEFAULTS); };
   if (!buffer) return replace(logTab, refuse);
-  const bytes = new Uint8Array(buffer), input = inUtf8(bytes), plain = plainLog(input);
+  const bytes = new Uint8Array(buffer), { input, plain, read } = inUtf8(bytes);
   const isOfScript = isScript(file.name, decoder.decode(plain.subarray(0, BEGIN)));
   const options = { ...DEFAULTS, file: file.name }, it = isOfScript ? scriptTab : logTab;
   return replace(it, async () => {
@@ -94,7 +98,7 @@ export async function openFile(file) {
     document.activeElement?.blur();
     scrollTo({ top: 0 });
     if (isOfScript) await scriptTab.open(decoder.decode(input), { ...options, input });
-    else await logTab.open(plain, { ...options, running: true, source: { origin: file.name, bytes } });
+    else await logTab.open(plain, { ...options, running: true, source: { origin: file.name, bytes, read } });
     return true;
   });
 }

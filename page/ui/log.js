@@ -250,7 +250,7 @@ class LogTab extends Tab {
   async fill() {
     const { pi, m, w, running } = this.asking(), k = this.value("k"), { isEdited } = this;
     const { bytes } = await this.display.ask("fill", { m }), file = `${this.source.file || "log"}, with its lost slots`;
-    const source = { ...this.source, file, before: `rdsrt slots --m ${m} < ` };
+    const source = { ...this.source, file, slots: `rdsrt slots --m ${m}` };
     await this.open(bytes, { pi, m, k, w, running, isEdited, file, source });
   }
 

@@ -4,6 +4,7 @@ import * as rdsrt from "../program/rdsrt.js";
 import { $, counted, filled, make } from "./parts.js";
 import * as picture from "./picture.js";
 
+const NO_FILE = "none: an example or a text of the page";
 /* The newest log, and the SHA-256 of its file. */
 const state = { tab: null, bytes: null, hash: "" };
 
@@ -17,9 +18,9 @@ export async function take(bytes) {
 /* A file name for a shell. */
 const quoted = (name) => /^[\w./-]+$/.test(name) ? name : `'${name.replaceAll("'", "'\\''")}'`;
 
-function command({ source: { file, origin = file, before }, answer }) {
-  const name = quoted(origin || "station.log");
-  return before ? `${before}${name} | ${answer.audit.command}` : `${answer.audit.command} < ${name}`;
+function command({ source: { file, origin = file, read, slots }, answer }) {
+  const [first, ...more] = [read?.by, slots, answer.audit.command].filter(Boolean);
+  return [`${first} < ${quoted(origin || "station.log")}`, ...more].join(" | ");
 }
 
 function sentences() {
@@ -40,7 +41,7 @@ function rows(tab) {
   const length = [counted(log.count, "slot"), byLines || tab.elapsed(log.count)].filter(Boolean).join(", ");
   const [pi, m, k, w] = ["pi", "m", "k", "w"].map((name) => tab.value(name));
   return [
-    ["File", source.origin || source.file || "none: an example or a text of the page"],
+    ["File", [source.origin || source.file || NO_FILE, source.read?.as].filter(Boolean).join(", ")],
     ["SHA-256", state.hash],
     ["Station", `PI ${pi}`],
     ["Length", length],
