@@ -124,12 +124,14 @@ class Faults:
             ("C201 2940 4849 0D20\n" * 2, "empty",
              f"{noted}{no_kind}: the yes says nothing; 2 groups 2B were not judged."),
             (f"{HI}\n", "",
-             "✓ Passes with M = 8 (0.70 s)The recorded slot keeps the rules. No receiver with this M shows a mix of two "
-             "texts, whichever groups it loses.Judged in 1 slot: 1 text, 0 names, 0 pairs of tags."),
+             "✓ Passes with M = 8 (0.70 s)The recorded slot keeps the rules. Take a receiver with this M whose groups arrive "
+             "unchanged, in order and at most K slots late. It shows no mix of two texts, whichever groups it loses."
+             "Judged in 1 slot: 1 text, 0 names, 0 pairs of tags."),
             (f"{HI}\n{NOTHING}\n", "",
-             "✓ Passes with M = 8 (0.70 s)The recorded slot keeps the rules. No receiver with this M shows a mix "
-             "of the recorded texts, whichever groups it loses.Judged in 2 slots, 1 without a group: 1 text, 0 names, 0 pairs "
-             "of tags.In a slot without a group none was sent, or it was not recorded. The yes covers the others."),
+             "✓ Passes with M = 8 (0.70 s)The recorded slot keeps the rules. Take a receiver with this M whose groups arrive "
+             "unchanged, in order and at most K slots late. It shows no mix of the recorded texts, whichever groups it loses."
+             "Judged in 2 slots, 1 without a group: 1 text, 0 names, 0 pairs of tags."
+             "In a slot without a group none was sent, or it was not recorded. The yes covers the others."),
             (f"{HI}\n" * 1188 + f"{NOTHING}\n" * 1812, "",
              "Judged in 3,000 slots, 1,812 without a group: 1 text, 0 names, 0 pairs of tags."),
         ]
