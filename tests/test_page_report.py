@@ -9,6 +9,8 @@ from tests.page_support import (EVERY_100, HI, NOTHING, YO, ChromiumCase, Firefo
                                 first_examples, idle, of, program, run_program, settle, text_of, to_tab, waited_for)
 from tests.support import PROGRAM, SECONDS
 
+# of a text with its ground
+CONTRAST = 4.5
 # what each row of the report begins with
 NAMES = ["File", "SHA-256", "Station", "Length", "Receiver", "Answer", "In words", "Faults", "Command", "Program"]
 
@@ -37,7 +39,7 @@ class Report:
         for name, log, how, answer in (
                 ("every 100.log", EVERY_100.encode(), "", breaks), ("yes.log", f"{HI}\n".encode() * 200, "", passes),
                 ("bad.log", f"{HI}\nbad\n".encode(), "", "Line 2 is malformed"), ("gap's.log", gap.encode(), "", "Cannot say"),
-                ("utf-16.log", f"# é\n{EVERY_100}".encode("utf-16"), wide, breaks),
+                ("utf-16.log", f"{EVERY_100}# é\n".encode("utf-16"), wide, breaks),
                 ("-be.log", b"\xFE\xFF" + EVERY_100.encode("utf-16-be"), wide, breaks),
                 ("gap.txt", gap.encode("utf-16"), wide, "Cannot say"),
                 ("two marks.log", f"\uFEFF{HI}\n".encode("utf-16"), wide, "Line 1 is malformed"),
@@ -90,20 +92,28 @@ class Report:
 
 class Chromium(Report, ChromiumCase):
     def test_a_report_is_saved_and_printed(self):
-        """On paper is the report alone, on one page. A script is printed without its controls."""
+        """On paper is the report alone, on one page. The start and a script are printed without their controls."""
         b = self.b
-        call(b, "probe.drop", "own.log", f"{HI}\n" * 40 + f"{YO}\n" * 40)
-        settle(b)
+        b.run("probe.stopRoad()")
         shown_on_paper = ("[...document.querySelectorAll('h1, button, input, canvas, figure, #verdict, #report')]"
                           ".filter(it => it.checkVisibility()).map(it => it.tagName)")
+        low = lambda: [it for it in call(b, "probe.contrasts", CONTRAST)[1] if " on " not in it]
+        # without motion no colour is on its way
+        still = [{"name": "prefers-reduced-motion", "value": "reduce"}]
+        on = lambda media: b.ask("Emulation.setEmulatedMedia", media=media, features=still)
+        on("print")
+        self.check("the start on paper", ({*b.run(shown_on_paper)}, low()), ({"FIGURE", "CANVAS"}, []))
+        on("screen")
+        call(b, "probe.drop", "own.log", f"{HI}\n" * 40 + f"{YO}\n" * 40)
+        settle(b)
         b.run("dispatchEvent(new Event('beforeprint'))")
-        b.ask("Emulation.setEmulatedMedia", media="print")
+        on("print")
         self.check("on paper", b.run(shown_on_paper), ["DIALOG"])
         self.check("with its answer", "Passes" in text_of(b, "#report-rows"), True)
         self.check("one page of A4", b.run("document.documentElement.scrollHeight") < 1100, True)
         to_tab(b, "script")
-        self.check("a script on paper", {*b.run(shown_on_paper)}, {"FIGURE", "CANVAS"})
-        b.ask("Emulation.setEmulatedMedia", media="")
+        self.check("a script on paper", ({*b.run(shown_on_paper)}, low()), ({"FIGURE", "CANVAS"}, []))
+        on("screen")
         to_tab(b, "log")
         with tempfile.TemporaryDirectory() as folder:
             b.ask("Browser.setDownloadBehavior", behavior="allow", downloadPath=folder)
