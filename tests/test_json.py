@@ -87,6 +87,12 @@ class Filter(Case):
         self.check("the time", (status, it.pop("rx_time")[:2], it), (0, "20", {"slot": 0, **HI}))
         self.check("a line of sim", ran('0 r0 text "HI"\n1 text "HI"\n'),
                    (1, [{"slot": 1, **HI}], "json: not a line of decode: 0 r0 text \"HI\"\n"))
+        for line in ('5 name "A \\\\x22"', '5 text "\\q"', '5 text "\u20AC\u65E5"', '5 tag1 NOTHING "HI"', '5 text 1 0',
+                     '5 item "HI"', '5 tag1 "HI"', '5 name ITEM.TITLE "HI"', '\u0665 text "HI"', '1' * 5000 + ' text "HI"'):
+            wanted = 1, [{"slot": 1, **HI}, {"slot": 6, **NOTHING}], f"json: not a line of decode: {line[:60]}\n"
+            self.check(f"a line that decode does not print: {line[:40]}", ran(f'1 text "HI"\n{line}\n6 text none\n'), wanted)
+        done = subprocess.run([JSON], input=b'1 text "HI \xff"\n', capture_output=True, timeout=SECONDS)
+        self.check("bytes that are no UTF-8", (done.returncode, done.stdout, done.stderr.count(b"\n")), (1, b"", 1))
         for words in (["--pi", "C20"], ["log"], ["--pi"]):
             self.check(f"refused {words}", ran("", *words)[:2], (2, []))
         with open("/dev/full", "wb") as full:

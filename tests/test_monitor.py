@@ -97,7 +97,8 @@ class Monitor(PackageCase):
             self.check(name, got, wanted)
             self.check(f"{name} has changes", len(got) > 10, True)
             lost = sum("----" in it or not it.startswith("C201") for it in logs[name])
-            counts = {"slots": SLOTS, "lost": lost, "changes": len(wanted), "malformed": int(name == "JAZZ")}
+            malformed = int(name == "JAZZ")
+            counts = {"slots": SLOTS + malformed, "lost": lost + malformed, "changes": len(wanted), "malformed": malformed}
             self.check(f"counts of {name}", {it: values[f"rdsrt_{it}_total", name] for it in counts}, counts)
             is_shown = wanted[-1]["radiotext"] is not None
             self.check(f"text of {name}", values["rdsrt_text_shown", name], is_shown)
