@@ -57,9 +57,10 @@ static void check_view(const struct rdsrt_view *v) {
     CHECK(v->name.is_shown <= 1 && v->item.is_shown <= 1 && v->item.toggle <= 1 && v->item.running <= 1);
 }
 
-/* The call writes all of the struct, whatever the other bytes are. */
+/* The call writes all of the struct, whatever the other bytes are. A name has two segments. */
 static void check_held(const struct rdsrt_held *one, const struct rdsrt_held *other) {
     CHECK(memcmp(one, other, sizeof *one) == 0);
+    CHECK(one->name.held < 4);
 }
 
 static void receiver(void) {

@@ -11,21 +11,21 @@ use Rattle.rds_receiver.specs.Confirmed.{counted}
 use Rattle.rds_ffi.specs.declared.held.RdsrtHeld.{RdsrtHeld}
 use Rattle.rds_ffi.specs.declared.held.RdsrtSegments.{RdsrtSegments}
 
--- in slot t bit a is 1 if the run has a segment with address a. The age is the number of slots since its newest segment
--- came; it is the dwell m if the run is empty
-pub record AreHeldIn (m t : ℕ) (the_run : List Segment) (s : RdsrtSegments) : Type 0 where
-  pub held : (a : ℕ) → a < 16 → contains_key (cells_of the_run) a ≡ (bit_at s.held a == 1)
+-- in slot t bit a is 1 if the run has a segment with address a, for each address of the service: their number is
+-- `count`. The age is the number of slots since its newest segment came; it is the dwell m if the run is empty
+pub record AreHeldIn (count m t : ℕ) (the_run : List Segment) (s : RdsrtSegments) : Type 0 where
+  pub held : (a : ℕ) → a < count → contains_key (cells_of the_run) a ≡ (bit_at s.held a == 1)
   pub age : HasAge m t the_run s.age
 
 -- these are the segments of the run at the end of what was heard, of what counts for this tuning
-abbrev pub AreSegmentsOf : (Message → Option Fragment) → Tuning → List (Option Message) → RdsrtSegments → Type 0
-AreSegmentsOf pick t heard =
-    AreHeldIn t.dwell (newest_slot t.first heard)
+abbrev pub AreSegmentsOf : ℕ → (Message → Option Fragment) → Tuning → List (Option Message) → RdsrtSegments → Type 0
+AreSegmentsOf count pick t heard =
+    AreHeldIn count t.dwell (newest_slot t.first heard)
     (run t.dwell (newest_slot t.first heard) (segments pick t.first (counted t heard)))
 
--- the segments that a receiver holds at the end of an input
+-- the segments that a receiver holds at the end of an input: a text has 16 addresses, and a name 2
 pub record IsHeld (t : Tuning) (input : List (Option Group)) (h : RdsrtHeld) : Type 0 where
   pub heard : List (Option Message)
   pub are : AreHeard t.programme input heard
-  pub text : AreSegmentsOf text_fragment t heard h.text
-  pub name : AreSegmentsOf name_fragment t heard h.name
+  pub text : AreSegmentsOf 16 text_fragment t heard h.text
+  pub name : AreSegmentsOf 2 name_fragment t heard h.name

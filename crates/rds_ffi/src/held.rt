@@ -1,5 +1,5 @@
 //! Which segments a receiver holds, as a plain struct.
-ghost use Rattle.std.specs.Prelude.{◌≡◌};
+ghost use Rattle.std.specs.Prelude.{◌≡◌, ◌<◌};
 ghost use Rattle.rds_ffi.specs.Held.{IsHeld};
 ghost use Rattle.rds_ffi.specs.ReceiverInMemory.{WhereItIs};
 
@@ -22,14 +22,24 @@ pub struct RdsrtHeld {
     pub name: RdsrtSegments,
 }
 
-/// Writes which segments of what counts the receiver holds.
+/// The bits of the two segments of a name.
+const NAME_SEGMENTS: u16 = 0b11;
+
+/// Writes which segments of what counts the receiver holds. Whatever the bytes of the receiver are, no bit of the name is
+/// set that stands for no segment of a name.
 #[unsafe(no_mangle)]
 pub extern "C" fn rdsrt_receiver_held(receiver: &StoredReceiver, held: &mut RdsrtHeld)
-    ensures { WhereItIs receiver.now (λ t input. IsHeld t input held.new) }
+    ensures held { WhereItIs receiver.now (λ t input. IsHeld t input held.new) }
+    ensures name { held.new.name.held < 4 }
 {
+    let text = held_in(&receiver.display.text, receiver.display.text_age());
+    let name = held_in(&receiver.display.name, receiver.display.name_age());
     *held = RdsrtHeld {
-        text: held_in(&receiver.display.text, receiver.display.text_age()),
-        name: held_in(&receiver.display.name, receiver.display.name_age()),
+        text,
+        name: RdsrtSegments {
+            held: name.held & NAME_SEGMENTS,
+            age: name.age,
+        },
     };
 }
 

@@ -1,10 +1,19 @@
-use Rattle.rds_ffi.proofs.HeldSegments.{of_run}
+use Rattle.std.proofs.Common.{ℕ, ap, ◌∙◌, arith, bit_and}
+use Rattle.std.specs.Int.{bit_at}
+use Rattle.rds_ffi.specs.declared.held.RdsrtSegments.{RdsrtSegments}
+use Rattle.rds_ffi.proofs.HeldSegments.{of_name, of_run}
 use Rattle.rds_ffi.proofs.held.rdsrt_receiver_held.Goals as goal
 
-pub returns : goal.returns
-returns c t input s = record {
-  heard = s.at.heard;
-  are = s.at.are;
-  text = of_run _ _ _ _ _ c.args.receiver.now.display.text _ (rw c.text_age.ensures at c.held_in.ensures) s.at.holds.display.text;
-  name = of_run _ _ _ _ _ c.args.receiver.now.display.name _ (rw c.name_age.ensures at c.held_in-2.ensures) s.at.holds.display.name;
-}
+pub returns-clause-held : goal.returns-clause-held
+returns-clause-held c t input s =
+    let text = rw c.text_age.ensures at c.held_in-text.ensures in
+    let name = rw c.name_age.ensures at c.held_in-name.ensures in
+    record {
+      heard = s.at.heard;
+      are = s.at.are;
+      text = of_run 16 _ _ _ _ _ c.args.receiver.now.display.text _ (omega arith)
+          (λ a h. ap (λ (r : RdsrtSegments). bit_at r.held a) text) (ap (λ (r : RdsrtSegments). r.age) text) s.at.holds.display.text;
+      name = of_run 2 _ _ _ _ _ c.args.receiver.now.display.name _ (omega arith)
+          (λ a h. ap (λ (r : RdsrtSegments). bit_at (bit_and r.held 3) a) name ∙ of_name c.args.receiver.now.display.name.mask a h)
+          (ap (λ (r : RdsrtSegments). r.age) name) s.at.holds.display.name;
+    }
