@@ -37,6 +37,18 @@ static inline int digit(unsigned char c) {
     return -1;
 }
 
+/* Reads the four digits of a block. Returns false if one is no digit; nothing behind that byte is read. */
+static inline bool read_block(const unsigned char *at, uint16_t *block) {
+    unsigned word = 0;
+    for (int i = 0; i < 4; i++) {
+        int d = digit(at[i]);
+        if (d < 0) return false;
+        word = 16 * word + (unsigned)d;
+    }
+    *block = (uint16_t)word;
+    return true;
+}
+
 enum said { SKIP, GROUP, NOTHING, BAD };
 
 /* What the line says. */
@@ -54,13 +66,7 @@ static inline enum said read_line(const struct line *line, uint16_t blocks[4]) {
             said = NOTHING;
             continue;
         }
-        unsigned word = 0;
-        for (int i = 0; i < 4; i++) {
-            int d = digit(at[i]);
-            if (d < 0) return BAD;
-            word = 16 * word + (unsigned)d;
-        }
-        blocks[b] = (uint16_t)word;
+        if (!read_block(at, &blocks[b])) return BAD;
     }
     return said;
 }

@@ -1,7 +1,8 @@
 /* A receive loop with a clock of slots (radio.h). Groups come from a demodulator, with times of its clock.
  *
  * Each line of the input has a time in microseconds, followed by the four blocks of the group that was complete then. A
- * line with only a time is a timer: no group came up to then. tuner.c has the loop for a tuner chip with an interrupt.
+ * line with only a time is a timer: no whole group came up to then. So is a line with damaged blocks: its slot is lost.
+ * tuner.c has the loop for a tuner chip with an interrupt.
  *
  *     export PKG_CONFIG_PATH=~/rdsrt/lib/pkgconfig
  *     cc receive.c $(pkg-config --cflags --libs rdsrt) -Wl,-rpath,$(pkg-config --variable=libdir rdsrt) -o receive
@@ -10,6 +11,7 @@
  * Arguments: PI [DWELL [WINDOW]]. `./install ~/rdsrt` installs the library. */
 #include <rdsrt.h>
 
+#include "log.h"
 #include "radio.h"
 #include "view.h"
 
@@ -19,6 +21,14 @@
 
 static void show(const struct radio *radio, const struct rdsrt_view *was) {
     print_changes((unsigned long)radio->slot, was, &radio->view);
+}
+
+/* Reads the blocks after a time: a space and four digits for each, up to the end of the line or another space. */
+static bool read_blocks(const char *at, uint16_t blocks[4]) {
+    for (int b = 0; b < 4; b++, at += 5) {
+        if (*at != ' ' || !read_block((const unsigned char *)at + 1, &blocks[b])) return false;
+    }
+    return *at == 0 || strchr(" \r\n", *at) != NULL;
 }
 
 int main(int count, char **words) {
@@ -36,10 +46,9 @@ int main(int count, char **words) {
     while (fgets(line, sizeof line, stdin)) {
         uint64_t now;
         uint16_t blocks[4];
-        int read = sscanf(line, "%" SCNu64 " %" SCNx16 " %" SCNx16 " %" SCNx16 " %" SCNx16, &now, blocks, blocks + 1,
-                          blocks + 2, blocks + 3);
-        if (read < 1) return 1;
-        if (read == 5) {
+        int end;
+        if (sscanf(line, "%" SCNu64 "%n", &now, &end) < 1) return 1;
+        if (read_blocks(line + end, blocks)) {
             radio_group(&radio, now, blocks);
         } else {
             radio_time(&radio, now);

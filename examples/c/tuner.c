@@ -21,6 +21,7 @@
  * Arguments: PI [WINDOW]. `./install ~/rdsrt` installs the library. */
 #include <rdsrt.h>
 
+#include "log.h"
 #include "radio.h"
 #include "view.h"
 
@@ -88,16 +89,23 @@ static void show(const struct radio *radio, const struct rdsrt_view *was) {
     print_changes((unsigned long)radio->slot, was, &radio->view);
 }
 
-/* Reads the numbers of a line. Returns how many there are. */
+/* Reads the numbers of a line. Returns how many there are, or 0 if another byte follows. */
 static int read_numbers(char *line, unsigned long numbers[NUMBERS]) {
     int found;
     for (found = 0; found < NUMBERS; found++) {
+        uint16_t block;
         char *end;
-        numbers[found] = strtoul(line, &end, found >= 1 && found <= 4 ? 16 : 10);
+        if (found >= 1 && found <= 4) {
+            if (*line != ' ' || !read_block((const unsigned char *)line + 1, &block)) break;
+            numbers[found] = block;
+            line += 5;
+            continue;
+        }
+        numbers[found] = strtoul(line, &end, 10);
         if (end == line) break;
         line = end;
     }
-    return found;
+    return *line == 0 || strchr("\r\n", *line) ? found : 0;
 }
 
 int main(int count, char **words) {

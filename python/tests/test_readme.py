@@ -47,7 +47,8 @@ LOG = "F201 2140 4849 0D20\n" + "---- ---- ---- ----\n" * 128
 
 
 def blocks():
-    """Returns the Python lines of README.md: of a log, of GNU Radio, of a log with times and of a station."""
+    """Returns the Python lines of README.md: of a log, of one with malformed lines, of GNU Radio, of a log with times and of
+    a station."""
     with open(os.path.join(PYTHON, "README.md"), encoding="utf-8") as file:
         return re.findall(r"```python\n(.*?)```", file.read(), re.S)
 
@@ -66,23 +67,27 @@ def ran(lines, given=""):
 
 class Readme(unittest.TestCase):
     def test_blocks(self):
-        self.assertEqual(len(blocks()), 4)
+        self.assertEqual(len(blocks()), 5)
 
     def test_a_log(self):
         self.assertEqual(ran(blocks()[0], LOG), (0, ["0 HI None None", "128 None None None"], ""))
 
+    def test_a_malformed_line_is_a_lost_slot(self):
+        log = LOG.replace("---- ---- ---- ----", "---- ---- --")
+        self.assertEqual(ran(blocks()[1], log), (0, ["0 HI", "128 None"], ""))
+
     def test_gnu_radio(self):
-        self.assertEqual(ran(blocks()[1]), (0, ["0 HI", "128 "], ""))
+        self.assertEqual(ran(blocks()[2]), (0, ["0 HI", "128 "], ""))
 
     def test_a_log_with_times(self):
         """The text goes 128 slots after its group, 11.2 s, although only later groups have a line."""
         log = "".join(f"F201 {group} @2024/06/01 07:58:{time}\n"
                       for group, time in (("2140 4849 0D20", "12.00"), ("0548 0000 0000", "40.00")))
         begins = 1717228692
-        self.assertEqual(ran(blocks()[2], log), (0, [f"{begins}.0 HI", f"{begins + 11.2:.1f} "], ""))
+        self.assertEqual(ran(blocks()[3], log), (0, [f"{begins}.0 HI", f"{begins + 11.2:.1f} "], ""))
 
     def test_a_station(self):
-        status, lines, errors = ran(blocks()[3])
+        status, lines, errors = ran(blocks()[4])
         self.assertEqual((status, errors), (0, ""))
         shown = [it.partition(" ")[2] for it in lines]
         guns, long, equal = "Guns N' Roses - \"Estranged\"", "Björk - " + "x" * 56, "y" * 40 + " - " + "y" * 21
