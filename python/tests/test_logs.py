@@ -13,6 +13,13 @@ HI = (0xC201, 0x2140, 0x4849, 0x0D20)
 DAY = 86_400
 
 
+class OfFour(tuple):
+    """A sequence that says another length than it has."""
+
+    def __len__(self):
+        return 4
+
+
 class Logs(unittest.TestCase):
     def test_times_of_lines(self):
         """A date counts from 1970, with its zone; a line without a time is left out."""
@@ -70,10 +77,14 @@ class Logs(unittest.TestCase):
         for given in ("file.log", b"C201 2140 4849 0D20\n"):
             with self.assertRaisesRegex(TypeError, "open file or a list"):
                 list(read_log(given))
-        for group in (b"abcd", "abcd", {1, 2, 3, 4}, {1: 1, 2: 2, 3: 3, 4: 4}, (1, 2, 3, 4.0)):
+        for given in ([1, 2], [None], [(0xC201, 1, 2, 3)]):
+            with self.assertRaisesRegex(TypeError, "a line of a log is a str or bytes and not"):
+                list(read_log(given))
+        self.assertEqual(list(read_log([bytearray(b"C201 2140 4849 0D20")])), [HI])
+        for group in (b"abcd", memoryview(b"abcd"), "abcd", {1, 2, 3, 4}, {1: 1, 2: 2, 3: 3, 4: 4}, (1, 2, 3, 4.0)):
             with self.assertRaisesRegex(TypeError, "a group is|a block is an int"):
                 format_group(group)
-        for group in ((1, 2, 3, 0x12345), (1, 2, 3, -5), (1, 2, 3)):
+        for group in ((1, 2, 3, 0x12345), (1, 2, 3, -5), (1, 2, 3), OfFour((1, 2)), OfFour((1, 2, 3, 4, 5))):
             with self.assertRaisesRegex(ValueError, "a block is|a group has 4 blocks"):
                 format_group(group)
         for dwell in (-1, 0, 65536):
@@ -95,6 +106,26 @@ class Times(unittest.TestCase):
         for grain in (-0.1, SLOT):
             with self.assertRaises(ValueError):
                 list(slots([(0.0, HI)], grain=grain))
+
+    def test_a_clock_may_begin_anywhere(self):
+        """Only the time between two groups counts: a clock from a trigger begins below 0."""
+        self.assertEqual(list(slots([(-0.05, HI), (0.05, HI)])), [HI, HI])
+        self.assertEqual(list(slots([(-1.0, None), (-0.0876, HI), (0.0876, HI)])), [None] * 10 + [HI, None, HI])
+        timed, rng = [], random.Random(4)
+        for _ in range(300):
+            timed.append(((timed[-1][0] if timed else 0) + rng.choice([0.0625, 0.125, 2.5, -1.0]), rng.choice([HI, None])))
+        for begins in (-20.0, -1e6, 1e6):
+            self.assertEqual(list(slots((begins + time, it) for time, it in timed)), list(slots(timed)))
+        # a microsecond is no part of such a time
+        for times in ((1e300, 1e300), (-1e300, -1e300)):
+            self.assertEqual(list(slots([(it, HI) for it in times])), [HI, HI])
+        for times in ((1e300, 2e300), (0.0, 2.0 ** 64), (0.0, 1e300), (2.0 ** 64 / 1e6, 0.0)):
+            self.assertEqual(list(slots([(it, HI) for it in times], dwell=3)), [HI, None, None, None, HI])
+        for time in (math.inf, -math.inf, math.nan, 1e305, 10 ** 400):
+            with self.assertRaisesRegex(ValueError, "a time is"):
+                list(slots([(time, HI)]))
+        with self.assertRaises(TypeError):
+            list(slots([("5.0", HI)]))
 
     def test_times_without_a_group(self):
         # slots 1 to 11 are over after 1 s, less the grain

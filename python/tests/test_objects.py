@@ -9,6 +9,7 @@ import re
 import sys
 import threading
 import unittest
+import weakref
 
 import by_chance
 import rdsrt
@@ -38,6 +39,10 @@ def on_air(text, dwell=1):
     sent(encoder, dwell)
     encoder.set_text(text)
     return encoder
+
+
+class Own(Receiver):
+    pass
 
 
 class PlainSegments:
@@ -336,6 +341,23 @@ class Copies(unittest.TestCase):
         for change in ({"_its": b""}, {"_abi": 1}):
             with self.assertRaises(ValueError):
                 Receiver(1).__setstate__({**state, **change})
+        less = [{name: it for name, it in state.items() if name != left} for left in state]
+        for other in ({}, {**state, "more": 1}, Audit(1).__getstate__(), *less):
+            receiver = Receiver(2)
+            with self.assertRaises(ValueError):
+                receiver.__setstate__(other)
+            self.assertEqual(receiver, Receiver(2))
+
+    def test_no_attribute_can_be_added(self):
+        """A typing error would be silent. A class of a user may have its own."""
+        for it in self.objects():
+            with self.assertRaises(AttributeError):
+                it.Window = 8
+        own = Own(0xC201, 4)
+        own.station = "JAZZ"
+        for other in (copy.copy(own), pickle.loads(pickle.dumps(own))):
+            self.assertEqual((other, other.station), (own, "JAZZ"))
+        self.assertIs(weakref.ref(own)(), own)
 
     def test_exceptions_are_pickled(self):
         for one in (Silent(5), Held(6), NoText(), OutOfText(2), OutOfText(1, "artist"),

@@ -13,6 +13,7 @@ _BLOCK = "([0-9A-Fa-f]{4}|----)"
 _WORD = re.compile(_BLOCK)
 _LINE = re.compile(rf"{_BLOCK} {_BLOCK} {_BLOCK} {_BLOCK}(?: |\Z)")
 _DATED = re.compile(r"@?\d{4}[/-]")
+_MOST = 2 ** 64 - 1
 
 
 def in_range(what: str, number: SupportsIndex, least: int, most: int) -> int:
@@ -66,6 +67,8 @@ def _read(lines: Iterable[Union[str, bytes]], first: int) -> Iterator[Tuple[Opti
     if isinstance(lines, (str, bytes)):
         raise TypeError(f"the lines of a log are an open file or a list and not {type(lines).__name__}")
     for number, line in enumerate(lines, first):
+        if not isinstance(line, (str, bytes, bytearray)):
+            raise TypeError(f"a line of a log is a str or bytes and not {type(line).__name__}")
         # each byte of what follows a group is a character of Latin-1
         text = line if isinstance(line, str) else line.decode("latin-1")
         text = text[:-1] if text.endswith("\n") else text
@@ -114,16 +117,28 @@ def read_timed(lines: Iterable[Union[str, bytes]], first: int = 1) -> Iterator[T
 
 def blocks_of(group: Sequence[SupportsIndex]) -> List[int]:
     """Returns the four blocks of a group. Raises TypeError or ValueError if it is not a group."""
-    if isinstance(group, (str, bytes, bytearray, dict)) or not hasattr(group, "__getitem__"):
+    if isinstance(group, (str, bytes, bytearray, memoryview, dict)) or not hasattr(group, "__getitem__"):
         raise TypeError(f"a group is a tuple of four numbers and not {type(group).__name__}")
-    if len(group) != 4:
-        raise ValueError(f"a group has 4 blocks and not {len(group)}")
-    return [in_range("a block", it, 0, 0xFFFF) for it in group]
+    count, blocks = len(group), []
+    if count == 4:
+        blocks = [in_range("a block", it, 0, 0xFFFF) for it in group]
+        # a class may say another length than it has
+        count = len(blocks)
+    if count != 4:
+        raise ValueError(f"a group has 4 blocks and not {count}")
+    return blocks
 
 
 def format_group(group: Optional[Sequence[SupportsIndex]]) -> str:
     """Returns the line of a log for this group, or for None the line of a lost slot. The line has no line end."""
     return "---- ---- ---- ----" if group is None else " ".join(f"{it:04X}" for it in blocks_of(group))
+
+
+def _microseconds(seconds: float) -> int:
+    try:
+        return round(seconds * 1e6)
+    except (OverflowError, ValueError):
+        raise ValueError(f"a time is {seconds!r} and not a number of seconds") from None
 
 
 def slots(timed: Iterable[Tuple[float, Optional[Group]]], grain: float = 0.02,
@@ -150,13 +165,15 @@ def timed_slots(timed: Iterable[Tuple[float, Optional[Group]]], grain: float = 0
     fine = round(grain * 1e6)
 
     def lost_between(earlier: int, later: int) -> Optional[int]:
-        count = c.library().rdsrt_lost_slots(earlier, later, fine)
+        # the library has no times below 0
+        apart = later - earlier
+        count = c.library().rdsrt_lost_slots(0, min(apart, _MOST), fine) if apart >= 0 else c.UNKNOWN
         return None if count == c.UNKNOWN else int(count)
 
     last: Optional[int] = None          # the time of the last group, from which slots count
     latest = lost = 0                   # the latest time, and the lost slots since the last group
     for seconds, group in timed:
-        time = round(seconds * 1e6)
+        time = _microseconds(seconds)
         reached = max(time, latest)
         if last is None:
             last = latest = reached = time

@@ -93,7 +93,9 @@ def _name_of(it: c.Name) -> Optional[str]:
 
 class _Plain:
     """A struct of the library, for a programme and a dwell. It can be copied, pickled and compared. Two objects are
-    equal if their structs have the same bytes. Only the calls change it: its numbers are read-only."""
+    equal if their structs have the same bytes. Only the calls change it: its numbers are read-only, and no other attribute
+    can be set."""
+    __slots__ = ("_its", "_pi", "_dwell", "__weakref__")
     _type: Any
     _its: Any
     _pi: int
@@ -109,15 +111,29 @@ class _Plain:
         """The dwell in slots."""
         return self._dwell
 
+    @classmethod
+    def _fields(cls) -> List[str]:
+        """Returns the names of the attributes of this package's classes."""
+        return [name for kind in cls.__mro__ for name in getattr(kind, "__slots__", ()) if name != "__weakref__"]
+
     def __getstate__(self) -> Dict[str, Any]:
-        return {**self.__dict__, "_its": bytes(self._its), "_abi": c.ABI}
+        # a class of a user may have attributes of its own
+        more = getattr(self, "__dict__", {})
+        return {**more, **{name: getattr(self, name) for name in self._fields()}, "_its": bytes(self._its), "_abi": c.ABI}
 
     def __setstate__(self, state: Dict[str, Any]) -> None:
-        its = state["_its"]
-        self.__dict__.update({name: it for name, it in state.items() if name not in ("_its", "_abi")})
-        if state["_abi"] != c.ABI or len(its) != ctypes.sizeof(self._type):
+        fields = self._fields()
+        more = {name: it for name, it in state.items() if name not in ("_abi", *fields)}
+        if not {"_abi", *fields} <= set(state) or (more and not hasattr(self, "__dict__")):
+            raise ValueError("this state has other fields than this class")
+        if state["_abi"] != c.ABI or len(state["_its"]) != ctypes.sizeof(self._type):
             raise ValueError("this state is of another version of the library")
-        self._its = self._type.from_buffer_copy(its)
+        its = self._type.from_buffer_copy(state["_its"])
+        for name in fields:
+            setattr(self, name, state[name])
+        self._its = its
+        if more:
+            self.__dict__.update(more)
 
     def __copy__(self: _Any) -> _Any:
         other = type(self).__new__(type(self))
@@ -139,6 +155,7 @@ class Receiver(_Plain):
 
     With a `window`, 2 to 255 slots, it shows only what it received twice less than so many slots apart. Its groups may
     have corrected bits."""
+    __slots__ = ("_window",)
     _type = c.Receiver
     _window: Optional[int]
 
@@ -210,6 +227,7 @@ class Encoder(_Plain):
     `pty` is the programme type, 0 to 31; `tp` the flag of traffic announcements; `late` how many slots late a group may
     reach a receiver, 0 to 1024. `name` below is the programme type name (PTYN, group 10A). The encoder sends no station
     name (PS)."""
+    __slots__ = ("_pty", "_tp", "_late")
     _type = c.Encoder
 
     def __init__(self, pi: SupportsIndex, *, pty: SupportsIndex = 0, tp: bool = False, dwell: SupportsIndex = c.DEFAULT_DWELL,
@@ -334,6 +352,7 @@ class Encoder(_Plain):
 
 class _Judge(_Plain):
     """What judges the groups of an encoder, slot by slot."""
+    __slots__ = ("_late", "_slots")
     _call: str
 
     def __init__(self, pi: SupportsIndex, dwell: SupportsIndex = c.DEFAULT_DWELL, late: SupportsIndex = 0, *,
@@ -364,6 +383,7 @@ class Audit(_Judge):
 
     A station that sends segments less often than every `dwell` + `late` slots can get a fault although it keeps the
     spacing."""
+    __slots__ = ()
     _type, _call = c.Audit, "rdsrt_audit"
 
     def __repr__(self) -> str:
@@ -407,6 +427,7 @@ class Listing(_Judge):
     """Lists, slot by slot, all faults of an encoder. Its arguments are those of `Audit`, and its first fault is that of
     an audit. Each text or name has each fault at most once, in the first slot in which it breaks the rule. Other bytes
     at an address of a text begin a new text (FORMATS.md, "All faults of a log")."""
+    __slots__ = ()
     _type, _call = c.Listing, "rdsrt_listing"
 
     def __repr__(self) -> str:
