@@ -7,6 +7,43 @@ const probe = (() => {
   const at = (id) => document.getElementById(id);
   const tabs = { log: logTab, script: scriptTab }, timelineOf = (tab) => tabs[tab].timeline;
 
+  /* What the page waits for besides its workers: files, links, hashes and the clipboard. `idle` waits for it too. */
+  const awaited = new Set();
+  function noted(promise) {
+    const done = () => awaited.delete(promise);
+    awaited.add(promise);
+    promise.then(done, done);
+    return promise;
+  }
+  function note(prototype, name) {
+    const plain = prototype[name];
+    prototype[name] = function (...given) { return noted(plain.apply(this, given)); };
+  }
+  note(Blob.prototype, "arrayBuffer");
+  // a page that was not sent safely has neither
+  if (window.SubtleCrypto) note(SubtleCrypto.prototype, "digest");
+  if (window.Clipboard) note(Clipboard.prototype, "writeText");
+  const pieces = ReadableStream.prototype[Symbol.asyncIterator];
+  ReadableStream.prototype[Symbol.asyncIterator] = function (...given) {
+    const all = pieces.apply(this, given), next = all.next.bind(all);
+    all.next = () => noted(next());
+    return all;
+  };
+
+  /* Stops the clock by which a cursor plays: from then on it goes by what `pass` gives it. */
+  const clock = { now: 0 }, nextFrame = requestAnimationFrame.bind(window);
+  function stopClock() {
+    clock.now = performance.now();
+    performance.now = () => clock.now;
+    window.requestAnimationFrame = (step) => nextFrame(() => step(clock.now));
+  }
+
+  /* Lets so many slots pass at this speed, and waits until they are shown: each frame calls those before it first. */
+  async function pass(slots, speed) {
+    clock.now += 1000 * $lines.seconds(slots) / speed;
+    for (let i = 0; i < 2; i++) await new Promise((done) => { nextFrame(done); });
+  }
+
   /* Whether the page is ready, or says that it cannot run. */
   const isReady = () => page.state.ready || at("no-engine").textContent !== "";
 
@@ -486,14 +523,20 @@ const probe = (() => {
     return longest;
   }
 
+  /* The milliseconds that this machine takes now for a fixed piece of work with strings, as tasks of the page are. */
+  function yardstick() {
+    const words = Array.from({ length: 200_000 }, (_, i) => `${7919 * i % 200_000},text,Song ${i}`);
+    return timed(() => words.join("\n").split("\n").sort().map((it) => it.split(",")));
+  }
+
   /* Waits until the tabs have all their answers, and are drawn. */
   async function idle() {
     const tabs = [logTab, scriptTab, changes.state];
     let work;
     do {
       work = tabs.map((it) => it.work);
-      await Promise.all(work);
-    } while (work.some((it, i) => it !== tabs[i].work));
+      await Promise.allSettled([...work, ...awaited]);
+    } while (awaited.size || work.some((it, i) => it !== tabs[i].work));
     await new Promise((done) => { requestAnimationFrame(() => setTimeout(done)); });
   }
 
@@ -561,8 +604,8 @@ const probe = (() => {
     axis, axisTexts, bars, begins, bottoms, caption, choose, chosenLine, codes, colour, column, columnsOf, columnsOfInk, contrasts, countShows,
     cutNames, displays, drives, drop, dropAll, elementsOfHue, endJudge, endsOfLanes, endsWithTimeline, faint, fill, hue, huesOf,
     huesOfLane, idle, isReady, keepBack, labels, lanes, large, layout, letGo, longestTask, lose, lost, many, marks, move, moveCar,
-    open, openFile, outputOfScript, pick, pictured, place, plays, roadAsScript, roadIsPlayed, run, runs, savedBy, scriptOf,
-    sharesOf, showWitness, shownTimes, sight, slotAt, slotsOfLog, someRuns, stopRoad, swatches, tempt, ticks, time, tunnels,
-    typeAndLeave, witness, zoom,
+    open, openFile, outputOfScript, pass, pick, pictured, place, plays, roadAsScript, roadIsPlayed, run, runs, savedBy, scriptOf,
+    sharesOf, showWitness, shownTimes, sight, slotAt, slotsOfLog, someRuns, stopClock, stopRoad, swatches, tempt, ticks, time, tunnels,
+    typeAndLeave, witness, yardstick, zoom,
   };
 })();

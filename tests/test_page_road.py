@@ -83,36 +83,39 @@ class Road:
         b.key("End")
         self.check("the car goes to the end", b.run(CAR), SLOTS - 1)
         call(b, "probe.choose", "road-speed", 32)
+        b.run("probe.stopClock()")
         click(b, "#road-play")
-        self.check("it plays from the start", b.until(f"{CAR} > 0 && {CAR} < 95"), True)
-        self.check("and stops at the end", b.until(f"{CAR} === 95 && !probe.drives()"), True)
+        for slots, at, drives in ((0.5, 0, True), (10, 10, True), (40, 50, True), (60, SLOTS - 1, False), (60, SLOTS - 1, False)):
+            b.run(f"probe.pass({slots}, 32)")
+            self.check("it plays from the start, and stops at the end", b.run(f"[{CAR}, probe.drives()]"), [at, drives])
 
     def test_a_log_and_a_script_play(self):
         """A button and the space bar run the cursor. A link with `&play` plays at once."""
         b = self.b
         call(b, "probe.open", "log", EVERY_100, {"pi": "C201", "m": 8})
         settle(b)
+        b.run("probe.stopClock()")
         for tab in ("log", "script"):
             to_tab(b, tab)
-            slot = f"Number(document.querySelector('#{tab}-time canvas').ariaValueNow)"
             last = int(of(b, f"#{tab}-time canvas", "ariaValueMax"))
+            after = lambda slots: (b.run(f"probe.pass({slots}, 32)"), cursor(b, tab), b.run(f"probe.plays('{tab}')"))[1:]
             b.run(f"document.querySelector('#{tab}-time select').value = 32")
             move(b, tab, 3)
             click(b, f"#{tab}-time .play")
-            self.check(f"{tab}: it plays", b.until(f"{slot} > 5"), True)
+            self.check(f"{tab}: it plays", [after(0.5), after(20)], [(3, True), (23, True)])
             focus(b, tab)
             b.key(" ")
-            stopped = b.run(f"[probe.plays('{tab}'), {slot}]")
-            self.check(f"{tab}: the space bar stops it", (stopped[0], cursor(b, tab)), (False, stopped[1]))
+            self.check(f"{tab}: the space bar stops it", [after(0), after(20)], [(23, False)] * 2)
             move(b, tab, last - 8)
             b.key(" ")
-            self.check(f"{tab}: it stops at the end", b.until(f"{slot} === {last} && !probe.plays('{tab}')"), True)
+            self.check(f"{tab}: it stops at the end", [after(5.5), after(20), after(20)],
+                       [(last - 3, True), (last, False), (last, False)])
         script = packed("".join(f"text,{it},1,G\n" for it in range(40)).encode())
         visit(b, f"{URL}#script={script}&m=8&slot=4&play&end")
         if b.run("matchMedia('(prefers-reduced-motion: reduce)').matches"):
-            self.check("but not for who wants no motion", cursor(b, "script"), 4)
+            self.check("but not for who wants no motion", (cursor(b, "script"), b.run("probe.plays('script')")), (4, False))
         else:
-            self.check("a link plays", b.until("Number(document.querySelector('#script-time canvas').ariaValueNow) > 6"), True)
+            self.check("a link plays", b.until("Number(document.querySelector('#script-time canvas').ariaValueNow) === 39"), True)
 
     def test_a_link_leads_over_the_road(self):
         b = self.b
