@@ -23,6 +23,10 @@ SEED = 20261123
 TABS = ("log", "script", "dwell")
 SCHEMES = ("light", "dark")
 READY = "probe.isReady()"
+# milliseconds of probe.yardstick() on a quiet machine: that of the bounds for tasks
+YARDSTICK = 30
+# a module with a memory of 64 bits
+WIDE = "WebAssembly.validate(Uint8Array.of(0, 97, 115, 109, 1, 0, 0, 0, 5, 3, 1, 4, 1))"
 HI = "C201 2140 4849 0D20"
 NOTHING = "---- ---- ---- ----"
 GROUPS = [HI, "C201 2150 594F 0D20", "C201 2140 4A41 5A5A", "C201 2141 2046 4D0D", "C201 A140 504F 5020",
@@ -159,12 +163,17 @@ def example_of(b, tab, name):
 
 
 def longest_task(b, does, most):
-    """Returns the longest task of the page in ms while a script, and all that it causes, goes on. Of three tries the
-    best one counts, for a machine may have other work."""
+    """Returns the longest task of the page while a script, and all that it causes, goes on: in milliseconds of the machine
+    with the yardstick. A fixed piece of work before and after it says how fast this machine is now. Of three tries the
+    best one counts."""
     longest, pause = [], "new Promise(done => setTimeout(done, 300))"
+    waits = f"async () => {{ await ({does}); await {pause}; await probe.idle(); }}"
+    # the first yardstick is not compiled yet
+    b.run("probe.yardstick()")
     while len(longest) < 3 and (not longest or longest[-1] > most):
-        waits = f"async () => {{ await ({does}); await {pause}; await probe.idle(); }}"
-        longest.append(b.run(f"probe.longestTask({waits})"))
+        task, *yards = b.run(f"(async () => [probe.yardstick(), await probe.longestTask({waits}), probe.yardstick()])()"
+                             ".then(([before, task, after]) => [task, before, after])")
+        longest.append(round(task * 2 * YARDSTICK / sum(yards)))
     return min(longest)
 
 
@@ -218,6 +227,8 @@ class PageCase(Case):
             raise RuntimeError(f"no page in {FOLDER}: page/build makes it")
         cls.b = cls.driver.Browser()
         cls.addClassCleanup(cls.b.close)
+        if not cls.b.run(WIDE):
+            raise unittest.SkipTest(f"this {cls.name} is too old for the page: it has no WebAssembly with 64-bit memory")
 
     def setUp(self):
         self.b.size(1280, 900)

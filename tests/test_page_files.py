@@ -212,8 +212,6 @@ class Files:
         for text, at, wanted in ((EVERY_100, "h1", (in_log, EVERY_100)), (HI, "#log-find", (in_log, EVERY_100)),
                                  (example("tunnel.csv").decode(), "h1", (in_script, EVERY_100))):
             call(b, f"({paste.format()})", text, at)
-            b.until("new Promise(done => setTimeout(() => done(true), 100))")
-            idle(b)
             self.check(f"pasted over {at}: {text[:9]!r}", (hidden(b), of(b, "#log-text", "value")), wanted)
         call(b, "probe.drop", "my.station.log", EVERY_100)
         settle(b)

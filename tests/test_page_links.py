@@ -76,7 +76,7 @@ class Links:
         dice = random.Random(SEED)
         open_script(b, "".join(f"text,{dice.random()},1,\n" for _ in range(20_000)))
         click(b, "#script-share")
-        settle(b)
+        b.until("document.querySelector('#script-saved').textContent !== ''")
         self.check("a script that is too long for one", text_of(b, "#script-saved"),
                    "This script is too long for a link: save it as a file.")
 

@@ -7,7 +7,7 @@ from tests.page_support import (HI, NOTHING, URL, ChromiumCase, FirefoxCase, cal
                                 settle, shown, text_of, to_tab, verdict_of, visit)
 from tests.slot import SLOT
 
-# milliseconds: on a quiet machine no task is above 200, and other work may triple that
+# milliseconds of the machine with the yardstick: there no task is above 200
 LONGEST_TASK = 600
 MOST_MEMORY = 1 << 30
 ROWS, RECEIVERS = 200_000, 8
@@ -170,11 +170,13 @@ class Chromium(Long, ChromiumCase):
             move(b, "script", 1000)
             self.check("and shown", shown(b, "script-air"), TYPED)
             waits = "document.querySelector('#script-wait').checkVisibility()"
-            b.run("probe.choose('command', 'restart')")
+            # a fast machine plays the script before anybody sees that
+            b.run("probe.keepBack(answer => answer.replies); probe.choose('command', 'restart')")
             dim = "[...document.querySelectorAll('#script .stage, #script-count, #script-time')]" \
                 ".map(it => getComputedStyle(it).opacity)"
             self.check("a line says that it is played, and the old result is pale", (b.until(waits), b.run(dim)),
                        (True, ["0.35"] * 3))
+            b.run("probe.letGo(); probe.choose('command', '-')")
             idle(b)
             self.check("until the new one is there", (b.run(waits), b.run(dim)), (False, ["1"] * 3))
 
