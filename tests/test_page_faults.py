@@ -232,11 +232,12 @@ class Faults:
         b = self.b
         open_script(b, "text,HI,1,G\n" * 3, m=8, k=0)
         self.check("the first refused set", text_of(b, "#script-note"),
-                   "slot 0: text refused, the station is silent after a restart for 8 slots more; "
-                   "accepted from slot 8 on.")
+                   "slot 0: text refused, the station is silent after a restart for 8 slots more: "
+                   "set it in slot 8 at the earliest, if the encoder does not restart.")
         open_script(b, "-,,1,G\n" * 8 + "text,HI,1,G\nname,POP,1,G\n-,,1,G\nname,JAZZ,1,G\n", m=8, k=0)
         self.check("one that is held", text_of(b, "#script-note"),
-                   "slot 11: name refused, the one before is still held for 14 slots more; accepted from slot 25 on.")
+                   "slot 11: name refused, the one before is still held for 14 slots more: "
+                   "set it in slot 25 at the earliest, if the encoder does not restart.")
         open_script(b, "-,,1,G\n" * 8 + "text,HI,1,G\n", m=8, k=0)
         self.check("no refused set", (text_of(b, "#script-note"), of(b, "#script-note", "checkVisibility()")),
                    ("", False))

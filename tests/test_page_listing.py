@@ -51,6 +51,10 @@ class Listing:
             opened(b, log, running=True)
             got = rows(b, "#log-faults:not([hidden]) tbody tr")
             self.check(name, (got, of(b, "#log-strip", "hidden")), (wanted, not wanted), log)
+        tags = "C201 B148 2002 0000"
+        opened(b, f"{tags}\n{HI}\n{tags}\n")
+        self.check("tags before the first text", rows(b, "#log-faults:not([hidden]) tbody tr"),
+                   [["EarlyTag", "tags before the first text", "slot 0"], ["EarlyTag", "1 of 1 text", "slot 2"]])
         opened(b, late, running=True)
         call(b, "probe.choose", "log-m", 10)
         settle(b)

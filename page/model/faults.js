@@ -1,7 +1,7 @@
 /* Reads what `audit --all` prints: a line for each fault, and a note for each kind. And what `witness` prints. */
 
 const LINE = /^no (\d+) (\w+)$/gm;
-const COUNT = /^(\d+ of \d+ \w+): (\w+)(?:, first)? in (slot .*?)(?:, last in (slot .*))?$/;
+const COUNT = /^(\d+ of \d+ \w+|tags before the first text): (\w+)(?:, first)? in (slot .*?)(?:, last in (slot .*))?$/;
 const PLACE = /^slot (\d+) \(line \d+(?:, (.*))?\)$/;
 const CLOCK = /\d\d:\d\d:\d\d/;
 const LOSE = /^lose (\d+)(?:-(\d+))?: ((\d+) .*)$/gm, UP_TO = / up to slot (\d+)$/m;

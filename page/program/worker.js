@@ -100,7 +100,7 @@ function audit(asked) {
   const rule = list.slots.length ? run(auditing(asked)).notes : [];
   const line = /^slot \d+ \(line (\d+)/m.exec(rule.join("\n"));
   const read = line ? run(["decode", "--pi", asked.pi], head(Number(line[1]))).notes : notes;
-  const lack = lines.noteOf(read, "the log spans "), end = lines.noteOf(notes, "fault ").slice("fault ".length);
+  const lack = lines.noteOf(read, "the log spans ") || lines.noteOf(read, "the first "), end = lines.noteOf(notes, "fault ").slice("fault ".length);
   const told = { counts: faults.counts(notes), end, lack, lackTo: line && Number(line[1]), notes: [...rule, ...notes] };
   return { ...told, list, command: rdsrt.command(words), output: output.beginOf(printed) };
 }
