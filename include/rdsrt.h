@@ -60,22 +60,21 @@
  * come from the machine code of the library (tools/stack), rounded up for other versions of the compiler. The stack of
  * memcpy and memset comes on top.
  *
- *     rdsrt_version                     32   32    rdsrt_encoder_on_air             128  128
- *     rdsrt_receiver_init               64   32    rdsrt_encoder_wait                32   32
- *     rdsrt_receiver_init_confirming    32   32    rdsrt_audit_init                  32   32
- *     rdsrt_receiver_slot              256  192    rdsrt_audit_init_running          32   32
- *     rdsrt_receiver_view              256  224    rdsrt_audit_slot                  64   64
+ *     rdsrt_version                     32   32    rdsrt_encoder_wait                32   32
+ *     rdsrt_receiver_init               64   32    rdsrt_audit_init                  32   32
+ *     rdsrt_receiver_init_confirming    32   32    rdsrt_audit_init_running          32   32
+ *     rdsrt_receiver_slot              256  192    rdsrt_audit_slot                 192  192
+ *     rdsrt_receiver_view              256  224    rdsrt_audit_all_faults           192  192
  *     rdsrt_receiver_held               32   32    rdsrt_audit_passed                32   32
- *     rdsrt_slot_time                   32   32    rdsrt_audit_texts_turn_the_flag   32   32
- *     rdsrt_time_in                    160  128    rdsrt_audit_names_turn_the_flag   32   32
- *     rdsrt_lost_slots                  32   32    rdsrt_text_to_display            320  320
- *     rdsrt_encoder_init                32   32    rdsrt_text_to_utf8               384  384
- *     rdsrt_encoder_set_text           288  288    rdsrt_text_from_utf8             160  160
- *     rdsrt_encoder_set_name            96   64    rdsrt_type_name                   96   96
- *     rdsrt_encoder_set_tags            64   32    rdsrt_code_name                   96   96
- *     rdsrt_encoder_tick                64   32    rdsrt_listing_init                32   32
- *     rdsrt_listing_init_running        32   32    rdsrt_listing_slot               160  160
- *     rdsrt_listing_texts               32   32    rdsrt_listing_names               32   32
+ *     rdsrt_slot_time                   32   32    rdsrt_audit_texts                 32   32
+ *     rdsrt_time_in                    160  128    rdsrt_audit_names                 32   32
+ *     rdsrt_lost_slots                  32   32    rdsrt_audit_texts_turn_the_flag   32   32
+ *     rdsrt_encoder_init                32   32    rdsrt_audit_names_turn_the_flag   32   32
+ *     rdsrt_encoder_set_text           288  288    rdsrt_text_to_display            320  320
+ *     rdsrt_encoder_set_name            96   64    rdsrt_text_to_utf8               384  384
+ *     rdsrt_encoder_set_tags            64   32    rdsrt_text_from_utf8             160  160
+ *     rdsrt_encoder_tick                64   32    rdsrt_type_name                   96   96
+ *     rdsrt_encoder_on_air             128  128    rdsrt_code_name                   96   96
  *
  * YOU PROMISE for every call:
  *  - You call _init first. No call notices that you did not: a struct of zeros has PI 0000, so it shows nothing of your
@@ -101,7 +100,7 @@ extern "C" {
 #endif
 
 /* The number of this interface. It changes with every size, offset, code or call below. */
-#define RDSRT_ABI 5
+#define RDSRT_ABI 6
 
 /* The version of this header. rdsrt_version() returns the version of the linked library. */
 #define RDSRT_VERSION_MAJOR 0
@@ -155,13 +154,13 @@ enum rdsrt_code {
     RDSRT_FAULT_TAG_OUTSIDE = 21
 };
 
-/* A receiver, an encoder, an audit and a list of faults. Only the library reads and writes the numbers in them. */
+/* A receiver, an encoder and an audit. Only the library reads and writes the numbers in them. */
 struct rdsrt_receiver { uint32_t own_[66]; };
 struct rdsrt_encoder { uint32_t own_[29]; };
-struct rdsrt_audit { uint32_t own_[52]; };
-struct rdsrt_listing { uint64_t own_[65]; };
+struct rdsrt_audit { uint64_t own_[34]; };
 
-/* The faults that a slot adds to a list: 1 for each of them, else 0 (RDSRT_FAULT_.. has their meaning). */
+/* The faults that a slot adds to the list of all faults: 1 for each of them, else 0 (RDSRT_FAULT_.. has their
+ * meaning). */
 struct rdsrt_faults { uint8_t changed, early_flag, not_one_text, early_tag, tag_outside; };
 
 /* A text: the first `length` bytes, 0 to 64, in the RDS character table. is_shown is 1 if there is a text (length 0 is
@@ -306,6 +305,15 @@ uint32_t rdsrt_audit_init_running(struct rdsrt_audit *audit, uint16_t pi, uint16
  * (RDSRT_FAULT_..). Returns RDSRT_BAD_ARGUMENT for any other count: then no slot has ended. */
 uint32_t rdsrt_audit_slot(struct rdsrt_audit *audit, const uint16_t *blocks, size_t count);
 
+/* Ends a slot, as rdsrt_audit_slot does, also after a fault. Writes the faults that the slot adds to the list of all
+ * faults: 1 for each, else 0. A text or a name has each fault at most once, in the first slot in which it breaks the
+ * rule. Other bytes at an address of a text begin a new text. The first fault of the list is the one that
+ * rdsrt_audit_slot returns (FORMATS.md, "All faults of a log").
+ * Returns RDSRT_OK, or RDSRT_BAD_ARGUMENT for a count other than 0 and 4: then no slot has ended and nothing is
+ * written. */
+uint32_t rdsrt_audit_all_faults(struct rdsrt_audit *audit, const uint16_t *blocks, size_t count,
+                                struct rdsrt_faults *faults);
+
 /* Returns 1 until a rule is broken, and then 0. 1 means that no receiver with this dwell shows a mix of two of these
  * texts or names, whichever groups it loses, if it ends every slot, and its groups come unchanged, in order and at most
  * `late` slots late. An audit that met no group of the programme returns 1 too. */
@@ -317,24 +325,10 @@ uint32_t rdsrt_audit_passed(const struct rdsrt_audit *audit);
 uint32_t rdsrt_audit_texts_turn_the_flag(const struct rdsrt_audit *audit);
 uint32_t rdsrt_audit_names_turn_the_flag(const struct rdsrt_audit *audit);
 
-/* ---- All faults: what is wrong with an encoder, and how often? ---- */
-
-/* Makes a list of faults before the first slot of a complete log, or of a recording. The numbers, and what is returned,
- * are those of rdsrt_audit_init and rdsrt_audit_init_running. */
-uint32_t rdsrt_listing_init(struct rdsrt_listing *listing, uint16_t pi, uint16_t dwell, uint16_t late);
-uint32_t rdsrt_listing_init_running(struct rdsrt_listing *listing, uint16_t pi, uint16_t dwell, uint16_t late);
-
-/* Ends a slot, as rdsrt_audit_slot does, and writes the faults that it adds to the list: 1 for each, else 0. A text or a
- * name has each fault at most once, in the first slot in which it breaks the rule. Other bytes at an address of a text
- * begin a new text. The first fault of a list is that of an audit (FORMATS.md, "All faults of a log").
- * Returns RDSRT_OK, or RDSRT_BAD_ARGUMENT for a count other than 0 and 4: then no slot has ended and nothing is
- * written. */
-uint32_t rdsrt_listing_slot(struct rdsrt_listing *listing, const uint16_t *blocks, size_t count,
-                            struct rdsrt_faults *faults);
-
-/* Returns how many texts, or names, the log has so far. One that changed its bytes without the flag counts as two. */
-uint64_t rdsrt_listing_texts(const struct rdsrt_listing *listing);
-uint64_t rdsrt_listing_names(const struct rdsrt_listing *listing);
+/* Returns how many texts, or names, the log has so far. One that changed its bytes without the flag counts as two. After
+ * a fault only rdsrt_audit_all_faults counts on. */
+uint64_t rdsrt_audit_texts(const struct rdsrt_audit *audit);
+uint64_t rdsrt_audit_names(const struct rdsrt_audit *audit);
 
 /* ---- Texts as UTF-8 ---- */
 
@@ -381,8 +375,7 @@ RDSRT_IS_(sizeof(struct rdsrt_version) == 16 && offsetof(struct rdsrt_version, m
 RDSRT_IS_(offsetof(struct rdsrt_version, minor) == 8 && offsetof(struct rdsrt_version, patch) == 12);
 RDSRT_IS_(sizeof(struct rdsrt_receiver) == 264);
 RDSRT_IS_(sizeof(struct rdsrt_encoder) == 116);
-RDSRT_IS_(sizeof(struct rdsrt_audit) == 208);
-RDSRT_IS_(sizeof(struct rdsrt_listing) == 520);
+RDSRT_IS_(sizeof(struct rdsrt_audit) == 272);
 RDSRT_IS_(sizeof(struct rdsrt_faults) == 5 && offsetof(struct rdsrt_faults, early_flag) == 1);
 RDSRT_IS_(offsetof(struct rdsrt_faults, not_one_text) == 2 && offsetof(struct rdsrt_faults, early_tag) == 3);
 RDSRT_IS_(offsetof(struct rdsrt_faults, tag_outside) == 4);

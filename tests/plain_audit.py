@@ -1,14 +1,12 @@
-"""A plain slow audit: the rules, one after the other, over the whole list of slots.
+"""A plain slow audit: the rules of docs/FORMATS.md over whole lists and slot numbers.
 
-It keeps slot numbers and whole lists. The program keeps ages that stop at a limit. They share no code.
+The program keeps ages that stop at a limit, and which rules a text breaks. They share no code.
 """
 RETURN = 0x0D
 # control characters that a text may have: preferred line break, end of headline, soft hyphen
 CONTROLS = (0x0A, 0x0B, 0x1F)
-
-
-class Broken(Exception):
-    """A rule is broken; the message is the name of the fault."""
+# the order of the faults of one slot
+ORDER = ("Changed", "EarlyFlag", "NotOneText", "EarlyTag", "TagOutside")
 
 
 def segment_of(group):
@@ -32,95 +30,109 @@ def tag_ends_of(group):
     return [start + extra + 1 for kind, start, extra in (one, two) if kind > 0]
 
 
-def return_place(segments):
-    """Returns the place of the carriage return among these segments, in characters, or None."""
-    return min((4 * a + data.index(RETURN) for a, data in segments.items() if RETURN in data), default=None)
+def lengths_of(service, address, data):
+    """Returns the least and the greatest length of a text or a name with this segment, or None if none has it."""
+    if service == "name":
+        return (8, 8) if all(byte >= 0x20 for byte in data) else None
+    head, found, tail = data.partition(bytes([RETURN]))
+    if any(byte < 0x20 and byte not in CONTROLS for byte in head) or tail.strip(b" "):
+        return None
+    end = 4 * address + len(head)
+    return (end, end) if found else (end, 64)
 
 
-def is_name_segment(segments, address, data):
-    """Returns whether some name has the segment."""
-    return all(byte >= 0x20 for byte in data)
+class Value:
+    """A text or a name of a log: its flag, the first slot in which it can have started, the faults that it began with,
+    and its segments and tags with their slots."""
+
+    def __init__(self, flag, start, broken):
+        self.flag, self.start, self.broken, self.segments, self.tags = flag, start, broken, [], []
+
+    @property
+    def opened(self):
+        return self.segments[0][0]
+
+    @property
+    def last(self):
+        return max(slot for slot, *_ in self.segments + self.tags)
+
+    def has_other(self, address, data):
+        """Returns whether the address was sent with other bytes."""
+        return any(at == address and bytes_ != data for _, at, bytes_ in self.segments)
+
+    def faults(self, service, spacing):
+        """Returns the rules that the value breaks."""
+        found = set(self.broken)
+        lengths = [lengths_of(service, address, data) for _, address, data in self.segments]
+        fits = [it for it in lengths if it]
+        least, most = max((it[0] for it in fits), default=0), min((it[1] for it in fits), default=64)
+        if len(fits) < len(lengths) or least > most:
+            found.add("NotOneText")
+        if any(slot < self.start + spacing for slot, _ in self.tags):
+            found.add("EarlyTag")
+        if any(end > most for _, ends in self.tags for end in ends):
+            found.add("TagOutside")
+        return found
 
 
-def is_text_segment(segments, address, data):
-    """Returns whether some text has the segment beside these segments."""
-    head, _, tail = data.partition(bytes([RETURN]))
-    if any(byte < 0x20 and byte not in CONTROLS for byte in head) or set(tail) - {0x20}:
-        return False
-    others = [a for a in segments if a != address]
-    if RETURN in data and any(a > address for a in others):
-        return False
-    return not any(RETURN in segments[a] and a < address for a in others)
+class Audit:
+    """The texts and names of a log, slot by slot, and the faults that each slot adds. If the station was on air before the
+    log, M + K lost slots come first, and tags before the first text segment do not count."""
+
+    def __init__(self, spacing, is_running=False):
+        self.spacing, self.is_running, self.next = spacing, is_running, spacing if is_running else 0
+        self.values, self.had = {"text": [], "name": []}, {"text": set(), "name": set()}
+
+    def slot(self, group):
+        """Takes the next slot: the blocks of its group, or None. Returns the faults that it adds, in their order."""
+        slot, self.next = self.next, self.next + 1
+        segment, ends = (segment_of(group), tag_ends_of(group)) if group else (None, None)
+        service = segment[0] if segment else "text"
+        values = self.values[service]
+        if segment:
+            self.take(service, slot, *segment[1:])
+        elif ends is None or not values and self.is_running:
+            return []
+        elif values:
+            values[-1].tags.append((slot, ends))
+        now = values[-1].faults(service, self.spacing) if values else {"EarlyTag"}
+        new, self.had[service] = now - self.had[service], now
+        return [fault for fault in ORDER if fault in new]
+
+    def take(self, service, slot, flag, address, data):
+        """Takes a segment into the newest value, or into a new one."""
+        values = self.values[service]
+        newest = values[-1] if values else None
+        joins = newest and flag == newest.flag and slot < newest.last + self.spacing
+        is_changed = bool(joins) and newest.has_other(address, data)
+        if not joins or is_changed:
+            values.append(self.begun(values, slot, flag, is_changed))
+            self.had[service] = set()
+        values[-1].segments.append((slot, address, data))
+
+    def begun(self, values, slot, flag, is_changed):
+        """Returns the value that begins in the slot, after these values."""
+        broken = {"Changed"} if is_changed else set()
+        if not values:
+            return Value(flag, 0, broken)
+        ended = values[-1].last
+        if flag == values[-1].flag and not is_changed:
+            return Value(flag, ended + self.spacing, broken)
+        start = max(ended + 1, values[-2].last + self.spacing if len(values) > 1 else 0)
+        return Value(flag, start, broken) if start <= slot else Value(flag, ended + 1, broken | {"EarlyFlag"})
 
 
-class Reigns:
-    """The reigns of texts or of names: each with its flag, start, last slot, segments and ends of tags."""
-
-    def __init__(self, dwell, is_segment):
-        self.dwell, self.is_segment, self.all = dwell, is_segment, []
-
-    def start_of(self, slot, flag):
-        """Returns the start of a reign that opens in the slot."""
-        if not self.all:
-            return 0
-        last = self.all[-1]
-        before = self.all[-2]["last"] if len(self.all) > 1 else None
-        if flag == last["flag"]:
-            return last["last"] + self.dwell
-        if before is not None and slot - before < self.dwell:
-            raise Broken("EarlyFlag")
-        return max(last["last"] + 1, before + self.dwell if before is not None else 0)
-
-    def take(self, slot, flag, address, data):
-        """Takes a segment into the current reign or a new one."""
-        current = self.all[-1] if self.all else None
-        if current is None or flag != current["flag"] or slot - current["last"] >= self.dwell:
-            start = self.start_of(slot, flag)
-            current = {"flag": flag, "start": start, "opened": slot, "last": slot, "segments": {}, "ends": []}
-            self.all.append(current)
-        segments = current["segments"]
-        if segments.get(address, data) != data:
-            raise Broken("Changed")
-        if not self.is_segment(segments, address, data):
-            raise Broken("NotOneText")
-        segments[address] = data
-        place = return_place(segments)
-        if place is not None and any(end > place for end in current["ends"]):
-            raise Broken("TagOutside")
-        current["last"] = slot
-
-    def take_tags(self, slot, ends):
-        """Takes the ends of tags into the current reign."""
-        current = self.all[-1] if self.all else None
-        if current is None or slot < current["start"] + self.dwell:
-            raise Broken("EarlyTag")
-        place = return_place(current["segments"])
-        if any(end > 64 or (place is not None and end > place) for end in ends):
-            raise Broken("TagOutside")
-        current["ends"] += ends
-        current["last"] = slot
+def all_faults(slots, spacing, is_running=False):
+    """Returns the lines of `audit --all` for these slots of one programme: four blocks each, or None if nothing was sent.
+    And how many texts and names they have."""
+    audit = Audit(spacing, is_running)
+    lines = [f"no {number} {fault}" for number, group in enumerate(slots) for fault in audit.slot(group)]
+    return lines or [f"yes {len(slots)}"], {service: len(values) for service, values in audit.values.items()}
 
 
-def audit(slots, dwell, is_running=False):
-    """Returns the answer line for these slots of one programme: four blocks each, or None if nothing was sent.
-
-    If the station was on air before the log, M + K lost slots come first, and tags before the first text segment do not
-    count."""
-    services = {"text": Reigns(dwell, is_text_segment), "name": Reigns(dwell, is_name_segment)}
-    before = dwell if is_running else 0
-    for slot, group in enumerate(slots, before):
-        if group is None:
-            continue
-        try:
-            segment, ends = segment_of(group), tag_ends_of(group)
-            if segment is not None:
-                service, *rest = segment
-                services[service].take(slot, *rest)
-            elif ends is not None and (services["text"].all or not is_running):
-                services["text"].take_tags(slot, ends)
-        except Broken as fault:
-            return f"no {slot - before} {fault}\n"
-    return f"yes {len(slots)}\n"
+def audit(slots, spacing, is_running=False):
+    """Returns the answer line of `audit` for these slots."""
+    return f"{all_faults(slots, spacing, is_running)[0][0]}\n"
 
 
 def is_dense(notes, slots, dwell):

@@ -7,7 +7,7 @@ import re
 import subprocess
 
 from tests.support import PROGRAM, ROOT, SECONDS, Case, needs, temporary_folder, text_of
-from tests.test_listing import SLOT, listed, station
+from tests.test_audit import SLOT, listed, station
 
 LOST = "---- ---- ---- ----"
 HI, YO, HA = "C201 2140 4849 0D20", "C201 2150 594F 0D20", "C201 2140 4841 0D20"

@@ -97,37 +97,31 @@ def note(text):
     return f"rdsrt: {text}\n"
 
 
-def where_of(fault, reigns):
-    """Returns the end of the sentence on a fault: the slots that it names, from the reigns of the plain audit."""
+def where_of(fault, texts):
+    """Returns the end of the sentence on a fault: the slots that it names, from the texts of the plain audit."""
     if fault == "EarlyFlag":
-        return f", in slot {reigns[-2]['last']}"
-    if fault != "EarlyTag" or not reigns:
+        return f", in slot {texts[-3].last}"
+    if fault != "EarlyTag" or not texts:
         return ""
-    last = reigns[-1]
-    where = f", in slot {last['start']}"
-    if last["opened"] != last["start"]:
-        where += f" at the earliest; its first group is in slot {last['opened']}"
-    if len(reigns) > 1 and reigns[-2]["flag"] == last["flag"]:
-        where += f"; no segment from slot {reigns[-2]['last'] + 1} to {last['opened'] - 1}, so the text began anew"
+    newest = texts[-1]
+    where = f", in slot {newest.start}"
+    if newest.opened != newest.start:
+        where += f" at the earliest; its first group is in slot {newest.opened}"
+    if len(texts) > 1 and texts[-2].flag == newest.flag:
+        where += f"; no segment from slot {texts[-2].last + 1} to {newest.opened - 1}, so the text began anew"
     return where
 
 
 def end_of(slots, spacing):
     """Returns the fault of the slots by the plain audit, whether it is of a name, its slot, and the end of its sentence.
     None if the slots pass."""
-    services = {"text": plain_audit.Reigns(spacing, plain_audit.is_text_segment),
-                "name": plain_audit.Reigns(spacing, plain_audit.is_name_segment)}
+    audit = plain_audit.Audit(spacing)
     for slot, group in enumerate(slots):
-        segment = group and plain_audit.segment_of(group)
-        reigns = services[segment[0] if segment else "text"].all
-        try:
-            if segment:
-                services[segment[0]].take(slot, *segment[1:])
-            elif group:
-                services["text"].take_tags(slot, plain_audit.tag_ends_of(group))
-        except plain_audit.Broken as fault:
-            is_name = bool(segment) and segment[0] == "name"
-            return str(fault), is_name, slot, where_of(str(fault), reigns)
+        faults = audit.slot(group)
+        if faults:
+            segment = plain_audit.segment_of(group)
+            service = segment[0] if segment else "text"
+            return faults[0], service == "name", slot, where_of(faults[0], audit.values[service])
     return None
 
 

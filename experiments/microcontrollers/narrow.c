@@ -40,10 +40,10 @@ SET(rdsrt_encoder_set_name)
 SLOT(rdsrt_receiver_slot, rdsrt_receiver)
 SLOT(rdsrt_audit_slot, rdsrt_audit)
 
-uint32_t wide_rdsrt_listing_slot(struct rdsrt_listing *, const uint16_t *, uint64_t, struct rdsrt_faults *);
-uint32_t rdsrt_listing_slot(struct rdsrt_listing *it, const uint16_t *blocks, size_t count,
-                            struct rdsrt_faults *faults) {
-    return wide_rdsrt_listing_slot(it, blocks, count, faults);
+uint32_t wide_rdsrt_audit_all_faults(struct rdsrt_audit *, const uint16_t *, uint64_t, struct rdsrt_faults *);
+uint32_t rdsrt_audit_all_faults(struct rdsrt_audit *it, const uint16_t *blocks, size_t count,
+                                struct rdsrt_faults *faults) {
+    return wide_rdsrt_audit_all_faults(it, blocks, count, faults);
 }
 
 uint32_t wide_rdsrt_time_in(const uint8_t *, uint64_t, uint64_t *);

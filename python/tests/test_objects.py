@@ -13,7 +13,7 @@ import weakref
 
 import by_chance
 import rdsrt
-from rdsrt import (Audit, ContentType, Encoder, Fault, Held, InvalidText, Item, Listing, MalformedLine, NoText,
+from rdsrt import (Audit, ContentType, Encoder, Fault, Held, InvalidText, Item, MalformedLine, NoText,
                    OutOfText, Receiver, Refused, Segments, Silent, Tag, View, Wait, closest)
 from rdsrt import _library
 
@@ -291,34 +291,34 @@ class Audits(unittest.TestCase):
             Audit(1).slot((1, 2, 3))
 
 
-class Listings(unittest.TestCase):
+class AllFaults(unittest.TestCase):
     def test_each_text_has_each_fault_once(self):
-        listing = Listing(0xC201, 8)
+        audit = Audit(0xC201, 8)
         tags, other = (0xC201, 0xB148, 0x2002, 0), (0xC201, 0x2150, 0x594F, 0x0D20)
         changed = (0xC201, 0x2140, 0x4850, 0x0D20)
-        found = [listing.slot(group) for group in (HI, tags, tags, other, HI, changed, None)]
+        found = [audit.all_faults(group) for group in (HI, tags, tags, other, HI, changed, None)]
         both = (Fault.CHANGED, Fault.EARLY_FLAG)
         self.assertEqual(found, [(), (Fault.EARLY_TAG,), (), (), (Fault.EARLY_FLAG,), both, ()])
-        self.assertEqual((listing.slots, listing.texts, listing.names), (7, 4, 0))
-        self.assertEqual((listing.pi, listing.dwell, listing.late), (0xC201, 8, 0))
-        self.assertIn("7 slots, 4 texts, 0 names", repr(listing))
+        self.assertEqual((audit.slots, audit.texts, audit.names, audit.passed), (7, 4, 0, False))
+        self.assertEqual((audit.pi, audit.dwell, audit.late), (0xC201, 8, 0))
+        self.assertEqual(audit.slot(other), Fault.EARLY_TAG)
 
     def test_a_recording(self):
         tags = (0xC201, 0xB148, 0x2002, 0)
         for running, faults in ((False, [(Fault.EARLY_TAG,), (), (Fault.EARLY_TAG,)]), (True, [(), (), ()])):
-            listing = Listing(0xC201, running=running)
-            self.assertEqual([listing.slot(group) for group in (tags, HI, tags)], faults)
+            audit = Audit(0xC201, running=running)
+            self.assertEqual([audit.all_faults(group) for group in (tags, HI, tags)], faults)
 
 
 class Copies(unittest.TestCase):
     def objects(self):
-        receiver, audit, listing = Receiver(0xC201, 4), Audit(0xC201, 4), Listing(0xC201, 4)
-        for it in (receiver, audit, listing):
+        receiver, audit = Receiver(0xC201, 4), Audit(0xC201, 4)
+        for it in (receiver, audit):
             it.slot(HI)
-        return receiver, on_air("HI", 4), audit, listing
+        return receiver, on_air("HI", 4), audit
 
     def test_copies_go_their_own_way(self):
-        ends = (lambda it: it.slot(None), lambda it: it.tick(), lambda it: it.slot(None), lambda it: it.slot(None))
+        ends = (lambda it: it.slot(None), lambda it: it.tick(), lambda it: it.slot(None))
         for one, slot in zip(self.objects(), ends):
             others = [copy.copy(one), copy.deepcopy(one), pickle.loads(pickle.dumps(one))]
             self.assertTrue(all(it == one for it in others))
@@ -328,11 +328,11 @@ class Copies(unittest.TestCase):
             self.assertTrue(all(it != one and repr(it) == before for it in others))
 
     def test_comparison(self):
-        receiver, encoder, audit, listing = self.objects()
+        receiver, encoder, audit = self.objects()
         self.assertNotEqual(receiver, audit)
         self.assertNotEqual(Receiver(1), Receiver(2))
         self.assertNotEqual(receiver, None)
-        for it in (receiver, encoder, audit, listing):
+        for it in (receiver, encoder, audit):
             with self.assertRaises(TypeError):
                 hash(it)
 
@@ -433,7 +433,7 @@ class Names(unittest.TestCase):
                 with open(os.path.join(folder, name), encoding="utf-8") as file:
                     texts += file.read()
         used = set(re.findall(r"\w+", texts))
-        members = {it for name in ("Receiver", "Encoder", "Audit", "Listing", "View") for it in vars(getattr(rdsrt, name))
+        members = {it for name in ("Receiver", "Encoder", "Audit", "View") for it in vars(getattr(rdsrt, name))
                    if not it.startswith("_")}
         # NoLibrary needs a process of its own, and Group is a type
         self.assertEqual(({*rdsrt.__all__} | members) - used - {"NoLibrary", "Group"}, set())
@@ -449,7 +449,7 @@ class Names(unittest.TestCase):
                         self.assertTrue(value.__doc__, f"{name}.{member}")
 
     def test_an_object_without_a_dwell_has_the_default(self):
-        for make in (Receiver, Encoder, Audit, Listing):
+        for make in (Receiver, Encoder, Audit):
             self.assertEqual(make(0xC201), make(0xC201, dwell=rdsrt.DEFAULT_DWELL))
             self.assertNotEqual(make(0xC201), make(0xC201, dwell=rdsrt.DEFAULT_DWELL + 1))
 

@@ -8,7 +8,7 @@ import unittest
 import by_chance
 import rdsrt
 from by_chance import PROGRAM, ran
-from rdsrt import Audit, Listing, MalformedLine, Receiver, format_group, read_log, type_name
+from rdsrt import Audit, MalformedLine, Receiver, format_group, read_log, type_name
 from rdsrt.characters import CHARACTERS, PRINTED, coded
 
 
@@ -70,19 +70,19 @@ class BesideTheProgram(unittest.TestCase):
             answers.add(mine.partition(" ")[2] if found is None else str(found[1]))
         self.assertGreater(len(answers), 3)
 
-    def test_listing(self):
+    def test_all_faults(self):
         rng, faults = random.Random(10), 0
         for number in range(40):
             groups = by_chance.groups(rng, rng.choice((2, 4, 8)), rng.choice((40, 400)), rng.choice((0.8, 1)))
             log, running = by_chance.log_of(groups), ["--running"] * (number % 2)
-            listing = Listing(0xC201, 30, running=bool(running))
+            audit = Audit(0xC201, 30, running=bool(running))
             mine = [f"no {slot} {fault}" for slot, group in enumerate(read_log(io.BytesIO(log)))
-                    for fault in listing.slot(group)]
+                    for fault in audit.all_faults(group)]
             faults += len(mine)
             lines, notes = by_chance.ran_with_notes("audit", "--all", "--pi", "C201", "--m", "30", *running, log=log)
-            self.assertEqual(lines, mine or [f"yes {listing.slots}"])
+            self.assertEqual(lines, mine or [f"yes {audit.slots}"])
             texts = re.search(r"(\d+) texts?, (\d+) names?", notes)
-            self.assertEqual((int(texts[1]), int(texts[2])) if texts else (0, 0), (listing.texts, listing.names))
+            self.assertEqual((int(texts[1]), int(texts[2])) if texts else (0, 0), (audit.texts, audit.names))
         self.assertGreater(faults, 100)
 
     def test_logs_of_any_bytes(self):

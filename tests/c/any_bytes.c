@@ -156,13 +156,22 @@ static void audit(void) {
     }
     for (int i = 0; i < 8; i++) {
         size_t count = roll(3) ? 4 : roll(7);
-        uint16_t *blocks = any_blocks(count, (const uint8_t *)a + 204);
+        uint16_t *blocks = any_blocks(count, (const uint8_t *)a + 268);
         void *before = copy(a, sizeof *a);
         uint32_t code = rdsrt_audit_slot(a, count ? blocks : NULL, count);
         CHECK((code == RDSRT_BAD_ARGUMENT) == (count != 0 && count != 4));
         CHECK(code != RDSRT_BAD_ARGUMENT || memcmp(a, before, sizeof *a) == 0);
         CHECK(code == RDSRT_OK || code == RDSRT_BAD_ARGUMENT
               || (code >= RDSRT_FAULT_CHANGED && code <= RDSRT_FAULT_TAG_OUTSIDE));
+        struct rdsrt_faults found = {7, 7, 7, 7, 7};
+        memcpy(before, a, sizeof *a);
+        code = rdsrt_audit_all_faults(a, count ? blocks : NULL, count, &found);
+        CHECK(code == (count == 0 || count == 4 ? RDSRT_OK : RDSRT_BAD_ARGUMENT));
+        CHECK(code == RDSRT_OK || (memcmp(a, before, sizeof *a) == 0 && found.changed == 7 && found.tag_outside == 7));
+        CHECK(code != RDSRT_OK || (found.changed <= 1 && found.early_flag <= 1 && found.not_one_text <= 1
+                                   && found.early_tag <= 1 && found.tag_outside <= 1));
+        (void)rdsrt_audit_texts(a);
+        (void)rdsrt_audit_names(a);
         CHECK(rdsrt_audit_passed(a) <= 1);
         CHECK(rdsrt_audit_texts_turn_the_flag(a) <= rdsrt_audit_passed(a));
         CHECK(rdsrt_audit_names_turn_the_flag(a) <= rdsrt_audit_passed(a));
@@ -170,31 +179,6 @@ static void audit(void) {
         free(blocks);
     }
     free(a);
-}
-
-static void listing(void) {
-    struct rdsrt_listing *l = (struct rdsrt_listing *)any(sizeof *l);
-    unsigned dwell = roll(3), late = roll(1200);
-    if (roll(4) == 0) {
-        uint32_t code = rdsrt_listing_init(l, 0xC201, (uint16_t)dwell, (uint16_t)late);
-        CHECK(code == (dwell && late <= 1024 ? RDSRT_OK : RDSRT_BAD_ARGUMENT));
-    }
-    for (int i = 0; i < 8; i++) {
-        size_t count = roll(3) ? 4 : roll(7);
-        uint16_t *blocks = any_blocks(count, (const uint8_t *)l + 516);
-        void *before = copy(l, sizeof *l);
-        struct rdsrt_faults found = {7, 7, 7, 7, 7};
-        uint32_t code = rdsrt_listing_slot(l, count ? blocks : NULL, count, &found);
-        CHECK((code == RDSRT_BAD_ARGUMENT) == (count != 0 && count != 4));
-        CHECK(code == RDSRT_OK || (memcmp(l, before, sizeof *l) == 0 && found.changed == 7 && found.tag_outside == 7));
-        CHECK(code != RDSRT_OK || (found.changed <= 1 && found.early_flag <= 1 && found.not_one_text <= 1
-                                   && found.early_tag <= 1 && found.tag_outside <= 1));
-        (void)rdsrt_listing_texts(l);
-        (void)rdsrt_listing_names(l);
-        free(before);
-        free(blocks);
-    }
-    free(l);
 }
 
 /* What was written as UTF-8 is read back, and fits in no less. */
@@ -228,7 +212,6 @@ int main(int count, char **words) {
         receiver();
         encoder();
         audit();
-        listing();
         texts();
     }
     puts("ok");

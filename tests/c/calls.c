@@ -236,31 +236,31 @@ static void audit(void) {
     CHECK(audited(2, hi, NULL, long_tag) == RDSRT_FAULT_TAG_OUTSIDE);
 }
 
-/* The faults that a slot adds to a list, as the bits of a number: Changed is 1, EarlyFlag 2, NotOneText 4, EarlyTag 8
+/* The faults that a slot adds to the list, as the bits of a number: Changed is 1, EarlyFlag 2, NotOneText 4, EarlyTag 8
  * and TagOutside 16. */
-static unsigned listed(struct rdsrt_listing *it, const uint16_t *blocks) {
+static unsigned added(struct rdsrt_audit *it, const uint16_t *blocks) {
     struct rdsrt_faults found;
-    CHECK(rdsrt_listing_slot(it, blocks, blocks ? 4 : 0, &found) == RDSRT_OK);
+    CHECK(rdsrt_audit_all_faults(it, blocks, blocks ? 4 : 0, &found) == RDSRT_OK);
     return found.changed + 2u * found.early_flag + 4u * found.not_one_text + 8u * found.early_tag
         + 16u * found.tag_outside;
 }
 
-static void listing(void) {
+static void all_faults(void) {
     static const uint16_t past[4] = {0xC201, 0x2141, 0x4142, 0x0D20};
     static const uint16_t long_tag[4] = {0xC201, 0xB158, 0x8012, 0x0000};
-    struct rdsrt_listing it;
+    struct rdsrt_audit it;
     struct rdsrt_faults found = {7, 7, 7, 7, 7};
-    CHECK(rdsrt_listing_init(&it, 0xC201, 0, 0) == RDSRT_BAD_ARGUMENT);
-    CHECK(rdsrt_listing_init_running(&it, 0xC201, 8, 1025) == RDSRT_BAD_ARGUMENT);
-    CHECK(rdsrt_listing_init(&it, 0xC201, 8, 0) == RDSRT_OK);
-    CHECK(rdsrt_listing_slot(&it, hi, 3, &found) == RDSRT_BAD_ARGUMENT && found.changed == 7 && found.tag_outside == 7);
-    CHECK(listed(&it, hi) == 0 && listed(&it, tags_of_hi) == 8 && listed(&it, tags_of_hi) == 0);
-    CHECK(listed(&it, yo) == 0 && listed(&it, hi) == 2 && listed(&it, changed_hi) == 3 && listed(&it, NULL) == 0);
-    CHECK(rdsrt_listing_texts(&it) == 4 && rdsrt_listing_names(&it) == 0);
-    CHECK(rdsrt_listing_init(&it, 0xC201, 2, 0) == RDSRT_OK);
-    CHECK(listed(&it, hi) == 0 && listed(&it, NULL) == 0 && listed(&it, long_tag) == 16 && listed(&it, past) == 4);
-    CHECK(rdsrt_listing_init_running(&it, 0xC201, 8, 0) == RDSRT_OK && listed(&it, tags_of_hi) == 0);
-    CHECK(listed(&it, hi) == 0 && listed(&it, tags_of_hi) == 0 && listed(&it, yo) == 0 && listed(&it, tags_of_hi) == 8);
+    CHECK(rdsrt_audit_init(&it, 0xC201, 8, 0) == RDSRT_OK);
+    CHECK(rdsrt_audit_all_faults(&it, hi, 3, &found) == RDSRT_BAD_ARGUMENT && found.changed == 7
+          && found.tag_outside == 7);
+    CHECK(added(&it, hi) == 0 && added(&it, tags_of_hi) == 8 && added(&it, tags_of_hi) == 0);
+    CHECK(added(&it, yo) == 0 && added(&it, hi) == 2 && added(&it, changed_hi) == 3 && added(&it, NULL) == 0);
+    CHECK(rdsrt_audit_texts(&it) == 4 && rdsrt_audit_names(&it) == 0);
+    CHECK(rdsrt_audit_passed(&it) == 0 && rdsrt_audit_slot(&it, NULL, 0) == RDSRT_FAULT_EARLY_TAG);
+    CHECK(rdsrt_audit_init(&it, 0xC201, 2, 0) == RDSRT_OK);
+    CHECK(added(&it, hi) == 0 && added(&it, NULL) == 0 && added(&it, long_tag) == 16 && added(&it, past) == 4);
+    CHECK(rdsrt_audit_init_running(&it, 0xC201, 8, 0) == RDSRT_OK && added(&it, tags_of_hi) == 0);
+    CHECK(added(&it, hi) == 0 && added(&it, tags_of_hi) == 0 && added(&it, yo) == 0 && added(&it, tags_of_hi) == 8);
 }
 
 static void times(void) {
@@ -356,7 +356,7 @@ int main(void) {
     encoder();
     tags_set();
     audit();
-    listing();
+    all_faults();
     recording();
     flags();
     times();

@@ -14,14 +14,12 @@ pub mod Gauges
 pub mod LengthSteps
 pub mod AgeSteps
 pub mod ContentSteps
-pub mod ReignSteps
 pub mod HeldAgain
 pub mod Faults
 pub mod Recordings
 pub mod FirstTexts
 pub mod Settled
 pub mod SafeRecordings
-pub mod AuditSteps
 pub mod SpanOrder
 pub mod SpanSteps
 pub mod SpanReigns

@@ -1,5 +1,6 @@
 -- Lemmas: what a slot adds to the list of a log, and how the state of the list changes with the log.
-use Rattle.std.proofs.Common.{◌≡◌, ◌⊎◌, ◌↔◌, ◌+◌, ◌<◌, ◌^◌, ◌||◌, ℕ, Bool, true, false, nat_lt, List, [], ◌∷◌, Option, Some, None, length, refl, sym, ap, ◌∙◌, subst, inl, inr, arith}
+use Rattle.std.specs.Prelude.{Err}
+use Rattle.std.proofs.Common.{◌≡◌, ◌⊎◌, ◌↔◌, ◌+◌, ◌<◌, ◌||◌, ℕ, Bool, true, false, nat_lt, List, [], ◌∷◌, Option, Some, None, refl, sym, ap, ◌∙◌, subst, inl, inr, arith}
 use Rattle.std.specs.Prelude.{MatchOption}
 use Rattle.std.proofs.lemmas.Bool.{cond_both}
 use Rattle.rds_block.specs.declared.group.Group.{Group}
@@ -20,13 +21,13 @@ use Rattle.rds_audit.specs.Judging.{judged_step}
 use Rattle.rds_audit.specs.Lengths.{Gauge, name_gauge, text_gauge}
 use Rattle.rds_audit.specs.Listing.{SentFragment, Span, added, both, broken_newest, first_of, joined, newest_at, none_broken, same_bytes, slot_adds, spans, spans_after, spans_tagged}
 use Rattle.rds_audit.specs.ListingLaws.{IsFormedMessage}
-use Rattle.rds_audit.specs.ListingStandsAt.{HoldsListed, HoldsListedSlot, HoldsNewestSpans, HoldsSpans, ListingStandsAt, ListsGroup, ListsMessage, ListsSlot, reigns_of}
-use Rattle.rds_audit.specs.ListingState.{ListingState, aged_in}
-use Rattle.rds_audit.specs.Recording.{IsJudgedAs, IsSilentAs, counted, counted_as, has_text}
+use Rattle.rds_audit.specs.AuditStandsAt.{AuditStandsAt, FollowsLog, HasJudged, HoldsLog, HoldsNewestSpans, HoldsSlot, HoldsSpans, ListsGroup, ListsMessage, TakesAll, TakesSlot, reigns_of}
+use Rattle.rds_audit.specs.AuditState.{AuditState, aged_in}
+use Rattle.rds_audit.specs.Recording.{IsJudgedAs, IsSilentAs, counted_as, has_text}
 use Rattle.rds_audit.specs.Rules.{BreaksFirst, IsBrokenBy, IsFaultOf, LogPasses}
 use Rattle.rds_audit.proofs.Faults.{slot_fails}
 use Rattle.rds_audit.proofs.Gauges.{name_gauge_is_exact, text_gauge_is_exact}
-use Rattle.rds_audit.proofs.Recordings.{IsSilent, names_begin, silent_holds, texts_begin}
+use Rattle.rds_audit.proofs.Recordings.{IsSilent, names_begin, silent_passes, texts_begin}
 use Rattle.rds_audit.proofs.SpanReigns.{adds_first, adds_none, service_judged, service_passed_before}
 use Rattle.rds_audit.proofs.SpanSteps.{added_more, nothing_follows, spans_later, none_new}
 
@@ -136,18 +137,20 @@ log_judged d newest before formed passes = elim (service_judged text_gauge text_
   ]
 ]
 
--- the first fault of a log: none, and the log passes; or this one
-abbrev pub IsFirst : ℕ → List (Option Message) → Option AuditFault → Type 0
-IsFirst d judged fault = MatchOption fault (LogPasses d judged) (IsFaultOf d judged)
+-- the fault of a log with one more slot
+judged_next : (d : ℕ) (newest : Option Message) (judged : List (Option Message)) (a after : AuditState) → IsFormedMessage newest → (HoldsLog d judged a → HoldsLog d (newest ∷ judged) after)
+    → (HoldsLog d judged a → a.fault ≡ None → after.fault ≡ first_of (slot_adds d newest judged)) → ((fault : AuditFault) → a.fault ≡ Some fault → after.fault ≡ Some fault) → HasJudged d a judged → HasJudged d after (newest ∷ judged)
+judged_next d newest judged a after formed holds first again has = by a.fault refl has
+  where
+    told : (o : Option AuditFault) → after.fault ≡ o → MatchOption o (LogPasses d (newest ∷ judged) × HoldsLog d (newest ∷ judged) after) (IsFaultOf d (newest ∷ judged)) → HasJudged d after (newest ∷ judged)
+    told o e m = subst (λ (x : Option AuditFault). MatchOption x (LogPasses d (newest ∷ judged) × HoldsLog d (newest ∷ judged) after) (IsFaultOf d (newest ∷ judged))) (sym e) m
 
--- the first fault of a log with one more slot
-first_next : (d : ℕ) (newest : Option Message) (judged : List (Option Message)) (was now : Option AuditFault) → IsFormedMessage newest → (was ≡ None → now ≡ first_of (slot_adds d newest judged))
-    → ((fault : AuditFault) → was ≡ Some fault → now ≡ Some fault) → IsFirst d judged was → IsFirst d (newest ∷ judged) now
-first_next d newest judged (Some fault) now formed first again f = subst (IsFirst d (newest ∷ judged)) (sym (again fault refl)) (inr f)
-first_next d newest judged None now formed first again passes = elim (log_judged d newest judged formed passes) [
-  | inl next ↦ subst (IsFirst d (newest ∷ judged)) (sym (first refl ∙ ap first_of (sym (passing_adds d newest judged next)))) next
-  | inr (fault, b) ↦ subst (IsFirst d (newest ∷ judged)) (sym (first refl ∙ breaking_adds d newest judged fault formed passes b)) (inl (passes, b))
-]
+    by : (was : Option AuditFault) → a.fault ≡ was → MatchOption was (LogPasses d judged × HoldsLog d judged a) (IsFaultOf d judged) → HasJudged d after (newest ∷ judged)
+    by (Some fault) e f = told (Some fault) (again fault e) (inr f)
+    by None e (passes, h) = elim (log_judged d newest judged formed passes) [
+      | inl next ↦ told None (first h e ∙ ap first_of (sym (passing_adds d newest judged next))) (next, holds h)
+      | inr (fault, b) ↦ told (Some fault) (first h e ∙ breaking_adds d newest judged fault formed passes b) (inl (passes, b))
+    ]
 
 -- ---- from slot to slot
 
@@ -185,141 +188,172 @@ open_begun d slot [] a h = h
 open_begun d slot (r ∷ older) a h = h.0
 
 -- there is a span of texts exactly if a text segment was judged
-pub text_open : (d : ℕ) (judged : List (Option Message)) (l : ListingState) → HoldsListed d judged l → l.text.reigns.ages.is_open ≡ has_text judged
+pub text_open : (d : ℕ) (judged : List (Option Message)) (l : AuditState) → HoldsLog d judged l → l.text.reigns.ages.is_open ≡ has_text judged
 text_open d judged l h = open_begun d _ (spans d (marks text_mark judged)) l.text.reigns.ages h.text.ages.current ∙ begun_if d judged
 
 -- a message of texts alone, that is judged as it is
-pub texts_listed : (l after : ListingState) (message : Option Message) (result : FaultSet) → 0 < l.distance → name_mark message ≡ Nothing → after.name ≡ l.name → after.slots ≡ l.slots
-    → ((judged : List (Option Message)) → HoldsListed l.distance judged l → counted_as l.start judged message ≡ message)
-    → ((sent : List Mark) → HoldsSpans text_gauge l.distance l.slots sent l.text → HoldsNewestSpans text_gauge l.distance l.slots (text_mark message) sent after.text)
-    → ((sent : List Mark) → HoldsSpans text_gauge l.distance l.slots sent l.text → result ≡ added text_gauge l.distance (text_mark message) sent) → ListsMessage l after message result
-texts_listed l after message result pos silent name slots counts holds adds = record {
-  holds = λ judged h. subst (λ (x : Option Message). HoldsListedSlot l.distance x judged after) (sym (counts judged h)) record {
-    text = subst (λ n. HoldsNewestSpans text_gauge l.distance n (text_mark message) (marks text_mark judged) after.text) (sym slots) (holds (marks text_mark judged) h.text);
-    name = rw (silent, name, slots) (nothing_follows name_gauge (omega arith) l.distance pos l.slots (marks name_mark judged) (spans l.distance (marks name_mark judged)) l.name h.name);
+pub texts_listed : (l after : AuditState) (message : Option Message) (result : FaultSet) → 0 < l.distance → name_mark message ≡ Nothing → after.name ≡ l.name
+    → ((judged : List (Option Message)) → HoldsLog l.distance judged l → counted_as l.start judged message ≡ message)
+    → ((sent : List Mark) → HoldsSpans text_gauge l.distance sent l.text → HoldsNewestSpans text_gauge l.distance (text_mark message) sent after.text)
+    → ((sent : List Mark) → HoldsSpans text_gauge l.distance sent l.text → result ≡ added text_gauge l.distance (text_mark message) sent) → ListsMessage l after message result
+texts_listed l after message result pos silent name counts holds adds = record {
+  holds = λ judged h. subst (λ (x : Option Message). HoldsSlot l.distance x judged after) (sym (counts judged h)) record {
+    text = holds (marks text_mark judged) h.text;
+    name = rw (silent, name) (nothing_follows name_gauge (omega arith) l.distance pos (marks name_mark judged) (spans l.distance (marks name_mark judged)) l.name h.name);
   };
   added = λ judged h. subst (λ (x : Option Message). result ≡ slot_adds l.distance x judged) (sym (counts judged h)) (adds (marks text_mark judged) h.text ∙ sym (texts_add l.distance message judged silent));
 }
 
 -- and one of names alone
-pub names_listed : (l after : ListingState) (message : Option Message) (result : FaultSet) → 0 < l.distance → text_mark message ≡ Nothing → after.text ≡ l.text → after.slots ≡ l.slots
-    → ((judged : List (Option Message)) → HoldsListed l.distance judged l → counted_as l.start judged message ≡ message)
-    → ((sent : List Mark) → HoldsSpans name_gauge l.distance l.slots sent l.name → HoldsNewestSpans name_gauge l.distance l.slots (name_mark message) sent after.name)
-    → ((sent : List Mark) → HoldsSpans name_gauge l.distance l.slots sent l.name → result ≡ added name_gauge l.distance (name_mark message) sent) → ListsMessage l after message result
-names_listed l after message result pos silent text slots counts holds adds = record {
-  holds = λ judged h. subst (λ (x : Option Message). HoldsListedSlot l.distance x judged after) (sym (counts judged h)) record {
-    text = rw (silent, text, slots) (nothing_follows text_gauge (omega arith) l.distance pos l.slots (marks text_mark judged) (spans l.distance (marks text_mark judged)) l.text h.text);
-    name = subst (λ n. HoldsNewestSpans name_gauge l.distance n (name_mark message) (marks name_mark judged) after.name) (sym slots) (holds (marks name_mark judged) h.name);
+pub names_listed : (l after : AuditState) (message : Option Message) (result : FaultSet) → 0 < l.distance → text_mark message ≡ Nothing → after.text ≡ l.text
+    → ((judged : List (Option Message)) → HoldsLog l.distance judged l → counted_as l.start judged message ≡ message)
+    → ((sent : List Mark) → HoldsSpans name_gauge l.distance sent l.name → HoldsNewestSpans name_gauge l.distance (name_mark message) sent after.name)
+    → ((sent : List Mark) → HoldsSpans name_gauge l.distance sent l.name → result ≡ added name_gauge l.distance (name_mark message) sent) → ListsMessage l after message result
+names_listed l after message result pos silent text counts holds adds = record {
+  holds = λ judged h. subst (λ (x : Option Message). HoldsSlot l.distance x judged after) (sym (counts judged h)) record {
+    text = rw (silent, text) (nothing_follows text_gauge (omega arith) l.distance pos (marks text_mark judged) (spans l.distance (marks text_mark judged)) l.text h.text);
+    name = holds (marks name_mark judged) h.name;
   };
   added = λ judged h. subst (λ (x : Option Message). result ≡ slot_adds l.distance x judged) (sym (counts judged h)) (adds (marks name_mark judged) h.name ∙ sym (names_add l.distance message judged silent));
 }
 
 -- a message with nothing for either service
-pub nothing_listed : (l : ListingState) (message : Option Message) (result : FaultSet) → 0 < l.distance → result ≡ none_broken → ((judged : List (Option Message)) → HoldsListed l.distance judged l → IsSilent (counted_as l.start judged message)) → ListsMessage l l message result
+pub nothing_listed : (l : AuditState) (message : Option Message) (result : FaultSet) → 0 < l.distance → result ≡ none_broken → ((judged : List (Option Message)) → HoldsLog l.distance judged l → IsSilent (counted_as l.start judged message)) → ListsMessage l l message result
 nothing_listed l message result pos none silent = record {
   holds = λ judged h. record {
-    text = rw (silent judged h).0 (nothing_follows text_gauge (omega arith) l.distance pos l.slots (marks text_mark judged) (spans l.distance (marks text_mark judged)) l.text h.text);
-    name = rw (silent judged h).1 (nothing_follows name_gauge (omega arith) l.distance pos l.slots (marks name_mark judged) (spans l.distance (marks name_mark judged)) l.name h.name);
+    text = rw (silent judged h).0 (nothing_follows text_gauge (omega arith) l.distance pos (marks text_mark judged) (spans l.distance (marks text_mark judged)) l.text h.text);
+    name = rw (silent judged h).1 (nothing_follows name_gauge (omega arith) l.distance pos (marks name_mark judged) (spans l.distance (marks name_mark judged)) l.name h.name);
   };
   added = λ judged h. none ∙ sym (texts_add l.distance (counted_as l.start judged message) judged (silent judged h).1
       ∙ ap (λ (m : Mark). added text_gauge l.distance m (marks text_mark judged)) (silent judged h).0 ∙ nothing_adds text_gauge l.distance (marks text_mark judged));
 }
 
 -- at the end of a slot
-pub slot_listed : (d : ℕ) (newest : Option Message) (judged : List (Option Message)) (l after : ListingState) → 0 < d → after.slots ≡ l.slots + 1 → after.text ≡ aged_in d l.text → after.name ≡ aged_in d l.name → HoldsListedSlot d newest judged l → HoldsListed d (newest ∷ judged) after
-slot_listed d newest judged l after pos slots text name h = record {
-  text = rw (slots, text) (spans_later text_gauge d l.slots (text_mark newest) (marks text_mark judged) l.text pos h.text);
-  name = rw (slots, name) (spans_later name_gauge d l.slots (name_mark newest) (marks name_mark judged) l.name pos h.name);
+pub slot_listed : (d : ℕ) (newest : Option Message) (judged : List (Option Message)) (l after : AuditState) → 0 < d → after.text ≡ aged_in d l.text → after.name ≡ aged_in d l.name → HoldsSlot d newest judged l → HoldsLog d (newest ∷ judged) after
+slot_listed d newest judged l after pos text name h = record {
+  text = rw text (spans_later text_gauge d (text_mark newest) (marks text_mark judged) l.text pos h.text);
+  name = rw name (spans_later name_gauge d (name_mark newest) (marks name_mark judged) l.name pos h.name);
 }
 
--- ---- the list of a log
+-- ---- the audit of a log
 
--- the list took a slot: its state follows from the log with that slot, and it noted the first fault
-module _ (l end next : ListingState) (slot : Option Group) (found : FaultSet) (took : ListsGroup l end slot found) (slots : next.slots ≡ end.slots) (one_more : end.slots ≡ l.slots + 1) (text : next.text ≡ end.text) (name : next.name ≡ end.name)
-    (programme : next.programme ≡ l.programme) (distance : next.distance ≡ l.distance) (start : next.start ≡ l.start) (first : l.fault ≡ None → next.fault ≡ first_of found) (again : (fault : AuditFault) → l.fault ≡ Some fault → next.fault ≡ Some fault)
-    (pi d : ℕ) (log : List (Option Group)) (s : ListingStandsAt pi d l log) where
-  hears_here : Hears pi slot took.message
-  hears_here = subst (λ n. Hears n slot took.message) s.programme took.hears
+-- an audit goes on with a slot
+abbrev pub HearsNext : ℕ → AuditState → AuditState → Option Group → Option Message → Type 0
+HearsNext pi a after slot message = Hears pi slot message × (after.programme ≡ a.programme) × (after.distance ≡ a.distance) × (after.start ≡ a.start)
 
-  held : (judged : List (Option Message)) → IsJudgedAs l.start d s.heard judged → HoldsListed l.distance judged l
-  held judged is = subst (λ n. HoldsListed n judged l) (sym s.distance) (s.holds judged is)
+goes_on : (pi d : ℕ) (a after : AuditState) (log : List (Option Group)) (s : AuditStandsAt pi d a log) (slot : Option Group) (message : Option Message) → HearsNext pi a after slot message
+    → ((judged : List (Option Message)) → IsJudgedAs a.start d s.heard judged → HasJudged d after (counted_as a.start judged message ∷ judged)) → AuditStandsAt pi d after (slot ∷ log)
+goes_on pi d a after log s slot message (hears, programme, distance, start) has = record {
+  programme = programme ∙ s.programme;
+  distance = distance ∙ s.distance;
+  lasts = s.lasts;
+  heard = message ∷ s.heard;
+  are = (hears, s.are);
+  holds = λ judged is.
+      let (before, was, e) = judged_step a.start d message s.heard judged (subst (λ st. IsJudgedAs st d (message ∷ s.heard) judged) start is) in
+      subst (HasJudged d after) (sym e) (has before was);
+}
+
+-- the audit took a slot, whatever its fault
+module _ (a end next : AuditState) (slot : Option Group) (found : FaultSet) (took : ListsGroup a end slot found) (text : next.text ≡ end.text) (name : next.name ≡ end.name)
+    (programme : next.programme ≡ a.programme) (distance : next.distance ≡ a.distance) (start : next.start ≡ a.start) (first : a.fault ≡ None → next.fault ≡ first_of found) (again : (fault : AuditFault) → a.fault ≡ Some fault → next.fault ≡ Some fault)
+    (pi d : ℕ) (log : List (Option Group)) where
+  hears_here : AuditStandsAt pi d a log → Hears pi slot took.message
+  hears_here s = subst (λ n. Hears n slot took.message) s.programme took.hears
 
   -- what was found is what the slot adds
-  adds_here : (judged : List (Option Message)) → IsJudgedAs l.start d s.heard judged → found ≡ slot_adds d (counted_as l.start judged took.message) judged
-  adds_here judged is = took.added judged (held judged is) ∙ ap (λ n. slot_adds n (counted_as l.start judged took.message) judged) s.distance
+  adds_here : (s : AuditStandsAt pi d a log) (judged : List (Option Message)) → HoldsLog d judged a → found ≡ slot_adds d (counted_as a.start judged took.message) judged
+  adds_here s judged h = took.added judged (subst (λ n. HoldsLog n judged a) (sym s.distance) h) ∙ ap (λ n. slot_adds n (counted_as a.start judged took.message) judged) s.distance
 
-  holds_here : (judged : List (Option Message)) → IsJudgedAs l.start d s.heard judged → HoldsListed d (counted_as l.start judged took.message ∷ judged) next
-  holds_here judged is =
-      let there : HoldsListed d (counted_as l.start judged took.message ∷ judged) end = subst (λ n. HoldsListed n (counted_as l.start judged took.message ∷ judged) end) s.distance (took.holds judged (held judged is)) in
-      record { text = rw (slots, text) there.text; name = rw (slots, name) there.name }
+  holds_here : (s : AuditStandsAt pi d a log) (judged : List (Option Message)) → HoldsLog d judged a → HoldsLog d (counted_as a.start judged took.message ∷ judged) next
+  holds_here s judged h =
+      let there : HoldsLog d (counted_as a.start judged took.message ∷ judged) end = subst (λ n. HoldsLog n (counted_as a.start judged took.message ∷ judged) end) s.distance (took.holds judged (subst (λ n. HoldsLog n judged a) (sym s.distance) h)) in
+      record { text = rw text there.text; name = rw name there.name }
 
-  first_here : (judged : List (Option Message)) → IsJudgedAs l.start d s.heard judged → IsFirst d (counted_as l.start judged took.message ∷ judged) next.fault
-  first_here judged is =
-      first_next d (counted_as l.start judged took.message) judged l.fault next.fault (formed_counted l.start judged took.message (formed_heard pi slot took.message hears_here))
-      (λ none. first none ∙ ap first_of (adds_here judged is)) again (s.fault judged is)
+  stands_next : AuditStandsAt pi d a log → AuditStandsAt pi d next (slot ∷ log)
+  stands_next s =
+      goes_on pi d a next log s slot took.message (hears_here s, programme, distance, start) (λ judged is.
+      judged_next d (counted_as a.start judged took.message) judged a next (formed_counted a.start judged took.message (formed_heard pi slot took.message (hears_here s)))
+      (holds_here s judged) (λ h none. first none ∙ ap first_of (adds_here s judged h)) again (s.holds judged is))
 
-  pub stands_next : ListingStandsAt pi d next (slot ∷ log)
-  stands_next = record {
-    programme = programme ∙ s.programme;
-    distance = distance ∙ s.distance;
-    lasts = s.lasts;
-    heard = took.message ∷ s.heard;
-    are = (hears_here, s.are);
-    slots = omega (arith, slots, one_more, s.slots);
+  follows_next : FollowsLog pi d a log → FollowsLog pi d next (slot ∷ log)
+  unfolding stands_next goes_on
+  follows_next s = record {
+    at = stands_next s.at;
     holds = λ judged is.
-        let (before, was, e) = judged_step l.start d took.message s.heard judged (subst (λ st. IsJudgedAs st d (took.message ∷ s.heard) judged) start is) in
-        subst (λ (x : List (Option Message)). HoldsListed d x next) (sym e) (holds_here before was);
-    fault = λ judged is.
-        let (before, was, e) = judged_step l.start d took.message s.heard judged (subst (λ st. IsJudgedAs st d (took.message ∷ s.heard) judged) start is) in
-        subst (λ (x : List (Option Message)). IsFirst d x next.fault) (sym e) (first_here before was);
+        let (before, was, e) = judged_step a.start d took.message s.at.heard judged (subst (λ st. IsJudgedAs st d (took.message ∷ s.at.heard) judged) start is) in
+        subst (λ (x : List (Option Message)). HoldsLog d x next) (sym e) (holds_here s.at before (s.holds before was));
   }
 
-  pub found_adds : (message : Option Message) → Hears pi slot message → (judged : List (Option Message)) → IsJudgedAs l.start d s.heard judged → found ≡ slot_adds d (counted_as l.start judged message) judged
-  found_adds message hears judged is =
-      adds_here judged is ∙ ap (λ (m : Option Message). slot_adds d (counted_as l.start judged m) judged) (same_heard_in pi slot took.message message hears_here hears)
+  found_adds : (s : FollowsLog pi d a log) (message : Option Message) → Hears pi slot message → (judged : List (Option Message)) → IsJudgedAs a.start d s.at.heard judged → found ≡ slot_adds d (counted_as a.start judged message) judged
+  found_adds s message hears judged is =
+      adds_here s.at judged (s.holds judged is) ∙ ap (λ (m : Option Message). slot_adds d (counted_as a.start judged m) judged) (same_heard_in pi slot took.message message (hears_here s.at) hears)
 
--- the list took a slot, before it counted 2 ^ 64 - 1 of them
-pub lists_slot : (l end next : ListingState) (slot : Option Group) (found : FaultSet) → (l.slots + 1 < 2 ^ 64 → ListsGroup l end slot found) → (l.slots + 1 < 2 ^ 64 → end.slots ≡ l.slots + 1)
-    → next.slots ≡ end.slots → next.text ≡ end.text → next.name ≡ end.name → next.programme ≡ l.programme → next.distance ≡ l.distance → next.start ≡ l.start
-    → (l.fault ≡ None → next.fault ≡ first_of found) → ((fault : AuditFault) → l.fault ≡ Some fault → next.fault ≡ Some fault) → ListsSlot l next slot found
-lists_slot l end next slot found takes one_more slots text name programme distance start first again = record {
-  stands = λ pi d log s small.
-      let few = enough pi d log s small in
-      stands_next l end next slot found (takes few) slots (one_more few) text name programme distance start first again pi d log s;
-  added = λ pi d log s small message hears judged is.
-      let few = enough pi d log s small in
-      found_adds l end next slot found (takes few) slots (one_more few) text name programme distance start first again pi d log s message hears judged is;
+pub takes_all : (a end next : AuditState) (slot : Option Group) (found : FaultSet) → ListsGroup a end slot found
+    → next.text ≡ end.text → next.name ≡ end.name → next.programme ≡ a.programme → next.distance ≡ a.distance → next.start ≡ a.start
+    → (a.fault ≡ None → next.fault ≡ first_of found) → ((fault : AuditFault) → a.fault ≡ Some fault → next.fault ≡ Some fault) → TakesAll a next slot found
+takes_all a end next slot found took text name programme distance start first again = record {
+  stands = stands_next a end next slot found took text name programme distance start first again;
+  follows = follows_next a end next slot found took text name programme distance start first again;
+  adds = found_adds a end next slot found took text name programme distance start first again;
+  start = start;
+  first = first;
+  again = again;
 }
-  where
-    enough : (pi d : ℕ) (log : List (Option Group)) → ListingStandsAt pi d l log → length log + 1 < 2 ^ 64 → l.slots + 1 < 2 ^ 64
-    enough pi d log s small = omega (arith, s.slots, small)
+
+-- the log of an audit without a fault passes
+pub log_passes : (d : ℕ) (a : AuditState) (judged : List (Option Message)) → a.fault ≡ None → HasJudged d a judged → LogPasses d judged × HoldsLog d judged a
+log_passes d a judged none has = subst (λ (o : Option AuditFault). MatchOption o (LogPasses d judged × HoldsLog d judged a) (IsFaultOf d judged)) none has
+
+-- and a fault is that of the log
+pub fault_is : (d : ℕ) (a : AuditState) (judged : List (Option Message)) (fault : AuditFault) → a.fault ≡ Some fault → HasJudged d a judged → IsFaultOf d judged fault
+fault_is d a judged fault some has = subst (λ (o : Option AuditFault). MatchOption o (LogPasses d judged × HoldsLog d judged a) (IsFaultOf d judged)) some has
+
+-- after a fault an audit stays as it is
+pub takes_again : (a : AuditState) (slot : Option Group) (message : Option Message) (fault : AuditFault) → a.fault ≡ Some fault → Hears a.programme slot message → TakesSlot a a slot (Err fault)
+takes_again a slot message fault some hears = record {
+  stands = λ pi d log s.
+      goes_on pi d a a log s slot message (subst (λ n. Hears n slot message) s.programme hears, refl, refl, refl) (λ judged is.
+      subst (λ (o : Option AuditFault). MatchOption o (LogPasses d (counted_as a.start judged message ∷ judged) × HoldsLog d (counted_as a.start judged message ∷ judged) a) (IsFaultOf d (counted_as a.start judged message ∷ judged))) (sym some)
+      (inr (fault_is d a judged fault some (s.holds judged is))));
+  fault = some;
+  start = refl;
+  which = λ pi d log s judged is. fault_is d a judged fault some (s.holds judged is);
+  again = λ other same. (ap Err (let e : fault ≡ other = cc in e), refl);
+}
 
 -- before the first slot
-pub list_starts : (pi d : ℕ) (start : LogStart) (l : ListingState) → l.programme ≡ pi → l.distance ≡ d → 0 < d → l.start ≡ start → l.slots ≡ 0 → l.fault ≡ None
-    → ((sent : List Mark) → IsSilentAs start d sent → HoldsSpans text_gauge d 0 sent l.text) → ((sent : List Mark) → IsSilentAs start d sent → HoldsSpans name_gauge d 0 sent l.name) → ListingStandsAt pi d l []
-list_starts pi d start l programme distance lasts begins none clean texts names = record {
-  programme = programme;
-  distance = distance;
-  lasts = lasts;
-  heard = [];
-  are = tt;
-  slots = none;
-  holds = λ judged is.
-      let first : IsJudgedAs start d [] judged = subst (λ st. IsJudgedAs st d [] judged) begins is in
-      record {
-        text = rw none (texts (marks text_mark judged) (texts_begin start d judged first));
-        name = rw none (names (marks name_mark judged) (names_begin start d judged first));
-      };
-  fault = λ judged is.
-      let first : IsJudgedAs start d [] judged = subst (λ st. IsJudgedAs st d [] judged) begins is in
-      subst (IsFirst d judged) (sym clean)
-      record {
-        text = (silent_holds text_gauge start d (marks text_mark judged) (texts_begin start d judged first)).passes;
-        name = (silent_holds name_gauge start d (marks name_mark judged) (names_begin start d judged first)).passes;
-      };
+pub audit_starts : (pi d : ℕ) (start : LogStart) (a : AuditState) → a.programme ≡ pi → a.distance ≡ d → 0 < d → a.start ≡ start → a.fault ≡ None
+    → ((sent : List Mark) → IsSilentAs start d sent → HoldsSpans text_gauge d sent a.text) → ((sent : List Mark) → IsSilentAs start d sent → HoldsSpans name_gauge d sent a.name) → FollowsLog pi d a []
+audit_starts pi d start a programme distance lasts begins clean texts_hold names_hold = record {
+  at = record {
+    programme = programme;
+    distance = distance;
+    lasts = lasts;
+    heard = [];
+    are = tt;
+    holds = λ judged is.
+        let first : IsJudgedAs start d [] judged = subst (λ st. IsJudgedAs st d [] judged) begins is in
+        subst (λ (o : Option AuditFault). MatchOption o (LogPasses d judged × HoldsLog d judged a) (IsFaultOf d judged)) (sym clean) (
+          record {
+            text = silent_passes texts start d (marks text_mark judged) (texts_begin start d judged first);
+            name = silent_passes names start d (marks name_mark judged) (names_begin start d judged first);
+          },
+          holds judged is,
+        );
+  };
+  holds = holds;
 }
+  where
+    holds : (judged : List (Option Message)) → IsJudgedAs a.start d [] judged → HoldsLog d judged a
+    holds judged is =
+        let first : IsJudgedAs start d [] judged = subst (λ st. IsJudgedAs st d [] judged) begins is in
+        record { text = texts_hold (marks text_mark judged) (texts_begin start d judged first); name = names_hold (marks name_mark judged) (names_begin start d judged first) }
 
 -- the log passes exactly if there is no fault
-pub passes_exactly : (d : ℕ) (judged : List (Option Message)) (fault : Option AuditFault) → IsFirst d judged fault → (fault ≡ None) ↔ LogPasses d judged
-passes_exactly d judged None passes = (λ e. passes, λ p. refl)
-passes_exactly d judged (Some fault) f = (λ e. (let e = e in absurd (cc)), λ p. absurd (no_fault d judged fault f p))
+pub passes_exactly : (d : ℕ) (a : AuditState) (judged : List (Option Message)) → HasJudged d a judged → (a.fault ≡ None) ↔ LogPasses d judged
+passes_exactly d a judged has = ((λ none. (log_passes d a judged none has).0), by a.fault refl)
+  where
+    by : (o : Option AuditFault) → a.fault ≡ o → LogPasses d judged → a.fault ≡ None
+    by None e passes = e
+    by (Some fault) e passes = absurd (no_fault d judged fault (fault_is d a judged fault e has) passes)

@@ -1,21 +1,18 @@
 -- Lemmas: logs that begin in the middle.
-use Rattle.std.proofs.Common.{◌≡◌, ◌+◌, ◌*◌, min, ℕ, zero, suc, Bool, true, false, List, [], ◌∷◌, Option, Some, None, length, refl, sym, ap, ◌∙◌, subst, inl, inr, arith}
+use Rattle.std.proofs.Common.{◌≡◌, ℕ, zero, suc, Bool, true, false, List, [], ◌∷◌, Option, Some, None, length, refl, sym, ap, ◌∙◌, subst, inl, inr, arith}
 use Rattle.std.specs.Prelude.{replicate}
-use Rattle.std.proofs.lemmas.Bool.{cond_both}
 use Rattle.rds_fields.specs.declared.message.Message.{Message}
 use Rattle.rds_fields.specs.declared.message.Message.TheVariants.{Text, Name, Announce, Tags, Other}
 use Rattle.rds_fields.specs.Tag.{PairFields}
-use Rattle.rds_receiver.specs.Receipts.{Fragment}
 use Rattle.rds_safety.specs.Marks.{IsMarkIn, Mark, Nothing, Tagged, marks, name_mark, text_mark}
 use Rattle.rds_audit.specs.declared.log_start.LogStart.{LogStart}
 use Rattle.rds_audit.specs.declared.log_start.LogStart.TheVariants.{Complete, Running}
-use Rattle.rds_audit.specs.Ages.{Ages, HasCurrent, age_at, ages_at}
-use Rattle.rds_audit.specs.AuditStandsAt.{HoldsLog, HoldsMarks}
-use Rattle.rds_audit.specs.AuditState.{AuditState, no_content}
-use Rattle.rds_audit.specs.Lengths.{Gauge, name_gauge, text_gauge}
+use Rattle.rds_audit.specs.Ages.{Ages}
+use Rattle.rds_audit.specs.ReignsState.{ContentState, ReignsState}
 use Rattle.rds_audit.specs.Recording.{IsJudgedAs, IsSilentAs, counted_as, from_first_text, has_text}
-use Rattle.rds_audit.specs.Reigns.{Reign, after_fragment, after_tags, joins, reigns}
-use Rattle.rds_audit.proofs.ContentSteps.{empty_content}
+use Rattle.rds_audit.specs.Reigns.{reigns}
+use Rattle.rds_audit.specs.Rules.{Passes}
+use Rattle.rds_safety.specs.Lawful.{Kind}
 
 -- ---- before the first slot
 
@@ -36,18 +33,11 @@ pub names_begin : (start : LogStart) (d : ℕ) (judged : List (Option Message)) 
 names_begin Complete d judged e = ap (marks name_mark) e
 names_begin Running d judged (lost, far, e) = (lost, far, ap (marks name_mark) e ∙ silent_names lost)
 
-pub log_begins : (start : LogStart) (d : ℕ) (a : AuditState) → ((sent : List Mark) → IsSilentAs start d sent → HoldsMarks text_gauge d sent a.text) → ((sent : List Mark) → IsSilentAs start d sent → HoldsMarks name_gauge d sent a.name)
-    → (judged : List (Option Message)) → IsJudgedAs start d [] judged → HoldsLog d judged a
-log_begins start d a texts names judged is = record {
-  text = texts (marks text_mark judged) (texts_begin start d judged is);
-  name = names (marks name_mark judged) (names_begin start d judged is);
-}
-
 pub silent_reigns : (d lost : ℕ) → reigns d (replicate lost Nothing) ≡ []
 silent_reigns d zero = refl
 silent_reigns d (suc n) = silent_reigns d n
 
-silent_length : (lost : ℕ) → length (replicate lost Nothing) ≡ lost
+pub silent_length : (lost : ℕ) → length (replicate lost Nothing) ≡ lost
 silent_length zero = refl
 silent_length (suc n) = let e = silent_length n in omega arith
 
@@ -56,56 +46,18 @@ no_tags zero t pair h = h
 no_tags (suc n) t pair (inl s) = (let none = s.1 in cc)
 no_tags (suc n) t pair (inr s) = no_tags n t pair s
 
--- the state of a service before the first slot
-silence : (g : Gauge) (start : LogStart) (d lost : ℕ) → age_at start d ≡ min (lost + d) (2 * d) → HoldsMarks g d (replicate lost Nothing) record { ages = ages_at start d; content = no_content g.longest }
-silence g start d lost e = record {
-  ages = rw (silent_reigns d lost, silent_length lost) record { newest = e; second = e; current = refl; turns = ((λ _. tt), (λ _. refl)) };
-  content = rw (silent_reigns d lost) (empty_content g);
-  passes = record {
-    reigns = rw (silent_reigns d lost) tt;
-    tagged = λ t pair h. absurd (no_tags lost t pair h);
-  };
+-- what is silent passes
+silence : (kind : Kind) (d lost : ℕ) → Passes d kind (replicate lost Nothing)
+silence kind d lost = record {
+  reigns = rw (silent_reigns d lost) tt;
+  tagged = λ t pair h. absurd (no_tags lost t pair h);
 }
 
-pub silent_holds : (g : Gauge) (start : LogStart) (d : ℕ) (sent : List Mark) → IsSilentAs start d sent → HoldsMarks g d sent record { ages = ages_at start d; content = no_content g.longest }
-silent_holds g Complete d sent e = subst (λ (x : List Mark). HoldsMarks g d x record { ages = ages_at Complete d; content = no_content g.longest }) (sym e) (silence g Complete d 0 (omega arith))
-silent_holds g Running d sent (lost, far, e) = subst (λ (x : List Mark). HoldsMarks g d x record { ages = ages_at Running d; content = no_content g.longest }) (sym e) (silence g Running d lost (omega arith))
+pub silent_passes : (kind : Kind) (start : LogStart) (d : ℕ) (sent : List Mark) → IsSilentAs start d sent → Passes d kind sent
+silent_passes kind Complete d sent e = subst (Passes d kind) (sym e) (silence kind d 0)
+silent_passes kind Running d sent (lost, far, e) = subst (Passes d kind) (sym e) (silence kind d lost)
 
 -- ---- from slot to slot
-
--- there is a reign
-is_begun : List Reign → Bool
-is_begun [] = false
-is_begun (r ∷ older) = true
-
-begun_by_fragment : (d slot : ℕ) (p : Fragment) (rs : List Reign) → is_begun (after_fragment d slot p rs) ≡ true
-unfolding is_begun
-begun_by_fragment d slot p [] = refl
-begun_by_fragment d slot p (r ∷ older) = cond_both (joins d slot p.flag r) _ _ (λ x. is_begun x ≡ true) (λ _. refl) (λ _. refl)
-
-begun_by_tags : (slot : ℕ) (pair : PairFields) (rs : List Reign) → is_begun (after_tags slot pair rs) ≡ is_begun rs
-unfolding is_begun
-begun_by_tags slot pair [] = refl
-begun_by_tags slot pair (r ∷ older) = refl
-
-begun_if : (d : ℕ) (judged : List (Option Message)) → is_begun (reigns d (marks text_mark judged)) ≡ has_text judged
-unfolding is_begun
-begun_if d [] = refl
-begun_if d (None ∷ before) = begun_if d before
-begun_if d (Some (Text f a b) ∷ before) = begun_by_fragment d _ record { flag = f; address = a; bytes = b } (reigns d (marks text_mark before))
-begun_if d (Some (Name f a b) ∷ before) = begun_if d before
-begun_if d (Some (Announce code bits aid) ∷ before) = begun_if d before
-begun_if d (Some (Tags pair) ∷ before) = begun_by_tags _ pair (reigns d (marks text_mark before)) ∙ begun_if d before
-begun_if d (Some Other ∷ before) = begun_if d before
-
-open_begun : (d slot : ℕ) (rs : List Reign) (a : Ages) → HasCurrent d slot rs a → a.is_open ≡ is_begun rs
-unfolding is_begun
-open_begun d slot [] a h = h
-open_begun d slot (r ∷ older) a h = h.0
-
--- there is a current reign of texts exactly if a text segment was judged
-pub open_if : (d : ℕ) (judged : List (Option Message)) (a : AuditState) → HoldsLog d judged a → a.text.ages.is_open ≡ has_text judged
-open_if d judged a h = open_begun d _ (reigns d (marks text_mark judged)) a.text.ages h.text.ages.current ∙ begun_if d judged
 
 -- tags count after a text segment, and not before
 pub tags_count : (start : LogStart) (judged : List (Option Message)) (pair : PairFields) → has_text judged ≡ true → counted_as start judged (Some (Tags pair)) ≡ Some (Tags pair)
@@ -145,3 +97,10 @@ announcement_counts Running judged code bits aid = (refl, refl)
 pub other_counts : (start : LogStart) (judged : List (Option Message)) → IsSilent (counted_as start judged (Some Other))
 other_counts Complete judged = (refl, refl)
 other_counts Running judged = (refl, refl)
+
+-- a state by its two parts
+pub state_is : (after : ReignsState) (ages : Ages) (content : ContentState) → after.ages ≡ ages → after.content ≡ content → after ≡ record { ages = ages; content = content }
+state_is after ages content e f = ap (λ (x : Ages). both x after.content) e ∙ ap (λ (x : ContentState). both ages x) f
+  where
+    both : Ages → ContentState → ReignsState
+    both x y = record { ages = x; content = y }

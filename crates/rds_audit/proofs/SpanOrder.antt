@@ -1,5 +1,5 @@
 -- Lemmas: the slots of spans, and the newest fragment at an address.
-use Rattle.std.proofs.Common.{◌≡◌, ◌+◌, ◌<◌, ◌≤◌, max, ℕ, suc, Bool, true, false, nat_eq, nat_lt, List, [], ◌∷◌, Option, Some, None, length, cond, refl, subst, arith}
+use Rattle.std.proofs.Common.{◌≡◌, ◌+◌, ◌<◌, ◌≤◌, max, ℕ, suc, Bool, true, false, nat_eq, nat_lt, List, [], ◌∷◌, Option, Some, None, length, cond, refl, arith}
 use Rattle.std.specs.List.{AllByRecursion}
 use Rattle.std.proofs.lemmas.Bool.{and_parts, cond_both, eqb-true, ltb-false}
 use Rattle.rds_fields.specs.Tag.{PairFields}
@@ -61,22 +61,12 @@ turned_in_order d now p is_changed r older h =
     ) in
     (first_in_order (r.last + 1) now _ p is_changed _ start.2 start.3, all_later now (r ∷ older) h)
 
--- a fact of each fragment holds of the newest one at an address
-pub newest_has : (Q : SentFragment → Type 0) (a : ℕ) (sent : List SentFragment) (s : SentFragment) → AllByRecursion Q sent → newest_at a sent ≡ Some s → Q s
-newest_has Q a [] s all e = absurd (cc)
-newest_has Q a (t ∷ older) s all e = by (nat_eq a t.fragment.address) e (newest_has Q a older s all.1)
-  where
-    by : (v : Bool) → cond v (Some t) (newest_at a older) ≡ Some s → (newest_at a older ≡ Some s → Q s) → Q s
-    by true e rest = (let same : t ≡ s = cc in subst Q same all.0)
-    by false e rest = rest e
-
 joined_in_order : (d now : ℕ) (p : Fragment) (o : Option SentFragment) (r : Span) (older : List Span) → newest_at p.address r.fragments ≡ o → AreInOrder now (r ∷ older) → AreInOrder (suc now) (joined d now p o r older)
 joined_in_order d now p None r older e h = (more_in_order (after_span older) now p r h.0, all_later now older h.1)
 joined_in_order d now p (Some s) r older e h =
     cond_both (same_bytes p.bytes s.fragment.bytes) _ _ (λ (rs : List Span). AreInOrder (suc now) rs)
     (λ _. (more_in_order (after_span older) now p r h.0, all_later now older h.1))
-    (λ _. let near = newest_has (λ (s : SentFragment). (r.start ≤ s.slot) × (s.slot < now)) p.address r.fragments s h.0.sent e in
-    turned_in_order d now p true (record r { last = s.slot }) older (record { after = h.0.after; begun = near.0; over = near.1; sent = h.0.sent }, h.1))
+    (λ _. turned_in_order d now p true r older h)
 
 after_in_order : (d now : ℕ) (p : Fragment) (rs : List Span) → 0 < d → AreInOrder now rs → AreInOrder (suc now) (spans_after d now p rs)
 after_in_order d now p [] pos h = (first_in_order 0 now 0 p false false (omega arith) (omega arith), tt)

@@ -15,7 +15,7 @@ use Rattle.rds_audit.specs.declared.fault_set.FaultSet.{FaultSet}
 use Rattle.rds_audit.specs.Lengths.{Gauge, IsExact, IsFormed, lengths_of, sent_last, tags_end}
 use Rattle.rds_audit.specs.Listing.{SentFragment, Span, added, broken_by, broken_newest, first_of, first_of_span, fits, fragments_in, has_early_tags, joined, newest_at, none_broken, not_before, past_span, same_bytes, span_with, spans, spans_after, spans_tagged, turned}
 use Rattle.rds_audit.specs.ListingLaws.{IsFormedMark}
-use Rattle.rds_audit.specs.ListingStandsAt.{first_slot, reign_of, reigns_of}
+use Rattle.rds_audit.specs.AuditStandsAt.{first_slot, reign_of, reigns_of}
 use Rattle.rds_audit.specs.Reigns.{Reign, SentTags, after_fragment, after_tags, joins, past_newest, reigns, with_fragment, opened_by}
 use Rattle.rds_audit.specs.Rules.{AreUnchanged, CanBeBroadcast, HaveOneValue, IsAfterFragment, IsBrokenBy, IsBrokenByFragment, IsBrokenByTags, Passes}
 use Rattle.rds_audit.proofs.Faults.{mark_fails}
@@ -166,7 +166,7 @@ past_same d (q ∷ rest) = refl
 -- or it opens one in time; or it opens one too early
 module _ (Q : List Span → List Reign → Type 0) (d slot : ℕ) (p : Fragment) (r : Span) (older : List Span)
     (joins_it : AreUnchanged (p ∷ fragments_in r.fragments) → Q (span_with slot p r ∷ older) (with_fragment slot p (reign_of r) ∷ reigns_of older))
-    (changes_it : (last : ℕ) → (AreUnchanged (p ∷ fragments_in r.fragments) → ⊥) → Q (turned d slot p true (record r { last = last }) older) (with_fragment slot p (reign_of r) ∷ reigns_of older))
+    (changes_it : (AreUnchanged (p ∷ fragments_in r.fragments) → ⊥) → Q (turned d slot p true r older) (with_fragment slot p (reign_of r) ∷ reigns_of older))
     (opens_late : (start : ℕ) → start ≤ slot → Q (first_of_span slot p start false false ∷ r ∷ older) (reigns_of (first_of_span slot p start false false ∷ r ∷ older)))
     (opens_early : (start late : ℕ) → slot < late → Q (first_of_span slot p start false true ∷ r ∷ older) (reign_of (first_of_span slot p late false true) ∷ reigns_of (r ∷ older))) where
   by_address : AreUnchanged (fragments_in r.fragments) → (o : Option SentFragment) → newest_at p.address r.fragments ≡ o → Q (joined d slot p o r older) (with_fragment slot p (reign_of r) ∷ reigns_of older)
@@ -175,7 +175,7 @@ module _ (Q : List Span → List Reign → Type 0) (d slot : ℕ) (p : Fragment)
       let sent : sent_last p.address (fragments_in r.fragments) ≡ Some t.fragment.bytes = bytes_at p.address r.fragments ∙ ap bytes_of e in
       cond_both (same_bytes p.bytes t.fragment.bytes) _ _ (λ (rs : List Span). Q rs (with_fragment slot p (reign_of r) ∷ reigns_of older))
       (λ same. joins_it (unchanged_by p (fragments_in r.fragments) u (inr (sent ∙ ap Some (sym (same_bytes_are _ _ same))))))
-      (λ other. changes_it t.slot (λ u. elim (holds_unchanged p (fragments_in r.fragments) u) [
+      (λ other. changes_it (λ u. elim (holds_unchanged p (fragments_in r.fragments) u) [
         | inl none ↦ (let none = none in absurd (cc))
         | inr some ↦
             let bytes : p.bytes ≡ t.fragment.bytes = cc in
@@ -220,7 +220,7 @@ module _ (g : Gauge) (exact : IsExact g) (d : ℕ) where
         some = (tt, h.some.1);
         none = breaks_none g exact d (span_with (length before) p r) (subst (CanBeBroadcast d g.kind) (with_reign (length before) p r h.some.0) all.0) (ap (λ (f : FaultSet). f.changed) h.none) (ap (λ (f : FaultSet). f.early_flag) h.none);
       })
-      (λ last other all. absurd (other (can_be_unchanged (with_fragment (length before) p (reign_of r)) all.0)))
+      (λ other all. absurd (other (can_be_unchanged (with_fragment (length before) p (reign_of r)) all.0)))
       (λ start late all. record { same = refl; some = (tt, h.some); none = breaks_none g exact d (first_of_span (length before) p start false false) all.0 refl refl })
       (λ start late less all. absurd (omega (arith, all.0.begun, less)))
       (can_be_unchanged (reign_of r) was.0) all
@@ -296,7 +296,7 @@ module _ (g : Gauge) (exact : IsExact g) (d : ℕ) where
       by_fragment (λ (rs : List Span) (regs : List Reign). IsBrokenByFragment g.kind regs fault → first_of (broken_newest g d (Sends p ∷ before) rs) ≡ Some fault) d (length before) p r older
       (λ u b. first_broken g exact d (span_with (length before) p r) (with_fragment (length before) p (reign_of r)) (reigns_of older) fault (ap (λ (f : FaultSet). f.changed) none) (ap (λ (f : FaultSet). f.early_flag) none)
       (formed, exact.formed (fragments_in r.fragments) r.tags was.0.one) u (ap (λ (f : FaultSet). f.early_tag) none) was.0.begun refl refl b)
-      (λ last other b. only_changed (with_fragment (length before) p (reign_of r)) (reigns_of older) fault was.0.begun other b)
+      (λ other b. only_changed (with_fragment (length before) p (reign_of r)) (reigns_of older) fault was.0.begun other b)
       (λ start late b. first_broken g exact d (first_of_span (length before) p start false false) (reign_of (first_of_span (length before) p start false false)) (reigns_of (r ∷ older)) fault refl refl (formed, tt) (tt, tt) refl late refl refl b)
       (λ start late less b. only_early (reign_of (first_of_span (length before) p late false true)) (reigns_of (r ∷ older)) fault less b)
       (can_be_unchanged (reign_of r) was.0) b
@@ -363,7 +363,7 @@ module _ (g : Gauge) (exact : IsExact g) (d : ℕ) where
   fragment_judged slot p (r ∷ older) formed was =
       by_fragment (λ (rs : List Span) (regs : List Reign). Judged regs) d slot p r older
       (λ u. judged_content (with_fragment slot p (reign_of r)) (reigns_of older) was.1 (formed, exact.formed (fragments_in r.fragments) r.tags was.0.one) u was.0.begun was.0.lasted)
-      (λ last other. inr (Changed, (was.0.begun, other)))
+      (λ other. inr (Changed, (was.0.begun, other)))
       (λ start late. judged_content (reign_of (first_of_span slot p start false false)) (reigns_of (r ∷ older)) was (formed, tt) (tt, tt) late tt)
       (λ start late less. inr (EarlyFlag, less))
       (can_be_unchanged (reign_of r) was.0)

@@ -1,9 +1,8 @@
 -- Lemmas: the state of a service from slot to slot, as a list of faults keeps it.
-use Rattle.std.proofs.Common.{◌≡◌, ◌≢◌, ◌⊎◌, ◌+◌, ◌*◌, ◌-◌, ◌<◌, ◌≤◌, ◌&&◌, ◌||◌, ◌↔◌, not, max, min, ℕ, zero, suc, Bool, true, false, nat_eq, nat_lt, List, [], ◌∷◌, Option, Some, None, length, get_or, set, cond, refl, sym, ap, ◌∙◌, subst, inl, inr, arith}
+use Rattle.std.proofs.Common.{◌≡◌, ◌≢◌, ◌⊎◌, ◌+◌, ◌*◌, ◌-◌, ◌^◌, ◌<◌, ◌≤◌, ◌&&◌, ◌||◌, not, max, min, ℕ, zero, suc, Bool, true, false, nat_eq, nat_lt, List, [], ◌∷◌, Option, Some, None, length, set, cond, refl, sym, ap, ◌∙◌, subst, inl, inr, arith}
 use Rattle.std.specs.Prelude.{is_some, nat_le, replicate}
 use Rattle.std.specs.List.{list_all, list_any}
 use Rattle.std.proofs.lemmas.Bool.{and_parts, and_right, cases_lt, cond_both, eqb-true, false_from_ne_true, lt-leb, eq-eqb, ne_eqb, leb-true, le-leb, lt-ltb, le-ltb, ltb-true}
-use Rattle.std.proofs.lemmas.List.{get_or-set_other, get_or-set_same, length-set}
 use Rattle.rds_fields.specs.Tag.{PairFields}
 use Rattle.rds_receiver.specs.Receipts.{Fragment}
 use Rattle.rds_receiver.specs.Run.{is_same}
@@ -13,20 +12,18 @@ use Rattle.rds_audit.specs.declared.audited.Lengths.{Lengths}
 use Rattle.rds_audit.specs.declared.log_start.LogStart.{LogStart}
 use Rattle.rds_audit.specs.declared.log_start.LogStart.TheVariants.{Complete, Running}
 use Rattle.rds_audit.specs.declared.fault_set.FaultSet.{FaultSet}
-use Rattle.rds_audit.specs.Ages.{Ages, HoldsAges, Joins, age_of_newest, aged}
-use Rattle.rds_audit.specs.AuditStandsAt.{HoldsContent, HoldsMarks}
-use Rattle.rds_audit.specs.AuditState.{ContentState, HoldsNoOther, cell_at}
+use Rattle.rds_audit.specs.Ages.{Ages, HoldsAges, Joins, age_at, age_of_newest, aged, ages_at}
+use Rattle.rds_audit.specs.AuditStandsAt.{FollowsFrom, HoldsContent, HoldsNewestSpans, HoldsSpans, first_slot, reign_of, reigns_of}
+use Rattle.rds_audit.specs.ReignsState.{ContentState, HoldsNoOther, ReignsState, cell_at, no_content}
 use Rattle.rds_audit.specs.Lengths.{Gauge, IsFormed, lengths_of, narrowed, pair_end, tags_end}
 use Rattle.rds_audit.specs.Listing.{SentFragment, Span, added, broken_by, broken_newest, first_of_span, fragments_in, has_early_tags, is_tagged, joined, newest_at, none_broken, not_before, past_span, same_bytes, span_with, spans, spans_after, spans_tagged, turned}
-use Rattle.rds_audit.specs.ListingStandsAt.{FollowsFrom, HoldsNewestSpans, HoldsSlots, HoldsSpans, first_slot, reign_of, reigns_of}
-use Rattle.rds_audit.specs.ListingState.{SpansState, are_early, began_before, comes_early, ended_in, is_turned, judged_ends, judged_fragment, opened_in, put_in, repeated_in, tagged_in}
+use Rattle.rds_audit.specs.AuditState.{SpansState, are_early, began_before, comes_early, is_turned, judged_ends, judged_fragment, opened_in, put_in, repeated_in, tagged_in}
 use Rattle.rds_audit.specs.Recording.{IsSilentAs}
-use Rattle.rds_audit.specs.Reigns.{AlternateFlags}
 use Rattle.rds_audit.proofs.AgeSteps.{AreOver, ages_begun, ages_later, ages_renewed, joins_near, near_joins, none_joins}
 use Rattle.rds_audit.proofs.ContentSteps.{empty_content, taken_content, tagged_content}
 use Rattle.rds_audit.proofs.HeldAgain.{set_held}
-use Rattle.rds_audit.proofs.Recordings.{silent_reigns}
-use Rattle.rds_audit.proofs.SpanOrder.{AreInOrder, bytes_at, bytes_of, bytes_same, in_order, newest_has, same_bytes_are}
+use Rattle.rds_audit.proofs.Recordings.{silent_length}
+use Rattle.rds_audit.proofs.SpanOrder.{AreInOrder, bytes_at, bytes_of, bytes_same, in_order, same_bytes_are}
 
 -- ---- the rules that a span breaks
 
@@ -162,46 +159,20 @@ or_swap true false = refl
 or_swap false true = refl
 or_swap false false = refl
 
--- ---- the slots of fragments
+-- ---- the state after a fragment
 
-slots_put : (slots now : ℕ) (p : Fragment) (sent : List SentFragment) (at : List ℕ) → p.address < 16 → HoldsSlots slots now sent at → HoldsSlots slots now (record { slot = now; fragment = p } ∷ sent) (set at p.address slots)
-slots_put slots now p sent at few h = record {
-  long = length-set at p.address slots ∙ h.long;
-  past = λ a s less e. (put a s less e (nat_eq a p.address) refl).0;
-  same = λ a s less e. (put a s less e (nat_eq a p.address) refl).1;
-}
-  where
-    put : (a : ℕ) (s : SentFragment) → a < 16 → cond (nat_eq a p.address) (Some record { slot = now; fragment = p }) (newest_at a sent) ≡ Some s → (v : Bool) → nat_eq a p.address ≡ v
-        → (get_or (set at p.address slots) a 0 ≤ slots) × (get_or (set at p.address slots) a 0 + now ≡ slots + s.slot)
-    put a s less e true t =
-        let same : a ≡ p.address = eqb-true a p.address t in
-        let is : get_or (set at p.address slots) a 0 ≡ slots = ap (λ k. get_or (set at p.address slots) k 0) same ∙ get_or-set_same at p.address slots 0 (omega (arith, h.long)) in
-        let this : Some record { slot = now; fragment = p } ≡ Some s = rw t at e in
-        let slot : record { slot = now; fragment = p } ≡ s = cc in
-        (omega (arith, is), omega (arith, is, ap (λ (s : SentFragment). s.slot) slot))
-    put a s less e false t =
-        let that : newest_at a sent ≡ Some s = rw t at e in
-        let other : a ≢ p.address = (λ same. let yes = eq-eqb a p.address same in absurd (cc)) in
-        let is : get_or (set at p.address slots) a 0 ≡ get_or at a 0 = get_or-set_other at p.address a slots 0 other in
-        (omega (arith, is, h.past a s less that), omega (arith, is, h.same a s less that))
-
-slots_none : (slots now : ℕ) (at : List ℕ) → length at ≡ 16 → HoldsSlots slots now [] at
-slots_none slots now at long = record { long = long; past = λ a s less e. absurd (cc); same = λ a s less e. absurd (cc) }
-
-module _ (g : Gauge) (few : g.segments ≤ 16) (d : ℕ) (pos : 0 < d) (slots : ℕ) (sent : List Mark) where
+module _ (g : Gauge) (few : g.segments ≤ 16) (d : ℕ) (pos : 0 < d) (sent : List Mark) where
   abbrev now : ℕ
   now = length sent
 
   -- a fragment is put into a span
   put_follows : (p : Fragment) (r : Span) (older : List Span) (s : SpansState) → IsFormed g.segments p → HoldsAges d now (reigns_of (span_with now p r ∷ older)) record s.reigns.ages { since_last = 0 }
-      → HoldsContent g (fragments_in r.fragments) r.tags s.reigns.content → HoldsSlots slots now r.fragments s.sent_at → s.count ≡ suc (length older) → s.count ≤ slots + 1 → s.broken ≡ broken_by g d r
-      → FollowsFrom g d slots now (Sends p ∷ sent) (span_with now p r ∷ older) (put_in (g.allowed p.address p.bytes) slots p.address p.bytes s)
-  put_follows p r older s formed ages content at count less broken = record {
+      → HoldsContent g (fragments_in r.fragments) r.tags s.reigns.content → s.count ≡ min (suc (length older)) (2 ^ 64 - 1) → s.broken ≡ broken_by g d r
+      → FollowsFrom g d now (Sends p ∷ sent) (span_with now p r ∷ older) (put_in (g.allowed p.address p.bytes) p.address p.bytes s)
+  put_follows p r older s formed ages content count broken = record {
     ages = ages;
     content = taken_content g few p (fragments_in r.fragments) r.tags s.reigns.content content formed;
-    sent_at = (let address = formed.address in slots_put slots now p r.fragments s.sent_at (omega arith) at);
     count = count;
-    few = omega arith;
     broken = broken_put g d now p r s.reigns.content s.broken content broken;
   }
 
@@ -213,18 +184,18 @@ module _ (g : Gauge) (few : g.segments ≤ 16) (d : ℕ) (pos : 0 < d) (slots : 
       let here : nat_lt now (r.last + d) ≡ true = lt-ltb now (r.last + d) near.1 in
       rw (same, here) q
 
-  pub joined_follows : (p : Fragment) (rs : List Span) (s : SpansState) → IsFormed g.segments p → FollowsFrom g d slots now sent rs s → Joins d p.flag s.reigns.ages → HoldsNoOther p.address p.bytes s.reigns.content
-      → FollowsFrom g d slots now (Sends p ∷ sent) (spans_after d now p rs) (put_in (g.allowed p.address p.bytes) slots p.address p.bytes s) × (length (spans_after d now p rs) ≡ length rs)
+  pub joined_follows : (p : Fragment) (rs : List Span) (s : SpansState) → IsFormed g.segments p → FollowsFrom g d now sent rs s → Joins d p.flag s.reigns.ages → HoldsNoOther p.address p.bytes s.reigns.content
+      → FollowsFrom g d now (Sends p ∷ sent) (spans_after d now p rs) (put_in (g.allowed p.address p.bytes) p.address p.bytes s) × (length (spans_after d now p rs) ≡ length rs)
   joined_follows p [] s formed h on no_other = absurd (none_joins d now p.flag s.reigns.ages h.ages on)
   joined_follows p (r ∷ older) s formed h on no_other =
-      is_joined (λ (rs : List Span). FollowsFrom g d slots now (Sends p ∷ sent) rs (put_in (g.allowed p.address p.bytes) slots p.address p.bytes s) × (length rs ≡ suc (length older))) p r older s.reigns.ages h.ages on (by (newest_at p.address r.fragments) refl no_other)
+      is_joined (λ (rs : List Span). FollowsFrom g d now (Sends p ∷ sent) rs (put_in (g.allowed p.address p.bytes) p.address p.bytes s) × (length rs ≡ suc (length older))) p r older s.reigns.ages h.ages on (by (newest_at p.address r.fragments) refl no_other)
     where
-      follows : FollowsFrom g d slots now (Sends p ∷ sent) (span_with now p r ∷ older) (put_in (g.allowed p.address p.bytes) slots p.address p.bytes s)
+      follows : FollowsFrom g d now (Sends p ∷ sent) (span_with now p r ∷ older) (put_in (g.allowed p.address p.bytes) p.address p.bytes s)
       follows =
           put_follows p r older s formed (ages_renewed d now (first_slot (record { slot = now; fragment = p } ∷ r.fragments)) (p ∷ fragments_in r.fragments) r.tags (reign_of r) (reigns_of older) s.reigns.ages h.ages)
-          h.content h.sent_at h.count (omega (arith, h.few)) h.broken
+          h.content h.count h.broken
 
-      by : (o : Option SentFragment) → newest_at p.address r.fragments ≡ o → HoldsNoOther p.address p.bytes s.reigns.content → FollowsFrom g d slots now (Sends p ∷ sent) (joined d now p o r older) (put_in (g.allowed p.address p.bytes) slots p.address p.bytes s) × (length (joined d now p o r older) ≡ suc (length older))
+      by : (o : Option SentFragment) → newest_at p.address r.fragments ≡ o → HoldsNoOther p.address p.bytes s.reigns.content → FollowsFrom g d now (Sends p ∷ sent) (joined d now p o r older) (put_in (g.allowed p.address p.bytes) p.address p.bytes s) × (length (joined d now p o r older) ≡ suc (length older))
       by None e no_other = (follows, refl)
       by (Some t) e no_other =
           let address = formed.address in
@@ -257,32 +228,32 @@ module _ (g : Gauge) (few : g.segments ≤ 16) (d : ℕ) (pos : 0 < d) (slots : 
 
   -- a span is opened that started in slot `start`
   begins : (p : Fragment) (rs : List Span) (start : ℕ) (is_changed is_early : Bool) (s : SpansState) → IsFormed g.segments p → HoldsAges d now (reigns_of rs) s.reigns.ages
-      → began_before d is_changed p.flag s.reigns.ages ≡ min (now - start) d → comes_early d is_changed p.flag s.reigns.ages ≡ is_early → length s.sent_at ≡ 16 → s.count ≡ length rs → s.count ≤ slots
-      → FollowsFrom g d slots now (Sends p ∷ sent) (first_of_span now p start is_changed is_early ∷ rs) (put_in (g.allowed p.address p.bytes) slots p.address p.bytes (opened_in d g.longest is_changed p.flag s))
-  begins p rs start is_changed is_early s formed ages began early long count less =
+      → began_before d is_changed p.flag s.reigns.ages ≡ min (now - start) d → comes_early d is_changed p.flag s.reigns.ages ≡ is_early → s.count ≡ min (length rs) (2 ^ 64 - 1)
+      → FollowsFrom g d now (Sends p ∷ sent) (first_of_span now p start is_changed is_early ∷ rs) (put_in (g.allowed p.address p.bytes) p.address p.bytes (opened_in d g.longest is_changed p.flag s))
+  begins p rs start is_changed is_early s formed ages began early count =
       put_follows p record { start = start; last = now; flag = p.flag; fragments = []; tags = []; is_changed = is_changed; is_early = is_early } rs (opened_in d g.longest is_changed p.flag s) formed
       (ages_begun d now _ (reign_of (first_of_span now p start is_changed is_early)) (reigns_of rs) s.reigns.ages refl began ages)
-      (empty_content g) (slots_none slots now s.sent_at long) (omega arith) (omega arith)
+      (empty_content g) (omega arith)
       (ap (λ (e : Bool). record none_broken { changed = is_changed; early_flag = e }) early ∙ empty_broken g d start now p.flag is_changed is_early)
 
   -- the newest span of these is followed by one that counts as turned
   turns : (p : Fragment) (r : Span) (older : List Span) (is_changed : Bool) (s : SpansState) → IsFormed g.segments p → AreInOrder now (r ∷ older) → HoldsAges d now (reigns_of (r ∷ older)) s.reigns.ages → is_turned is_changed p.flag s.reigns.ages ≡ true
-      → length s.sent_at ≡ 16 → s.count ≡ suc (length older) → s.count ≤ slots
-      → FollowsFrom g d slots now (Sends p ∷ sent) (turned d now p is_changed r older) (put_in (g.allowed p.address p.bytes) slots p.address p.bytes (opened_in d g.longest is_changed p.flag s))
-  turns p r older is_changed s formed order ages is long count less =
+      → s.count ≡ min (suc (length older)) (2 ^ 64 - 1)
+      → FollowsFrom g d now (Sends p ∷ sent) (turned d now p is_changed r older) (put_in (g.allowed p.address p.bytes) p.address p.bytes (opened_in d g.longest is_changed p.flag s))
+  turns p r older is_changed s formed order ages is count =
       begins p (r ∷ older) (cond (nat_lt now (max (r.last + 1) (past_span d older))) (r.last + 1) (max (r.last + 1) (past_span d older))) is_changed (nat_lt now (max (r.last + 1) (past_span d older))) s formed ages
       (rw is (turned_start r older s.reigns.ages.since_last s.reigns.ages.since_before order ages.newest ages.second))
-      (rw is (early_same r older s.reigns.ages.since_before order.0.over ages.second)) long count less
+      (rw is (early_same r older s.reigns.ages.since_before order.0.over ages.second)) count
 
-  pub changed_follows : (p : Fragment) (rs : List Span) (s : SpansState) → IsFormed g.segments p → AreInOrder now rs → FollowsFrom g d slots now sent rs s → Joins d p.flag s.reigns.ages → (HoldsNoOther p.address p.bytes s.reigns.content → ⊥)
-      → FollowsFrom g d slots now (Sends p ∷ sent) (spans_after d now p rs) (put_in (g.allowed p.address p.bytes) slots p.address p.bytes (opened_in d g.longest true p.flag (ended_in d slots p.address s))) × (length (spans_after d now p rs) ≡ suc (length rs))
+  pub changed_follows : (p : Fragment) (rs : List Span) (s : SpansState) → IsFormed g.segments p → AreInOrder now rs → FollowsFrom g d now sent rs s → Joins d p.flag s.reigns.ages → (HoldsNoOther p.address p.bytes s.reigns.content → ⊥)
+      → FollowsFrom g d now (Sends p ∷ sent) (spans_after d now p rs) (put_in (g.allowed p.address p.bytes) p.address p.bytes (opened_in d g.longest true p.flag s)) × (length (spans_after d now p rs) ≡ suc (length rs))
   changed_follows p [] s formed order h on other = absurd (none_joins d now p.flag s.reigns.ages h.ages on)
   changed_follows p (r ∷ older) s formed order h on other =
-      is_joined (λ (rs : List Span). FollowsFrom g d slots now (Sends p ∷ sent) rs (put_in (g.allowed p.address p.bytes) slots p.address p.bytes (opened_in d g.longest true p.flag (ended_in d slots p.address s))) × (length rs ≡ suc (suc (length older))))
+      is_joined (λ (rs : List Span). FollowsFrom g d now (Sends p ∷ sent) rs (put_in (g.allowed p.address p.bytes) p.address p.bytes (opened_in d g.longest true p.flag s)) × (length rs ≡ suc (suc (length older))))
       p r older s.reigns.ages h.ages on (by (newest_at p.address r.fragments) refl)
     where
       by : (o : Option SentFragment) → newest_at p.address r.fragments ≡ o
-          → FollowsFrom g d slots now (Sends p ∷ sent) (joined d now p o r older) (put_in (g.allowed p.address p.bytes) slots p.address p.bytes (opened_in d g.longest true p.flag (ended_in d slots p.address s))) × (length (joined d now p o r older) ≡ suc (suc (length older)))
+          → FollowsFrom g d now (Sends p ∷ sent) (joined d now p o r older) (put_in (g.allowed p.address p.bytes) p.address p.bytes (opened_in d g.longest true p.flag s)) × (length (joined d now p o r older) ≡ suc (suc (length older)))
       by None e =
           let address = formed.address in
           let is : cell_at p.address s.reigns.content ≡ None = h.content.cells p.address (omega arith) ∙ bytes_at p.address r.fragments ∙ ap bytes_of e in
@@ -292,28 +263,15 @@ module _ (g : Gauge) (few : g.segments ≤ 16) (d : ℕ) (pos : 0 < d) (slots : 
           let small : p.address < 16 = omega arith in
           let is : cell_at p.address s.reigns.content ≡ Some t.fragment.bytes = h.content.cells p.address small ∙ bytes_at p.address r.fragments ∙ ap bytes_of e in
           let not_same : same_bytes p.bytes t.fragment.bytes ≡ false = false_from_ne_true _ (λ same. other (inr (is ∙ ap Some (sym (same_bytes_are _ _ same))))) in
-          let near = newest_has (λ (s : SentFragment). (r.start ≤ s.slot) × (s.slot < now)) p.address r.fragments t order.0.sent e in
-          let past = h.sent_at.past p.address t small e in
-          let same = h.sent_at.same p.address t small e in
-          rw not_same (
-            turns p record r { last = t.slot } older true (ended_in d slots p.address s) formed
-                (record { after = order.0.after; begun = near.0; over = near.1; sent = order.0.sent }, order.1)
-                record { newest = omega (arith, past, same, near.1); second = h.ages.second; current = h.ages.current; turns = ended older h.ages.turns }
-                refl h.sent_at.long h.count (omega (arith, h.few)),
-            refl,
-          )
-        where
-          ended : (rest : List Span) → (s.reigns.ages.turns ≡ true) ↔ AlternateFlags (reigns_of (r ∷ rest)) → (s.reigns.ages.turns ≡ true) ↔ AlternateFlags (reigns_of (record r { last = t.slot } ∷ rest))
-          ended [] h = h
-          ended (q ∷ rest) h = h
+          rw not_same (turns p r older true s formed order h.ages refl h.count, refl)
 
-  pub opened_follows : (p : Fragment) (rs : List Span) (s : SpansState) → IsFormed g.segments p → AreInOrder now rs → FollowsFrom g d slots now sent rs s → (Joins d p.flag s.reigns.ages → ⊥)
-      → FollowsFrom g d slots now (Sends p ∷ sent) (spans_after d now p rs) (put_in (g.allowed p.address p.bytes) slots p.address p.bytes (opened_in d g.longest false p.flag s)) × (length (spans_after d now p rs) ≡ suc (length rs))
+  pub opened_follows : (p : Fragment) (rs : List Span) (s : SpansState) → IsFormed g.segments p → AreInOrder now rs → FollowsFrom g d now sent rs s → (Joins d p.flag s.reigns.ages → ⊥)
+      → FollowsFrom g d now (Sends p ∷ sent) (spans_after d now p rs) (put_in (g.allowed p.address p.bytes) p.address p.bytes (opened_in d g.longest false p.flag s)) × (length (spans_after d now p rs) ≡ suc (length rs))
   opened_follows p [] s formed order h apart = (
     begins p [] 0 false false s formed h.ages
         (cond_both (is_turned false p.flag s.reigns.ages) _ _ (λ n. n ≡ min (now - 0) d)
         (λ _. rw late (omega (arith, h.ages.newest, h.ages.second))) (λ _. omega (arith, h.ages.newest)))
-        (and_right (is_turned false p.flag s.reigns.ages) (nat_lt s.reigns.ages.since_before d) late) h.sent_at.long h.count (omega (arith, h.few)),
+        (and_right (is_turned false p.flag s.reigns.ages) (nat_lt s.reigns.ages.since_before d) late) h.count,
     refl,
   )
     where
@@ -322,7 +280,7 @@ module _ (g : Gauge) (few : g.segments ≤ 16) (d : ℕ) (pos : 0 < d) (slots : 
   opened_follows p (r ∷ older) s formed order h apart = by (same_or_other r.flag p.flag)
     where
       by : (r.flag ≡ p.flag) ⊎ (r.flag ≢ p.flag)
-          → FollowsFrom g d slots now (Sends p ∷ sent) (spans_after d now p (r ∷ older)) (put_in (g.allowed p.address p.bytes) slots p.address p.bytes (opened_in d g.longest false p.flag s)) × (length (spans_after d now p (r ∷ older)) ≡ suc (suc (length older)))
+          → FollowsFrom g d now (Sends p ∷ sent) (spans_after d now p (r ∷ older)) (put_in (g.allowed p.address p.bytes) p.address p.bytes (opened_in d g.longest false p.flag s)) × (length (spans_after d now p (r ∷ older)) ≡ suc (suc (length older)))
       by (inl e) =
           let same : is_same r.flag p.flag ≡ true = is_same_flag r.flag p.flag e in
           let mine : is_same p.flag s.reigns.ages.flag ≡ true = is_same_flag p.flag s.reigns.ages.flag (sym (h.ages.current.1 ∙ e)) in
@@ -330,21 +288,21 @@ module _ (g : Gauge) (few : g.segments ≤ 16) (d : ℕ) (pos : 0 < d) (slots : 
           rw (same, le-ltb now (r.last + d) away) (
             begins p (r ∷ older) (r.last + d) false false s formed h.ages
                 (rw mine (omega (arith, h.ages.newest)))
-                (rw mine refl) h.sent_at.long h.count (omega (arith, h.few)),
+                (rw mine refl) h.count,
             refl,
           )
       by (inr ne) =
           let other : is_same r.flag p.flag ≡ false = is_other_flag r.flag p.flag ne in
           let mine : is_same p.flag s.reigns.ages.flag ≡ false = is_other_flag p.flag s.reigns.ages.flag (λ e. ne (sym h.ages.current.1 ∙ sym e)) in
-          rw other (turns p r older false s formed order h.ages (rw mine refl) h.sent_at.long h.count (omega (arith, h.few)), refl)
+          rw other (turns p r older false s formed order h.ages (rw mine refl) h.count, refl)
 
-  pub repeated_follows : (p : Fragment) (rs : List Span) (s : SpansState) → IsFormed g.segments p → FollowsFrom g d slots now sent rs s → Joins d p.flag s.reigns.ages → cell_at p.address s.reigns.content ≡ Some p.bytes
-      → FollowsFrom g d slots now (Sends p ∷ sent) (spans_after d now p rs) (repeated_in slots p.address s) × (length (spans_after d now p rs) ≡ length rs)
+  pub repeated_follows : (p : Fragment) (rs : List Span) (s : SpansState) → IsFormed g.segments p → FollowsFrom g d now sent rs s → Joins d p.flag s.reigns.ages → cell_at p.address s.reigns.content ≡ Some p.bytes
+      → FollowsFrom g d now (Sends p ∷ sent) (spans_after d now p rs) (repeated_in s) × (length (spans_after d now p rs) ≡ length rs)
   repeated_follows p [] s formed h on is = absurd (none_joins d now p.flag s.reigns.ages h.ages on)
   repeated_follows p (r ∷ older) s formed h on is = by (newest_at p.address r.fragments) refl
     where
       by : (o : Option SentFragment) → newest_at p.address r.fragments ≡ o
-          → FollowsFrom g d slots now (Sends p ∷ sent) (spans_after d now p (r ∷ older)) (repeated_in slots p.address s) × (length (spans_after d now p (r ∷ older)) ≡ suc (length older))
+          → FollowsFrom g d now (Sends p ∷ sent) (spans_after d now p (r ∷ older)) (repeated_in s) × (length (spans_after d now p (r ∷ older)) ≡ suc (length older))
       by None e =
           let address = formed.address in
           let none : cell_at p.address s.reigns.content ≡ None = h.content.cells p.address (omega arith) ∙ bytes_at p.address r.fragments ∙ ap bytes_of e in
@@ -363,34 +321,29 @@ module _ (g : Gauge) (few : g.segments ≤ 16) (d : ℕ) (pos : 0 < d) (slots : 
           let lengths : narrowed (g.allowed p.address p.bytes) s.reigns.content.lengths ≡ s.reigns.content.lengths = ap (narrowed (g.allowed p.address p.bytes)) h.content.lengths ∙ again ∙ sym h.content.lengths in
           let broken : judged_fragment (g.allowed p.address p.bytes) s.reigns.content.lengths s.reigns.content.tags_end s.broken ≡ s.broken =
           broken_put g d now p r s.reigns.content s.broken h.content h.broken ∙ broken_again g d now p r again fit ∙ sym h.broken in
-          let same : put_in (g.allowed p.address p.bytes) slots p.address p.bytes s ≡ repeated_in slots p.address s = λ i. record {
-            sent_at = set s.sent_at p.address slots;
+          let same : put_in (g.allowed p.address p.bytes) p.address p.bytes s ≡ repeated_in s = λ i. record {
             count = s.count;
             reigns = record { ages = record s.reigns.ages { since_last = 0 }; content = record { cells = cells i; lengths = lengths i; tags_end = s.reigns.content.tags_end } };
             broken = broken i;
           } in
           let follows = joined_follows p (r ∷ older) s formed h on (inr is) in
-          (subst (λ (x : SpansState). FollowsFrom g d slots now (Sends p ∷ sent) (spans_after d now p (r ∷ older)) x) same follows.0, follows.1)
+          (subst (λ (x : SpansState). FollowsFrom g d now (Sends p ∷ sent) (spans_after d now p (r ∷ older)) x) same follows.0, follows.1)
 
-  pub tags_follow : (pair : PairFields) (rs : List Span) (s : SpansState) → FollowsFrom g d slots now sent rs s → FollowsFrom g d slots now (Tagged pair ∷ sent) (spans_tagged now pair rs) (tagged_in d pair s) × (length (spans_tagged now pair rs) ≡ length rs)
+  pub tags_follow : (pair : PairFields) (rs : List Span) (s : SpansState) → FollowsFrom g d now sent rs s → FollowsFrom g d now (Tagged pair ∷ sent) (spans_tagged now pair rs) (tagged_in d pair s) × (length (spans_tagged now pair rs) ≡ length rs)
   tags_follow pair [] s h = (
-    cond_both s.reigns.ages.is_open _ _ (λ (x : SpansState). FollowsFrom g d slots now (Tagged pair ∷ sent) [] x) (λ t. let shut = h.ages.current in absurd (cc)) (λ _. record {
+    cond_both s.reigns.ages.is_open _ _ (λ (x : SpansState). FollowsFrom g d now (Tagged pair ∷ sent) [] x) (λ t. let shut = h.ages.current in absurd (cc)) (λ _. record {
       ages = h.ages;
       content = h.content;
-      sent_at = h.sent_at;
       count = h.count;
-      few = omega (arith, h.few);
       broken = ap (λ (f : FaultSet). record f { early_tag = true }) h.broken;
     }),
     refl,
   )
   tags_follow pair (r ∷ older) s h = (
-    cond_both s.reigns.ages.is_open _ _ (λ (x : SpansState). FollowsFrom g d slots now (Tagged pair ∷ sent) (spans_tagged now pair (r ∷ older)) x) (λ _. record {
+    cond_both s.reigns.ages.is_open _ _ (λ (x : SpansState). FollowsFrom g d now (Tagged pair ∷ sent) (spans_tagged now pair (r ∷ older)) x) (λ _. record {
       ages = ages_renewed d now (first_slot r.fragments) (fragments_in r.fragments) (record { slot = now; pair = pair } ∷ r.tags) (reign_of r) (reigns_of older) s.reigns.ages h.ages;
       content = tagged_content g now pair (fragments_in r.fragments) r.tags s.reigns.content h.content;
-      sent_at = h.sent_at;
       count = h.count;
-      few = omega (arith, h.few);
       broken =
           ap (λ (l : Lengths). judged_ends l (max s.reigns.content.tags_end (pair_end pair)) record s.broken { early_tag = s.broken.early_tag || are_early d s.reigns.ages }) h.content.lengths
           ∙ ap (λ (n : ℕ). judged_ends (lengths_of g.allowed g.longest (fragments_in r.fragments)) (max n (pair_end pair)) record s.broken { early_tag = s.broken.early_tag || are_early d s.reigns.ages }) h.content.ends
@@ -409,9 +362,9 @@ module _ (g : Gauge) (few : g.segments ≤ 16) (d : ℕ) (pos : 0 < d) (slots : 
             | inr long ↦ ap not (le-leb d since_start (omega (arith, e))) ∙ sym (le-ltb now (r.start + d) long)
           ]
 
-  pub nothing_follows : (rs : List Span) (s : SpansState) → FollowsFrom g d slots now sent rs s → FollowsFrom g d slots now (Nothing ∷ sent) rs s
-  nothing_follows [] s h = record { ages = h.ages; content = h.content; sent_at = h.sent_at; count = h.count; few = omega (arith, h.few); broken = h.broken }
-  nothing_follows (r ∷ older) s h = record { ages = h.ages; content = h.content; sent_at = h.sent_at; count = h.count; few = omega (arith, h.few); broken = h.broken }
+  pub nothing_follows : (rs : List Span) (s : SpansState) → FollowsFrom g d now sent rs s → FollowsFrom g d now (Nothing ∷ sent) rs s
+  nothing_follows [] s h = record { ages = h.ages; content = h.content; count = h.count; broken = h.broken }
+  nothing_follows (r ∷ older) s h = record { ages = h.ages; content = h.content; count = h.count; broken = h.broken }
 
 -- the reigns of spans are over
 reigns_over : (slot : ℕ) (rs : List Span) → AreInOrder slot rs → AreOver slot (reigns_of rs)
@@ -419,21 +372,15 @@ reigns_over slot [] h = tt
 reigns_over slot (r ∷ older) h = ((h.0.begun, h.0.over), reigns_over slot older h.1)
 
 -- at the end of a slot
-pub spans_later : (g : Gauge) (d slots : ℕ) (mark : Mark) (before : List Mark) (s : SpansState) → 0 < d → HoldsNewestSpans g d slots mark before s
-    → HoldsSpans g d (slots + 1) (mark ∷ before) record s { reigns = record s.reigns { ages = aged d s.reigns.ages } }
-spans_later g d slots mark before s pos h =
+pub spans_later : (g : Gauge) (d : ℕ) (mark : Mark) (before : List Mark) (s : SpansState) → 0 < d → HoldsNewestSpans g d mark before s
+    → HoldsSpans g d (mark ∷ before) record s { reigns = record s.reigns { ages = aged d s.reigns.ages } }
+spans_later g d mark before s pos h =
     let one : length (mark ∷ before) ≡ length before + 1 = omega arith in
     let over : AreOver (length before + 1) (reigns_of (spans d (mark ∷ before))) = subst (λ n. AreOver n (reigns_of (spans d (mark ∷ before)))) one (reigns_over _ _ (in_order d (mark ∷ before) pos)) in
     record {
       ages = subst (λ n. HoldsAges d n (reigns_of (spans d (mark ∷ before))) (aged d s.reigns.ages)) (sym one) (ages_later d (length before) (reigns_of (spans d (mark ∷ before))) s.reigns.ages over h.ages);
       content = h.content;
-      sent_at = record {
-        long = h.sent_at.long;
-        past = λ a t less e. (let past = h.sent_at.past a t less e in omega (arith, past));
-        same = λ a t less e. (let same = h.sent_at.same a t less e in omega (arith, same));
-      };
       count = h.count;
-      few = omega (arith, h.few);
       broken = h.broken;
     }
 
@@ -466,19 +413,17 @@ silent_tags : (lost : ℕ) → list_any is_tagged (replicate lost Nothing) ≡ f
 silent_tags zero = refl
 silent_tags (suc n) = silent_tags n
 
-pub silent_follows : (g : Gauge) (start : LogStart) (d : ℕ) (sent : List Mark) (s : SpansState) → IsSilentAs start d sent → HoldsMarks g d sent s.reigns → length s.sent_at ≡ 16 → s.count ≡ 0 → s.broken ≡ none_broken → HoldsSpans g d 0 sent s
-silent_follows g start d sent s is h long count broken = subst (λ (x : List Mark). HoldsSpans g d 0 x s) (sym (are start is).1) (silent (are start is).0 (subst (λ (x : List Mark). HoldsMarks g d x s.reigns) (are start is).1 h))
+pub silent_follows : (g : Gauge) (start : LogStart) (d : ℕ) (sent : List Mark) (s : SpansState) → IsSilentAs start d sent → s.reigns ≡ record { ages = ages_at start d; content = no_content g.longest } → s.count ≡ 0 → s.broken ≡ none_broken → HoldsSpans g d sent s
+silent_follows g start d sent s is e count broken = by start is e
   where
-    are : (start : LogStart) → IsSilentAs start d sent → (lost : ℕ) × (sent ≡ replicate lost Nothing)
-    are Complete e = (0, e)
-    are Running (lost, far, e) = (lost, e)
-
-    silent : (lost : ℕ) → HoldsMarks g d (replicate lost Nothing) s.reigns → HoldsSpans g d 0 (replicate lost Nothing) s
-    silent lost h = rw (silent_spans d lost) record {
-      ages = rw (silent_reigns d lost) at h.ages;
-      content = rw (silent_reigns d lost) at h.content;
-      sent_at = slots_none 0 (length (replicate lost Nothing)) s.sent_at long;
-      count = count;
-      few = omega (arith, count);
+    silent : (start : LogStart) (lost : ℕ) → age_at start d ≡ min (lost + d) (2 * d) → s.reigns ≡ record { ages = ages_at start d; content = no_content g.longest } → HoldsSpans g d (replicate lost Nothing) s
+    silent start lost age e = rw (silent_spans d lost, silent_length lost) record {
+      ages = subst (λ (r : ReignsState). HoldsAges d lost [] r.ages) (sym e) record { newest = age; second = age; current = refl; turns = ((λ _. tt), (λ _. refl)) };
+      content = subst (λ (r : ReignsState). HoldsContent g [] [] r.content) (sym e) (empty_content g);
+      count = omega (arith, count);
       broken = broken ∙ ap (λ b. record none_broken { early_tag = b }) (sym (silent_tags lost));
     }
+
+    by : (start : LogStart) → IsSilentAs start d sent → s.reigns ≡ record { ages = ages_at start d; content = no_content g.longest } → HoldsSpans g d sent s
+    by Complete is e = subst (λ (x : List Mark). HoldsSpans g d x s) (sym is) (silent Complete 0 (omega arith) e)
+    by Running (lost, far, is) e = subst (λ (x : List Mark). HoldsSpans g d x s) (sym is) (silent Running lost (omega arith) e)

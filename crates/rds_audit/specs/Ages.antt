@@ -1,7 +1,7 @@
 -- The ages of reigns, in slots (this project's own rule), and how they change. An age says how long ago a reign started
 -- or had its last slot. It stops at a limit.
-use Rattle.std.specs.Prelude.{◌≡◌, ◌≢◌, ◌≤◌, ◌+◌, ◌-◌, ◌*◌, ◌<◌, ◌&&◌, ◌↔◌, [], ◌∷◌}
-use Rattle.std.specs.Prelude.{ℕ, Bool, true, false, IsTrue, List, min, not, if◌then◌else◌}
+use Rattle.std.specs.Prelude.{◌≡◌, ◌≤◌, ◌+◌, ◌-◌, ◌*◌, ◌<◌, ◌&&◌, ◌↔◌, [], ◌∷◌}
+use Rattle.std.specs.Prelude.{ℕ, Bool, true, false, IsTrue, List, min, not}
 use Rattle.rds_receiver.specs.Run.{is_same}
 use Rattle.rds_audit.specs.declared.log_start.LogStart.{LogStart}
 use Rattle.rds_audit.specs.declared.log_start.LogStart.TheVariants.{Complete, Running}
@@ -38,10 +38,6 @@ ages_at start d = record {
 abbrev pub Joins : ℕ → Bool → Ages → Type 0
 Joins d flag a = (flag ≡ a.flag) × (a.since_last < d)
 
--- a fragment with this flag opens a reign too early
-abbrev pub IsEarly : ℕ → Bool → Ages → Type 0
-IsEarly d flag a = (flag ≢ a.flag) × (a.since_before < d)
-
 -- there is a reign, and it started at least d slots ago, so tags may be sent
 abbrev pub HasLasted : ℕ → Ages → Type 0
 HasLasted d a = (a.is_open ≡ true) × (d ≤ a.since_start)
@@ -56,11 +52,6 @@ restarted since_start flag a = record {
   since_start = since_start;
   turns = a.turns && not (a.is_open && is_same flag a.flag);
 }
-
--- the ages after a reign with this flag was opened
-abbrev pub opened_ages : ℕ → Bool → Ages → Ages
-opened_ages d flag a =
-    restarted (if is_same flag a.flag then a.since_last - d else min (a.since_before - d) (a.since_last - 1)) flag a
 
 -- the ages one slot later
 abbrev pub aged : ℕ → Ages → Ages

@@ -1,27 +1,50 @@
 -- The state of an audit after a log. Lists have the newest first.
-use Rattle.std.specs.Prelude.{◌≡◌, ◌<◌, ℕ, List, [], ◌∷◌, Option, Some, None, Result, Err, IfErr, IfOk, MatchOption}
-use Rattle.std.specs.Prelude.{MatchResult, length}
+use Rattle.std.specs.Prelude.{◌≡◌, ◌≤◌, ◌<◌, ◌-◌, ◌^◌, ℕ, List, [], ◌∷◌, None, Some, MatchOption, Option}
+use Rattle.std.specs.Prelude.{Err, MatchResult, Result, length, map, min}
 use Rattle.rds_block.specs.declared.group.Group.{Group}
 use Rattle.rds_fields.specs.declared.message.Message.{Message}
-use Rattle.rds_receiver.specs.Receipts.{AreHeard, Fragment}
+use Rattle.rds_receiver.specs.Receipts.{AreHeard, Fragment, Hears}
 use Rattle.rds_audit.specs.declared.audit.AuditFault.{AuditFault}
+use Rattle.rds_audit.specs.declared.fault_set.FaultSet.{FaultSet}
 use Rattle.rds_audit.specs.Ages.{HoldsAges}
-use Rattle.rds_audit.specs.AuditState.{AuditState, ContentState, ReignsState, cell_at}
 use Rattle.rds_audit.specs.Lengths.{Gauge, lengths_of, name_gauge, sent_last, tags_end, text_gauge}
-use Rattle.rds_safety.specs.Marks.{Mark, marks, name_mark, text_mark}
-use Rattle.rds_audit.specs.Reigns.{Reign, SentTags, reigns}
+use Rattle.rds_audit.specs.Listing.{SentFragment, Span, broken_newest, first_of, fragments_in, slot_adds, spans}
+use Rattle.rds_audit.specs.AuditState.{AuditState, SpansState}
+use Rattle.rds_audit.specs.ReignsState.{ContentState, cell_at}
 use Rattle.rds_audit.specs.Recording.{IsJudgedAs, counted_as}
-use Rattle.rds_audit.specs.Rules.{BreaksFirst, IsFaultOf, LogPasses, Passes}
+use Rattle.rds_audit.specs.Reigns.{Reign, SentTags}
+use Rattle.rds_audit.specs.Rules.{IsFaultOf, LogPasses}
+use Rattle.rds_safety.specs.Marks.{Mark, marks, name_mark, text_mark}
 
--- the fragments of the newest reign
-abbrev pub fragments_of : List Reign → List Fragment
-fragments_of [] = []
-fragments_of (r ∷ older) = r.fragments
+-- the slot of the oldest of these fragments
+abbrev pub first_slot : List SentFragment → ℕ
+first_slot [] = 0
+first_slot (s ∷ []) = s.slot
+first_slot (s ∷ t ∷ older) = first_slot (t ∷ older)
 
--- the tags of the newest reign
-abbrev pub tags_of : List Reign → List SentTags
-tags_of [] = []
-tags_of (r ∷ older) = r.tags
+-- the span as a reign
+abbrev pub reign_of : Span → Reign
+reign_of r = record {
+  start = r.start;
+  opened = first_slot r.fragments;
+  last = r.last;
+  flag = r.flag;
+  fragments = fragments_in r.fragments;
+  tags = r.tags;
+}
+
+abbrev pub reigns_of : List Span → List Reign
+reigns_of rs = map reign_of rs
+
+-- the fragments of the newest span
+abbrev pub fragments_now : List Span → List SentFragment
+fragments_now [] = []
+fragments_now (r ∷ older) = r.fragments
+
+-- the tags of the newest span
+abbrev pub tags_now : List Span → List SentTags
+tags_now [] = []
+tags_now (r ∷ older) = r.tags
 
 -- the content follows from these fragments and tags
 pub record HoldsContent (g : Gauge) (fragments : List Fragment) (tags : List SentTags) (c : ContentState) : Type 0 where
@@ -30,33 +53,40 @@ pub record HoldsContent (g : Gauge) (fragments : List Fragment) (tags : List Sen
   pub lengths : c.lengths ≡ lengths_of g.allowed g.longest fragments
   pub ends : c.tags_end ≡ tags_end tags
 
--- in this slot, the state of a service follows from these marks, which pass
-pub record HoldsReigns (g : Gauge) (d slot : ℕ) (sent : List Mark) (st : ReignsState) : Type 0 where
-  pub ages : HoldsAges d slot (reigns d sent) st.ages
-  pub content : HoldsContent g (fragments_of (reigns d sent)) (tags_of (reigns d sent)) st.content
-  pub passes : Passes d g.kind sent
+-- in slot `now` of these marks, the state of a service follows from these spans of the marks
+pub record FollowsFrom (g : Gauge) (d now : ℕ) (sent : List Mark) (rs : List Span)
+    (s : SpansState) : Type 0 where
+  pub ages : HoldsAges d now (reigns_of rs) s.reigns.ages
+  pub content : HoldsContent g (fragments_in (fragments_now rs)) (tags_now rs) s.reigns.content
+  pub count : s.count ≡ min (length rs) (2 ^ 64 - 1)
+  pub broken : s.broken ≡ broken_newest g d sent rs
 
 -- the state holds these marks, one slot after the newest
-abbrev pub HoldsMarks : Gauge → ℕ → List Mark → ReignsState → Type 0
-HoldsMarks g d sent st = HoldsReigns g d (length sent) sent st
+abbrev pub HoldsSpans : Gauge → ℕ → List Mark → SpansState → Type 0
+HoldsSpans g d sent s = FollowsFrom g d (length sent) sent (spans d sent) s
 
 -- the state holds these marks, in the slot of the newest
-abbrev pub HoldsNewest : Gauge → ℕ → Mark → List Mark → ReignsState → Type 0
-HoldsNewest g d newest before st = HoldsReigns g d (length before) (newest ∷ before) st
+abbrev pub HoldsNewestSpans : Gauge → ℕ → Mark → List Mark → SpansState → Type 0
+HoldsNewestSpans g d newest before s =
+    FollowsFrom g d (length before) (newest ∷ before) (spans d (newest ∷ before)) s
 
--- the state of both services follows from this log, which passes, in the slot after it
-pub record HoldsLog (d : ℕ) (heard : List (Option Message)) (a : AuditState) : Type 0 where
-  pub text : HoldsMarks text_gauge d (marks text_mark heard) a.text
-  pub name : HoldsMarks name_gauge d (marks name_mark heard) a.name
+-- this holds of all marks that the state holds
+abbrev pub WhereSpansHold : Gauge → ℕ → SpansState → (List Mark → Type 0) → Type 0
+WhereSpansHold g d s Holds = 0 < d → d ≤ 66559 → (sent : List Mark) → HoldsSpans g d sent s → Holds sent
+
+-- the state of both services follows from this log, in the slot after it
+pub record HoldsLog (d : ℕ) (judged : List (Option Message)) (a : AuditState) : Type 0 where
+  pub text : HoldsSpans text_gauge d (marks text_mark judged) a.text
+  pub name : HoldsSpans name_gauge d (marks name_mark judged) a.name
 
 -- the same in its newest slot
 pub record HoldsSlot (d : ℕ) (newest : Option Message) (before : List (Option Message)) (a : AuditState) : Type 0 where
-  pub text : HoldsNewest text_gauge d (text_mark newest) (marks text_mark before) a.text
-  pub name : HoldsNewest name_gauge d (name_mark newest) (marks name_mark before) a.name
+  pub text : HoldsNewestSpans text_gauge d (text_mark newest) (marks text_mark before) a.text
+  pub name : HoldsNewestSpans name_gauge d (name_mark newest) (marks name_mark before) a.name
 
--- without a fault the state follows from this log, which passes; a fault that it has is the fault of the log
+-- without a fault this log passes, and the state follows from it; a fault that there is is the fault of the log
 abbrev pub HasJudged : ℕ → AuditState → List (Option Message) → Type 0
-HasJudged d a judged = MatchOption a.fault (HoldsLog d judged a) (λ fault. IsFaultOf d judged fault)
+HasJudged d a judged = MatchOption a.fault (LogPasses d judged × HoldsLog d judged a) (IsFaultOf d judged)
 
 -- the audit has this PI and a spacing of d slots, and judged the log as that is to be judged
 pub record AuditStandsAt (pi d : ℕ) (a : AuditState) (log : List (Option Group)) : Type 0 where
@@ -73,6 +103,17 @@ WhereTheAuditStands a Holds =
     (pi d : ℕ) (log : List (Option Group)) (s : AuditStandsAt pi d a log) (judged : List (Option Message))
     → IsJudgedAs a.start d s.heard judged → Holds d judged
 
+-- the audit stands at the log, and its state follows from all of the log, after a fault too
+pub record FollowsLog (pi d : ℕ) (a : AuditState) (log : List (Option Group)) : Type 0 where
+  pub at : AuditStandsAt pi d a log
+  pub holds : (judged : List (Option Message)) → IsJudgedAs a.start d at.heard judged → HoldsLog d judged a
+
+-- this holds of the spacing of each log that the audit follows, and of its messages as they are judged
+abbrev pub WhereItFollows : AuditState → (ℕ → List (Option Message) → Type 0) → Type 0
+WhereItFollows a Holds =
+    (pi d : ℕ) (log : List (Option Group)) (s : FollowsLog pi d a log) (judged : List (Option Message))
+    → IsJudgedAs a.start d s.at.heard judged → Holds d judged
+
 -- the audit took the next slot, with this group or with none: it stands at the log with that slot; the result is its
 -- fault, which is that of the log; after a fault the result is that fault, and nothing changes
 pub record TakesSlot (a after : AuditState) (group : Option Group)
@@ -85,11 +126,35 @@ pub record TakesSlot (a after : AuditState) (group : Option Group)
       (λ d heard. MatchResult result (λ _. LogPasses d heard) (λ fault. IsFaultOf d heard fault))
   pub again : (fault : AuditFault) → a.fault ≡ Some fault → (result ≡ Err fault) × (after ≡ a)
 
--- the audit took this message in the next slot of a log: without an error its state follows from the log with that
--- slot; with one, the slot breaks the rule of the fault first
-pub record Judges (a after : AuditState) (message : Option Message)
-    (result : Result (Unit {0}) AuditFault) : Type 0 where
+-- the audit took the next slot, with this group or with none, whatever its fault: it stands at the log with that slot,
+-- and follows it if it followed the log; the result is what the slot adds to the list of the log; the fault is the first
+-- one that was added
+pub record TakesAll (a after : AuditState) (group : Option Group) (result : FaultSet) : Type 0 where
+  pub stands : (pi d : ℕ) (log : List (Option Group)) → AuditStandsAt pi d a log
+      → AuditStandsAt pi d after (group ∷ log)
+  pub follows : (pi d : ℕ) (log : List (Option Group)) → FollowsLog pi d a log
+      → FollowsLog pi d after (group ∷ log)
+  pub adds : (pi d : ℕ) (log : List (Option Group)) (s : FollowsLog pi d a log) (message : Option Message)
+      → Hears pi group message → (judged : List (Option Message)) → IsJudgedAs a.start d s.at.heard judged
+      → result ≡ slot_adds d (counted_as a.start judged message) judged
+  pub start : after.start ≡ a.start
+  pub first : a.fault ≡ None → after.fault ≡ first_of result
+  pub again : (fault : AuditFault) → a.fault ≡ Some fault → after.fault ≡ Some fault
+
+-- the audit took this message in a slot of a log: its state follows from the log with that slot, in that slot, and the
+-- result is what the slot adds
+pub record ListsMessage (a after : AuditState) (message : Option Message) (result : FaultSet) : Type 0 where
   pub holds : (judged : List (Option Message)) → HoldsLog a.distance judged a
-      → IfOk result (λ _. HoldsSlot a.distance (counted_as a.start judged message) judged after)
-  pub breaks : (judged : List (Option Message)) → HoldsLog a.distance judged a
-      → IfErr result (λ fault. BreaksFirst a.distance (counted_as a.start judged message) judged fault)
+      → HoldsSlot a.distance (counted_as a.start judged message) judged after
+  pub added : (judged : List (Option Message)) → HoldsLog a.distance judged a
+      → result ≡ slot_adds a.distance (counted_as a.start judged message) judged
+
+-- the audit took the group of a slot, and the slot is over: its state follows from the log with that slot, and the
+-- result is what the slot adds
+pub record ListsGroup (a after : AuditState) (group : Option Group) (result : FaultSet) : Type 0 where
+  pub message : Option Message
+  pub hears : Hears a.programme group message
+  pub holds : (judged : List (Option Message)) → HoldsLog a.distance judged a
+      → HoldsLog a.distance (counted_as a.start judged message ∷ judged) after
+  pub added : (judged : List (Option Message)) → HoldsLog a.distance judged a
+      → result ≡ slot_adds a.distance (counted_as a.start judged message) judged

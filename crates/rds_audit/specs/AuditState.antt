@@ -1,135 +1,129 @@
--- The state of an audit.
-use Rattle.std.specs.Prelude.{◌≡◌, ◌≤◌, ◌<◌, ◌⊎◌, ◌==◌}
-use Rattle.std.specs.Prelude.{ℕ, Bool, true, false, List, Option, Some, None, is_some, max}
-use Rattle.std.specs.Prelude.{refl, replicate, slice_index_or, slice_set, if◌then◌else◌}
-use Rattle.std.specs.Coded.{Coded, code_by, coded×, coded_ℕ, coded_bool, coded_list, coded_option}
+-- The state of an audit, and how it changes. Lists have the newest first.
+use Rattle.std.specs.Prelude.{◌≡◌, ◌+◌, ◌-◌, ◌^◌, ◌==◌, ◌&&◌, ◌||◌, ℕ, Bool, true, false, List, Option}
+use Rattle.std.specs.Prelude.{is_some, max, min, nat_le, nat_lt, not, refl, if◌then◌else◌}
+use Rattle.std.specs.Coded.{Coded, code_by, coded×, coded_ℕ, coded_bool, coded_option}
 use Rattle.rds_fields.specs.Tag.{PairFields}
+use Rattle.rds_receiver.specs.Run.{is_same}
 use Rattle.rds_audit.specs.declared.audit.AuditFault.{AuditFault}
 use Rattle.rds_audit.specs.declared.audit.AuditFault.TheVariants.{Changed, NotOneText, EarlyFlag}
 use Rattle.rds_audit.specs.declared.audit.AuditFault.TheVariants.{EarlyTag, TagOutside}
 use Rattle.rds_audit.specs.declared.audited.Lengths.{Lengths}
+use Rattle.rds_audit.specs.declared.fault_set.FaultSet.{FaultSet}
 use Rattle.rds_audit.specs.declared.log_start.LogStart.{LogStart}
 use Rattle.rds_audit.specs.declared.log_start.LogStart.TheVariants.{Complete, Running}
-use Rattle.rds_audit.specs.Ages.{Ages, opened_ages}
+use Rattle.rds_audit.specs.Ages.{Ages, aged, restarted}
+use Rattle.rds_audit.specs.ReignsState.{ReignsState, joined_state, no_content, reigns_code, tagged_state}
 use Rattle.rds_audit.specs.Lengths.{narrowed, pair_end}
+use Rattle.rds_audit.specs.Listing.{none_broken}
 
--- the content of a reign: the bytes at each address, the lengths that its fragments allow, and the greatest end of its
--- tags
-pub record ContentState : Type 0 where
-  pub cells : List (Option (List ℕ))
-  pub lengths : Lengths
-  pub tags_end : ℕ
+-- a service: the number of spans, which stops at 2 ^ 64 - 1; the ages of the spans and the content of the current one;
+-- and the rules that it breaks
+pub record SpansState : Type 0 where
+  pub count : ℕ
+  pub reigns : ReignsState
+  pub broken : FaultSet
 
--- a service: the ages of its reigns, and the content of the current one
-pub record ReignsState : Type 0 where
-  pub ages : Ages
-  pub content : ContentState
-
--- an audit: its programme (PI), the spacing d in slots, where the log begins, both services, and the fault, if there is
--- one
+-- an audit: its programme, the spacing, where its log begins, both services, and the first fault
 pub record AuditState : Type 0 where
   pub programme : ℕ
   pub distance : ℕ
   pub start : LogStart
-  pub text : ReignsState
-  pub name : ReignsState
+  pub text : SpansState
+  pub name : SpansState
   pub fault : Option AuditFault
 
--- all but the two services is the same
-pub record KeepsAllElse (a after : AuditState) : Type 0 where
-  pub programme : after.programme ≡ a.programme
-  pub distance : after.distance ≡ a.distance
-  pub start : after.start ≡ a.start
-  pub fault : after.fault ≡ a.fault
+-- ---- how the state of a service changes
 
--- the content without fragments and tags
-abbrev pub no_content : ℕ → ContentState
-no_content longest = record { cells = replicate 16 None; lengths = record { least = 0; most = longest }; tags_end = 0 }
+-- a fragment that allows these lengths fits some text, and leaves some of the lengths before it
+abbrev pub leaves_a_length : Option Lengths → Lengths → Bool
+leaves_a_length allowed l = is_some allowed && nat_le (narrowed allowed l).least (narrowed allowed l).most
 
--- the bytes held at an address
-abbrev pub cell_at : ℕ → ContentState → Option (List ℕ)
-cell_at a c = slice_index_or c.cells a None
+-- the rules that a span breaks, of these lengths and with tags that end there: it also breaks that of tags, if they end
+-- past each of its lengths
+abbrev pub judged_ends : Lengths → ℕ → FaultSet → FaultSet
+judged_ends l end f = record f { tag_outside = f.tag_outside || nat_lt l.most end }
 
--- the address holds nothing, or these bytes
-abbrev pub HoldsNoOther : ℕ → List ℕ → ContentState → Type 0
-HoldsNoOther address bytes c = (cell_at address c ≡ None) ⊎ (cell_at address c ≡ Some bytes)
+-- the same after a fragment that allows these lengths
+abbrev pub judged_fragment : Option Lengths → Lengths → ℕ → FaultSet → FaultSet
+judged_fragment allowed l end f =
+    judged_ends (narrowed allowed l) end
+    record f { not_one_text = f.not_one_text || not (leaves_a_length allowed l) }
 
--- some length is in both ranges
-pub record HasRoom (allowed : Option Lengths) (l : Lengths) : Type 0 where
-  pub some : is_some allowed ≡ true
-  pub room : (narrowed allowed l).least ≤ (narrowed allowed l).most
+-- a fragment joined the current span
+abbrev pub put_in : Option Lengths → ℕ → List ℕ → SpansState → SpansState
+put_in allowed address bytes s = record {
+  count = s.count;
+  reigns = joined_state allowed address bytes s.reigns;
+  broken = judged_fragment allowed s.reigns.content.lengths s.reigns.content.tags_end s.broken;
+}
 
--- these bytes, which allow these lengths, can be sent at the address together with the content held
-pub record CanTake (allowed : Option Lengths) (address : ℕ) (bytes : List ℕ) (c : ContentState) : Type 0 where
-  pub unchanged : HoldsNoOther address bytes c
-  pub lengths : HasRoom allowed c.lengths
-  pub ends : c.tags_end ≤ (narrowed allowed c.lengths).most
+-- a fragment joined the current span, which had its bytes already
+abbrev pub repeated_in : SpansState → SpansState
+repeated_in s = record {
+  count = s.count;
+  reigns = record { ages = record s.reigns.ages { since_last = 0 }; content = s.reigns.content };
+  broken = s.broken;
+}
 
--- why they cannot be sent: the address holds other bytes, or else no length is left, or else a tag ends past each
--- length that is left
-abbrev pub CannotTake : Option Lengths → ℕ → List ℕ → ContentState → AuditFault → Type 0
-CannotTake allowed address bytes c Changed = HoldsNoOther address bytes c → ⊥
-CannotTake allowed address bytes c NotOneText = HoldsNoOther address bytes c × (HasRoom allowed c.lengths → ⊥)
-CannotTake allowed address bytes c TagOutside =
-    HoldsNoOther address bytes c × HasRoom allowed c.lengths × ((narrowed allowed c.lengths).most < c.tags_end)
-CannotTake allowed address bytes c EarlyFlag = ⊥
-CannotTake allowed address bytes c EarlyTag = ⊥
+-- a span with this flag counts as turned
+abbrev pub is_turned : Bool → Bool → Ages → Bool
+is_turned is_changed flag a = is_changed || not (is_same flag a.flag)
 
--- the content with these bytes at an address
-abbrev pub taken : Option Lengths → ℕ → List ℕ → ContentState → ContentState
-taken allowed address bytes c =
-    record {
-      cells = slice_set c.cells address (Some bytes);
-      lengths = narrowed allowed c.lengths;
-      tags_end = c.tags_end;
+-- and it comes too early
+abbrev pub comes_early : ℕ → Bool → Bool → Ages → Bool
+comes_early d is_changed flag a = is_turned is_changed flag a && nat_lt a.since_before d
+
+-- how many slots ago it started
+abbrev pub began_before : ℕ → Bool → Bool → Ages → ℕ
+began_before d is_changed flag a =
+    if is_turned is_changed flag a
+    then (if nat_lt a.since_before d then a.since_last - 1 else min (a.since_last - 1) (a.since_before - d))
+    else a.since_last - d
+
+-- a span was opened, before its first fragment is put in
+abbrev pub opened_in : ℕ → ℕ → Bool → Bool → SpansState → SpansState
+opened_in d longest is_changed flag s = record {
+  count = min (s.count + 1) (2 ^ 64 - 1);
+  reigns = record {
+    ages = restarted (began_before d is_changed flag s.reigns.ages) flag s.reigns.ages;
+    content = no_content longest;
+  };
+  broken = record none_broken {
+    changed = is_changed;
+    early_flag = comes_early d is_changed flag s.reigns.ages;
+  };
+}
+
+-- tags of a span came early
+abbrev pub are_early : ℕ → Ages → Bool
+are_early d a = not (nat_le d a.since_start)
+
+-- tags were sent; before the first span they break the rule of early tags, and nothing else changes
+abbrev pub tagged_in : ℕ → PairFields → SpansState → SpansState
+tagged_in d pair s =
+    if s.reigns.ages.is_open
+    then record {
+      count = s.count;
+      reigns = tagged_state pair s.reigns;
+      broken =
+          judged_ends s.reigns.content.lengths (max s.reigns.content.tags_end (pair_end pair))
+          record s.broken { early_tag = s.broken.early_tag || are_early d s.reigns.ages };
+    }
+    else record {
+      count = s.count;
+      reigns = s.reigns;
+      broken = record s.broken { early_tag = true };
     }
 
--- the content with one more pair of tags
-abbrev pub tagged : PairFields → ContentState → ContentState
-tagged pair c = record { cells = c.cells; lengths = c.lengths; tags_end = max c.tags_end (pair_end pair) }
+-- one slot later
+abbrev pub aged_in : ℕ → SpansState → SpansState
+aged_in d s = record {
+  count = s.count;
+  reigns = record { ages = aged d s.reigns.ages; content = s.reigns.content };
+  broken = s.broken;
+}
 
--- the state after a fragment joined the current reign
-abbrev pub joined_state : Option Lengths → ℕ → List ℕ → ReignsState → ReignsState
-joined_state allowed address bytes st =
-    record { ages = record st.ages { since_last = 0 }; content = taken allowed address bytes st.content }
-
--- the state after a reign with this flag was opened, before its fragment is taken
-abbrev pub opened_state : ℕ → ℕ → Bool → ReignsState → ReignsState
-opened_state d longest flag st = record { ages = opened_ages d flag st.ages; content = no_content longest }
-
--- the state after tags were sent
-abbrev pub tagged_state : PairFields → ReignsState → ReignsState
-tagged_state pair st = record { ages = record st.ages { since_last = 0 }; content = tagged pair st.content }
-
-abbrev pub lengths_code : Coded Lengths
-lengths_code = code_by (ℕ × ℕ) (coded× coded_ℕ coded_ℕ) (λ l. (l.least, l.most))
-    (λ p. record { least = p.0; most = p.1 }) (λ _. refl)
-
-abbrev pub content_code : Coded ContentState
-content_code =
-    code_by (List (Option (List ℕ)) × (Lengths × ℕ))
-    (coded× (coded_list (coded_option (coded_list coded_ℕ))) (coded× lengths_code coded_ℕ))
-    (λ c. (c.cells, (c.lengths, c.tags_end))) (λ p. record { cells = p.0; lengths = p.1.0; tags_end = p.1.1 })
-    (λ _. refl)
-
-abbrev pub ages_code : Coded Ages
-ages_code =
-    code_by ((Bool × (Bool × Bool)) × (ℕ × (ℕ × ℕ)))
-    (coded× (coded× coded_bool (coded× coded_bool coded_bool)) (coded× coded_ℕ (coded× coded_ℕ coded_ℕ)))
-    (λ a. ((a.is_open, (a.flag, a.turns)), (a.since_last, (a.since_before, a.since_start))))
-    (λ p. record {
-      is_open = p.0.0;
-      flag = p.0.1.0;
-      turns = p.0.1.1;
-      since_last = p.1.0;
-      since_before = p.1.1.0;
-      since_start = p.1.1.1;
-    })
-    (λ _. refl)
-
-abbrev pub reigns_code : Coded ReignsState
-reigns_code = code_by (Ages × ContentState) (coded× ages_code content_code) (λ r. (r.ages, r.content))
-    (λ p. record { ages = p.0; content = p.1 }) (λ _. refl)
+-- ---- the state as a value
 
 abbrev pub fault_number : AuditFault → ℕ
 fault_number Changed = 0
@@ -171,18 +165,40 @@ start_back Running = refl
 abbrev pub start_code : Coded LogStart
 start_code = code_by Bool coded_bool is_running start_if start_back
 
+abbrev pub faults_code : Coded FaultSet
+faults_code =
+    code_by ((Bool × Bool) × (Bool × (Bool × Bool)))
+    (coded× (coded× coded_bool coded_bool) (coded× coded_bool (coded× coded_bool coded_bool)))
+    (λ f. ((f.changed, f.early_flag), (f.not_one_text, (f.early_tag, f.tag_outside))))
+    (λ p. record {
+      changed = p.0.0;
+      early_flag = p.0.1;
+      not_one_text = p.1.0;
+      early_tag = p.1.1.0;
+      tag_outside = p.1.1.1;
+    })
+    (λ _. refl)
+
+abbrev pub spans_code : Coded SpansState
+spans_code =
+    code_by (ℕ × (ReignsState × FaultSet))
+    (coded× coded_ℕ (coded× reigns_code faults_code))
+    (λ s. (s.count, (s.reigns, s.broken)))
+    (λ p. record { count = p.0; reigns = p.1.0; broken = p.1.1 })
+    (λ _. refl)
+
 abbrev pub audit_code : Coded AuditState
 audit_code =
-    code_by ((ℕ × (ℕ × LogStart)) × ((ReignsState × ReignsState) × Option AuditFault))
+    code_by ((ℕ × (ℕ × LogStart)) × (Option AuditFault × (SpansState × SpansState)))
     (coded× (coded× coded_ℕ (coded× coded_ℕ start_code))
-    (coded× (coded× reigns_code reigns_code) (coded_option fault_code)))
-    (λ a. ((a.programme, (a.distance, a.start)), ((a.text, a.name), a.fault)))
+    (coded× (coded_option fault_code) (coded× spans_code spans_code)))
+    (λ l. ((l.programme, (l.distance, l.start)), (l.fault, (l.text, l.name))))
     (λ p. record {
       programme = p.0.0;
       distance = p.0.1.0;
       start = p.0.1.1;
-      text = p.1.0.0;
-      name = p.1.0.1;
-      fault = p.1.1;
+      text = p.1.1.0;
+      name = p.1.1.1;
+      fault = p.1.0;
     })
     (λ _. refl)

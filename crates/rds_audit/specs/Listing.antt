@@ -78,12 +78,12 @@ turned d slot p is_changed r older =
     first_of_span slot p (if is_early then r.last + 1 else from) is_changed is_early ∷ r ∷ older
 
 -- these spans after a fragment with the flag of r, less than d slots after r: it joins r, except if r has other bytes
--- at its address. Then r ended in the last slot of the old bytes
+-- at its address
 abbrev pub joined : ℕ → ℕ → Fragment → Option SentFragment → Span → List Span → List Span
 joined d slot p None r older = span_with slot p r ∷ older
 joined d slot p (Some s) r older =
     if same_bytes p.bytes s.fragment.bytes then span_with slot p r ∷ older
-    else turned d slot p true (record r { last = s.slot }) older
+    else turned d slot p true r older
 
 -- these spans after one more fragment
 abbrev pub spans_after : ℕ → ℕ → Fragment → List Span → List Span

@@ -5,7 +5,7 @@ use Rattle.rds_fields.specs.declared.message.Message.{Message}
 use Rattle.rds_audit.specs.declared.audit.AuditFault.{AuditFault}
 use Rattle.rds_audit.specs.Lengths.{Gauge, IsFormed, name_gauge, text_gauge}
 use Rattle.rds_audit.specs.Listing.{first_of, none_broken, slot_adds, spans}
-use Rattle.rds_audit.specs.ListingStandsAt.{reigns_of}
+use Rattle.rds_audit.specs.AuditStandsAt.{reigns_of}
 use Rattle.rds_safety.specs.Lawful.{Kind}
 use Rattle.rds_safety.specs.Marks.{Mark, Nothing, Sends, Tagged, name_mark, text_mark}
 use Rattle.rds_audit.specs.Reigns.{reigns}

@@ -1,14 +1,18 @@
 -- An audit stored as plain numbers (this project's own form).
-use Rattle.std.specs.Prelude.{ℕ, ◌<◌, ◌≤◌, ◌==◌, List, Option, Some, None, map, if◌then◌else◌}
+use Rattle.std.specs.Prelude.{ℕ, ◌≡◌, ◌<◌, ◌≤◌, ◌==◌, List, Option, Some, None, map, if◌then◌else◌}
 use Rattle.rds_fields.specs.Stored.{is_set}
 use Rattle.rds_audit.specs.Ages.{Ages}
-use Rattle.rds_audit.specs.AuditState.{AuditState, ContentState, ReignsState, start_if}
+use Rattle.rds_audit.specs.ReignsState.{ContentState, ReignsState}
+use Rattle.rds_audit.specs.AuditState.{AuditState, SpansState, start_if}
 use Rattle.rds_audit.specs.declared.audit.AuditFault.{AuditFault}
 use Rattle.rds_audit.specs.declared.audit.AuditFault.TheVariants.{Changed, NotOneText, EarlyFlag}
 use Rattle.rds_audit.specs.declared.audit.AuditFault.TheVariants.{EarlyTag, TagOutside}
 use Rattle.rds_audit.specs.declared.stored.StoredCell.{StoredCell}
-use Rattle.rds_audit.specs.declared.stored.StoredReigns.{StoredReigns}
+use Rattle.rds_audit.specs.declared.fault_set.FaultSet.{FaultSet}
 use Rattle.rds_audit.specs.declared.stored.StoredAudit.{StoredAudit}
+use Rattle.rds_audit.specs.declared.stored.StoredFaults.{StoredFaults}
+use Rattle.rds_audit.specs.declared.stored.StoredReigns.{StoredReigns}
+use Rattle.rds_audit.specs.declared.stored.StoredSpans.{StoredSpans}
 
 abbrev pub cell_stored : StoredCell → Option (List ℕ)
 cell_stored c = if is_set c.is_sent then Some c.bytes else None
@@ -48,17 +52,48 @@ fault_stored n =
     if n == 0 then None else if n == 17 then Some Changed else if n == 18 then Some NotOneText
     else if n == 19 then Some EarlyFlag else if n == 20 then Some EarlyTag else Some TagOutside
 
-abbrev pub audit_stored : StoredAudit → AuditState
-audit_stored a = record {
-  programme = a.pi;
-  distance = a.distance;
-  start = start_if (is_set a.is_running);
-  text = reigns_stored a.text;
-  name = reigns_stored a.name;
-  fault = fault_stored a.fault;
+abbrev pub faults_stored : StoredFaults → FaultSet
+faults_stored f = record {
+  changed = is_set f.changed;
+  early_flag = is_set f.early_flag;
+  not_one_text = is_set f.not_one_text;
+  early_tag = is_set f.early_tag;
+  tag_outside = is_set f.tag_outside;
 }
 
+abbrev pub spans_stored : StoredSpans → SpansState
+spans_stored s = record {
+  count = s.count;
+  reigns = reigns_stored s.reigns;
+  broken = faults_stored s.broken;
+}
+
+abbrev pub audit_stored : StoredAudit → AuditState
+audit_stored l = record {
+  programme = l.pi;
+  distance = l.distance;
+  start = start_if (is_set l.is_running);
+  text = spans_stored l.text;
+  name = spans_stored l.name;
+  fault = fault_stored l.fault;
+}
+
+-- each number is 0 or 1
+pub record AreBits (f : StoredFaults) : Type 0 where
+  pub changed : f.changed ≤ 1
+  pub early_flag : f.early_flag ≤ 1
+  pub not_one_text : f.not_one_text ≤ 1
+  pub early_tag : f.early_tag ≤ 1
+  pub tag_outside : f.tag_outside ≤ 1
+
 -- the numbers are valid
-pub record IsStored (a : StoredAudit) : Type 0 where
-  pub some : 0 < a.distance
-  pub distance : a.distance ≤ 66559
+pub record IsStored (l : StoredAudit) : Type 0 where
+  pub some : 0 < l.distance
+  pub distance : l.distance ≤ 66559
+
+-- what stays the same while an audit takes the group of a slot
+pub record KeepsLog (old new : StoredAudit) : Type 0 where
+  pub programme : new.pi ≡ old.pi
+  pub distance : new.distance ≡ old.distance
+  pub start : new.is_running ≡ old.is_running
+  pub fault : new.fault ≡ old.fault

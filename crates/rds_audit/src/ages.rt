@@ -1,6 +1,6 @@
 //! The ages of a service's reigns: how many slots ago they started and ended. Each age stops at a limit.
 ghost use Rattle.std.specs.Prelude.{◌≡◌, ◌+◌, ◌≤◌, ◌↔◌, IsTrue, IsErr, IfErr, IfOk, min};
-ghost use Rattle.rds_audit.specs.Ages.{HasLasted, IsEarly, Joins, aged, opened_ages, restarted};
+ghost use Rattle.rds_audit.specs.Ages.{HasLasted, Joins, aged, restarted};
 ghost use Rattle.rds_audit.specs.Stored.{ages_stored, content_stored, reigns_stored};
 
 use crate::AuditFault;
@@ -12,29 +12,6 @@ impl StoredReigns {
         ensures { IsTrue result ↔ Joins distance flag (ages_stored self.now) }
     {
         self.has_flag(flag) && self.since_last < distance
-    }
-
-    /// Begins a reign in this slot. Its start is the first slot in which its text can have started. Error `EarlyFlag`
-    /// if that slot is still to come.
-    pub(crate) fn begin(&mut self, distance: u32, flag: bool) -> Result<(), AuditFault>
-        ensures early { IsErr result ↔ IsEarly distance flag (ages_stored self.old) }
-        ensures fault { IfErr result (λ fault. fault ≡ AuditFault.EarlyFlag) }
-        ensures opened { IfOk result
-            (λ _. ages_stored self.new ≡ opened_ages distance flag (ages_stored self.old)) }
-    {
-        let is_same = self.has_flag(flag);
-        if !is_same && self.since_before < distance {
-            return Err(AuditFault::EarlyFlag);
-        }
-        let past_last = self.since_last.saturating_sub(distance);
-        let past_before = self.since_before.saturating_sub(distance);
-        let since_start = if is_same {
-            past_last
-        } else {
-            past_before.min(self.since_last.saturating_sub(1))
-        };
-        self.restart(since_start, flag);
-        Ok(())
     }
 
     /// Begins a reign that started so many slots ago.

@@ -1,20 +1,21 @@
-//! The audit: it takes a log slot by slot, and finds the rule that the log breaks first.
-ghost use Rattle.std.specs.Prelude.{◌≡◌, ◌+◌, ◌<◌, ◌↔◌, [], ℕ, List, Option, None, IsTrue};
+//! The audit: it takes a log slot by slot, and finds the rule that the log breaks first, or all faults of the log.
+ghost use Rattle.std.specs.Prelude.{◌≡◌, ◌+◌, ◌-◌, ◌<◌, ◌^◌, ◌↔◌, [], ℕ, List, Option, None, IsTrue, length, min};
 ghost use Rattle.rds_block.specs.declared.group.Group.{Group};
 ghost use Rattle.rds_audit.specs.declared.log_start.LogStart.TheVariants as LogStart;
 ghost use Rattle.rds_audit.specs.AuditLaws.{IsSafeLog, IsSafeRecording};
-ghost use Rattle.rds_audit.specs.AuditStandsAt.{AuditStandsAt, TakesSlot, WhereTheAuditStands};
+ghost use Rattle.rds_audit.specs.AuditStandsAt.{AuditStandsAt, FollowsLog, TakesAll, TakesSlot};
+ghost use Rattle.rds_audit.specs.AuditStandsAt.{WhereItFollows, WhereTheAuditStands};
 ghost use Rattle.rds_audit.specs.Dense.{HasPlans};
 ghost use Rattle.rds_audit.specs.FlagLaws.{NamesAreSafeByFlag, TextsAreSafeByFlag};
+ghost use Rattle.rds_audit.specs.Listing.{spans};
 ghost use Rattle.rds_audit.specs.Reigns.{AlternateFlags, reigns};
 ghost use Rattle.rds_audit.specs.Rules.{LogPasses};
 ghost use Rattle.rds_audit.specs.Stored.{IsStored, audit_stored};
 ghost use Rattle.rds_safety.specs.Marks.{marks, name_mark, text_mark};
 
 use crate::audited::{Names, Texts};
-use crate::stored::{StoredAudit, StoredReigns};
-use crate::tally::Tallies;
-use crate::{LogStart, Tally};
+use crate::stored::{StoredAudit, StoredSpans};
+use crate::{FaultSet, LogStart};
 use rds_block::{Blocks, Group};
 use rds_fields::{Distance, Dwell, Late};
 use std::marker::Model;
@@ -45,11 +46,11 @@ pub enum AuditFault {
 /// are lawful and dense, with a spacing of M + K slots.
 ///
 /// It holds ages that stop at a limit, and no slot numbers, so a log may have any number of slots. `AuditStandsAt`
-/// relates an audit to its log. A new audit stands at the empty log, and each `slot` adds its slot to the log.
+/// relates an audit to its log. A new audit stands at the empty log, and each `slot` adds its slot to the log. So does
+/// each `all_faults`, which goes on after a fault: then the audit follows the log (`FollowsLog`).
 #[derive(Drop)]
 pub struct Audit {
     state: StoredAudit,
-    tallies: Tallies,
 }
 
 impl Model for Audit {
@@ -70,6 +71,7 @@ impl Audit {
     /// groups come at most so many slots late.
     pub fn new(pi: u16, dwell: Dwell, late: Late) -> Audit
         ensures stands { AuditStandsAt pi (dwell + late) result [] }
+        ensures follows { FollowsLog pi (dwell + late) result [] }
         ensures passed { result.fault ≡ None }
         ensures start { result.start ≡ LogStart.Complete }
     {
@@ -79,20 +81,21 @@ impl Audit {
     /// Does the same as [`new`](Self::new) for a log that begins so.
     pub fn starting(pi: u16, dwell: Dwell, late: Late, start: LogStart) -> Audit
         ensures stands { AuditStandsAt pi (dwell + late) result [] }
+        ensures follows { FollowsLog pi (dwell + late) result [] }
         ensures passed { result.fault ≡ None }
         ensures start { result.start ≡ start }
     {
         let distance = Distance::new(dwell, late);
         Audit {
             state: StoredAudit {
+                tags: 0,
+                text: StoredSpans::new::<Texts>(distance, start),
+                name: StoredSpans::new::<Names>(distance, start),
                 distance: distance.get(),
-                text: StoredReigns::new::<Texts>(distance, start),
-                name: StoredReigns::new::<Names>(distance, start),
                 pi,
                 fault: AuditFault::code(None),
                 is_running: start.stored(),
             },
-            tallies: Tallies::default(),
         }
     }
 
@@ -103,10 +106,7 @@ impl Audit {
     {
         let mut state = *stored;
         state.distance = Distance::restore(stored.distance).get();
-        Audit {
-            state,
-            tallies: Tallies::default(),
-        }
+        Audit { state }
     }
 
     /// Stores the audit as plain numbers.
@@ -133,7 +133,17 @@ impl Audit {
     pub fn slot_blocks(&mut self, group: Option<Blocks>) -> Result<(), AuditFault>
         ensures { TakesSlot self.old self.new group result }
     {
-        self.state.slot_with(&mut self.tallies, group)
+        self.state.slot(group)
+    }
+
+    /// Takes the next slot, whatever the faults before it. Returns the faults that the slot adds to the list of all
+    /// faults of the log: for each text or name each fault once, in the first slot in which it breaks the rule. Other
+    /// bytes at an address of a text begin a new text.
+    #[inline(always)]
+    pub fn all_faults(&mut self, group: Option<Blocks>) -> FaultSet
+        ensures { TakesAll self.old self.new group result }
+    {
+        self.state.all_faults(group)
     }
 
     /// Returns whether the log passes so far. A log that passes is safe for each receiver of dwell M whose groups come
@@ -151,14 +161,26 @@ impl Audit {
         self.state.passed()
     }
 
-    /// Returns what was judged of texts so far, for a person.
-    pub fn texts(&self) -> Tally {
-        self.tallies.texts
+    /// Returns how many texts the log has so far. A text that changed its bytes without the flag counts as two. The
+    /// number stops at 2^64 - 1.
+    pub fn texts(&self) -> u64
+        ensures { WhereItFollows self.now (λ d heard. result
+            ≡ min (length (spans d (marks text_mark heard))) (2 ^ 64 - 1)) }
+    {
+        self.state.text.count
     }
 
-    /// Returns what was judged of names so far, for a person.
-    pub fn names(&self) -> Tally {
-        self.tallies.names
+    /// Returns how many names the log has so far, as for texts.
+    pub fn names(&self) -> u64
+        ensures { WhereItFollows self.now (λ d heard. result
+            ≡ min (length (spans d (marks name_mark heard))) (2 ^ 64 - 1)) }
+    {
+        self.state.name.count
+    }
+
+    /// Returns how many pairs of tags were judged so far, for a person. No contract speaks of it.
+    pub fn tags(&self) -> u64 {
+        self.state.tags
     }
 
     /// Returns whether the log passes so far and turned the A/B flag with each new text. A receiver of such a log that
@@ -166,8 +188,7 @@ impl Audit {
     pub fn texts_turn_the_flag(&self) -> bool
         ensures turns { WhereTheAuditStands self.now (λ d heard. IsTrue result
             ↔ (LogPasses d heard × AlternateFlags (reigns d (marks text_mark heard)))) }
-        ensures safe { WhereTheAuditStands self.now
-            (λ d heard. IsTrue result → TextsAreSafeByFlag d heard) }
+        ensures safe { WhereTheAuditStands self.now (λ d heard. IsTrue result → TextsAreSafeByFlag d heard) }
     {
         self.state.texts_turn_the_flag()
     }
@@ -177,8 +198,7 @@ impl Audit {
     pub fn names_turn_the_flag(&self) -> bool
         ensures turns { WhereTheAuditStands self.now (λ d heard. IsTrue result
             ↔ (LogPasses d heard × AlternateFlags (reigns d (marks name_mark heard)))) }
-        ensures safe { WhereTheAuditStands self.now
-            (λ d heard. IsTrue result → NamesAreSafeByFlag d heard) }
+        ensures safe { WhereTheAuditStands self.now (λ d heard. IsTrue result → NamesAreSafeByFlag d heard) }
     {
         self.state.names_turn_the_flag()
     }

@@ -1,7 +1,6 @@
 //! The content of a reign: its segments and tags.
 ghost use Rattle.std.specs.Prelude.{◌≡◌, ◌+◌, ◌<◌, ◌≤◌, ◌↔◌, IsOk, IsErr, IsTrue, IfOk, IfErr, None, Some};
-ghost use Rattle.rds_audit.specs.AuditState.{CanTake, CannotTake, HasRoom, HoldsNoOther, cell_at, no_content, tagged};
-ghost use Rattle.rds_audit.specs.AuditState.{taken};
+ghost use Rattle.rds_audit.specs.ReignsState.{HasRoom, HoldsNoOther, cell_at, no_content, tagged, taken};
 ghost use Rattle.rds_audit.specs.Lengths.{narrowed, pair_end, tag_end};
 ghost use Rattle.rds_audit.specs.Stored.{ages_stored, cell_stored, content_stored};
 
@@ -40,44 +39,6 @@ impl StoredReigns {
         ensures { IsTrue result ↔ (cell_at address (content_stored self.now) ≡ Some bytes) }
     {
         self.sent_at(address) == Some(bytes)
-    }
-
-    /// Takes a segment if some value has it together with the segments and tags before. Otherwise error `Changed`,
-    /// `NotOneText` or `TagOutside`.
-    pub(crate) fn add<S: Audited>(&mut self, address: u8, bytes: [u8; 4]) -> Result<(), AuditFault>
-        requires { address < S.gauge.segments }
-        ensures can { IfOk result
-            (λ _. CanTake (S.gauge.allowed address bytes) address bytes (content_stored self.old)) }
-        ensures cannot { IfErr result
-            (λ fault. CannotTake (S.gauge.allowed address bytes) address bytes (content_stored self.old) fault) }
-        ensures taken { IfOk result (λ _. content_stored self.new
-            ≡ taken (S.gauge.allowed address bytes) address bytes (content_stored self.old)) }
-        ensures ages { ages_stored self.new ≡ ages_stored self.old }
-    {
-        self.check_unchanged(address, bytes)?;
-        let lengths = self.narrowed(S::lengths(address, bytes))?;
-        if self.tags_end > lengths.most {
-            return Err(AuditFault::TagOutside);
-        }
-        self.cells[address as usize] = StoredCell { bytes, is_sent: 1 };
-        self.least = lengths.least;
-        self.most = lengths.most;
-        Ok(())
-    }
-
-    /// Takes the ends of a pair of tags if some text that has the segments reaches them. Otherwise error `TagOutside`.
-    pub(crate) fn add_tags(&mut self, pair: TagPair) -> Result<(), AuditFault>
-        ensures can { IsErr result ↔ ((content_stored self.old).lengths.most < pair_end pair) }
-        ensures fault { IfErr result (λ fault. fault ≡ AuditFault.TagOutside) }
-        ensures tagged { IfOk result (λ _. content_stored self.new ≡ tagged pair (content_stored self.old)) }
-        ensures ages { ages_stored self.new ≡ ages_stored self.old }
-    {
-        let end = end_of_pair(pair);
-        if end > self.most {
-            return Err(AuditFault::TagOutside);
-        }
-        self.tags_end = self.tags_end.max(end);
-        Ok(())
     }
 
     /// Takes a segment, whatever the segments and tags before. One that fits no value leaves the lengths as they are.
@@ -131,23 +92,6 @@ impl StoredReigns {
         } else {
             None
         }
-    }
-
-    /// Returns the lengths that are left if a segment allows these. Error `NotOneText` if none is left.
-    fn narrowed(&self, allowed: Option<Lengths>) -> Result<Lengths, AuditFault>
-        ensures room { IsOk result ↔ HasRoom allowed (content_stored self.now).lengths }
-        ensures fault { IfErr result (λ fault. fault ≡ AuditFault.NotOneText) }
-        ensures value { IfOk result (λ left. left ≡ narrowed allowed (content_stored self.now).lengths) }
-    {
-        let Some(allowed) = allowed else {
-            return Err(AuditFault::NotOneText);
-        };
-        let least = self.least.max(allowed.least);
-        let most = self.most.min(allowed.most);
-        if least > most {
-            return Err(AuditFault::NotOneText);
-        }
-        Ok(Lengths { least, most })
     }
 }
 

@@ -1,7 +1,7 @@
 //! The rules that a text, a name or a slot breaks.
 ghost use Rattle.std.specs.Prelude.{◌≡◌, ◌↔◌, IsTrue, Some, None};
 ghost use Rattle.rds_audit.specs.Listing.{first_of, none_broken, not_before};
-ghost use Rattle.rds_audit.specs.ListingState.{faults_stored};
+ghost use Rattle.rds_audit.specs.Stored.{AreBits, faults_stored};
 
 use crate::AuditFault;
 use crate::stored::StoredFaults;
@@ -87,7 +87,8 @@ impl StoredFaults {
 
     /// Stores the faults as bits.
     pub fn of(faults: FaultSet) -> StoredFaults
-        ensures { faults_stored result ≡ faults }
+        ensures same { faults_stored result ≡ faults }
+        ensures bits { AreBits result }
     {
         StoredFaults {
             changed: u8::from(faults.changed),

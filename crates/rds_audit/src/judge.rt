@@ -1,53 +1,151 @@
-//! How an audit takes the group of a slot, and how it ends the slot.
-ghost use Rattle.std.specs.Prelude.{◌≡◌, ◌∷◌, ◌⊎◌, true, false, List, Option, Some};
+//! How a stored audit takes a slot, and what it says of the log.
+ghost use Rattle.std.specs.Prelude.{◌≡◌, ◌+◌, ◌<◌, ◌↔◌, ◌⊎◌, ◌∷◌, ℕ, true, false, List, Option, None, Some, IsTrue};
+ghost use Rattle.rds_block.specs.declared.group.Group.{Group};
 ghost use Rattle.rds_fields.specs.declared.message.Message.{Message};
-ghost use Rattle.rds_fields.specs.declared.message.Message.TheVariants.{Tags};
 ghost use Rattle.rds_receiver.specs.Receipts.{Hears};
+ghost use Rattle.rds_audit.specs.declared.audit.AuditFault.{AuditFault};
 ghost use Rattle.rds_audit.specs.declared.log_start.LogStart.TheVariants as LogStart;
-ghost use Rattle.rds_audit.specs.AuditStandsAt.{HoldsLog, HoldsSlot, Judges};
-ghost use Rattle.rds_audit.specs.AuditState.{KeepsAllElse};
-ghost use Rattle.rds_audit.specs.Stored.{IsStored, audit_stored};
+ghost use Rattle.rds_audit.specs.AuditLaws.{IsSafeLog, IsSafeRecording};
+ghost use Rattle.rds_audit.specs.AuditStandsAt.{AuditStandsAt, HoldsLog, HoldsSlot, ListsGroup, ListsMessage};
+ghost use Rattle.rds_audit.specs.AuditStandsAt.{TakesAll, TakesSlot, WhereTheAuditStands};
+ghost use Rattle.rds_audit.specs.Dense.{HasPlans};
+ghost use Rattle.rds_audit.specs.FlagLaws.{NamesAreSafeByFlag, TextsAreSafeByFlag};
+ghost use Rattle.rds_audit.specs.Listing.{first_of};
+ghost use Rattle.rds_audit.specs.Reigns.{AlternateFlags, reigns};
+ghost use Rattle.rds_audit.specs.Rules.{LogPasses};
+ghost use Rattle.rds_audit.specs.Stored.{IsStored, KeepsLog, audit_stored};
+ghost use Rattle.rds_safety.specs.Marks.{marks, name_mark, text_mark};
 
-use crate::AuditFault;
 use crate::audited::{Names, Texts};
 use crate::stored::StoredAudit;
-use crate::tally::Tallies;
+use crate::{
+    AuditFault, FaultSet, passes_by_plans, the_list_begins_with_the_fault,
+    what_passes_as_a_recording_is_safe, what_passes_is_safe, what_passes_is_safe_by_the_flag,
+};
 use rds_block::Blocks;
-use rds_fields::{Message, TagPair};
+use rds_fields::Message;
 use rds_receiver::heard_blocks;
 
 impl StoredAudit {
-    /// Takes the group of this slot, if it is one of the programme.
+    /// Takes the next slot: the group that was sent in it, as its blocks, or nothing.
     ///
     /// # Errors
     ///
-    /// The fault, if it breaks a rule.
+    /// The fault, if the slot breaks a rule. After a fault, each call returns that fault again and changes nothing.
     #[inline(always)]
-    pub(crate) fn take_slot(
-        &mut self,
-        tallies: &mut Tallies,
-        group: Option<Blocks>,
-    ) -> Result<(), AuditFault>
-        ensures rest { KeepsAllElse (audit_stored self.old) (audit_stored self.new) }
-        ensures takes { IsStored self.old → (message : Option Message) × Hears self.old.pi group message
-            × Judges (audit_stored self.old) (audit_stored self.new) message result }
+    pub fn slot(&mut self, group: Option<Blocks>) -> Result<(), AuditFault>
+        ensures takes { IsStored self.old
+            → TakesSlot (audit_stored self.old) (audit_stored self.new) group result }
+        ensures start { (audit_stored self.new).start ≡ (audit_stored self.old).start }
+        ensures good { IsStored self.old ↔ IsStored self.new }
     {
-        match heard_blocks(self.pi, group) {
-            Some(message) => self.hear(tallies, message),
+        if let Some(known) = AuditFault::of_code(self.fault) {
+            // Prover: this call names the message that the log gets in this slot; its result is not used
+            // (docs/PROVER.md, "Idioms").
+            heard_blocks(self.pi, group);
+            return Err(known);
+        }
+        match self.all_faults(group).first() {
             None => Ok(()),
+            Some(fault) => Err(fault),
         }
     }
 
-    /// Takes a message of the programme that was sent in this slot.
-    ///
-    /// # Errors
-    ///
-    /// The fault, if it breaks a rule.
+    /// Takes the next slot, whatever the faults before it. Returns the faults that it adds to the list.
     #[inline(always)]
-    fn hear(&mut self, tallies: &mut Tallies, message: Message) -> Result<(), AuditFault>
-        ensures rest { KeepsAllElse (audit_stored self.old) (audit_stored self.new) }
-        ensures judges { IsStored self.old
-            → Judges (audit_stored self.old) (audit_stored self.new) (Some message) result }
+    pub fn all_faults(&mut self, group: Option<Blocks>) -> FaultSet
+        ensures takes { IsStored self.old
+            → TakesAll (audit_stored self.old) (audit_stored self.new) group result }
+        ensures first { (audit_stored self.old).fault ≡ None → (audit_stored self.new).fault ≡ first_of result }
+        ensures again { (fault : AuditFault) → (audit_stored self.old).fault ≡ Some fault
+            → (audit_stored self.new).fault ≡ Some fault }
+        ensures start { (audit_stored self.new).start ≡ (audit_stored self.old).start }
+        ensures good { IsStored self.old ↔ IsStored self.new }
+    {
+        let found = self.take_slot(group);
+        if self.fault == 0 && !found.is_empty() {
+            self.fault = AuditFault::code(found.first());
+        }
+        found
+    }
+
+    /// Returns whether the log passes so far.
+    pub fn passed(&self) -> bool
+        ensures fault { IsTrue result ↔ ((audit_stored self.now).fault ≡ None) }
+        ensures passes { WhereTheAuditStands (audit_stored self.now) (λ d heard. IsTrue result ↔ LogPasses d heard) }
+        ensures plans { WhereTheAuditStands (audit_stored self.now) (λ d heard. IsTrue result ↔ HasPlans d heard) }
+        ensures safe { WhereTheAuditStands (audit_stored self.now) (λ d heard. (m k : ℕ) → 0 < m → m + k ≡ d
+            → IsTrue result → IsSafeLog m k heard) }
+        ensures recording { (pi m k : ℕ) (log : List (Option Group))
+            → (s : AuditStandsAt pi (m + k) (audit_stored self.now) log)
+            → (audit_stored self.now).start ≡ LogStart.Running → 0 < m → IsTrue result → IsSafeRecording m k s.heard }
+    {
+        // Prover: calls of laws, which give the clauses `plans`, `safe` and `recording` (docs/PROVER.md, "Idioms").
+        passes_by_plans();
+        what_passes_is_safe();
+        what_passes_as_a_recording_is_safe();
+        self.fault == 0
+    }
+
+    /// Returns whether the log passes so far and turned the A/B flag with each new text.
+    pub fn texts_turn_the_flag(&self) -> bool
+        ensures turns { WhereTheAuditStands (audit_stored self.now) (λ d heard. IsTrue result
+            ↔ (LogPasses d heard × AlternateFlags (reigns d (marks text_mark heard)))) }
+        ensures safe { WhereTheAuditStands (audit_stored self.now)
+            (λ d heard. IsTrue result → TextsAreSafeByFlag d heard) }
+    {
+        // Prover: calls of laws (docs/PROVER.md, "Idioms").
+        the_list_begins_with_the_fault();
+        what_passes_is_safe_by_the_flag();
+        self.passed() && self.text.reigns.turns != 0
+    }
+
+    /// Returns whether the log passes so far and turned the A/B flag with each new name.
+    pub fn names_turn_the_flag(&self) -> bool
+        ensures turns { WhereTheAuditStands (audit_stored self.now) (λ d heard. IsTrue result
+            ↔ (LogPasses d heard × AlternateFlags (reigns d (marks name_mark heard)))) }
+        ensures safe { WhereTheAuditStands (audit_stored self.now)
+            (λ d heard. IsTrue result → NamesAreSafeByFlag d heard) }
+    {
+        // Prover: calls of laws (docs/PROVER.md, "Idioms").
+        the_list_begins_with_the_fault();
+        what_passes_is_safe_by_the_flag();
+        self.passed() && self.name.reigns.turns != 0
+    }
+
+    /// Takes the slot as though each fault before it had been allowed.
+    #[inline(always)]
+    fn take_slot(&mut self, group: Option<Blocks>) -> FaultSet
+        ensures keeps { KeepsLog self.old self.new }
+        ensures lists { IsStored self.old
+            → ListsGroup (audit_stored self.old) (audit_stored self.new) group result }
+    {
+        let found = self.hear_group(group);
+        self.end_slot();
+        found
+    }
+
+    /// Takes the group of this slot, if it is one of the programme.
+    #[inline(always)]
+    fn hear_group(&mut self, group: Option<Blocks>) -> FaultSet
+        ensures keeps { KeepsLog self.old self.new }
+        ensures lists { IsStored self.old → (message : Option Message)
+            × Hears self.old.pi group message
+            × ListsMessage (audit_stored self.old) (audit_stored self.new) message result }
+    {
+        match heard_blocks(self.pi, group) {
+            Some(message) => self.hear(message),
+            None => FaultSet::none(),
+        }
+    }
+
+    /// Takes a message of the programme that was sent in this slot. Tags before the first text segment of a running
+    /// station are not judged: their text may have been sent before the log.
+    #[inline(always)]
+    fn hear(&mut self, message: Message) -> FaultSet
+        ensures keeps { KeepsLog self.old self.new }
+        ensures lists { IsStored self.old
+            → ListsMessage (audit_stored self.old) (audit_stored self.new) (Some message) result }
     {
         let distance = self.distance;
         match message {
@@ -57,54 +155,43 @@ impl StoredAudit {
                 bytes,
             } => self
                 .text
-                .take::<Texts>(&mut tallies.texts, distance, flag, address.get(), bytes),
+                .take::<Texts>(distance, flag, address.get(), bytes),
             Message::Name {
                 flag,
                 address,
                 bytes,
             } => self
                 .name
-                .take::<Names>(&mut tallies.names, distance, flag, address.get(), bytes),
-            Message::Tags(pair) => self.take_tags(tallies, pair),
-            Message::Announce { .. } | Message::Other => Ok(()),
+                .take::<Names>(distance, flag, address.get(), bytes),
+            Message::Tags(pair) => {
+                if self.awaits_text() {
+                    FaultSet::none()
+                } else {
+                    self.tags = self.tags.saturating_add(1);
+                    self.text.take_tags::<Texts>(distance, pair)
+                }
+            }
+            Message::Announce { .. } | Message::Other => FaultSet::none(),
         }
-    }
-
-    /// Takes tags that were sent in this slot, except before the first text segment of the log of a running station:
-    /// their text may have been sent before the log.
-    ///
-    /// # Errors
-    ///
-    /// The fault, if they break a rule.
-    fn take_tags(&mut self, tallies: &mut Tallies, pair: TagPair) -> Result<(), AuditFault>
-        ensures rest { KeepsAllElse (audit_stored self.old) (audit_stored self.new) }
-        ensures judges { IsStored self.old
-            → Judges (audit_stored self.old) (audit_stored self.new) (Some (Tags pair)) result }
-    {
-        if self.awaits_text() {
-            return Ok(());
-        }
-        let distance = self.distance;
-        self.text
-            .take_tags::<Texts>(&mut tallies.texts, distance, pair)
     }
 
     /// Returns whether the station was on air before the log began, and no text segment came yet.
     fn awaits_text(&self) -> bool
         ensures early { result ≡ true → ((audit_stored self.now).start ≡ LogStart.Running)
-            × ((audit_stored self.now).text.ages.is_open ≡ false) }
+            × ((audit_stored self.now).text.reigns.ages.is_open ≡ false) }
         ensures begun { result ≡ false → ((audit_stored self.now).start ≡ LogStart.Complete)
-            ⊎ ((audit_stored self.now).text.ages.is_open ≡ true) }
+            ⊎ ((audit_stored self.now).text.reigns.ages.is_open ≡ true) }
     {
-        self.is_running != 0 && self.text.is_open == 0
+        self.is_running != 0 && self.text.reigns.is_open == 0
     }
 
     /// Ends the slot.
-    pub(crate) fn end_slot(&mut self)
-        ensures rest { KeepsAllElse (audit_stored self.old) (audit_stored self.new) }
-        ensures holds { IsStored self.old → (heard : List (Option Message)) (message : Option Message)
-            → HoldsSlot self.old.distance message heard (audit_stored self.old)
-            → HoldsLog self.old.distance (message ∷ heard) (audit_stored self.new) }
+    fn end_slot(&mut self)
+        ensures keeps { KeepsLog self.old self.new }
+        ensures holds { IsStored self.old
+            → (judged : List (Option Message)) (newest : Option Message)
+            → HoldsSlot self.old.distance newest judged (audit_stored self.old)
+            → HoldsLog self.old.distance (newest ∷ judged) (audit_stored self.new) }
     {
         let distance = self.distance;
         self.text.grow_older(distance);

@@ -9,12 +9,10 @@ mod audited;
 mod content;
 mod fault_set;
 mod judge;
-mod listing;
 mod log_start;
 mod reigns;
 mod spans;
 mod stored;
-mod tally;
 
 pub use audit::{Audit, AuditFault};
 pub use audit_laws::{
@@ -22,7 +20,5 @@ pub use audit_laws::{
     what_passes_as_a_recording_is_safe, what_passes_is_safe, what_passes_is_safe_by_the_flag,
 };
 pub use fault_set::FaultSet;
-pub use listing::Listing;
 pub use log_start::LogStart;
-pub use stored::{StoredAudit, StoredCell, StoredFaults, StoredListing, StoredReigns, StoredSpans};
-pub use tally::Tally;
+pub use stored::{StoredAudit, StoredCell, StoredFaults, StoredReigns, StoredSpans};

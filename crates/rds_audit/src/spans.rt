@@ -1,9 +1,9 @@
 //! The spans of a service: what a list of faults judges.
 ghost use Rattle.std.specs.Prelude.{◌≡◌, ◌+◌, ◌≤◌, ◌<◌, ◌^◌, ℕ, List};
 ghost use Rattle.rds_audit.specs.Listing.{added};
-ghost use Rattle.rds_audit.specs.ListingStandsAt.{HoldsNewestSpans, HoldsSpans, WhereSpansHold};
-ghost use Rattle.rds_audit.specs.ListingState.{aged_in, ended_in, judged_ends, opened_in, put_in, repeated_in};
-ghost use Rattle.rds_audit.specs.ListingState.{spans_stored, tagged_in};
+ghost use Rattle.rds_audit.specs.AuditStandsAt.{HoldsNewestSpans, HoldsSpans, WhereSpansHold};
+ghost use Rattle.rds_audit.specs.AuditState.{aged_in, judged_ends, opened_in, put_in, repeated_in, tagged_in};
+ghost use Rattle.rds_audit.specs.Stored.{spans_stored};
 ghost use Rattle.rds_audit.specs.Recording.{IsSilentAs};
 ghost use Rattle.rds_safety.specs.Marks.{Mark, Sends, Tagged};
 
@@ -17,11 +17,12 @@ impl StoredSpans {
     pub(crate) fn new<S: Audited>(distance: Distance, start: LogStart) -> StoredSpans
         requires { 0 < distance }
         ensures { (sent : List Mark) → IsSilentAs start distance sent
-            → HoldsSpans S.gauge distance 0 sent (spans_stored result) }
+            → HoldsSpans S.gauge distance sent (spans_stored result) }
     {
         StoredSpans {
-            sent_at: [0; 16],
             count: 0,
+            waited: 0,
+            apart: 0,
             reigns: StoredReigns::new::<S>(distance, start),
             broken: StoredFaults::none(),
         }
@@ -31,42 +32,40 @@ impl StoredSpans {
     /// adds to the list.
     pub(crate) fn take<S: Audited>(
         &mut self,
-        slot: u64,
         distance: u32,
         flag: bool,
         address: u8,
         bytes: [u8; 4],
     ) -> FaultSet
         requires { address < S.gauge.segments }
-        ensures added { slot + 1 < 2 ^ 64 → WhereSpansHold S.gauge distance slot (spans_stored self.old) (λ sent. result
+        ensures added { WhereSpansHold S.gauge distance (spans_stored self.old) (λ sent. result
             ≡ added S.gauge distance (Sends record { flag = flag; address = address; bytes = bytes }) sent) }
-        ensures holds { slot + 1 < 2 ^ 64 → WhereSpansHold S.gauge distance slot (spans_stored self.old)
-            (λ sent. HoldsNewestSpans S.gauge distance slot
+        ensures holds { WhereSpansHold S.gauge distance (spans_stored self.old)
+            (λ sent. HoldsNewestSpans S.gauge distance
             (Sends record { flag = flag; address = address; bytes = bytes }) sent (spans_stored self.new)) }
     {
         if !self.reigns.joins(distance, flag) {
-            return self.begin::<S>(slot, distance, flag, address, bytes, false);
+            return self.begin::<S>(distance, flag, address, bytes, false);
         }
         if self.reigns.has(address, bytes) {
             // what the span has already breaks no further rule
-            self.repeat(slot, address);
+            self.repeat();
             return FaultSet::none();
         }
         if self.reigns.check_unchanged(address, bytes).is_err() {
-            self.end_at(slot, distance, address);
-            return self.begin::<S>(slot, distance, flag, address, bytes, true);
+            return self.begin::<S>(distance, flag, address, bytes, true);
         }
         let before = self.broken.get();
-        self.put::<S>(slot, address, bytes);
+        self.put::<S>(address, bytes);
         self.broken.get().not_in(before)
     }
 
     /// Takes tags that were sent in this slot. Returns the faults that they add to the list.
     pub(crate) fn take_tags<S: Audited>(&mut self, distance: u32, pair: TagPair) -> FaultSet
-        ensures added { (slot : ℕ) → WhereSpansHold S.gauge distance slot (spans_stored self.old)
+        ensures added { WhereSpansHold S.gauge distance (spans_stored self.old)
             (λ sent. result ≡ added S.gauge distance (Tagged pair) sent) }
-        ensures holds { (slot : ℕ) → WhereSpansHold S.gauge distance slot (spans_stored self.old)
-            (λ sent. HoldsNewestSpans S.gauge distance slot (Tagged pair) sent (spans_stored self.new)) }
+        ensures holds { WhereSpansHold S.gauge distance (spans_stored self.old)
+            (λ sent. HoldsNewestSpans S.gauge distance (Tagged pair) sent (spans_stored self.new)) }
     {
         let before = self.broken.get();
         self.add_tags(distance, pair);
@@ -83,7 +82,6 @@ impl StoredSpans {
     /// Opens a span with this segment. Returns the faults that the span has.
     fn begin<S: Audited>(
         &mut self,
-        slot: u64,
         distance: u32,
         flag: bool,
         address: u8,
@@ -91,20 +89,20 @@ impl StoredSpans {
         is_changed: bool,
     ) -> FaultSet
         requires { address < S.gauge.segments }
-        ensures begun { self.old.count + 1 < 2 ^ 64 → spans_stored self.new
-            ≡ put_in (S.gauge.allowed address bytes) slot address bytes
+        ensures begun { spans_stored self.new
+            ≡ put_in (S.gauge.allowed address bytes) address bytes
             (opened_in distance S.gauge.longest is_changed flag (spans_stored self.old)) }
         ensures faults { result ≡ (spans_stored self.new).broken }
     {
         self.open::<S>(distance, flag, is_changed);
-        self.put::<S>(slot, address, bytes);
+        self.put::<S>(address, bytes);
         self.broken.get()
     }
 
     /// Opens a span without segments and tags. One that changed counts as having turned the flag. If it comes too
     /// early, it starts right after the span before it.
     fn open<S: Audited>(&mut self, distance: u32, flag: bool, is_changed: bool)
-        ensures { self.old.count + 1 < 2 ^ 64 → spans_stored self.new
+        ensures { spans_stored self.new
             ≡ opened_in distance S.gauge.longest is_changed flag (spans_stored self.old) }
     {
         let is_turned = is_changed || !self.reigns.has_flag(flag);
@@ -117,6 +115,8 @@ impl StoredSpans {
         } else {
             past_last.min(self.reigns.since_before.saturating_sub(distance))
         };
+        self.waited = since_start;
+        self.apart = self.reigns.since_before;
         self.reigns.restart(since_start, flag);
         self.reigns.clear::<S>();
         self.count = self.count.saturating_add(1);
@@ -127,29 +127,13 @@ impl StoredSpans {
         };
     }
 
-    /// Ends the current span in the last slot of the segment at this address.
-    fn end_at(&mut self, slot: u64, distance: u32, address: u8)
-        requires { address < 16 }
-        ensures { distance ≤ 66559 → spans_stored self.new
-            ≡ ended_in distance slot address (spans_stored self.old) }
-    {
-        let age = slot.saturating_sub(self.sent_at[address as usize]);
-        let limit = distance.saturating_mul(2);
-        self.reigns.since_last = if age < u64::from(limit) {
-            age as u32
-        } else {
-            limit
-        };
-    }
-
     /// Takes a segment into the current span.
-    fn put<S: Audited>(&mut self, slot: u64, address: u8, bytes: [u8; 4])
+    fn put<S: Audited>(&mut self, address: u8, bytes: [u8; 4])
         requires { address < S.gauge.segments }
         ensures { spans_stored self.new
-            ≡ put_in (S.gauge.allowed address bytes) slot address bytes (spans_stored self.old) }
+            ≡ put_in (S.gauge.allowed address bytes) address bytes (spans_stored self.old) }
     {
         self.reigns.renew();
-        self.sent_at[address as usize] = slot;
         if !self.reigns.put::<S>(address, bytes) {
             self.broken.not_one_text = 1;
         }
@@ -157,11 +141,9 @@ impl StoredSpans {
     }
 
     /// Takes a segment that the current span has already.
-    fn repeat(&mut self, slot: u64, address: u8)
-        requires { address < 16 }
-        ensures { spans_stored self.new ≡ repeated_in slot address (spans_stored self.old) }
+    fn repeat(&mut self)
+        ensures { spans_stored self.new ≡ repeated_in (spans_stored self.old) }
     {
-        self.sent_at[address as usize] = slot;
         self.reigns.renew();
     }
 

@@ -1,24 +1,9 @@
 //! The state of an audit, as plain numbers: a program may store it, and each slot changes it in place. A bit is 0 for
 //! no and any other number for yes.
-ghost use Rattle.std.specs.Prelude.{◌≡◌, ◌+◌, ◌<◌, ◌↔◌, ◌⊎◌, ℕ, true, false, List, Option, Some, None, IsTrue};
-ghost use Rattle.rds_block.specs.declared.group.Group.{Group};
-ghost use Rattle.rds_audit.specs.declared.log_start.LogStart.TheVariants as LogStart;
-ghost use Rattle.rds_audit.specs.AuditLaws.{IsSafeLog, IsSafeRecording};
-ghost use Rattle.rds_audit.specs.AuditStandsAt.{AuditStandsAt, TakesSlot, WhereTheAuditStands};
-ghost use Rattle.rds_audit.specs.Dense.{HasPlans};
-ghost use Rattle.rds_audit.specs.FlagLaws.{NamesAreSafeByFlag, TextsAreSafeByFlag};
-ghost use Rattle.rds_audit.specs.Reigns.{AlternateFlags, reigns};
-ghost use Rattle.rds_audit.specs.Rules.{LogPasses};
-ghost use Rattle.rds_audit.specs.Stored.{IsStored, audit_stored, code_of_fault, fault_stored};
-ghost use Rattle.rds_safety.specs.Marks.{marks, name_mark, text_mark};
+ghost use Rattle.std.specs.Prelude.{◌≡◌};
+ghost use Rattle.rds_audit.specs.Stored.{code_of_fault, fault_stored};
 
-use crate::tally::Tallies;
-use crate::{
-    AuditFault, one_fault, passes_by_plans, what_passes_as_a_recording_is_safe,
-    what_passes_is_safe, what_passes_is_safe_by_the_flag,
-};
-use rds_block::Blocks;
-use rds_receiver::heard_blocks;
+use crate::AuditFault;
 
 /// The bytes that were sent at one address, if any.
 #[repr(C)]
@@ -58,36 +43,20 @@ pub struct StoredFaults {
     pub tag_outside: u8,
 }
 
-/// The current span of a service in a list, and the ages of it and of the one before, in slots.
+/// The current text or name of a service, the ages of it and of the one before, and what a person asks about it.
 #[repr(C)]
 #[derive(Clone, Copy)]
 pub struct StoredSpans {
-    /// The slot of the newest segment at each address, counted from 0.
-    pub sent_at: [u64; 16],
-    /// The number of spans so far.
+    /// The number of texts or names so far. It stops at 2^64 - 1.
     pub count: u64,
+    /// How many slots the first segment of the current one came after the first slot in which that can have started, at
+    /// most M + K. No contract speaks of it.
+    pub waited: u32,
+    /// How many slots the first segment of the current one came after the last slot of the one before the previous one,
+    /// at most 2 (M + K). No contract speaks of it.
+    pub apart: u32,
     pub reigns: StoredReigns,
     pub broken: StoredFaults,
-}
-
-/// The plain numbers of a list of faults. Its calls do what those of a [`Listing`](crate::Listing) do. Invalid numbers
-/// give arbitrary results and arbitrary numbers.
-#[repr(C)]
-#[derive(Clone, Copy)]
-pub struct StoredListing {
-    /// The number of slots so far.
-    pub slots: u64,
-    /// The number of pairs of tags that were judged so far.
-    pub tags: u64,
-    pub text: StoredSpans,
-    pub name: StoredSpans,
-    /// The spacing d in slots: the dwell plus the lateness.
-    pub distance: u32,
-    pub pi: u16,
-    /// The number of the first fault of the list, 0 if there is none.
-    pub fault: u8,
-    /// Whether the station was on air before the log began.
-    pub is_running: u8,
 }
 
 /// The plain numbers of an audit. Its calls do what those of an [`Audit`](crate::Audit) do. Invalid numbers give
@@ -95,100 +64,17 @@ pub struct StoredListing {
 #[repr(C)]
 #[derive(Clone, Copy)]
 pub struct StoredAudit {
+    /// The number of pairs of tags that were judged so far. It stops at 2^64 - 1.
+    pub tags: u64,
+    pub text: StoredSpans,
+    pub name: StoredSpans,
     /// The spacing d in slots: the dwell plus the lateness.
     pub distance: u32,
-    pub text: StoredReigns,
-    pub name: StoredReigns,
     pub pi: u16,
-    /// The number of the fault that was found, 0 if there is none.
+    /// The number of the first fault that was found, 0 if there is none.
     pub fault: u8,
     /// Whether the station was on air before the log began.
     pub is_running: u8,
-}
-
-impl StoredAudit {
-    /// Takes the next slot: the group that was sent in it, as its blocks, or nothing.
-    ///
-    /// # Errors
-    ///
-    /// The fault, if the slot breaks a rule. After a fault, each call returns that fault again and changes nothing.
-    pub fn slot(&mut self, group: Option<Blocks>) -> Result<(), AuditFault>
-        ensures takes { IsStored self.old
-            → TakesSlot (audit_stored self.old) (audit_stored self.new) group result }
-        ensures start { (audit_stored self.new).start ≡ (audit_stored self.old).start }
-        ensures good { IsStored self.old ↔ IsStored self.new }
-    {
-        self.slot_with(&mut Tallies::default(), group)
-    }
-
-    /// Does the same, and counts in the tallies.
-    #[inline(always)]
-    pub(crate) fn slot_with(
-        &mut self,
-        tallies: &mut Tallies,
-        group: Option<Blocks>,
-    ) -> Result<(), AuditFault>
-        ensures takes { IsStored self.old
-            → TakesSlot (audit_stored self.old) (audit_stored self.new) group result }
-        ensures start { (audit_stored self.new).start ≡ (audit_stored self.old).start }
-        ensures good { IsStored self.old ↔ IsStored self.new }
-    {
-        if let Some(known) = AuditFault::of_code(self.fault) {
-            // Prover: this call names the message that the log gets in this slot; its result is not used
-            // (docs/PROVER.md, "Idioms").
-            heard_blocks(self.pi, group);
-            return Err(known);
-        }
-        if let Err(fault) = self.take_slot(tallies, group) {
-            self.fault = AuditFault::code(Some(fault));
-            return Err(fault);
-        }
-        self.end_slot();
-        Ok(())
-    }
-
-    /// Returns whether the log passes so far.
-    pub fn passed(&self) -> bool
-        ensures fault { IsTrue result ↔ ((audit_stored self.now).fault ≡ None) }
-        ensures passes { WhereTheAuditStands (audit_stored self.now) (λ d heard. IsTrue result ↔ LogPasses d heard) }
-        ensures plans { WhereTheAuditStands (audit_stored self.now) (λ d heard. IsTrue result ↔ HasPlans d heard) }
-        ensures safe { WhereTheAuditStands (audit_stored self.now) (λ d heard. (m k : ℕ) → 0 < m → m + k ≡ d
-            → IsTrue result → IsSafeLog m k heard) }
-        ensures recording { (pi m k : ℕ) (log : List (Option Group))
-            → (s : AuditStandsAt pi (m + k) (audit_stored self.now) log)
-            → (audit_stored self.now).start ≡ LogStart.Running → 0 < m → IsTrue result → IsSafeRecording m k s.heard }
-    {
-        // Prover: calls of laws, which give the clauses `plans`, `safe` and `recording` (docs/PROVER.md, "Idioms").
-        one_fault();
-        passes_by_plans();
-        what_passes_is_safe();
-        what_passes_as_a_recording_is_safe();
-        AuditFault::of_code(self.fault).is_none()
-    }
-
-    /// Returns whether the log passes so far and turned the A/B flag with each new text.
-    pub fn texts_turn_the_flag(&self) -> bool
-        ensures turns { WhereTheAuditStands (audit_stored self.now) (λ d heard. IsTrue result
-            ↔ (LogPasses d heard × AlternateFlags (reigns d (marks text_mark heard)))) }
-        ensures safe { WhereTheAuditStands (audit_stored self.now)
-            (λ d heard. IsTrue result → TextsAreSafeByFlag d heard) }
-    {
-        // Prover: a call of a law, which gives the clause `safe` (docs/PROVER.md, "Idioms").
-        what_passes_is_safe_by_the_flag();
-        self.passed() && self.text.turns != 0
-    }
-
-    /// Returns whether the log passes so far and turned the A/B flag with each new name.
-    pub fn names_turn_the_flag(&self) -> bool
-        ensures turns { WhereTheAuditStands (audit_stored self.now) (λ d heard. IsTrue result
-            ↔ (LogPasses d heard × AlternateFlags (reigns d (marks name_mark heard)))) }
-        ensures safe { WhereTheAuditStands (audit_stored self.now)
-            (λ d heard. IsTrue result → NamesAreSafeByFlag d heard) }
-    {
-        // Prover: a call of a law, which gives the clause `safe` (docs/PROVER.md, "Idioms").
-        what_passes_is_safe_by_the_flag();
-        self.passed() && self.name.turns != 0
-    }
 }
 
 impl AuditFault {

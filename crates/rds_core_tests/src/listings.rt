@@ -1,8 +1,8 @@
 //! Tests of the list of all faults. The expected faults follow from its rules.
 
 use crate::same::same;
-use rds_audit::{AuditFault, FaultSet, Listing, LogStart};
-use rds_block::Group;
+use rds_audit::{Audit, AuditFault, FaultSet};
+use rds_block::{Blocks, Group};
 use rds_fields::{Dwell, Late};
 use std::test::Fail;
 
@@ -15,16 +15,16 @@ fn tags(third: u16) -> Option<Group> {
     Some(Group::from_blocks([0xC201, 0xB148, third, 0x0000]))
 }
 
-fn listing(dwell: u16) -> Result<Listing, Fail> {
+fn audit_of(dwell: u16) -> Result<Audit, Fail> {
     let dwell = Dwell::new(dwell).ok_or("dwell")?;
     let late = Late::new(0).ok_or("late")?;
-    Ok(Listing::starting(0xC201, dwell, late, LogStart::Complete))
+    Ok(Audit::new(0xC201, dwell, late))
 }
 
 /// A text has each fault once. A change begins a text that counts as having turned the flag.
 #[test]
 fn all_faults_of_a_text(rt: HostRuntime) -> Result<(), Fail> {
-    let mut listing = listing(8)?;
+    let mut audit = audit_of(8)?;
     let none = FaultSet::none();
     let early_tag = FaultSet {
         early_tag: true,
@@ -47,22 +47,26 @@ fn all_faults_of_a_text(rt: HostRuntime) -> Result<(), Fail> {
         (text(0x2140, 0x594F), changed, 4),
         (None, none, 4),
     ] {
-        same(&rt, listing.slot(sent), faults);
-        same(&rt, listing.texts(), texts);
+        same(&rt, audit.all_faults(Blocks::of_slot(sent)), faults);
+        same(&rt, audit.texts(), texts);
     }
-    same(&rt, (listing.names(), listing.tags()), (0, 2));
+    same(&rt, (audit.names(), audit.tags()), (0, 2));
     same(&rt, changed.first(), Some(AuditFault::Changed));
-    assert!(rt; !listing.passed());
+    assert!(rt; !audit.passed());
     Ok(())
 }
 
 /// A segment or a tag that fits no text is kept, and the stored numbers go on with it.
 #[test]
 fn what_fits_no_text(rt: HostRuntime) -> Result<(), Fail> {
-    let mut listing = listing(2)?;
-    same(&rt, listing.slot(text(0x2140, 0x4849)), FaultSet::none());
-    assert!(rt; listing.passed());
-    let mut stored = listing.store();
+    let mut audit = audit_of(2)?;
+    same(
+        &rt,
+        audit.all_faults(Blocks::of_slot(text(0x2140, 0x4849))),
+        FaultSet::none(),
+    );
+    assert!(rt; audit.passed());
+    let mut stored = audit.store();
     let tag_outside = FaultSet {
         tag_outside: true,
         ..FaultSet::none()
@@ -78,8 +82,8 @@ fn what_fits_no_text(rt: HostRuntime) -> Result<(), Fail> {
         (Some(past_the_return), not_one_text),
         (Some(past_the_return), FaultSet::none()),
     ] {
-        let group = blocks.map(|words| rds_block::Blocks::new(words));
-        same(&rt, stored.slot(group), faults);
+        let group = blocks.map(|words| Blocks::new(words));
+        same(&rt, stored.all_faults(group), faults);
     }
     Ok(())
 }

@@ -2,8 +2,11 @@
 use Rattle.std.specs.Prelude.{◌≡◌, ℕ, List, Option, Some, None, Result, Ok, Err, MatchOption}
 use Rattle.rds_block.specs.declared.group.Group.{Group}
 use Rattle.rds_fields.specs.declared.message.Message.{Message}
-use Rattle.rds_audit.specs.AuditStandsAt.{AuditStandsAt}
-use Rattle.rds_audit.specs.Recording.{IsJudgedAs}
+use Rattle.rds_receiver.specs.Receipts.{Hears}
+use Rattle.rds_audit.specs.declared.fault_set.FaultSet.{FaultSet}
+use Rattle.rds_audit.specs.AuditStandsAt.{AuditStandsAt, FollowsLog}
+use Rattle.rds_audit.specs.Listing.{slot_adds}
+use Rattle.rds_audit.specs.Recording.{IsJudgedAs, counted_as}
 use Rattle.rds_audit.specs.Rules.{IsFaultOf, LogPasses}
 use Rattle.rds_audit.specs.declared.log_start.LogStart.{LogStart}
 use Rattle.rds_audit.specs.Stored.{IsStored, audit_stored}
@@ -15,6 +18,11 @@ use Rattle.rds_ffi.specs.Codes.{code_of}
 pub record AuditInMemory (pi d : ℕ) (s : StoredAudit) (log : List (Option Group)) : Type 0 where
   pub good : IsStored s
   pub at : AuditStandsAt pi d (audit_stored s) log
+
+-- the memory holds an audit that follows all of the log, after a fault too
+pub record FollowsInMemory (pi d : ℕ) (s : StoredAudit) (log : List (Option Group)) : Type 0 where
+  pub good : IsStored s
+  pub at : FollowsLog pi d (audit_stored s) log
 
 -- for each audit that the memory may hold: this holds of its programme, of its number of slots and of its log
 abbrev pub WhereItIs : StoredAudit → (ℕ → ℕ → List (Option Group) → Type 0) → Type 0
@@ -29,6 +37,23 @@ abbrev pub WhereItHeard : StoredAudit → (ℕ → List (Option Message) → Typ
 WhereItHeard s Holds =
     (pi d : ℕ) (log : List (Option Group)) (lies : AuditInMemory pi d s log) (judged : List (Option Message))
     → IsJudgedAs (start_in s) d lies.at.heard judged → Holds d judged
+
+-- for each audit that follows its log: this holds of its programme, of its number of slots and of its log
+abbrev pub WhereItFollows : StoredAudit → (ℕ → ℕ → List (Option Group) → Type 0) → Type 0
+WhereItFollows s Holds = (pi d : ℕ) (log : List (Option Group)) → FollowsInMemory pi d s log → Holds pi d log
+
+-- and this of its number of slots and of the messages of its log, as they are judged
+abbrev pub WhereItFollowed : StoredAudit → (ℕ → List (Option Message) → Type 0) → Type 0
+WhereItFollowed s Holds =
+    (pi d : ℕ) (log : List (Option Group)) (lies : FollowsInMemory pi d s log) (judged : List (Option Message))
+    → IsJudgedAs (start_in s) d lies.at.at.heard judged → Holds d judged
+
+-- these are the faults that the slot adds to the list of the log
+abbrev pub Adds : StoredAudit → Option Group → FaultSet → Type 0
+Adds s slot found =
+    (pi d : ℕ) (log : List (Option Group)) (lies : FollowsInMemory pi d s log) (message : Option Message)
+    → Hears pi slot message → (judged : List (Option Message)) → IsJudgedAs (start_in s) d lies.at.at.heard judged
+    → found ≡ slot_adds d (counted_as (start_in s) judged message) judged
 
 -- the fault of a result
 abbrev pub fault_in : Result (Unit {0}) AuditFault → Option AuditFault

@@ -10,4 +10,3 @@ pub mod Sent
 pub mod Texts
 pub mod Tagged
 pub mod AuditInMemory
-pub mod ListingInMemory

@@ -1,21 +1,23 @@
 //! An audit in the caller's memory.
-ghost use Rattle.std.specs.Prelude.{◌≡◌, ◌≢◌, ◌+◌, ◌<◌, ◌≤◌, ◌↔◌, ℕ, [], ◌∷◌, List, Option};
+ghost use Rattle.std.specs.Prelude.{◌≡◌, ◌≢◌, ◌+◌, ◌-◌, ◌<◌, ◌≤◌, ◌^◌, ◌↔◌, ℕ, [], ◌∷◌, List, Option, length, min};
 ghost use Rattle.rds_block.specs.declared.group.Group.{Group};
 ghost use Rattle.rds_audit.specs.AuditLaws.{IsSafeLog, IsSafeRecording};
 ghost use Rattle.rds_audit.specs.Dense.{HasPlans};
 ghost use Rattle.rds_audit.specs.FlagLaws.{NamesAreSafeByFlag, TextsAreSafeByFlag};
+ghost use Rattle.rds_audit.specs.Listing.{spans};
 ghost use Rattle.rds_audit.specs.Reigns.{AlternateFlags, reigns};
 ghost use Rattle.rds_audit.specs.Rules.{LogPasses};
+ghost use Rattle.rds_audit.specs.Stored.{AreBits, faults_stored};
 ghost use Rattle.rds_audit.specs.declared.log_start.LogStart.TheVariants as LogStart;
-ghost use Rattle.rds_ffi.specs.AuditInMemory.{AuditInMemory, IsAnswer, Tells, WhereItHeard, WhereItIs, fault_in};
-ghost use Rattle.rds_ffi.specs.AuditInMemory.{start_in};
+ghost use Rattle.rds_ffi.specs.AuditInMemory.{Adds, AuditInMemory, FollowsInMemory, IsAnswer, Tells, WhereItFollowed};
+ghost use Rattle.rds_ffi.specs.AuditInMemory.{WhereItFollows, WhereItHeard, WhereItIs, fault_in, start_in};
 ghost use Rattle.rds_ffi.specs.Codes.{RDSRT_BAD_ARGUMENT, RDSRT_OK, code_of};
 ghost use Rattle.rds_ffi.specs.Slots.{Bring, IsCount};
 ghost use Rattle.rds_safety.specs.Marks.{marks, name_mark, text_mark};
 
 use crate::codes;
 use crate::slots::{slot_of, spacing_of};
-use rds_audit::{Audit, AuditFault, LogStart, StoredAudit};
+use rds_audit::{Audit, AuditFault, LogStart, StoredAudit, StoredFaults};
 
 /// Makes an audit of this programme before the first slot. The dwell and the lateness are in slots.
 ///
@@ -26,6 +28,7 @@ use rds_audit::{Audit, AuditFault, LogStart, StoredAudit};
 pub extern "C" fn rdsrt_audit_init(audit: &mut StoredAudit, pi: u16, dwell: u16, late: u16) -> u32
     ensures code { result ≡ RDSRT_OK ↔ ((0 < dwell) × (late ≤ 1024)) }
     ensures stands { result ≡ RDSRT_OK → AuditInMemory pi (dwell + late) audit.new [] }
+    ensures follows { result ≡ RDSRT_OK → FollowsInMemory pi (dwell + late) audit.new [] }
     ensures start { result ≡ RDSRT_OK → start_in audit.new ≡ LogStart.Complete }
     ensures bad { result ≢ RDSRT_OK → result ≡ RDSRT_BAD_ARGUMENT }
     ensures kept { result ≢ RDSRT_OK → audit.new ≡ audit.old }
@@ -47,6 +50,7 @@ pub extern "C" fn rdsrt_audit_init_running(
 ) -> u32
     ensures code { result ≡ RDSRT_OK ↔ ((0 < dwell) × (late ≤ 1024)) }
     ensures stands { result ≡ RDSRT_OK → AuditInMemory pi (dwell + late) audit.new [] }
+    ensures follows { result ≡ RDSRT_OK → FollowsInMemory pi (dwell + late) audit.new [] }
     ensures start { result ≡ RDSRT_OK → start_in audit.new ≡ LogStart.Running }
     ensures bad { result ≢ RDSRT_OK → result ≡ RDSRT_BAD_ARGUMENT }
     ensures kept { result ≢ RDSRT_OK → audit.new ≡ audit.old }
@@ -58,6 +62,7 @@ pub extern "C" fn rdsrt_audit_init_running(
 fn begun(audit: &mut StoredAudit, pi: u16, dwell: u16, late: u16, start: LogStart) -> u32
     ensures code { result ≡ RDSRT_OK ↔ ((0 < dwell) × (late ≤ 1024)) }
     ensures stands { result ≡ RDSRT_OK → AuditInMemory pi (dwell + late) audit.new [] }
+    ensures follows { result ≡ RDSRT_OK → FollowsInMemory pi (dwell + late) audit.new [] }
     ensures start { result ≡ RDSRT_OK → start_in audit.new ≡ start }
     ensures bad { result ≢ RDSRT_OK → result ≡ RDSRT_BAD_ARGUMENT }
     ensures kept { result ≢ RDSRT_OK → audit.new ≡ audit.old }
@@ -91,6 +96,38 @@ pub extern "C" fn rdsrt_audit_slot(audit: &mut StoredAudit, blocks: &[u16]) -> u
     code_of(audit.slot(slot))
 }
 
+/// Takes the next slot, whatever the faults before it: the four blocks of its group, or no blocks. Writes the faults that
+/// the slot adds to the list of all faults of the log, each as 0 or 1.
+///
+/// # Errors
+///
+/// `RDSRT_BAD_ARGUMENT` and no change if the number of blocks is neither four nor zero.
+#[unsafe(no_mangle)]
+pub extern "C" fn rdsrt_audit_all_faults(
+    audit: &mut StoredAudit,
+    blocks: &[u16],
+    faults: &mut StoredFaults,
+) -> u32
+    ensures code { result ≡ RDSRT_OK ↔ IsCount blocks.now }
+    ensures bad { result ≢ RDSRT_OK → result ≡ RDSRT_BAD_ARGUMENT }
+    ensures start { result ≡ RDSRT_OK → start_in audit.new ≡ start_in audit.old }
+    ensures stands { result ≡ RDSRT_OK → WhereItIs audit.old (λ pi d log.
+        (slot : Option Group) × Bring blocks.now slot × AuditInMemory pi d audit.new (slot ∷ log)) }
+    ensures follows { result ≡ RDSRT_OK → WhereItFollows audit.old (λ pi d log.
+        (slot : Option Group) × Bring blocks.now slot × FollowsInMemory pi d audit.new (slot ∷ log)) }
+    ensures adds { result ≡ RDSRT_OK → (slot : Option Group) × Bring blocks.now slot
+        × Adds audit.old slot (faults_stored faults.new) }
+    ensures bits { result ≡ RDSRT_OK → AreBits faults.new }
+    ensures kept { result ≢ RDSRT_OK → audit.new ≡ audit.old }
+    ensures none { result ≢ RDSRT_OK → faults.new ≡ faults.old }
+{
+    let Ok(slot) = slot_of(blocks) else {
+        return codes::BAD_ARGUMENT;
+    };
+    *faults = StoredFaults::of(audit.all_faults(slot));
+    codes::OK
+}
+
 /// Returns 1 if the log passes so far, and 0 if not.
 #[unsafe(no_mangle)]
 pub extern "C" fn rdsrt_audit_passed(audit: &StoredAudit) -> u32
@@ -103,6 +140,25 @@ pub extern "C" fn rdsrt_audit_passed(audit: &StoredAudit) -> u32
         → start_in audit.now ≡ LogStart.Running → 0 < m → result ≡ 1 → IsSafeRecording m k lies.at.heard }
 {
     u32::from(audit.passed())
+}
+
+/// Returns how many texts the log has so far. A text that changed its bytes without the flag counts as two. The number
+/// stops at 2^64 - 1.
+#[unsafe(no_mangle)]
+pub extern "C" fn rdsrt_audit_texts(audit: &StoredAudit) -> u64
+    ensures { WhereItFollowed audit.now (λ d judged. result
+        ≡ min (length (spans d (marks text_mark judged))) (2 ^ 64 - 1)) }
+{
+    audit.text.count
+}
+
+/// Returns how many names the log has so far, as for texts.
+#[unsafe(no_mangle)]
+pub extern "C" fn rdsrt_audit_names(audit: &StoredAudit) -> u64
+    ensures { WhereItFollowed audit.now (λ d judged. result
+        ≡ min (length (spans d (marks name_mark judged))) (2 ^ 64 - 1)) }
+{
+    audit.name.count
 }
 
 /// Returns 1 if the log passes so far and turned the A/B flag with each new text, and 0 if not.

@@ -10,7 +10,6 @@ mod codes;
 mod encoder;
 mod held;
 mod label;
-mod listing;
 mod receiver;
 mod reply;
 mod slots;
@@ -24,9 +23,7 @@ const _: () = prove!(size_of::<rds_receiver::StoredReceiver>() == 264);
 
 const _: () = prove!(size_of::<rds_encoder::StoredEncoder>() == 116);
 
-const _: () = prove!(size_of::<rds_audit::StoredAudit>() == 208);
-
-const _: () = prove!(size_of::<rds_audit::StoredListing>() == 520);
+const _: () = prove!(size_of::<rds_audit::StoredAudit>() == 272);
 
 const _: () = prove!(size_of::<rds_audit::StoredFaults>() == 5);
 

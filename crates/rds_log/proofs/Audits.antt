@@ -5,7 +5,7 @@ use Rattle.rds_block.specs.declared.group.Group.{Group}
 use Rattle.rds_audit.specs.AuditState.{AuditState}
 use Rattle.rds_audit.specs.AuditStandsAt.{AuditStandsAt, HasJudged, HoldsLog}
 use Rattle.rds_audit.specs.Recording.{IsJudgedAs}
-use Rattle.rds_audit.specs.Rules.{IsFaultOf}
+use Rattle.rds_audit.specs.Rules.{IsFaultOf, LogPasses}
 use Rattle.rds_fields.specs.declared.message.Message.{Message}
 use Rattle.rds_audit.specs.declared.audit.AuditFault.{AuditFault}
 use Rattle.rds_log.specs.LogLines.{Line}
@@ -25,8 +25,8 @@ slots_pass a state slots s begins none = record {
   heard = s.heard;
   are = s.are;
   passes = λ judged is.
-      let held : HoldsLog (spacing a) judged state = subst (λ (o : Option AuditFault). MatchOption o (HoldsLog (spacing a) judged state) (λ fault. IsFaultOf (spacing a) judged fault)) none (s.holds judged (subst (λ st. IsJudgedAs st (spacing a) s.heard judged) (sym begins) is)) in
-      record { text = held.text.passes; name = held.name.passes };
+      let held : LogPasses (spacing a) judged × HoldsLog (spacing a) judged state = subst (λ (o : Option AuditFault). MatchOption o (LogPasses (spacing a) judged × HoldsLog (spacing a) judged state) (λ fault. IsFaultOf (spacing a) judged fault)) none (s.holds judged (subst (λ st. IsJudgedAs st (spacing a) s.heard judged) (sym begins) is)) in
+      held.0;
 }
 
 -- a line that is a slot with which the slots pass
@@ -71,7 +71,7 @@ fails_at a state after number slots slot fault s begins passed count stands star
 
 -- the fault in the state of an audit is that of its log
 pub fault_of : (d : ℕ) (state : AuditState) (fault : AuditFault) (judged : List (Option Message)) → state.fault ≡ Some fault → HasJudged d state judged → IsFaultOf d judged fault
-fault_of d state fault judged some has = subst (λ (o : Option AuditFault). MatchOption o (HoldsLog d judged state) (λ f. IsFaultOf d judged f)) some has
+fault_of d state fault judged some has = subst (λ (o : Option AuditFault). MatchOption o (LogPasses d judged × HoldsLog d judged state) (λ f. IsFaultOf d judged f)) some has
 
 -- a line that is a slot with which they do not
 pub stops_at_slot : (a : Auditing) (reads : ℕ) (source : Source) (state after : AuditState) (number : ℕ) (first now : ReaderState) (lines : List Line) (line : Line) (slot : Option Group) (fault : AuditFault)

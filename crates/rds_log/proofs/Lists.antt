@@ -8,8 +8,8 @@ use Rattle.rds_io.specs.Told.{Traffic}
 use Rattle.rds_io.specs.Puts.{AppendsPrefix-append, Puts}
 use Rattle.rds_io.specs.declared.told.WriteFault.{WriteFault}
 use Rattle.rds_audit.specs.Judging.{judged_step}
-use Rattle.rds_audit.specs.ListingStandsAt.{ListingStandsAt, ListsSlot}
-use Rattle.rds_audit.specs.ListingState.{ListingState}
+use Rattle.rds_audit.specs.AuditStandsAt.{AuditStandsAt, FollowsLog, TakesAll}
+use Rattle.rds_audit.specs.AuditState.{AuditState}
 use Rattle.rds_audit.specs.Recording.{IsJudgedAs, counted_as}
 use Rattle.rds_audit.specs.Rules.{IsFaultOf, LogPasses}
 use Rattle.rds_fields.specs.declared.message.Message.{Message}
@@ -33,6 +33,7 @@ use Rattle.rds_log.specs.declared.audit_log.Auditing.{Auditing}
 use Rattle.rds_log.specs.declared.lister.Lister.{Lister}
 use Rattle.rds_log.specs.declared.log_line.LogLine.TheVariants.{Slot}
 use Rattle.rds_log.specs.declared.verdict.Verdict.TheVariants.{No}
+use Rattle.rds_log.proofs.Audits.{fails_at, fault_of, slots_pass}
 use Rattle.rds_log.proofs.Decodes.{ends_by_fault}
 
 -- ---- the lines of a slot
@@ -71,17 +72,6 @@ no_lines t f none = by f.changed f.early_flag f.not_one_text f.early_tag f.tag_o
 
 -- ---- the lister
 
-abbrev MatchFirst : ℕ → List (Option Message) → Option AuditFault → Type 0
-MatchFirst d judged fault = MatchOption fault (LogPasses d judged) (IsFaultOf d judged)
-
--- the slots of a list without a fault pass
-listed_pass : (a : Auditing) (l : ListingState) (slots : List (Option Group)) → ListingStandsAt a.pi (spacing a) l slots → l.start ≡ a.start → l.fault ≡ None → SlotsPass a slots
-listed_pass a l slots s begins none = record {
-  heard = s.heard;
-  are = s.are;
-  passes = λ judged is. subst (MatchFirst (spacing a) judged) none (s.fault judged (subst (λ st. IsJudgedAs st (spacing a) s.heard judged) (sym begins) is));
-}
-
 -- what a slot adds to the beginning of the lines
 adds : (a : Auditing) (before after : Option AuditFault) (t : ℕ) (slots : List (Option Group)) (slot : Option Group) (all : List ℕ) (found : FaultSet)
     → MatchOption before (all ≡ []) (λ fault. BeginsWithNo a fault slots all)
@@ -107,10 +97,10 @@ adds a (Some fault) (Some other) t slots slot all found had first again fails =
     }
 
 -- what one more slot adds
-faults_of_more : (a : Auditing) (l after : ListingState) (slots : List (Option Group)) (slot : Option Group) (faults : List FaultSet) (found : FaultSet) (s : ListingStandsAt a.pi (spacing a) l slots) → l.start ≡ a.start
-    → (heard : List (Option Message)) → AreHeard a.pi (slot ∷ slots) heard → ListsSlot l after slot found → length slots + 1 < 2 ^ 64 → AreFaultsOf a slots faults → AreFaultsOf a (slot ∷ slots) (found ∷ faults)
-faults_of_more a l after slots slot faults found s begins [] hear lists short of = absurd hear
-faults_of_more a l after slots slot faults found s begins (m ∷ h) hear lists short of =
+faults_of_more : (a : Auditing) (l after : AuditState) (slots : List (Option Group)) (slot : Option Group) (faults : List FaultSet) (found : FaultSet) (s : FollowsLog a.pi (spacing a) l slots) → l.start ≡ a.start
+    → (heard : List (Option Message)) → AreHeard a.pi (slot ∷ slots) heard → TakesAll l after slot found → AreFaultsOf a slots faults → AreFaultsOf a (slot ∷ slots) (found ∷ faults)
+faults_of_more a l after slots slot faults found s begins [] hear takes of = absurd hear
+faults_of_more a l after slots slot faults found s begins (m ∷ h) hear takes of =
     let each = of.each in
     record {
       each = omega (arith, each);
@@ -122,19 +112,15 @@ faults_of_more a l after slots slot faults found s begins (m ∷ h) hear lists s
     added : (judged : List (Option Message)) → IsJudgedAs a.start (spacing a) (m ∷ h) judged → AreAdded (spacing a) judged (found ∷ faults)
     added judged is =
         let (before, was, e) = judged_step a.start (spacing a) m h judged is in
-        let mine : IsJudgedAs l.start (spacing a) s.heard before = subst (λ st. IsJudgedAs st (spacing a) s.heard before) (sym begins) (subst (λ x. IsJudgedAs a.start (spacing a) x before) (same_heard a.pi slots h s.heard hear.1 s.are) was) in
-        let adds : found ≡ slot_adds (spacing a) (counted_as a.start before m) before = subst (λ st. found ≡ slot_adds (spacing a) (counted_as st before m) before) begins (lists.added a.pi (spacing a) slots s short m hear.0 before mine) in
+        let mine : IsJudgedAs l.start (spacing a) s.at.heard before = subst (λ st. IsJudgedAs st (spacing a) s.at.heard before) (sym begins) (subst (λ x. IsJudgedAs a.start (spacing a) x before) (same_heard a.pi slots h s.at.heard hear.1 s.at.are) was) in
+        let adds : found ≡ slot_adds (spacing a) (counted_as a.start before m) before = subst (λ st. found ≡ slot_adds (spacing a) (counted_as st before m) before) begins (takes.adds a.pi (spacing a) slots s m hear.0 before mine) in
         let older : AreAdded (spacing a) before faults = of.added before (subst (λ x. IsJudgedAs a.start (spacing a) x before) (same_heard a.pi slots h of.heard hear.1 of.are) was) in
         subst (λ x. AreAdded (spacing a) x (found ∷ faults)) (sym e) (adds, older)
 
 pub takes_slot : (a : Auditing) (l after : Lister) (w : Traffic) (lines : List Line) (line : Line) (slot : Option Group) (found : FaultSet) → LineSays line (Slot slot)
-    → (s : HasListed a l w lines)
-    → ListsSlot l.listing after.listing slot found → l.slots + 1 < 2 ^ 64 → after.listing.start ≡ l.listing.start
-    → (l.listing.fault ≡ None → after.listing.fault ≡ first_of found)
-    → ((fault : AuditFault) → l.listing.fault ≡ Some fault → after.listing.fault ≡ Some fault)
-    → after.output ≡ l.output ++ fault_lines l.slots found → after.slots ≡ l.slots + 1
+    → (s : HasListed a l w lines) → TakesAll l.audit after.audit slot found → after.output ≡ l.output ++ fault_lines l.slots found → after.slots ≡ l.slots + 1
     → HasListed a after w (line ∷ lines)
-takes_slot a l after w lines line slot found says s lists few keeps first again output slots =
+takes_slot a l after w lines line slot found says s takes output slots =
     let count = s.count in
     let each = s.are.each in
     let all : (s.written ++ l.output) ++ fault_lines l.slots found ≡ s.written ++ after.output = append_assoc s.written l.output (fault_lines l.slots found) ∙ ap (λ (x : List ℕ). s.written ++ x) (sym output) in
@@ -142,40 +128,30 @@ takes_slot a l after w lines line slot found says s lists few keeps first again 
       slots = slot ∷ s.slots;
       say = inr (slot, s.slots, says, refl, s.say);
       count = omega (arith, count, slots);
-      listing = stands;
-      begins = keeps ∙ s.begins;
+      audit = takes.follows a.pi (spacing a) s.slots s.audit;
+      begins = takes.start ∙ s.begins;
       written = s.written;
       faults = found ∷ s.faults;
-      are = faults_of_more a l.listing after.listing s.slots slot s.faults found s.listing s.begins stands.heard stands.are lists short s.are;
+      are = faults_of_more a l.audit after.audit s.slots slot s.faults found s.audit s.begins stands.heard stands.are takes s.are;
       total = sym all ∙ ap (λ (x : List ℕ). x ++ fault_lines l.slots found) s.total ∙ ap (λ n. list_lines s.faults ++ fault_lines n found) (count ∙ sym each);
-      first = subst (λ (x : List ℕ). MatchOption after.listing.fault (x ≡ []) (λ fault. BeginsWithNo a fault (slot ∷ s.slots) x)) all
-          (adds a l.listing.fault after.listing.fault l.slots s.slots slot (s.written ++ l.output) found s.first first again fails);
+      first = subst (λ (x : List ℕ). MatchOption after.audit.fault (x ≡ []) (λ fault. BeginsWithNo a fault (slot ∷ s.slots) x)) all
+          (adds a l.audit.fault after.audit.fault l.slots s.slots slot (s.written ++ l.output) found s.first takes.first takes.again fails);
       wrote = s.wrote;
       calm = s.calm;
     }
   where
-    short : length s.slots + 1 < 2 ^ 64
-    short = (let count = s.count in omega (arith, count, few))
+    stands : AuditStandsAt a.pi (spacing a) after.audit (slot ∷ s.slots)
+    stands = takes.stands a.pi (spacing a) s.slots s.audit.at
 
-    stands : ListingStandsAt a.pi (spacing a) after.listing (slot ∷ s.slots)
-    stands = lists.stands a.pi (spacing a) s.slots s.listing short
-
-    fails : (fault : AuditFault) → l.listing.fault ≡ None → after.listing.fault ≡ Some fault → (rest : List ℕ) → BeginsWithNo a fault (slot ∷ s.slots) (verdict_line (No l.slots fault) ++ rest)
+    fails : (fault : AuditFault) → l.audit.fault ≡ None → after.audit.fault ≡ Some fault → (rest : List ℕ) → BeginsWithNo a fault (slot ∷ s.slots) (verdict_line (No l.slots fault) ++ rest)
     fails fault none some rest = record {
       newer = [];
       failed = slot ∷ s.slots;
       cut = refl;
       number = l.slots;
-      fail = record {
-        newest = slot;
-        before = s.slots;
-        cut = refl;
-        number = s.count;
-        passed = listed_pass a l.listing s.slots s.listing s.begins none;
-        heard = stands.heard;
-        are = stands.are;
-        fault_is = λ judged is. subst (MatchFirst (spacing a) judged) some (stands.fault judged (subst (λ st. IsJudgedAs st (spacing a) stands.heard judged) (sym (keeps ∙ s.begins)) is));
-      };
+      fail =
+          fails_at a l.audit after.audit l.slots s.slots slot fault s.audit.at s.begins none s.count stands (takes.start ∙ s.begins)
+          (λ judged is. fault_of (spacing a) after.audit fault judged some (stands.holds judged is));
       further = rest;
       lines = refl;
     }
@@ -185,11 +161,11 @@ pub lines_list : (a : Auditing) (l : Lister) (w : Traffic) (lines : List Line) �
 lines_list a l w lines s = record {
   slots = s.slots;
   say = s.say;
-  list = record { faults = s.faults; are = s.are; lines = s.total; begins = by l.listing.fault refl s.first };
+  list = record { faults = s.faults; are = s.are; lines = s.total; begins = by l.audit.fault refl s.first };
 }
   where
-    by : (o : Option AuditFault) → l.listing.fault ≡ o → MatchOption o (s.written ++ l.output ≡ []) (λ fault. BeginsWithNo a fault s.slots (s.written ++ l.output)) → BeginsAsAnswer a s.slots (s.written ++ l.output)
-    by None e first = inl (listed_pass a l.listing s.slots s.listing s.begins e, first)
+    by : (o : Option AuditFault) → l.audit.fault ≡ o → MatchOption o (s.written ++ l.output ≡ []) (λ fault. BeginsWithNo a fault s.slots (s.written ++ l.output)) → BeginsAsAnswer a s.slots (s.written ++ l.output)
+    by None e first = inl (slots_pass a l.audit s.slots s.audit.at s.begins e, first)
     by (Some fault) e first = inr (fault, first)
 
 -- what the lister did, from a to b, with failures from f to g
@@ -198,13 +174,13 @@ from a b f g = record { before = a; after = b; failures_before = f; failures_aft
 
 -- the lines that wait were written, or a first part of them
 pub writes : (a : Auditing) (l after : Lister) (lines : List Line) (x y z : Option (List ℕ)) (f g h : ℕ) (r : Result (Unit {0}) WriteFault) → HasListed a l (from x y f g) lines
-    → after.listing ≡ l.listing → after.slots ≡ l.slots → OnOk r (after.output ≡ [])
+    → after.audit ≡ l.audit → after.slots ≡ l.slots → OnOk r (after.output ≡ [])
     → Puts (from y z g h) l.output r → MatchResult r (λ _. HasListed a after (from x z f h) lines) (λ _. WrotePart (LinesList a) (from x z f h) lines)
 writes a l after lines x y z f g h (Ok done) s same slots none put = record {
   slots = s.slots;
   say = s.say;
   count = slots ∙ s.count;
-  listing = rw same s.listing;
+  audit = rw same s.audit;
   begins = rw same s.begins;
   written = s.written ++ l.output;
   faults = s.faults;
@@ -230,7 +206,7 @@ wrote_lines a l w lines s none =
 -- ---- the end
 
 -- the whole list of a log: its lines so far, and the line of a yes if it passed
-whole : (a : Auditing) (l : Lister) (w : Traffic) (lines : List Line) (passed : Bool) → (passed ≡ true) ↔ (l.listing.fault ≡ None) → l.output ≡ []
+whole : (a : Auditing) (l : Lister) (w : Traffic) (lines : List Line) (passed : Bool) → (passed ≡ true) ↔ (l.audit.fault ≡ None) → l.output ≡ []
     → (s : HasListed a l w lines) → WholeList a passed lines (s.written ++ yes_if passed l.slots)
 unfolding lines_list
 whole a l w lines passed test none s =
@@ -240,21 +216,21 @@ whole a l w lines passed test none s =
       say = s.say;
       faults = s.written ++ l.output;
       list = total.list;
-      answer = λ yes. listed_pass a l.listing s.slots s.listing s.begins (test.0 yes);
+      answer = λ yes. slots_pass a l.audit s.slots s.audit.at s.begins (test.0 yes);
       none = λ yes. nothing (test.0 yes);
-      some = λ failed. by l.listing.fault refl failed s.first;
+      some = λ failed. by l.audit.fault refl failed s.first;
       whole = ap (λ n. s.written ++ yes_if passed n) s.count ∙ ap (λ (x : List ℕ). x ++ yes_if passed (length s.slots)) (sym (append-nil s.written) ∙ ap (λ (x : List ℕ). s.written ++ x) (sym none));
     }
   where
-    nothing : l.listing.fault ≡ None → s.written ++ l.output ≡ []
+    nothing : l.audit.fault ≡ None → s.written ++ l.output ≡ []
     nothing e = subst (λ (o : Option AuditFault). MatchOption o (s.written ++ l.output ≡ []) (λ fault. BeginsWithNo a fault s.slots (s.written ++ l.output))) e s.first
 
-    by : (o : Option AuditFault) → l.listing.fault ≡ o → passed ≡ false → MatchOption o (s.written ++ l.output ≡ []) (λ fault. BeginsWithNo a fault s.slots (s.written ++ l.output)) → (fault : AuditFault) × BeginsWithNo a fault s.slots (s.written ++ l.output)
+    by : (o : Option AuditFault) → l.audit.fault ≡ o → passed ≡ false → MatchOption o (s.written ++ l.output ≡ []) (λ fault. BeginsWithNo a fault s.slots (s.written ++ l.output)) → (fault : AuditFault) × BeginsWithNo a fault s.slots (s.written ++ l.output)
     by None e failed first = (let yes = test.1 e in absurd (cc))
     by (Some fault) e failed first = (fault, first)
 
 pub closes : (a : Auditing) (l : Lister) (lines : List Line) (passed : Bool) (out : List ℕ) (x y z : Option (List ℕ)) (f g h : ℕ) (r : Result (Unit {0}) WriteFault)
-    → HasListed a l (from x y f g) lines → (passed ≡ true) ↔ (l.listing.fault ≡ None) → l.output ≡ [] → out ≡ l.output ++ yes_if passed l.slots
+    → HasListed a l (from x y f g) lines → (passed ≡ true) ↔ (l.audit.fault ≡ None) → l.output ≡ [] → out ≡ l.output ++ yes_if passed l.slots
     → Puts (from y z g h) out r → MatchResult r (λ _. WroteLines (WholeList a passed) (from x z f h) lines) (λ _. WrotePart (SomeList a) (from x z f h) lines)
 closes a l lines passed out x y z f g h (Ok done) s test none is put = record {
   written = s.written ++ yes_if passed l.slots;

@@ -154,6 +154,7 @@ fn judge<R: TellingRead>(
                 notes.slots = slots;
                 notes.texts = audit.texts();
                 notes.names = audit.names();
+                notes.tags = audit.tags();
                 return Ok(Verdict::Yes(slots));
             }
             Err(fault) => {

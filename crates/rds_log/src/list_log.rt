@@ -86,15 +86,17 @@ fn list<R: TellingRead, W: TellingWrite>(
             }
             Ok(false) => {
                 notes.slots = lister.slots;
-                notes.texts = lister.texts();
-                notes.names = lister.names();
+                notes.texts = lister.audit.texts();
+                notes.names = lister.audit.names();
+                notes.tags = lister.audit.tags();
                 let passed = lister.close(writer)?;
                 return Ok(passed);
             }
             Err(fault) => {
                 notes.slots = lister.slots;
-                notes.texts = lister.texts();
-                notes.names = lister.names();
+                notes.texts = lister.audit.texts();
+                notes.names = lister.audit.names();
+                notes.tags = lister.audit.tags();
                 lister.write(writer)?;
                 notes.bad = source.note(fault);
                 return Err(fault);

@@ -13,7 +13,7 @@ ghost use Rattle.rds_log.specs.declared.verdict.TheConstants.{ANSWER_ROOM};
 use crate::audit_log::Auditing;
 use crate::log_line::LogLine;
 use crate::verdict::{ANSWER_ROOM, Verdict};
-use rds_audit::{AuditFault, FaultSet, Listing, Tally};
+use rds_audit::{Audit, AuditFault, FaultSet};
 use rds_block::Blocks;
 use rds_io::{Lines, TellingWrite, WriteFault};
 
@@ -26,7 +26,7 @@ pub(crate) const FAULTS_ROOM: usize = 5 * ANSWER_ROOM;
 /// Takes the lines of a log, and keeps the lines of its faults until they are written.
 #[derive(Drop)]
 pub(crate) struct Lister {
-    pub(crate) listing: Listing,
+    pub(crate) audit: Audit,
     pub(crate) slots: u64,
     output: Lines<LIST_ROOM>,
 }
@@ -42,26 +42,9 @@ impl Lister {
         ensures listed { (w : Traffic) → w.after ≡ w.before → IsCalm w → HasListed auditing result w [] }
     {
         Lister {
-            listing: Listing::starting(auditing.pi, auditing.dwell, auditing.late, auditing.start),
+            audit: Audit::starting(auditing.pi, auditing.dwell, auditing.late, auditing.start),
             slots: 0,
             output: Lines::new(),
-        }
-    }
-
-    /// Returns what was judged of texts, for a person.
-    pub(crate) fn texts(&self) -> Tally {
-        Tally {
-            values: self.listing.texts(),
-            tags: self.listing.tags(),
-            ..Tally::default()
-        }
-    }
-
-    /// Returns what was judged of names, for a person.
-    pub(crate) fn names(&self) -> Tally {
-        Tally {
-            values: self.listing.names(),
-            ..Tally::default()
         }
     }
 
@@ -97,7 +80,7 @@ impl Lister {
             → LineSays line (LogLine.Slot group) → HasListed a self.old w lines
             → HasListed a self.new w (line ∷ lines) }
     {
-        let found = self.listing.slot_blocks(group);
+        let found = self.audit.all_faults(group);
         push_faults(self.slots, found, &mut self.output);
         self.slots += 1;
         found
@@ -112,7 +95,7 @@ impl Lister {
             (λ passed. WroteLines (WholeList a passed) (traffic W.contents W.failures start writer.new) lines)
             (λ _. WrotePart (SomeList a) (traffic W.contents W.failures start writer.new) lines) }
     {
-        let passed = self.listing.passed();
+        let passed = self.audit.passed();
         push_yes(passed, self.slots, &mut self.output);
         self.output.write(writer)?;
         Ok(passed)
@@ -122,7 +105,7 @@ impl Lister {
     pub(crate) fn write<W: TellingWrite>(&mut self, writer: &mut W) -> Result<(), WriteFault>
         ensures empty { OnOk result (self.new.output ≡ []) }
         ensures slots { self.new.slots ≡ self.old.slots }
-        ensures listing { self.new.listing ≡ self.old.listing }
+        ensures audit { self.new.audit ≡ self.old.audit }
         ensures nothing { self.old.output ≡ [] → IsOk result }
         ensures wrote { (a : Auditing) (start : W) (lines : List Line)
             → HasListed a self.old (traffic W.contents W.failures start writer.old) lines

@@ -9,7 +9,7 @@ use crate::log_line::{DECIDING, LogLine};
 use crate::segment_cause::SegmentCause;
 use crate::source::Source;
 use arrayvec::ArrayVec;
-use rds_audit::{Audit, AuditFault, Tally};
+use rds_audit::{Audit, AuditFault};
 use rds_fields::Message;
 
 /// A malformed line (this project's own rule).
@@ -73,22 +73,28 @@ impl NoNote {
         let sent = said;
         let of_name = is_name(said);
         let stored = audit.store();
-        let texts = audit.texts();
-        let is_early_tag = fault == AuditFault::EarlyTag && stored.text.is_open != 0;
+        let spacing = stored.distance;
+        // the audit took the slot: its ages are one more than in the slot
+        let since_start = stored.text.reigns.since_start.saturating_sub(1);
+        let since_before = stored.text.reigns.since_before.saturating_sub(1);
+        let is_early_tag = fault == AuditFault::EarlyTag && stored.text.reigns.is_open != 0;
         let age = match fault {
-            AuditFault::EarlyFlag if of_name => Some(stored.name.since_before),
-            AuditFault::EarlyFlag => Some(stored.text.since_before),
-            AuditFault::EarlyTag if is_early_tag => Some(stored.text.since_start),
+            AuditFault::EarlyFlag if of_name => Some(stored.name.apart),
+            AuditFault::EarlyFlag => Some(stored.text.apart),
+            AuditFault::EarlyTag if is_early_tag => Some(since_start),
             _ => None,
         };
         let first = if is_early_tag {
-            first_of(slot, stored.text.since_start, texts)
+            first_of(slot, since_start, stored.text.waited)
         } else {
             None
         };
-        let spacing = stored.distance;
+        // a text with the flag of the one before can start M + K slots after it
+        let resumed = stored.text.count > 1 && since_before == since_start.saturating_add(spacing);
         let cause = match fault {
-            AuditFault::NotOneText => segment_cause(sent, stored.text.least, stored.text.most),
+            AuditFault::NotOneText => {
+                segment_cause(sent, stored.text.reigns.least, stored.text.reigns.most)
+            }
             _ => None,
         };
         NoNote {
@@ -98,7 +104,11 @@ impl NoNote {
             of_name,
             earlier: slot_before(slot, age),
             first,
-            paused: pause_of(slot, stored.text.since_before, spacing, texts, first),
+            paused: if resumed {
+                pause_of(slot, since_before, first)
+            } else {
+                None
+            },
             spacing,
             cause,
             time: LineTime::of(source.start()),
@@ -120,29 +130,17 @@ fn segment_cause(said: LogLine, least: u8, most: u8) -> Option<SegmentCause> {
     }
 }
 
-/// Returns the slot of the first segment of the current text, which can have started so many slots before this one.
-fn first_of(slot: u64, since_start: u32, texts: Tally) -> Option<u64> {
-    slot_before(slot, Some(since_start))?.checked_add(u64::from(texts.waited))
+/// Returns the slot of the first segment of the current text, which can have started so many slots before this one. The
+/// segment came so many slots after that start.
+fn first_of(slot: u64, since_start: u32, waited: u32) -> Option<u64> {
+    slot_before(slot, Some(since_start))?.checked_add(u64::from(waited))
 }
 
-/// Returns the pause before the current text, if that text has the flag of the one before, whose last slot was so many
-/// slots before this one. That age stops at 2 (M + K).
-fn pause_of(
-    slot: u64,
-    since_before: u32,
-    spacing: u32,
-    texts: Tally,
-    first: Option<u64>,
-) -> Option<Pause> {
+/// Returns the pause between the text before the current one, whose last slot was so many slots before this one, and the
+/// first segment of the current one.
+fn pause_of(slot: u64, since_before: u32, first: Option<u64>) -> Option<Pause> {
     let until = first?;
-    if !texts.resumed {
-        return None;
-    }
-    let from = if since_before < spacing.saturating_mul(2) {
-        slot_before(slot, Some(since_before.saturating_sub(1)))
-    } else {
-        None
-    };
+    let from = slot_before(slot, Some(since_before.saturating_sub(1)));
     Some(Pause { from, until })
 }
 
@@ -170,10 +168,12 @@ pub struct LogNotes {
     pub bad: Option<BadStart>,
     /// The slot at which the audit stopped.
     pub no: Option<NoNote>,
-    /// What the audit judged of texts.
-    pub texts: Tally,
-    /// What the audit judged of names.
-    pub names: Tally,
+    /// The number of texts that the audit judged.
+    pub texts: u64,
+    /// The number of names.
+    pub names: u64,
+    /// The number of groups with tags.
+    pub tags: u64,
     /// The faults that were listed.
     pub listed: ListNotes,
 }
@@ -194,8 +194,9 @@ impl LogNotes {
             heard: Heard::new(pi),
             bad: None,
             no: None,
-            texts: Tally::default(),
-            names: Tally::default(),
+            texts: 0,
+            names: 0,
+            tags: 0,
             listed: ListNotes::new(),
         }
     }

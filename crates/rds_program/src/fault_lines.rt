@@ -2,7 +2,7 @@
 
 use crate::note_lines::{Line, begun, print, push, push_count};
 use crate::notes::{Options, RunNotes};
-use rds_audit::{AuditFault, Tally};
+use rds_audit::AuditFault;
 use rds_cli::Task;
 use rds_io::TellingWrite;
 use rds_log::{FaultCount, FaultCounts, FaultPlace, LineTime, NoNote, SegmentCause, fault_name};
@@ -26,7 +26,7 @@ pub(crate) fn print_listed<N: TellingWrite>(run: &RunNotes, screen: &mut N) {
 /// Prints how often each fault of the texts, or of the names, came.
 fn print_counts<N: TellingWrite>(
     counts: &FaultCounts,
-    judged: Tally,
+    judged: u64,
     one: &str,
     more: &str,
     screen: &mut N,
@@ -37,7 +37,7 @@ fn print_counts<N: TellingWrite>(
         };
         let mut line = begun();
         let _ = write!(line, "{} of ", count.count);
-        push_count(judged.values, one, more, &mut line);
+        push_count(judged, one, more, &mut line);
         push_found(count, &mut line);
         print(line, screen);
     }

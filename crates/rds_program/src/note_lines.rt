@@ -147,11 +147,11 @@ fn push_judged(run: &RunNotes, line: &mut Line) {
         let _ = write!(line, ", {empty} without a group");
     }
     let _ = write!(line, ": ");
-    push_count(texts.values, "text", "texts", line);
+    push_count(texts, "text", "texts", line);
     let _ = write!(line, ", ");
-    push_count(names.values, "name", "names", line);
+    push_count(names, "name", "names", line);
     let _ = write!(line, ", ");
-    push_count(texts.tags, "pair of tags", "pairs of tags", line);
+    push_count(run.log.tags, "pair of tags", "pairs of tags", line);
     push_short(run, "; ", "judged", line);
 }
 

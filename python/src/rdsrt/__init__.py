@@ -21,12 +21,12 @@ may read what it shows meanwhile. A Python without the global lock (free-threade
 from ._library import DEFAULT_DWELL, NoLibrary
 from .characters import InvalidText, closest, closest_name
 from .logs import Group, MalformedLine, format_group, read_log, read_timed, slot_time, slots, timed_slots
-from .objects import (Audit, Encoder, Fault, Held, Listing, NoText, OutOfText, Receiver, Refused, Silent, Wait,
+from .objects import (Audit, Encoder, Fault, Held, NoText, OutOfText, Receiver, Refused, Silent, Wait,
                       library_version)
 from .views import ContentType, Item, Segments, Tag, View, type_name
 
 __all__ = ["Audit", "ContentType", "DEFAULT_DWELL", "Encoder", "Fault", "Group", "Held", "InvalidText", "Item",
-           "Listing", "MalformedLine", "NoLibrary", "NoText", "OutOfText", "Receiver", "Refused", "Segments",
-           "Silent", "Tag", "View", "Wait", "closest", "closest_name", "format_group", "library_version",
-           "read_log", "read_timed", "slot_time", "slots", "timed_slots", "type_name"]
+           "MalformedLine", "NoLibrary", "NoText", "OutOfText", "Receiver", "Refused", "Segments", "Silent", "Tag",
+           "View", "Wait", "closest", "closest_name", "format_group", "library_version", "read_log", "read_timed",
+           "slot_time", "slots", "timed_slots", "type_name"]
 __version__ = "0.1.0"

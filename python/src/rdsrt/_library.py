@@ -5,7 +5,7 @@ import functools
 import os
 from typing import Any, Dict, Iterator, List, Tuple
 
-ABI = 5
+ABI = 6
 NAME = f"librdsrt.so.{ABI}"
 DEFAULT_DWELL = 128
 OK, DONE, BAD_ARGUMENT, SILENT, HELD, NO_TEXT, OUT_OF_TEXT_1, OUT_OF_TEXT_2 = 0, 1, 2, 3, 4, 5, 6, 7
@@ -76,9 +76,9 @@ class Version(ctypes.Structure):
     _fields_ = [("abi", u32), ("major", u32), ("minor", u32), ("patch", u32)]
 
 
-Receiver, Encoder, Audit, Listing = u32 * 66, u32 * 29, u32 * 52, u64 * 65
-SIZES: Dict[Any, int] = {Receiver: 264, Encoder: 116, Audit: 208, Listing: 520, Faults: 5, View: 84, OnAir: 75, Tags: 8,
-                         Reply: 8, Wait: 12, HeldSegments: 8, Label: 32}
+Receiver, Encoder, Audit = u32 * 66, u32 * 29, u64 * 34
+SIZES: Dict[Any, int] = {Receiver: 264, Encoder: 116, Audit: 272, Faults: 5, View: 84, OnAir: 75, Tags: 8, Reply: 8,
+                         Wait: 12, HeldSegments: 8, Label: 32}
 ANY = ctypes.c_void_p
 CALLS: Dict[str, Tuple[Any, List[Any]]] = {
     "version": (Version, []),
@@ -100,14 +100,12 @@ CALLS: Dict[str, Tuple[Any, List[Any]]] = {
     "audit_init": (u32, [ANY, u16, u16, u16]),
     "audit_init_running": (u32, [ANY, u16, u16, u16]),
     "audit_slot": (u32, [ANY, ANY, size_t]),
+    "audit_all_faults": (u32, [ANY, ANY, size_t, ANY]),
     "audit_passed": (u32, [ANY]),
+    "audit_texts": (u64, [ANY]),
+    "audit_names": (u64, [ANY]),
     "audit_texts_turn_the_flag": (u32, [ANY]),
     "audit_names_turn_the_flag": (u32, [ANY]),
-    "listing_init": (u32, [ANY, u16, u16, u16]),
-    "listing_init_running": (u32, [ANY, u16, u16, u16]),
-    "listing_slot": (u32, [ANY, ANY, size_t, ANY]),
-    "listing_texts": (u64, [ANY]),
-    "listing_names": (u64, [ANY]),
     "text_to_display": (u32, [ANY, size_t, ANY, size_t, ANY]),
     "type_name": (None, [u8, ANY]),
     "code_name": (None, [u32, ANY]),

@@ -350,31 +350,7 @@ class Encoder(_Plain):
         return Wait(it.silent, it.text, it.name)
 
 
-class _Judge(_Plain):
-    """What judges the groups of an encoder, slot by slot."""
-    __slots__ = ("_late", "_slots")
-    _call: str
-
-    def __init__(self, pi: SupportsIndex, dwell: SupportsIndex = c.DEFAULT_DWELL, late: SupportsIndex = 0, *,
-                 running: bool = False):
-        self._pi, self._slots = in_range("pi", pi, 0, 0xFFFF), 0
-        self._dwell, self._late = in_range("dwell", dwell, 1, 0xFFFF), in_range("late", late, 0, 1024)
-        self._its = self._type()
-        init = getattr(c.library(), f"{self._call}_init_running" if running else f"{self._call}_init")
-        init(self._its, self.pi, self.dwell, self.late)
-
-    @property
-    def late(self) -> int:
-        """How many slots late a group may reach a receiver."""
-        return self._late
-
-    @property
-    def slots(self) -> int:
-        """How many slots have ended."""
-        return self._slots
-
-
-class Audit(_Judge):
+class Audit(_Plain):
     """Judges, slot by slot, whether an encoder keeps the rules that prevent mixes. Give it each group that was sent.
     The verdict means nothing for groups that a receiver got.
 
@@ -383,8 +359,16 @@ class Audit(_Judge):
 
     A station that sends segments less often than every `dwell` + `late` slots can get a fault although it keeps the
     spacing."""
-    __slots__ = ()
-    _type, _call = c.Audit, "rdsrt_audit"
+    __slots__ = ("_late", "_slots")
+    _type = c.Audit
+
+    def __init__(self, pi: SupportsIndex, dwell: SupportsIndex = c.DEFAULT_DWELL, late: SupportsIndex = 0, *,
+                 running: bool = False):
+        self._pi, self._slots = in_range("pi", pi, 0, 0xFFFF), 0
+        self._dwell, self._late = in_range("dwell", dwell, 1, 0xFFFF), in_range("late", late, 0, 1024)
+        self._its = self._type()
+        init = c.library().rdsrt_audit_init_running if running else c.library().rdsrt_audit_init
+        init(self._its, self.pi, self.dwell, self.late)
 
     def __repr__(self) -> str:
         verdict = "passed" if self.passed else "not passed"
@@ -398,6 +382,16 @@ class Audit(_Judge):
         self._slots += 1
         return Fault(code) if code else None
 
+    def all_faults(self, group: Optional[Sequence[SupportsIndex]]) -> Tuple[Fault, ...]:
+        """Ends a slot in which this group was sent, or None, also after a fault. Returns the faults that the slot adds to
+        the list of all faults. Each text or name has each fault at most once, in the first slot in which it breaks the
+        rule. Other bytes at an address of a text begin a new text (FORMATS.md, "All faults of a log")."""
+        blocks, count = _blocks(group)
+        found = c.Faults()
+        c.library().rdsrt_audit_all_faults(self._its, blocks, count, ctypes.byref(found))
+        self._slots += 1
+        return tuple(Fault[name.upper()] for name, _ in found._fields_ if getattr(found, name))
+
     def take(self, groups: Iterable[Optional[Sequence[SupportsIndex]]]) -> Optional[Tuple[int, Fault]]:
         """Takes these slots up to the first fault. Returns the number of its slot, from 0 at the start of the audit,
         and the fault; or None if no rule is broken."""
@@ -408,9 +402,30 @@ class Audit(_Judge):
         return None
 
     @property
+    def late(self) -> int:
+        """How many slots late a group may reach a receiver."""
+        return self._late
+
+    @property
+    def slots(self) -> int:
+        """How many slots have ended."""
+        return self._slots
+
+    @property
     def passed(self) -> bool:
         """Whether no rule is broken so far."""
         return bool(c.library().rdsrt_audit_passed(self._its) == 1)
+
+    @property
+    def texts(self) -> int:
+        """How many texts there were so far. One that changed its bytes without the flag counts as two. After a fault only
+        `all_faults` counts on."""
+        return int(c.library().rdsrt_audit_texts(self._its))
+
+    @property
+    def names(self) -> int:
+        """How many names (PTYN) there were so far, as for texts."""
+        return int(c.library().rdsrt_audit_names(self._its))
 
     @property
     def texts_turn_the_flag(self) -> bool:
@@ -421,33 +436,3 @@ class Audit(_Judge):
     def names_turn_the_flag(self) -> bool:
         """Whether no rule is broken so far, and the A/B flag turned with each new name (PTYN)."""
         return bool(c.library().rdsrt_audit_names_turn_the_flag(self._its) == 1)
-
-
-class Listing(_Judge):
-    """Lists, slot by slot, all faults of an encoder. Its arguments are those of `Audit`, and its first fault is that of
-    an audit. Each text or name has each fault at most once, in the first slot in which it breaks the rule. Other bytes
-    at an address of a text begin a new text (FORMATS.md, "All faults of a log")."""
-    __slots__ = ()
-    _type, _call = c.Listing, "rdsrt_listing"
-
-    def __repr__(self) -> str:
-        return (f"<Listing of {self.pi:04X}, dwell {self.dwell}, late {self.late}: {self.slots} slots, "
-                f"{self.texts} texts, {self.names} names>")
-
-    def slot(self, group: Optional[Sequence[SupportsIndex]]) -> Tuple[Fault, ...]:
-        """Ends a slot in which this group was sent, or None. Returns the faults that it adds to the list."""
-        blocks, count = _blocks(group)
-        found = c.Faults()
-        c.library().rdsrt_listing_slot(self._its, blocks, count, ctypes.byref(found))
-        self._slots += 1
-        return tuple(Fault[name.upper()] for name, _ in found._fields_ if getattr(found, name))
-
-    @property
-    def texts(self) -> int:
-        """How many texts there were so far. One that changed its bytes without the flag counts as two."""
-        return int(c.library().rdsrt_listing_texts(self._its))
-
-    @property
-    def names(self) -> int:
-        """How many names (PTYN) there were so far. One that changed its bytes without the flag counts as two."""
-        return int(c.library().rdsrt_listing_names(self._its))

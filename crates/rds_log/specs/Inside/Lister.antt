@@ -3,7 +3,7 @@ use Rattle.std.specs.Prelude.{◌≡◌, ◌++◌, [], ℕ, List, MatchOption, O
 use Rattle.std.specs.Io.KnownBytes.{Appends}
 use Rattle.rds_block.specs.declared.group.Group.{Group}
 use Rattle.rds_io.specs.Told.{IsCalm, Traffic}
-use Rattle.rds_audit.specs.ListingStandsAt.{ListingStandsAt}
+use Rattle.rds_audit.specs.AuditStandsAt.{FollowsLog}
 use Rattle.rds_audit.specs.declared.fault_set.FaultSet.{FaultSet}
 use Rattle.rds_log.specs.Audit.{spacing}
 use Rattle.rds_log.specs.FaultList.{AreFaultsOf, BeginsWithNo, list_lines}
@@ -17,13 +17,13 @@ pub record HasListed (a : Auditing) (l : Lister) (w : Traffic) (lines : List Lin
   pub slots : List (Option Group)
   pub say : AreSlots lines slots
   pub count : l.slots ≡ length slots
-  pub listing : ListingStandsAt a.pi (spacing a) l.listing slots
-  pub begins : l.listing.start ≡ a.start
+  pub audit : FollowsLog a.pi (spacing a) l.audit slots
+  pub begins : l.audit.start ≡ a.start
   pub written : List ℕ
   pub faults : List FaultSet
   pub are : AreFaultsOf a slots faults
   pub total : written ++ l.output ≡ list_lines faults
-  pub first : MatchOption l.listing.fault (written ++ l.output ≡ [])
+  pub first : MatchOption l.audit.fault (written ++ l.output ≡ [])
       (λ fault. BeginsWithNo a fault slots (written ++ l.output))
   pub wrote : Appends w.before w.after written
   pub calm : IsCalm w

@@ -1,4 +1,6 @@
 use Rattle.std.proofs.Common.{◌+◌, rules}
+use Rattle.rds_audit.specs.Stored.{audit_stored}
+use Rattle.rds_audit.proofs.ListingSteps.{passes_exactly}
 use Rattle.rds_audit.proofs.SafeRecordings.{safe_as_it_is}
 use Rattle.rds_audit.proofs.stored.StoredAudit.passed.Goals as goal
 
@@ -6,13 +8,21 @@ pub returns-clause-fault : goal.returns-clause-fault
 returns-clause-fault c = search rules
 
 pub returns-clause-passes : goal.returns-clause-passes
-returns-clause-passes c = search rules
+returns-clause-passes c pi d log s judged is =
+    let exactly = passes_exactly d (audit_stored c.args.self.now) judged (s.holds judged is) in
+    let test = returns-clause-fault c in
+    (λ yes. exactly.0 (test.0 yes), λ passes. test.1 (exactly.1 passes))
 
 pub returns-clause-plans : goal.returns-clause-plans
-returns-clause-plans c = search rules
+returns-clause-plans c pi d log s judged is =
+    let exactly = returns-clause-passes c pi d log s judged is in
+    let plans = c.passes_by_plans.ensures d judged s.lasts in
+    (λ is_so. plans.0 (exactly.0 is_so), λ has. exactly.1 (plans.1 has))
 
 pub returns-clause-safe : goal.returns-clause-safe
-returns-clause-safe c = search rules
+returns-clause-safe c pi d log s judged is m k pos same is_so =
+    let exactly = returns-clause-passes c pi d log s judged is in
+    c.what_passes_is_safe.ensures.late m k judged pos (rw same (exactly.0 is_so))
 
 pub returns-clause-recording : goal.returns-clause-recording
 returns-clause-recording c pi m k log s running pos passed =

@@ -1,100 +1,96 @@
-use Rattle.std.proofs.Common.{◌≡◌, IsOk, true, sym, ap, ◌∙◌, subst, arith, rules}
+use Rattle.std.proofs.Common.{◌≡◌, IsOk, true, sym, ap, ◌∙◌, subst, rules}
 use Rattle.rds_receiver.specs.Receipts.{Fragment}
 use Rattle.rds_audit.specs.Ages.{Joins}
-use Rattle.rds_audit.specs.AuditState.{HoldsNoOther}
+use Rattle.rds_audit.specs.ReignsState.{HoldsNoOther}
 use Rattle.rds_audit.specs.Lengths.{IsFormed}
 use Rattle.rds_audit.specs.Listing.{spans}
-use Rattle.rds_audit.specs.ListingStandsAt.{HoldsNewestSpans}
-use Rattle.rds_audit.specs.ListingState.{SpansState, ended_in, opened_in, put_in, spans_stored}
-use Rattle.rds_audit.specs.Stored.{ages_stored, content_stored}
+use Rattle.rds_audit.specs.AuditStandsAt.{HoldsNewestSpans}
+use Rattle.rds_audit.specs.AuditState.{SpansState}
+use Rattle.rds_audit.specs.Stored.{ages_stored, content_stored, spans_stored}
 use Rattle.rds_safety.specs.Marks.{Sends}
 use Rattle.rds_audit.proofs.SpanOrder.{in_order}
 use Rattle.rds_audit.proofs.SpanSteps.{added_first, added_more, changed_follows, joined_follows, none_new, opened_follows, repeated_follows}
 use Rattle.rds_audit.proofs.stored.StoredSpans.take.Goals as goal
 
 pub returns-then-not-joins-clause-holds : goal.returns-then-not-joins-clause-holds
-returns-then-not-joins-clause-holds g c small pos low sent h =
+returns-then-not-joins-clause-holds g c pos low sent h =
     let gauge = g.S.Audited.gauge in
     let p : Fragment = record { flag = c.args.flag; address = c.args.address; bytes = c.args.bytes } in
     let apart : Joins c.args.distance c.args.flag (ages_stored c.args.self.now.reigns) → ⊥ = λ on.
     (let yes : c.joins.result ≡ true = c.joins.ensures.1 on in
     let not_yes = c.if-not-joins.true in absurd (cc)) in
     let formed : IsFormed gauge.segments p = record { address = c.requires; four = search rules; fits = search rules } in
-    subst (λ (s : SpansState). HoldsNewestSpans gauge c.args.distance c.args.slot (Sends p) sent s) (sym (c.begin.ensures.begun (omega (arith, h.few))))
-    (opened_follows gauge g.met.S.Audited.few c.args.distance pos c.args.slot sent p (spans c.args.distance sent) (spans_stored c.args.self.now) formed (in_order c.args.distance sent pos) h apart).0
+    subst (λ (s : SpansState). HoldsNewestSpans gauge c.args.distance (Sends p) sent s) (sym c.begin.ensures.begun)
+    (opened_follows gauge g.met.S.Audited.few c.args.distance pos sent p (spans c.args.distance sent) (spans_stored c.args.self.now) formed (in_order c.args.distance sent pos) h apart).0
 
 pub returns-then-not-joins-clause-added : goal.returns-then-not-joins-clause-added
-returns-then-not-joins-clause-added g c small pos low sent h =
+returns-then-not-joins-clause-added g c pos low sent h =
     let gauge = g.S.Audited.gauge in
     let p : Fragment = record { flag = c.args.flag; address = c.args.address; bytes = c.args.bytes } in
     let apart : Joins c.args.distance c.args.flag (ages_stored c.args.self.now.reigns) → ⊥ = λ on.
     (let yes : c.joins.result ≡ true = c.joins.ensures.1 on in
     let not_yes = c.if-not-joins.true in absurd (cc)) in
     let formed : IsFormed gauge.segments p = record { address = c.requires; four = search rules; fits = search rules } in
-    let follows = opened_follows gauge g.met.S.Audited.few c.args.distance pos c.args.slot sent p (spans c.args.distance sent) (spans_stored c.args.self.now) formed (in_order c.args.distance sent pos) h apart in
+    let follows = opened_follows gauge g.met.S.Audited.few c.args.distance pos sent p (spans c.args.distance sent) (spans_stored c.args.self.now) formed (in_order c.args.distance sent pos) h apart in
     added_first gauge c.args.distance (Sends p) sent c.begin.result follows.1
-    (c.begin.ensures.faults ∙ ap (λ (s : SpansState). s.broken) (c.begin.ensures.begun (omega (arith, h.few))) ∙ follows.0.broken)
+    (c.begin.ensures.faults ∙ ap (λ (s : SpansState). s.broken) c.begin.ensures.begun ∙ follows.0.broken)
 
 pub returns-then-has-clause-holds : goal.returns-then-has-clause-holds
-returns-then-has-clause-holds g c small pos low sent h =
+returns-then-has-clause-holds g c pos low sent h =
     let gauge = g.S.Audited.gauge in
     let p : Fragment = record { flag = c.args.flag; address = c.args.address; bytes = c.args.bytes } in
     let formed : IsFormed gauge.segments p = record { address = c.requires; four = search rules; fits = search rules } in
-    subst (λ (s : SpansState). HoldsNewestSpans gauge c.args.distance c.args.slot (Sends p) sent s) (sym c.repeat.ensures)
-    (repeated_follows gauge g.met.S.Audited.few c.args.distance pos c.args.slot sent p (spans c.args.distance sent) (spans_stored c.args.self.now) formed h
+    subst (λ (s : SpansState). HoldsNewestSpans gauge c.args.distance (Sends p) sent s) (sym c.repeat.ensures)
+    (repeated_follows gauge g.met.S.Audited.few c.args.distance pos sent p (spans c.args.distance sent) (spans_stored c.args.self.now) formed h
     (c.joins.ensures.0 c.if-not-joins.false) (c.has.ensures.0 c.if-has.true)).0
 
 pub returns-then-has-clause-added : goal.returns-then-has-clause-added
-returns-then-has-clause-added g c small pos low sent h =
+returns-then-has-clause-added g c pos low sent h =
     let gauge = g.S.Audited.gauge in
     let p : Fragment = record { flag = c.args.flag; address = c.args.address; bytes = c.args.bytes } in
     let formed : IsFormed gauge.segments p = record { address = c.requires; four = search rules; fits = search rules } in
-    let follows = repeated_follows gauge g.met.S.Audited.few c.args.distance pos c.args.slot sent p (spans c.args.distance sent) (spans_stored c.args.self.now) formed h
+    let follows = repeated_follows gauge g.met.S.Audited.few c.args.distance pos sent p (spans c.args.distance sent) (spans_stored c.args.self.now) formed h
     (c.joins.ensures.0 c.if-not-joins.false) (c.has.ensures.0 c.if-has.true) in
     c.none.ensures ∙ none_new (spans_stored c.args.self.now).broken
     ∙ added_more gauge c.args.distance (Sends p) sent (spans_stored c.args.self.now).broken (spans_stored c.args.self.now).broken follows.1 h.broken follows.0.broken
 
 pub returns-then-is_err-clause-holds : goal.returns-then-is_err-clause-holds
-returns-then-is_err-clause-holds g c small pos low sent h =
+returns-then-is_err-clause-holds g c pos low sent h =
     let gauge = g.S.Audited.gauge in
     let p : Fragment = record { flag = c.args.flag; address = c.args.address; bytes = c.args.bytes } in
     let formed : IsFormed gauge.segments p = record { address = c.requires; four = search rules; fits = search rules } in
     let other : HoldsNoOther c.args.address c.args.bytes (content_stored c.args.self.now.reigns) → ⊥ = λ no_other. (let ok : IsOk c.check_unchanged.result = c.check_unchanged.ensures.same.1 no_other in absurd (search rules)) in
-    let begun : spans_stored c.begin-then-is_err.new.self ≡ put_in (gauge.allowed c.args.address c.args.bytes) c.args.slot c.args.address c.args.bytes (opened_in c.args.distance gauge.longest true c.args.flag (ended_in c.args.distance c.args.slot c.args.address (spans_stored c.args.self.now))) =
-    c.begin-then-is_err.ensures.begun (omega (arith, h.few, ap (λ (s : SpansState). s.count) (c.end_at.ensures low)))
-    ∙ ap (λ (s : SpansState). put_in (gauge.allowed c.args.address c.args.bytes) c.args.slot c.args.address c.args.bytes (opened_in c.args.distance gauge.longest true c.args.flag s)) (c.end_at.ensures low) in
-    subst (λ (s : SpansState). HoldsNewestSpans gauge c.args.distance c.args.slot (Sends p) sent s) (sym begun)
-    (changed_follows gauge g.met.S.Audited.few c.args.distance pos c.args.slot sent p (spans c.args.distance sent) (spans_stored c.args.self.now) formed (in_order c.args.distance sent pos) h (c.joins.ensures.0 c.if-not-joins.false) other).0
+    subst (λ (s : SpansState). HoldsNewestSpans gauge c.args.distance (Sends p) sent s) (sym c.begin-then-is_err.ensures.begun)
+    (changed_follows gauge g.met.S.Audited.few c.args.distance pos sent p (spans c.args.distance sent) (spans_stored c.args.self.now) formed (in_order c.args.distance sent pos) h (c.joins.ensures.0 c.if-not-joins.false) other).0
 
 pub returns-then-is_err-clause-added : goal.returns-then-is_err-clause-added
-returns-then-is_err-clause-added g c small pos low sent h =
+returns-then-is_err-clause-added g c pos low sent h =
     let gauge = g.S.Audited.gauge in
     let p : Fragment = record { flag = c.args.flag; address = c.args.address; bytes = c.args.bytes } in
     let formed : IsFormed gauge.segments p = record { address = c.requires; four = search rules; fits = search rules } in
     let other : HoldsNoOther c.args.address c.args.bytes (content_stored c.args.self.now.reigns) → ⊥ = λ no_other. (let ok : IsOk c.check_unchanged.result = c.check_unchanged.ensures.same.1 no_other in absurd (search rules)) in
-    let follows = changed_follows gauge g.met.S.Audited.few c.args.distance pos c.args.slot sent p (spans c.args.distance sent) (spans_stored c.args.self.now) formed (in_order c.args.distance sent pos) h (c.joins.ensures.0 c.if-not-joins.false) other in
+    let follows = changed_follows gauge g.met.S.Audited.few c.args.distance pos sent p (spans c.args.distance sent) (spans_stored c.args.self.now) formed (in_order c.args.distance sent pos) h (c.joins.ensures.0 c.if-not-joins.false) other in
     added_first gauge c.args.distance (Sends p) sent c.begin-then-is_err.result follows.1
     (c.begin-then-is_err.ensures.faults
-    ∙ ap (λ (s : SpansState). s.broken) (c.begin-then-is_err.ensures.begun (omega (arith, h.few, ap (λ (s : SpansState). s.count) (c.end_at.ensures low)))
-    ∙ ap (λ (s : SpansState). put_in (gauge.allowed c.args.address c.args.bytes) c.args.slot c.args.address c.args.bytes (opened_in c.args.distance gauge.longest true c.args.flag s)) (c.end_at.ensures low))
+    ∙ ap (λ (s : SpansState). s.broken) c.begin-then-is_err.ensures.begun
     ∙ follows.0.broken)
 
 pub returns-clause-holds : goal.returns-clause-holds
-returns-clause-holds g c small pos low sent h =
+returns-clause-holds g c pos low sent h =
     let gauge = g.S.Audited.gauge in
     let p : Fragment = record { flag = c.args.flag; address = c.args.address; bytes = c.args.bytes } in
     let formed : IsFormed gauge.segments p = record { address = c.requires; four = search rules; fits = search rules } in
     let no_other : HoldsNoOther c.args.address c.args.bytes (content_stored c.args.self.now.reigns) = c.check_unchanged.ensures.same.0 (search rules) in
-    subst (λ (s : SpansState). HoldsNewestSpans gauge c.args.distance c.args.slot (Sends p) sent s) (sym c.put.ensures)
-    (joined_follows gauge g.met.S.Audited.few c.args.distance pos c.args.slot sent p (spans c.args.distance sent) (spans_stored c.args.self.now) formed h (c.joins.ensures.0 c.if-not-joins.false) no_other).0
+    subst (λ (s : SpansState). HoldsNewestSpans gauge c.args.distance (Sends p) sent s) (sym c.put.ensures)
+    (joined_follows gauge g.met.S.Audited.few c.args.distance pos sent p (spans c.args.distance sent) (spans_stored c.args.self.now) formed h (c.joins.ensures.0 c.if-not-joins.false) no_other).0
 
 pub returns-clause-added : goal.returns-clause-added
-returns-clause-added g c small pos low sent h =
+returns-clause-added g c pos low sent h =
     let gauge = g.S.Audited.gauge in
     let p : Fragment = record { flag = c.args.flag; address = c.args.address; bytes = c.args.bytes } in
     let formed : IsFormed gauge.segments p = record { address = c.requires; four = search rules; fits = search rules } in
     let no_other : HoldsNoOther c.args.address c.args.bytes (content_stored c.args.self.now.reigns) = c.check_unchanged.ensures.same.0 (search rules) in
-    let follows = joined_follows gauge g.met.S.Audited.few c.args.distance pos c.args.slot sent p (spans c.args.distance sent) (spans_stored c.args.self.now) formed h (c.joins.ensures.0 c.if-not-joins.false) no_other in
+    let follows = joined_follows gauge g.met.S.Audited.few c.args.distance pos sent p (spans c.args.distance sent) (spans_stored c.args.self.now) formed h (c.joins.ensures.0 c.if-not-joins.false) no_other in
     c.not_in.ensures
     ∙ added_more gauge c.args.distance (Sends p) sent c.get-before.result c.get.result follows.1 (c.get-before.ensures ∙ h.broken)
     (c.get.ensures ∙ ap (λ (s : SpansState). s.broken) c.put.ensures ∙ follows.0.broken)

@@ -8,13 +8,13 @@ returns-clause-listed c w same calm = record {
   slots = [];
   say = refl;
   count = refl;
-  listing = c.starting.ensures.stands;
+  audit = c.starting.ensures.follows;
   begins = c.starting.ensures.start;
   written = [];
   faults = [];
   are = record { each = refl; heard = []; are = tt; added = λ judged is. tt };
   total = c.new.ensures;
-  first = rw (c.starting.ensures.fault) c.new.ensures;
+  first = rw (c.starting.ensures.passed) c.new.ensures;
   wrote = subst (λ (after : Option (List ℕ)). Appends w.before after []) (sym same) (Appends-nil w.before);
   calm = calm;
 }

@@ -1,4 +1,4 @@
-use Rattle.rds_ffi.proofs.listing.rdsrt_listing_names.Goals as goal
+use Rattle.rds_ffi.proofs.audit.rdsrt_audit_names.Goals as goal
 
 pub returns : goal.returns
 returns c pi d log lies judged is = (lies.at.holds judged is).name.count

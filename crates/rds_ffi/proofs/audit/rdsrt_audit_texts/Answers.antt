@@ -1,4 +1,4 @@
-use Rattle.rds_ffi.proofs.listing.rdsrt_listing_texts.Goals as goal
+use Rattle.rds_ffi.proofs.audit.rdsrt_audit_texts.Goals as goal
 
 pub returns : goal.returns
 returns c pi d log lies judged is = (lies.at.holds judged is).text.count

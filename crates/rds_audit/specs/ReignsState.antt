@@ -1,0 +1,90 @@
+-- The state of the reigns of a service.
+use Rattle.std.specs.Prelude.{◌≡◌, ◌≤◌, ◌⊎◌, ◌==◌}
+use Rattle.std.specs.Prelude.{ℕ, Bool, true, false, List, Option, Some, None, is_some, max}
+use Rattle.std.specs.Prelude.{refl, replicate, slice_index_or, slice_set, if◌then◌else◌}
+use Rattle.std.specs.Coded.{Coded, code_by, coded×, coded_ℕ, coded_bool, coded_list, coded_option}
+use Rattle.rds_fields.specs.Tag.{PairFields}
+use Rattle.rds_audit.specs.declared.audited.Lengths.{Lengths}
+use Rattle.rds_audit.specs.Ages.{Ages}
+use Rattle.rds_audit.specs.Lengths.{narrowed, pair_end}
+
+-- the content of a reign: the bytes at each address, the lengths that its fragments allow, and the greatest end of its
+-- tags
+pub record ContentState : Type 0 where
+  pub cells : List (Option (List ℕ))
+  pub lengths : Lengths
+  pub tags_end : ℕ
+
+-- a service: the ages of its reigns, and the content of the current one
+pub record ReignsState : Type 0 where
+  pub ages : Ages
+  pub content : ContentState
+
+-- the content without fragments and tags
+abbrev pub no_content : ℕ → ContentState
+no_content longest = record { cells = replicate 16 None; lengths = record { least = 0; most = longest }; tags_end = 0 }
+
+-- the bytes held at an address
+abbrev pub cell_at : ℕ → ContentState → Option (List ℕ)
+cell_at a c = slice_index_or c.cells a None
+
+-- the address holds nothing, or these bytes
+abbrev pub HoldsNoOther : ℕ → List ℕ → ContentState → Type 0
+HoldsNoOther address bytes c = (cell_at address c ≡ None) ⊎ (cell_at address c ≡ Some bytes)
+
+-- some length is in both ranges
+pub record HasRoom (allowed : Option Lengths) (l : Lengths) : Type 0 where
+  pub some : is_some allowed ≡ true
+  pub room : (narrowed allowed l).least ≤ (narrowed allowed l).most
+
+-- the content with these bytes at an address
+abbrev pub taken : Option Lengths → ℕ → List ℕ → ContentState → ContentState
+taken allowed address bytes c =
+    record {
+      cells = slice_set c.cells address (Some bytes);
+      lengths = narrowed allowed c.lengths;
+      tags_end = c.tags_end;
+    }
+
+-- the content with one more pair of tags
+abbrev pub tagged : PairFields → ContentState → ContentState
+tagged pair c = record { cells = c.cells; lengths = c.lengths; tags_end = max c.tags_end (pair_end pair) }
+
+-- the state after a fragment joined the current reign
+abbrev pub joined_state : Option Lengths → ℕ → List ℕ → ReignsState → ReignsState
+joined_state allowed address bytes st =
+    record { ages = record st.ages { since_last = 0 }; content = taken allowed address bytes st.content }
+
+-- the state after tags were sent
+abbrev pub tagged_state : PairFields → ReignsState → ReignsState
+tagged_state pair st = record { ages = record st.ages { since_last = 0 }; content = tagged pair st.content }
+
+abbrev pub lengths_code : Coded Lengths
+lengths_code = code_by (ℕ × ℕ) (coded× coded_ℕ coded_ℕ) (λ l. (l.least, l.most))
+    (λ p. record { least = p.0; most = p.1 }) (λ _. refl)
+
+abbrev pub content_code : Coded ContentState
+content_code =
+    code_by (List (Option (List ℕ)) × (Lengths × ℕ))
+    (coded× (coded_list (coded_option (coded_list coded_ℕ))) (coded× lengths_code coded_ℕ))
+    (λ c. (c.cells, (c.lengths, c.tags_end))) (λ p. record { cells = p.0; lengths = p.1.0; tags_end = p.1.1 })
+    (λ _. refl)
+
+abbrev pub ages_code : Coded Ages
+ages_code =
+    code_by ((Bool × (Bool × Bool)) × (ℕ × (ℕ × ℕ)))
+    (coded× (coded× coded_bool (coded× coded_bool coded_bool)) (coded× coded_ℕ (coded× coded_ℕ coded_ℕ)))
+    (λ a. ((a.is_open, (a.flag, a.turns)), (a.since_last, (a.since_before, a.since_start))))
+    (λ p. record {
+      is_open = p.0.0;
+      flag = p.0.1.0;
+      turns = p.0.1.1;
+      since_last = p.1.0;
+      since_before = p.1.1.0;
+      since_start = p.1.1.1;
+    })
+    (λ _. refl)
+
+abbrev pub reigns_code : Coded ReignsState
+reigns_code = code_by (Ages × ContentState) (coded× ages_code content_code) (λ r. (r.ages, r.content))
+    (λ p. record { ages = p.0; content = p.1 }) (λ _. refl)
