@@ -15,7 +15,6 @@ pub mod LengthSteps
 pub mod AgeSteps
 pub mod ContentSteps
 pub mod HeldAgain
-pub mod Faults
 pub mod Recordings
 pub mod FirstTexts
 pub mod Settled

@@ -13,23 +13,24 @@ use Rattle.rds_receiver.specs.Run.{is_same}
 use Rattle.rds_safety.specs.Lawful.{names, texts}
 use Rattle.rds_safety.specs.Marks.{Mark, Nothing, marks, name_mark, text_mark}
 use Rattle.rds_audit.specs.declared.audit.AuditFault.{AuditFault}
+use Rattle.rds_audit.specs.declared.audit.AuditFault.TheVariants.{Changed, NotOneText, EarlyFlag, EarlyTag, TagOutside}
 use Rattle.rds_audit.specs.declared.fault_set.FaultSet.{FaultSet}
 use Rattle.rds_audit.specs.declared.log_start.LogStart.{LogStart}
 use Rattle.rds_audit.specs.declared.log_start.LogStart.TheVariants.{Complete, Running}
 use Rattle.rds_audit.specs.Ages.{Ages, HasCurrent}
 use Rattle.rds_audit.specs.Judging.{judged_step}
 use Rattle.rds_audit.specs.Lengths.{Gauge, name_gauge, text_gauge}
-use Rattle.rds_audit.specs.Listing.{SentFragment, Span, added, both, broken_newest, first_of, joined, newest_at, none_broken, same_bytes, slot_adds, spans, spans_after, spans_tagged}
+use Rattle.rds_audit.specs.Listing.{IsFaultOf, SentFragment, Span, added, both, broken_newest, first_fault, first_of, joined, newest_at, none_broken, or_else, same_bytes, slot_adds, spans, spans_after, spans_tagged}
+use Rattle.std.specs.List.{AllByRecursion}
 use Rattle.rds_audit.specs.ListingLaws.{IsFormedMessage}
 use Rattle.rds_audit.specs.AuditStandsAt.{AuditStandsAt, FollowsLog, HasJudged, HoldsLog, HoldsNewestSpans, HoldsSlot, HoldsSpans, ListsGroup, ListsMessage, TakesAll, TakesSlot, reigns_of}
 use Rattle.rds_audit.specs.AuditState.{AuditState, aged_in}
-use Rattle.rds_audit.specs.Recording.{IsJudgedAs, IsSilentAs, counted_as, has_text}
-use Rattle.rds_audit.specs.Rules.{BreaksFirst, IsBrokenBy, IsFaultOf, LogPasses}
-use Rattle.rds_audit.proofs.Faults.{slot_fails}
+use Rattle.rds_audit.specs.Recording.{counted_as, has_text, judged_as, silent_as}
+use Rattle.rds_audit.specs.Rules.{LogPasses}
 use Rattle.rds_audit.proofs.Gauges.{name_gauge_is_exact, text_gauge_is_exact}
 use Rattle.rds_audit.proofs.Recordings.{IsSilent, names_begin, silent_passes, texts_begin}
-use Rattle.rds_audit.proofs.SpanReigns.{adds_first, adds_none, service_judged, service_passed_before}
-use Rattle.rds_audit.proofs.SpanSteps.{added_more, nothing_follows, spans_later, none_new}
+use Rattle.rds_audit.proofs.SpanReigns.{adds_none, quiet_passes, service_passed_before}
+use Rattle.rds_audit.proofs.SpanSteps.{added_more, none_new, nothing_follows, sets_are, spans_later}
 
 -- ---- both services
 
@@ -69,12 +70,6 @@ log_passed_before d newest before h = record {
   name = service_passed_before d names (name_mark newest) (marks name_mark before) h.name;
 }
 
--- a log that passes has no fault
-no_fault : (d : ℕ) (log : List (Option Message)) (fault : AuditFault) → IsFaultOf d log fault → LogPasses d log → ⊥
-no_fault d [] fault f passes = f
-no_fault d (newest ∷ before) fault (inl f) passes = slot_fails d newest before fault passes f.1
-no_fault d (newest ∷ before) fault (inr f) passes = no_fault d before fault f (log_passed_before d newest before passes)
-
 -- a slot that breaks no rule adds nothing
 pub passing_adds : (d : ℕ) (newest : Option Message) (before : List (Option Message)) → LogPasses d (newest ∷ before) → none_broken ≡ slot_adds d newest before
 passing_adds d newest before passes =
@@ -101,41 +96,64 @@ formed_counted Running judged (Some (Announce code bits aid)) h = h
 formed_counted Running judged (Some (Tags pair)) h = cond_both (has_text judged) _ _ IsFormedMessage (λ _. record { text = tt; name = tt }) (λ _. record { text = tt; name = tt })
 formed_counted Running judged (Some Other) h = h
 
--- a slot that breaks a rule of texts has nothing for names, and the other way round
-text_breaks : (d : ℕ) (newest : Option Message) (before : List Mark) (fault : AuditFault) → IsBrokenBy d texts (text_mark newest) before fault → name_mark newest ≡ Nothing
-text_breaks d None before fault b = refl
-text_breaks d (Some (Text f a c)) before fault b = refl
-text_breaks d (Some (Name f a c)) before fault b = absurd b
-text_breaks d (Some (Announce code bits aid)) before fault b = refl
-text_breaks d (Some (Tags pair)) before fault b = refl
-text_breaks d (Some Other) before fault b = refl
+-- a log that passes has no fault
+passes_quietly : (d : ℕ) (log : List (Option Message)) → LogPasses d log → first_fault d log ≡ None
+passes_quietly d [] passes = refl
+passes_quietly d (newest ∷ before) passes =
+    ap (λ (o : Option AuditFault). or_else o (first_of (slot_adds d newest before))) (passes_quietly d before (log_passed_before d newest before passes)) ∙ ap first_of (sym (passing_adds d newest before passes))
 
-name_breaks : (d : ℕ) (newest : Option Message) (before : List Mark) (fault : AuditFault) → IsBrokenBy d names (name_mark newest) before fault → text_mark newest ≡ Nothing
-name_breaks d None before fault b = refl
-name_breaks d (Some (Text f a c)) before fault b = absurd b
-name_breaks d (Some (Name f a c)) before fault b = refl
-name_breaks d (Some (Announce code bits aid)) before fault b = refl
-name_breaks d (Some (Tags pair)) before fault b = absurd b
-name_breaks d (Some Other) before fault b = refl
+pub no_fault : (d : ℕ) (log : List (Option Message)) (fault : AuditFault) → IsFaultOf d log fault → LogPasses d log → ⊥
+no_fault d log fault f passes = (let bad : None ≡ Some fault = sym (passes_quietly d log passes) ∙ f in cc)
 
--- the first fault that a slot adds is the rule that it breaks first
-pub breaking_adds : (d : ℕ) (newest : Option Message) (before : List (Option Message)) (fault : AuditFault) → IsFormedMessage newest → LogPasses d before → BreaksFirst d newest before fault → first_of (slot_adds d newest before) ≡ Some fault
-breaking_adds d newest before fault formed passes (inl b) =
-    ap first_of (texts_add d newest before (text_breaks d newest (marks text_mark before) fault b))
-    ∙ adds_first text_gauge text_gauge_is_exact d (text_mark newest) (marks text_mark before) fault formed.text passes.text b
-breaking_adds d newest before fault formed passes (inr b) =
-    ap first_of (names_add d newest before (name_breaks d newest (marks name_mark before) fault b))
-    ∙ adds_first name_gauge name_gauge_is_exact d (name_mark newest) (marks name_mark before) fault formed.name passes.name b
+-- there is no fault, or a first one
+first_some : (f : FaultSet) → (f ≡ none_broken) ⊎ ((fault : AuditFault) × (first_of f ≡ Some fault))
+first_some f = by f.changed f.early_flag f.not_one_text f.early_tag f.tag_outside
+  where
+    by : (c e n g o : Bool) → (record { changed = c; early_flag = e; not_one_text = n; early_tag = g; tag_outside = o } ≡ none_broken)
+        ⊎ ((fault : AuditFault) × (first_of record { changed = c; early_flag = e; not_one_text = n; early_tag = g; tag_outside = o } ≡ Some fault))
+    by true e n g o = inr (Changed, refl)
+    by false true n g o = inr (EarlyFlag, refl)
+    by false false true g o = inr (NotOneText, refl)
+    by false false false true o = inr (EarlyTag, refl)
+    by false false false false true = inr (TagOutside, refl)
+    by false false false false false = inl refl
 
--- a slot after a log that passes: the log passes with it too, or it breaks a rule first
-log_judged : (d : ℕ) (newest : Option Message) (before : List (Option Message)) → IsFormedMessage newest → LogPasses d before → LogPasses d (newest ∷ before) ⊎ ((fault : AuditFault) × BreaksFirst d newest before fault)
-log_judged d newest before formed passes = elim (service_judged text_gauge text_gauge_is_exact d (text_mark newest) (marks text_mark before) formed.text passes.text) [
-  | inr (fault, b) ↦ inr (fault, inl b)
-  | inl text ↦ elim (service_judged name_gauge name_gauge_is_exact d (name_mark newest) (marks name_mark before) formed.name passes.name) [
-    | inr (fault, b) ↦ inr (fault, inr b)
-    | inl name ↦ inl record { text = text; name = name }
-  ]
+none_of_both : (f g : FaultSet) → both f g ≡ none_broken → (f ≡ none_broken) × (g ≡ none_broken)
+none_of_both f g e =
+    let changed = neither f.changed g.changed (ap (λ (x : FaultSet). x.changed) e) in
+    let early_flag = neither f.early_flag g.early_flag (ap (λ (x : FaultSet). x.early_flag) e) in
+    let not_one_text = neither f.not_one_text g.not_one_text (ap (λ (x : FaultSet). x.not_one_text) e) in
+    let early_tag = neither f.early_tag g.early_tag (ap (λ (x : FaultSet). x.early_tag) e) in
+    let tag_outside = neither f.tag_outside g.tag_outside (ap (λ (x : FaultSet). x.tag_outside) e) in
+    (sets_are f none_broken changed.0 early_flag.0 not_one_text.0 early_tag.0 tag_outside.0, sets_are g none_broken changed.1 early_flag.1 not_one_text.1 early_tag.1 tag_outside.1)
+  where
+    neither : (x y : Bool) → (x || y) ≡ false → (x ≡ false) × (y ≡ false)
+    neither true y e = absurd (let bad : true ≡ false = e in cc)
+    neither false y e = (refl, e)
+
+-- a slot after a log that passes: the log passes with it too, or it adds a first fault
+log_judged : (d : ℕ) (newest : Option Message) (before : List (Option Message)) → IsFormedMessage newest → LogPasses d before → LogPasses d (newest ∷ before) ⊎ ((fault : AuditFault) × (first_of (slot_adds d newest before) ≡ Some fault))
+log_judged d newest before formed passes = elim (first_some (slot_adds d newest before)) [
+  | inr some ↦ inr some
+  | inl quiet ↦
+      let none = none_of_both (added text_gauge d (text_mark newest) (marks text_mark before)) (added name_gauge d (name_mark newest) (marks name_mark before)) quiet in
+      inl record {
+        text = quiet_passes text_gauge text_gauge_is_exact d (text_mark newest) (marks text_mark before) formed.text passes.text none.0;
+        name = quiet_passes name_gauge name_gauge_is_exact d (name_mark newest) (marks name_mark before) formed.name passes.name none.1;
+      }
 ]
+
+-- a log without a fault passes
+pub passes_without : (d : ℕ) (log : List (Option Message)) → AllByRecursion IsFormedMessage log → first_fault d log ≡ None → LogPasses d log
+passes_without d [] formed none = record { text = record { reigns = tt; tagged = λ t pair s. absurd s }; name = record { reigns = tt; tagged = λ t pair s. absurd s } }
+passes_without d (newest ∷ before) formed none = by (passes_without d before formed.1) (first_fault d before) refl
+  where
+    by : (first_fault d before ≡ None → LogPasses d before) → (o : Option AuditFault) → first_fault d before ≡ o → LogPasses d (newest ∷ before)
+    by passes (Some fault) e = absurd (let bad : Some fault ≡ None = sym (ap (λ (o : Option AuditFault). or_else o (first_of (slot_adds d newest before))) e) ∙ none in cc)
+    by passes None e = elim (log_judged d newest before formed.0 (passes e)) [
+      | inl next ↦ next
+      | inr (fault, b) ↦ absurd (let bad : Some fault ≡ None = sym b ∙ sym (ap (λ (o : Option AuditFault). or_else o (first_of (slot_adds d newest before))) e) ∙ none in cc)
+    ]
 
 -- the fault of a log with one more slot
 judged_next : (d : ℕ) (newest : Option Message) (judged : List (Option Message)) (a after : AuditState) → IsFormedMessage newest → (HoldsLog d judged a → HoldsLog d (newest ∷ judged) after)
@@ -146,10 +164,10 @@ judged_next d newest judged a after formed holds first again has = by a.fault re
     told o e m = subst (λ (x : Option AuditFault). MatchOption x (LogPasses d (newest ∷ judged) × HoldsLog d (newest ∷ judged) after) (IsFaultOf d (newest ∷ judged))) (sym e) m
 
     by : (was : Option AuditFault) → a.fault ≡ was → MatchOption was (LogPasses d judged × HoldsLog d judged a) (IsFaultOf d judged) → HasJudged d after (newest ∷ judged)
-    by (Some fault) e f = told (Some fault) (again fault e) (inr f)
+    by (Some fault) e f = told (Some fault) (again fault e) (ap (λ (o : Option AuditFault). or_else o (first_of (slot_adds d newest judged))) f)
     by None e (passes, h) = elim (log_judged d newest judged formed passes) [
       | inl next ↦ told None (first h e ∙ ap first_of (sym (passing_adds d newest judged next))) (next, holds h)
-      | inr (fault, b) ↦ told (Some fault) (first h e ∙ breaking_adds d newest judged fault formed passes b) (inl (passes, b))
+      | inr (fault, b) ↦ told (Some fault) (first h e ∙ b) (ap (λ (o : Option AuditFault). or_else o (first_of (slot_adds d newest judged))) (passes_quietly d judged passes) ∙ b)
     ]
 
 -- ---- from slot to slot
@@ -241,17 +259,20 @@ slot_listed d newest judged l after pos text name h = record {
 abbrev pub HearsNext : ℕ → AuditState → AuditState → Option Group → Option Message → Type 0
 HearsNext pi a after slot message = Hears pi slot message × (after.programme ≡ a.programme) × (after.distance ≡ a.distance) × (after.start ≡ a.start)
 
+-- what is judged with one more slot
+next_judged : (begins start : LogStart) (d : ℕ) (message : Option Message) (heard : List (Option Message)) → start ≡ begins
+    → judged_as start d (message ∷ heard) ≡ counted_as begins (judged_as begins d heard) message ∷ judged_as begins d heard
+next_judged begins start d message heard same = ap (λ st. judged_as st d (message ∷ heard)) same ∙ judged_step begins d message heard
+
 goes_on : (pi d : ℕ) (a after : AuditState) (log : List (Option Group)) (s : AuditStandsAt pi d a log) (slot : Option Group) (message : Option Message) → HearsNext pi a after slot message
-    → ((judged : List (Option Message)) → IsJudgedAs a.start d s.heard judged → HasJudged d after (counted_as a.start judged message ∷ judged)) → AuditStandsAt pi d after (slot ∷ log)
+    → HasJudged d after (counted_as a.start (judged_as a.start d s.heard) message ∷ judged_as a.start d s.heard) → AuditStandsAt pi d after (slot ∷ log)
 goes_on pi d a after log s slot message (hears, programme, distance, start) has = record {
   programme = programme ∙ s.programme;
   distance = distance ∙ s.distance;
   lasts = s.lasts;
   heard = message ∷ s.heard;
   are = (hears, s.are);
-  holds = λ judged is.
-      let (before, was, e) = judged_step a.start d message s.heard judged (subst (λ st. IsJudgedAs st d (message ∷ s.heard) judged) start is) in
-      subst (HasJudged d after) (sym e) (has before was);
+  holds = subst (HasJudged d after) (sym (next_judged a.start after.start d message s.heard start)) has;
 }
 
 -- the audit took a slot, whatever its fault
@@ -272,22 +293,20 @@ module _ (a end next : AuditState) (slot : Option Group) (found : FaultSet) (too
 
   stands_next : AuditStandsAt pi d a log → AuditStandsAt pi d next (slot ∷ log)
   stands_next s =
-      goes_on pi d a next log s slot took.message (hears_here s, programme, distance, start) (λ judged is.
-      judged_next d (counted_as a.start judged took.message) judged a next (formed_counted a.start judged took.message (formed_heard pi slot took.message (hears_here s)))
-      (holds_here s judged) (λ h none. first none ∙ ap first_of (adds_here s judged h)) again (s.holds judged is))
+      goes_on pi d a next log s slot took.message (hears_here s, programme, distance, start)
+      (judged_next d (counted_as a.start (judged_as a.start d s.heard) took.message) (judged_as a.start d s.heard) a next (formed_counted a.start (judged_as a.start d s.heard) took.message (formed_heard pi slot took.message (hears_here s)))
+      (holds_here s (judged_as a.start d s.heard)) (λ h none. first none ∙ ap first_of (adds_here s (judged_as a.start d s.heard) h)) again s.holds)
 
   follows_next : FollowsLog pi d a log → FollowsLog pi d next (slot ∷ log)
   unfolding stands_next goes_on
   follows_next s = record {
     at = stands_next s.at;
-    holds = λ judged is.
-        let (before, was, e) = judged_step a.start d took.message s.at.heard judged (subst (λ st. IsJudgedAs st d (took.message ∷ s.at.heard) judged) start is) in
-        subst (λ (x : List (Option Message)). HoldsLog d x next) (sym e) (holds_here s.at before (s.holds before was));
+    holds = subst (λ (x : List (Option Message)). HoldsLog d x next) (sym (next_judged a.start next.start d took.message s.at.heard start)) (holds_here s.at (judged_as a.start d s.at.heard) s.holds);
   }
 
-  found_adds : (s : FollowsLog pi d a log) (message : Option Message) → Hears pi slot message → (judged : List (Option Message)) → IsJudgedAs a.start d s.at.heard judged → found ≡ slot_adds d (counted_as a.start judged message) judged
-  found_adds s message hears judged is =
-      adds_here s.at judged (s.holds judged is) ∙ ap (λ (m : Option Message). slot_adds d (counted_as a.start judged m) judged) (same_heard_in pi slot took.message message (hears_here s.at) hears)
+  found_adds : (s : FollowsLog pi d a log) (message : Option Message) → Hears pi slot message → found ≡ slot_adds d (counted_as a.start (judged_as a.start d s.at.heard) message) (judged_as a.start d s.at.heard)
+  found_adds s message hears =
+      adds_here s.at (judged_as a.start d s.at.heard) s.holds ∙ ap (λ (m : Option Message). slot_adds d (counted_as a.start (judged_as a.start d s.at.heard) m) (judged_as a.start d s.at.heard)) (same_heard_in pi slot took.message message (hears_here s.at) hears)
 
 pub takes_all : (a end next : AuditState) (slot : Option Group) (found : FaultSet) → ListsGroup a end slot found
     → next.text ≡ end.text → next.name ≡ end.name → next.programme ≡ a.programme → next.distance ≡ a.distance → next.start ≡ a.start
@@ -313,42 +332,39 @@ fault_is d a judged fault some has = subst (λ (o : Option AuditFault). MatchOpt
 pub takes_again : (a : AuditState) (slot : Option Group) (message : Option Message) (fault : AuditFault) → a.fault ≡ Some fault → Hears a.programme slot message → TakesSlot a a slot (Err fault)
 takes_again a slot message fault some hears = record {
   stands = λ pi d log s.
-      goes_on pi d a a log s slot message (subst (λ n. Hears n slot message) s.programme hears, refl, refl, refl) (λ judged is.
-      subst (λ (o : Option AuditFault). MatchOption o (LogPasses d (counted_as a.start judged message ∷ judged) × HoldsLog d (counted_as a.start judged message ∷ judged) a) (IsFaultOf d (counted_as a.start judged message ∷ judged))) (sym some)
-      (inr (fault_is d a judged fault some (s.holds judged is))));
+      goes_on pi d a a log s slot message (subst (λ n. Hears n slot message) s.programme hears, refl, refl, refl) (still d (counted_as a.start (judged_as a.start d s.heard) message) (judged_as a.start d s.heard) (fault_is d a (judged_as a.start d s.heard) fault some s.holds));
   fault = some;
   start = refl;
-  which = λ pi d log s judged is. fault_is d a judged fault some (s.holds judged is);
+  which = λ pi d log s. fault_is d a (judged_as a.start d s.heard) fault some s.holds;
   again = λ other same. (ap Err (let e : fault ≡ other = cc in e), refl);
 }
+  where
+    still : (d : ℕ) (newest : Option Message) (judged : List (Option Message)) → IsFaultOf d judged fault → HasJudged d a (newest ∷ judged)
+    still d newest judged f = subst (λ (o : Option AuditFault). MatchOption o (LogPasses d (newest ∷ judged) × HoldsLog d (newest ∷ judged) a) (IsFaultOf d (newest ∷ judged))) (sym some) (ap (λ (o : Option AuditFault). or_else o (first_of (slot_adds d newest judged))) f)
 
 -- before the first slot
-pub audit_starts : (pi d : ℕ) (start : LogStart) (a : AuditState) → a.programme ≡ pi → a.distance ≡ d → 0 < d → a.start ≡ start → a.fault ≡ None
-    → ((sent : List Mark) → IsSilentAs start d sent → HoldsSpans text_gauge d sent a.text) → ((sent : List Mark) → IsSilentAs start d sent → HoldsSpans name_gauge d sent a.name) → FollowsLog pi d a []
-audit_starts pi d start a programme distance lasts begins clean texts_hold names_hold = record {
+pub audit_starts : (pi d : ℕ) (a : AuditState) → a.programme ≡ pi → a.distance ≡ d → 0 < d → a.fault ≡ None
+    → HoldsSpans text_gauge d (silent_as a.start d) a.text → HoldsSpans name_gauge d (silent_as a.start d) a.name → FollowsLog pi d a []
+audit_starts pi d a programme distance lasts clean texts_hold names_hold = record {
   at = record {
     programme = programme;
     distance = distance;
     lasts = lasts;
     heard = [];
     are = tt;
-    holds = λ judged is.
-        let first : IsJudgedAs start d [] judged = subst (λ st. IsJudgedAs st d [] judged) begins is in
-        subst (λ (o : Option AuditFault). MatchOption o (LogPasses d judged × HoldsLog d judged a) (IsFaultOf d judged)) (sym clean) (
-          record {
-            text = silent_passes texts start d (marks text_mark judged) (texts_begin start d judged first);
-            name = silent_passes names start d (marks name_mark judged) (names_begin start d judged first);
-          },
-          holds judged is,
-        );
+    holds = subst (λ (o : Option AuditFault). MatchOption o (LogPasses d (judged_as a.start d []) × HoldsLog d (judged_as a.start d []) a) (IsFaultOf d (judged_as a.start d []))) (sym clean) (
+      record {
+        text = rw (texts_begin a.start d) (silent_passes texts a.start d);
+        name = rw (names_begin a.start d) (silent_passes names a.start d);
+      },
+      holds,
+    );
   };
   holds = holds;
 }
   where
-    holds : (judged : List (Option Message)) → IsJudgedAs a.start d [] judged → HoldsLog d judged a
-    holds judged is =
-        let first : IsJudgedAs start d [] judged = subst (λ st. IsJudgedAs st d [] judged) begins is in
-        record { text = texts_hold (marks text_mark judged) (texts_begin start d judged first); name = names_hold (marks name_mark judged) (names_begin start d judged first) }
+    holds : HoldsLog d (judged_as a.start d []) a
+    holds = record { text = rw (texts_begin a.start d) texts_hold; name = rw (names_begin a.start d) names_hold }
 
 -- the log passes exactly if there is no fault
 pub passes_exactly : (d : ℕ) (a : AuditState) (judged : List (Option Message)) → HasJudged d a judged → (a.fault ≡ None) ↔ LogPasses d judged

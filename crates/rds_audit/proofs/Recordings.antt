@@ -9,7 +9,7 @@ use Rattle.rds_audit.specs.declared.log_start.LogStart.{LogStart}
 use Rattle.rds_audit.specs.declared.log_start.LogStart.TheVariants.{Complete, Running}
 use Rattle.rds_audit.specs.Ages.{Ages}
 use Rattle.rds_audit.specs.ReignsState.{ContentState, ReignsState}
-use Rattle.rds_audit.specs.Recording.{IsJudgedAs, IsSilentAs, counted_as, from_first_text, has_text}
+use Rattle.rds_audit.specs.Recording.{counted_as, from_first_text, has_text, judged_as, silent_as}
 use Rattle.rds_audit.specs.Reigns.{reigns}
 use Rattle.rds_audit.specs.Rules.{Passes}
 use Rattle.rds_safety.specs.Lawful.{Kind}
@@ -25,13 +25,13 @@ silent_names zero = refl
 silent_names (suc n) = ap (λ (sent : List Mark). Nothing ∷ sent) (silent_names n)
 
 -- what is judged before the first slot is silent
-pub texts_begin : (start : LogStart) (d : ℕ) (judged : List (Option Message)) → IsJudgedAs start d [] judged → IsSilentAs start d (marks text_mark judged)
-texts_begin Complete d judged e = ap (marks text_mark) e
-texts_begin Running d judged (lost, far, e) = (lost, far, ap (marks text_mark) e ∙ silent_texts lost)
+pub texts_begin : (start : LogStart) (d : ℕ) → marks text_mark (judged_as start d []) ≡ silent_as start d
+texts_begin Complete d = refl
+texts_begin Running d = silent_texts d
 
-pub names_begin : (start : LogStart) (d : ℕ) (judged : List (Option Message)) → IsJudgedAs start d [] judged → IsSilentAs start d (marks name_mark judged)
-names_begin Complete d judged e = ap (marks name_mark) e
-names_begin Running d judged (lost, far, e) = (lost, far, ap (marks name_mark) e ∙ silent_names lost)
+pub names_begin : (start : LogStart) (d : ℕ) → marks name_mark (judged_as start d []) ≡ silent_as start d
+names_begin Complete d = refl
+names_begin Running d = silent_names d
 
 pub silent_reigns : (d lost : ℕ) → reigns d (replicate lost Nothing) ≡ []
 silent_reigns d zero = refl
@@ -53,9 +53,9 @@ silence kind d lost = record {
   tagged = λ t pair h. absurd (no_tags lost t pair h);
 }
 
-pub silent_passes : (kind : Kind) (start : LogStart) (d : ℕ) (sent : List Mark) → IsSilentAs start d sent → Passes d kind sent
-silent_passes kind Complete d sent e = subst (Passes d kind) (sym e) (silence kind d 0)
-silent_passes kind Running d sent (lost, far, e) = subst (Passes d kind) (sym e) (silence kind d lost)
+pub silent_passes : (kind : Kind) (start : LogStart) (d : ℕ) → Passes d kind (silent_as start d)
+silent_passes kind Complete d = silence kind d 0
+silent_passes kind Running d = silence kind d d
 
 -- ---- from slot to slot
 

@@ -23,7 +23,7 @@ use Rattle.rds_safety.specs.Safe.{AreNeighbours, AreSafe, Listener, ListensTo, S
 use Rattle.rds_safety.specs.Source.{IsSource, LastWasSentIn, name_run, text_run}
 use Rattle.rds_safety.proofs.Entries.{entry_beside}
 use Rattle.rds_audit.specs.AuditLaws.{IsSafeRecording, PassesExactlyByPlans, WhatPassesAsARecordingIsSafe, later}
-use Rattle.rds_audit.specs.Recording.{IsJudgedAs, from_first_text, preceded}
+use Rattle.rds_audit.specs.Recording.{from_first_text, judged_as, preceded}
 use Rattle.rds_audit.specs.declared.log_start.LogStart.{LogStart}
 use Rattle.rds_audit.specs.declared.log_start.LogStart.TheVariants.{Running}
 use Rattle.rds_audit.specs.Rules.{LogPasses}
@@ -240,7 +240,5 @@ safe_recording law own late slow m k log pos p =
     }
 
 -- the audit of a running station judged the log with m + k slots in front
-pub safe_as_it_is : WhatPassesAsARecordingIsSafe → (m k : ℕ) (start : LogStart) (heard : List (Option Message)) → start ≡ Running → 0 < m
-    → ((judged : List (Option Message)) → IsJudgedAs start (m + k) heard judged → LogPasses (m + k) judged) → IsSafeRecording m k heard
-safe_as_it_is law m k start heard running pos passes =
-    law m k heard pos (passes (from_first_text (preceded (m + k) heard)) (subst (λ (x : LogStart). IsJudgedAs x (m + k) heard (from_first_text (preceded (m + k) heard))) (sym running) (m + k, le_refl (m + k), refl)))
+pub safe_as_it_is : WhatPassesAsARecordingIsSafe → (m k : ℕ) (start : LogStart) (heard : List (Option Message)) → start ≡ Running → 0 < m → LogPasses (m + k) (judged_as start (m + k) heard) → IsSafeRecording m k heard
+safe_as_it_is law m k start heard running pos passes = law m k heard pos (subst (λ (x : LogStart). LogPasses (m + k) (judged_as x (m + k) heard)) running passes)

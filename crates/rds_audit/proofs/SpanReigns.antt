@@ -1,6 +1,6 @@
--- Lemmas: up to the first fault of a service, its spans are its reigns and break no rule, and the first fault that its list
--- adds is the rule that its newest mark breaks first.
-use Rattle.std.proofs.Common.{◌≡◌, ◌≢◌, ◌⊎◌, ◌+◌, ◌<◌, ◌≤◌, ◌&&◌, not, max, ℕ, Bool, true, false, nat_eq, nat_lt, List, [], ◌∷◌, Option, Some, None, length, cond, refl, sym, ap, ◌∙◌, subst, inl, inr, arith}
+-- Lemmas: up to the first fault of a service, its spans are its reigns and break no rule; marks that add nothing to its list
+-- pass.
+use Rattle.std.proofs.Common.{◌≡◌, ◌≢◌, ◌⊎◌, ◌+◌, ◌<◌, ◌≤◌, ◌&&◌, ◌||◌, not, max, ℕ, Bool, true, false, nat_eq, nat_lt, List, [], ◌∷◌, Option, Some, None, length, cond, refl, sym, ap, ◌∙◌, subst, inl, inr, arith}
 use Rattle.std.specs.Prelude.{is_some}
 use Rattle.std.specs.List.{AllByRecursion, list_all, list_any}
 use Rattle.std.proofs.lemmas.Bool.{and_from, and_parts, cases_lt, cond_both, false_from_ne_true, leb-true, le-leb, le-ltb, lt-ltb, ltb-false, ltb-true, or_from, true_from_ne_false}
@@ -17,10 +17,9 @@ use Rattle.rds_audit.specs.Listing.{SentFragment, Span, added, broken_by, broken
 use Rattle.rds_audit.specs.ListingLaws.{IsFormedMark}
 use Rattle.rds_audit.specs.AuditStandsAt.{first_slot, reign_of, reigns_of}
 use Rattle.rds_audit.specs.Reigns.{Reign, SentTags, after_fragment, after_tags, joins, past_newest, reigns, with_fragment, opened_by}
-use Rattle.rds_audit.specs.Rules.{AreUnchanged, CanBeBroadcast, HaveOneValue, IsAfterFragment, IsBrokenBy, IsBrokenByFragment, IsBrokenByTags, Passes}
-use Rattle.rds_audit.proofs.Faults.{mark_fails}
-use Rattle.rds_audit.proofs.Keeping.{AreKept, keeps}
-use Rattle.rds_audit.proofs.Sending.{TagsAreAfter, after_later, early, sent_before}
+use Rattle.rds_audit.specs.Rules.{AreUnchanged, CanBeBroadcast, HaveOneValue, IsAfterFragment, Passes}
+use Rattle.rds_audit.proofs.Keeping.{AreKept, Keeps, keeps}
+use Rattle.rds_audit.proofs.Sending.{TagsAreAfter, after_later, early, fragment_is_marked, sent_before}
 use Rattle.rds_audit.proofs.SentCells.{are_unchanged, holds_unchanged, unchanged_by}
 use Rattle.rds_audit.proofs.SpanOrder.{bytes_at, bytes_of, bytes_same, same_bytes_are}
 use Rattle.rds_audit.proofs.SpanSteps.{sets_are}
@@ -80,18 +79,13 @@ after_some : (d : ℕ) (sent : List Mark) (rs : List Reign) → AreKept d sent r
 after_some d sent [] k some = absurd (some refl)
 after_some d sent (r ∷ older) k some = record { slot = r.opened; fragment = k.0.first; is_sent = k.0.opened; before = early sent r.opened (Sends k.0.first) k.0.opened }
 
--- each fragment allows some length, or not
-abbrev AllFit : Gauge → List Fragment → Type 0
-AllFit g fragments = AllByRecursion (λ (p : Fragment). is_some (g.allowed p.address p.bytes) ≡ true) fragments
-
-fits_or_not : (g : Gauge) (fragments : List Fragment) → AllFit g fragments ⊎ (AllFit g fragments → ⊥)
-fits_or_not g [] = inl tt
-fits_or_not g (p ∷ rest) = by (is_some (g.allowed p.address p.bytes)) refl (fits_or_not g rest)
-  where
-    by : (v : Bool) → is_some (g.allowed p.address p.bytes) ≡ v → AllFit g rest ⊎ (AllFit g rest → ⊥) → AllFit g (p ∷ rest) ⊎ (AllFit g (p ∷ rest) → ⊥)
-    by true e (inl all) = inl (e, all)
-    by true e (inr none) = inr (λ all. none all.1)
-    by false e rest = inr (λ all. (let some = all.0 in absurd (cc)))
+-- what passes with tags has a reign for them
+tagged_some : (d : ℕ) (kind : Kind) (pair : PairFields) (before : List Mark) (rs : List Reign) → Keeps d before rs → Passes d kind (Tagged pair ∷ before) → rs ≡ [] → ⊥
+tagged_some d kind pair before [] k passes e =
+    let w = passes.tagged (length before) pair (inl (refl, refl)) in
+    let sent = sent_before (Tagged pair) before w.slot (Sends w.fragment) w.before w.is_sent in
+    k.1 w.slot (fragment_is_marked before w.slot w.fragment sent) w.fragment sent
+tagged_some d kind pair before (r ∷ older) k passes e = (cc)
 
 -- ---- the rules that a span breaks
 
@@ -126,23 +120,13 @@ module _ (g : Gauge) (exact : IsExact g) (d : ℕ) where
       sets_are _ _ changed early (ap not (one_fits r r.tags can.one)) (none_early d r.start r.tags can.lasted)
       (le-ltb _ _ (exact.measured (fragments_in r.fragments) r.tags can.one).ends)
 
-  -- the first rule that a span with one more fragment breaks
-  first_broken : (r : Span) (q : Reign) (older : List Reign) (fault : AuditFault) → r.is_changed ≡ false → r.is_early ≡ false → AllByRecursion (IsFormed g.segments) (fragments_in r.fragments) → AreUnchanged (fragments_in r.fragments)
-      → has_early_tags d r ≡ false → q.start ≤ q.opened → q.fragments ≡ fragments_in r.fragments → q.tags ≡ r.tags → IsBrokenByFragment g.kind (q ∷ older) fault → first_of (broken_by g d r) ≡ Some fault
-  first_broken r q older EarlyFlag changed early formed unchanged tags begun e f b = absurd (omega (arith, b, begun))
-  first_broken r q older Changed changed early formed unchanged tags begun e f b = absurd (b.1 (subst AreUnchanged (sym e) unchanged))
-  first_broken r q older NotOneText changed early formed unchanged tags begun e f b =
-      let none : HaveOneValue g.kind (fragments_in r.fragments) [] → ⊥ = λ one. b.2 (subst (λ (x : List Fragment). HaveOneValue g.kind x []) (sym e) one) in
-      let not_fit : fits g r ≡ false = false_from_ne_true _ (λ fit. none (fits_one r [] formed unchanged fit (omega arith))) in
-      rw (changed, early, not_fit) refl
-  first_broken r q older TagOutside changed early formed unchanged tags begun e f b =
-      let one : HaveOneValue g.kind (fragments_in r.fragments) [] = subst (λ (x : List Fragment). HaveOneValue g.kind x []) e b.1 in
-      let none : HaveOneValue g.kind (fragments_in r.fragments) r.tags → ⊥ = λ one. b.2 (subst (λ (x : List SentTags). HaveOneValue g.kind q.fragments x) (sym f) (subst (λ (x : List Fragment). HaveOneValue g.kind x r.tags) (sym e) one)) in
-      let fit : fits g r ≡ true = one_fits r [] one in
-      let past : nat_lt (lengths_of g.allowed g.longest (fragments_in r.fragments)).most (tags_end r.tags) ≡ true =
-      true_from_ne_false _ (λ within. none (fits_one r r.tags formed unchanged fit (ltb-false _ _ within))) in
-      rw (changed, early, fit, tags, past) refl
-  first_broken r q older EarlyTag changed early formed unchanged tags begun e f b = absurd b
+  -- a span that breaks no rule has one value
+  quiet_one : (r : Span) → AllByRecursion (IsFormed g.segments) (fragments_in r.fragments) → AreUnchanged (fragments_in r.fragments) → broken_by g d r ≡ none_broken → HaveOneValue g.kind (fragments_in r.fragments) r.tags
+  quiet_one r formed unchanged none = fits_one r r.tags formed unchanged (holds (fits g r) (ap (λ (f : FaultSet). f.not_one_text) none)) (ltb-false _ _ (ap (λ (f : FaultSet). f.tag_outside) none))
+    where
+      holds : (b : Bool) → not b ≡ false → b ≡ true
+      holds true e = refl
+      holds false e = absurd (let bad : true ≡ false = e in cc)
 
 -- ---- spans and reigns after one more fragment
 
@@ -250,7 +234,7 @@ module _ (g : Gauge) (exact : IsExact g) (d : ℕ) where
   are_reigns (Tagged pair ∷ before) passes =
       let passed = service_passed_before d g.kind (Tagged pair) before passes in
       let h = are_reigns before passed in
-      let some : reigns_of (spans d before) ≡ [] → ⊥ = λ e. mark_fails d g.kind (Tagged pair) before EarlyTag passes (subst (λ (regs : List Reign). IsBrokenByTags d g.kind (length before) (after_tags (length before) pair regs) EarlyTag) (sym e ∙ h.same) tt) in
+      let some : reigns_of (spans d before) ≡ [] → ⊥ = λ e. tagged_some d g.kind pair before (reigns d before) (keeps d before) passes (sym h.same ∙ e) in
       subst (λ (regs : List Reign). AreReigns g d (Tagged pair ∷ before) (spans_tagged (length before) pair (spans d before)) (after_tags (length before) pair regs)) h.same
       (tags_reigns pair before (spans d before) some
       (subst (λ (regs : List Reign). AllByRecursion (CanBeBroadcast d g.kind) (after_tags (length before) pair regs)) (sym h.same) passes.reigns) record { same = refl; some = h.some; none = h.none })
@@ -274,136 +258,59 @@ module _ (g : Gauge) (exact : IsExact g) (d : ℕ) where
   pub adds_none : (mark : Mark) (before : List Mark) → Passes d g.kind (mark ∷ before) → added g d mark before ≡ none_broken
   adds_none mark before passes = adds_all mark before (are_reigns before (service_passed_before d g.kind mark before passes)).none ∙ (are_reigns (mark ∷ before) passes).none
 
-  only_changed : (q : Reign) (older : List Reign) (fault : AuditFault) → q.start ≤ q.opened → (AreUnchanged q.fragments → ⊥) → IsBrokenByFragment g.kind (q ∷ older) fault → Some Changed ≡ Some fault
-  only_changed q older EarlyFlag begun other b = absurd (omega (arith, b, begun))
-  only_changed q older Changed begun other b = refl
-  only_changed q older NotOneText begun other b = absurd (other b.1)
-  only_changed q older TagOutside begun other b = absurd (other (are_unchanged (g.kind.body b.1.value) q.fragments b.1.has))
-  only_changed q older EarlyTag begun other b = absurd b
-
-  only_early : (q : Reign) (older : List Reign) (fault : AuditFault) → q.opened < q.start → IsBrokenByFragment g.kind (q ∷ older) fault → Some EarlyFlag ≡ Some fault
-  only_early q older EarlyFlag late b = refl
-  only_early q older Changed late b = absurd (omega (arith, b.0, late))
-  only_early q older NotOneText late b = absurd (omega (arith, b.0, late))
-  only_early q older TagOutside late b = absurd (omega (arith, b.0, late))
-  only_early q older EarlyTag late b = absurd b
-
-  fragment_first : (p : Fragment) (before : List Mark) (rs : List Span) (fault : AuditFault) → IsFormed g.segments p → AllByRecursion (CanBeBroadcast d g.kind) (reigns_of rs) → broken_newest g d before rs ≡ none_broken
-      → IsBrokenByFragment g.kind (after_fragment d (length before) p (reigns_of rs)) fault → first_of (broken_newest g d (Sends p ∷ before) (spans_after d (length before) p rs)) ≡ Some fault
-  fragment_first p before [] fault formed was none b =
-      first_broken g exact d (first_of_span (length before) p 0 false false) (reign_of (first_of_span (length before) p 0 false false)) [] fault refl refl (formed, tt) (tt, tt) refl (omega arith) refl refl b
-  fragment_first p before (r ∷ older) fault formed was none b =
-      by_fragment (λ (rs : List Span) (regs : List Reign). IsBrokenByFragment g.kind regs fault → first_of (broken_newest g d (Sends p ∷ before) rs) ≡ Some fault) d (length before) p r older
-      (λ u b. first_broken g exact d (span_with (length before) p r) (with_fragment (length before) p (reign_of r)) (reigns_of older) fault (ap (λ (f : FaultSet). f.changed) none) (ap (λ (f : FaultSet). f.early_flag) none)
-      (formed, exact.formed (fragments_in r.fragments) r.tags was.0.one) u (ap (λ (f : FaultSet). f.early_tag) none) was.0.begun refl refl b)
-      (λ other b. only_changed (with_fragment (length before) p (reign_of r)) (reigns_of older) fault was.0.begun other b)
-      (λ start late b. first_broken g exact d (first_of_span (length before) p start false false) (reign_of (first_of_span (length before) p start false false)) (reigns_of (r ∷ older)) fault refl refl (formed, tt) (tt, tt) refl late refl refl b)
-      (λ start late less b. only_early (reign_of (first_of_span (length before) p late false true)) (reigns_of (r ∷ older)) fault less b)
-      (can_be_unchanged (reign_of r) was.0) b
-
-  tags_first : (pair : PairFields) (before : List Mark) (rs : List Span) (fault : AuditFault) → AllByRecursion (CanBeBroadcast d g.kind) (reigns_of rs) → broken_newest g d before rs ≡ none_broken
-      → IsBrokenByTags d g.kind (length before) (after_tags (length before) pair (reigns_of rs)) fault → first_of (broken_newest g d (Tagged pair ∷ before) (spans_tagged (length before) pair rs)) ≡ Some fault
-  tags_first pair before [] EarlyTag was none b = refl
-  tags_first pair before [] TagOutside was none b = absurd (b.0 tt)
-  tags_first pair before (r ∷ older) EarlyTag was none b =
-      let changed : r.is_changed ≡ false = ap (λ (f : FaultSet). f.changed) none in
-      let turned_early : r.is_early ≡ false = ap (λ (f : FaultSet). f.early_flag) none in
-      rw (changed, turned_early, one_fits g exact d r r.tags was.0.one, lt-ltb (length before) (r.start + d) b) refl
-  tags_first pair before (r ∷ older) TagOutside was none b =
-      let changed : r.is_changed ≡ false = ap (λ (f : FaultSet). f.changed) none in
-      let turned_early : r.is_early ≡ false = ap (λ (f : FaultSet). f.early_flag) none in
-      let early_tags : has_early_tags d r ≡ false = ap (λ (f : FaultSet). f.early_tag) none in
-      let tags : List SentTags = record { slot = length before; pair = pair } ∷ r.tags in
-      let late : nat_lt (length before) (r.start + d) ≡ false = false_from_ne_true _ (λ e. b.0 (ltb-true _ _ e)) in
-      let past : nat_lt (lengths_of g.allowed g.longest (fragments_in r.fragments)).most (tags_end tags) ≡ true =
-      true_from_ne_false _ (λ within. b.1 (fits_one g exact d r tags (exact.formed (fragments_in r.fragments) r.tags was.0.one) (can_be_unchanged (reign_of r) was.0) (one_fits g exact d r r.tags was.0.one) (ltb-false _ _ within))) in
-      rw (changed, turned_early, one_fits g exact d r r.tags was.0.one, late, early_tags, past) refl
-  tags_first pair before rs Changed was none b = absurd b
-  tags_first pair before rs NotOneText was none b = absurd b
-  tags_first pair before rs EarlyFlag was none b = absurd b
-
-  -- the first fault that a slot adds is the rule that its mark breaks first
-  pub adds_first : (mark : Mark) (before : List Mark) (fault : AuditFault) → IsFormedMark g mark → Passes d g.kind before → IsBrokenBy d g.kind mark before fault → first_of (added g d mark before) ≡ Some fault
-  adds_first Nothing before fault formed passes b = absurd b
-  adds_first (Sends p) before fault formed passes b =
-      let h = are_reigns before passes in
-      ap first_of (adds_all (Sends p) before h.none)
-      ∙ fragment_first p before (spans d before) fault formed (subst (AllByRecursion (CanBeBroadcast d g.kind)) (sym h.same) passes.reigns) h.none
-      (subst (λ (regs : List Reign). IsBrokenByFragment g.kind (after_fragment d (length before) p regs) fault) (sym h.same) b)
-  adds_first (Tagged pair) before fault formed passes b =
-      let h = are_reigns before passes in
-      ap first_of (adds_all (Tagged pair) before h.none)
-      ∙ tags_first pair before (spans d before) fault (subst (AllByRecursion (CanBeBroadcast d g.kind)) (sym h.same) passes.reigns) h.none
-      (subst (λ (regs : List Reign). IsBrokenByTags d g.kind (length before) (after_tags (length before) pair regs) fault) (sym h.same) b)
-
   -- ---- the next mark
 
-  -- each of these reigns can be a broadcast, or the newest one breaks a rule first
-  abbrev Judged : List Reign → Type 0
-  Judged regs = AllByRecursion (CanBeBroadcast d g.kind) regs ⊎ ((fault : AuditFault) × IsBrokenByFragment g.kind regs fault)
+  can_be_after : (p : Fragment) (before : List Mark) (rs : List Span) → IsFormed g.segments p → AllByRecursion (CanBeBroadcast d g.kind) (reigns_of rs) → broken_newest g d (Sends p ∷ before) (spans_after d (length before) p rs) ≡ none_broken
+      → AllByRecursion (CanBeBroadcast d g.kind) (after_fragment d (length before) p (reigns_of rs))
+  can_be_after p before [] formed was none = (record { begun = omega arith; lasted = tt; one = quiet_one g exact d (first_of_span (length before) p 0 false false) (formed, tt) (tt, tt) none }, tt)
+  can_be_after p before (r ∷ older) formed was none =
+      by_fragment (λ (rs : List Span) (regs : List Reign). broken_newest g d (Sends p ∷ before) rs ≡ none_broken → AllByRecursion (CanBeBroadcast d g.kind) regs) d (length before) p r older
+      (λ u none. (
+        record { begun = was.0.begun; lasted = was.0.lasted; one = quiet_one g exact d (span_with (length before) p r) (formed, exact.formed (fragments_in r.fragments) r.tags was.0.one) u none },
+        was.1,
+      ))
+      (λ other none. absurd (let bad : true ≡ false = ap (λ (f : FaultSet). f.changed) none in cc))
+      (λ start late none. (record { begun = late; lasted = tt; one = quiet_one g exact d (first_of_span (length before) p start false false) (formed, tt) (tt, tt) none }, was))
+      (λ start late less none. absurd (let bad : true ≡ false = ap (λ (f : FaultSet). f.early_flag) none in cc))
+      (can_be_unchanged (reign_of r) was.0) none
 
-  -- of a reign that starts in time, whose addresses did not change and whose tags are late enough
-  judged_content : (q : Reign) (older : List Reign) → AllByRecursion (CanBeBroadcast d g.kind) older → AllByRecursion (IsFormed g.segments) q.fragments → AreUnchanged q.fragments → q.start ≤ q.opened
-      → AllByRecursion (λ (s : SentTags). q.start + d ≤ s.slot) q.tags → Judged (q ∷ older)
-  judged_content q older all formed unchanged begun lasted =
-      let l = lengths_of g.allowed g.longest q.fragments in
-      elim (fits_or_not g q.fragments) [
-        | inr none ↦ inr (NotOneText, (begun, unchanged, λ one. none (exact.measured q.fragments [] one).each))
-        | inl each ↦ elim (cases_lt l.most l.least) [
-          | inl none ↦ inr (NotOneText, (begun, unchanged, λ one. (let room = (exact.measured q.fragments [] one).room in omega (arith, room, none))))
-          | inr room ↦ elim (cases_lt l.most (tags_end q.tags)) [
-            | inl past ↦ inr (TagOutside, (begun, exact.one q.fragments [] formed record { unchanged = unchanged; each = each; room = room; ends = omega arith }, λ one. (let ends = (exact.measured q.fragments q.tags one).ends in omega (arith, ends, past))))
-            | inr ends ↦ inl (record { begun = begun; lasted = lasted; one = exact.one q.fragments q.tags formed record { unchanged = unchanged; each = each; room = room; ends = ends } }, all)
-          ]
-        ]
-      ]
+  can_be_tagged : (pair : PairFields) (before : List Mark) (rs : List Span) → AllByRecursion (CanBeBroadcast d g.kind) (reigns_of rs) → broken_newest g d (Tagged pair ∷ before) (spans_tagged (length before) pair rs) ≡ none_broken
+      → (reigns_of rs ≡ [] → ⊥) × AllByRecursion (CanBeBroadcast d g.kind) (after_tags (length before) pair (reigns_of rs))
+  can_be_tagged pair before [] was none = absurd (let bad : true ≡ false = ap (λ (f : FaultSet). f.early_tag) none in cc)
+  can_be_tagged pair before (r ∷ older) was none = (
+    (λ e. (cc)),
+    (
+      record {
+        begun = was.0.begun;
+        lasted = (late, was.0.lasted);
+        one = quiet_one g exact d record r { last = length before; tags = record { slot = length before; pair = pair } ∷ r.tags } (exact.formed (fragments_in r.fragments) r.tags was.0.one) (can_be_unchanged (reign_of r) was.0) none;
+      },
+      was.1,
+    ),
+  )
+    where
+      not_first : (x y : Bool) → (x || y) ≡ false → x ≡ false
+      not_first true y e = absurd (let bad : true ≡ false = e in cc)
+      not_first false y e = refl
 
-  fragment_judged : (slot : ℕ) (p : Fragment) (rs : List Span) → IsFormed g.segments p → AllByRecursion (CanBeBroadcast d g.kind) (reigns_of rs) → Judged (after_fragment d slot p (reigns_of rs))
-  fragment_judged slot p [] formed was = judged_content (opened_by d slot p []) [] tt (formed, tt) (tt, tt) (omega arith) tt
-  fragment_judged slot p (r ∷ older) formed was =
-      by_fragment (λ (rs : List Span) (regs : List Reign). Judged regs) d slot p r older
-      (λ u. judged_content (with_fragment slot p (reign_of r)) (reigns_of older) was.1 (formed, exact.formed (fragments_in r.fragments) r.tags was.0.one) u was.0.begun was.0.lasted)
-      (λ other. inr (Changed, (was.0.begun, other)))
-      (λ start late. judged_content (reign_of (first_of_span slot p start false false)) (reigns_of (r ∷ older)) was (formed, tt) (tt, tt) late tt)
-      (λ start late less. inr (EarlyFlag, less))
-      (can_be_unchanged (reign_of r) was.0)
+      late : r.start + d ≤ length before
+      late = ltb-false _ _ (not_first (nat_lt (length before) (r.start + d)) _ (ap (λ (f : FaultSet). f.early_tag) none))
 
-  tags_judged : (slot : ℕ) (pair : PairFields) (regs : List Reign) → AllByRecursion (CanBeBroadcast d g.kind) regs
-      → ((regs ≡ [] → ⊥) × AllByRecursion (CanBeBroadcast d g.kind) (after_tags slot pair regs)) ⊎ ((fault : AuditFault) × IsBrokenByTags d g.kind slot (after_tags slot pair regs) fault)
-  tags_judged slot pair [] was = inr (EarlyTag, tt)
-  tags_judged slot pair (r ∷ older) was =
-      let m = exact.measured r.fragments r.tags was.0.one in
-      let tags : List SentTags = record { slot = slot; pair = pair } ∷ r.tags in
-      elim (cases_lt slot (r.start + d)) [
-        | inl early ↦ inr (EarlyTag, early)
-        | inr late ↦ elim (cases_lt (lengths_of g.allowed g.longest r.fragments).most (tags_end tags)) [
-          | inl past ↦ inr (TagOutside, ((λ early. omega (arith, early, late)), λ one. (let ends = (exact.measured r.fragments tags one).ends in omega (arith, ends, past))))
-          | inr ends ↦ inl (
-            (λ e. (let e = e in absurd (cc))),
-            (
-              record {
-                begun = was.0.begun;
-                lasted = (late, was.0.lasted);
-                one = exact.one r.fragments tags (exact.formed r.fragments r.tags was.0.one) record { unchanged = can_be_unchanged r was.0; each = m.each; room = m.room; ends = ends };
-              },
-              was.1,
-            ),
-          )
-        ]
-      ]
-
-  -- a mark after marks that pass: the service passes with it too, or it breaks a rule first
-  pub service_judged : (mark : Mark) (before : List Mark) → IsFormedMark g mark → Passes d g.kind before → Passes d g.kind (mark ∷ before) ⊎ ((fault : AuditFault) × IsBrokenBy d g.kind mark before fault)
-  service_judged Nothing before formed passes = inl record { reigns = passes.reigns; tagged = tags_after Nothing before (λ pair e. (cc)) passes.tagged }
-  service_judged (Sends p) before formed passes =
+  -- a mark that adds nothing to marks that pass: they pass with it too
+  pub quiet_passes : (mark : Mark) (before : List Mark) → IsFormedMark g mark → Passes d g.kind before → added g d mark before ≡ none_broken → Passes d g.kind (mark ∷ before)
+  quiet_passes Nothing before formed passes none = record { reigns = passes.reigns; tagged = tags_after Nothing before (λ pair e. (cc)) passes.tagged }
+  quiet_passes (Sends p) before formed passes none =
       let h = are_reigns before passes in
-      let judged : Judged (reigns d (Sends p ∷ before)) = subst (λ (regs : List Reign). Judged (after_fragment d (length before) p regs)) h.same
-      (fragment_judged (length before) p (spans d before) formed (subst (AllByRecursion (CanBeBroadcast d g.kind)) (sym h.same) passes.reigns)) in
-      elim judged [
-        | inl all ↦ inl record { reigns = all; tagged = tags_after (Sends p) before (λ pair e. (cc)) passes.tagged }
-        | inr b ↦ inr b
-      ]
-  service_judged (Tagged pair) before formed passes = elim (tags_judged (length before) pair (reigns d before) passes.reigns) [
-    | inl (some, all) ↦ inl record { reigns = all; tagged = tagged_after pair before (after_some d before (reigns d before) (keeps d before).0 some) passes.tagged }
-    | inr b ↦ inr b
-  ]
+      record {
+        reigns =
+            subst (λ (regs : List Reign). AllByRecursion (CanBeBroadcast d g.kind) (after_fragment d (length before) p regs)) h.same
+            (can_be_after p before (spans d before) formed (subst (AllByRecursion (CanBeBroadcast d g.kind)) (sym h.same) passes.reigns) (sym (adds_all (Sends p) before h.none) ∙ none));
+        tagged = tags_after (Sends p) before (λ pair e. (cc)) passes.tagged;
+      }
+  quiet_passes (Tagged pair) before formed passes none =
+      let h = are_reigns before passes in
+      let can = can_be_tagged pair before (spans d before) (subst (AllByRecursion (CanBeBroadcast d g.kind)) (sym h.same) passes.reigns) (sym (adds_all (Tagged pair) before h.none) ∙ none) in
+      record {
+        reigns = subst (λ (regs : List Reign). AllByRecursion (CanBeBroadcast d g.kind) (after_tags (length before) pair regs)) h.same can.1;
+        tagged = tagged_after pair before (after_some d before (reigns d before) (keeps d before).0 (λ e. can.0 (h.same ∙ e))) passes.tagged;
+      }

@@ -18,7 +18,7 @@ use Rattle.rds_audit.specs.ReignsState.{ContentState, HoldsNoOther, ReignsState,
 use Rattle.rds_audit.specs.Lengths.{Gauge, IsFormed, lengths_of, narrowed, pair_end, tags_end}
 use Rattle.rds_audit.specs.Listing.{SentFragment, Span, added, broken_by, broken_newest, first_of_span, fragments_in, has_early_tags, is_tagged, joined, newest_at, none_broken, not_before, past_span, same_bytes, span_with, spans, spans_after, spans_tagged, turned}
 use Rattle.rds_audit.specs.AuditState.{SpansState, are_early, began_before, comes_early, is_turned, judged_ends, judged_fragment, opened_in, put_in, repeated_in, tagged_in}
-use Rattle.rds_audit.specs.Recording.{IsSilentAs}
+use Rattle.rds_audit.specs.Recording.{silent_as}
 use Rattle.rds_audit.proofs.AgeSteps.{AreOver, ages_begun, ages_later, ages_renewed, joins_near, near_joins, none_joins}
 use Rattle.rds_audit.proofs.ContentSteps.{empty_content, taken_content, tagged_content}
 use Rattle.rds_audit.proofs.HeldAgain.{set_held}
@@ -413,8 +413,8 @@ silent_tags : (lost : ℕ) → list_any is_tagged (replicate lost Nothing) ≡ f
 silent_tags zero = refl
 silent_tags (suc n) = silent_tags n
 
-pub silent_follows : (g : Gauge) (start : LogStart) (d : ℕ) (sent : List Mark) (s : SpansState) → IsSilentAs start d sent → s.reigns ≡ record { ages = ages_at start d; content = no_content g.longest } → s.count ≡ 0 → s.broken ≡ none_broken → HoldsSpans g d sent s
-silent_follows g start d sent s is e count broken = by start is e
+pub silent_follows : (g : Gauge) (start : LogStart) (d : ℕ) (s : SpansState) → s.reigns ≡ record { ages = ages_at start d; content = no_content g.longest } → s.count ≡ 0 → s.broken ≡ none_broken → HoldsSpans g d (silent_as start d) s
+silent_follows g start d s e count broken = by start e
   where
     silent : (start : LogStart) (lost : ℕ) → age_at start d ≡ min (lost + d) (2 * d) → s.reigns ≡ record { ages = ages_at start d; content = no_content g.longest } → HoldsSpans g d (replicate lost Nothing) s
     silent start lost age e = rw (silent_spans d lost, silent_length lost) record {
@@ -424,6 +424,6 @@ silent_follows g start d sent s is e count broken = by start is e
       broken = broken ∙ ap (λ b. record none_broken { early_tag = b }) (sym (silent_tags lost));
     }
 
-    by : (start : LogStart) → IsSilentAs start d sent → s.reigns ≡ record { ages = ages_at start d; content = no_content g.longest } → HoldsSpans g d sent s
-    by Complete is e = subst (λ (x : List Mark). HoldsSpans g d x s) (sym is) (silent Complete 0 (omega arith) e)
-    by Running (lost, far, is) e = subst (λ (x : List Mark). HoldsSpans g d x s) (sym is) (silent Running lost (omega arith) e)
+    by : (start : LogStart) → s.reigns ≡ record { ages = ages_at start d; content = no_content g.longest } → HoldsSpans g d (silent_as start d) s
+    by Complete e = silent Complete 0 (omega arith) e
+    by Running e = silent Running d (omega arith) e

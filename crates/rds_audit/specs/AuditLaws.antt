@@ -13,7 +13,8 @@ use Rattle.rds_safety.specs.OwnClock.{ListensByOwnClock}
 use Rattle.rds_safety.specs.Plans.{AreLawful, Plans}
 use Rattle.rds_audit.specs.Recording.{from_first_text, preceded}
 use Rattle.rds_audit.specs.Reigns.{Reign, SentTags, reigns}
-use Rattle.rds_audit.specs.Rules.{IsFaultOf, LogPasses}
+use Rattle.rds_audit.specs.Listing.{IsFaultOf}
+use Rattle.rds_audit.specs.Rules.{LogPasses}
 use Rattle.rds_safety.specs.Safe.{AreSafe, Listener, ListensTo}
 
 -- a log passes exactly if it has plans that are lawful and dense
@@ -63,11 +64,6 @@ BroadcastsAreTheReigns kind = (d : ℕ) (plan : List Broadcast) (sent : List Mar
 abbrev pub WhatHasAFaultDoesNotPass : Type 0
 WhatHasAFaultDoesNotPass =
     (d : ℕ) (log : List (Option Message)) (fault : AuditFault) → 0 < d → IsFaultOf d log fault → LogPasses d log → ⊥
-
--- and it has only one fault
-abbrev pub ALogHasOneFault : Type 0
-ALogHasOneFault = (d : ℕ) (log : List (Option Message)) (f g : AuditFault) → 0 < d → IsFaultOf d log f
-    → IsFaultOf d log g → f ≡ g
 
 -- some plans of the log are lawful and dense, and make each slot safe for any number of receivers of dwell m: for those
 -- at most k slots late, and for those with clocks of their own by which fewer than m slots are fewer than m + k of the

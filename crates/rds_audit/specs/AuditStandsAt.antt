@@ -8,12 +8,12 @@ use Rattle.rds_audit.specs.declared.audit.AuditFault.{AuditFault}
 use Rattle.rds_audit.specs.declared.fault_set.FaultSet.{FaultSet}
 use Rattle.rds_audit.specs.Ages.{HoldsAges}
 use Rattle.rds_audit.specs.Lengths.{Gauge, lengths_of, name_gauge, sent_last, tags_end, text_gauge}
-use Rattle.rds_audit.specs.Listing.{SentFragment, Span, broken_newest, first_of, fragments_in, slot_adds, spans}
+use Rattle.rds_audit.specs.Listing.{IsFaultOf, SentFragment, Span, broken_newest, first_of, fragments_in, slot_adds, spans}
 use Rattle.rds_audit.specs.AuditState.{AuditState, SpansState}
 use Rattle.rds_audit.specs.ReignsState.{ContentState, cell_at}
-use Rattle.rds_audit.specs.Recording.{IsJudgedAs, counted_as}
+use Rattle.rds_audit.specs.Recording.{counted_as, judged_as}
 use Rattle.rds_audit.specs.Reigns.{Reign, SentTags}
-use Rattle.rds_audit.specs.Rules.{IsFaultOf, LogPasses}
+use Rattle.rds_audit.specs.Rules.{LogPasses}
 use Rattle.rds_safety.specs.Marks.{Mark, marks, name_mark, text_mark}
 
 -- the slot of the oldest of these fragments
@@ -95,24 +95,22 @@ pub record AuditStandsAt (pi d : ℕ) (a : AuditState) (log : List (Option Group
   pub lasts : 0 < d
   pub heard : List (Option Message)
   pub are : AreHeard pi log heard
-  pub holds : (judged : List (Option Message)) → IsJudgedAs a.start d heard judged → HasJudged d a judged
+  pub holds : HasJudged d a (judged_as a.start d heard)
 
 -- this holds of the spacing of each log that the audit stands at, and of its messages as they are judged
 abbrev pub WhereTheAuditStands : AuditState → (ℕ → List (Option Message) → Type 0) → Type 0
 WhereTheAuditStands a Holds =
-    (pi d : ℕ) (log : List (Option Group)) (s : AuditStandsAt pi d a log) (judged : List (Option Message))
-    → IsJudgedAs a.start d s.heard judged → Holds d judged
+    (pi d : ℕ) (log : List (Option Group)) (s : AuditStandsAt pi d a log) → Holds d (judged_as a.start d s.heard)
 
 -- the audit stands at the log, and its state follows from all of the log, after a fault too
 pub record FollowsLog (pi d : ℕ) (a : AuditState) (log : List (Option Group)) : Type 0 where
   pub at : AuditStandsAt pi d a log
-  pub holds : (judged : List (Option Message)) → IsJudgedAs a.start d at.heard judged → HoldsLog d judged a
+  pub holds : HoldsLog d (judged_as a.start d at.heard) a
 
 -- this holds of the spacing of each log that the audit follows, and of its messages as they are judged
 abbrev pub WhereItFollows : AuditState → (ℕ → List (Option Message) → Type 0) → Type 0
 WhereItFollows a Holds =
-    (pi d : ℕ) (log : List (Option Group)) (s : FollowsLog pi d a log) (judged : List (Option Message))
-    → IsJudgedAs a.start d s.at.heard judged → Holds d judged
+    (pi d : ℕ) (log : List (Option Group)) (s : FollowsLog pi d a log) → Holds d (judged_as a.start d s.at.heard)
 
 -- the audit took the next slot, with this group or with none: it stands at the log with that slot; the result is its
 -- fault, which is that of the log; after a fault the result is that fault, and nothing changes
@@ -135,8 +133,8 @@ pub record TakesAll (a after : AuditState) (group : Option Group) (result : Faul
   pub follows : (pi d : ℕ) (log : List (Option Group)) → FollowsLog pi d a log
       → FollowsLog pi d after (group ∷ log)
   pub adds : (pi d : ℕ) (log : List (Option Group)) (s : FollowsLog pi d a log) (message : Option Message)
-      → Hears pi group message → (judged : List (Option Message)) → IsJudgedAs a.start d s.at.heard judged
-      → result ≡ slot_adds d (counted_as a.start judged message) judged
+      → Hears pi group message
+      → result ≡ slot_adds d (counted_as a.start (judged_as a.start d s.at.heard) message) (judged_as a.start d s.at.heard)
   pub start : after.start ≡ a.start
   pub first : a.fault ≡ None → after.fault ≡ first_of result
   pub again : (fault : AuditFault) → a.fault ≡ Some fault → after.fault ≡ Some fault

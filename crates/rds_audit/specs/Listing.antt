@@ -1,7 +1,7 @@
 -- The list of all faults of a log (this project's own rule). It judges spans. A span is like a reign, with one
 -- difference: other bytes at an address of the current span begin a span too, as though the flag had turned. Each span
 -- has each fault at most once, in the first slot in which it breaks the rule. Lists have the newest first.
-use Rattle.std.specs.Prelude.{◌+◌, ◌==◌, ◌&&◌, ◌||◌, [], ◌∷◌, ℕ, Bool, true, false, List, Option, Some, None}
+use Rattle.std.specs.Prelude.{◌≡◌, ◌+◌, ◌==◌, ◌&&◌, ◌||◌, [], ◌∷◌, ℕ, Bool, true, false, List, Option, Some, None}
 use Rattle.std.specs.Prelude.{is_some, length, map, max, nat_le, nat_lt, not, if◌then◌else◌}
 use Rattle.std.specs.List.{list_all, list_any}
 use Rattle.rds_fields.specs.declared.message.Message.{Message}
@@ -210,3 +210,17 @@ abbrev pub first_of : FaultSet → Option AuditFault
 first_of f =
     if f.changed then Some Changed else if f.early_flag then Some EarlyFlag else if f.not_one_text then Some NotOneText
     else if f.early_tag then Some EarlyTag else if f.tag_outside then Some TagOutside else None
+
+-- the first of two
+abbrev pub or_else : Option AuditFault → Option AuditFault → Option AuditFault
+or_else None next = next
+or_else (Some fault) next = Some fault
+
+-- the fault of a log: the first one of the first slot that adds any to its list
+abbrev pub first_fault : ℕ → List (Option Message) → Option AuditFault
+first_fault d [] = None
+first_fault d (newest ∷ before) = or_else (first_fault d before) (first_of (slot_adds d newest before))
+
+-- this is the fault of the log
+abbrev pub IsFaultOf : ℕ → List (Option Message) → AuditFault → Type 0
+IsFaultOf d log fault = first_fault d log ≡ Some fault

@@ -1,15 +1,15 @@
 -- The laws of the list of all faults: up to the first fault it judges what the audit judges. Lists have the newest
 -- first.
-use Rattle.std.specs.Prelude.{◌≡◌, ◌∷◌, ℕ, List, Option, Some}
+use Rattle.std.specs.Prelude.{◌≡◌, ◌∷◌, ℕ, List, Option, None}
+use Rattle.std.specs.List.{AllByRecursion}
 use Rattle.rds_fields.specs.declared.message.Message.{Message}
-use Rattle.rds_audit.specs.declared.audit.AuditFault.{AuditFault}
 use Rattle.rds_audit.specs.Lengths.{Gauge, IsFormed, name_gauge, text_gauge}
-use Rattle.rds_audit.specs.Listing.{first_of, none_broken, slot_adds, spans}
+use Rattle.rds_audit.specs.Listing.{first_fault, none_broken, slot_adds, spans}
 use Rattle.rds_audit.specs.AuditStandsAt.{reigns_of}
 use Rattle.rds_safety.specs.Lawful.{Kind}
 use Rattle.rds_safety.specs.Marks.{Mark, Nothing, Sends, Tagged, name_mark, text_mark}
 use Rattle.rds_audit.specs.Reigns.{reigns}
-use Rattle.rds_audit.specs.Rules.{BreaksFirst, LogPasses, Passes}
+use Rattle.rds_audit.specs.Rules.{LogPasses, Passes}
 
 -- the fragment of a mark, if it has one, has the form that the service sends
 abbrev pub IsFormedMark : Gauge → Mark → Type 0
@@ -32,8 +32,8 @@ WhatPassesAddsNothing =
     (d : ℕ) (newest : Option Message) (before : List (Option Message)) → LogPasses d (newest ∷ before)
     → slot_adds d newest before ≡ none_broken
 
--- the first fault that the first failing slot adds is the rule that it breaks first
-abbrev pub TheListBeginsWithTheFault : Type 0
-TheListBeginsWithTheFault =
-    (d : ℕ) (newest : Option Message) (before : List (Option Message)) (fault : AuditFault) → IsFormedMessage newest
-    → LogPasses d before → BreaksFirst d newest before fault → first_of (slot_adds d newest before) ≡ Some fault
+-- a log of messages in the form that is sent passes if it has no fault
+abbrev pub WhatHasNoFaultPasses : Type 0
+WhatHasNoFaultPasses =
+    (d : ℕ) (log : List (Option Message)) → AllByRecursion IsFormedMessage log → first_fault d log ≡ None
+    → LogPasses d log

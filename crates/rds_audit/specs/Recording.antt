@@ -1,7 +1,7 @@
 -- A log that begins in the middle (this project's own rule). A recording begins while its station is on air. So its
 -- first text may have started at any time before, and its first tags may be of a text that was sent before it. Lists
 -- have the newest first.
-use Rattle.std.specs.Prelude.{◌≡◌, ◌≤◌, ◌++◌, ℕ, Bool, true, false, List, [], ◌∷◌, Option, Some, None, replicate}
+use Rattle.std.specs.Prelude.{◌++◌, ℕ, Bool, true, false, List, [], ◌∷◌, Option, Some, None, replicate}
 use Rattle.std.specs.Prelude.{if◌then◌else◌}
 use Rattle.rds_fields.specs.declared.message.Message.{Message}
 use Rattle.rds_fields.specs.declared.message.Message.TheVariants.{Text, Name, Announce, Tags, Other}
@@ -37,11 +37,11 @@ from_first_text (newest ∷ before) = counted (from_first_text before) newest �
 abbrev pub preceded : ℕ → List (Option Message) → List (Option Message)
 preceded lost log = log ++ replicate lost None
 
--- what the audit judges: a complete log as it is; the log of a running station with d slots or more in front in which
--- nothing was sent, and without the tags before the first text segment
-abbrev pub IsJudgedAs : LogStart → ℕ → List (Option Message) → List (Option Message) → Type 0
-IsJudgedAs Complete d log judged = judged ≡ log
-IsJudgedAs Running d log judged = (lost : ℕ) × (d ≤ lost) × (judged ≡ from_first_text (preceded lost log))
+-- what the audit judges: a complete log as it is; the log of a running station with d slots in front in which nothing
+-- was sent, and without the tags before the first text segment
+abbrev pub judged_as : LogStart → ℕ → List (Option Message) → List (Option Message)
+judged_as Complete d log = log
+judged_as Running d log = from_first_text (preceded d log)
 
 -- the message that is judged in the slot after these
 abbrev pub counted_as : LogStart → List (Option Message) → Option Message → Option Message
@@ -49,6 +49,6 @@ counted_as Complete judged message = message
 counted_as Running judged message = counted judged message
 
 -- the marks that are judged before the first slot of a log
-abbrev pub IsSilentAs : LogStart → ℕ → List Mark → Type 0
-IsSilentAs Complete d sent = sent ≡ []
-IsSilentAs Running d sent = (lost : ℕ) × (d ≤ lost) × (sent ≡ replicate lost Nothing)
+abbrev pub silent_as : LogStart → ℕ → List Mark
+silent_as Complete d = []
+silent_as Running d = replicate d Nothing

@@ -1,6 +1,5 @@
--- The rules of the audit (this project's own): when a log passes, and which rule a slot breaks first. A log passes if
--- each of its reigns can be a broadcast, from its start to its last slot, and tags come after a segment. Lists have the
--- newest first.
+-- The rules of the audit (this project's own): when a log passes. A log passes if each of its reigns can be a broadcast,
+-- from its start to its last slot, and tags come after a segment. Lists have the newest first.
 use Rattle.std.specs.Prelude.{◌≡◌, ◌≤◌, ◌<◌, ◌+◌, ◌⊎◌, ℕ, List, [], ◌∷◌, Option, length}
 use Rattle.std.specs.List.{AllByRecursion}
 use Rattle.rds_fields.specs.declared.message.Message.{Message}
@@ -49,52 +48,3 @@ abbrev pub AreUnchanged : List Fragment → Type 0
 AreUnchanged [] = Unit {0}
 AreUnchanged (newest ∷ older) =
     AllByRecursion (λ (p : Fragment). p.address ≡ newest.address → p.bytes ≡ newest.bytes) older × AreUnchanged older
-
--- the rule that a fragment breaks first, by the newest reign after it: the reign starts too late; or else an address
--- was sent with other bytes; or else no value has its fragments; or else one has, and tags end past each such value
-abbrev pub IsBrokenByFragment : Kind → List Reign → AuditFault → Type 0
-IsBrokenByFragment kind [] fault = ⊥
-IsBrokenByFragment kind (r ∷ older) EarlyFlag = r.opened < r.start
-IsBrokenByFragment kind (r ∷ older) Changed = (r.start ≤ r.opened) × (AreUnchanged r.fragments → ⊥)
-IsBrokenByFragment kind (r ∷ older) NotOneText =
-    (r.start ≤ r.opened) × AreUnchanged r.fragments × (HaveOneValue kind r.fragments [] → ⊥)
-IsBrokenByFragment kind (r ∷ older) TagOutside =
-    (r.start ≤ r.opened) × HaveOneValue kind r.fragments [] × (HaveOneValue kind r.fragments r.tags → ⊥)
-IsBrokenByFragment kind (r ∷ older) EarlyTag = ⊥
-
--- tags come too early: there is no reign, or its start is less than d slots before
-abbrev pub ComeEarly : ℕ → ℕ → List Reign → Type 0
-ComeEarly d slot [] = Unit {0}
-ComeEarly d slot (r ∷ older) = slot < r.start + d
-
--- no value has the fragments of the newest reign with all of its tags
-abbrev pub EndOutside : Kind → List Reign → Type 0
-EndOutside kind [] = ⊥
-EndOutside kind (r ∷ older) = HaveOneValue kind r.fragments r.tags → ⊥
-
--- the rule that tags break first, by the reigns after them
-abbrev pub IsBrokenByTags : ℕ → Kind → ℕ → List Reign → AuditFault → Type 0
-IsBrokenByTags d kind slot rs EarlyTag = ComeEarly d slot rs
-IsBrokenByTags d kind slot rs TagOutside = (ComeEarly d slot rs → ⊥) × EndOutside kind rs
-IsBrokenByTags d kind slot rs Changed = ⊥
-IsBrokenByTags d kind slot rs NotOneText = ⊥
-IsBrokenByTags d kind slot rs EarlyFlag = ⊥
-
--- the rule that the newest mark breaks first
-abbrev pub IsBrokenBy : ℕ → Kind → Mark → List Mark → AuditFault → Type 0
-IsBrokenBy d kind Nothing before fault = ⊥
-IsBrokenBy d kind (Sends p) before fault = IsBrokenByFragment kind (reigns d (Sends p ∷ before)) fault
-IsBrokenBy d kind (Tagged pair) before fault =
-    IsBrokenByTags d kind (length before) (reigns d (Tagged pair ∷ before)) fault
-
--- the rule that the newest slot breaks first, for texts or for names
-abbrev pub BreaksFirst : ℕ → Option Message → List (Option Message) → AuditFault → Type 0
-BreaksFirst d newest before fault =
-    IsBrokenBy d texts (text_mark newest) (marks text_mark before) fault
-    ⊎ IsBrokenBy d names (name_mark newest) (marks name_mark before) fault
-
--- the fault of a log: the rule that its first failing slot breaks first
-abbrev pub IsFaultOf : ℕ → List (Option Message) → AuditFault → Type 0
-IsFaultOf d [] fault = ⊥
-IsFaultOf d (newest ∷ before) fault =
-    (LogPasses d before × BreaksFirst d newest before fault) ⊎ IsFaultOf d before fault

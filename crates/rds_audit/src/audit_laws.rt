@@ -1,10 +1,10 @@
 //! Laws about all logs that are audited: when a log passes, that it has one fault at most, what is safe if it passes,
-//! and how the list of all its faults begins.
-ghost use Rattle.rds_audit.specs.AuditLaws.{ALogHasOneFault, BroadcastsAreTheReigns, PassesExactlyByPlans};
+//! and what the list of its faults judges.
+ghost use Rattle.rds_audit.specs.AuditLaws.{BroadcastsAreTheReigns, PassesExactlyByPlans};
 ghost use Rattle.rds_audit.specs.AuditLaws.{WhatHasAFaultDoesNotPass, WhatPassesAsARecordingIsSafe};
 ghost use Rattle.rds_audit.specs.AuditLaws.{WhatPassesIsSafe, WhatPassesIsSafeOnTime};
 ghost use Rattle.rds_audit.specs.FlagLaws.{WhatPassesIsSafeByTheFlag, WithoutPauseFlagsAlternate};
-ghost use Rattle.rds_audit.specs.ListingLaws.{SpansAreReigns, TheListBeginsWithTheFault, WhatPassesAddsNothing};
+ghost use Rattle.rds_audit.specs.ListingLaws.{SpansAreReigns, WhatHasNoFaultPasses, WhatPassesAddsNothing};
 ghost use Rattle.rds_safety.specs.Lawful.{names, texts};
 
 use rds_safety::{own_clocks, plan_laws, safe_by_plans, safe_by_the_flag};
@@ -43,13 +43,11 @@ pub fn what_passes_as_a_recording_is_safe()
     own_clocks();
 }
 
-/// States that a log with a fault does not pass, and that it has only one fault.
-pub fn one_fault()
+/// States that a log passes exactly if it has no fault.
+pub fn passes_without_a_fault()
     ensures fails { WhatHasAFaultDoesNotPass }
-    ensures one { ALogHasOneFault }
-{
-    passes_by_plans();
-}
+    ensures passes { WhatHasNoFaultPasses }
+{}
 
 /// States a promise to receivers with the flag bit alone: if the flag of a log that passes turns from each reign to the
 /// next, and they hear a segment of each reign, they show only texts, names and tags of the plans. The flag always
@@ -62,11 +60,9 @@ pub fn what_passes_is_safe_by_the_flag()
     safe_by_the_flag();
 }
 
-/// States that up to the first fault the list of a log judges the reigns of the audit and is empty, and that it begins
-/// with the fault of the log.
-pub fn the_list_begins_with_the_fault()
+/// States that up to the first fault the list of a log judges the reigns of the log, and is empty.
+pub fn the_list_judges_the_reigns()
     ensures texts { SpansAreReigns texts }
     ensures names { SpansAreReigns names }
     ensures empty { WhatPassesAddsNothing }
-    ensures first { TheListBeginsWithTheFault }
 {}

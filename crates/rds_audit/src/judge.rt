@@ -19,7 +19,7 @@ ghost use Rattle.rds_safety.specs.Marks.{marks, name_mark, text_mark};
 use crate::audited::{Names, Texts};
 use crate::stored::StoredAudit;
 use crate::{
-    AuditFault, FaultSet, passes_by_plans, the_list_begins_with_the_fault,
+    AuditFault, FaultSet, passes_by_plans, the_list_judges_the_reigns,
     what_passes_as_a_recording_is_safe, what_passes_is_safe, what_passes_is_safe_by_the_flag,
 };
 use rds_block::Blocks;
@@ -95,7 +95,7 @@ impl StoredAudit {
             (λ d heard. IsTrue result → TextsAreSafeByFlag d heard) }
     {
         // Prover: calls of laws (docs/PROVER.md, "Idioms").
-        the_list_begins_with_the_fault();
+        the_list_judges_the_reigns();
         what_passes_is_safe_by_the_flag();
         self.passed() && self.text.reigns.turns != 0
     }
@@ -108,7 +108,7 @@ impl StoredAudit {
             (λ d heard. IsTrue result → NamesAreSafeByFlag d heard) }
     {
         // Prover: calls of laws (docs/PROVER.md, "Idioms").
-        the_list_begins_with_the_fault();
+        the_list_judges_the_reigns();
         what_passes_is_safe_by_the_flag();
         self.passed() && self.name.reigns.turns != 0
     }

@@ -4,7 +4,7 @@ ghost use Rattle.rds_audit.specs.Listing.{added};
 ghost use Rattle.rds_audit.specs.AuditStandsAt.{HoldsNewestSpans, HoldsSpans, WhereSpansHold};
 ghost use Rattle.rds_audit.specs.AuditState.{aged_in, judged_ends, opened_in, put_in, repeated_in, tagged_in};
 ghost use Rattle.rds_audit.specs.Stored.{spans_stored};
-ghost use Rattle.rds_audit.specs.Recording.{IsSilentAs};
+ghost use Rattle.rds_audit.specs.Recording.{silent_as};
 ghost use Rattle.rds_safety.specs.Marks.{Mark, Sends, Tagged};
 
 use crate::audited::Audited;
@@ -16,8 +16,7 @@ impl StoredSpans {
     /// Makes the state of a service before the first slot of a log that begins so.
     pub(crate) fn new<S: Audited>(distance: Distance, start: LogStart) -> StoredSpans
         requires { 0 < distance }
-        ensures { (sent : List Mark) → IsSilentAs start distance sent
-            → HoldsSpans S.gauge distance sent (spans_stored result) }
+        ensures { HoldsSpans S.gauge distance (silent_as start distance) (spans_stored result) }
     {
         StoredSpans {
             count: 0,

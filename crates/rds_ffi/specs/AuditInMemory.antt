@@ -5,9 +5,9 @@ use Rattle.rds_fields.specs.declared.message.Message.{Message}
 use Rattle.rds_receiver.specs.Receipts.{Hears}
 use Rattle.rds_audit.specs.declared.fault_set.FaultSet.{FaultSet}
 use Rattle.rds_audit.specs.AuditStandsAt.{AuditStandsAt, FollowsLog}
-use Rattle.rds_audit.specs.Listing.{slot_adds}
-use Rattle.rds_audit.specs.Recording.{IsJudgedAs, counted_as}
-use Rattle.rds_audit.specs.Rules.{IsFaultOf, LogPasses}
+use Rattle.rds_audit.specs.Listing.{IsFaultOf, slot_adds}
+use Rattle.rds_audit.specs.Recording.{counted_as, judged_as}
+use Rattle.rds_audit.specs.Rules.{LogPasses}
 use Rattle.rds_audit.specs.declared.log_start.LogStart.{LogStart}
 use Rattle.rds_audit.specs.Stored.{IsStored, audit_stored}
 use Rattle.rds_audit.specs.declared.audit.AuditFault.{AuditFault}
@@ -35,8 +35,8 @@ start_in s = (audit_stored s).start
 -- and this of its number of slots and of the messages of its log, as they are judged
 abbrev pub WhereItHeard : StoredAudit → (ℕ → List (Option Message) → Type 0) → Type 0
 WhereItHeard s Holds =
-    (pi d : ℕ) (log : List (Option Group)) (lies : AuditInMemory pi d s log) (judged : List (Option Message))
-    → IsJudgedAs (start_in s) d lies.at.heard judged → Holds d judged
+    (pi d : ℕ) (log : List (Option Group)) (lies : AuditInMemory pi d s log)
+    → Holds d (judged_as (start_in s) d lies.at.heard)
 
 -- for each audit that follows its log: this holds of its programme, of its number of slots and of its log
 abbrev pub WhereItFollows : StoredAudit → (ℕ → ℕ → List (Option Group) → Type 0) → Type 0
@@ -45,15 +45,16 @@ WhereItFollows s Holds = (pi d : ℕ) (log : List (Option Group)) → FollowsInM
 -- and this of its number of slots and of the messages of its log, as they are judged
 abbrev pub WhereItFollowed : StoredAudit → (ℕ → List (Option Message) → Type 0) → Type 0
 WhereItFollowed s Holds =
-    (pi d : ℕ) (log : List (Option Group)) (lies : FollowsInMemory pi d s log) (judged : List (Option Message))
-    → IsJudgedAs (start_in s) d lies.at.at.heard judged → Holds d judged
+    (pi d : ℕ) (log : List (Option Group)) (lies : FollowsInMemory pi d s log)
+    → Holds d (judged_as (start_in s) d lies.at.at.heard)
 
 -- these are the faults that the slot adds to the list of the log
 abbrev pub Adds : StoredAudit → Option Group → FaultSet → Type 0
 Adds s slot found =
     (pi d : ℕ) (log : List (Option Group)) (lies : FollowsInMemory pi d s log) (message : Option Message)
-    → Hears pi slot message → (judged : List (Option Message)) → IsJudgedAs (start_in s) d lies.at.at.heard judged
-    → found ≡ slot_adds d (counted_as (start_in s) judged message) judged
+    → Hears pi slot message
+    → found ≡ slot_adds d (counted_as (start_in s) (judged_as (start_in s) d lies.at.at.heard) message)
+    (judged_as (start_in s) d lies.at.at.heard)
 
 -- the fault of a result
 abbrev pub fault_in : Result (Unit {0}) AuditFault → Option AuditFault

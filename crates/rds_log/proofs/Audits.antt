@@ -1,17 +1,19 @@
 -- How the audit of a log goes on and ends: what the source gives, and what the audit makes of it.
-use Rattle.std.proofs.Common.{◌≡◌, ◌+◌, ℕ, List, ◌∷◌, None, Option, Ok, Some, length, subst, refl, sym, ◌∙◌, inl, inr, arith}
+use Rattle.std.proofs.Common.{◌≡◌, ◌+◌, ℕ, List, ◌∷◌, None, Option, Ok, Some, length, subst, refl, ◌∙◌, inl, inr, arith}
 use Rattle.std.specs.Prelude.{MatchOption}
 use Rattle.rds_block.specs.declared.group.Group.{Group}
 use Rattle.rds_audit.specs.AuditState.{AuditState}
 use Rattle.rds_audit.specs.AuditStandsAt.{AuditStandsAt, HasJudged, HoldsLog}
-use Rattle.rds_audit.specs.Recording.{IsJudgedAs}
-use Rattle.rds_audit.specs.Rules.{IsFaultOf, LogPasses}
+use Rattle.rds_audit.specs.Listing.{IsFaultOf}
+use Rattle.rds_audit.specs.Recording.{judged_as}
+use Rattle.rds_audit.specs.Rules.{LogPasses}
 use Rattle.rds_fields.specs.declared.message.Message.{Message}
 use Rattle.rds_audit.specs.declared.audit.AuditFault.{AuditFault}
 use Rattle.rds_log.specs.LogLines.{Line}
 use Rattle.rds_log.specs.LineSays.{LineSays}
 use Rattle.rds_log.specs.Inside.Source.{ReaderState, SourceStandsAt, since}
-use Rattle.rds_log.specs.Audit.{HasAudited, Judges, SlotsFail, SlotsPass, spacing}
+use Rattle.rds_audit.specs.declared.log_start.LogStart.{LogStart}
+use Rattle.rds_log.specs.Audit.{HasAudited, Judges, SlotsFail, SlotsPass, judged, spacing}
 use Rattle.rds_log.specs.declared.audit_log.Auditing.{Auditing}
 use Rattle.rds_log.specs.declared.log_line.LogLine.{LogLine}
 use Rattle.rds_log.specs.declared.log_line.LogLine.TheVariants.{Skip, Slot}
@@ -24,8 +26,11 @@ pub slots_pass : (a : Auditing) (state : AuditState) (slots : List (Option Group
 slots_pass a state slots s begins none = record {
   heard = s.heard;
   are = s.are;
-  passes = λ judged is.
-      let held : LogPasses (spacing a) judged × HoldsLog (spacing a) judged state = subst (λ (o : Option AuditFault). MatchOption o (LogPasses (spacing a) judged × HoldsLog (spacing a) judged state) (λ fault. IsFaultOf (spacing a) judged fault)) none (s.holds judged (subst (λ st. IsJudgedAs st (spacing a) s.heard judged) (sym begins) is)) in
+  passes =
+      let all = judged a s.heard in
+      let held : LogPasses (spacing a) all × HoldsLog (spacing a) all state =
+      subst (λ (o : Option AuditFault). MatchOption o (LogPasses (spacing a) all × HoldsLog (spacing a) all state) (IsFaultOf (spacing a) all)) none
+      (subst (λ (st : LogStart). HasJudged (spacing a) state (judged_as st (spacing a) s.heard)) begins s.holds) in
       held.0;
 }
 
@@ -57,7 +62,7 @@ audits_skip a state number lines line said says is s = record { slots = s.slots;
 pub fails_at : (a : Auditing) (state after : AuditState) (number : ℕ) (slots : List (Option Group)) (slot : Option Group) (fault : AuditFault)
     → AuditStandsAt a.pi (spacing a) state slots → state.start ≡ a.start → state.fault ≡ None → number ≡ length slots
     → (stands : AuditStandsAt a.pi (spacing a) after (slot ∷ slots)) → after.start ≡ a.start
-    → ((judged : List (Option Message)) → IsJudgedAs after.start (spacing a) stands.heard judged → IsFaultOf (spacing a) judged fault) → SlotsFail a number fault (slot ∷ slots)
+    → IsFaultOf (spacing a) (judged_as after.start (spacing a) stands.heard) fault → SlotsFail a number fault (slot ∷ slots)
 fails_at a state after number slots slot fault s begins passed count stands start is = record {
   newest = slot;
   before = slots;
@@ -66,7 +71,7 @@ fails_at a state after number slots slot fault s begins passed count stands star
   passed = slots_pass a state slots s begins passed;
   heard = stands.heard;
   are = stands.are;
-  fault_is = λ judged this. is judged (subst (λ st. IsJudgedAs st (spacing a) stands.heard judged) (sym start) this);
+  fault_is = subst (λ (st : LogStart). IsFaultOf (spacing a) (judged_as st (spacing a) stands.heard) fault) start is;
 }
 
 -- the fault in the state of an audit is that of its log
@@ -75,7 +80,7 @@ fault_of d state fault judged some has = subst (λ (o : Option AuditFault). Matc
 
 -- a line that is a slot with which they do not
 pub stops_at_slot : (a : Auditing) (reads : ℕ) (source : Source) (state after : AuditState) (number : ℕ) (first now : ReaderState) (lines : List Line) (line : Line) (slot : Option Group) (fault : AuditFault)
-    → LineSays line (Slot slot) → (s : HasAudited a state number lines) → (stands : AuditStandsAt a.pi (spacing a) after (slot ∷ s.slots)) → after.start ≡ state.start → ((judged : List (Option Message)) → IsJudgedAs after.start (spacing a) stands.heard judged → IsFaultOf (spacing a) judged fault)
+    → LineSays line (Slot slot) → (s : HasAudited a state number lines) → (stands : AuditStandsAt a.pi (spacing a) after (slot ∷ s.slots)) → after.start ≡ state.start → IsFaultOf (spacing a) (judged_as after.start (spacing a) stands.heard) fault
     → SourceStandsAt source reads first now (line ∷ lines) → Judges a reads (since first now) (Ok (No number fault))
 stops_at_slot a reads source state after number first now lines line slot fault says s stands keeps is given =
     let (text, read, begins) = begins_with source reads first now (line ∷ lines) given in (

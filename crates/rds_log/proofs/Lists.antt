@@ -1,5 +1,5 @@
 -- How a list goes on and ends: what the source gives, and what the lister makes of it.
-use Rattle.std.proofs.Common.{◌≡◌, ◌++◌, ◌+◌, ◌<◌, ◌^◌, ◌↔◌, ℕ, Bool, true, false, List, [], ◌∷◌, length, Option, Some, None, append_assoc, ap, sym, refl, ◌∙◌, subst, inl, inr, arith}
+use Rattle.std.proofs.Common.{◌≡◌, ◌++◌, ◌+◌, ◌↔◌, ℕ, Bool, true, false, List, [], ◌∷◌, length, Option, Some, None, append_assoc, ap, sym, refl, ◌∙◌, subst, inl, inr, arith}
 use Rattle.std.specs.Prelude.{MatchOption, OnOk, Result, MatchResult, Ok, Err}
 use Rattle.std.proofs.lemmas.List.{append-nil}
 use Rattle.std.proofs.KnownBytes.{Appends-trans}
@@ -10,8 +10,7 @@ use Rattle.rds_io.specs.declared.told.WriteFault.{WriteFault}
 use Rattle.rds_audit.specs.Judging.{judged_step}
 use Rattle.rds_audit.specs.AuditStandsAt.{AuditStandsAt, FollowsLog, TakesAll}
 use Rattle.rds_audit.specs.AuditState.{AuditState}
-use Rattle.rds_audit.specs.Recording.{IsJudgedAs, counted_as}
-use Rattle.rds_audit.specs.Rules.{IsFaultOf, LogPasses}
+use Rattle.rds_audit.specs.Recording.{counted_as, judged_as}
 use Rattle.rds_fields.specs.declared.message.Message.{Message}
 use Rattle.rds_receiver.specs.OneView.{same_heard}
 use Rattle.rds_receiver.specs.Receipts.{AreHeard}
@@ -19,7 +18,8 @@ use Rattle.rds_audit.specs.Listing.{first_of, slot_adds}
 use Rattle.rds_audit.specs.declared.audit.AuditFault.{AuditFault}
 use Rattle.rds_audit.specs.declared.audit.AuditFault.TheVariants.{Changed, NotOneText, EarlyFlag, EarlyTag, TagOutside}
 use Rattle.rds_audit.specs.declared.fault_set.FaultSet.{FaultSet}
-use Rattle.rds_log.specs.Audit.{SlotsAreSafe, SlotsFail, SlotsHaveNoPlans, SlotsPass, spacing, verdict_line}
+use Rattle.rds_audit.specs.declared.log_start.LogStart.{LogStart}
+use Rattle.rds_log.specs.Audit.{SlotsAreSafe, SlotsFail, SlotsHaveNoPlans, SlotsPass, judged, spacing, verdict_line}
 use Rattle.rds_log.specs.FaultList.{AreAdded, AreFaultsOf, BeginsAsAnswer, BeginsWithNo, LinesList, ListMeans, Lists, SomeList, WholeList, fault_lines, list_lines, yes_if}
 use Rattle.rds_log.specs.Inside.Lister.{HasListed}
 use Rattle.rds_log.specs.LineSays.{LineSays}
@@ -106,16 +106,16 @@ faults_of_more a l after slots slot faults found s begins (m ∷ h) hear takes o
       each = omega (arith, each);
       heard = m ∷ h;
       are = hear;
-      added = added;
+      added = subst (λ (x : List (Option Message)). AreAdded (spacing a) x (found ∷ faults)) (sym (judged_step a.start (spacing a) m h)) (adds, older);
     }
   where
-    added : (judged : List (Option Message)) → IsJudgedAs a.start (spacing a) (m ∷ h) judged → AreAdded (spacing a) judged (found ∷ faults)
-    added judged is =
-        let (before, was, e) = judged_step a.start (spacing a) m h judged is in
-        let mine : IsJudgedAs l.start (spacing a) s.at.heard before = subst (λ st. IsJudgedAs st (spacing a) s.at.heard before) (sym begins) (subst (λ x. IsJudgedAs a.start (spacing a) x before) (same_heard a.pi slots h s.at.heard hear.1 s.at.are) was) in
-        let adds : found ≡ slot_adds (spacing a) (counted_as a.start before m) before = subst (λ st. found ≡ slot_adds (spacing a) (counted_as st before m) before) begins (takes.adds a.pi (spacing a) slots s m hear.0 before mine) in
-        let older : AreAdded (spacing a) before faults = of.added before (subst (λ x. IsJudgedAs a.start (spacing a) x before) (same_heard a.pi slots h of.heard hear.1 of.are) was) in
-        subst (λ x. AreAdded (spacing a) x (found ∷ faults)) (sym e) (adds, older)
+    adds : found ≡ slot_adds (spacing a) (counted_as a.start (judged a h) m) (judged a h)
+    adds =
+        subst (λ (x : List (Option Message)). found ≡ slot_adds (spacing a) (counted_as a.start (judged a x) m) (judged a x)) (same_heard a.pi slots s.at.heard h s.at.are hear.1)
+        (subst (λ (st : LogStart). found ≡ slot_adds (spacing a) (counted_as st (judged_as st (spacing a) s.at.heard) m) (judged_as st (spacing a) s.at.heard)) begins (takes.adds a.pi (spacing a) slots s m hear.0))
+
+    older : AreAdded (spacing a) (judged a h) faults
+    older = subst (λ (x : List (Option Message)). AreAdded (spacing a) (judged a x) faults) (same_heard a.pi slots of.heard h of.are hear.1) of.added
 
 pub takes_slot : (a : Auditing) (l after : Lister) (w : Traffic) (lines : List Line) (line : Line) (slot : Option Group) (found : FaultSet) → LineSays line (Slot slot)
     → (s : HasListed a l w lines) → TakesAll l.audit after.audit slot found → after.output ≡ l.output ++ fault_lines l.slots found → after.slots ≡ l.slots + 1
@@ -151,7 +151,7 @@ takes_slot a l after w lines line slot found says s takes output slots =
       number = l.slots;
       fail =
           fails_at a l.audit after.audit l.slots s.slots slot fault s.audit.at s.begins none s.count stands (takes.start ∙ s.begins)
-          (λ judged is. fault_of (spacing a) after.audit fault judged some (stands.holds judged is));
+          (fault_of (spacing a) after.audit fault (judged_as after.audit.start (spacing a) stands.heard) some stands.holds);
       further = rest;
       lines = refl;
     }

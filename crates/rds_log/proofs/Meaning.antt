@@ -1,27 +1,28 @@
 -- What the answer of an audit means.
 use Rattle.std.proofs.Common.{◌≡◌, ◌+◌, ◌<◌, ℕ, Bool, true, false, List, Option, Ok, Err, refl}
-use Rattle.std.proofs.Math.Nat.{le_refl}
 use Rattle.std.specs.Prelude.{Result}
 use Rattle.rds_block.specs.declared.group.Group.{Group}
 use Rattle.rds_io.specs.Told.{Traffic}
 use Rattle.rds_fields.specs.declared.message.Message.{Message}
 use Rattle.rds_audit.specs.AuditLaws.{WhatPassesAsARecordingIsSafe, WhatPassesIsSafe}
-use Rattle.rds_audit.specs.Recording.{IsJudgedAs, from_first_text, preceded}
+use Rattle.rds_audit.specs.Recording.{judged_as}
 use Rattle.rds_audit.specs.Rules.{LogPasses}
 use Rattle.rds_audit.specs.declared.audit.AuditFault.{AuditFault}
 use Rattle.rds_audit.specs.declared.log_start.LogStart.{LogStart}
 use Rattle.rds_audit.specs.declared.log_start.LogStart.TheVariants.{Complete, Running}
-use Rattle.rds_log.specs.Audit.{Audits, IsSafe, Means, SlotsAreSafe, SlotsFail, SlotsHaveNoPlans, SlotsPass}
+use Rattle.rds_log.specs.Audit.{Answers, Audits, IsSafe, Judges, Means, SlotsAreSafe, SlotsFail, SlotsHaveNoPlans, SlotsPass}
+use Rattle.rds_log.specs.Notes.{NotesNo, NotesVerdict}
+use Rattle.rds_log.specs.declared.notes.LogNotes.{LogNotes}
 use Rattle.rds_log.specs.declared.audit_log.Auditing.{Auditing}
+use Rattle.rds_log.specs.declared.verdict.Verdict.{Verdict}
 use Rattle.rds_log.specs.declared.verdict.Verdict.TheVariants.{Yes, No}
 use Rattle.rds_io.specs.declared.fault.LogFault.{LogFault}
 
 -- a log that passes is safe as it is
 pub safe_as_it_is : WhatPassesIsSafe → WhatPassesAsARecordingIsSafe → (start : LogStart) (m k : ℕ) (heard : List (Option Message)) → 0 < m
-    → ((judged : List (Option Message)) → IsJudgedAs start (m + k) heard judged → LogPasses (m + k) judged) → IsSafe start m k heard
-safe_as_it_is complete running Complete m k heard pos passes = complete m k heard pos (passes heard refl)
-safe_as_it_is complete running Running m k heard pos passes =
-    running m k heard pos (passes (from_first_text (preceded (m + k) heard)) (m + k, le_refl (m + k), refl))
+    → LogPasses (m + k) (judged_as start (m + k) heard) → IsSafe start m k heard
+safe_as_it_is complete running Complete m k heard pos passes = complete m k heard pos passes
+safe_as_it_is complete running Running m k heard pos passes = running m k heard pos passes
 
 -- a yes goes with slots that pass, and a no with slots that fail
 pub meaning : (a : Auditing) (reads : ℕ) (r w : Traffic) (result : Result Bool LogFault)
@@ -52,3 +53,9 @@ meaning a reads r w (Ok false) safe none (Ok (No t fault), (text, read, stops, c
   none = none t fault stops.slots stops.fail;
 }
 meaning a reads r w (Ok false) safe none (Err fault, judged, answer) = absurd answer
+
+-- the note on a no has its slot and its fault
+pub no_noted : (a : Auditing) (reads : ℕ) (r w : Traffic) (notes : LogNotes) (verdict : Verdict) (result : Result Bool LogFault) → Judges a reads r (Ok verdict) → NotesVerdict a.pi r notes (Ok verdict)
+    → Answers (Ok verdict) w result → result ≡ Ok false → NotesNo a reads r notes.no
+no_noted a reads r w notes (Yes n) result judged noted answered ended = absurd (let said = rw ended at answered in let bad : false ≡ true = said.0.1 tt in cc)
+no_noted a reads r w notes (No t fault) result judged (note, some, slot, is) answered ended = (note, some, rw (slot, is) judged)

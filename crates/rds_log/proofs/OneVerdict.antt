@@ -1,5 +1,5 @@
 -- The bytes of a log have one verdict.
-use Rattle.std.proofs.Common.{◌≡◌, ◌≢◌, ◌⊎◌, ◌↔◌, ◌<◌, ◌∙◌, ◌∷◌, [], ◌++◌, ℕ, List, Bool, true, false, Option, Some, Ok, Err, append_assoc, ap, arith, inl, inr, length, refl, subst, sym}
+use Rattle.std.proofs.Common.{◌≡◌, ◌≢◌, ◌⊎◌, ◌↔◌, ◌<◌, ◌∙◌, ◌∷◌, [], ◌++◌, ℕ, List, Bool, true, false, Option, Some, Ok, Err, append_assoc, ap, arith, inl, inr, length, refl, sym}
 use Rattle.std.specs.Prelude.{All, IsTrue}
 use Rattle.std.specs.Io.KnownBytes.{Consumes}
 use Rattle.std.proofs.lemmas.Bool.Decides.{eqb_tells}
@@ -10,13 +10,12 @@ use Rattle.rds_io.specs.Told.{Traffic}
 use Rattle.rds_fields.specs.declared.message.Message.{Message}
 use Rattle.rds_receiver.specs.OneView.{same_heard}
 use Rattle.rds_receiver.specs.Receipts.{AreHeard}
-use Rattle.rds_audit.specs.AuditLaws.{ALogHasOneFault, WhatHasAFaultDoesNotPass}
-use Rattle.rds_audit.specs.Recording.{IsJudgedAs}
-use Rattle.rds_audit.specs.Judging.{judged_more, some_judged}
-use Rattle.rds_audit.specs.Rules.{IsFaultOf}
+use Rattle.rds_audit.specs.AuditLaws.{WhatHasAFaultDoesNotPass}
+use Rattle.rds_audit.specs.Judging.{judged_more}
+use Rattle.rds_audit.specs.Listing.{IsFaultOf, first_fault, first_of, or_else, slot_adds}
 use Rattle.rds_audit.specs.declared.audit.AuditFault.{AuditFault}
 use Rattle.rds_io.specs.Alike.{WriteAlike}
-use Rattle.rds_log.specs.Audit.{AnswersVerdictOf, Audits, IsVerdictOf, IsYes, SlotsFail, SlotsPass, AuditStopsAtSlot, WholePasses, spacing, verdict_line}
+use Rattle.rds_log.specs.Audit.{AnswersVerdictOf, Audits, IsVerdictOf, IsYes, SlotsFail, SlotsPass, AuditStopsAtSlot, WholePasses, judged, spacing, verdict_line}
 use Rattle.rds_log.specs.LogWrites.{AreSlots}
 use Rattle.rds_log.specs.Reads.{BeginsWith}
 use Rattle.rds_log.specs.LogLines.{AreLines, IsLine, Line, line_feed, text_of}
@@ -102,29 +101,28 @@ more_heard pi (s ∷ more) slots (m ∷ heard) other p q =
 -- a log that goes on after a fault has it
 fault_stays : (d : ℕ) (newer log : List (Option Message)) (fault : AuditFault) → IsFaultOf d log fault → IsFaultOf d (newer ++ log) fault
 fault_stays d [] log fault p = p
-fault_stays d (m ∷ newer) log fault p = inr (fault_stays d newer log fault p)
+fault_stays d (m ∷ newer) log fault p = ap (λ (o : Option AuditFault). or_else o (first_of (slot_adds d m (newer ++ log)))) (fault_stays d newer log fault p)
 
 -- slots that go on after a fault do not pass
 fails_for_good : WhatHasAFaultDoesNotPass → (a : Auditing) (t : ℕ) (fault : AuditFault) (more slots : List (Option Group)) → 0 < spacing a → SlotsFail a t fault slots → SlotsPass a (more ++ slots) → ⊥
 fails_for_good fails a t fault more slots some fail pass =
     let (newer, same) = more_heard a.pi more slots pass.heard fail.heard pass.are fail.are in
-    let (judged, is) = some_judged a.start (spacing a) pass.heard in
-    let (later, before, was, e) = judged_more a.start (spacing a) newer fail.heard judged (subst (λ (x : List (Option Message)). IsJudgedAs a.start (spacing a) x judged) same is) in
-    fails (spacing a) judged fault some (rw e (fault_stays (spacing a) later before fault (fail.fault_is before was))) (pass.passes judged is)
+    let (later, e) = judged_more a.start (spacing a) newer fail.heard in
+    let goes_on : judged a pass.heard ≡ later ++ judged a fail.heard = ap (judged a) same ∙ e in
+    fails (spacing a) (judged a pass.heard) fault some (rw goes_on (fault_stays (spacing a) later (judged a fail.heard) fault fail.fault_is)) pass.passes
 
 -- and those that do not pass fail at one slot, with one fault
-fails_once : WhatHasAFaultDoesNotPass → ALogHasOneFault → (a : Auditing) (t u : ℕ) (f g : AuditFault) (more slots all : List (Option Group)) → 0 < spacing a → all ≡ more ++ slots → SlotsFail a t f slots → SlotsFail a u g all
+fails_once : WhatHasAFaultDoesNotPass → (a : Auditing) (t u : ℕ) (f g : AuditFault) (more slots all : List (Option Group)) → 0 < spacing a → all ≡ more ++ slots → SlotsFail a t f slots → SlotsFail a u g all
     → No t f ≡ No u g
-fails_once fails one a t u f g [] slots all some same p q =
+fails_once fails a t u f g [] slots all some same p q =
     let count : length all ≡ length slots = ap length same in
     let first : length slots ≡ length (p.newest ∷ p.before) = ap length p.cut in
     let second : length all ≡ length (q.newest ∷ q.before) = ap length q.cut in
     let number : t ≡ u = omega (arith, count, first, second, p.number, q.number) in
     let heard : p.heard ≡ q.heard = same_heard a.pi slots p.heard q.heard p.are (rw same at q.are) in
-    let (judged, is) = some_judged a.start (spacing a) q.heard in
-    let fault : f ≡ g = one (spacing a) judged f g some ((rw heard at p.fault_is) judged is) (q.fault_is judged is) in
+    let both : Some f ≡ Some g = sym p.fault_is ∙ ap (λ (h : List (Option Message)). first_fault (spacing a) (judged a h)) heard ∙ q.fault_is in
     (cc)
-fails_once fails one a t u f g (s ∷ more) slots all some same p q =
+fails_once fails a t u f g (s ∷ more) slots all some same p q =
     let cut : s ∷ (more ++ slots) ≡ q.newest ∷ q.before = sym same ∙ q.cut in
     let before : q.before ≡ more ++ slots = (cc) in
     absurd (fails_for_good fails a t f more slots some p (rw before at q.passed))
@@ -140,25 +138,25 @@ not_both fails a n t fault bytes some p q =
     fails_for_good fails a t fault more q.slots some q.fail (rw slots at p.pass)
 
 -- the lines that fail last go on after those that fail first
-stops_once : WhatHasAFaultDoesNotPass → ALogHasOneFault → (a : Auditing) (t u : ℕ) (f g : AuditFault) (bytes : List ℕ) → 0 < spacing a → (p : AuditStopsAtSlot a t f bytes (Some [])) (q : AuditStopsAtSlot a u g bytes (Some []))
+stops_once : WhatHasAFaultDoesNotPass → (a : Auditing) (t u : ℕ) (f g : AuditFault) (bytes : List ℕ) → 0 < spacing a → (p : AuditStopsAtSlot a t f bytes (Some [])) (q : AuditStopsAtSlot a u g bytes (Some []))
     → (c : List Line) × (q.lines ≡ c ++ p.lines) → No t f ≡ No u g
-stops_once fails one a t u f g bytes some p q (c, lines) =
+stops_once fails a t u f g bytes some p q (c, lines) =
     let (more, slots) = more_slots c p.lines q.slots p.slots (rw lines at q.say) p.say in
-    fails_once fails one a t u f g more p.slots q.slots some slots p.fail q.fail
+    fails_once fails a t u f g more p.slots q.slots some slots p.fail q.fail
 
-pub same_verdict : WhatHasAFaultDoesNotPass → ALogHasOneFault → (a : Auditing) (bytes : List ℕ) (v u : Verdict) → 0 < spacing a → IsVerdictOf a bytes v → IsVerdictOf a bytes u → v ≡ u
-same_verdict fails one a bytes (Yes n) (Yes m) some p q =
+pub same_verdict : WhatHasAFaultDoesNotPass → (a : Auditing) (bytes : List ℕ) (v u : Verdict) → 0 < spacing a → IsVerdictOf a bytes v → IsVerdictOf a bytes u → v ≡ u
+same_verdict fails a bytes (Yes n) (Yes m) some p q =
     let lines : p.lines ≡ q.lines = same_lines bytes p.lines q.lines p.are q.are in
     let slots : p.slots ≡ q.slots = same_slots q.lines p.slots q.slots (rw lines at p.say) q.say in
     ap Yes (p.number ∙ ap length slots ∙ sym q.number)
-same_verdict fails one a bytes (Yes n) (No t fault) some p q = absurd (not_both fails a n t fault bytes some p q)
-same_verdict fails one a bytes (No t fault) (Yes n) some p q = absurd (not_both fails a n t fault bytes some q p)
-same_verdict fails one a bytes (No t f) (No u g) some p q =
+same_verdict fails a bytes (Yes n) (No t fault) some p q = absurd (not_both fails a n t fault bytes some p q)
+same_verdict fails a bytes (No t fault) (Yes n) some p q = absurd (not_both fails a n t fault bytes some q p)
+same_verdict fails a bytes (No t f) (No u g) some p q =
     let (newer, are) = all_lines bytes p.lines p.begins in
     let (newer', are') = all_lines bytes q.lines q.begins in
     elim (two_ends newer newer' p.lines q.lines (same_lines bytes (newer ++ p.lines) (newer' ++ q.lines) are are')) [
-      | inl later ↦ sym (stops_once fails one a u t g f bytes some q p later)
-      | inr later ↦ stops_once fails one a t u f g bytes some p q later
+      | inl later ↦ sym (stops_once fails a u t g f bytes some q p later)
+      | inr later ↦ stops_once fails a t u f g bytes some p q later
     ]
 
 -- ---- calls
@@ -197,10 +195,10 @@ same_answer verdict false true p q = p.1 (q.0 refl)
 same_answer verdict false false p q = refl
 
 -- two calls over the same bytes
-pub alike : WhatHasAFaultDoesNotPass → ALogHasOneFault → (a : Auditing) (reads others : ℕ) (bytes : List ℕ) (r w q v : Traffic) (passed other : Bool) → 0 < spacing a → r.before ≡ Some bytes → q.before ≡ Some bytes
+pub alike : WhatHasAFaultDoesNotPass → (a : Auditing) (reads others : ℕ) (bytes : List ℕ) (r w q v : Traffic) (passed other : Bool) → 0 < spacing a → r.before ≡ Some bytes → q.before ≡ Some bytes
     → Audits a reads r w (Ok passed) → Audits a others q v (Ok other) → (passed ≡ other) × WriteAlike w v
-alike fails one a reads others bytes r w q v passed other some given same first second =
+alike fails a reads others bytes r w q v passed other some given same first second =
     let p = answers a reads bytes r w passed given first in
     let u = answers a others bytes q v other same second in
-    let is : p.verdict ≡ u.verdict = same_verdict fails one a bytes p.verdict u.verdict some p.is u.is in
+    let is : p.verdict ≡ u.verdict = same_verdict fails a bytes p.verdict u.verdict some p.is u.is in
     (same_answer u.verdict passed other (rw is at p.answer) u.answer, record { written = verdict_line u.verdict; one = rw is at p.wrote; other = u.wrote })

@@ -11,13 +11,14 @@ use Rattle.rds_fields.specs.declared.message.Message.{Message}
 use Rattle.rds_receiver.specs.Receipts.{AreHeard}
 use Rattle.rds_audit.specs.AuditLaws.{IsSafeLog, IsSafeRecording}
 use Rattle.rds_audit.specs.Dense.{HasPlans}
-use Rattle.rds_audit.specs.Rules.{IsFaultOf, LogPasses}
+use Rattle.rds_audit.specs.Listing.{IsFaultOf}
+use Rattle.rds_audit.specs.Rules.{LogPasses}
 use Rattle.rds_audit.specs.declared.audit.AuditFault.{AuditFault}
 use Rattle.rds_audit.specs.declared.audit.AuditFault.TheVariants.{Changed, NotOneText, EarlyFlag}
 use Rattle.rds_audit.specs.declared.audit.AuditFault.TheVariants.{EarlyTag, TagOutside}
 use Rattle.rds_audit.specs.AuditStandsAt.{AuditStandsAt}
 use Rattle.rds_audit.specs.AuditState.{AuditState}
-use Rattle.rds_audit.specs.Recording.{IsJudgedAs}
+use Rattle.rds_audit.specs.Recording.{judged_as}
 use Rattle.rds_audit.specs.declared.log_start.LogStart.{LogStart}
 use Rattle.rds_audit.specs.declared.log_start.LogStart.TheVariants.{Complete, Running}
 use Rattle.rds_log.specs.LogLines.{AreLines, Line}
@@ -39,14 +40,17 @@ spacing a = a.dwell + a.late
 abbrev pub complete : ℕ → ℕ → ℕ → Auditing
 complete pi m k = record { pi = pi; dwell = m; late = k; start = Complete }
 
+-- what is judged of the messages of a log
+abbrev pub judged : Auditing → List (Option Message) → List (Option Message)
+judged a heard = judged_as a.start (spacing a) heard
+
 -- ---- slots
 
 -- the slots pass the audit of this programme
 pub record SlotsPass (a : Auditing) (slots : List (Option Group)) : Type 0 where
   pub heard : List (Option Message)
   pub are : AreHeard a.pi slots heard
-  pub passes : (judged : List (Option Message)) → IsJudgedAs a.start (spacing a) heard judged
-      → LogPasses (spacing a) judged
+  pub passes : LogPasses (spacing a) (judged a heard)
 
 -- the newest slot has number t, those before it pass, and this is the fault of all
 pub record SlotsFail (a : Auditing) (t : ℕ) (fault : AuditFault) (slots : List (Option Group)) : Type 0 where
@@ -57,8 +61,7 @@ pub record SlotsFail (a : Auditing) (t : ℕ) (fault : AuditFault) (slots : List
   pub passed : SlotsPass a before
   pub heard : List (Option Message)
   pub are : AreHeard a.pi slots heard
-  pub fault_is : (judged : List (Option Message)) → IsJudgedAs a.start (spacing a) heard judged
-      → IsFaultOf (spacing a) judged fault
+  pub fault_is : IsFaultOf (spacing a) (judged a heard) fault
 
 -- a log that begins so is safe as it is
 abbrev pub IsSafe : LogStart → ℕ → ℕ → List (Option Message) → Type 0
@@ -76,8 +79,7 @@ pub record SlotsAreSafe (a : Auditing) (slots : List (Option Group)) : Type 0 wh
 pub record SlotsHaveNoPlans (a : Auditing) (slots : List (Option Group)) : Type 0 where
   pub heard : List (Option Message)
   pub are : AreHeard a.pi slots heard
-  pub none : (judged : List (Option Message)) → IsJudgedAs a.start (spacing a) heard judged
-      → HasPlans (spacing a) judged → ⊥
+  pub none : HasPlans (spacing a) (judged a heard) → ⊥
 
 -- ---- the answer line
 

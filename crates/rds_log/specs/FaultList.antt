@@ -13,8 +13,7 @@ use Rattle.rds_audit.specs.declared.audit.AuditFault.TheVariants.{Changed, NotOn
 use Rattle.rds_audit.specs.declared.audit.AuditFault.TheVariants.{EarlyTag, TagOutside}
 use Rattle.rds_audit.specs.declared.fault_set.FaultSet.{FaultSet}
 use Rattle.rds_audit.specs.Listing.{slot_adds}
-use Rattle.rds_audit.specs.Recording.{IsJudgedAs}
-use Rattle.rds_log.specs.Audit.{SlotsFail, SlotsHaveNoPlans, SlotsPass, WholeIsSafe, spacing, verdict_line}
+use Rattle.rds_log.specs.Audit.{SlotsFail, SlotsHaveNoPlans, SlotsPass, WholeIsSafe, judged, spacing, verdict_line}
 use Rattle.rds_log.specs.LogLines.{AreLines, Line}
 use Rattle.rds_log.specs.LogWrites.{AreSlots}
 use Rattle.rds_log.specs.Outputs.{StopsAtWrite, StopsBy, WroteLines}
@@ -60,8 +59,7 @@ pub record AreFaultsOf (a : Auditing) (slots : List (Option Group)) (faults : Li
   pub each : length faults ≡ length slots
   pub heard : List (Option Message)
   pub are : AreHeard a.pi slots heard
-  pub added : (judged : List (Option Message)) → IsJudgedAs a.start (spacing a) heard judged
-      → AreAdded (spacing a) judged faults
+  pub added : AreAdded (spacing a) (judged a heard) faults
 
 -- ---- the list of slots
 

@@ -86,9 +86,9 @@ pub fn audit_within<R: TellingRead, W: TellingWrite>(
 
 /// Audits a log in this way with at most `reads` reads, and takes notes for a person. The new notes replace the old
 /// content of `notes`. For a complete log the output and the answer are those of [`audit_within`]. For the log of a
-/// running station the answer is that of the log with M + K lost slots in front, or more, and without the tags before
-/// its first text segment. Slots count from the first line of the log. A yes speaks of receivers of the log as it is:
-/// they may hear these tags.
+/// running station the answer is that of the log with M + K lost slots in front, and without the tags before its first
+/// text segment. Slots count from the first line of the log. A yes speaks of receivers of the log as it is: they may
+/// hear these tags.
 pub fn audit_with_notes<R: TellingRead, W: TellingWrite>(
     reader: &mut R,
     writer: &mut W,

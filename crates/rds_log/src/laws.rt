@@ -20,7 +20,8 @@ ghost use Rattle.rds_audit.specs.declared.audit.AuditFault.{AuditFault};
 
 use rds_arrivals::filled_logs_are_safe;
 use rds_audit::{
-    one_fault, passes_by_plans, what_passes_as_a_recording_is_safe, what_passes_is_safe,
+    passes_by_plans, passes_without_a_fault, what_passes_as_a_recording_is_safe,
+    what_passes_is_safe,
 };
 
 /// Shows that the output of a log is a function of its bytes: a line has one meaning, the bytes write one output, and
@@ -46,7 +47,7 @@ pub fn bytes_have_one_verdict()
         → Audits a reads r w (Ok passed) → Audits a others q v (Ok other)
         → (passed ≡ other) × WriteAlike w v }
 {
-    one_fault();
+    passes_without_a_fault();
 }
 
 /// Shows the meaning of the answer to a log: slots that pass with M and K are safe for every receiver with dwell M
@@ -58,7 +59,7 @@ pub fn what_an_answer_means()
     ensures no_plans { (a : Auditing) (t : ℕ) (fault : AuditFault) (slots : List (Option Group)) → 0 < spacing a
         → SlotsFail a t fault slots → SlotsHaveNoPlans a slots }
 {
-    one_fault();
+    passes_without_a_fault();
     passes_by_plans();
     what_passes_is_safe();
     what_passes_as_a_recording_is_safe();

@@ -19,6 +19,6 @@ pub returns-clause-adds : goal.returns-clause-adds
 returns-clause-adds c given = (
   c.in-Ok.slot,
   c.in-Ok.ensures.value,
-  λ pi d log lies message hears judged is. c.of.ensures.same
-      ∙ (c.all_faults.ensures.takes lies.good).adds pi d log lies.at message hears judged is,
+  λ pi d log lies message hears. c.of.ensures.same
+      ∙ (c.all_faults.ensures.takes lies.good).adds pi d log lies.at message hears,
 )

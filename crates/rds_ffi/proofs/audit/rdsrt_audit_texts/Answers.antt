@@ -1,4 +1,4 @@
 use Rattle.rds_ffi.proofs.audit.rdsrt_audit_texts.Goals as goal
 
 pub returns : goal.returns
-returns c pi d log lies judged is = (lies.at.holds judged is).text.count
+returns c pi d log lies = lies.at.holds.text.count

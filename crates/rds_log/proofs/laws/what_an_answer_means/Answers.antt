@@ -1,4 +1,4 @@
-use Rattle.rds_log.specs.Audit.{spacing}
+use Rattle.rds_log.specs.Audit.{judged, spacing}
 use Rattle.rds_log.proofs.Meaning.{safe_as_it_is}
 use Rattle.rds_log.proofs.laws.what_an_answer_means.Goals as goal
 
@@ -13,5 +13,5 @@ pub returns-clause-no_plans : goal.returns-clause-no_plans
 returns-clause-no_plans c a t fault slots some fail = record {
   heard = fail.heard;
   are = fail.are;
-  none = λ judged is plans. c.one_fault.ensures.fails (spacing a) judged fault some (fail.fault_is judged is) ((c.passes_by_plans.ensures (spacing a) judged some).1 plans);
+  none = λ plans. c.passes_without_a_fault.ensures.fails (spacing a) (judged a fail.heard) fault some fail.fault_is ((c.passes_by_plans.ensures (spacing a) (judged a fail.heard) some).1 plans);
 }

@@ -1,4 +1,5 @@
 use Rattle.std.proofs.Common.{◌≡◌, ◌∙◌, false, subst, sym, true}
+use Rattle.rds_audit.specs.Recording.{judged_as}
 use Rattle.rds_audit.specs.Reigns.{AlternateFlags}
 use Rattle.rds_audit.specs.Rules.{LogPasses}
 use Rattle.rds_safety.specs.Marks.{marks, name_mark}
@@ -7,16 +8,17 @@ use Rattle.rds_audit.proofs.ListingSteps.{log_passes}
 use Rattle.rds_audit.proofs.stored.StoredAudit.names_turn_the_flag.Goals as goal
 
 pub returns-then-passed-clause-turns : goal.returns-then-passed-clause-turns
-returns-then-passed-clause-turns c pi d log s judged is =
-    let passes : LogPasses d judged = (c.passed.ensures.passes pi d log s judged is).0 c.if-passed.true in
-    let same = c.the_list_begins_with_the_fault.ensures.names d (marks name_mark judged) passes.name in
-    let turns = (log_passes d (audit_stored c.args.self.now) judged (c.passed.ensures.fault.0 c.if-passed.true) (s.holds judged is)).1.name.ages.turns in
+returns-then-passed-clause-turns c pi d log s =
+    let judged = judged_as (audit_stored c.args.self.now).start d s.heard in
+    let passes : LogPasses d judged = (c.passed.ensures.passes pi d log s).0 c.if-passed.true in
+    let same = c.the_list_judges_the_reigns.ensures.names d (marks name_mark judged) passes.name in
+    let turns = (log_passes d (audit_stored c.args.self.now) judged (c.passed.ensures.fault.0 c.if-passed.true) s.holds).1.name.ages.turns in
     (λ is_so. (passes, subst AlternateFlags same (turns.0 is_so)), λ both. turns.1 (subst AlternateFlags (sym same) both.1))
 
 pub returns-then-passed-clause-safe : goal.returns-then-passed-clause-safe
-returns-then-passed-clause-safe c pi d log s judged is turns =
-    let both = (returns-then-passed-clause-turns c pi d log s judged is).0 turns in
-    let safe = c.what_passes_is_safe_by_the_flag.ensures.safe d judged s.lasts both.0 in
+returns-then-passed-clause-safe c pi d log s turns =
+    let both = (returns-then-passed-clause-turns c pi d log s).0 turns in
+    let safe = c.what_passes_is_safe_by_the_flag.ensures.safe d _ s.lasts both.0 in
     record {
       plans = safe.plans;
       lawful = safe.lawful;
@@ -25,7 +27,7 @@ returns-then-passed-clause-safe c pi d log s judged is turns =
     }
 
 pub returns-else-passed-clause-turns : goal.returns-else-passed-clause-turns
-returns-else-passed-clause-turns c pi d log s judged is = (
+returns-else-passed-clause-turns c pi d log s = (
   (λ e. absurd (let bad : false ≡ true = sym c.if-passed.false ∙ e in cc)),
-  (λ both. absurd (let bad : true ≡ false = sym ((c.passed.ensures.passes pi d log s judged is).1 both.0) ∙ c.if-passed.false in cc)),
+  (λ both. absurd (let bad : true ≡ false = sym ((c.passed.ensures.passes pi d log s).1 both.0) ∙ c.if-passed.false in cc)),
 )

@@ -8,23 +8,23 @@ pub returns-clause-fault : goal.returns-clause-fault
 returns-clause-fault c = search rules
 
 pub returns-clause-passes : goal.returns-clause-passes
-returns-clause-passes c pi d log s judged is =
-    let exactly = passes_exactly d (audit_stored c.args.self.now) judged (s.holds judged is) in
+returns-clause-passes c pi d log s =
+    let exactly = passes_exactly d (audit_stored c.args.self.now) _ s.holds in
     let test = returns-clause-fault c in
     (λ yes. exactly.0 (test.0 yes), λ passes. test.1 (exactly.1 passes))
 
 pub returns-clause-plans : goal.returns-clause-plans
-returns-clause-plans c pi d log s judged is =
-    let exactly = returns-clause-passes c pi d log s judged is in
-    let plans = c.passes_by_plans.ensures d judged s.lasts in
+returns-clause-plans c pi d log s =
+    let exactly = returns-clause-passes c pi d log s in
+    let plans = c.passes_by_plans.ensures d _ s.lasts in
     (λ is_so. plans.0 (exactly.0 is_so), λ has. exactly.1 (plans.1 has))
 
 pub returns-clause-safe : goal.returns-clause-safe
-returns-clause-safe c pi d log s judged is m k pos same is_so =
-    let exactly = returns-clause-passes c pi d log s judged is in
-    c.what_passes_is_safe.ensures.late m k judged pos (rw same (exactly.0 is_so))
+returns-clause-safe c pi d log s m k pos same is_so =
+    let exactly = returns-clause-passes c pi d log s in
+    c.what_passes_is_safe.ensures.late m k _ pos (rw same (exactly.0 is_so))
 
 pub returns-clause-recording : goal.returns-clause-recording
 returns-clause-recording c pi m k log s running pos passed =
     safe_as_it_is c.what_passes_as_a_recording_is_safe.ensures m k _ s.heard running pos
-    (λ judged is. (returns-clause-passes c pi (m + k) log s judged is).0 passed)
+    ((returns-clause-passes c pi (m + k) log s).0 passed)

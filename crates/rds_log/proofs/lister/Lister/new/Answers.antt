@@ -12,7 +12,7 @@ returns-clause-listed c w same calm = record {
   begins = c.starting.ensures.start;
   written = [];
   faults = [];
-  are = record { each = refl; heard = []; are = tt; added = λ judged is. tt };
+  are = record { each = refl; heard = []; are = tt; added = tt };
   total = c.new.ensures;
   first = rw (c.starting.ensures.passed) c.new.ensures;
   wrote = subst (λ (after : Option (List ℕ)). Appends w.before after []) (sym same) (Appends-nil w.before);
