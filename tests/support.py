@@ -139,6 +139,14 @@ def temporary_folder(test):
     return folder.name
 
 
+def commit(folder, file):
+    """Makes a repository with one commit of this file in the folder, whoever the user is and however git is set up."""
+    plain = {**os.environ, "GIT_CONFIG_GLOBAL": os.devnull, "GIT_CONFIG_NOSYSTEM": "1"}
+    names = ["-c", "user.name=test", "-c", "user.email=test@localhost"]
+    for words in (["init", "-q"], ["add", file], ["commit", "-q", "-m", file]):
+        subprocess.run(["git", *names, *words], cwd=folder, env=plain, check=True)
+
+
 # ---- inputs by chance that failed once
 
 INPUTS = path("tests/kept")

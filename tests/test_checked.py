@@ -6,7 +6,7 @@ import subprocess
 import tarfile
 from unittest import mock
 
-from tests.support import ROOT, script, temporary_folder
+from tests.support import ROOT, commit, script, temporary_folder
 from tests.test_crates import WithoutKit
 
 import checked
@@ -57,8 +57,7 @@ class Records(WithoutKit):
         os.chmod(self.path("kit/toolchain/bin/clang"), 0o755)
         for name in ("ABOUT", "tools/about", "tools/static_library"):
             shutil.copy2(os.path.join(ROOT, name), self.path(name))
-        for words in (["init", "-q"], ["add", "crates.txt"], ["commit", "-q", "-m", "first"]):
-            subprocess.run(["git", *words], cwd=self.root, check=True)
+        commit(self.root, "crates.txt")
         self.record = self.made(temporary_folder(self))
 
     def made(self, folder):

@@ -8,8 +8,8 @@ import subprocess
 import zipfile
 
 from tests import shipped_pages
-from tests.support import (ARCHIVE, PROGRAM, ROOT, SECONDS, Case, build_archive, needs, output, path, temporary_folder,
-                           text_of)
+from tests.support import (ARCHIVE, PROGRAM, ROOT, SECONDS, Case, build_archive, commit, needs, output, path,
+                           temporary_folder, text_of)
 
 SHIPPED = path("tools/shipped.py")
 FIELDS = ("version", "homepage", "reports")
@@ -103,8 +103,7 @@ class About(Case):
             at = os.path.join(tree, "crates", name)
             os.makedirs(os.path.dirname(at))
             shutil.copy(built, at)
-        for words in (["init", "-q"], ["add", "ABOUT"], ["commit", "-q", "-m", "ABOUT"]):
-            subprocess.run(["git", *words], cwd=tree, check=True)
+        commit(tree, "ABOUT")
         return tree
 
     @needs("dpkg-deb", "x86_64-linux-gnu-gcc", package="gcc binutils")
