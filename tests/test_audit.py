@@ -233,6 +233,7 @@ class AllFaults(ProgramCase):
             for count, total, service, fault in notes:
                 told[fault] += int(count)
                 self.check(f"{name}: {service}s", int(total), values[service], given)
+            told.update(re.findall(r"^rdsrt: tags before the first text: (\w+) in", errors, re.M))
             self.check(f"{name}: counts", told, counted(wanted), given)
             kinds.update(told)
             entries += sum(told.values())

@@ -69,9 +69,7 @@ RUN_BY = [
     (r"tools/shipped.py$", "test_shipped"),
     (r"tools/static_library ", "test_c_library.Archive"),
     (r"tools/checked.py$", "test_checked.Records"),
-    (r"rt version$", "test_pages.Pages.test_the_kit_and_each_time_are_in_one_page"),
     (r"\./rdsrt (?:decode|audit|witness|encode|sim) .* < examples/[\w.]+$", "test_examples"),
-    (r"\./rdsrt audit --running --pi C201 < station.log$", "test_guide.Guide.test_the_lines_of_parallel"),
     (r"rdsrt slots$|rdsrt \.\. \| head$", "test_pipes"),
     (r"rdsrt audit spy.log$", "test_notes"),
 ]
@@ -79,7 +77,7 @@ RUN_BY = [
 NOT_HERE = [
     (r"\./test$|python3 -m tests|python3 -m unittest ", "the tests themselves"),
     (r"\(cd crates/rdsrt && rt try ", "it compiles the program anew, for minutes on a busy machine"),
-    (r"rt (?!version)", "a command of the kit: the gate runs `rt ci`, and that takes minutes"),
+    (r"rt ", "a command of the kit: the gate runs `rt ci`, and that takes minutes"),
     (r"\./install PREFIX --target (?:aarch64|armv7)$", "it builds for another target; tests/release runs it"),
     (r"tools/(?:release|build)$|tools/release OUT$|tests/release$", "makes or tries all packages, by hand: 30 minutes"),
     (r"tools/edits(?: NAME)?$", "it proves for minutes; test_edits tests all that needs no prover"),

@@ -78,7 +78,7 @@ impl ListNotes {
         };
         if is_name(said) {
             self.names.add(found, place);
-        } else if lister.texts().values == 0 {
+        } else if lister.audit.texts() == 0 {
             self.before.add(found, place);
         } else {
             self.texts.add(found, place);
