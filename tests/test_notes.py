@@ -58,6 +58,46 @@ ROWS = [
     (SIM, "text,HI,1,G2", "RECEPTIONS: receiver 0: G2 is later than --k 0 allows"),
     (ENCODE, "tags,0 0 64 0 0 0 0 0,1,", "ARGUMENT: class of tag 1 is 64, at most 63 is allowed"),
     (ENCODE, "tags,0 0 1 0 0 0 0,1,", "ARGUMENT: tags takes 8 numbers with one space between them, found 7"),
+    # no clause says which cause a row has: each cause, at its limits, and the first of two
+    (ENCODE, "x", "expected 4 fields (COMMAND,ARGUMENT,FREE,RECEPTIONS), found 1"),
+    (ENCODE, "sing,HI,2,X,", "expected 4 fields (COMMAND,ARGUMENT,FREE,RECEPTIONS), found 5"),
+    (ENCODE, "sing,HI,2,X", "COMMAND is not one of -, restart, text, name, tags (lower case)"),
+    (ENCODE, "restart, ,2,X", "ARGUMENT: - and restart take none"),
+    (ENCODE, f"text,{'x' * 64}€,2,X", "ARGUMENT: the text is too long by 1 (at most 64 characters)"),
+    (ENCODE, f"text,{'x' * 70}ß,2,X", "ARGUMENT: 'ß' at character 71 is not in the RDS character table"),
+    (ENCODE, r"text,ab\x4,2,X", r"ARGUMENT: the backslash at character 3 begins no escape (\x and two hexadecimal digits)"),
+    (ENCODE, r"text,é\x0Aa\x0D\x00,2,X", r"ARGUMENT: byte 4 of the text is \x0D, which a text may not contain"),
+    (ENCODE, r"name,a\x0Ab,2,X", r"ARGUMENT: byte 2 of the name is \x0A, which a name may not contain"),
+    (ENCODE, r"name,\x0Aabcdefgh,2,X", "ARGUMENT: the name is too long by 1 (at most 8 characters)"),
+    (ENCODE, f"name,{'x' * 70},2,X", "ARGUMENT: the name is too long by 62 (at most 8 characters)"),
+    (ENCODE, f"name,{'x' * 70}ß,2,X", "ARGUMENT: 'ß' at character 71 is not in the RDS character table"),
+    (ENCODE, "tags,,2,X", "ARGUMENT: tags takes 8 numbers with one space between them, found 1"),
+    (ENCODE, "tags,0 x 1 0 0 0 0 0 0,2,X", "ARGUMENT: tags takes 8 numbers with one space between them, found 9"),
+    (ENCODE, "tags,0  1 0 0 0 0 0,2,X", "ARGUMENT: number 2 is not 1 to 3 decimal digits of at most 255"),
+    (ENCODE, "tags,9 0 1 0 0 0 0 256,2,X", "ARGUMENT: number 8 is not 1 to 3 decimal digits of at most 255"),
+    (ENCODE, "tags,0 0 +1 0 0 0 0 0,2,X", "ARGUMENT: number 3 is not 1 to 3 decimal digits of at most 255"),
+    (ENCODE, "tags,2 2 64 64 64 64 64 32,2,X", "ARGUMENT: toggle is 2, at most 1 is allowed"),
+    (ENCODE, "tags,1 2 64 64 64 64 64 32,2,X", "ARGUMENT: running is 2, at most 1 is allowed"),
+    (ENCODE, "tags,1 1 63 64 64 64 64 32,2,X", "ARGUMENT: start of tag 1 is 64, at most 63 is allowed"),
+    (ENCODE, "tags,1 1 63 63 64 64 64 32,2,X", "ARGUMENT: length marker of tag 1 is 64, at most 63 is allowed"),
+    (ENCODE, "tags,1 1 0 63 63 64 64 32,2,X", "ARGUMENT: class of tag 2 is 64, at most 63 is allowed"),
+    (ENCODE, "tags,1 1 0 63 63 63 64 32,2,X", "ARGUMENT: start of tag 2 is 64, at most 63 is allowed"),
+    (ENCODE, "tags,1 1 0 63 63 63 63 32,2,X", "ARGUMENT: length marker of tag 2 is 32, at most 31 is allowed"),
+    (ENCODE, "tags,1 1 0 0 1 0 1 0,2,X", "ARGUMENT: the first tag has class 0, so its start and its length marker must be 0"),
+    (ENCODE, "tags,1 1 0 0 0 0 1 0,2,X", "ARGUMENT: the second tag has class 0, so its start and its length marker must be 0"),
+    (ENCODE, "-,,01,X", "FREE is not 0 or 1"),
+    (ENCODE, "-,,1,X", "RECEPTIONS: character 1 is not G, L, W or R"),
+    (SIM, "-,,1,GLg", "RECEPTIONS: character 3 is not G, L, W or R"),
+    (SIM, "-,,1,G0000L1", "RECEPTIONS: digits after the L or R at character 6, only G and W take digits"),
+    (SIM, "-,,1,RF", "RECEPTIONS: digits after the L or R at character 1, only G and W take digits"),
+    (SIM, "-,,1,LG00000", "RECEPTIONS: the G at character 2 takes up to 4 decimal digits"),
+    (SIM, "-,,1,G1A", "RECEPTIONS: the G at character 1 takes up to 4 decimal digits"),
+    (SIM, "-,,1,LLW214048490D2", "RECEPTIONS: the W at character 3 takes 12 hexadecimal digits (blocks 2 to 4)"),
+    (SIM, "-,,1,GGGGGGGGX", "RECEPTIONS: more than 8 receivers"),
+    (SIM, "-,,1,GGGGGGGXG", "RECEPTIONS: character 8 is not G, L, W or R"),
+    (SIM, "-,,1,LG1", "RECEPTIONS: receiver 1: G1 is later than --k 0 allows"),
+    (f"{SIM} --k 2", "-,,1,LG1", "RECEPTIONS: receiver 1: G1 asks for a slot before the first one"),
+    (SIM, "-,,1,LW214048490D20", "RECEPTIONS: receiver 1: a wrong group; only receivers with --confirm may get one"),
 ]
 # a log that breaks one rule at this slot and line, its M and K, and the sentence
 NOES = [
@@ -180,6 +220,11 @@ class Faults(ProgramCase):
         again = noted("sim --pi C201 --m 1 --k 2", b"-,,1,G\n-,,1,G1\n")[2]
         self.check("note on a group that was handed over", again,
                    note("fault row 2 (line 2): RECEPTIONS: receiver 0: it already has the slot of G1, or a newer one"))
+        wrong = noted(f"{SIM} --confirm 3", b"-,,1,LW214048490D20\n" * 2)[2]
+        self.check("note on the same wrong group again", wrong,
+                   note("fault row 2 (line 2): RECEPTIONS: receiver 1: the same wrong group again within the window of --confirm"))
+        mojibake = noted(ENCODE, b"text,\xff,2,X\n")[2]
+        self.check("note on an argument that is not UTF-8", mojibake, note("fault row 1 (line 1): ARGUMENT is not UTF-8"))
         first = noted(SIM, b"sing,HI,2,X\n")[2]
         self.check("the first cause of three is told", first,
                    note("fault row 1 (line 1): COMMAND is not one of -, restart, text, name, tags (lower case)"))

@@ -14,7 +14,7 @@ use std::alloc::Global;
 use std::cell::Cell;
 use std::test::Fail;
 
-/// The causes with their words. Which cause a row has is a clause (`IsRowCause`).
+/// The causes with their words. Which cause a row has is in tests/test_notes.py.
 const WORDS: [(RowCause, &str); 29] = [
     (
         RowCause::Fields(3),

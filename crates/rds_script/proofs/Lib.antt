@@ -6,7 +6,6 @@ pub mod Stretches
 pub mod AiringLines
 pub mod NotShown
 pub mod Receptions
-pub mod SecondReading
 pub mod OneEvent
 pub mod PlayedRows
 pub mod Plays

@@ -6,7 +6,7 @@ use Rattle.std.proofs.lemmas.List.Elements.{All-head, All-tail}
 use Rattle.std.specs.Char.{digit_value}
 use Rattle.std.specs.Str.Parse.{AllDigits, digits_value}
 use Rattle.rds_assembly.specs.Body.{space}
-use Rattle.rds_fields.specs.Tag.{IsPair, PairFields}
+use Rattle.rds_fields.specs.Tag.{PairFields}
 use Rattle.rds_script.specs.Rows.{AreNumbers, HasNoSpace, IsCut, IsNumber, numbers_of_pair}
 
 -- a space is no digit
@@ -125,8 +125,3 @@ too_many text numbers rest s full all few are = no_room (s.backward all are)
 -- a pair is said by its own numbers alone
 pub no_other_length : (text numbers : List ℕ) (pair : PairFields) → AreNumbers text numbers → AreNumbers text (numbers_of_pair pair) → length numbers ≢ 8 → ⊥
 no_other_length text numbers pair p q other = other (ap length (same_numbers text numbers (numbers_of_pair pair) p q))
-
-pub no_other_pair : (text numbers eight : List ℕ) (r : Option PairFields) → AreNumbers text numbers → eight ≡ numbers → IfNone r ((pair : PairFields) → eight ≡ numbers_of_pair pair → IsPair pair → ⊥)
-    → IfNone r ((pair : PairFields) → AreNumbers text (numbers_of_pair pair) → IsPair pair → ⊥)
-no_other_pair text numbers eight None p e none = λ pair are is. none pair (e ∙ same_numbers text numbers (numbers_of_pair pair) p are) is
-no_other_pair text numbers eight (Some x) p e none = tt

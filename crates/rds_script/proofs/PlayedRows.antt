@@ -1,5 +1,5 @@
 -- How a station goes on by a row, and why a record is no row.
-use Rattle.std.proofs.Common.{◌≡◌, ◌⊎◌, ◌<◌, ◌≤◌, ◌+◌, ◌∙◌, ◌∷◌, ◌++◌, [], ℕ, zero, suc, add-one, List, None, Option, Some, ap, ap₂, arith, inl, inr, length, refl, subst, sym}
+use Rattle.std.proofs.Common.{◌≡◌, ◌⊎◌, ◌<◌, ◌≤◌, ◌+◌, ◌∙◌, ◌∷◌, ◌++◌, [], ℕ, suc, add-one, List, None, Option, Some, ap, ap₂, arith, inl, inr, length, refl, subst, sym}
 use Rattle.std.specs.Prelude.{Err, Ok, OnOk, Result}
 use Rattle.rds_world.specs.Event.{Event}
 use Rattle.rds_world.specs.Premise.{Premise}
@@ -12,19 +12,16 @@ use Rattle.rds_world.specs.Slots.{entries, input_of}
 use Rattle.rds_world.specs.StandsAt.{IsViewOfInput, ShowsStill, tuned_to}
 use Rattle.rds_script.specs.Outcomes.{AreOutcomes, IsOutcome, Outcome, answer_lines, compared_lines, lines_of, newest_views, receiver_changes, slot_lines, view_at, whys_at}
 use Rattle.rds_script.specs.Inside.Compared.{HasRoom}
-use Rattle.rds_script.specs.Inside.Player.{AppendsRow, HasWatched, IsBegun, IsRowRefused, Played, PlayerStandsAt}
+use Rattle.rds_script.specs.Inside.Player.{AppendsRow, HasWatched, IsBegun, Played, PlayerStandsAt}
 use Rattle.rds_script.specs.Inside.Watched.{AreKept, WatchedStandsAt, WereShown, views_kept}
 use Rattle.rds_script.specs.Notes.{first_of, wait_of}
 use Rattle.rds_script.specs.declared.notes.EarlySet.{EarlySet}
 use Rattle.rds_script.specs.declared.player.Player.{Player}
-use Rattle.rds_script.specs.declared.row.RowRefused.TheVariants as refused
 use Rattle.rds_script.specs.declared.watched.Watched.{Watched}
 use Rattle.rds_charset.specs.Laws.{TextIsReadOneWay}
 use Rattle.rds_world.specs.Replies.{CanBeTaken, IsStepRefused, reply_at}
 use Rattle.rds_world.specs.declared.reply.StepRefused.{StepRefused}
 use Rattle.rds_world.specs.declared.reply.StepRefused.TheVariants as step
-use Rattle.rds_script.specs.RowCauses.{IsEventCause}
-use Rattle.rds_script.specs.declared.row_cause.RowCause.{RowCause}
 use Rattle.rds_script.specs.Receptions.{AreReceptions}
 use Rattle.rds_script.specs.Rows.{AreNoRows, AreRows, IsAllowed, Record, SaysEvent}
 use Rattle.rds_script.proofs.OneEvent.{same_event, same_events}
@@ -63,12 +60,6 @@ few_allowed Log n allowed = omega (arith, allowed)
 pub says_none : (k : Premise) (form : Form) (row : Record) (records : List Record) → ((e : Event) → length e.receptions ≤ MOST_RECEIVERS → SaysEvent row e → ⊥) → AreNoRows k form (row ∷ records)
 says_none k form row records none [] say = say.rows
 says_none k form row records none (e ∷ older) say = none e (let few = few_allowed form say.receivers say.allowed in omega (arith, few, say.rows.1.count)) say.rows.0
-
--- a number of receivers that is not allowed, of up to eight
-pub not_allowed : (form : Form) (n : ℕ) → n ≤ MOST_RECEIVERS → (IsAllowed form n → ⊥) → (form ≡ Log) × (0 < n)
-not_allowed (Simulation why) n few none = absurd (none few)
-not_allowed Log zero few none = absurd (none refl)
-not_allowed Log (suc n) few none = (refl, omega arith)
 
 -- rows of one script have one number of receivers
 same_receivers : (k : Premise) (n other : ℕ) (records : List Record) (events older : List Event) → AreRows k n records events → AreRows k other records older → 0 < length records → n ≡ other
@@ -188,22 +179,11 @@ refused_row one form k receivers row records e events rows says how none (g ∷ 
     none (subst (λ (n : ℕ). CanBeTaken k n e events) count (subst (λ (x : Event). CanBeTaken k say.receivers x events) same (subst (λ (l : List Event). CanBeTaken k say.receivers g l) before say.rows.1)))
 
 -- a slot that is refused can't be taken
-not_taken : (k : Premise) (receivers : ℕ) (e : Event) (before : List Event) (why : StepRefused) → IsStepRefused k receivers e before why → CanBeTaken k receivers e before → ⊥
+pub not_taken : (k : Premise) (receivers : ℕ) (e : Event) (before : List Event) (why : StepRefused) → IsStepRefused k receivers e before why → CanBeTaken k receivers e before → ⊥
 not_taken k receivers e before step.ReceiverCount refused taken = refused taken.count
 not_taken k receivers e before (step.Late r) refused taken = refused.late.late (taken.due r)
 not_taken k receivers e before (step.Wrong r) refused taken = refused.unfit.1.breaks (taken.fit r)
 not_taken k receivers e before (step.WrongConfirmed r) refused taken = refused.unfit.1.breaks (taken.fit r)
-
--- a slot that is refused: the record is no row, after rows or as the first one, for the cause that is found
-pub refused_on : TextIsReadOneWay → (played : Played) (k : Premise) (first slot receivers : ℕ) (row : Record) (e : Event) (events : List Event) (why : StepRefused) (cause : RowCause)
-    → k ≡ played.config.premise → first ≡ receivers → slot ≡ length played.records → AreRows played.config.premise receivers played.records events → SaysEvent row e → IsAllowed played.form (length e.receptions)
-    → (0 < length played.records) ⊎ (receivers ≡ length e.receptions) → IsStepRefused played.config.premise receivers e events why
-    → ((form : Form) (before : List Record) (row : Record) (events : List Event) → AreRows k first before events → slot ≡ length before → SaysEvent row e → IsAllowed form (length e.receptions)
-    → (0 < length before) ⊎ (first ≡ length e.receptions) → IsStepRefused k first e events why → IsEventCause form k before row cause)
-    → IsRowRefused played row (refused.NoRow cause)
-refused_on one played k first slot receivers row e events why cause late count now rows says allowed how is finds =
-    let found = finds played.form played.records row events (rw (late, count) rows) now says allowed (rw count how) (rw (late, count) is) in
-    (refused_row one played.form played.config.premise receivers row played.records e events rows says how (not_taken played.config.premise receivers e events why is), inr (inr (rw late at found)))
 
 -- what a receiver shows that shows what it showed
 pub still_shown : (config : Config) (n i : ℕ) (events : List Event) (kept now : List ShownView) → ShowsStill config i events → WereShown config n events kept → i < n

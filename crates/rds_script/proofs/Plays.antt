@@ -103,7 +103,7 @@ pub ends_by_fault : {R : Type 0} {g h : _} (remaining : R → Option (List ℕ))
     → (played : PlayedSoFar how p records before waiting) → PlaysNext remaining r.Failed r.known now after row (turn + 1) waiting more bad (where_next how p records before waiting played) (Err fault)
     → NotesTell how most r w (Err fault) (noted bad after)
 ends_by_fault remaining how most r w before s now p after row records waiting more turn bad (BadLine n) stands wrote number fewer kept played next = absurd next
-ends_by_fault remaining how most r w before s now p after row records waiting more turn bad (BadRow n) stands wrote number fewer kept played next = rw next.noted record {
+ends_by_fault remaining how most r w before s now p after row records waiting more turn bad (BadRow n) stands wrote number fewer kept played next = record {
   plays = (
     record {
       records = records;
@@ -115,7 +115,7 @@ ends_by_fault remaining how most r w before s now p after row records waiting mo
     },
     let is = next.number_is in omega (arith, fewer, is),
   );
-  bad = next.cause;
+  bad = next.noted;
   events = wrote.player.events;
   say = rows_say p _ wrote.player;
   wait = kept ∙ wrote.player.wait;

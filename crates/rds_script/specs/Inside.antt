@@ -1,7 +1,6 @@
 -- What each private object holds after its inputs: one file an object, in the order of the data, from the bytes of a
 -- reader to the lines that are written.
 pub mod FailureFlag
-pub mod Unread
 pub mod Compared
 pub mod Watched
 pub mod Player

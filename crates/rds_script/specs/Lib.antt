@@ -2,7 +2,6 @@
 pub mod Verbs
 pub mod Receptions
 pub mod Rows
-pub mod RowCauses
 pub mod OnAir
 pub mod Outcomes
 -- The promise of the calls: `simulate` and `encode` play a script.

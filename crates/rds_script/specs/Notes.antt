@@ -1,6 +1,7 @@
--- The notes on a script, beside its output: why a record is not a row, and the first thing that was set too early.
--- Lists of records and of events have the newest first.
-use Rattle.std.specs.Prelude.{◌≡◌, [], ◌∷◌, ℕ, List, Option, None, Some, Ok, Err, Result, length}
+-- The notes on a script, beside its output: that a record is not a row, and the first thing that was set too early. The
+-- cause that a note of a record has is for a person: tests compare it. Lists of records and of events have the newest
+-- first.
+use Rattle.std.specs.Prelude.{◌≡◌, [], ◌∷◌, ℕ, IsSome, List, Option, None, Some, Ok, Err, Result, length}
 use Rattle.rds_io.specs.Told.{Traffic}
 use Rattle.rds_encoder.specs.declared.reply.Refusal.{Refusal}
 use Rattle.rds_encoder.specs.declared.reply.Refusal.TheVariants.{Silent, Held, NoText, OutOfText}
@@ -16,7 +17,6 @@ use Rattle.rds_world.specs.Replies.{reply_at}
 use Rattle.rds_world.specs.Slots.{entries}
 use Rattle.rds_world.specs.State.{distance}
 use Rattle.rds_script.specs.Play.{Plays, Reading}
-use Rattle.rds_script.specs.RowCauses.{IsRowCause}
 use Rattle.rds_script.specs.Rows.{Record, RowsSay}
 use Rattle.rds_script.specs.declared.notes.BadRow.{BadRow}
 use Rattle.rds_script.specs.declared.notes.ScriptNotes.{ScriptNotes}
@@ -81,18 +81,17 @@ bad_record how most r w (Err fault.Memory) plays = None
 bad_record how most r w (Err fault.TooLong) plays = None
 bad_record how most r w (Err fault.Write) plays = None
 
--- a record that is not a row after these is noted with its cause; without one nothing is noted
-abbrev pub TellsBad : Playing → List Record → Option Record → Option BadRow → Type 0
-TellsBad how played None noted = noted ≡ None
-TellsBad how played (Some bad) None = ⊥
-TellsBad how played (Some bad) (Some note) = IsRowCause how.form how.config.premise played bad note.cause
+-- a record that is not a row is noted; without one nothing is noted
+abbrev pub TellsBad : Option Record → Option BadRow → Type 0
+TellsBad None noted = noted ≡ None
+TellsBad (Some bad) noted = IsSome noted
 
--- playing a script did this, and the notes hold the cause of a malformed record, and the first wait of the slots that
--- were played
+-- playing a script did this, and the notes hold whether it stopped at a malformed record, and the first wait of the slots
+-- that were played
 pub record NotesTell (how : Playing) (most : ℕ) (r : Reading) (w : Traffic) (result : Result (Unit {0}) LogFault)
     (notes : ScriptNotes) : Type 0 where
   pub plays : Plays how most r w result
-  pub bad : TellsBad how (rows_played how most r w result plays) (bad_record how most r w result plays) notes.bad
+  pub bad : TellsBad (bad_record how most r w result plays) notes.bad
   pub events : List Event
   pub say : RowsSay how.config.premise how.form (rows_played how most r w result plays) events
   pub wait : notes.wait ≡ first_wait how.config events

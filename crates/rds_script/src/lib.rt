@@ -8,6 +8,7 @@
 mod airing;
 mod airs;
 mod answer_lines;
+mod causes;
 mod compared;
 mod failure_flag;
 mod form;
@@ -19,7 +20,6 @@ mod player;
 mod records;
 mod row;
 mod row_cause;
-mod second_reading;
 mod watched;
 
 pub use form::Form;

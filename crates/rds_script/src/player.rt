@@ -6,11 +6,11 @@ ghost use Rattle.rds_script.specs.declared.row.RowRefused.TheVariants as refused
 ghost use Rattle.rds_script.specs.declared.watched.TheConstants.{OUTPUT_ROOM, ROW_ROOM};
 ghost use Rattle.rds_script.specs.declared.watched.Watched.{Watched};
 
+use crate::causes::refused_cause;
 use crate::form::Form;
 use crate::notes::EarlySet;
 use crate::row::{RowRefused, read_event};
 use crate::row_cause::RowCause;
-use crate::second_reading::{cause_of, refused_cause};
 use crate::watched::{RowLines, Watched};
 use arrayvec::ArrayVec;
 use csv::ByteRecord;
@@ -69,8 +69,8 @@ impl Player {
             free: false,
             receptions: ArrayVec::new(),
         };
-        if !read_event(row, &mut event) {
-            return Err(RowRefused::NoRow(cause_of(row)));
+        if let Err(cause) = read_event(row, &mut event) {
+            return Err(RowRefused::NoRow(cause));
         }
         let receivers = event.receptions.len();
         if !self.form.allows(receivers) {

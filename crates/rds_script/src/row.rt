@@ -1,6 +1,6 @@
 //! The event of a row.
 ghost use Rattle.std.specs.Prelude.{◌≡◌, ◌≢◌, ◌<◌, ◌≤◌, [], ◌∷◌};
-ghost use Rattle.std.specs.Prelude.{ℕ, Bool, List, IfNone, IfSome, IsFalse, IsTrue, IsUtf8, length, slice_index};
+ghost use Rattle.std.specs.Prelude.{ℕ, Bool, List, IfNone, IfOk, IfSome, IsUtf8, OnErr, OnOk, length, slice_index};
 ghost use Rattle.std.specs.Char.{IsAsciiHexdigit, IsNotAsciiHexdigit};
 ghost use Rattle.std.specs.Int.{from_bool};
 ghost use Rattle.csv.specs.Records.{fields_of};
@@ -19,6 +19,7 @@ ghost use Rattle.rds_script.specs.Receptions.{AreReceptions, HasDigits, IsDigitC
 ghost use Rattle.rds_script.specs.Rows.{AreNumbers, HasNoSpace, IsCut, IsNameArgument, IsNumber};
 ghost use Rattle.rds_script.specs.Rows.{SaysCommand, SaysEvent, free_field, numbers_of_pair, numbers_of_tag};
 
+use crate::causes::{name_cause, number_cause, pair_cause, reception_cause, text_cause};
 use crate::row_cause::RowCause;
 use arrayvec::ArrayVec;
 use csv::ByteRecord;
@@ -48,37 +49,40 @@ pub(crate) enum RowRefused {
     Memory,
 }
 
-/// Reads a record into an empty event, without a copy. Returns `false` for a record that is not a row. The event may
-/// then hold a part of it.
-pub(crate) fn read_event(row: &ByteRecord, event: &mut SlotEvent) -> bool
+/// Reads a record into an empty event, without a copy.
+///
+/// # Errors
+///
+/// The first cause, in the order of the fields, if the record says no event. The event may then hold a part of it.
+pub(crate) fn read_event(row: &ByteRecord, event: &mut SlotEvent) -> Result<(), RowCause>
     requires quiet { event.old.command ≡ commands.Quiet }
     requires empty { event.old.receptions ≡ [] }
-    ensures some { IsTrue result → SaysEvent (fields_of row.now) event.new }
-    ensures none { IsFalse result → (e : Event) → length e.receptions ≤ MOST_RECEIVERS
-        → SaysEvent (fields_of row.now) e → ⊥ }
+    ensures says { OnOk result (SaysEvent (fields_of row.now) event.new) }
+    ensures none { OnErr result ((e : Event) → length e.receptions ≤ MOST_RECEIVERS
+        → SaysEvent (fields_of row.now) e → ⊥) }
 {
     let Some(fields) = four_fields(row) else {
-        return false;
+        return Err(RowCause::Fields(row.len()));
     };
+    read_command(fields.word, fields.argument, &mut event.command)?;
     let Some(free) = free_of(fields.free) else {
-        return false;
+        return Err(RowCause::Free);
     };
     event.free = free;
-    read_command(fields.word, fields.argument, &mut event.command)
-        && read_receptions(fields.receptions, &mut event.receptions)
+    read_receptions(fields.receptions, &mut event.receptions)
 }
 
 /// The four fields of a row.
 #[derive(Clone, Copy)]
-pub(crate) struct Fields<'a> {
-    pub(crate) word: &'a [u8],
-    pub(crate) argument: &'a [u8],
-    pub(crate) free: &'a [u8],
-    pub(crate) receptions: &'a [u8],
+struct Fields<'a> {
+    word: &'a [u8],
+    argument: &'a [u8],
+    free: &'a [u8],
+    receptions: &'a [u8],
 }
 
 /// Returns the fields of a record. `None` if they are not four.
-pub(crate) fn four_fields(row: &ByteRecord) -> Option<Fields<'_>>
+fn four_fields(row: &ByteRecord) -> Option<Fields<'_>>
     ensures some { IfSome result (λ fields. fields_of row.now ≡ fields.word.now
         ∷ fields.argument.now ∷ fields.free.now ∷ fields.receptions.now ∷ []) }
     ensures none { IfNone result (length (fields_of row.now) ≢ 4) }
@@ -96,15 +100,15 @@ pub(crate) fn four_fields(row: &ByteRecord) -> Option<Fields<'_>>
 
 /// Reads the command of a word and its argument, if there is one. Most rows have none, and pay for none.
 #[inline(always)]
-fn read_command(word: &[u8], argument: &[u8], command: &mut Command) -> bool
+fn read_command(word: &[u8], argument: &[u8], command: &mut Command) -> Result<(), RowCause>
     requires { command.old ≡ commands.Quiet }
-    ensures text { IsTrue result → IsUtf8 argument.now }
-    ensures some { IsTrue result → SaysCommand word.now argument.now command.new }
-    ensures none { IsFalse result → (other : Command) → IsUtf8 argument.now
-        → SaysCommand word.now argument.now other → ⊥ }
+    ensures text { OnOk result (IsUtf8 argument.now) }
+    ensures says { OnOk result (SaysCommand word.now argument.now command.new) }
+    ensures none { OnErr result ((other : Command) → IsUtf8 argument.now
+        → SaysCommand word.now argument.now other → ⊥) }
 {
     if word == b"-".as_slice() && argument.is_empty() {
-        return true;
+        return Ok(());
     }
     read_any_command(word, argument, command)
 }
@@ -112,46 +116,46 @@ fn read_command(word: &[u8], argument: &[u8], command: &mut Command) -> bool
 /// Reads any command of a word and its argument.
 // Cold path.
 #[inline(never)]
-fn read_any_command(word: &[u8], argument: &[u8], command: &mut Command) -> bool
-    ensures text { IsTrue result → IsUtf8 argument.now }
-    ensures some { IsTrue result → SaysCommand word.now argument.now command.new }
-    ensures none { IsFalse result → (other : Command) → IsUtf8 argument.now
-        → SaysCommand word.now argument.now other → ⊥ }
+fn read_any_command(word: &[u8], argument: &[u8], command: &mut Command) -> Result<(), RowCause>
+    ensures text { OnOk result (IsUtf8 argument.now) }
+    ensures says { OnOk result (SaysCommand word.now argument.now command.new) }
+    ensures none { OnErr result ((other : Command) → IsUtf8 argument.now
+        → SaysCommand word.now argument.now other → ⊥) }
 {
-    let Some(told) = command_of(word, argument) else {
-        return false;
-    };
-    *command = told;
-    true
+    *command = command_of(word, argument)?;
+    Ok(())
 }
 
 /// Returns the command of a word and its argument.
-fn command_of(word: &[u8], argument: &[u8]) -> Option<Command>
-    ensures text { IfSome result (λ _. IsUtf8 argument.now) }
-    ensures some { IfSome result (SaysCommand word.now argument.now) }
-    ensures none { IfNone result ((command : Command) → IsUtf8 argument.now
+fn command_of(word: &[u8], argument: &[u8]) -> Result<Command, RowCause>
+    ensures text { OnOk result (IsUtf8 argument.now) }
+    ensures says { IfOk result (SaysCommand word.now argument.now) }
+    ensures none { OnErr result ((command : Command) → IsUtf8 argument.now
         → SaysCommand word.now argument.now command → ⊥) }
 {
-    match verb_of(word)? {
-        Verb::Nothing if argument.is_empty() => Some(Command::Quiet),
-        Verb::Restart if argument.is_empty() => Some(Command::Restart),
-        Verb::Nothing | Verb::Restart => None,
-        Verb::Text => Some(Command::SetText(text_of(characters(argument)?)?)),
-        Verb::Name => Some(Command::SetName(name_of(characters(argument)?)?)),
-        Verb::Tags => Some(Command::SetTags(pair_of(characters(argument)?)?)),
+    let Some(verb) = verb_of(word) else {
+        return Err(RowCause::UnknownCommand);
+    };
+    match verb {
+        Verb::Nothing if argument.is_empty() => Ok(Command::Quiet),
+        Verb::Restart if argument.is_empty() => Ok(Command::Restart),
+        Verb::Nothing | Verb::Restart => Err(RowCause::ArgumentNotEmpty),
+        Verb::Text => Ok(Command::SetText(text_of(characters(argument)?)?)),
+        Verb::Name => Ok(Command::SetName(name_of(characters(argument)?)?)),
+        Verb::Tags => Ok(Command::SetTags(pair_of(characters(argument)?)?)),
     }
 }
 
-/// Returns the characters of an argument. `None` if it is not UTF-8.
-pub(crate) fn characters(argument: &[u8]) -> Option<&str>
-    ensures some { IfSome result (λ text. (text.now ≡ argument.now) × IsUtf8 argument.now) }
-    ensures none { IfNone result (IsUtf8 argument.now → ⊥) }
+/// Returns the characters of an argument.
+fn characters(argument: &[u8]) -> Result<&str, RowCause>
+    ensures ok { IfOk result (λ text. (text.now ≡ argument.now) × IsUtf8 argument.now) }
+    ensures none { OnErr result (IsUtf8 argument.now → ⊥) }
 {
-    str::from_utf8(argument).ok()
+    str::from_utf8(argument).ok().ok_or(RowCause::NotUtf8)
 }
 
 /// Returns the verb of a word.
-pub(crate) fn verb_of(word: &[u8]) -> Option<Verb>
+fn verb_of(word: &[u8]) -> Option<Verb>
     ensures some { IfSome result (λ verb. word.now ≡ verb_word verb) }
     ensures none { IfNone result ((verb : Verb) → word.now ≡ verb_word verb → ⊥) }
 {
@@ -166,37 +170,53 @@ pub(crate) fn verb_of(word: &[u8]) -> Option<Verb>
 }
 
 /// Reads a text in its printed form.
-fn text_of(argument: &str) -> Option<Text>
-    ensures some { IfSome result (λ x. IsReadAs argument.now x × IsText x) }
-    ensures none { IfNone result ((x : List ℕ) → IsReadAs argument.now x → IsText x → ⊥) }
+fn text_of(argument: &str) -> Result<Text, RowCause>
+    ensures ok { IfOk result (λ x. IsReadAs argument.now x × IsText x) }
+    ensures none { OnErr result ((x : List ℕ) → IsReadAs argument.now x → IsText x → ⊥) }
 {
     // No other text has this printed form: this law is used below.
     text_is_read_one_way();
     let mut bytes = [0; LONGEST_TEXT];
-    let count = read_text(argument, &mut bytes).ok()?;
-    Text::new(&bytes[..count]).ok()
+    let Ok(count) = read_text(argument, &mut bytes) else {
+        return Err(text_cause(argument, &[], None));
+    };
+    match Text::new(&bytes[..count]) {
+        Ok(text) => Ok(text),
+        Err(why) => Err(text_cause(argument, &bytes, Some(why))),
+    }
 }
 
 /// Reads a name in its printed form.
-fn name_of(argument: &str) -> Option<Name>
-    ensures some { IfSome result (IsNameArgument argument.now) }
-    ensures none { IfNone result ((x : List ℕ) → IsNameArgument argument.now x → ⊥) }
+fn name_of(argument: &str) -> Result<Name, RowCause>
+    ensures ok { IfOk result (IsNameArgument argument.now) }
+    ensures none { OnErr result ((x : List ℕ) → IsNameArgument argument.now x → ⊥) }
 {
     // No other name has this printed form: this law is used below.
     text_is_read_one_way();
     let mut bytes = [0; LONGEST_TEXT];
-    let count = read_text(argument, &mut bytes).ok()?;
-    Name::new(&bytes[..count]).ok()
+    let Ok(count) = read_text(argument, &mut bytes) else {
+        return Err(name_cause(argument, &[], None));
+    };
+    match Name::new(&bytes[..count]) {
+        Ok(name) => Ok(name),
+        Err(why) => Err(name_cause(argument, &bytes, Some(why))),
+    }
 }
 
 /// Reads a pair of tags from eight numbers.
-fn pair_of(argument: &str) -> Option<TagPair>
-    ensures some { IfSome result
+fn pair_of(argument: &str) -> Result<TagPair, RowCause>
+    ensures ok { IfOk result
         (λ pair. AreNumbers argument.now (numbers_of_pair pair) × IsPair pair) }
-    ensures none { IfNone result ((pair : PairFields)
+    ensures none { OnErr result ((pair : PairFields)
         → AreNumbers argument.now (numbers_of_pair pair) → IsPair pair → ⊥) }
 {
-    pair_of_numbers(numbers_of(argument)?.into_inner().ok()?)
+    let Ok(numbers) = numbers_of(argument)?.into_inner() else {
+        return Err(number_cause(argument, 0));
+    };
+    match pair_of_numbers(numbers) {
+        Some(pair) => Ok(pair),
+        None => Err(pair_cause(numbers)),
+    }
 }
 
 /// Makes a pair of tags from numbers: toggle bit and running bit, then content type, start and length marker of each
@@ -234,23 +254,33 @@ fn bit_of(number: u8) -> Option<bool>
 }
 
 /// Reads the numbers of a text, at most eight.
-fn numbers_of(text: &str) -> Option<ArrayVec<u8, 8>>
-    ensures some { IfSome result (λ numbers. AreNumbers text.now numbers.items) }
-    ensures none { IfNone result ((numbers : List ℕ) → length numbers ≤ 8
+fn numbers_of(text: &str) -> Result<ArrayVec<u8, 8>, RowCause>
+    ensures ok { IfOk result (λ numbers. AreNumbers text.now numbers.items) }
+    ensures none { OnErr result ((numbers : List ℕ) → length numbers ≤ 8
         → AreNumbers text.now numbers → ⊥) }
 {
     let mut numbers = ArrayVec::new();
     let mut rest = text;
     while let Some((first, after)) = cut_at_space(rest) {
-        numbers.try_push(number_of(first)?).ok()?;
+        let Some(number) = number_of(first) else {
+            return Err(number_cause(text, numbers.len()));
+        };
+        let Ok(()) = numbers.try_push(number) else {
+            return Err(number_cause(text, 8));
+        };
         rest = after;
     }
-    numbers.try_push(number_of(rest)?).ok()?;
-    Some(numbers)
+    let Some(number) = number_of(rest) else {
+        return Err(number_cause(text, numbers.len()));
+    };
+    let Ok(()) = numbers.try_push(number) else {
+        return Err(number_cause(text, 8));
+    };
+    Ok(numbers)
 }
 
 /// Splits a text at its first space.
-pub(crate) fn cut_at_space(text: &str) -> Option<(&str, &str)>
+fn cut_at_space(text: &str) -> Option<(&str, &str)>
     ensures some { IfSome result (λ cut. IsCut text.now cut.0.now cut.1.now) }
     ensures none { IfNone result (HasNoSpace text.now) }
 {
@@ -258,7 +288,7 @@ pub(crate) fn cut_at_space(text: &str) -> Option<(&str, &str)>
 }
 
 /// Reads a number up to 255 of one to three decimal digits.
-pub(crate) fn number_of(text: &str) -> Option<u8>
+fn number_of(text: &str) -> Option<u8>
     ensures some { IfSome result (IsNumber text.now) }
     ensures none { IfNone result ((n : ℕ) → IsNumber text.now n → ⊥) }
 {
@@ -269,7 +299,7 @@ pub(crate) fn number_of(text: &str) -> Option<u8>
 }
 
 /// Reads whether the slot is free.
-pub(crate) fn free_of(field: &[u8]) -> Option<bool>
+fn free_of(field: &[u8]) -> Option<bool>
     ensures some { IfSome result (λ free. field.now ≡ free_field free) }
     ensures none { IfNone result ((free : Bool) → field.now ≡ free_field free → ⊥) }
 {
@@ -280,19 +310,22 @@ pub(crate) fn free_of(field: &[u8]) -> Option<bool>
     }
 }
 
-/// Reads the reception of each receiver into an empty list. Returns `false` if they are malformed or more than eight.
-fn read_receptions(field: &[u8], receptions: &mut ArrayVec<Reception, MOST_RECEIVERS>) -> bool
+/// Reads the reception of each receiver into an empty list.
+fn read_receptions(
+    field: &[u8],
+    receptions: &mut ArrayVec<Reception, MOST_RECEIVERS>,
+) -> Result<(), RowCause>
     requires { receptions.old.items ≡ [] }
-    ensures some { IsTrue result → AreReceptions field.now receptions.new.items }
-    ensures none { IsFalse result → (others : List Reception) → length others ≤ MOST_RECEIVERS
-        → AreReceptions field.now others → ⊥ }
+    ensures are { OnOk result (AreReceptions field.now receptions.new.items) }
+    ensures none { OnErr result ((others : List Reception) → length others ≤ MOST_RECEIVERS
+        → AreReceptions field.now others → ⊥) }
 {
     // Prover: a variable of the type in `Reception::Wrong`, for the borrow checker (docs/PROVER.md, "Workarounds").
     let _message: Option<Message> = None;
     let mut rest = field;
     while let Some((letter, after)) = rest.split_first() {
         if receptions.len() == MOST_RECEIVERS {
-            return false;
+            return Err(RowCause::TooManyReceivers);
         }
         if let Some(reception) = plain_reception(*letter, after) {
             receptions.push(reception);
@@ -300,12 +333,13 @@ fn read_receptions(field: &[u8], receptions: &mut ArrayVec<Reception, MOST_RECEI
             continue;
         }
         let Some((reception, others)) = next_reception(*letter, after) else {
-            return false;
+            let place = field.len().saturating_sub(after.len());
+            return Err(reception_cause(*letter, place));
         };
         receptions.push(reception);
         rest = others;
     }
-    true
+    Ok(())
 }
 
 /// Returns the reception of a letter that no digit follows, as most are. `None` for others.
@@ -334,7 +368,7 @@ fn next_reception(byte: u8, after: &[u8]) -> Option<(Reception, &[u8])>
 
 /// Returns how many hexadecimal digits the text begins with.
 #[inline(always)]
-pub(crate) fn digits_in_front(text: &[u8]) -> usize
+fn digits_in_front(text: &[u8]) -> usize
     ensures within { result ≤ length text.now }
     ensures digits { (k : ℕ) → k < result → IsAsciiHexdigit (slice_index text.now k) }
     ensures ends { result < length text.now → IsNotAsciiHexdigit (slice_index text.now result) }
@@ -346,7 +380,7 @@ pub(crate) fn digits_in_front(text: &[u8]) -> usize
 
 /// Returns the reception of a letter and the digits after it.
 #[inline(always)]
-pub(crate) fn reception_of(byte: u8, digits: &[u8]) -> Option<Reception>
+fn reception_of(byte: u8, digits: &[u8]) -> Option<Reception>
     ensures some { IfSome result (λ reception. (byte ≡ letter reception)
         × HasDigits reception digits.now) }
     ensures none { IfNone result ((reception : Reception) → byte ≡ letter reception

@@ -1,6 +1,6 @@
 -- The state of the parts of a script's engine: its reader after these records, and its station after their slots. Lists
 -- have the newest first.
-use Rattle.std.specs.Prelude.{◌≡◌, ◌⊎◌, ◌<◌, ◌++◌, ◌∷◌, ℕ, [], Bool, Err, List, None, Ok, Option, Result, Some, false}
+use Rattle.std.specs.Prelude.{◌≡◌, ◌⊎◌, ◌<◌, ◌++◌, ◌∷◌, ℕ, [], Bool, Err, IsSome, List, None, Ok, Option, Result, Some, false}
 use Rattle.std.specs.Prelude.{length, true}
 use Rattle.std.specs.Io.KnownBytes.{Appends}
 use Rattle.csv.specs.Reading.{Ready, default_config, is_flexible, reader_config, reader_state, reader_trim, source_of}
@@ -12,7 +12,6 @@ use Rattle.rds_world.specs.Event.{Event}
 use Rattle.rds_script.specs.Inside.FailureFlag.{asked_bytes}
 use Rattle.rds_script.specs.Inside.Compared.{HasRoom}
 use Rattle.rds_script.specs.Inside.Watched.{AreKept, WatchedStandsAt, WhereWatchedStands, views_kept}
-use Rattle.rds_script.specs.RowCauses.{IsRowCause}
 use Rattle.rds_script.specs.Rows.{AreNoRows, AreRows, IsAllowed, Record}
 use Rattle.rds_script.specs.Outcomes.{AreOutcomes, Outcome, lines_of, newest_views}
 use Rattle.rds_script.specs.Play.{HasAllRecords, HasRecords, RecordsUpTo}
@@ -113,23 +112,19 @@ abbrev pub IsFirstOrAlone : Option Watched → Type 0
 IsFirstOrAlone None = Unit {0}
 IsFirstOrAlone (Some before) = WhereWatchedStands before (λ config n events. config.kind ≡ FlagAlone)
 
--- the reason why a record is not played after these: they are not all rows, for this cause; or there is no memory: for
--- a world, if it is the first, or for what was on air, if the receivers are radios with the flag bit alone
+-- the reason why a record is not played after these: they are not all rows; or there is no memory: for a world, if it
+-- is the first, or for what was on air, if the receivers are radios with the flag bit alone
 abbrev pub IsRowRefused : Played → Record → RowRefused → Type 0
-IsRowRefused played row (NoRow cause) =
-    AreNoRows played.config.premise played.form (row ∷ played.records)
-    × IsRowCause played.form played.config.premise played.records row cause
+IsRowRefused played row (NoRow cause) = AreNoRows played.config.premise played.form (row ∷ played.records)
 IsRowRefused played row refused.Memory = (length played.records ≡ 0) ⊎ (played.config.kind ≡ FlagAlone)
 
--- after the records that were played, this one, which is number n, is not a row, and its cause is noted
+-- after the records that were played, this one, which is number n, is not a row, and a cause is noted
 pub record IsBadRecord (known : Option (List ℕ)) (played : Played) (row : Record) (number n : ℕ)
     (bad : Option BadRecord) : Type 0 where
   pub number_is : n ≡ number
   pub begins : HasRecords known (row ∷ played.records)
   pub none : AreNoRows played.config.premise played.form (row ∷ played.records)
-  pub note : BadRecord
-  pub noted : bad ≡ Some note
-  pub cause : IsRowCause played.form played.config.premise played.records row note.cause
+  pub noted : IsSome bad
 
 -- the next record of a script: true if it is a row and the player played it, false if the script has no more records.
 -- It has this number; ReadFailed says that a read of the reader failed

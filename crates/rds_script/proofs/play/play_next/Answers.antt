@@ -16,8 +16,6 @@ returns-in-Err-NoRow-clause-plays g c known played stands player =
     record {
       number_is = refl;
       begins = has_records g.R.Read.remaining known c.next.new.self (fields_of c.next.new.row ∷ played.records) after;
-      none = refused.0;
-      note = _;
+      none = refused;
       noted = refl;
-      cause = refused.1;
     }

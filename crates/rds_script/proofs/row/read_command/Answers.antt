@@ -6,8 +6,8 @@ empty : (text : List ℕ) → length text ≡ 0 → text ≡ []
 empty [] e = refl
 empty (byte ∷ text) e = absurd (omega arith)
 
-pub returns-then-is_empty-clause-some : goal.returns-then-is_empty-clause-some
-returns-then-is_empty-clause-some c _ =
+pub returns-then-is_empty-clause-says : goal.returns-then-is_empty-clause-says
+returns-then-is_empty-clause-says c =
     let word : c.args.word.now ≡ 45 ∷ [] = search rules in
     let argument : c.args.argument.now ≡ [] = empty c.args.argument.now (grind (arith, common_steps)) in
     rw c.requires (word, argument)

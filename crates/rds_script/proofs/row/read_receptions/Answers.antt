@@ -3,13 +3,13 @@ use Rattle.rds_script.proofs.Receptions.{all_read, no_reception, one_more, some_
 use Rattle.rds_script.proofs.row.read_receptions.Goals as goal
 
 pub returns-in_default-next_reception-clause-none : goal.returns-in_default-next_reception-clause-none
-returns-in_default-next_reception-clause-none c _ receptions few are =
+returns-in_default-next_reception-clause-none c receptions few are =
     let (digits, rest, cut) = some_cut c.in-Some.after.now in
     no_reception c.args.field.now c.loop-letter.rest.now c.in-Some.after.now digits rest c.loop-letter.receptions.items c.in-Some.letter.now c.loop-letter.invariant
     c.in-Some.ensures.cases.0 cut (c.in_default-next_reception.ensures.none digits rest cut) receptions are
 
 pub returns-then-len-eq-MOST_RECEIVERS-clause-none : goal.returns-then-len-eq-MOST_RECEIVERS-clause-none
-returns-then-len-eq-MOST_RECEIVERS-clause-none c _ =
+returns-then-len-eq-MOST_RECEIVERS-clause-none c =
     too_many c.args.field.now c.loop-letter.rest.now c.in-Some.after.now c.loop-letter.receptions.items c.in-Some.letter.now c.loop-letter.invariant c.in-Some.ensures.cases.0 (search rules)
 
 pub loop-letter-preserved : goal.loop-letter-preserved
@@ -26,5 +26,5 @@ loop-letter-preserved-in-Some-plain_reception c =
     rw pushed (one_more c.args.field.now c.loop-letter.rest.now c.in-Some.after.now [] c.in-Some.after.now c.loop-letter.receptions.items c.in-Some.letter.now c.in-Some-plain_reception.reception
     c.loop-letter.invariant c.in-Some.ensures.cases.0 cut byte has)
 
-pub returns-clause-some : goal.returns-clause-some
-returns-clause-some c _ = all_read c.args.field.now c.loop-letter.rest.now c.loop-letter.receptions.items c.loop-letter.invariant c.in_default.ensures.cases
+pub returns-clause-are : goal.returns-clause-are
+returns-clause-are c = all_read c.args.field.now c.loop-letter.rest.now c.loop-letter.receptions.items c.loop-letter.invariant c.in_default.ensures.cases

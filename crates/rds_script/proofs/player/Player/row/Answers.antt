@@ -8,33 +8,31 @@ use Rattle.rds_world.specs.Slots.{entries}
 use Rattle.rds_world.specs.State.{distance}
 use Rattle.rds_world.specs.declared.receiver_kind.ReceiverKind.TheVariants.{FlagAlone}
 use Rattle.rds_world.specs.declared.reply.Reply.{Reply}
-use Rattle.rds_world.specs.declared.world.Config.{Config}
 use Rattle.rds_script.specs.Notes.{first_of, wait_of}
 use Rattle.rds_script.specs.declared.notes.EarlySet.{EarlySet}
 use Rattle.rds_script.specs.Inside.Player.{HasWatched, IsFirstOrAlone, Played}
-use Rattle.rds_script.specs.Inside.Watched.{WatchedStandsAt, views_kept}
+use Rattle.rds_script.specs.Inside.Watched.{views_kept}
 use Rattle.rds_script.specs.Outcomes.{Outcome}
 use Rattle.rds_script.specs.Rows.{IsAllowed}
 use Rattle.rds_script.specs.declared.player.Player.{Player}
 use Rattle.rds_script.specs.declared.watched.Watched.{Watched}
-use Rattle.rds_script.proofs.PlayedRows.{IsReady, as_many_outcomes, as_many_rows, is_ready, names_receivers, plays_on, not_allowed, refused_on, says_none}
+use Rattle.rds_script.proofs.PlayedRows.{IsReady, as_many_rows, is_ready, names_receivers, not_taken, plays_on, refused_row, says_none}
 use Rattle.rds_script.proofs.player.Player.row.Goals as goal
 
-pub returns-then-not-read_event-clause-refused : goal.returns-then-not-read_event-clause-refused
-returns-then-not-read_event-clause-refused c played s =
-    (says_none played.config.premise played.form (fields_of c.args.row.now) played.records (c.read_event.ensures.none c.if-not-read_event.true), c.cause_of.ensures played.form played.config.premise played.records)
+pub returns-in-Err-clause-refused : goal.returns-in-Err-clause-refused
+returns-in-Err-clause-refused c played s =
+    says_none played.config.premise played.form (fields_of c.args.row.now) played.records c.in-Err.ensures.none
 
 pub returns-then-not-allows-clause-refused : goal.returns-then-not-allows-clause-refused
 returns-then-not-allows-clause-refused c played s =
     let asked : c.len-receivers.result ≡ length c.read_event.new.event.receptions = search rules in
-    let says = c.read_event.ensures.some c.if-not-read_event.false in
+    let says = c.in_default.ensures.says in
     let none : IsAllowed played.form (length c.read_event.new.event.receptions) → ⊥ = λ allowed.
     let here : IsAllowed c.args.self.now.form c.len-receivers.result = rw (s.form_is, asked) allowed in
     let yes_allowed = c.allows.ensures.1 here in
     let no = c.if-not-allows.true in
     cc in
-    let (log, some) = not_allowed played.form (length c.read_event.new.event.receptions) (omega (arith, asked, c.len-receivers.ensures.fits)) none in
-    (names_receivers played.config.premise played.form (fields_of c.args.row.now) played.records c.read_event.new.event says none, inr (inr (log, c.read_event.new.event, says, asked, omega (arith, some, asked))))
+    names_receivers played.config.premise played.form (fields_of c.args.row.now) played.records c.read_event.new.event says none
 
 -- there is no memory: for a world, or for what was on air
 no_memory : (played : Played) (events : List Event) (outcomes : List Outcome) (watched : Option Watched) → length played.records ≡ length events
@@ -67,12 +65,12 @@ returns-in-Ok-clause-stands c played s =
     ∙ ap (λ (x : Option EarlySet). first_of (wait_of c.args.self.now.slot c.read_event.new.event.command answered) x) before in
     let waited : OnOk c.play.result (c.play.new.wait ≡ first_of (wait_of c.args.self.now.slot c.read_event.new.event.command answered) c.args.self.now.wait) = rw c.in-Ok.is noted in
     let all = plays_on c.play.result c.args.self.now _ played s r.receivers (views_kept c.in-Some.watched) c.play.new.self (fields_of c.args.row.now) c.read_event.new.event c.args.lines.now c.play.new.lines form (ap (λ (p : Player). p.config) same) (ap (λ n. n + 1) slot) refl
-    r.allowed r.rows (c.read_event.ensures.some c.if-not-read_event.false) r.same (c.play.ensures.taken played.config r.receivers s.events r.stands) (c.play.ensures.stands played.config r.receivers s.events r.stands)
+    r.allowed r.rows c.in_default.ensures.says r.same (c.play.ensures.taken played.config r.receivers s.events r.stands) (c.play.ensures.stands played.config r.receivers s.events r.stands)
     (rw (form, s.form_is, slot) at (c.play.ensures.outcome played.config r.receivers s.events r.stands)) waited in
     rw c.in-Ok.is at all
 
-pub returns-in-Err-clause-refused : goal.returns-in-Err-clause-refused
-returns-in-Err-clause-refused c played s =
+pub returns-in-Err-play-clause-refused : goal.returns-in-Err-play-clause-refused
+returns-in-Err-play-clause-refused c played s =
     let (w, same, begun) = c.in_ok-begin.ensures.begins in
     let found = sym (ap (λ (p : Player). p.watched) same) ∙ c.in-Some.is in
     let is : w ≡ c.in-Some.watched = (cc) in
@@ -80,13 +78,9 @@ returns-in-Err-clause-refused c played s =
     let asked : c.len-receivers.result ≡ length c.read_event.new.event.receptions = search rules in
     let r = subst (IsReady played s.events s.outcomes c.len-receivers.result) is
     (is_ready c.args.self.now.watched w played c.len-receivers.result s.events s.outcomes s.allowed (rw s.form_is at allowed) s.rows s.are s.watched (rw s.config_is at begun)) in
-    let kept : c.play.new.self ≡ c.in-Some.watched = c.in-Err.ensures.kept in
-    let stands : WatchedStandsAt played.config r.receivers c.play.new.self s.events = subst (λ (x : Watched). WatchedStandsAt played.config r.receivers x s.events) (sym kept) r.stands in
-    let slots : c.args.self.now.slot ≡ length played.records = s.slot ∙ sym (as_many_outcomes played.config s.events s.outcomes s.are) ∙ sym (as_many_rows played.config.premise played.receivers played.records s.events s.rows) in
-    refused_on c.text_is_read_one_way.ensures played c.begin.new.self.config.premise c.receivers.result c.begin.new.self.slot r.receivers (fields_of c.args.row.now) c.read_event.new.event s.events c.in-Err.why c.refused_cause.result
-    (ap (λ (p : Player). p.config.premise) same ∙ ap (λ (x : Config). x.premise) s.config_is) (c.receivers.ensures played.config r.receivers s.events stands) (ap (λ (p : Player). p.slot) same ∙ slots)
-    r.rows (c.read_event.ensures.some c.if-not-read_event.false) (rw (s.form_is, asked) at allowed) (subst (λ (n : ℕ). (0 < length played.records) ⊎ (r.receivers ≡ n)) asked r.how)
-    (c.in-Err.ensures.refused played.config r.receivers s.events r.stands) c.refused_cause.ensures
+    refused_row c.text_is_read_one_way.ensures played.form played.config.premise r.receivers (fields_of c.args.row.now) played.records c.read_event.new.event s.events r.rows c.in_default.ensures.says
+    (subst (λ (n : ℕ). (0 < length played.records) ⊎ (r.receivers ≡ n)) asked r.how)
+    (not_taken played.config.premise r.receivers c.read_event.new.event s.events c.in-Err-play.why (c.in-Err-play.ensures.refused played.config r.receivers s.events r.stands))
 
 pub returns-then-not-allows-clause-slot : goal.returns-then-not-allows-clause-slot
 returns-then-not-allows-clause-slot c = tt

@@ -1,0 +1,152 @@
+//! Which cause a record has that is not a row, for a person.
+//!
+//! No clause says which. That the record says no event is proved where it is read (`row`), and a table of rows compares
+//! the causes (tests/test_notes.py).
+
+use crate::row_cause::{RowCause, TagNumber};
+use rds_assembly::{LONGEST_TEXT, NAME_LENGTH, TextRefused};
+use rds_charset::{Stop, measure_text};
+use rds_fields::Which;
+use rds_world::{Premise, Reception, SlotEvent, StepRefused};
+
+/// The numbers that `tags` takes, and the most that each may be.
+const TAG_NUMBERS: [(TagNumber, u8); 8] = [
+    (TagNumber::Toggle, 1),
+    (TagNumber::Running, 1),
+    (TagNumber::ClassOfOne, 63),
+    (TagNumber::StartOfOne, 63),
+    (TagNumber::LengthOfOne, 63),
+    (TagNumber::ClassOfTwo, 63),
+    (TagNumber::StartOfTwo, 63),
+    (TagNumber::LengthOfTwo, 31),
+];
+
+/// Returns why an argument is no text: `why`, or what stops its reading.
+// Cold path.
+#[inline(never)]
+pub(crate) fn text_cause(argument: &str, bytes: &[u8], why: Option<TextRefused>) -> RowCause {
+    if let Some(TextRefused::BadByte(at)) = why {
+        let byte = bytes.get(at).copied().unwrap_or(0);
+        return RowCause::BadTextByte(byte, at.saturating_add(1));
+    }
+    match measure_text(argument) {
+        Ok(count) => RowCause::TextTooLong(count.saturating_sub(LONGEST_TEXT)),
+        Err(stop) => stop_cause(stop),
+    }
+}
+
+/// Returns why an argument is no name: `why`, or what stops its reading.
+// Cold path.
+#[inline(never)]
+pub(crate) fn name_cause(argument: &str, bytes: &[u8], why: Option<TextRefused>) -> RowCause {
+    if let Some(TextRefused::BadByte(at)) = why {
+        let byte = bytes.get(at).copied().unwrap_or(0);
+        return RowCause::BadNameByte(byte, at.saturating_add(1));
+    }
+    match measure_text(argument) {
+        Ok(count) => RowCause::NameTooLong(count.saturating_sub(NAME_LENGTH)),
+        Err(stop) => stop_cause(stop),
+    }
+}
+
+/// Returns the cause for a text or a name with this unreadable character.
+fn stop_cause(stop: Stop) -> RowCause {
+    if stop.character == '\\' {
+        RowCause::BadEscape(stop.place)
+    } else {
+        RowCause::NoSuchCharacter(stop.character, stop.place)
+    }
+}
+
+/// Returns why an argument is not eight numbers: it has another number of pieces, or the one after so many is none.
+// Cold path.
+#[inline(never)]
+pub(crate) fn number_cause(argument: &str, before: usize) -> RowCause {
+    let spaces = argument.bytes().filter(|byte| *byte == b' ').count();
+    match spaces.saturating_add(1) {
+        8 => RowCause::NoTagNumber(before.saturating_add(1)),
+        count => RowCause::TagCount(count),
+    }
+}
+
+/// Returns why eight numbers are no pair of tags: the first that exceeds its limit, or else the first tag with class 0
+/// and a start or a length marker that is not 0.
+// Cold path.
+#[inline(never)]
+pub(crate) fn pair_cause(numbers: [u8; 8]) -> RowCause {
+    for place in 0..8 {
+        let given = numbers[place];
+        let (number, most) = TAG_NUMBERS[place];
+        if given > most {
+            return RowCause::TagTooHigh {
+                number,
+                given,
+                most,
+            };
+        }
+    }
+    let [_, _, class, start, extra, _, _, _] = numbers;
+    if class == 0 && (start > 0 || extra > 0) {
+        RowCause::DummyTag(Which::One)
+    } else {
+        RowCause::DummyTag(Which::Two)
+    }
+}
+
+/// Returns why this letter with the digits after it is not a reception. `place` is the place of the letter.
+pub(crate) fn reception_cause(letter: u8, place: usize) -> RowCause {
+    match letter {
+        b'G' => RowCause::LatenessDigits(place),
+        b'L' | b'R' => RowCause::DigitsAfter(place),
+        b'W' => RowCause::GroupDigits(place),
+        _ => RowCause::NoReception(place),
+    }
+}
+
+/// Returns why the event of a row was refused. `first` is the number of receivers of the first row.
+// Cold path.
+#[inline(never)]
+pub(crate) fn refused_cause(
+    why: StepRefused,
+    premise: Premise,
+    slot: u64,
+    first: usize,
+    event: &SlotEvent,
+) -> RowCause {
+    let receptions = event.receptions.as_slice();
+    match why {
+        StepRefused::ReceiverCount => RowCause::ReceiverCount {
+            given: receptions.len(),
+            first,
+        },
+        StepRefused::Late(receiver) => {
+            late_cause(receiver, lateness_at(receptions, receiver), premise, slot)
+        }
+        StepRefused::Wrong(receiver) => RowCause::Wrong(receiver),
+        StepRefused::WrongConfirmed(receiver) => RowCause::WrongConfirmed(receiver),
+    }
+}
+
+/// Returns how many slots late the receiver's group is; 0 if it gets no group.
+fn lateness_at(receptions: &[Reception], receiver: usize) -> u16 {
+    match receptions.get(receiver) {
+        Some(Reception::Got(late)) => *late,
+        _ => 0,
+    }
+}
+
+/// Returns the cause for a receiver that asks for a group, `late` slots late, that is not due to it.
+fn late_cause(receiver: usize, late: u16, premise: Premise, slot: u64) -> RowCause {
+    let most = premise.late().get();
+    if late > most {
+        RowCause::Late {
+            receiver,
+            late,
+            most,
+        }
+    } else if u64::from(late) > slot {
+        RowCause::BeforeFirst { receiver, late }
+    } else {
+        RowCause::AlreadyHanded { receiver, late }
+    }
+}
