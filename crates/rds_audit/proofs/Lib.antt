@@ -23,5 +23,4 @@ pub mod SpanOrder
 pub mod SpanSteps
 pub mod SpanReigns
 pub mod ListingSteps
-pub mod AuditRows
-pub mod ListingRows
+pub mod WorkedRows

@@ -23,7 +23,9 @@ use Rattle.rds_audit.specs.Lengths.{Gauge, name_gauge, text_gauge}
 use Rattle.rds_audit.specs.Listing.{IsFaultOf, SentFragment, Span, added, both, broken_newest, first_fault, first_of, joined, newest_at, none_broken, or_else, same_bytes, slot_adds, spans, spans_after, spans_tagged}
 use Rattle.std.specs.List.{AllByRecursion}
 use Rattle.rds_audit.specs.ListingLaws.{IsFormedMessage}
-use Rattle.rds_audit.specs.AuditStandsAt.{AuditStandsAt, FollowsLog, HasJudged, HoldsLog, HoldsNewestSpans, HoldsSlot, HoldsSpans, ListsGroup, ListsMessage, TakesAll, TakesSlot, reigns_of}
+use Rattle.rds_audit.specs.AuditStandsAt.{AuditStandsAt, EndsSlot, FollowsLog, HasJudged, HoldsLog, HoldsNewestSpans, HoldsSlot, HoldsSpans, ListsGroup, ListsMessage, TakesAll, TakesSlot, reigns_of}
+use Rattle.rds_audit.specs.Stored.{IsStored, audit_stored}
+use Rattle.rds_audit.specs.declared.stored.StoredAudit.{StoredAudit}
 use Rattle.rds_audit.specs.AuditState.{AuditState, aged_in}
 use Rattle.rds_audit.specs.Recording.{counted_as, has_text, judged_as, silent_as}
 use Rattle.rds_audit.specs.Rules.{LogPasses}
@@ -276,7 +278,7 @@ goes_on pi d a after log s slot message (hears, programme, distance, start) has 
 }
 
 -- the audit took a slot, whatever its fault
-module _ (a end next : AuditState) (slot : Option Group) (found : FaultSet) (took : ListsGroup a end slot found) (text : next.text ≡ end.text) (name : next.name ≡ end.name)
+module _ (a next : AuditState) (slot : Option Group) (found : FaultSet) (took : ListsGroup a next slot found)
     (programme : next.programme ≡ a.programme) (distance : next.distance ≡ a.distance) (start : next.start ≡ a.start) (first : a.fault ≡ None → next.fault ≡ first_of found) (again : (fault : AuditFault) → a.fault ≡ Some fault → next.fault ≡ Some fault)
     (pi d : ℕ) (log : List (Option Group)) where
   hears_here : AuditStandsAt pi d a log → Hears pi slot took.message
@@ -287,9 +289,7 @@ module _ (a end next : AuditState) (slot : Option Group) (found : FaultSet) (too
   adds_here s judged h = took.added judged (subst (λ n. HoldsLog n judged a) (sym s.distance) h) ∙ ap (λ n. slot_adds n (counted_as a.start judged took.message) judged) s.distance
 
   holds_here : (s : AuditStandsAt pi d a log) (judged : List (Option Message)) → HoldsLog d judged a → HoldsLog d (counted_as a.start judged took.message ∷ judged) next
-  holds_here s judged h =
-      let there : HoldsLog d (counted_as a.start judged took.message ∷ judged) end = subst (λ n. HoldsLog n (counted_as a.start judged took.message ∷ judged) end) s.distance (took.holds judged (subst (λ n. HoldsLog n judged a) (sym s.distance) h)) in
-      record { text = rw text there.text; name = rw name there.name }
+  holds_here s judged h = subst (λ n. HoldsLog n (counted_as a.start judged took.message ∷ judged) next) s.distance (took.holds judged (subst (λ n. HoldsLog n judged a) (sym s.distance) h))
 
   stands_next : AuditStandsAt pi d a log → AuditStandsAt pi d next (slot ∷ log)
   stands_next s =
@@ -308,13 +308,28 @@ module _ (a end next : AuditState) (slot : Option Group) (found : FaultSet) (too
   found_adds s message hears =
       adds_here s.at (judged_as a.start d s.at.heard) s.holds ∙ ap (λ (m : Option Message). slot_adds d (counted_as a.start (judged_as a.start d s.at.heard) m) (judged_as a.start d s.at.heard)) (same_heard_in pi slot took.message message (hears_here s.at) hears)
 
-pub takes_all : (a end next : AuditState) (slot : Option Group) (found : FaultSet) → ListsGroup a end slot found
-    → next.text ≡ end.text → next.name ≡ end.name → next.programme ≡ a.programme → next.distance ≡ a.distance → next.start ≡ a.start
+-- the group of a slot was taken, and the slot is over
+pub group_listed : (old heard new : StoredAudit) (group : Option Group) (found result : FaultSet) → IsStored old → heard.distance ≡ old.distance
+    → (message : Option Message) × Hears old.pi group message × ListsMessage (audit_stored old) (audit_stored heard) message found → EndsSlot heard new → result ≡ found
+    → ListsGroup (audit_stored old) (audit_stored new) group result
+group_listed old heard new group found result stored same (message, hears, lists) ends is = record {
+  message = message;
+  hears = hears;
+  holds = λ judged h. subst (λ n. HoldsLog n (counted_as (audit_stored old).start judged message ∷ judged) (audit_stored new)) same
+      (ends good judged (counted_as (audit_stored old).start judged message) (subst (λ n. HoldsSlot n (counted_as (audit_stored old).start judged message) judged (audit_stored heard)) (sym same) (lists.holds judged h)));
+  added = λ judged h. is ∙ lists.added judged h;
+}
+  where
+    good : IsStored heard
+    good = record { some = omega (arith, same, stored.some); distance = omega (arith, same, stored.distance) }
+
+pub takes_all : (a next : AuditState) (slot : Option Group) (found : FaultSet) → ListsGroup a next slot found
+    → next.programme ≡ a.programme → next.distance ≡ a.distance → next.start ≡ a.start
     → (a.fault ≡ None → next.fault ≡ first_of found) → ((fault : AuditFault) → a.fault ≡ Some fault → next.fault ≡ Some fault) → TakesAll a next slot found
-takes_all a end next slot found took text name programme distance start first again = record {
-  stands = stands_next a end next slot found took text name programme distance start first again;
-  follows = follows_next a end next slot found took text name programme distance start first again;
-  adds = found_adds a end next slot found took text name programme distance start first again;
+takes_all a next slot found took programme distance start first again = record {
+  stands = stands_next a next slot found took programme distance start first again;
+  follows = follows_next a next slot found took programme distance start first again;
+  adds = found_adds a next slot found took programme distance start first again;
   start = start;
   first = first;
   again = again;

@@ -3,17 +3,15 @@
 use Rattle.std.proofs.Common.{◌≡◌, ◌≢◌, ◌⊎◌, ◌+◌, ◌<◌, ◌≤◌, ◌&&◌, ◌||◌, not, max, ℕ, Bool, true, false, nat_eq, nat_lt, List, [], ◌∷◌, Option, Some, None, length, cond, refl, sym, ap, ◌∙◌, subst, inl, inr, arith}
 use Rattle.std.specs.Prelude.{is_some}
 use Rattle.std.specs.List.{AllByRecursion, list_all, list_any}
-use Rattle.std.proofs.lemmas.Bool.{and_from, and_parts, cases_lt, cond_both, false_from_ne_true, leb-true, le-leb, le-ltb, lt-ltb, ltb-false, ltb-true, or_from, true_from_ne_false}
+use Rattle.std.proofs.lemmas.Bool.{and_from, and_parts, cases_lt, cond_both, leb-true, le-leb, le-ltb, lt-ltb, ltb-false, or_from}
 use Rattle.rds_fields.specs.Tag.{PairFields}
 use Rattle.rds_receiver.specs.Receipts.{Fragment}
 use Rattle.rds_safety.specs.Flags.{is_other_flag, is_same_flag, same_or_other}
 use Rattle.rds_safety.specs.Lawful.{Kind}
 use Rattle.rds_safety.specs.Marks.{Mark, Nothing, Sends, Tagged}
-use Rattle.rds_audit.specs.declared.audit.AuditFault.{AuditFault}
-use Rattle.rds_audit.specs.declared.audit.AuditFault.TheVariants.{Changed, NotOneText, EarlyFlag, EarlyTag, TagOutside}
 use Rattle.rds_audit.specs.declared.fault_set.FaultSet.{FaultSet}
 use Rattle.rds_audit.specs.Lengths.{Gauge, IsExact, IsFormed, lengths_of, sent_last, tags_end}
-use Rattle.rds_audit.specs.Listing.{SentFragment, Span, added, broken_by, broken_newest, first_of, first_of_span, fits, fragments_in, has_early_tags, joined, newest_at, none_broken, not_before, past_span, same_bytes, span_with, spans, spans_after, spans_tagged, turned}
+use Rattle.rds_audit.specs.Listing.{SentFragment, Span, added, broken_by, broken_newest, first_of_span, fits, fragments_in, joined, newest_at, none_broken, not_before, past_span, same_bytes, span_with, spans, spans_after, spans_tagged, turned}
 use Rattle.rds_audit.specs.ListingLaws.{IsFormedMark}
 use Rattle.rds_audit.specs.AuditStandsAt.{first_slot, reign_of, reigns_of}
 use Rattle.rds_audit.specs.Reigns.{Reign, SentTags, after_fragment, after_tags, joins, past_newest, reigns, with_fragment, opened_by}

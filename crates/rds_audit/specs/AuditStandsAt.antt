@@ -13,6 +13,8 @@ use Rattle.rds_audit.specs.AuditState.{AuditState, SpansState}
 use Rattle.rds_audit.specs.ReignsState.{ContentState, cell_at}
 use Rattle.rds_audit.specs.Recording.{counted_as, judged_as}
 use Rattle.rds_audit.specs.Reigns.{Reign, SentTags}
+use Rattle.rds_audit.specs.Stored.{IsStored, audit_stored}
+use Rattle.rds_audit.specs.declared.stored.StoredAudit.{StoredAudit}
 use Rattle.rds_audit.specs.Rules.{LogPasses}
 use Rattle.rds_safety.specs.Marks.{Mark, marks, name_mark, text_mark}
 
@@ -156,3 +158,9 @@ pub record ListsGroup (a after : AuditState) (group : Option Group) (result : Fa
       → HoldsLog a.distance (counted_as a.start judged message ∷ judged) after
   pub added : (judged : List (Option Message)) → HoldsLog a.distance judged a
       → result ≡ slot_adds a.distance (counted_as a.start judged message) judged
+
+-- the slot is over: the state follows from the log with its newest slot
+abbrev pub EndsSlot : StoredAudit → StoredAudit → Type 0
+EndsSlot old new =
+    IsStored old → (judged : List (Option Message)) (newest : Option Message)
+    → HoldsSlot old.distance newest judged (audit_stored old) → HoldsLog old.distance (newest ∷ judged) (audit_stored new)

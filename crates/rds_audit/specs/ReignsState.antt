@@ -1,7 +1,7 @@
 -- The state of the reigns of a service.
-use Rattle.std.specs.Prelude.{◌≡◌, ◌≤◌, ◌⊎◌, ◌==◌}
-use Rattle.std.specs.Prelude.{ℕ, Bool, true, false, List, Option, Some, None, is_some, max}
-use Rattle.std.specs.Prelude.{refl, replicate, slice_index_or, slice_set, if◌then◌else◌}
+use Rattle.std.specs.Prelude.{◌≡◌, ◌≤◌, ◌⊎◌}
+use Rattle.std.specs.Prelude.{ℕ, Bool, true, List, Option, Some, None, is_some, max}
+use Rattle.std.specs.Prelude.{refl, replicate, slice_index_or, slice_set}
 use Rattle.std.specs.Coded.{Coded, code_by, coded×, coded_ℕ, coded_bool, coded_list, coded_option}
 use Rattle.rds_fields.specs.Tag.{PairFields}
 use Rattle.rds_audit.specs.declared.audited.Lengths.{Lengths}

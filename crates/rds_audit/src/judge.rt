@@ -6,7 +6,7 @@ ghost use Rattle.rds_receiver.specs.Receipts.{Hears};
 ghost use Rattle.rds_audit.specs.declared.audit.AuditFault.{AuditFault};
 ghost use Rattle.rds_audit.specs.declared.log_start.LogStart.TheVariants as LogStart;
 ghost use Rattle.rds_audit.specs.AuditLaws.{IsSafeLog, IsSafeRecording};
-ghost use Rattle.rds_audit.specs.AuditStandsAt.{AuditStandsAt, HoldsLog, HoldsSlot, ListsGroup, ListsMessage};
+ghost use Rattle.rds_audit.specs.AuditStandsAt.{AuditStandsAt, EndsSlot, ListsMessage};
 ghost use Rattle.rds_audit.specs.AuditStandsAt.{TakesAll, TakesSlot, WhereTheAuditStands};
 ghost use Rattle.rds_audit.specs.Dense.{HasPlans};
 ghost use Rattle.rds_audit.specs.FlagLaws.{NamesAreSafeByFlag, TextsAreSafeByFlag};
@@ -62,10 +62,13 @@ impl StoredAudit {
         ensures start { (audit_stored self.new).start ≡ (audit_stored self.old).start }
         ensures good { IsStored self.old ↔ IsStored self.new }
     {
-        let found = self.take_slot(group);
-        if self.fault == 0 && !found.is_empty() {
-            self.fault = AuditFault::code(found.first());
+        let found = self.hear_group(group);
+        if found.is_empty() {
+            // most slots: the compiler then tests the faults of a slot once
+            self.end_slot();
+            return FaultSet::none();
         }
+        self.end_faulty(found.first());
         found
     }
 
@@ -111,18 +114,6 @@ impl StoredAudit {
         the_list_judges_the_reigns();
         what_passes_is_safe_by_the_flag();
         self.passed() && self.name.reigns.turns != 0
-    }
-
-    /// Takes the slot as though each fault before it had been allowed.
-    #[inline(always)]
-    fn take_slot(&mut self, group: Option<Blocks>) -> FaultSet
-        ensures keeps { KeepsLog self.old self.new }
-        ensures lists { IsStored self.old
-            → ListsGroup (audit_stored self.old) (audit_stored self.new) group result }
-    {
-        let found = self.hear_group(group);
-        self.end_slot();
-        found
     }
 
     /// Takes the group of this slot, if it is one of the programme.
@@ -185,13 +176,28 @@ impl StoredAudit {
         self.is_running != 0 && self.text.reigns.is_open == 0
     }
 
+    /// Ends a slot that adds this fault first. The fault is kept if there was none before.
+    // Cold path.
+    #[inline(never)]
+    fn end_faulty(&mut self, fault: Option<AuditFault>)
+        ensures programme { self.new.pi ≡ self.old.pi }
+        ensures distance { self.new.distance ≡ self.old.distance }
+        ensures start { self.new.is_running ≡ self.old.is_running }
+        ensures first { (audit_stored self.old).fault ≡ None → (audit_stored self.new).fault ≡ fault }
+        ensures again { (known : AuditFault) → (audit_stored self.old).fault ≡ Some known
+            → (audit_stored self.new).fault ≡ Some known }
+        ensures holds { EndsSlot self.old self.new }
+    {
+        if self.fault == 0 {
+            self.fault = AuditFault::code(fault);
+        }
+        self.end_slot();
+    }
+
     /// Ends the slot.
     fn end_slot(&mut self)
         ensures keeps { KeepsLog self.old self.new }
-        ensures holds { IsStored self.old
-            → (judged : List (Option Message)) (newest : Option Message)
-            → HoldsSlot self.old.distance newest judged (audit_stored self.old)
-            → HoldsLog self.old.distance (newest ∷ judged) (audit_stored self.new) }
+        ensures holds { EndsSlot self.old self.new }
     {
         let distance = self.distance;
         self.text.grow_older(distance);

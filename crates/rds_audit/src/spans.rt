@@ -29,7 +29,33 @@ impl StoredSpans {
 
     /// Takes a segment that was sent in this slot: it joins the current span, or opens one. Returns the faults that it
     /// adds to the list.
+    #[inline(always)]
     pub(crate) fn take<S: Audited>(
+        &mut self,
+        distance: u32,
+        flag: bool,
+        address: u8,
+        bytes: [u8; 4],
+    ) -> FaultSet
+        requires { address < S.gauge.segments }
+        ensures added { WhereSpansHold S.gauge distance (spans_stored self.old) (λ sent. result
+            ≡ added S.gauge distance (Sends record { flag = flag; address = address; bytes = bytes }) sent) }
+        ensures holds { WhereSpansHold S.gauge distance (spans_stored self.old)
+            (λ sent. HoldsNewestSpans S.gauge distance
+            (Sends record { flag = flag; address = address; bytes = bytes }) sent (spans_stored self.new)) }
+    {
+        if self.reigns.joins(distance, flag) && self.reigns.has(address, bytes) {
+            // what the span has already breaks no further rule
+            self.reigns.renew();
+            return FaultSet::none();
+        }
+        self.take_new::<S>(distance, flag, address, bytes)
+    }
+
+    /// Does the same for any segment.
+    // Cold path.
+    #[inline(never)]
+    fn take_new<S: Audited>(
         &mut self,
         distance: u32,
         flag: bool,
@@ -45,11 +71,6 @@ impl StoredSpans {
     {
         if !self.reigns.joins(distance, flag) {
             return self.begin::<S>(distance, flag, address, bytes, false);
-        }
-        if self.reigns.has(address, bytes) {
-            // what the span has already breaks no further rule
-            self.repeat();
-            return FaultSet::none();
         }
         if self.reigns.check_unchanged(address, bytes).is_err() {
             return self.begin::<S>(distance, flag, address, bytes, true);
@@ -137,13 +158,6 @@ impl StoredSpans {
             self.broken.not_one_text = 1;
         }
         self.judge_tags();
-    }
-
-    /// Takes a segment that the current span has already.
-    fn repeat(&mut self)
-        ensures { spans_stored self.new ≡ repeated_in (spans_stored self.old) }
-    {
-        self.reigns.renew();
     }
 
     /// Takes tags into the current span, if there is one.
