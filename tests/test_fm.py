@@ -18,6 +18,22 @@ from tests.support import Case, temporary_folder
 
 BUFFER = 16_384                                              # samples
 DROPPED = {50, *range(80, 87)}
+# runs a receiver by a clock of the test: each buffer of these numbers comes at its time
+BY_BUFFERS = f"""import fcntl, os, runpy, sys, time
+kept, size, clock, left, read = iter(eval(sys.argv[1])), {2 * BUFFER}, 0, 0, os.read
+def read_at_its_time(descriptor, count):
+    global clock, left
+    number = None if left else next(kept, None)
+    if number is not None:
+        clock, left = number * {BUFFER} / 171_000, size
+    data = read(descriptor, min(count, left)) if left else b""
+    left -= len(data)
+    return data
+os.read, time.clock_gettime = read_at_its_time, lambda _: clock
+fcntl.ioctl = lambda *_: left.to_bytes(4, sys.byteorder)
+sys.argv = sys.argv[2:]
+runpy.run_path(sys.argv[0], run_name="__main__")
+"""
 
 
 def left_whole(decibels):
@@ -168,9 +184,6 @@ class EndToEnd(Case):
 
 @unittest.skipUnless(radio.is_there(), "no numpy here (apt-get install python3-numpy)")
 class Live(Case):
-    # its samples come by the clock
-    alone = True
-
     def test_samples_that_a_tuner_dropped_are_counted(self):
         """rtl_fm drops whole buffers of 96 ms. With --live no slot is missing then; without it some are."""
         log = "".join(f"C201 F000 {number * 40503 & 0xFFFF:04X} {number:04X}\n" for number in range(140)).encode()
@@ -178,16 +191,10 @@ class Live(Case):
         buffers = [made[at:at + 2 * BUFFER] for at in range(0, len(made), 2 * BUFFER)]
         steps = {}
         for words in (("--live",), ()):
-            with subprocess.Popen([radio.RECEIVE, *words, "--pi", "C201"], stdin=subprocess.PIPE,
-                                  stdout=subprocess.PIPE, stderr=subprocess.DEVNULL) as program:
-                begins = time.monotonic()
-                for number, data in enumerate(buffers):
-                    time.sleep(max(0, begins + number * BUFFER / 171_000 - time.monotonic()))
-                    if number not in DROPPED:
-                        program.stdin.write(data)
-                        program.stdin.flush()
-                program.stdin.close()
-                lines = program.stdout.read().decode().splitlines()
+            kept = [it for it in range(len(buffers)) if it not in DROPPED]
+            call = [radio.PYTHON, "-c", BY_BUFFERS, repr(kept), radio.RECEIVE, *words, "--pi", "C201"]
+            lines = subprocess.run(call, input=b"".join(buffers[it] for it in kept), stdout=subprocess.PIPE,
+                                   stderr=subprocess.DEVNULL, timeout=radio.SECONDS).stdout.decode().splitlines()
             groups = [(place, int(line[15:], 16)) for place, line in enumerate(lines) if line != radio.LOST]
             steps[words] = [(place - before, sent - earlier)
                             for (before, earlier), (place, sent) in itertools.pairwise(groups)]

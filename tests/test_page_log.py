@@ -154,7 +154,7 @@ class LogTab:
             _, answer, notes = run_program(["audit", "--pi", "C201", "--m", str(m), "--k", "0"], log.encode())
             at = re.search(r"^slot \d+ \(line (\d+)", "\n".join(notes), re.M)
             before = "".join(log.splitlines(keepends=True)[:int(at[1])] if at else log)
-            lacks = any("the log spans" in it for it in run_program(["decode", "--pi", "C201"], before.encode())[2])
+            lacks = any("put rdsrt slots" in it for it in run_program(["decode", "--pi", "C201"], before.encode())[2])
             breaks = any("went back, or on" in it for it in run_program(["slots"], log.encode())[2])
             is_offered = "Add the lost slots" in text_of(b, "#verdict")
             self.check(f"seed {SEED}, times {number}: offered", is_offered, lacks or breaks, log)

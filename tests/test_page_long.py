@@ -2,10 +2,12 @@
 import os
 import re
 import tempfile
+import time
 
 from tests.page_support import (HI, NOTHING, URL, ChromiumCase, FirefoxCase, call, idle, longest_task, move, of, program,
                                 settle, shown, text_of, to_tab, verdict_of, visit)
 from tests.slot import SLOT
+from tests.support import PROMPT
 
 # milliseconds of the machine with the yardstick: there no task is above 200
 LONGEST_TASK = 600
@@ -56,6 +58,16 @@ def memory_of_renderers(driver):
         return pid == root
 
     return max(size for pid, size in sizes.items() if is_below(pid))
+
+
+def least_memory(b):
+    """Returns that memory once it is below the most, or after a minute: a busy machine collects garbage late."""
+    end, memory = time.monotonic() + PROMPT, memory_of_renderers(b.driver)
+    while memory > MOST_MEMORY and time.monotonic() < end:
+        b.ask("HeapProfiler.collectGarbage")
+        time.sleep(1)
+        memory = memory_of_renderers(b.driver)
+    return memory
 
 
 # a worker that refuses to make a string of so many bytes, as a browser does above 512 MB
@@ -207,7 +219,7 @@ class Chromium(Long, ChromiumCase):
                  "the next text": "document.querySelector('#log-time [data-do=next]').click()"}
         for name, step in steps.items():
             longest = longest_task(b, step, LONGEST_TASK)
-            memory = memory_of_renderers(b.driver)
+            memory = least_memory(b)
             self.check(f"{name}: no task of more than {LONGEST_TASK} ms", longest <= LONGEST_TASK or longest, True)
             self.check(f"{name}: memory", memory <= MOST_MEMORY or memory, True)
 
