@@ -1,7 +1,9 @@
 //! Output lines, collected in a bounded buffer so that many go out in one write.
-ghost use Rattle.std.specs.Prelude.{◌≡◌, ◌≤◌, ◌+◌, ◌++◌, ◌↔◌, [], ℕ, List, IsOk, IsTrue, OnOk, decimal, length};
+ghost use Rattle.std.specs.Prelude.{◌≡◌, ◌≤◌, ◌+◌, ◌++◌, ◌↔◌, [], ℕ, List, IsOk, IsTrue, MatchResult, OnOk};
+ghost use Rattle.std.specs.Prelude.{decimal, length};
 ghost use Rattle.rds_io.specs.Puts.{Puts};
 ghost use Rattle.rds_io.specs.Told.{traffic};
+ghost use Rattle.rds_io.specs.Waits.{IsLost, Waits};
 
 use crate::told::{TellingWrite, WriteFault, put};
 use arrayvec::ArrayVec;
@@ -57,6 +59,11 @@ impl<const N: usize> Lines<N> {
         ensures puts { Puts (traffic W.contents W.failures writer.old writer.new) self.old result }
         ensures empty { OnOk result (self.new ≡ []) }
         ensures nothing { self.old ≡ [] → IsOk result }
+        ensures waits { (start : W) (total : List ℕ)
+            → Waits (traffic W.contents W.failures start writer.old) self.old total
+            → MatchResult result
+            (λ _. Waits (traffic W.contents W.failures start writer.new) self.new total)
+            (λ _. IsLost (traffic W.contents W.failures start writer.new) total) }
     {
         if self.bytes.is_empty() {
             return Ok(());
