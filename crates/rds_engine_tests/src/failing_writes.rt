@@ -6,7 +6,7 @@ use crate::scripts::{ENCODED, ENCODED_LOG, SIMULATED, SIMULATED_OUTPUT, config};
 use rds_audit::LogStart;
 use rds_fields::{Dwell, Late};
 use rds_io::{LogFault, Told};
-use rds_log::{Auditing, LogNotes, MOST_READS, audit, decode, list_with_notes};
+use rds_log::{Auditing, LogNotes, MOST_READS, Stop, audit, audit_with_notes, decode};
 use rds_script::{encode, simulate};
 use std::alloc::Global;
 use std::cell::Cell;
@@ -97,13 +97,14 @@ fn listed_to(writer: Stubborn) -> Result<Result<(), LogFault>, Fail> {
         dwell: Dwell::new(128).ok_or("dwell")?,
         late: Late::new(0).ok_or("late")?,
         start: LogStart::Complete,
+        stop: Stop::LogEnd,
     };
-    let answer = list_with_notes(
+    let answer = audit_with_notes(
         &mut Told::new(FAULTY),
         &mut Told::new(writer),
         auditing,
         MOST_READS,
-        &mut LogNotes::new(0xC201),
+        &mut LogNotes::new(),
     );
     Ok(answer.map(|_| ()))
 }

@@ -4,8 +4,8 @@ use rds_audit::{AuditFault, LogStart};
 use rds_fields::{Dwell, Late};
 use rds_io::{LogFault, Told};
 use rds_log::{
-    Auditing, Decoding, LineCause, LineTime, LogNotes, MOST_READS, NoNote, SegmentCause,
-    audit_with_notes, decode_with_notes, fault_name, gather, list_with_notes,
+    Auditing, Decoding, FaultPlace, LineCause, LineTime, LogNotes, MOST_READS, NoNote,
+    SegmentCause, Stop, audit_with_notes, decode_with_notes, fault_name, gather,
 };
 use rds_receiver::Window;
 use rds_witness::witness_with_notes;
@@ -48,7 +48,7 @@ fn causes_of_lines(rt: HostRuntime) -> Result<(), Fail> {
         log.extend_from_slice(TWO_SLOTS)?;
         log.extend_from_slice(line)?;
         let mut output = Vec::new(rt.alloc());
-        let mut notes = LogNotes::new(0);
+        let mut notes = LogNotes::new();
         // Prover: a variable of the type in `Decoding`, for the borrow checker (docs/PROVER.md, "Workarounds").
         let window: Option<Window> = None;
         let done = decode_with_notes(
@@ -70,7 +70,7 @@ fn causes_of_lines(rt: HostRuntime) -> Result<(), Fail> {
 #[test]
 fn bad_lines_of_all_calls(rt: HostRuntime) -> Result<(), Fail> {
     let log = [b'x'; 100];
-    let mut notes = LogNotes::new(0);
+    let mut notes = LogNotes::new();
     let slots = gather(
         rt.alloc(),
         &mut Told::new(log.as_slice()),
@@ -81,7 +81,7 @@ fn bad_lines_of_all_calls(rt: HostRuntime) -> Result<(), Fail> {
     assert_eq!(rt; slots.err(), Some(LogFault::BadLine(1)));
     let bad = notes.bad.ok_or("a bad line is noted")?;
     assert_eq!(rt; bad.start.as_slice(), &log[..60]);
-    let mut notes = LogNotes::new(0);
+    let mut notes = LogNotes::new();
     let mut output = Vec::new(rt.alloc());
     let found = witness_with_notes(
         rt.alloc(),
@@ -104,7 +104,7 @@ fn programmes(rt: HostRuntime) -> Result<(), Fail> {
         (0xC202, false, 1, Some(0xC201), 1),
     ] {
         let mut output = Vec::new(rt.alloc());
-        let mut notes = LogNotes::new(0);
+        let mut notes = LogNotes::new();
         // Prover: a variable of the type in `Decoding`, for the borrow checker (docs/PROVER.md, "Workarounds").
         let window: Option<Window> = None;
         let done = decode_with_notes(
@@ -136,7 +136,7 @@ fn slot_of_a_no(rt: HostRuntime) -> Result<(), Fail> {
     let log = b"# note\nC201 2140 4849 0D20\nC201 2150 594F 0D20\nC201 2140 4849 0D20\n".as_slice();
     for (m, k) in [(4, 0), (2, 2), (100, 28)] {
         let mut output = Vec::new(rt.alloc());
-        let mut notes = LogNotes::new(0);
+        let mut notes = LogNotes::new();
         let passed = audit_with_notes(
             &mut Told::new(log),
             &mut Told::new(&mut output),
@@ -145,14 +145,18 @@ fn slot_of_a_no(rt: HostRuntime) -> Result<(), Fail> {
                 dwell: dwell(m)?,
                 late: Late::new(k).ok_or("late")?,
                 start: LogStart::Complete,
+                stop: Stop::FirstFault,
             },
             MOST_READS,
             &mut notes,
         );
         assert_eq!(rt; passed, Ok(false));
         let wanted = NoNote {
-            slot: 2,
-            line: 4,
+            at: FaultPlace {
+                slot: 2,
+                line: 4,
+                time: LineTime::none(),
+            },
             fault: AuditFault::EarlyFlag,
             of_name: false,
             earlier: Some(0),
@@ -160,7 +164,6 @@ fn slot_of_a_no(rt: HostRuntime) -> Result<(), Fail> {
             paused: None,
             spacing: u32::from(m) + u32::from(k),
             cause: None,
-            time: LineTime::none(),
         };
         assert_eq!(rt; notes.no, Some(wanted));
     }
@@ -168,12 +171,13 @@ fn slot_of_a_no(rt: HostRuntime) -> Result<(), Fail> {
 }
 
 /// The settings for a complete log and a dwell of 8 slots.
-fn auditing() -> Result<Auditing, Fail> {
+fn auditing(stop: Stop) -> Result<Auditing, Fail> {
     Ok(Auditing {
         pi: 0xC201,
         dwell: dwell(8)?,
         late: Late::new(0).ok_or("late")?,
         start: LogStart::Complete,
+        stop,
     })
 }
 
@@ -197,11 +201,11 @@ fn causes_of_segments(rt: HostRuntime) -> Result<(), Fail> {
         (b"C201 A140 4803 4949\n", SegmentCause::Byte(3, 1)),
     ] {
         let mut output = Vec::new(rt.alloc());
-        let mut notes = LogNotes::new(0);
+        let mut notes = LogNotes::new();
         let passed = audit_with_notes(
             &mut Told::new(log),
             &mut Told::new(&mut output),
-            auditing()?,
+            auditing(Stop::FirstFault)?,
             MOST_READS,
             &mut notes,
         );
@@ -222,11 +226,11 @@ C201 2150 594F 0D20
 C201 2140 4849 0D20 12.5
 ";
     let mut output = Vec::new(rt.alloc());
-    let mut notes = LogNotes::new(0);
-    let passed = list_with_notes(
+    let mut notes = LogNotes::new();
+    let passed = audit_with_notes(
         &mut Told::new(log.as_slice()),
         &mut Told::new(&mut output),
-        auditing()?,
+        auditing(Stop::LogEnd)?,
         MOST_READS,
         &mut notes,
     );
@@ -235,12 +239,12 @@ C201 2140 4849 0D20 12.5
         output.as_slice(),
         b"no 1 EarlyTag\nno 3 EarlyFlag\n".as_slice()
     );
-    assert_eq!(rt; (notes.slots, notes.listed.faults), (4, 2));
-    let flags = notes.listed.texts.counts[1].ok_or("no count")?;
+    assert_eq!(rt; (notes.slots, notes.faults.slots), (4, 2));
+    let flags = notes.faults.texts.counts[1].ok_or("no count")?;
     assert_eq!(rt; fault_name(flags.fault), b"EarlyFlag".as_slice());
     assert_eq!(rt; (flags.count, flags.first.slot, flags.last.line), (1, 3, 5));
     assert_eq!(rt; flags.last.time.bytes(), b"12.5".as_slice());
-    assert!(rt; notes.listed.names.counts[0].is_none());
+    assert!(rt; notes.faults.names.counts[0].is_none());
     Ok(())
 }
 
@@ -248,11 +252,11 @@ C201 2140 4849 0D20 12.5
 #[test]
 fn a_list_without_a_fault(rt: HostRuntime) -> Result<(), Fail> {
     let mut output = Vec::new(rt.alloc());
-    let mut notes = LogNotes::new(0);
-    let passed = list_with_notes(
+    let mut notes = LogNotes::new();
+    let passed = audit_with_notes(
         &mut Told::new(TWO_SLOTS),
         &mut Told::new(&mut output),
-        auditing()?,
+        auditing(Stop::LogEnd)?,
         MOST_READS,
         &mut notes,
     );

@@ -56,7 +56,11 @@ fn counted_lines(rt: HostRuntime) -> Result<(), Fail> {
         same(&rt, written.as_slice(), output);
         same(
             &rt,
-            (notes.untimed, notes.others, notes.breaks),
+            (
+                notes.counts.untimed,
+                notes.counts.others,
+                notes.counts.breaks,
+            ),
             (1, others, 1),
         );
     }
@@ -89,10 +93,10 @@ fn other_programmes_alone(rt: HostRuntime) -> Result<(), Fail> {
     let mut notes = SlotNotes::new();
     let (done, written) = filled(&rt, log, Some(0xC201), &mut notes)?;
     same(&rt, done, Ok(Times::AllLeftOut));
-    same(&rt, (written.len(), notes.others), (0, 2));
+    same(&rt, (written.len(), notes.counts.others), (0, 2));
     let lost = b"C202 ---- ---- ---- 1.0\n".as_slice();
     let (done, _) = filled(&rt, lost, Some(0xC201), &mut notes)?;
-    same(&rt, (done, notes.others), (Ok(Times::Fine), 1));
+    same(&rt, (done, notes.counts.others), (Ok(Times::Fine), 1));
     Ok(())
 }
 
@@ -107,12 +111,12 @@ fn gaps(rt: HostRuntime) -> Result<(), Fail> {
     let mut notes = SlotNotes::new();
     let (done, _) = filled(&rt, log, None, &mut notes)?;
     same(&rt, done, Ok(Times::Coarse));
-    same(&rt, notes.gap, Gap { lost: 43, line: 6 });
-    same(&rt, notes.misfit, Some(6));
+    same(&rt, notes.counts.gap, Gap { lost: 43, line: 6 });
+    same(&rt, notes.counts.misfit, Some(6));
     let (done, _) = filled(&rt, &log[..82], None, &mut notes)?;
     same(&rt, done, Ok(Times::Fine));
-    same(&rt, notes.gap, Gap { lost: 12, line: 2 });
-    same(&rt, notes.misfit, None);
+    same(&rt, notes.counts.gap, Gap { lost: 12, line: 2 });
+    same(&rt, notes.counts.misfit, None);
     Ok(())
 }
 
@@ -123,6 +127,6 @@ fn no_times(rt: HostRuntime) -> Result<(), Fail> {
     let mut notes = SlotNotes::new();
     let (done, written) = filled(&rt, log, None, &mut notes)?;
     same(&rt, done, Ok(Times::AllLeftOut));
-    same(&rt, (written.len(), notes.untimed), (0, 1));
+    same(&rt, (written.len(), notes.counts.untimed), (0, 1));
     Ok(())
 }

@@ -73,7 +73,7 @@ fn lost(
         &mut Told::new(reader),
         &mut Told::new(&mut output),
         &losing,
-        &mut LogNotes::new(0xC201),
+        &mut LogNotes::new(),
     );
     Ok((found, output))
 }
@@ -98,7 +98,7 @@ fn two_bursts_lost(rt: HostRuntime) -> Result<(), Fail> {
 #[test]
 fn all_slots_are_kept(rt: HostRuntime) -> Result<(), Fail> {
     let log = b"C201 2140 4849 0D20\n---- ---- ---- ----\n".as_slice();
-    let mut notes = LogNotes::new(0);
+    let mut notes = LogNotes::new();
     match gather(
         rt.alloc(),
         &mut Told::new(log),

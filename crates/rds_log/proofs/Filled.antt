@@ -1,16 +1,15 @@
--- How the output of a filler goes on: it waits, it is written, or the writer fails at it.
+-- What the taker of `slots` takes, and what it has written at the end of a log.
 use Rattle.std.proofs.Common.{◌≡◌, ◌⊎◌, ◌+◌, ◌-◌, ◌*◌, ◌<◌, ◌≤◌, ℕ, zero, suc, List, [], ◌∷◌, ◌++◌, Option, Some, None, append_assoc, add-one, ap, sym, subst, ◌∙◌, refl, inl, inr, arith, codes, cond, false, is_some, max, take, true, Bool, ◌↔◌}
-use Rattle.std.specs.Prelude.{Err, IsTrue, MatchResult, Ok, OnOk, Result}
+use Rattle.std.specs.Prelude.{Err, IsTrue, MatchResult, Ok, Result}
 use Rattle.rds_io.specs.declared.told.WriteFault.{WriteFault}
 use Rattle.std.proofs.lemmas.Bool.{cases_lt}
 use Rattle.std.proofs.lemmas.Bool.Decides.{nat_tests}
 use Rattle.std.proofs.lemmas.List.{append-nil}
 use Rattle.std.proofs.Math.Nat.{max-zero}
-use Rattle.std.proofs.KnownBytes.{Appends-trans}
-use Rattle.std.specs.Io.KnownBytes.{Appends}
 use Rattle.rds_block.specs.declared.group.Group.{Group}
-use Rattle.rds_io.specs.Told.{AppendsPrefix, Failed, Traffic}
-use Rattle.rds_io.specs.Puts.{AppendsPrefix-append, AppendsPrefix-longer, Puts}
+use Rattle.rds_io.specs.Told.{Traffic}
+use Rattle.rds_io.specs.Waits.{IsLost, Waits}
+use Rattle.rds_io.proofs.Waiting.{lost_longer}
 use Rattle.rds_arrivals.specs.Arrivals.{Arrival, IsBreak, lost_between, lost_until, lost_within}
 use Rattle.rds_arrivals.specs.Breaks.{IsBreakOf, break_of}
 use Rattle.rds_arrivals.specs.declared.lost.Break.{Break}
@@ -18,12 +17,15 @@ use Rattle.rds_arrivals.specs.declared.lost.Break.TheVariants.{Back, Day}
 use Rattle.rds_arrivals.specs.declared.stamp.Stamp.{Stamp}
 use Rattle.rds_log.specs.LogLines.{Line}
 use Rattle.rds_log.specs.LineSays.{LineSays, deciding}
-use Rattle.rds_log.specs.Fill.{AddsNothing, AreFilled, HasLeftOut, IsLeftOut, IsOfAnother, SoFar, WroteFilled, WroteFilledPart, gap_lines, lost_lines, more_lines, newest_time, shown, time_of}
-use Rattle.rds_log.specs.Inside.Filler.{HasFilled, HasOutput, KeepsPace, KeepsTime, LostOutput, last_time, told_after}
+use Rattle.rds_log.specs.Outputs.{HasTaken, Pushed, RunsAll, RunsUpTo, WrotePart}
+use Rattle.rds_log.specs.Fill.{AddsNothing, AreFilled, FillsAll, HasLeftOut, IsLeftOut, IsOfAnother, LinesFill, SoFar, TimesAre}
+use Rattle.rds_log.specs.Fill.{gap_lines, lost_lines, more_lines, newest_time, shown, time_of}
+use Rattle.rds_log.specs.Inside.Filler.{HasFilled, KeepsPace, last_time, told_after}
 use Rattle.rds_log.specs.Inside.Pace.{PaceStandsAt}
 use Rattle.rds_log.specs.declared.pace.Pace.{Pace}
 use Rattle.rds_log.specs.declared.filler.Filling.{Filling}
 use Rattle.rds_log.specs.declared.filler.Filler.{Filler}
+use Rattle.rds_log.specs.declared.filler.Times.{Times}
 use Rattle.rds_log.specs.declared.log_line.LogLine.{LogLine}
 use Rattle.rds_log.specs.declared.log_line.LogLine.TheVariants.{Skip, Slot}
 use Rattle.rds_log.proofs.OneOutput.{same_said}
@@ -52,50 +54,6 @@ two_more_lost total n =
     let one = codes "---- ---- ---- ----\n" in
     let later : 2 * n + 1 + 1 ≡ 2 * (n + 1) = omega arith in
     sym (append_assoc (total ++ lost_lines (2 * n)) one one) ∙ ap (λ (l : List ℕ). l ++ one) (more_lost total (2 * n)) ∙ more_lost total (2 * n + 1) ∙ ap (λ (m : ℕ). total ++ lost_lines m) later
-
--- from a to b, with failures from f to g
-abbrev pub from : Option (List ℕ) → Option (List ℕ) → ℕ → ℕ → Traffic
-from a b f g = record { before = a; after = b; failures_before = f; failures_after = g }
-
--- the output that waits was written
-writes_all : (s after : Filler) (total : List ℕ) (a b c : Option (List ℕ)) (f g h : ℕ) → HasOutput (from a b f g) s total → after.output ≡ []
-    → Appends b c s.output → h ≡ g → HasOutput (from a c f h) after total
-writes_all s after total a b c f g h has none put calm = record {
-  written = has.written ++ s.output;
-  all = rw (none, append-nil (has.written ++ s.output)) has.all;
-  wrote = Appends-trans a b c has.written s.output has.wrote put;
-  calm = calm ∙ has.calm;
-}
-
--- or a first part of it
-writes_part : (s : Filler) (total : List ℕ) (a b c : Option (List ℕ)) (f g h : ℕ) → HasOutput (from a b f g) s total → AppendsPrefix b c s.output → Failed g h
-    → LostOutput (from a c f h) total
-writes_part s total a b c f g h has part failed = record {
-  wrote = rw has.all at (AppendsPrefix-append a b c has.written s.output has.wrote part);
-  failed = rw has.calm at failed;
-}
-
-pub writes : (s after : Filler) (total : List ℕ) (a b c : Option (List ℕ)) (f g h : ℕ) (r : Result (Unit {0}) WriteFault) → HasOutput (from a b f g) s total → OnOk r (after.output ≡ [])
-    → Puts (from b c g h) s.output r → MatchResult r (λ _. HasOutput (from a c f h) after total) (λ _. LostOutput (from a c f h) total)
-writes s after total a b c f g h (Ok done) has none put = writes_all s after total a b c f g h has none put.0 put.1
-writes s after total a b c f g h (Err fault) has none put = writes_part s total a b c f g h has put.0 put.1
-
--- more output waits
-pub waits : (s after : Filler) (w : Traffic) (total bytes : List ℕ) → HasOutput w s total → after.output ≡ s.output ++ bytes → HasOutput w after (total ++ bytes)
-waits s after w total bytes has more = record {
-  written = has.written;
-  all = ap (λ (l : List ℕ). has.written ++ l) more ∙ sym (append_assoc has.written s.output bytes) ∙ ap (λ (l : List ℕ). l ++ bytes) has.all;
-  wrote = has.wrote;
-  calm = has.calm;
-}
-
--- the same output, of a filler with other settings
-pub same_output : (s after : Filler) (w : Traffic) (total : List ℕ) → HasOutput w s total → after.output ≡ s.output → HasOutput w after total
-same_output s after w total has same = record { written = has.written; all = ap (λ (l : List ℕ). has.written ++ l) same ∙ has.all; wrote = has.wrote; calm = has.calm }
-
--- a writer that failed at output failed at more output
-pub lost_longer : (w : Traffic) (total more : List ℕ) → LostOutput w total → LostOutput w (total ++ more)
-lost_longer w total more lost = record { wrote = AppendsPrefix-longer w.before w.after total more lost.wrote; failed = lost.failed }
 
 -- ---- the output before a group
 
@@ -129,9 +87,8 @@ told_is f [] told time = sym (max-zero told)
 told_is f (a ∷ before) told time = refl
 
 -- the same result for the same bytes
-pub same_pushed : (d : Filler) (w : Traffic) (r : Result (Unit {0}) WriteFault) (total other : List ℕ) → total ≡ other
-    → MatchResult r (λ _. HasOutput w d total) (λ _. LostOutput w total) → MatchResult r (λ _. HasOutput w d other) (λ _. LostOutput w other)
-same_pushed d w r total other same out = subst (λ (l : List ℕ). MatchResult r (λ _. HasOutput w d l) (λ _. LostOutput w l)) same out
+pub same_pushed : (w : Traffic) (waiting : List ℕ) (r : Result (Unit {0}) WriteFault) (total other : List ℕ) → total ≡ other → Pushed w waiting total r → Pushed w waiting other r
+same_pushed w waiting r total other same out = subst (λ (l : List ℕ). Pushed w waiting l r) same out
 
 -- ---- lines
 
@@ -144,22 +101,30 @@ left_out_kept s after has lines f u same =
     (subst (λ (b : Bool). IsTrue b ↔ HasLeftOut s.filling.pi lines) (sym u) same)
 
 -- a line that adds nothing
-pub adds_none : (s after : Filler) (w : Traffic) (lines : List Line) (line : Line) → AddsNothing s.filling line
-    → after.filling ≡ s.filling → after.pace ≡ s.pace → after.told ≡ s.told → IsTrue after.has_left_out ↔ HasLeftOut s.filling.pi (line ∷ lines) → after.output ≡ s.output
-    → HasFilled s w lines → HasFilled after w (line ∷ lines)
-adds_none s after w lines line none f p d u o has = record {
-  so_far = has.so_far;
-  fill = subst (λ (g : Filling). AreFilled g (line ∷ lines) has.so_far) (sym f) (inl (none, has.fill));
-  pace = rw p has.pace;
-  grain = ap (λ (x : Pace). x.grain) p ∙ has.grain ∙ ap (λ (g : Filling). g.grain) (sym f);
-  told = d ∙ has.told;
-  left_out = left_out_kept s after after.has_left_out (line ∷ lines) f refl u;
-  output = same_output s after w has.so_far.written has.output o;
-}
+pub adds_none : (how : Filling) (s after : Filler) (w : Traffic) (out : List ℕ) (lines : List Line) (line : Line)
+    → AddsNothing s.filling line → after.filling ≡ s.filling → after.pace ≡ s.pace → after.told ≡ s.told
+    → IsTrue after.has_left_out ↔ HasLeftOut s.filling.pi (line ∷ lines)
+    → HasTaken (HasFilled how s) w out lines → HasTaken (HasFilled how after) w out (line ∷ lines)
+adds_none how s after w out lines line none f p d u taken =
+    let has = taken.took in
+    record {
+      total = taken.total;
+      took = record {
+        filling = f ∙ has.filling;
+        so_far = has.so_far;
+        fill = subst (λ (g : Filling). AreFilled g (line ∷ lines) has.so_far) (sym f) (inl (none, has.fill));
+        writes = has.writes;
+        pace = rw p has.pace;
+        grain = ap (λ (x : Pace). x.grain) p ∙ has.grain ∙ ap (λ (g : Filling). g.grain) (sym f);
+        told = d ∙ has.told;
+        left_out = left_out_kept s after after.has_left_out (line ∷ lines) f refl u;
+      };
+      waits = taken.waits;
+    }
 
-same_gap : (s : Filler) (w : Traffic) (lines : List Line) (has : HasFilled s w lines) (came : Bool) (time : ℕ)
+same_gap : (how : Filling) (s : Filler) (lines : List Line) (total : List ℕ) (has : HasFilled how s lines total) (came : Bool) (time : ℕ)
     → gap_lines s.filling came (last_time s) s.told time ≡ gap_lines s.filling came (newest_time has.so_far.came) has.so_far.told time
-same_gap s w lines has came time =
+same_gap how s lines total has came time =
     ap (λ (o : Option ℕ). gap_lines s.filling came o s.told time) has.pace.last ∙ ap (λ (n : ℕ). gap_lines s.filling came (newest_time has.so_far.came) n time) has.told
 
 -- a line of this programme with a time, or one without a group, is no group that is left out
@@ -212,10 +177,10 @@ abbrev pub after_time : Filling → SoFar → ℕ → List ℕ → SoFar
 after_time f s time written = record { came = s.came; told = max s.told (lost_until f.grain f.dwell s.came time); written = written }
 
 -- a line that adds a group, and all its output
-pub adds_group : (s : Filler) (w : Traffic) (lines : List Line) (line : Line) (group : Group) (stamp : Stamp) (first : List ℕ)
-    → LineSays line (Slot (Some group)) → first ≡ take deciding line → time_of first ≡ Some stamp → (IsOfAnother s.filling.pi first → ⊥) → (has : HasFilled s w lines)
+pub adds_group : (how : Filling) (s : Filler) (lines : List Line) (total : List ℕ) (line : Line) (group : Group) (stamp : Stamp) (first : List ℕ)
+    → LineSays line (Slot (Some group)) → first ≡ take deciding line → time_of first ≡ Some stamp → (IsOfAnother s.filling.pi first → ⊥) → (has : HasFilled how s lines total)
     → AreFilled s.filling (line ∷ lines) (after_group has.so_far group stamp.time (has.so_far.written ++ gap_lines s.filling true (last_time s) s.told stamp.time ++ shown first stamp))
-adds_group s w lines line group stamp first says is timed own has = inr (
+adds_group how s lines total line group stamp first says is timed own has = inr (
   has.so_far,
   has.fill,
   inl record {
@@ -226,16 +191,16 @@ adds_group s w lines line group stamp first says is timed own has = inr (
     own = rw is at own;
     came = refl;
     told = refl;
-    writes = ap (λ (l : List ℕ). has.so_far.written ++ l ++ shown first stamp) (same_gap s w lines has true stamp.time)
+    writes = ap (λ (l : List ℕ). has.so_far.written ++ l ++ shown first stamp) (same_gap how s lines total has true stamp.time)
         ∙ ap (λ (l : List ℕ). has.so_far.written ++ gap_lines s.filling true (newest_time has.so_far.came) has.so_far.told stamp.time ++ shown l stamp) is;
   },
 )
 
 -- a line that tells a time
-pub adds_time : (s : Filler) (w : Traffic) (lines : List Line) (line : Line) (stamp : Stamp) (first : List ℕ)
-    → LineSays line (Slot None) → first ≡ take deciding line → time_of first ≡ Some stamp → (IsOfAnother s.filling.pi first → ⊥) → (has : HasFilled s w lines)
+pub adds_time : (how : Filling) (s : Filler) (lines : List Line) (total : List ℕ) (line : Line) (stamp : Stamp) (first : List ℕ)
+    → LineSays line (Slot None) → first ≡ take deciding line → time_of first ≡ Some stamp → (IsOfAnother s.filling.pi first → ⊥) → (has : HasFilled how s lines total)
     → AreFilled s.filling (line ∷ lines) (after_time s.filling has.so_far stamp.time (has.so_far.written ++ gap_lines s.filling false (last_time s) s.told stamp.time))
-adds_time s w lines line stamp first says is timed own has = inr (
+adds_time how s lines total line stamp first says is timed own has = inr (
   has.so_far,
   has.fill,
   inr record {
@@ -245,106 +210,109 @@ adds_time s w lines line stamp first says is timed own has = inr (
     own = rw is at own;
     came = refl;
     told = refl;
-    writes = ap (λ (l : List ℕ). has.so_far.written ++ l) (same_gap s w lines has false stamp.time);
+    writes = ap (λ (l : List ℕ). has.so_far.written ++ l) (same_gap how s lines total has false stamp.time);
   },
 )
 
--- the writer failed at a first part of the output of a line
-pub fails_at_group : (s : Filler) (w v : Traffic) (lines : List Line) (line : Line) (group : Group) (stamp : Stamp) (first : List ℕ)
-    → LineSays line (Slot (Some group)) → first ≡ take deciding line → time_of first ≡ Some stamp → (IsOfAnother s.filling.pi first → ⊥) → (has : HasFilled s w lines)
-    → LostOutput v (has.so_far.written ++ gap_lines s.filling true (last_time s) s.told stamp.time) → WroteFilledPart s.filling v (line ∷ lines)
-fails_at_group s w v lines line group stamp first says is timed own has lose =
-    let more = lost_longer v (has.so_far.written ++ gap_lines s.filling true (last_time s) s.told stamp.time) (shown first stamp) lose in
-    record {
-      so_far = after_group has.so_far group stamp.time (has.so_far.written ++ gap_lines s.filling true (last_time s) s.told stamp.time ++ shown first stamp);
-      fill = adds_group s w lines line group stamp first says is timed own has;
-      wrote = more.wrote;
-      failed = more.failed;
-    }
+-- the writer failed at the output of a line
+fails_at : (how : Filling) (s : Filler) (lines : List Line) (v : Traffic) (so_far : SoFar) → s.filling ≡ how → AreFilled s.filling lines so_far → IsLost v so_far.written → WrotePart (LinesFill how) v lines
+fails_at how s lines v so_far same fill lose = record { written = so_far.written; write = record { so_far = so_far; fill = rw same at fill; writes = refl }; wrote = lose.wrote; failed = lose.failed }
 
-pub fails_at_slot : (s : Filler) (w v : Traffic) (lines : List Line) (line : Line) (slot : Option Group) (stamp : Stamp) (first : List ℕ)
-    → LineSays line (Slot slot) → first ≡ take deciding line → time_of first ≡ Some stamp → (IsOfAnother s.filling.pi first → ⊥) → (has : HasFilled s w lines)
-    → LostOutput v (has.so_far.written ++ gap_lines s.filling (is_some slot) (last_time s) s.told stamp.time) → WroteFilledPart s.filling v (line ∷ lines)
-fails_at_slot s w v lines line (Some group) stamp first says is timed own has lose = fails_at_group s w v lines line group stamp first says is timed own has lose
-fails_at_slot s w v lines line None stamp first says is timed own has lose = record {
-  so_far = after_time s.filling has.so_far stamp.time (has.so_far.written ++ gap_lines s.filling false (last_time s) s.told stamp.time);
-  fill = adds_time s w lines line stamp first says is timed own has;
-  wrote = lose.wrote;
-  failed = lose.failed;
-}
+pub fails_at_slot : (how : Filling) (s : Filler) (v : Traffic) (lines : List Line) (total : List ℕ) (line : Line) (slot : Option Group) (stamp : Stamp) (first : List ℕ)
+    → LineSays line (Slot slot) → first ≡ take deciding line → time_of first ≡ Some stamp → (IsOfAnother s.filling.pi first → ⊥) → (has : HasFilled how s lines total)
+    → IsLost v (has.so_far.written ++ gap_lines s.filling (is_some slot) (last_time s) s.told stamp.time) → WrotePart (LinesFill how) v (line ∷ lines)
+fails_at_slot how s v lines total line (Some group) stamp first says is timed own has lose =
+    let written = has.so_far.written ++ gap_lines s.filling true (last_time s) s.told stamp.time in
+    fails_at how s (line ∷ lines) v (after_group has.so_far group stamp.time (written ++ shown first stamp)) has.filling
+    (adds_group how s lines total line group stamp first says is timed own has) (lost_longer v written (shown first stamp) lose)
+fails_at_slot how s v lines total line None stamp first says is timed own has lose =
+    fails_at how s (line ∷ lines) v (after_time s.filling has.so_far stamp.time (has.so_far.written ++ gap_lines s.filling false (last_time s) s.told stamp.time)) has.filling
+    (adds_time how s lines total line stamp first says is timed own has) lose
 
 -- the output of a line without a whole group was added
-pub time_done : (s after : Filler) (w v : Traffic) (lines : List Line) (line : Line) (slot : Option Group) (stamp : Stamp) (first : List ℕ)
-    → LineSays line (Slot slot) → is_some slot ≡ false → first ≡ take deciding line → time_of first ≡ Some stamp → (IsOfAnother s.filling.pi first → ⊥) → (has : HasFilled s w lines)
+pub time_done : (how : Filling) (s after : Filler) (v : Traffic) (out : List ℕ) (lines : List Line) (total : List ℕ) (line : Line) (slot : Option Group) (stamp : Stamp) (first : List ℕ)
+    → LineSays line (Slot slot) → is_some slot ≡ false → first ≡ take deciding line → time_of first ≡ Some stamp → (IsOfAnother s.filling.pi first → ⊥) → (has : HasFilled how s lines total)
     → KeepsPace s after → after.told ≡ told_after s.filling (last_time s) s.told stamp.time
-    → HasOutput v after (has.so_far.written ++ gap_lines s.filling false (last_time s) s.told stamp.time) → HasFilled after v (line ∷ lines)
-time_done s after w v lines line (Some group) stamp first says none is timed own has keeps told out = absurd (cc)
-time_done s after w v lines line None stamp first says none is timed_at own has keeps told out =
+    → Waits v out (has.so_far.written ++ gap_lines s.filling false (last_time s) s.told stamp.time) → HasTaken (HasFilled how after) v out (line ∷ lines)
+time_done how s after v out lines total line (Some group) stamp first says none is timed own has keeps told waits = absurd (cc)
+time_done how s after v out lines total line None stamp first says none is timed_at own has keeps told waits =
     let written = has.so_far.written ++ gap_lines s.filling false (last_time s) s.told stamp.time in
     record {
-      so_far = after_time s.filling has.so_far stamp.time written;
-      fill = subst (λ (g : Filling). AreFilled g (line ∷ lines) (after_time s.filling has.so_far stamp.time written)) (sym keeps.filling)
-          (adds_time s w lines line stamp first says is timed_at own has);
-      pace = rw keeps.pace has.pace;
-      grain = ap (λ (x : Pace). x.grain) keeps.pace ∙ has.grain ∙ ap (λ (g : Filling). g.grain) (sym keeps.filling);
-      told = told ∙ ap (λ (o : Option ℕ). told_after s.filling o s.told stamp.time) has.pace.last ∙ ap (λ (n : ℕ). told_after s.filling (newest_time has.so_far.came) n stamp.time) has.told
-          ∙ told_is s.filling has.so_far.came has.so_far.told stamp.time;
-      left_out = left_out_kept s after s.has_left_out (line ∷ lines) keeps.filling keeps.left_out
-          (none_left_out s.filling.pi line lines s.has_left_out (counted s.filling.pi line stamp first is timed_at own) has.left_out);
-      output = out;
+      total = written;
+      took = record {
+        filling = keeps.filling ∙ has.filling;
+        so_far = after_time s.filling has.so_far stamp.time written;
+        fill = subst (λ (g : Filling). AreFilled g (line ∷ lines) (after_time s.filling has.so_far stamp.time written)) (sym keeps.filling)
+            (adds_time how s lines total line stamp first says is timed_at own has);
+        writes = refl;
+        pace = rw keeps.pace has.pace;
+        grain = ap (λ (x : Pace). x.grain) keeps.pace ∙ has.grain ∙ ap (λ (g : Filling). g.grain) (sym keeps.filling);
+        told = told ∙ ap (λ (o : Option ℕ). told_after s.filling o s.told stamp.time) has.pace.last ∙ ap (λ (n : ℕ). told_after s.filling (newest_time has.so_far.came) n stamp.time) has.told
+            ∙ told_is s.filling has.so_far.came has.so_far.told stamp.time;
+        left_out = left_out_kept s after s.has_left_out (line ∷ lines) keeps.filling keeps.left_out
+            (none_left_out s.filling.pi line lines s.has_left_out
+            (counted s.filling.pi line stamp first is timed_at own) has.left_out);
+      };
+      waits = waits;
     }
 
 -- the output of a line with a group was added, or the writer failed at it
-pub group_done : (s after : Filler) (w v : Traffic) (lines : List Line) (line : Line) (slot : Option Group) (stamp : Stamp) (first : List ℕ) (r : Result (Unit {0}) WriteFault)
-    → LineSays line (Slot slot) → is_some slot ≡ true → first ≡ take deciding line → time_of first ≡ Some stamp → (IsOfAnother s.filling.pi first → ⊥) → (has : HasFilled s w lines)
+pub group_done : (how : Filling) (s after : Filler) (v : Traffic) (out : List ℕ) (lines : List Line) (total : List ℕ) (line : Line) (slot : Option Group) (stamp : Stamp) (first : List ℕ) (r : Result (Unit {0}) WriteFault)
+    → LineSays line (Slot slot) → is_some slot ≡ true → first ≡ take deciding line → time_of first ≡ Some stamp → (IsOfAnother s.filling.pi first → ⊥) → (has : HasFilled how s lines total)
     → after.filling ≡ s.filling → ((a : Arrival Group) → a.told ≡ s.told → a.time ≡ stamp.time → PaceStandsAt after.pace (a ∷ has.so_far.came)) → after.pace.grain ≡ s.pace.grain → after.told ≡ 0 → after.has_left_out ≡ s.has_left_out
-    → MatchResult r (λ _. HasOutput v after (has.so_far.written ++ gap_lines s.filling true (last_time s) s.told stamp.time ++ shown first stamp))
-    (λ _. LostOutput v (has.so_far.written ++ gap_lines s.filling true (last_time s) s.told stamp.time ++ shown first stamp))
-    → MatchResult r (λ _. HasFilled after v (line ∷ lines)) (λ _. WroteFilledPart s.filling v (line ∷ lines))
-group_done s after w v lines line None stamp first r says some is timed_at own has f p k d u out = absurd (cc)
-group_done s after w v lines line (Some group) stamp first (Ok done) says some is timed_at own has f p k d u out =
+    → Pushed v out (has.so_far.written ++ gap_lines s.filling true (last_time s) s.told stamp.time ++ shown first stamp) r
+    → MatchResult r (λ _. HasTaken (HasFilled how after) v out (line ∷ lines)) (λ _. WrotePart (LinesFill how) v (line ∷ lines))
+group_done how s after v out lines total line None stamp first r says some is timed_at own has f p k d u pushed = absurd (cc)
+group_done how s after v out lines total line (Some group) stamp first (Ok done) says some is timed_at own has f p k d u pushed =
     let so_far = after_group has.so_far group stamp.time (has.so_far.written ++ gap_lines s.filling true (last_time s) s.told stamp.time ++ shown first stamp) in
     record {
-      so_far = so_far;
-      fill = subst (λ (g : Filling). AreFilled g (line ∷ lines) so_far) (sym f) (adds_group s w lines line group stamp first says is timed_at own has);
-      pace = p _ (sym has.told) refl;
-      grain = k ∙ has.grain ∙ ap (λ (g : Filling). g.grain) (sym f);
-      told = d;
-      left_out = left_out_kept s after s.has_left_out (line ∷ lines) f u
-          (none_left_out s.filling.pi line lines s.has_left_out (counted s.filling.pi line stamp first is timed_at own) has.left_out);
-      output = out;
+      total = so_far.written;
+      took = record {
+        filling = f ∙ has.filling;
+        so_far = so_far;
+        fill = subst (λ (g : Filling). AreFilled g (line ∷ lines) so_far) (sym f) (adds_group how s lines total line group stamp first says is timed_at own has);
+        writes = refl;
+        pace = p _ (sym has.told) refl;
+        grain = k ∙ has.grain ∙ ap (λ (g : Filling). g.grain) (sym f);
+        told = d;
+        left_out = left_out_kept s after s.has_left_out (line ∷ lines) f u
+            (none_left_out s.filling.pi line lines s.has_left_out
+            (counted s.filling.pi line stamp first is timed_at own) has.left_out);
+      };
+      waits = pushed;
     }
-group_done s after w v lines line (Some group) stamp first (Err fault) says some is timed_at own has f p k d u out = record {
-  so_far = after_group has.so_far group stamp.time (has.so_far.written ++ gap_lines s.filling true (last_time s) s.told stamp.time ++ shown first stamp);
-  fill = adds_group s w lines line group stamp first says is timed_at own has;
-  wrote = out.wrote;
-  failed = out.failed;
+group_done how s after v out lines total line (Some group) stamp first (Err fault) says some is timed_at own has f p k d u pushed =
+    fails_at how s (line ∷ lines) v (after_group has.so_far group stamp.time (has.so_far.written ++ gap_lines s.filling true (last_time s) s.told stamp.time ++ shown first stamp)) has.filling
+    (adds_group how s lines total line group stamp first says is timed_at own has) pushed
+
+-- ---- the end
+
+-- the log ended
+pub fills_all : (how : Filling) (f : Filler) (r w : Traffic) (times : Times) → (all : RunsAll (HasFilled how f) r w)
+    → TimesAre f.filling all.run.lines all.run.took.so_far.came times → FillsAll how r w times
+fills_all how f r w times all are = record {
+  text = all.run.text;
+  lines = all.run.lines;
+  read = all.run.read;
+  end = all.end;
+  are = all.are;
+  wrote = record {
+    written = all.run.written;
+    write = record {
+      so_far = all.run.took.so_far;
+      fill = rw all.run.took.filling at all.run.took.fill;
+      writes = all.run.took.writes;
+    };
+    wrote = all.run.wrote;
+    calm = all.run.write_calm;
+  };
+  answer = subst (λ (g : Filling). TimesAre g all.run.lines all.run.took.so_far.came times) all.run.took.filling are;
+  calm = all.run.read_calm;
 }
 
--- ---- writes between lines
-
--- the output of the lines so far was written, or the writer failed at it
-pub flushed : (s after : Filler) (w v : Traffic) (lines : List Line) (r : Result (Unit {0}) WriteFault) (has : HasFilled s w lines) → KeepsTime s after
-    → MatchResult r (λ _. HasOutput v after has.so_far.written) (λ _. LostOutput v has.so_far.written)
-    → MatchResult r (λ _. HasFilled after v lines) (λ _. WroteFilledPart s.filling v lines)
-flushed s after w v lines (Ok done) has keeps out = record {
-  so_far = has.so_far;
-  fill = subst (λ (g : Filling). AreFilled g lines has.so_far) (sym keeps.filling) has.fill;
-  pace = rw keeps.pace has.pace;
-  grain = ap (λ (x : Pace). x.grain) keeps.pace ∙ has.grain ∙ ap (λ (g : Filling). g.grain) (sym keeps.filling);
-  told = keeps.told ∙ has.told;
-  left_out = left_out_kept s after s.has_left_out lines keeps.filling keeps.left_out has.left_out;
-  output = out;
-}
-flushed s after w v lines (Err fault) has keeps out = record { so_far = has.so_far; fill = has.fill; wrote = out.wrote; failed = out.failed }
-
--- nothing waits: all output was written
-unfoldable pub wrote_filled : (f : Filling) (s : Filler) (w : Traffic) (lines : List Line) → s.filling ≡ f → HasFilled s w lines → s.output ≡ [] → WroteFilled f w lines
-wrote_filled f s w lines same has none =
-    let all : has.output.written ≡ has.so_far.written = sym (ap (λ (l : List ℕ). has.output.written ++ l) none ∙ append-nil has.output.written) ∙ has.output.all in
-    record {
-      so_far = has.so_far;
-      fill = rw same at has.fill;
-      wrote = rw all at has.output.wrote;
-      calm = has.output.calm;
-    }
+-- a filler is never done
+pub never_done : (how : Filling) (f : Filler) (r w : Traffic)
+    → (RunsAll (HasFilled how f) r w × (⊥ → ⊥)) ⊎ (RunsUpTo (HasFilled how f) r w × ⊥)
+    → RunsAll (HasFilled how f) r w
+never_done how f r w (inl (all, wants)) = all
+never_done how f r w (inr (run, never)) = absurd never

@@ -1,6 +1,7 @@
--- The bytes of a log have one verdict.
-use Rattle.std.proofs.Common.{◌≡◌, ◌≢◌, ◌⊎◌, ◌↔◌, ◌<◌, ◌∙◌, ◌∷◌, [], ◌++◌, ℕ, List, Bool, true, false, Option, Some, Ok, Err, append_assoc, ap, arith, inl, inr, length, refl, sym}
-use Rattle.std.specs.Prelude.{All, IsTrue}
+-- The bytes of a log have one answer of an audit.
+use Rattle.std.proofs.Common.{◌≡◌, ◌≢◌, ◌⊎◌, ◌<◌, ◌∙◌, ◌∷◌, [], ◌++◌, ℕ, List, Bool, true, false, Option, Some}
+use Rattle.std.proofs.Common.{Ok, append_assoc, ap, arith, inl, inr, length, refl, sym}
+use Rattle.std.specs.Prelude.{All}
 use Rattle.std.specs.Io.KnownBytes.{Consumes}
 use Rattle.std.proofs.lemmas.Bool.Decides.{eqb_tells}
 use Rattle.std.proofs.lemmas.List.{append-nil}
@@ -14,14 +15,16 @@ use Rattle.rds_audit.specs.AuditLaws.{WhatHasAFaultDoesNotPass}
 use Rattle.rds_audit.specs.Judging.{judged_more}
 use Rattle.rds_audit.specs.Listing.{IsFaultOf, first_fault, first_of, or_else, slot_adds}
 use Rattle.rds_audit.specs.declared.audit.AuditFault.{AuditFault}
+use Rattle.rds_audit.specs.declared.fault_set.FaultSet.{FaultSet}
 use Rattle.rds_io.specs.Alike.{WriteAlike}
-use Rattle.rds_log.specs.Audit.{AnswersVerdictOf, Audits, IsVerdictOf, IsYes, SlotsFail, SlotsPass, AuditStopsAtSlot, WholePasses, judged, spacing, verdict_line}
+use Rattle.rds_log.specs.Audit.{SlotsFail, SlotsPass, StopsAtSlot, WholePasses, judged, spacing}
+use Rattle.rds_log.specs.FaultList.{AnswersYes, AreAdded, Audits, FindsFaults, LinesList, list_lines, no_line, yes_line}
 use Rattle.rds_log.specs.LogWrites.{AreSlots}
 use Rattle.rds_log.specs.Reads.{BeginsWith}
 use Rattle.rds_log.specs.LogLines.{AreLines, IsLine, Line, line_feed, text_of}
 use Rattle.rds_log.specs.declared.audit_log.Auditing.{Auditing}
-use Rattle.rds_log.specs.declared.verdict.Verdict.{Verdict}
-use Rattle.rds_log.specs.declared.verdict.Verdict.TheVariants.{No, Yes}
+use Rattle.rds_log.specs.declared.audit_log.Stop.{Stop}
+use Rattle.rds_log.specs.declared.audit_log.Stop.TheVariants.{FirstFault, LogEnd}
 use Rattle.rds_log.proofs.Cutting.{text_of-more}
 use Rattle.rds_log.proofs.OneOutput.{same_lines, same_slots}
 use Rattle.rds_log.proofs.WholeBytes.{read_and_left, read_whole}
@@ -112,25 +115,54 @@ fails_for_good fails a t fault more slots some fail pass =
     fails (spacing a) (judged a pass.heard) fault some (rw goes_on (fault_stays (spacing a) later (judged a fail.heard) fault fail.fault_is)) pass.passes
 
 -- and those that do not pass fail at one slot, with one fault
-fails_once : WhatHasAFaultDoesNotPass → (a : Auditing) (t u : ℕ) (f g : AuditFault) (more slots all : List (Option Group)) → 0 < spacing a → all ≡ more ++ slots → SlotsFail a t f slots → SlotsFail a u g all
-    → No t f ≡ No u g
+fails_once : WhatHasAFaultDoesNotPass → (a : Auditing) (t u : ℕ) (f g : AuditFault) (more slots all : List (Option Group))
+    → 0 < spacing a → all ≡ more ++ slots → SlotsFail a t f slots → SlotsFail a u g all → no_line t f ≡ no_line u g
 fails_once fails a t u f g [] slots all some same p q =
     let count : length all ≡ length slots = ap length same in
     let first : length slots ≡ length (p.newest ∷ p.before) = ap length p.cut in
     let second : length all ≡ length (q.newest ∷ q.before) = ap length q.cut in
     let number : t ≡ u = omega (arith, count, first, second, p.number, q.number) in
     let heard : p.heard ≡ q.heard = same_heard a.pi slots p.heard q.heard p.are (rw same at q.are) in
-    let both : Some f ≡ Some g = sym p.fault_is ∙ ap (λ (h : List (Option Message)). first_fault (spacing a) (judged a h)) heard ∙ q.fault_is in
-    (cc)
+    let both : Some f ≡ Some g =
+    sym p.fault_is ∙ ap (λ (h : List (Option Message)). first_fault (spacing a) (judged a h)) heard ∙ q.fault_is in
+    let fault : f ≡ g = (cc) in
+    ap (λ (n : ℕ). no_line n f) number ∙ ap (no_line u) fault
 fails_once fails a t u f g (s ∷ more) slots all some same p q =
     let cut : s ∷ (more ++ slots) ≡ q.newest ∷ q.before = sym same ∙ q.cut in
     let before : q.before ≡ more ++ slots = (cc) in
     absurd (fails_for_good fails a t f more slots some p (rw before at q.passed))
 
--- ---- the verdict
+-- ---- the answer
+
+-- what is read up to a slot that fails begins all bytes
+stops_in_all : (a : Auditing) (t : ℕ) (fault : AuditFault) (before after : Option (List ℕ)) (bytes text : List ℕ)
+    → before ≡ Some bytes → Consumes before after text → StopsAtSlot a t fault text after
+    → StopsAtSlot a t fault bytes (Some [])
+stops_in_all a t fault before after bytes text given read stops = record {
+  lines = stops.lines;
+  begins = begins_all before after bytes text stops.lines given read stops.begins;
+  slots = stops.slots;
+  say = stops.say;
+  fail = stops.fail;
+}
+  where
+    begins_all : (before after : Option (List ℕ)) (bytes text : List ℕ) (lines : List Line) → before ≡ Some bytes
+        → Consumes before after text → BeginsWith text after lines → BeginsWith bytes (Some []) lines
+    begins_all before after bytes text lines given read (inl (line, rest, cut, all, is)) =
+        let (left, known, whole) = read_and_left before after bytes text given read in
+        inl (
+          line,
+          rest ++ left,
+          whole ∙ ap (λ (l : List ℕ). l ++ left) cut ∙ append_assoc (text_of lines line) rest left,
+          all,
+          is,
+        )
+    begins_all before after bytes text lines given read (inr (end, are)) =
+        inr (refl, rw (read_whole before after bytes text given read end) at are)
 
 -- all lines are good and pass, or some of them fail
-not_both : WhatHasAFaultDoesNotPass → (a : Auditing) (n t : ℕ) (fault : AuditFault) (bytes : List ℕ) → 0 < spacing a → WholePasses a n bytes → AuditStopsAtSlot a t fault bytes (Some []) → ⊥
+not_both : WhatHasAFaultDoesNotPass → (a : Auditing) (n t : ℕ) (fault : AuditFault) (bytes : List ℕ) → 0 < spacing a
+    → WholePasses a n bytes → StopsAtSlot a t fault bytes (Some []) → ⊥
 not_both fails a n t fault bytes some p q =
     let (newer, are) = all_lines bytes q.lines q.begins in
     let lines : p.lines ≡ newer ++ q.lines = same_lines bytes p.lines (newer ++ q.lines) p.are are in
@@ -138,20 +170,16 @@ not_both fails a n t fault bytes some p q =
     fails_for_good fails a t fault more q.slots some q.fail (rw slots at p.pass)
 
 -- the lines that fail last go on after those that fail first
-stops_once : WhatHasAFaultDoesNotPass → (a : Auditing) (t u : ℕ) (f g : AuditFault) (bytes : List ℕ) → 0 < spacing a → (p : AuditStopsAtSlot a t f bytes (Some [])) (q : AuditStopsAtSlot a u g bytes (Some []))
-    → (c : List Line) × (q.lines ≡ c ++ p.lines) → No t f ≡ No u g
+stops_once : WhatHasAFaultDoesNotPass → (a : Auditing) (t u : ℕ) (f g : AuditFault) (bytes : List ℕ) → 0 < spacing a
+    → (p : StopsAtSlot a t f bytes (Some [])) (q : StopsAtSlot a u g bytes (Some []))
+    → (c : List Line) × (q.lines ≡ c ++ p.lines) → no_line t f ≡ no_line u g
 stops_once fails a t u f g bytes some p q (c, lines) =
     let (more, slots) = more_slots c p.lines q.slots p.slots (rw lines at q.say) p.say in
     fails_once fails a t u f g more p.slots q.slots some slots p.fail q.fail
 
-pub same_verdict : WhatHasAFaultDoesNotPass → (a : Auditing) (bytes : List ℕ) (v u : Verdict) → 0 < spacing a → IsVerdictOf a bytes v → IsVerdictOf a bytes u → v ≡ u
-same_verdict fails a bytes (Yes n) (Yes m) some p q =
-    let lines : p.lines ≡ q.lines = same_lines bytes p.lines q.lines p.are q.are in
-    let slots : p.slots ≡ q.slots = same_slots q.lines p.slots q.slots (rw lines at p.say) q.say in
-    ap Yes (p.number ∙ ap length slots ∙ sym q.number)
-same_verdict fails a bytes (Yes n) (No t fault) some p q = absurd (not_both fails a n t fault bytes some p q)
-same_verdict fails a bytes (No t fault) (Yes n) some p q = absurd (not_both fails a n t fault bytes some q p)
-same_verdict fails a bytes (No t f) (No u g) some p q =
+one_no : WhatHasAFaultDoesNotPass → (a : Auditing) (t u : ℕ) (f g : AuditFault) (bytes : List ℕ) → 0 < spacing a
+    → StopsAtSlot a t f bytes (Some []) → StopsAtSlot a u g bytes (Some []) → no_line t f ≡ no_line u g
+one_no fails a t u f g bytes some p q =
     let (newer, are) = all_lines bytes p.lines p.begins in
     let (newer', are') = all_lines bytes q.lines q.begins in
     elim (two_ends newer newer' p.lines q.lines (same_lines bytes (newer ++ p.lines) (newer' ++ q.lines) are are')) [
@@ -159,46 +187,86 @@ same_verdict fails a bytes (No t f) (No u g) some p q =
       | inr later ↦ stops_once fails a t u f g bytes some p q later
     ]
 
--- ---- calls
+-- the bytes have one number of slots, if all of them pass
+one_number : (a : Auditing) (n m : ℕ) (bytes : List ℕ) → WholePasses a n bytes → WholePasses a m bytes → n ≡ m
+one_number a n m bytes p q =
+    let lines : p.lines ≡ q.lines = same_lines bytes p.lines q.lines p.are q.are in
+    let slots : p.slots ≡ q.slots = same_slots q.lines p.slots q.slots (rw lines at p.say) q.say in
+    p.number ∙ ap length slots ∙ sym q.number
 
--- what begins the part that was read, begins all bytes
-begins_all : (before after : Option (List ℕ)) (bytes text : List ℕ) (lines : List Line) → before ≡ Some bytes → Consumes before after text → BeginsWith text after lines → BeginsWith bytes (Some []) lines
-begins_all before after bytes text lines given read (inl (line, rest, cut, all, is)) =
-    let (left, known, whole) = read_and_left before after bytes text given read in
-    inl (line, rest ++ left, whole ∙ ap (λ (l : List ℕ). l ++ left) cut ∙ append_assoc (text_of lines line) rest left, all, is)
-begins_all before after bytes text lines given read (inr (end, are)) =
-    inr (refl, rw (read_whole before after bytes text given read end) at are)
+-- a log has one list of faults
+one_list : (d : ℕ) (log : List (Option Message)) (fs gs : List FaultSet) → length fs ≡ length gs → AreAdded d log fs
+    → AreAdded d log gs → fs ≡ gs
+one_list d log [] [] same p q = refl
+one_list d log [] (g ∷ gs) same p q = absurd (cc)
+one_list d log (f ∷ fs) [] same p q = absurd (cc)
+one_list d [] (f ∷ fs) (g ∷ gs) same p q = absurd p
+one_list d (m ∷ log) (f ∷ fs) (g ∷ gs) same p q =
+    let one : f ≡ g = p.0 ∙ sym q.0 in
+    let shorter : length fs ≡ length gs = omega (arith, same) in
+    let all : fs ≡ gs = one_list d log fs gs shorter p.1 q.1 in
+    (cc)
 
--- the verdict that was answered is that of the bytes
-pub answers : (a : Auditing) (reads : ℕ) (bytes : List ℕ) (r w : Traffic) (passed : Bool) → r.before ≡ Some bytes → Audits a reads r w (Ok passed) → AnswersVerdictOf a bytes w passed
-answers a reads bytes r w passed given (Err fault, judged, said) = absurd said
-answers a reads bytes r w passed given (Ok (Yes n), (text, read, end, whole, calm), (answer, put, kept)) =
-    record { verdict = Yes n; is = rw (read_whole r.before r.after bytes text given read end) at whole; answer = answer; wrote = put }
-answers a reads bytes r w passed given (Ok (No t fault), (text, read, stops, calm), (answer, put, kept)) =
-    record {
-      verdict = No t fault;
-      is = record {
-        lines = stops.lines;
-        begins = begins_all r.before r.after bytes text stops.lines given read stops.begins;
-        slots = stops.slots;
-        say = stops.say;
-        fail = stops.fail;
-      };
-      answer = answer;
-      wrote = put;
-    }
+-- lines have one output
+one_output : (a : Auditing) (lines : List Line) (written other : List ℕ) → LinesList a lines written
+    → LinesList a lines other → written ≡ other
+one_output a lines written other p q =
+    let slots : p.slots ≡ q.slots = same_slots lines p.slots q.slots p.say q.say in
+    let heard = same_heard a.pi q.slots p.list.are.heard q.list.are.heard (rw slots at p.list.are.are) q.list.are.are in
+    let each : length p.list.faults ≡ length q.list.faults = p.list.are.each ∙ ap length slots ∙ sym q.list.are.each in
+    let faults : p.list.faults ≡ q.list.faults =
+    one_list (spacing a) (judged a q.list.are.heard) p.list.faults q.list.faults each
+    (rw heard at p.list.are.added) q.list.are.added in
+    p.list.lines ∙ ap (list_lines a.stop) faults ∙ sym q.list.lines
 
--- two answers of one verdict
-same_answer : (verdict : Verdict) (passed other : Bool) → IsTrue passed ↔ IsYes verdict → IsTrue other ↔ IsYes verdict → passed ≡ other
-same_answer verdict true other p q = sym (q.1 (p.0 refl))
-same_answer verdict false true p q = p.1 (q.0 refl)
-same_answer verdict false false p q = refl
+-- what passes has no fault
+no_fault : WhatHasAFaultDoesNotPass → (a : Auditing) (stop : Stop) (bytes : List ℕ) (r w q v : Traffic) → 0 < spacing a
+    → r.before ≡ Some bytes → q.before ≡ Some bytes → AnswersYes a r w → FindsFaults stop a q v → ⊥
+no_fault fails a FirstFault bytes r w q v some given same pass find =
+    not_both fails a pass.number find.number find.fault bytes some
+    (rw (read_whole r.before r.after bytes pass.text given pass.read pass.end) at pass.passes)
+    (stops_in_all a find.number find.fault q.before q.after bytes find.text same find.read find.stops)
+no_fault fails a LogEnd bytes r w q v some given same pass find =
+    let (fault, first_of_all) = find.some in
+    let first : pass.text ≡ bytes = read_whole r.before r.after bytes pass.text given pass.read pass.end in
+    let second : find.text ≡ bytes = read_whole q.before q.after bytes find.text same find.read find.end in
+    let lines : pass.passes.lines ≡ find.lines =
+    same_lines bytes pass.passes.lines find.lines (rw first at pass.passes.are) (rw second at find.are) in
+    let slots : pass.passes.slots ≡ find.list.slots =
+    same_slots find.lines pass.passes.slots find.list.slots (rw lines at pass.passes.say) find.list.say in
+    fails_for_good fails a first_of_all.number fault first_of_all.newer first_of_all.failed some first_of_all.fail
+    (rw (slots ∙ first_of_all.cut) at pass.passes.pass)
+
+-- two calls that found faults wrote the same
+same_faults : WhatHasAFaultDoesNotPass → (a : Auditing) (stop : Stop) (bytes : List ℕ) (r w q v : Traffic)
+    → 0 < spacing a → r.before ≡ Some bytes → q.before ≡ Some bytes → FindsFaults stop a r w → FindsFaults stop a q v
+    → WriteAlike w v
+same_faults fails a FirstFault bytes r w q v some given same p u = record {
+  written = no_line u.number u.fault;
+  one = rw (one_no fails a p.number u.number p.fault u.fault bytes some
+      (stops_in_all a p.number p.fault r.before r.after bytes p.text given p.read p.stops)
+      (stops_in_all a u.number u.fault q.before q.after bytes u.text same u.read u.stops)) at p.wrote;
+  other = u.wrote;
+}
+same_faults fails a LogEnd bytes r w q v some given same p u =
+    let first : p.text ≡ bytes = read_whole r.before r.after bytes p.text given p.read p.end in
+    let second : u.text ≡ bytes = read_whole q.before q.after bytes u.text same u.read u.end in
+    let lines : p.lines ≡ u.lines = same_lines bytes p.lines u.lines (rw first at p.are) (rw second at u.are) in
+    let one : p.written ≡ u.written = one_output a u.lines p.written u.written (rw lines at p.list) u.list in
+    record { written = u.written; one = rw one at p.wrote; other = u.wrote }
 
 -- two calls over the same bytes
-pub alike : WhatHasAFaultDoesNotPass → (a : Auditing) (reads others : ℕ) (bytes : List ℕ) (r w q v : Traffic) (passed other : Bool) → 0 < spacing a → r.before ≡ Some bytes → q.before ≡ Some bytes
+pub alike : WhatHasAFaultDoesNotPass → (a : Auditing) (reads others : ℕ) (bytes : List ℕ) (r w q v : Traffic)
+    (passed other : Bool) → 0 < spacing a → r.before ≡ Some bytes → q.before ≡ Some bytes
     → Audits a reads r w (Ok passed) → Audits a others q v (Ok other) → (passed ≡ other) × WriteAlike w v
-alike fails a reads others bytes r w q v passed other some given same first second =
-    let p = answers a reads bytes r w passed given first in
-    let u = answers a others bytes q v other same second in
-    let is : p.verdict ≡ u.verdict = same_verdict fails a bytes p.verdict u.verdict some p.is u.is in
-    (same_answer u.verdict passed other (rw is at p.answer) u.answer, record { written = verdict_line u.verdict; one = rw is at p.wrote; other = u.wrote })
+alike fails a reads others bytes r w q v true true some given same p u =
+    let first : p.text ≡ bytes = read_whole r.before r.after bytes p.text given p.read p.end in
+    let second : u.text ≡ bytes = read_whole q.before q.after bytes u.text same u.read u.end in
+    let one = one_number a p.number u.number bytes (rw first at p.passes) (rw second at u.passes) in
+    (refl, record { written = yes_line u.number; one = rw one at p.wrote; other = u.wrote })
+alike fails a reads others bytes r w q v true false some given same p u =
+    absurd (no_fault fails a a.stop bytes r w q v some given same p u)
+alike fails a reads others bytes r w q v false true some given same p u =
+    absurd (no_fault fails a a.stop bytes q v r w some same given u p)
+alike fails a reads others bytes r w q v false false some given same p u =
+    (refl, same_faults fails a a.stop bytes r w q v some given same p u)

@@ -21,4 +21,4 @@ pub record DecodesAll (how : Decoding) (r w : Traffic) : Type 0 where
 -- the result of `decode` with at most this many reads
 abbrev pub Decodes : Decoding → ℕ → Traffic → Traffic → Result (Unit {0}) LogFault → Type 0
 Decodes how reads r w (Ok done) = DecodesAll how r w
-Decodes how reads r w (Err fault) = StopsBy (LinesWrite how) reads r w fault
+Decodes how reads r w (Err fault) = StopsBy (LinesWrite how) (LinesWrite how) reads r w fault

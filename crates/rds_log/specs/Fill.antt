@@ -3,10 +3,10 @@
 use Rattle.std.specs.Prelude.{◌≡◌, ◌≢◌, ◌⊎◌, ◌+◌, ◌-◌, ◌^◌, ◌++◌, [], ◌∷◌, ℕ, zero, suc, Bool, false, true, List}
 use Rattle.std.specs.Prelude.{Ok, Err, Result, Option, Some, None, codes, drop, length, max, nat_lt, option_and_then}
 use Rattle.std.specs.Prelude.{take, if◌then◌else◌}
-use Rattle.std.specs.Io.KnownBytes.{Appends, Consumes, IsAtEnd}
+use Rattle.std.specs.Io.KnownBytes.{Consumes, IsAtEnd}
 use Rattle.rds_block.specs.declared.group.Group.{Group}
 use Rattle.rds_io.specs.Digits.{HasWord}
-use Rattle.rds_io.specs.Told.{AppendsPrefix, HasFailed, IsCalm, Traffic}
+use Rattle.rds_io.specs.Told.{IsCalm, Traffic}
 use Rattle.rds_arrivals.specs.Arrivals.{Arrival, lost_between, lost_until}
 use Rattle.rds_arrivals.specs.Breaks.{break_of}
 use Rattle.rds_arrivals.specs.Coarse.{AreCoarse}
@@ -16,9 +16,8 @@ use Rattle.rds_arrivals.specs.declared.lost.Break.TheVariants.{Back, Day}
 use Rattle.rds_arrivals.specs.declared.stamp.Stamp.{Stamp}
 use Rattle.rds_log.specs.LogLines.{AreLines, Line}
 use Rattle.rds_log.specs.LineSays.{LineSays, deciding}
-use Rattle.rds_log.specs.Reads.{BeginsWith, NextIsBad, ReadsUpTo}
+use Rattle.rds_log.specs.Outputs.{StopsBy, WroteLines}
 use Rattle.rds_io.specs.declared.fault.LogFault.{LogFault}
-use Rattle.rds_io.specs.declared.fault.LogFault.TheVariants.{BadLine, BadRow, Read, Write, TooLong, Memory}
 use Rattle.rds_log.specs.declared.filler.Filling.{Filling}
 use Rattle.rds_log.specs.declared.log_line.LogLine.TheVariants.{Skip, Slot}
 use Rattle.rds_log.specs.declared.filler.Times.{Times}
@@ -115,19 +114,11 @@ AreFilled f (line ∷ before) s =
     (AddsNothing f line × AreFilled f before s)
     ⊎ ((old : SoFar) × AreFilled f before old × (AddsGroup f line old s ⊎ AddsTime f line old s))
 
--- the output of these lines was written
-pub record WroteFilled (f : Filling) (w : Traffic) (lines : List Line) : Type 0 where
+-- the lines have this output
+pub record LinesFill (f : Filling) (lines : List Line) (written : List ℕ) : Type 0 where
   pub so_far : SoFar
   pub fill : AreFilled f lines so_far
-  pub wrote : Appends w.before w.after so_far.written
-  pub calm : IsCalm w
-
--- the writer failed: some first part of it was written
-pub record WroteFilledPart (f : Filling) (w : Traffic) (lines : List Line) : Type 0 where
-  pub so_far : SoFar
-  pub fill : AreFilled f lines so_far
-  pub wrote : AppendsPrefix w.before w.after so_far.written
-  pub failed : HasFailed w
+  pub writes : written ≡ so_far.written
 
 -- the line is a group that is left out: it has no time, or it is of another programme
 pub record IsLeftOut (pi : Option ℕ) (line : Line) : Type 0 where
@@ -154,22 +145,11 @@ pub record FillsAll (f : Filling) (r w : Traffic) (times : Times) : Type 0 where
   pub read : Consumes r.before r.after text
   pub end : IsAtEnd r.after
   pub are : AreLines text lines
-  pub wrote : WroteFilled f w lines
-  pub answer : TimesAre f lines wrote.so_far.came times
+  pub wrote : WroteLines (LinesFill f) w lines
+  pub answer : TimesAre f lines wrote.write.so_far.came times
   pub calm : IsCalm r
 
 -- the result of `slots`: each fault has its cause
 abbrev pub Fills : Filling → Traffic → Traffic → Result Times LogFault → Type 0
 Fills f r w (Ok times) = FillsAll f r w times
-Fills f r w (Err (BadLine n)) =
-    (text : List ℕ) × (lines : List Line) × Consumes r.before r.after text × NextIsBad n lines text r.after
-    × WroteFilled f w lines × IsCalm r
-Fills f r w (Err Write) =
-    (text : List ℕ) × (lines : List Line) × Consumes r.before r.after text × BeginsWith text r.after lines
-    × WroteFilledPart f w lines × IsCalm r
-Fills f r w (Err Read) =
-    (lines : List Line) × ReadsUpTo r 0 lines × WroteFilled f w lines × HasFailed r
-Fills f r w (Err TooLong) =
-    (lines : List Line) × ReadsUpTo r (2 ^ 32) lines × WroteFilled f w lines × IsCalm r
-Fills f r w (Err (BadRow n)) = ⊥
-Fills f r w (Err Memory) = ⊥
+Fills f r w (Err fault) = StopsBy (LinesFill f) (LinesFill f) (2 ^ 32) r w fault

@@ -4,6 +4,6 @@ pub mod Cutter
 pub mod Source
 pub mod ViewLines
 pub mod Decoder
-pub mod Lister
+pub mod Auditor
 pub mod Pace
 pub mod Filler

@@ -1,8 +1,6 @@
 -- The meaning of the lines of a log, and the output of its slots.
 pub mod LogLines
 pub mod LineSays
-pub mod LineCauses
-pub mod Heard
 pub mod LogWrites
 -- The promises of the calls, each in a file of its name.
 pub mod Reads
@@ -13,6 +11,5 @@ pub mod FaultList
 pub mod Fill
 pub mod FilledLog
 pub mod Gather
-pub mod Notes
 -- The state of the crate's objects, a file for each. Callers do not need them.
 pub mod Inside

@@ -1,21 +1,27 @@
-//! The engine of `audit`: whether the groups of a station pass.
-ghost use Rattle.std.specs.Prelude.{◌≡◌, ◌≢◌, ◌≤◌, ◌+◌, ◌^◌, [], IfErr, None, Ok, false, true};
+//! The engine of `audit`: the first fault of the log of a station, or all of them.
+ghost use Rattle.std.specs.Prelude.{◌≤◌, ◌^◌};
 ghost use Rattle.rds_io.specs.Told.{traffic};
-ghost use Rattle.rds_log.specs.Audit.{Answers, Audits, Judges, Means, complete};
-ghost use Rattle.rds_log.specs.Heard.{HeardLines, HeardLog};
-ghost use Rattle.rds_log.specs.Notes.{NotesFault, NotesNo, NotesVerdict};
+ghost use Rattle.rds_log.specs.Audit.{complete};
+ghost use Rattle.rds_log.specs.FaultList.{Audits, Means};
 ghost use Rattle.rds_log.specs.Reads.{MadeReads};
-ghost use Rattle.rds_io.specs.declared.fault.LogFault.TheVariants as faults;
 
+use crate::auditor::Auditor;
 use crate::decode_log::MOST_READS;
 use crate::laws::what_an_answer_means;
-use crate::log_line::LogLine;
-use crate::notes::{LogNotes, NoNote};
-use crate::source::Source;
-use crate::verdict::{ANSWER_ROOM, Verdict};
-use rds_audit::{Audit, LogStart};
+use crate::notes::LogNotes;
+use crate::run_log::run;
+use rds_audit::LogStart;
 use rds_fields::{Dwell, Late};
-use rds_io::{Lines, LogFault, TellingRead, TellingWrite, put};
+use rds_io::{LogFault, TellingRead, TellingWrite};
+
+/// Where an audit stops (this project's own rule).
+#[derive(Clone, Copy, Debug, PartialEq, Eq)]
+pub enum Stop {
+    /// After the first slot with a fault, of which it writes the first.
+    FirstFault,
+    /// At the end of the log: it writes all faults.
+    LogEnd,
+}
 
 /// How a log is audited.
 #[derive(Clone, Copy)]
@@ -28,6 +34,8 @@ pub struct Auditing {
     pub late: Late,
     /// Whether the log begins with its station.
     pub start: LogStart,
+    /// Where the audit stops.
+    pub stop: Stop,
 }
 
 /// Audits the complete log of a station, one slot a line, and writes the answer line: `yes` with the number of slots,
@@ -80,15 +88,19 @@ pub fn audit_within<R: TellingRead, W: TellingWrite>(
         dwell,
         late,
         start: LogStart::Complete,
+        stop: Stop::FirstFault,
     };
-    audit_with_notes(reader, writer, auditing, reads, &mut LogNotes::new(pi))
+    audit_with_notes(reader, writer, auditing, reads, &mut LogNotes::new())
 }
 
 /// Audits a log in this way with at most `reads` reads, and takes notes for a person. The new notes replace the old
-/// content of `notes`. For a complete log the output and the answer are those of [`audit_within`]. For the log of a
-/// running station the answer is that of the log with M + K lost slots in front, and without the tags before its first
-/// text segment. Slots count from the first line of the log. A yes speaks of receivers of the log as it is: they may
-/// hear these tags.
+/// content of `notes`. For a complete log and the first fault, the output and the answer are those of [`audit_within`].
+/// With all faults, each has a line, the first one as for the first fault alone; a log without a fault gets the line
+/// `yes`; the lines for the slots of one read are written before the next read.
+///
+/// For the log of a running station the answer is that of the log with M + K lost slots in front, and without the tags
+/// before its first text segment. Slots count from the first line of the log. A yes speaks of receivers of the log as
+/// it is: they may hear these tags.
 pub fn audit_with_notes<R: TellingRead, W: TellingWrite>(
     reader: &mut R,
     writer: &mut W,
@@ -102,75 +114,16 @@ pub fn audit_with_notes<R: TellingRead, W: TellingWrite>(
         (traffic W.contents W.failures writer.old writer.new) result }
     ensures means { Means auditing (traffic R.remaining R.failures reader.old reader.new) result }
     ensures reads { MadeReads reads (R.reads reader.old) (R.reads reader.new) result }
-    ensures heard { result ≡ Ok true
-        → HeardLog auditing.pi (traffic R.remaining R.failures reader.old reader.new) notes.new.heard }
-    ensures yes { result ≡ Ok true → notes.new.no ≡ None }
-    ensures no { result ≡ Ok false → NotesNo auditing reads
-        (traffic R.remaining R.failures reader.old reader.new) notes.new.no }
-    ensures fault { IfErr result (λ fault. fault ≢ faults.Write
-        → NotesFault (traffic R.remaining R.failures reader.old reader.new) fault notes.new.bad) }
 {
     what_an_answer_means();
-    *notes = LogNotes::new(auditing.pi);
-    let verdict = judge(reader, auditing, reads, notes)?;
-    write_verdict(verdict, writer)
-}
-
-/// Writes the line of a verdict. Returns whether it is a yes.
-fn write_verdict<W: TellingWrite>(verdict: Verdict, writer: &mut W) -> Result<bool, LogFault>
-    ensures answers { Answers (Ok verdict) (traffic W.contents W.failures writer.old writer.new) result }
-{
-    let mut line = Lines::<ANSWER_ROOM>::new();
-    verdict.push(&mut line);
-    put(line.bytes(), writer)?;
-    Ok(verdict.is_yes())
-}
-
-/// Audits the log up to its end, or to the first line that is malformed or whose slot does not pass. The notes are
-/// empty before.
-fn judge<R: TellingRead>(
-    reader: &mut R,
-    auditing: Auditing,
-    reads: u64,
-    notes: &mut LogNotes,
-) -> Result<Verdict, LogFault>
-    requires reads { reads ≤ 2 ^ 32 }
-    requires groups { notes.old.heard.groups ≡ 0 }
-    requires heard { HeardLines auditing.pi [] notes.old.heard }
-    requires no { notes.old.no ≡ None }
-    ensures judges { Judges auditing reads
-        (traffic R.remaining R.failures reader.old reader.new) result }
-    ensures reads { MadeReads reads (R.reads reader.old) (R.reads reader.new) result }
-    ensures notes { NotesVerdict auditing.pi (traffic R.remaining R.failures reader.old reader.new) notes.new result }
-{
-    let mut source = Source::new(reads);
-    let mut audit = Audit::starting(auditing.pi, auditing.dwell, auditing.late, auditing.start);
-    let mut slots = 0;
-    let mut said = LogLine::Skip;
-    loop {
-        match source.next(reader, &mut said) {
-            Ok(true) => notes.heard.line(auditing.pi, said),
-            Ok(false) => {
-                notes.slots = slots;
-                notes.texts = audit.texts();
-                notes.names = audit.names();
-                notes.tags = audit.tags();
-                return Ok(Verdict::Yes(slots));
-            }
-            Err(fault) => {
-                notes.bad = source.note(fault);
-                return Err(fault);
-            }
-        }
-        let line = said;
-        let LogLine::Slot(group) = line else {
-            continue;
-        };
-        if let Err(fault) = audit.slot_blocks(group) {
-            let why = fault;
-            notes.no = Some(NoNote::of(&audit, &source, said, slots, why));
-            return Ok(Verdict::No(slots, fault));
-        }
-        slots += 1;
+    *notes = LogNotes::new();
+    let mut auditor = Auditor::new(auditing);
+    let ended = run(reader, writer, &mut auditor, reads, &mut notes.bad);
+    auditor.note(notes);
+    ended?;
+    if !auditor.passed() {
+        return Ok(false);
     }
+    auditor.write_yes(writer)?;
+    Ok(true)
 }

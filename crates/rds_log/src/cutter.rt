@@ -4,7 +4,6 @@ ghost use Rattle.rds_log.specs.declared.cutter.TheConstants.{ELSEWHERE};
 ghost use Rattle.std.specs.Prelude.{IfErr, IfNone, IfSome, IsTrue, MatchResult, length, take};
 ghost use Rattle.rds_log.specs.LineSays.{IsBad, LineSays, deciding};
 ghost use Rattle.rds_log.specs.LogLines.{EndsAt, IsLine, Line};
-ghost use Rattle.rds_log.specs.Notes.{IsNoteOn};
 
 use crate::line_cause::cause_of;
 use crate::log_line::{DECIDING, LineStart, LogLine, said_by};
@@ -115,9 +114,7 @@ impl Cutter {
     }
 
     /// Returns the first bytes of a malformed line, and why it is malformed.
-    pub(crate) fn bad_start(&self) -> BadStart
-        ensures { IsNoteOn self.now.kept.items result }
-    {
+    pub(crate) fn bad_start(&self) -> BadStart {
         let mut start = ArrayVec::new();
         start.try_extend_from_slice(self.kept.as_slice()).unwrap();
         BadStart {

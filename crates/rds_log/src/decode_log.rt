@@ -1,19 +1,16 @@
 //! The engine of `decode`: the view of a receiver of a log.
-ghost use Rattle.std.specs.Prelude.{◌≤◌, ◌^◌, [], IfErr, OnOk, false};
+ghost use Rattle.std.specs.Prelude.{◌≤◌, ◌^◌};
 ghost use Rattle.rds_io.specs.Told.{traffic};
 ghost use Rattle.rds_log.specs.Decode.{Decodes};
-ghost use Rattle.rds_log.specs.Heard.{HeardLog};
 ghost use Rattle.rds_log.specs.LogWrites.{plain};
-ghost use Rattle.rds_log.specs.Notes.{NotesFault};
 ghost use Rattle.rds_log.specs.Reads.{MadeReads};
 
 use crate::decoder::Decoder;
-use crate::log_line::LogLine;
 use crate::notes::LogNotes;
-use crate::source::Source;
+use crate::run_log::run;
 use rds_fields::Dwell;
 use rds_io::{LogFault, TellingRead, TellingWrite};
-use rds_receiver::{Receiver, Window};
+use rds_receiver::Window;
 
 /// How a log is decoded.
 #[derive(Clone, Copy)]
@@ -72,7 +69,7 @@ pub fn decode_within<R: TellingRead, W: TellingWrite>(
         window: None,
         says_why: false,
     };
-    decode_with_notes(reader, writer, decoding, reads, &mut LogNotes::new(pi))
+    decode_with_notes(reader, writer, decoding, reads, &mut LogNotes::new())
 }
 
 /// Decodes a log in this way with at most `reads` reads, and takes notes for a person. The new notes replace the old
@@ -89,34 +86,11 @@ pub fn decode_with_notes<R: TellingRead, W: TellingWrite>(
         (traffic R.remaining R.failures reader.old reader.new)
         (traffic W.contents W.failures writer.old writer.new) result }
     ensures reads { MadeReads reads (R.reads reader.old) (R.reads reader.new) result }
-    ensures heard { OnOk result
-        (HeardLog decoding.pi (traffic R.remaining R.failures reader.old reader.new) notes.new.heard) }
-    ensures fault { IfErr result (λ fault.
-        NotesFault (traffic R.remaining R.failures reader.old reader.new) fault notes.new.bad) }
 {
-    let receiver = Receiver::tuned(decoding.pi, decoding.dwell, decoding.window);
-    *notes = LogNotes::new(decoding.pi);
-    let mut source = Source::new(reads);
-    let mut decoder = Decoder::new(receiver, decoding.says_why);
-    let mut said = LogLine::Skip;
-    loop {
-        match source.next(reader, &mut said) {
-            Ok(true) => {
-                notes.heard.line(decoding.pi, said);
-                decoder.line(said);
-            }
-            Ok(false) => {
-                notes.slots = decoder.views.slot;
-                return Ok(());
-            }
-            Err(fault) => {
-                decoder.write(writer)?;
-                notes.bad = source.note(fault);
-                return Err(fault);
-            }
-        }
-        if !source.has_line() || !decoder.has_room() {
-            decoder.write(writer)?;
-        }
-    }
+    *notes = LogNotes::new();
+    let mut decoder = Decoder::new(decoding);
+    let result = run(reader, writer, &mut decoder, reads, &mut notes.bad);
+    notes.heard = decoder.heard;
+    notes.slots = decoder.views.slot;
+    result
 }

@@ -1,22 +1,20 @@
-//! The output of the lines of a log. It waits in memory until it is written.
-ghost use Rattle.std.specs.Prelude.{◌≡◌, ◌≤◌, ◌<◌, ◌+◌, ◌-◌, ◌^◌, ◌++◌, ◌∷◌, ◌↔◌, []};
-ghost use Rattle.std.specs.Prelude.{ℕ, Bool, List, Option, IsOk, IsTrue, MatchResult, OnOk, length};
-ghost use Rattle.rds_block.specs.declared.group.Group.{Group};
-ghost use Rattle.rds_io.specs.Told.{IsCalm, Traffic, traffic};
+//! The lines of the views of a receiver of a log.
+ghost use Rattle.std.specs.Prelude.{◌≡◌, ◌≤◌, ◌<◌, ◌+◌, ◌-◌, ◌^◌, ◌++◌, [], length};
+ghost use Rattle.std.proofs.Common.{rules};
 ghost use Rattle.rds_receiver.specs.Receipts.{Tuning};
 ghost use Rattle.rds_receiver.specs.Shown.{IsView};
 ghost use Rattle.rds_receiver.specs.StandsAt.{StandsAt, WhereItStands};
 ghost use Rattle.rds_view_lines.specs.KeptView.{view_kept};
 ghost use Rattle.rds_view_lines.specs.Output.{change};
 ghost use Rattle.rds_view_lines.specs.Part.{stamp_of};
-ghost use Rattle.rds_log.specs.LogLines.{Line};
-ghost use Rattle.rds_log.specs.LogWrites.{LinesWrite, SayWhys, tuning_of};
-ghost use Rattle.rds_log.specs.LineSays.{LineSays};
+ghost use Rattle.rds_log.specs.LogWrites.{LinesWrite, SayWhys};
 ghost use Rattle.rds_view_lines.specs.declared.change.TheConstants.{SLOT_ROOM};
-ghost use Rattle.rds_log.specs.declared.decode_log.Decoding.{Decoding};
-ghost use Rattle.rds_log.specs.declared.decoder.TheConstants.{OUTPUT_ROOM};
 
+use crate::decode_log::Decoding;
+use crate::heard::Heard;
 use crate::log_line::LogLine;
+use crate::run_log::{OUTPUT_ROOM, TakesLines};
+use crate::source::Source;
 use rds_block::Blocks;
 use rds_io::{Lines, TellingWrite, WriteFault};
 use rds_receiver::{Receiver, Whys};
@@ -102,66 +100,72 @@ fn show_slot<const N: usize>(
     show(Stamp::Slot(slot), whys, shown, receiver, lines);
 }
 
-/// The most bytes of output that wait to be written.
-const OUTPUT_ROOM: usize = 8192;
-
-/// Takes the lines of a log, and keeps their output until it is written.
+/// Takes the lines of a log for `decode`, with the programmes of their groups.
 #[derive(Drop)]
 pub(crate) struct Decoder {
     pub(crate) views: ViewLines,
-    output: Lines<OUTPUT_ROOM>,
+    pi: u16,
+    pub(crate) heard: Heard,
 }
 
 impl Decoder {
-    ghost use Rattle.rds_log.specs.Outputs.{WrotePart};
     ghost use Rattle.rds_log.specs.Inside.Decoder.{HasDecoded};
 
-    /// Starts a log with a receiver that has heard nothing yet.
-    pub(crate) fn new(receiver: Receiver, says_why: bool) -> Decoder
-        ensures slots { result.views.slot ≡ 0 }
-        ensures empty { result.output ≡ [] }
-        ensures decoded { (how : Decoding) (w : Traffic) → how.says_why ≡ says_why
-            → StandsAt (tuning_of how) receiver [] → w.after ≡ w.before → IsCalm w → HasDecoded how result w [] }
+    /// Starts a log.
+    pub(crate) fn new(how: Decoding) -> Decoder
+        ensures none { result.views.slot ≡ 0 }
+        ensures decoded { HasDecoded how result [] [] }
     {
+        let receiver = Receiver::tuned(how.pi, how.dwell, how.window);
         Decoder {
-            views: ViewLines::new(receiver, says_why),
-            output: Lines::new(),
+            views: ViewLines::new(receiver, how.says_why),
+            pi: how.pi,
+            heard: Heard::new(),
         }
     }
+}
 
-    /// Returns whether there is room for the output of one more line.
-    pub(crate) fn has_room(&self) -> bool
-        ensures { IsTrue result ↔ (length self.now.output + SLOT_ROOM ≤ OUTPUT_ROOM) }
-    {
-        self.output.has_room(SLOT_ROOM)
-    }
+impl TakesLines for Decoder {
+    ghost use Rattle.rds_log.specs.Inside.Decoder.{HasDecoded, decoded_lines, decoded_part};
 
-    /// Takes the meaning of a line.
+    type How = Decoding;
+
+    ghost ROOM = { SLOT_ROOM };
+
+    const ROOM: usize = SLOT_ROOM;
+
+    ghost gives = { LinesWrite };
+
+    ghost begins = { LinesWrite };
+
+    ghost took = { HasDecoded };
+
+    ghost done = { λ it. ⊥ };
+
+    ghost counted = { λ it. it.views.slot };
+
     #[inline(always)]
-    pub(crate) fn line(&mut self, said: LogLine)
-        requires slots { self.old.views.slot < 2 ^ 64 - 1 }
-        requires room { length self.old.output + SLOT_ROOM ≤ OUTPUT_ROOM }
-        ensures slots { self.new.views.slot ≤ self.old.views.slot + 1 }
-        ensures decoded { (how : Decoding) (w : Traffic) (lines : List Line) (line : Line) → LineSays line said
-            → HasDecoded how self.old w lines → HasDecoded how self.new w (line ∷ lines) }
-    {
+    fn line<W: TellingWrite>(
+        &mut self,
+        said: LogLine,
+        _source: &Source,
+        output: &mut Lines<OUTPUT_ROOM>,
+        _writer: &mut W,
+    ) -> Result<bool, WriteFault> {
+        let heard = said;
+        self.heard.line(self.pi, heard);
         match said {
-            LogLine::Skip => {}
-            LogLine::Slot(group) => self.views.slot(group, &mut self.output),
+            LogLine::Skip => Ok(true),
+            LogLine::Slot(group) => {
+                self.views.slot(group, output);
+                Ok(true)
+            }
         }
     }
 
-    /// Writes the waiting output.
-    pub(crate) fn write<W: TellingWrite>(&mut self, writer: &mut W) -> Result<(), WriteFault>
-        ensures empty { OnOk result (self.new.output ≡ []) }
-        ensures slots { self.new.views ≡ self.old.views }
-        ensures nothing { self.old.output ≡ [] → IsOk result }
-        ensures wrote { (how : Decoding) (start : W) (lines : List Line)
-            → HasDecoded how self.old (traffic W.contents W.failures start writer.old) lines
-            → MatchResult result
-            (λ _. HasDecoded how self.new (traffic W.contents W.failures start writer.new) lines)
-            (λ _. WrotePart (LinesWrite how) (traffic W.contents W.failures start writer.new) lines) }
-    {
-        self.output.write(writer)
-    }
+    ghost meant = { decoded_lines };
+
+    ghost begun = { decoded_part };
+
+    ghost fits = { Prim.search rules };
 }

@@ -1,23 +1,28 @@
 //! The lines of a filled log: each group with its time, and a line for each slot that was lost before it.
 ghost use Rattle.std.specs.Prelude.{◌≡◌, ◌⊎◌, ◌<◌, ◌≤◌, ◌+◌, ◌*◌, ◌++◌, ◌∷◌, ◌↔◌, [], ℕ, List, Option};
-ghost use Rattle.std.specs.Prelude.{IfSome, IsOk, IsTrue, MatchResult, None, OnOk, Some, codes, is_some, length, max};
+ghost use Rattle.std.specs.Prelude.{IfSome, IsTrue, MatchResult, OnOk, Some, codes, is_some, length, max};
 ghost use Rattle.std.specs.Prelude.{take, true};
+ghost use Rattle.std.proofs.Common.{rules};
 ghost use Rattle.rds_block.specs.declared.group.Group.{Group};
-ghost use Rattle.rds_io.specs.Told.{IsCalm, Traffic, traffic};
-ghost use Rattle.rds_log.specs.Fill.{AreFilled, IsOfAnother, TimesAre, WroteFilledPart, break_line, ended_within};
-ghost use Rattle.rds_log.specs.Fill.{gap_lines, lost_lines, more_lines, time_of};
+ghost use Rattle.rds_io.specs.Told.{traffic};
+ghost use Rattle.rds_io.specs.Waits.{Waits};
+ghost use Rattle.rds_log.specs.Fill.{IsOfAnother, LinesFill, TimesAre, break_line, ended_within, gap_lines};
+ghost use Rattle.rds_log.specs.Fill.{lost_lines, more_lines, time_of};
+ghost use Rattle.rds_log.specs.Inside.Source.{start_of};
 ghost use Rattle.rds_log.specs.LineSays.{LineSays, deciding};
 ghost use Rattle.rds_log.specs.LogLines.{Line};
-ghost use Rattle.rds_log.specs.declared.filler.TheConstants.{FILLED_ROOM, LINE_ROOM};
+ghost use Rattle.rds_log.specs.Outputs.{HasTaken, Pushed, WrotePart};
+ghost use Rattle.rds_log.specs.declared.filler.TheConstants.{LINE_ROOM};
+ghost use Rattle.rds_log.specs.declared.log_line.LogLine.TheVariants as LogLine;
+ghost use Rattle.rds_log.specs.declared.run_log.TheConstants.{OUTPUT_ROOM};
 
 use crate::log_line::{DECIDING, LogLine};
 use crate::pace::Pace;
+use crate::run_log::{OUTPUT_ROOM, TakesLines};
+use crate::source::Source;
 use rds_arrivals::{Break, Grain, LastMinute, Stamp, lost_between, stamp_after};
 use rds_fields::Dwell;
 use rds_io::{Lines, TellingWrite, WriteFault, word_at};
-
-/// The most bytes of output that wait to be written.
-const FILLED_ROOM: usize = 8192;
 
 /// The most bytes of one line of output.
 const LINE_ROOM: usize = 61;
@@ -62,55 +67,98 @@ pub struct Gap {
     pub line: u64,
 }
 
-/// Takes the lines of a log with times, and keeps their output until it is written.
+/// What `slots` counts in a log, for a person (this project's own rule). No contract speaks of it.
+#[derive(Clone, Copy, Default)]
+pub struct SlotCounts {
+    /// The number of groups without a time, which were left out.
+    pub untimed: u64,
+    /// The number of lines with a time that were left out, since they are of another programme.
+    pub others: u64,
+    /// How often nobody knows how many slots were lost.
+    pub breaks: u64,
+    /// The longest gap.
+    pub gap: Gap,
+    /// The line of the newest group that did not fit a line without a group before it: by the time of that line, more
+    /// slots were lost than by the time of the group.
+    pub misfit: Option<u64>,
+}
+
+/// Takes the lines of a log with times for `slots`.
 #[derive(Drop)]
 pub(crate) struct Filler {
     filling: Filling,
     pub(crate) pace: Pace,
+    /// The minute of the newest time.
+    minute: LastMinute,
     /// How many lost slots are written since the last group.
     told: u32,
     /// Whether a group was left out.
     has_left_out: bool,
-    /// The number of groups without a time.
-    pub(crate) untimed: u64,
-    /// The number of lines of other programmes with a time.
-    pub(crate) others: u64,
-    /// The number of breaks.
-    pub(crate) breaks: u64,
-    /// The longest gap.
-    pub(crate) gap: Gap,
-    /// The line of the newest group that did not fit a line without a group before it.
-    pub(crate) misfit: Option<u64>,
-    output: Lines<FILLED_ROOM>,
+    pub(crate) counts: SlotCounts,
+}
+
+impl TakesLines for Filler {
+    ghost use Rattle.rds_log.specs.Inside.Filler.{HasFilled, filled_lines, filled_part};
+
+    type How = Filling;
+
+    ghost ROOM = { 0 };
+
+    const ROOM: usize = 0;
+
+    ghost gives = { LinesFill };
+
+    ghost begins = { LinesFill };
+
+    ghost took = { HasFilled };
+
+    ghost done = { λ it. ⊥ };
+
+    ghost counted = { λ it. 0 };
+
+    fn line<W: TellingWrite>(
+        &mut self,
+        said: LogLine,
+        source: &Source,
+        output: &mut Lines<OUTPUT_ROOM>,
+        writer: &mut W,
+    ) -> Result<bool, WriteFault> {
+        match said {
+            LogLine::Skip => Ok(true),
+            LogLine::Slot(group) => {
+                self.slot(group.is_some(), source, output, writer)?;
+                Ok(true)
+            }
+        }
+    }
+
+    ghost meant = { filled_lines };
+
+    ghost begun = { filled_part };
+
+    ghost fits = { Prim.search rules };
 }
 
 impl Filler {
-    ghost use Rattle.rds_log.specs.Inside.Filler.{HasFilled, HasOutput, KeepsPace, KeepsTime, LostOutput, last_time};
-    ghost use Rattle.rds_log.specs.Inside.Filler.{told_after};
+    ghost use Rattle.rds_log.specs.Inside.Filler.{HasFilled, KeepsPace, last_time, told_after};
 
     /// Starts a log.
     pub(crate) fn new(filling: Filling) -> Filler
-        ensures empty { result.output ≡ [] }
-        ensures filling { result.filling ≡ filling }
-        ensures filled { (w : Traffic) → w.after ≡ w.before → IsCalm w → HasFilled result w [] }
+        ensures { HasFilled filling result [] [] }
     {
         Filler {
             filling,
             pace: Pace::new(filling.grain),
+            minute: LastMinute::new(),
             told: 0,
             has_left_out: false,
-            untimed: 0,
-            others: 0,
-            breaks: 0,
-            gap: Gap::default(),
-            misfit: None,
-            output: Lines::new(),
+            counts: SlotCounts::default(),
         }
     }
 
     /// Returns whether the lost slots so far can be counted by the times.
     pub(crate) fn times(&self) -> Times
-        ensures { (w : Traffic) (lines : List Line) (has : HasFilled self.now w lines)
+        ensures { (how : Filling) (lines : List Line) (total : List ℕ) (has : HasFilled how self.now lines total)
             → TimesAre self.now.filling lines has.so_far.came result }
     {
         if self.pace.coarse.is_some() {
@@ -122,70 +170,43 @@ impl Filler {
         Times::Fine
     }
 
-    /// Takes a line with this meaning and number, from its first bytes, and keeps its minute.
-    pub(crate) fn line<W: TellingWrite>(
-        &mut self,
-        said: LogLine,
-        number: u64,
-        first: &[u8],
-        minute: &mut LastMinute,
-        writer: &mut W,
-    ) -> Result<(), WriteFault>
-        requires { length first.now ≤ 60 }
-        ensures filling { self.new.filling ≡ self.old.filling }
-        ensures filled { (start : W) (lines : List Line) (line : Line) → LineSays line said
-            → first.now ≡ take deciding line
-            → HasFilled self.old (traffic W.contents W.failures start writer.old) lines
-            → MatchResult result
-            (λ _. HasFilled self.new (traffic W.contents W.failures start writer.new) (line ∷ lines))
-            (λ _. WroteFilledPart self.old.filling
-            (traffic W.contents W.failures start writer.new) (line ∷ lines)) }
-    {
-        match said {
-            LogLine::Skip => Ok(()),
-            LogLine::Slot(group) => self.slot(group.is_some(), number, first, minute, writer),
-        }
-    }
-
-    /// Takes a line of a slot, with a whole group or without. One without a time, or of another programme, is left out.
-    /// A line without a whole group only tells the time.
+    /// Takes the line of a slot that this source read last, with a whole group or without. One without a time, or of
+    /// another programme, is left out. A line without a whole group only tells the time.
     fn slot<W: TellingWrite>(
         &mut self,
         is_group: bool,
-        number: u64,
-        first: &[u8],
-        minute: &mut LastMinute,
+        source: &Source,
+        output: &mut Lines<OUTPUT_ROOM>,
         writer: &mut W,
     ) -> Result<(), WriteFault>
-        requires { length first.now ≤ 60 }
-        ensures filling { self.new.filling ≡ self.old.filling }
-        ensures filled { (start : W) (lines : List Line) (line : Line) (slot : Option Group)
-            → LineSays line (LogLine.Slot slot) → is_group ≡ is_some slot → first.now ≡ take deciding line
-            → HasFilled self.old (traffic W.contents W.failures start writer.old) lines
+        ensures { (how : Filling) (start : W) (lines : List Line) (line : Line) (slot : Option Group)
+            → LineSays line (LogLine.Slot slot) → is_group ≡ is_some slot → start_of source.now ≡ take deciding line
+            → HasTaken (HasFilled how self.old) (traffic W.contents W.failures start writer.old) output.old lines
             → MatchResult result
-            (λ _. HasFilled self.new (traffic W.contents W.failures start writer.new) (line ∷ lines))
-            (λ _. WroteFilledPart self.old.filling
-            (traffic W.contents W.failures start writer.new) (line ∷ lines)) }
+            (λ _. HasTaken (HasFilled how self.new) (traffic W.contents W.failures start writer.new) output.new
+            (line ∷ lines))
+            (λ _. WrotePart (LinesFill how) (traffic W.contents W.failures start writer.new) (line ∷ lines)) }
     {
-        let Some(stamp) = stamp_of(minute, first) else {
-            self.untimed = self.untimed.saturating_add(u64::from(is_group));
+        let first = source.start();
+        let Some(stamp) = stamp_of(&mut self.minute, first) else {
+            self.counts.untimed = self.counts.untimed.saturating_add(u64::from(is_group));
             self.leave_out(is_group);
             return Ok(());
         };
         if is_of_another(self.filling.pi, first) {
-            self.others = self.others.saturating_add(1);
+            self.counts.others = self.counts.others.saturating_add(1);
             self.leave_out(is_group);
             return Ok(());
         }
         let told = self.told;
-        self.push_gap(is_group, stamp.time, writer)?;
+        self.push_gap(is_group, stamp.time, output, writer)?;
         if !is_group {
             return Ok(());
         }
-        self.note_gap(told, stamp.time, number);
+        self.note_gap(told, stamp.time, source.lines());
         self.pace.add(told, stamp.time);
         self.told = 0;
-        self.push_line(&first[..TIME + stamp.end], writer)
+        push_line(&first[..TIME + stamp.end], output, writer)
     }
 
     /// Leaves out a line of a slot, with a whole group or without.
@@ -199,10 +220,10 @@ impl Filler {
     /// Notes the lost slots before the group of this line, if they are the most so far. `told` of them were told by
     /// lines without a group: if that is more than the time of the group gives, such a line does not fit.
     fn note_gap(&mut self, told: u32, time: u64, number: u64)
-        ensures { self.new ≡ record self.old { gap = self.new.gap; misfit = self.new.misfit } }
+        ensures { self.new ≡ record self.old { counts = self.new.counts } }
     {
-        if self.told > self.gap.lost {
-            self.gap = Gap {
+        if self.told > self.counts.gap.lost {
+            self.counts.gap = Gap {
                 lost: self.told,
                 line: number,
             };
@@ -214,7 +235,7 @@ impl Filler {
             && let Ok(lost) = lost_between(stretch.last, time, self.filling.grain)
             && lost < told
         {
-            self.misfit = Some(number);
+            self.counts.misfit = Some(number);
         }
     }
 
@@ -224,26 +245,25 @@ impl Filler {
         &mut self,
         is_group: bool,
         time: u64,
+        output: &mut Lines<OUTPUT_ROOM>,
         writer: &mut W,
     ) -> Result<(), WriteFault>
         ensures keeps { KeepsPace self.old self.new }
         ensures told { self.new.told ≡ told_after self.old.filling (last_time self.old) self.old.told time }
         ensures pushed { (start : W) (total : List ℕ)
-            → HasOutput (traffic W.contents W.failures start writer.old) self.old total
-            → MatchResult result
-            (λ _. HasOutput (traffic W.contents W.failures start writer.new) self.new
-            (total ++ gap_lines self.old.filling is_group (last_time self.old) self.old.told time))
-            (λ _. LostOutput (traffic W.contents W.failures start writer.new)
-            (total ++ gap_lines self.old.filling is_group (last_time self.old) self.old.told time)) }
+            → Waits (traffic W.contents W.failures start writer.old) output.old total
+            → Pushed (traffic W.contents W.failures start writer.new) output.new
+            (total ++ gap_lines self.old.filling is_group (last_time self.old) self.old.told time) result }
     {
         let Some(stretch) = self.pace.stretch else {
             return Ok(());
         };
         match lost_between(stretch.last, time, self.filling.grain) {
-            Ok(lost) => self.push_more(None, lost, writer),
+            Ok(lost) => self.push_more(None, lost, output, writer),
             Err(why) => {
                 let told = is_group.then_some(why);
-                self.push_more(told, u32::from(self.filling.dwell.get()), writer)
+                self.counts.breaks = self.counts.breaks.saturating_add(u64::from(is_group));
+                self.push_more(told, u32::from(self.filling.dwell.get()), output, writer)
             }
         }
     }
@@ -253,133 +273,106 @@ impl Filler {
         &mut self,
         why: Option<Break>,
         lost: u32,
+        output: &mut Lines<OUTPUT_ROOM>,
         writer: &mut W,
     ) -> Result<(), WriteFault>
         ensures keeps { KeepsPace self.old self.new }
         ensures told { self.new.told ≡ max self.old.told lost }
         ensures pushed { (start : W) (total : List ℕ)
-            → HasOutput (traffic W.contents W.failures start writer.old) self.old total
-            → MatchResult result
-            (λ _. HasOutput (traffic W.contents W.failures start writer.new) self.new
-            (total ++ more_lines why self.old.told lost))
-            (λ _. LostOutput (traffic W.contents W.failures start writer.new)
-            (total ++ more_lines why self.old.told lost)) }
+            → Waits (traffic W.contents W.failures start writer.old) output.old total
+            → Pushed (traffic W.contents W.failures start writer.new) output.new (total ++ more_lines why self.old.told lost) result }
     {
         if why.is_none() && lost <= self.told {
             return Ok(());
         }
         let more = lost.saturating_sub(self.told);
         self.told = self.told.max(lost);
-        self.push_comment(why, writer)?;
-        self.push_lost(more, writer)
+        push_comment(why, output, writer)?;
+        push_lost(more, output, writer)
     }
+}
 
-    /// Appends the comment of a break.
-    fn push_comment<W: TellingWrite>(
-        &mut self,
-        why: Option<Break>,
-        writer: &mut W,
-    ) -> Result<(), WriteFault>
-        ensures keeps { KeepsTime self.old self.new }
-        ensures pushed { (start : W) (total : List ℕ)
-            → HasOutput (traffic W.contents W.failures start writer.old) self.old total
-            → MatchResult result
-            (λ _. HasOutput (traffic W.contents W.failures start writer.new) self.new (total ++ break_line why))
-            (λ _. LostOutput (traffic W.contents W.failures start writer.new) (total ++ break_line why)) }
-    {
-        let Some(why) = why else {
-            return Ok(());
-        };
-        self.breaks = self.breaks.saturating_add(1);
-        self.push_line(comment_of(why), writer)
-    }
+/// Appends the comment of a break.
+fn push_comment<W: TellingWrite>(
+    why: Option<Break>,
+    output: &mut Lines<OUTPUT_ROOM>,
+    writer: &mut W,
+) -> Result<(), WriteFault>
+    ensures { (start : W) (total : List ℕ)
+        → Waits (traffic W.contents W.failures start writer.old) output.old total
+        → Pushed (traffic W.contents W.failures start writer.new) output.new (total ++ break_line why) result }
+{
+    let Some(why) = why else {
+        return Ok(());
+    };
+    push_line(comment_of(why), output, writer)
+}
 
-    /// Appends lines of lost slots, and writes the waiting output as often as there is no room.
-    fn push_lost<W: TellingWrite>(&mut self, lost: u32, writer: &mut W) -> Result<(), WriteFault>
-        ensures keeps { KeepsTime self.old self.new }
-        ensures pushed { (start : W) (total : List ℕ)
-            → HasOutput (traffic W.contents W.failures start writer.old) self.old total
-            → MatchResult result
-            (λ _. HasOutput (traffic W.contents W.failures start writer.new) self.new (total ++ lost_lines lost))
-            (λ _. LostOutput (traffic W.contents W.failures start writer.new) (total ++ lost_lines lost)) }
-    {
-        self.push_pairs(lost / 2, writer)?;
-        if lost % 2 == 0 {
-            return Ok(());
-        }
-        self.push_line(LOST, writer)
+/// Appends lines of lost slots, and writes the waiting output as often as there is no room.
+fn push_lost<W: TellingWrite>(
+    lost: u32,
+    output: &mut Lines<OUTPUT_ROOM>,
+    writer: &mut W,
+) -> Result<(), WriteFault>
+    ensures { (start : W) (total : List ℕ)
+        → Waits (traffic W.contents W.failures start writer.old) output.old total
+        → Pushed (traffic W.contents W.failures start writer.new) output.new (total ++ lost_lines lost) result }
+{
+    push_pairs(lost / 2, output, writer)?;
+    if lost % 2 == 0 {
+        return Ok(());
     }
+    push_line(LOST, output, writer)
+}
 
-    /// Appends lines of lost slots, two at a time.
-    fn push_pairs<W: TellingWrite>(&mut self, pairs: u32, writer: &mut W) -> Result<(), WriteFault>
-        ensures keeps { KeepsTime self.old self.new }
-        ensures pushed { (start : W) (total : List ℕ)
-            → HasOutput (traffic W.contents W.failures start writer.old) self.old total
-            → MatchResult result
-            (λ _. HasOutput (traffic W.contents W.failures start writer.new) self.new
-            (total ++ lost_lines (2 * pairs)))
-            (λ _. LostOutput (traffic W.contents W.failures start writer.new)
-            (total ++ lost_lines (2 * pairs))) }
-    {
-        for _put in 0..pairs {
-            self.make_room(writer)?;
-            self.output.push(TWO_LOST);
-        }
-        Ok(())
+/// Appends lines of lost slots, two at a time.
+fn push_pairs<W: TellingWrite>(
+    pairs: u32,
+    output: &mut Lines<OUTPUT_ROOM>,
+    writer: &mut W,
+) -> Result<(), WriteFault>
+    ensures { (start : W) (total : List ℕ)
+        → Waits (traffic W.contents W.failures start writer.old) output.old total
+        → Pushed (traffic W.contents W.failures start writer.new) output.new (total ++ lost_lines (2 * pairs)) result }
+{
+    for _put in 0..pairs {
+        make_room(output, writer)?;
+        output.push(TWO_LOST);
     }
+    Ok(())
+}
 
-    /// Appends a line.
-    fn push_line<W: TellingWrite>(&mut self, line: &[u8], writer: &mut W) -> Result<(), WriteFault>
-        requires { length line.now ≤ 60 }
-        ensures keeps { KeepsTime self.old self.new }
-        ensures pushed { (start : W) (total : List ℕ)
-            → HasOutput (traffic W.contents W.failures start writer.old) self.old total
-            → MatchResult result
-            (λ _. HasOutput (traffic W.contents W.failures start writer.new) self.new
-            (total ++ (line.now ++ codes "\n")))
-            (λ _. LostOutput (traffic W.contents W.failures start writer.new)
-            (total ++ (line.now ++ codes "\n"))) }
-    {
-        self.make_room(writer)?;
-        self.output.push(line);
-        self.output.push(b"\n");
-        Ok(())
-    }
+/// Appends a line.
+fn push_line<W: TellingWrite>(
+    line: &[u8],
+    output: &mut Lines<OUTPUT_ROOM>,
+    writer: &mut W,
+) -> Result<(), WriteFault>
+    requires { length line.now ≤ 60 }
+    ensures { (start : W) (total : List ℕ)
+        → Waits (traffic W.contents W.failures start writer.old) output.old total
+        → Pushed (traffic W.contents W.failures start writer.new) output.new (total ++ (line.now ++ codes "\n")) result }
+{
+    make_room(output, writer)?;
+    output.push(line);
+    output.push(b"\n");
+    Ok(())
+}
 
-    /// Writes the waiting output if there is no room for one more line.
-    fn make_room<W: TellingWrite>(&mut self, writer: &mut W) -> Result<(), WriteFault>
-        ensures room { OnOk result (length self.new.output + LINE_ROOM ≤ FILLED_ROOM) }
-        ensures keeps { KeepsTime self.old self.new }
-        ensures wrote { (start : W) (total : List ℕ)
-            → HasOutput (traffic W.contents W.failures start writer.old) self.old total
-            → MatchResult result
-            (λ _. HasOutput (traffic W.contents W.failures start writer.new) self.new total)
-            (λ _. LostOutput (traffic W.contents W.failures start writer.new) total) }
-    {
-        if self.output.has_room(LINE_ROOM) {
-            return Ok(());
-        }
-        self.write(writer)
+/// Writes the waiting output if there is no room for one more line.
+fn make_room<W: TellingWrite>(
+    output: &mut Lines<OUTPUT_ROOM>,
+    writer: &mut W,
+) -> Result<(), WriteFault>
+    ensures room { OnOk result (length output.new + LINE_ROOM ≤ OUTPUT_ROOM) }
+    ensures waits { (start : W) (total : List ℕ)
+        → Waits (traffic W.contents W.failures start writer.old) output.old total
+        → Pushed (traffic W.contents W.failures start writer.new) output.new total result }
+{
+    if output.has_room(LINE_ROOM) {
+        return Ok(());
     }
-
-    /// Writes the waiting output.
-    pub(crate) fn write<W: TellingWrite>(&mut self, writer: &mut W) -> Result<(), WriteFault>
-        ensures empty { OnOk result (self.new.output ≡ []) }
-        ensures nothing { self.old.output ≡ [] → IsOk result }
-        ensures keeps { KeepsTime self.old self.new }
-        ensures wrote { (start : W) (total : List ℕ)
-            → HasOutput (traffic W.contents W.failures start writer.old) self.old total
-            → MatchResult result
-            (λ _. HasOutput (traffic W.contents W.failures start writer.new) self.new total)
-            (λ _. LostOutput (traffic W.contents W.failures start writer.new) total) }
-        ensures filled { (start : W) (lines : List Line)
-            → HasFilled self.old (traffic W.contents W.failures start writer.old) lines
-            → MatchResult result
-            (λ _. HasFilled self.new (traffic W.contents W.failures start writer.new) lines)
-            (λ _. WroteFilledPart self.old.filling (traffic W.contents W.failures start writer.new) lines) }
-    {
-        self.output.write(writer)
-    }
+    output.write(writer)
 }
 
 /// Returns the time of a slot's line, from its first bytes, and keeps its minute.

@@ -1,9 +1,7 @@
 //! Keeps all slots of a log in memory.
-ghost use Rattle.std.specs.Prelude.{◌≡◌, ◌≤◌, ◌^◌, IfErr, IfOk, OnOk};
+ghost use Rattle.std.specs.Prelude.{◌≡◌, ◌≤◌, ◌^◌, IfErr, IfOk};
 ghost use Rattle.rds_io.specs.Told.{traffic};
 ghost use Rattle.rds_log.specs.Gather.{GathersAll, GathersNone};
-ghost use Rattle.rds_log.specs.Heard.{HeardLog};
-ghost use Rattle.rds_log.specs.Notes.{NotesFault};
 ghost use Rattle.rds_log.specs.Reads.{MadeReads};
 
 use crate::log_line::LogLine;
@@ -31,12 +29,8 @@ pub fn gather<R: TellingRead>(
     ensures none { IfErr result (λ fault. GathersNone reads
         (traffic R.remaining R.failures reader.old reader.new) fault) }
     ensures reads { MadeReads reads (R.reads reader.old) (R.reads reader.new) result }
-    ensures heard { OnOk result
-        (HeardLog pi (traffic R.remaining R.failures reader.old reader.new) notes.new.heard) }
-    ensures fault { IfErr result (λ fault.
-        NotesFault (traffic R.remaining R.failures reader.old reader.new) fault notes.new.bad) }
 {
-    *notes = LogNotes::new(pi);
+    *notes = LogNotes::new();
     let mut source = Source::new(reads);
     let mut slots = Vec::new(alloc);
     let mut said = LogLine::Skip;

@@ -1,22 +1,15 @@
-//! The programmes of a log's groups.
-ghost use Rattle.std.specs.Prelude.{◌≡◌, ◌≤◌, ◌<◌, ◌+◌, ◌-◌, ◌^◌, ◌∷◌, [], List, Option, Some, false};
-ghost use Rattle.rds_block.specs.declared.group.Group.{Group};
-ghost use Rattle.rds_log.specs.LineSays.{LineSays};
-ghost use Rattle.rds_log.specs.LogLines.{Line};
+//! The programmes of the groups of a log, for a person. No contract says that these are the groups of the log.
 
 use crate::log_line::LogLine;
 use rds_block::Blocks;
 
-/// How many groups of each type the wanted programme has, for a person. No contract says that these are the groups of
-/// the log.
+/// How many groups of each type the wanted programme has (this project's own rule).
 #[derive(Clone, Copy)]
 pub struct GroupCounts {
     counts: [u64; 32],
 }
 
 impl GroupCounts {
-    ghost use Rattle.rds_log.specs.Heard.{count_of};
-
     /// Starts before the first group.
     pub(crate) fn new() -> GroupCounts {
         GroupCounts { counts: [0; 32] }
@@ -40,9 +33,7 @@ impl GroupCounts {
     }
 
     /// Returns the number that was counted of a group type, given as five bits: the number, and 1 for version B.
-    pub fn of(&self, kind: u8) -> u64
-        ensures { result ≡ count_of self.now kind }
-    {
+    pub fn of(&self, kind: u8) -> u64 {
         match self.counts.get(usize::from(kind)) {
             Some(count) => *count,
             None => 0,
@@ -63,17 +54,11 @@ pub struct Heard {
     pub first: Option<u16>,
     /// The number of groups with this PI.
     pub of_first: u64,
-    ghost few: { of_first ≤ groups },
 }
 
 impl Heard {
-    ghost use Rattle.rds_log.specs.Heard.{HeardLines, IsHeard};
-
     /// Starts before the first line.
-    pub(crate) fn new(pi: u16) -> Heard
-        ensures groups { result.groups ≡ 0 }
-        ensures heard { HeardLines pi [] result }
-    {
+    pub(crate) fn new() -> Heard {
         Heard {
             counts: GroupCounts::new(),
             wanted: false,
@@ -85,12 +70,7 @@ impl Heard {
 
     /// Takes the meaning of a line.
     #[inline(always)]
-    pub(crate) fn line(&mut self, pi: u16, said: LogLine)
-        requires { self.old.groups < 2 ^ 64 - 1 }
-        ensures groups { self.new.groups ≤ self.old.groups + 1 }
-        ensures heard { (lines : List Line) (line : Line) → LineSays line said
-            → HeardLines pi lines self.old → HeardLines pi (line ∷ lines) self.new }
-    {
+    pub(crate) fn line(&mut self, pi: u16, said: LogLine) {
         match said {
             LogLine::Slot(slot) => self.slot(pi, slot),
             LogLine::Skip => {}
@@ -99,12 +79,7 @@ impl Heard {
 
     /// Takes a slot. Counts its group, if it is of the wanted programme.
     #[inline(always)]
-    fn slot(&mut self, pi: u16, slot: Option<Blocks>)
-        requires { self.old.groups < 2 ^ 64 - 1 }
-        ensures groups { self.new.groups ≤ self.old.groups + 1 }
-        ensures heard { (slots : List (Option Group)) → IsHeard pi slots self.old
-            → IsHeard pi (slot ∷ slots) self.new }
-    {
+    fn slot(&mut self, pi: u16, slot: Option<Blocks>) {
         let Some(group) = slot else {
             return;
         };
@@ -120,21 +95,15 @@ impl Heard {
     /// Takes a group of this programme, while no group of the wanted programme was read.
     // Cold path.
     #[inline(never)]
-    fn look(&mut self, pi: u16, own: u16)
-        requires groups { self.old.groups < 2 ^ 64 - 1 }
-        requires none { self.old.wanted ≡ false }
-        ensures groups { self.new.groups ≤ self.old.groups + 1 }
-        ensures heard { (slots : List (Option Group)) (group : Group) → group.pi ≡ own → IsHeard pi slots self.old
-            → IsHeard pi (Some group ∷ slots) self.new }
-    {
+    fn look(&mut self, pi: u16, own: u16) {
         self.wanted = own == pi;
-        self.groups += 1;
+        self.groups = self.groups.saturating_add(1);
         match self.first {
             None => {
                 self.first = Some(own);
                 self.of_first = 1;
             }
-            Some(first) if first == own => self.of_first += 1,
+            Some(first) if first == own => self.of_first = self.of_first.saturating_add(1),
             Some(_) => {}
         }
     }

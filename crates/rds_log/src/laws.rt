@@ -3,19 +3,16 @@ ghost use Rattle.std.specs.Prelude.{◌≡◌, ◌<◌, ℕ, Bool, List, Ok, Opt
 ghost use Rattle.rds_block.specs.declared.group.Group.{Group};
 ghost use Rattle.rds_io.specs.Told.{Traffic};
 ghost use Rattle.rds_io.specs.Alike.{WriteAlike};
-ghost use Rattle.rds_log.specs.Audit.{AnswersVerdictOf, Audits, IsVerdictOf, SlotsAreSafe};
-ghost use Rattle.rds_log.specs.Audit.{SlotsFail, SlotsHaveNoPlans, SlotsPass, spacing};
+ghost use Rattle.rds_log.specs.Audit.{SlotsAreSafe, SlotsFail, SlotsHaveNoPlans, SlotsPass, spacing};
+ghost use Rattle.rds_log.specs.FaultList.{Audits};
 ghost use Rattle.rds_log.specs.FilledLog.{FilledTextsAreLogs, FilledTextsAreSafe};
-ghost use Rattle.rds_log.specs.LineCauses.{IsLineCause};
 ghost use Rattle.rds_log.specs.LogLines.{Line};
 ghost use Rattle.rds_log.specs.LineSays.{LineSays};
 ghost use Rattle.rds_log.specs.LogWrites.{LogWrites};
 ghost use Rattle.rds_log.specs.Decode.{DecodesAll};
 ghost use Rattle.rds_log.specs.declared.audit_log.Auditing.{Auditing};
 ghost use Rattle.rds_log.specs.declared.decode_log.Decoding.{Decoding};
-ghost use Rattle.rds_log.specs.declared.line_cause.LineCause.{LineCause};
 ghost use Rattle.rds_log.specs.declared.log_line.LogLine.{LogLine};
-ghost use Rattle.rds_log.specs.declared.verdict.Verdict.{Verdict};
 ghost use Rattle.rds_audit.specs.declared.audit.AuditFault.{AuditFault};
 
 use rds_arrivals::filled_logs_are_safe;
@@ -35,14 +32,10 @@ pub fn bytes_write_one_output()
         → q.before ≡ Some text → DecodesAll how r w → DecodesAll how q v → WriteAlike w v }
 {}
 
-/// Shows that the answer to a log is a function of its bytes: they have one verdict, a call of `audit` that ends
-/// without a fault answers it and writes its line, and two such calls answered and wrote the same.
+/// Shows that the answer to a log is a function of its bytes: two calls of `audit` that end without a fault answered and
+/// wrote the same.
 pub fn bytes_have_one_verdict()
-    ensures one_verdict { (a : Auditing) (bytes : List ℕ) (v u : Verdict) → 0 < spacing a
-        → IsVerdictOf a bytes v → IsVerdictOf a bytes u → v ≡ u }
-    ensures answered { (a : Auditing) (reads : ℕ) (bytes : List ℕ) (r w : Traffic) (passed : Bool)
-        → r.before ≡ Some bytes → Audits a reads r w (Ok passed) → AnswersVerdictOf a bytes w passed }
-    ensures alike { (a : Auditing) (reads others : ℕ) (bytes : List ℕ) (r w q v : Traffic) (passed other : Bool)
+    ensures { (a : Auditing) (reads others : ℕ) (bytes : List ℕ) (r w q v : Traffic) (passed other : Bool)
         → 0 < spacing a → r.before ≡ Some bytes → q.before ≡ Some bytes
         → Audits a reads r w (Ok passed) → Audits a others q v (Ok other)
         → (passed ≡ other) × WriteAlike w v }
@@ -64,12 +57,6 @@ pub fn what_an_answer_means()
     what_passes_is_safe();
     what_passes_as_a_recording_is_safe();
 }
-
-/// Shows that a malformed line has at most one cause: the first one from its left.
-pub fn a_line_has_one_cause()
-    ensures { (line : Line) (one other : LineCause) → IsLineCause line one
-        → IsLineCause line other → one ≡ other }
-{}
 
 /// Shows that the output of `slots` is a log with the lost slots put back. So the headline holds for what `decode`
 /// shows of it, with the same dwell, if the delays of the groups vary by less than a slot less the grain.

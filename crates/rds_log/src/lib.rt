@@ -3,8 +3,8 @@
 //!
 //! The model of a log is the list of its lines, whatever the reads that they come in. A line is a slot, or it is
 //! skipped (`LineSays`). The slots have views, and `decode` writes the changes of these views (`LogWrites`). The bytes
-//! have one verdict (`IsVerdictOf`), and `audit` answers it. Only `decode` and `audit` write; the other functions turn
-//! bytes into lines, and lines into output. The crate takes no memory except for `gather`.
+//! have one verdict, and `audit` answers it (`Audits`). One loop (`run`) gives the lines of a log to the takers of
+//! `decode`, `audit` and `slots`. The crate takes no memory except for `gather`.
 //!
 //! ```text
 //! decode(&mut Told::new(reader), &mut Told::new(writer), 0xC201, Dwell::new(128)?)
@@ -12,39 +12,37 @@
 #![tactic(auto)]
 
 mod audit_log;
+mod auditor;
 mod cutter;
 mod decode_log;
 mod decoder;
+mod fault_notes;
 mod filler;
 mod gather_log;
 mod heard;
 mod laws;
 mod line_cause;
 mod line_time;
-mod list_log;
-mod list_notes;
-mod lister;
 mod log_line;
 mod notes;
 mod pace;
+mod run_log;
 mod segment_cause;
 mod slots_log;
 mod source;
 mod verdict;
 
-pub use audit_log::{Auditing, audit, audit_with_notes, audit_within};
+pub use audit_log::{Auditing, Stop, audit, audit_with_notes, audit_within};
 pub use decode_log::{Decoding, MOST_READS, decode, decode_with_notes, decode_within};
-pub use filler::{Filling, Gap, Times, comment_of};
+pub use fault_notes::{FaultCount, FaultCounts, FaultNotes, FaultPlace};
+pub use filler::{Filling, Gap, SlotCounts, Times, comment_of};
 pub use gather_log::gather;
 pub use heard::{GroupCounts, Heard};
 pub use laws::{
-    a_line_has_one_cause, bytes_have_one_verdict, bytes_write_one_output, filled_texts_are_logs,
-    what_an_answer_means,
+    bytes_have_one_verdict, bytes_write_one_output, filled_texts_are_logs, what_an_answer_means,
 };
 pub use line_cause::LineCause;
 pub use line_time::LineTime;
-pub use list_log::list_with_notes;
-pub use list_notes::{FaultCount, FaultCounts, FaultPlace, ListNotes};
 pub use notes::{BadStart, LogNotes, NoNote, Pause};
 pub use rds_io::LogFault;
 pub use segment_cause::SegmentCause;

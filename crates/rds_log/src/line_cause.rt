@@ -1,11 +1,4 @@
-//! The reasons why a line of a log is malformed.
-ghost use Rattle.std.specs.Prelude.{◌≡◌, ◌<◌, ◌≤◌, ◌*◌, ◌+◌, ◌↔◌, ◌⊎◌, IfNone, IfSome, IsTrue, length};
-ghost use Rattle.rds_log.specs.LogLines.{content_length};
-ghost use Rattle.rds_log.specs.LineSays.{IsSkipped};
-ghost use Rattle.memchr.specs.Find.{IsFirstByte, is_byte};
-ghost use Rattle.rds_assembly.specs.Body as chars;
-ghost use Rattle.rds_log.specs.LineCauses.{AreGoodBlocks, EndsAfterFour, HasCommaBeforeSpace, HasMark, HasSlotForm};
-ghost use Rattle.rds_log.specs.LineCauses.{IsGoodAt, IsGoodBlock, IsLineCause, StandBeforeSpace};
+//! The reasons why a line of a log is malformed, for a person. No contract speaks of them.
 
 use crate::log_line::{block_at, content_length, is_skipped};
 use memchr::memchr;
@@ -13,6 +6,9 @@ use thiserror::Error;
 
 /// The number of blocks in a slot line.
 const COUNT: usize = 4;
+
+/// The byte order marks of UTF-8 and of UTF-16.
+const MARKS: [&[u8]; 3] = [b"\xEF\xBB\xBF", b"\xFF\xFE", b"\xFE\xFF"];
 
 /// The first mistake in a line, from its left (this project's own rule). Blocks count from 1, lengths are in bytes.
 #[derive(Clone, Copy, Debug, PartialEq, Eq, Error)]
@@ -42,74 +38,37 @@ pub enum LineCause {
 
 /// Returns why a line is malformed. `None` for a skipped line, and for one whose four blocks are good.
 #[inline(never)]
-pub(crate) fn cause_of(line: &[u8]) -> Option<LineCause>
-    ensures some { IfSome result (IsLineCause line.now) }
-    ensures none { IfNone result (IsSkipped line.now ⊎ AreGoodBlocks line.now 4) }
-{
+pub(crate) fn cause_of(line: &[u8]) -> Option<LineCause> {
     let length = content_length(line);
     if is_skipped(line, length) {
         return None;
     }
     match form_cause(line) {
         Some(cause) => Some(cause),
-        None => blocks_cause(line, length),
+        None => blocks_cause(&line[..length]),
     }
 }
 
 /// Returns the cause if the line has another form than a slot line.
-fn form_cause(line: &[u8]) -> Option<LineCause>
-    requires { 0 < length line.now }
-    ensures some { IfSome result (IsLineCause line.now) }
-    ensures none { IfNone result (HasSlotForm line.now) }
-{
-    if line[0] == b'{' {
+fn form_cause(line: &[u8]) -> Option<LineCause> {
+    if line.starts_with(b"{") {
         return Some(LineCause::Json);
     }
-    if has_mark(line) {
+    if MARKS.iter().any(|mark| line.starts_with(mark)) {
         return Some(LineCause::Mark);
     }
-    let space = memchr(b' ', line);
-    if has_comma_before(line, space) {
-        return Some(LineCause::Script);
-    }
-    match space {
-        Some(_) => None,
-        None => Some(LineCause::NoSpace),
-    }
-}
-
-/// Returns whether the line begins with a byte order mark: `EF BB BF` of UTF-8, `FF FE` or `FE FF` of UTF-16.
-fn has_mark(line: &[u8]) -> bool
-    ensures { IsTrue result ↔ HasMark line.now }
-{
-    if line.len() >= 3 && line[0] == 0xEF {
-        return line[1] == 0xBB && line[2] == 0xBF;
-    }
-    line.len() >= 2
-        && ((line[0] == 0xFF && line[1] == 0xFE) || (line[0] == 0xFE && line[1] == 0xFF))
-}
-
-/// Returns whether a comma comes before the first space, or anywhere if there is no space.
-fn has_comma_before(line: &[u8], space: Option<usize>) -> bool
-    requires { IsFirstByte (is_byte chars.space) line.now space }
-    ensures { IsTrue result ↔ HasCommaBeforeSpace line.now }
-{
-    match (memchr(b',', line), space) {
-        (Some(comma), Some(space)) => comma < space,
-        (Some(_), None) => true,
-        (None, _) => false,
+    match (memchr(b',', line), memchr(b' ', line)) {
+        (Some(comma), Some(space)) if comma < space => Some(LineCause::Script),
+        (_, Some(_)) => None,
+        (Some(_), None) => Some(LineCause::Script),
+        (None, None) => Some(LineCause::NoSpace),
     }
 }
 
 /// Returns the mistake in the first malformed block. `None` if all four are good.
-fn blocks_cause(line: &[u8], length: usize) -> Option<LineCause>
-    requires length { length ≡ content_length line.now }
-    requires form { HasSlotForm line.now }
-    ensures some { IfSome result (IsLineCause line.now) }
-    ensures none { IfNone result (AreGoodBlocks line.now 4) }
-{
+fn blocks_cause(content: &[u8]) -> Option<LineCause> {
     for block in 0..COUNT {
-        if let Some(cause) = block_cause(line, length, block) {
+        if let Some(cause) = block_cause(content, block) {
             return Some(cause);
         }
     }
@@ -117,58 +76,19 @@ fn blocks_cause(line: &[u8], length: usize) -> Option<LineCause>
 }
 
 /// Returns the mistake in this block. `None` if it is good. The blocks before it are good.
-fn block_cause(line: &[u8], length: usize, block: usize) -> Option<LineCause>
-    requires length { length ≡ content_length line.now }
-    requires form { HasSlotForm line.now }
-    requires few { block < 4 }
-    requires before { AreGoodBlocks line.now block }
-    ensures some { IfSome result (IsLineCause line.now) }
-    ensures none { IfNone result (IsGoodBlock line.now block) }
-{
-    let place = 5 * block;
-    if is_good(line, length, place) {
-        return None;
-    }
-    if length < place {
+fn block_cause(content: &[u8], block: usize) -> Option<LineCause> {
+    let place = block.saturating_mul(5);
+    let Some(rest) = content.get(place..) else {
         return Some(LineCause::EndsAfter(block));
-    }
-    let count = bytes_before_space(&line[place..length]);
-    if count == 4 {
-        return Some(LineCause::Digit(block + 1));
-    }
-    Some(LineCause::Length(block + 1, count))
-}
-
-/// Returns whether a good block begins at this place: four digits or four dashes, followed by a space or the end.
-fn is_good(line: &[u8], length: usize, place: usize) -> bool
-    requires length { length ≡ content_length line.now }
-    requires place { place ≤ 15 }
-    ensures { IsTrue result ↔ IsGoodAt line.now place }
-{
-    if !ends_after_four(line, length, place) {
-        return false;
-    }
-    match block_at(line, place) {
-        Some(_) => true,
-        None => false,
+    };
+    match memchr(b' ', rest).unwrap_or(rest.len()) {
+        4 if is_block(rest) => None,
+        4 => Some(LineCause::Digit(block.saturating_add(1))),
+        count => Some(LineCause::Length(block.saturating_add(1), count)),
     }
 }
 
-/// Returns whether four bytes begin at this place, followed by a space or the end.
-fn ends_after_four(line: &[u8], length: usize, place: usize) -> bool
-    requires length { length ≡ content_length line.now }
-    requires place { place ≤ 15 }
-    ensures { IsTrue result ↔ EndsAfterFour line.now place }
-{
-    length >= place + 4 && (length == place + 4 || line[place + 4] == b' ')
-}
-
-/// Returns how many bytes come before the first space, or before the end.
-fn bytes_before_space(bytes: &[u8]) -> usize
-    ensures { StandBeforeSpace bytes.now result }
-{
-    match memchr(b' ', bytes) {
-        Some(count) => count,
-        None => bytes.len(),
-    }
+/// Returns whether the bytes begin with four digits or four dashes.
+fn is_block(bytes: &[u8]) -> bool {
+    bytes.len() >= 4 && block_at(bytes, 0).is_some()
 }

@@ -1,13 +1,10 @@
-//! Notes on a log, for a person at a terminal.
-ghost use Rattle.std.specs.Prelude.{◌≡◌, None};
+//! Notes on a log, for a person at a terminal. No contract speaks of them.
 
+use crate::fault_notes::{FaultNotes, FaultPlace};
 use crate::heard::Heard;
 use crate::line_cause::LineCause;
-use crate::line_time::LineTime;
-use crate::list_notes::ListNotes;
 use crate::log_line::{DECIDING, LogLine};
 use crate::segment_cause::SegmentCause;
-use crate::source::Source;
 use arrayvec::ArrayVec;
 use rds_audit::{Audit, AuditFault};
 use rds_fields::Message;
@@ -24,10 +21,8 @@ pub struct BadStart {
 /// The slot at which an audit stopped (this project's own rule).
 #[derive(Clone, Copy, Debug, PartialEq, Eq)]
 pub struct NoNote {
-    /// The slot, counted from 0, that breaks a rule first.
-    pub slot: u64,
-    /// The line of this slot, counted from 1.
-    pub line: u64,
+    /// The slot that breaks a rule first.
+    pub at: FaultPlace,
     /// The rule that it breaks.
     pub fault: AuditFault,
     /// Whether a name broke it. If not, a text or its tags did.
@@ -43,8 +38,6 @@ pub struct NoNote {
     pub spacing: u32,
     /// For `NotOneText`, what is wrong with the segment.
     pub cause: Option<SegmentCause>,
-    /// The time in the line of the slot.
-    pub time: LineTime,
 }
 
 /// A pause of M + K slots or more without a text segment or tags (this project's own rule).
@@ -57,61 +50,49 @@ pub struct Pause {
 }
 
 impl NoNote {
-    /// Returns the note on the slot of this line, at which an audit stopped.
+    /// Returns the note on the slot of this line, which breaks this rule first.
     // Cold path.
     #[inline(never)]
-    pub(crate) fn of(
-        audit: &Audit,
-        source: &Source,
-        said: LogLine,
-        slot: u64,
-        fault: AuditFault,
-    ) -> NoNote
-        ensures slot { result.slot ≡ slot }
-        ensures fault { result.fault ≡ fault }
-    {
+    pub(crate) fn of(audit: &Audit, said: LogLine, at: FaultPlace, fault: AuditFault) -> NoNote {
         let sent = said;
         let of_name = is_name(said);
         let stored = audit.store();
+        let current = if of_name { stored.name } else { stored.text };
         let spacing = stored.distance;
         // the audit took the slot: its ages are one more than in the slot
-        let since_start = stored.text.reigns.since_start.saturating_sub(1);
-        let since_before = stored.text.reigns.since_before.saturating_sub(1);
-        let is_early_tag = fault == AuditFault::EarlyTag && stored.text.reigns.is_open != 0;
+        let since_start = current.reigns.since_start.saturating_sub(1);
+        let since_before = current.reigns.since_before.saturating_sub(1);
+        let is_early_tag = fault == AuditFault::EarlyTag && current.reigns.is_open != 0;
         let age = match fault {
-            AuditFault::EarlyFlag if of_name => Some(stored.name.apart),
-            AuditFault::EarlyFlag => Some(stored.text.apart),
+            AuditFault::EarlyFlag => Some(current.apart),
             AuditFault::EarlyTag if is_early_tag => Some(since_start),
             _ => None,
         };
         let first = if is_early_tag {
-            first_of(slot, since_start, stored.text.waited)
+            first_of(at.slot, since_start, current.waited)
         } else {
             None
         };
         // a text with the flag of the one before can start M + K slots after it
-        let resumed = stored.text.count > 1 && since_before == since_start.saturating_add(spacing);
-        let cause = match fault {
-            AuditFault::NotOneText => {
-                segment_cause(sent, stored.text.reigns.least, stored.text.reigns.most)
-            }
-            _ => None,
-        };
+        let resumed = current.count > 1 && since_before == since_start.saturating_add(spacing);
         NoNote {
-            slot,
-            line: source.lines(),
+            at,
             fault,
             of_name,
-            earlier: slot_before(slot, age),
+            earlier: slot_before(at.slot, age),
             first,
             paused: if resumed {
-                pause_of(slot, since_before, first)
+                pause_of(at.slot, since_before, first)
             } else {
                 None
             },
             spacing,
-            cause,
-            time: LineTime::of(source.start()),
+            cause: match fault {
+                AuditFault::NotOneText => {
+                    segment_cause(sent, current.reigns.least, current.reigns.most)
+                }
+                _ => None,
+            },
         }
     }
 }
@@ -160,7 +141,7 @@ fn slot_before(slot: u64, age: Option<u32>) -> Option<u64> {
 /// Notes on a log (this project's own rule).
 #[derive(Drop)]
 pub struct LogNotes {
-    /// The number of slots, once the log was read to its end.
+    /// The number of slots that were read.
     pub slots: u64,
     /// The programmes of the groups.
     pub heard: Heard,
@@ -174,30 +155,22 @@ pub struct LogNotes {
     pub names: u64,
     /// The number of groups with tags.
     pub tags: u64,
-    /// The faults that were listed.
-    pub listed: ListNotes,
+    /// The faults of an audit that lists all of them.
+    pub faults: FaultNotes,
 }
 
 impl LogNotes {
-    ghost use Rattle.rds_log.specs.Heard.{HeardLines};
-    ghost use Rattle.std.specs.Prelude.{[]};
-
-    /// Returns the notes on a log for a receiver of this programme, before its first line.
-    pub fn new(pi: u16) -> LogNotes
-        ensures groups { result.heard.groups ≡ 0 }
-        ensures heard { HeardLines pi [] result.heard }
-        ensures bad { result.bad ≡ None }
-        ensures no { result.no ≡ None }
-    {
+    /// Returns the notes on a log before its first line.
+    pub fn new() -> LogNotes {
         LogNotes {
             slots: 0,
-            heard: Heard::new(pi),
+            heard: Heard::new(),
             bad: None,
             no: None,
             texts: 0,
             names: 0,
             tags: 0,
-            listed: ListNotes::new(),
+            faults: FaultNotes::new(),
         }
     }
 }

@@ -3,7 +3,6 @@ ghost use Rattle.std.specs.Prelude.{◌≡◌, ◌≢◌, ◌≤◌, ◌<◌, �
 ghost use Rattle.std.specs.Prelude.{ℕ, List, None, Some, IfErr, IfOk, IsTrue, MatchResult, OnOk, false, length};
 ghost use Rattle.std.specs.Prelude.{take, true};
 ghost use Rattle.rds_log.specs.LogLines.{Line};
-ghost use Rattle.rds_log.specs.Notes.{HasNote};
 ghost use Rattle.rds_log.specs.Reads.{MadeReads, to_come};
 ghost use Rattle.rds_io.specs.declared.fault.LogFault.TheVariants as faults;
 
@@ -133,9 +132,7 @@ impl Source {
     /// Returns the note on a fault of this source: the first bytes of a malformed line, and why it is malformed.
     // Cold path.
     #[inline(never)]
-    pub(crate) fn note(&self, fault: LogFault) -> Option<BadStart>
-        ensures { HasNote self.now.cutter.kept.items fault result }
-    {
+    pub(crate) fn note(&self, fault: LogFault) -> Option<BadStart> {
         match fault {
             LogFault::BadLine(_) => Some(self.cutter.bad_start()),
             LogFault::BadRow(_)

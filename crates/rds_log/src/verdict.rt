@@ -1,55 +1,36 @@
-//! The verdict of an audit, and its line.
-ghost use Rattle.std.specs.Prelude.{◌≡◌, ◌≤◌, ◌+◌, ◌++◌, ◌↔◌, IsTrue, length};
-ghost use Rattle.rds_log.specs.Audit as specs;
-ghost use Rattle.rds_log.specs.Audit.{IsYes, verdict_line};
+//! The lines of the answers of an audit.
+ghost use Rattle.std.specs.Prelude.{◌≡◌, ◌≤◌, ◌+◌, ◌++◌, length};
+ghost use Rattle.rds_log.specs.FaultList as specs;
+ghost use Rattle.rds_log.specs.FaultList.{no_line, yes_line};
 ghost use Rattle.rds_log.specs.declared.verdict.TheConstants.{ANSWER_ROOM};
 
 use rds_audit::AuditFault;
 use rds_io::Lines;
 
-/// The most bytes of the line of a verdict.
+/// The most bytes of the line of an answer.
 pub(crate) const ANSWER_ROOM: usize = 36;
 
-/// The verdict of an audit.
-#[derive(Clone, Copy)]
-pub(crate) enum Verdict {
-    /// All slots pass. The number of slots.
-    Yes(u64),
-    /// This slot breaks a rule first, with this fault.
-    No(u64, AuditFault),
+/// Appends the line of a yes, for a log with so many slots.
+pub(crate) fn push_yes<const N: usize>(slots: u64, lines: &mut Lines<N>)
+    requires { length lines.old + ANSWER_ROOM ≤ N }
+    ensures { lines.new ≡ lines.old ++ yes_line slots }
+{
+    lines.push(b"yes ");
+    lines.push_number(slots);
+    lines.push(b"\n");
 }
 
-impl Verdict {
-    /// Returns whether all slots pass.
-    pub(crate) fn is_yes(self) -> bool
-        ensures { IsTrue result ↔ IsYes self }
-    {
-        match self {
-            Verdict::Yes(_) => true,
-            Verdict::No(..) => false,
-        }
-    }
-
-    /// Appends the line of the verdict.
-    pub(crate) fn push<const N: usize>(self, lines: &mut Lines<N>)
-        requires { length lines.old + ANSWER_ROOM ≤ N }
-        ensures line { lines.new ≡ lines.old ++ verdict_line self }
-        ensures room { length lines.new ≤ length lines.old + ANSWER_ROOM }
-    {
-        match self {
-            Verdict::Yes(slots) => {
-                lines.push(b"yes ");
-                lines.push_number(slots);
-            }
-            Verdict::No(slot, fault) => {
-                lines.push(b"no ");
-                lines.push_number(slot);
-                lines.push(b" ");
-                lines.push(fault_name(fault));
-            }
-        }
-        lines.push(b"\n");
-    }
+/// Appends the line of a no: a fault of this slot.
+pub(crate) fn push_no<const N: usize>(slot: u64, fault: AuditFault, lines: &mut Lines<N>)
+    requires { length lines.old + ANSWER_ROOM ≤ N }
+    ensures line { lines.new ≡ lines.old ++ no_line slot fault }
+    ensures room { length lines.new ≤ length lines.old + ANSWER_ROOM }
+{
+    lines.push(b"no ");
+    lines.push_number(slot);
+    lines.push(b" ");
+    lines.push(fault_name(fault));
+    lines.push(b"\n");
 }
 
 /// Returns the name of a fault, as in the answer of an audit.

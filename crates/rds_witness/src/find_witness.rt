@@ -1,13 +1,10 @@
 //! The engine of `witness`: finds a receiver that shows a mix because the log breaks a rule.
-ghost use Rattle.std.specs.Prelude.{◌≡◌, ◌≤◌, ◌^◌, [], ℕ, Err, OnOk, length};
+ghost use Rattle.std.specs.Prelude.{◌≡◌, ◌≤◌, ◌^◌, [], ℕ, length};
 ghost use Rattle.rds_block.specs.declared.group.Group.{Group};
 ghost use Rattle.rds_io.specs.Puts.{Puts};
 ghost use Rattle.rds_io.specs.Told.{traffic};
-ghost use Rattle.rds_log.specs.Heard.{HeardLog};
 ghost use Rattle.rds_log.specs.LogWrites.{tuned};
-ghost use Rattle.rds_log.specs.Notes.{NotesFault};
 ghost use Rattle.rds_log.specs.Reads.{MadeReads};
-ghost use Rattle.rds_io.specs.declared.fault.LogFault.TheVariants as faults;
 ghost use Rattle.rds_witness.specs.Lines.{IsAnswer, no_witness_up_to};
 ghost use Rattle.rds_witness.specs.Search.{IsSure};
 ghost use Rattle.rds_witness.specs.Witness.{Answers, Witnesses};
@@ -41,7 +38,7 @@ pub fn witness<R: TellingRead, W: TellingWrite>(
         (traffic W.contents W.failures writer.old writer.new) result }
     ensures reads { MadeReads (2 ^ 32) (R.reads reader.old) (R.reads reader.new) result }
 {
-    witness_with_notes(alloc, reader, writer, pi, dwell, &mut LogNotes::new(pi))
+    witness_with_notes(alloc, reader, writer, pi, dwell, &mut LogNotes::new())
 }
 
 /// Does what [`witness`] does, and takes notes for a person. The output and the answer are the same.
@@ -56,10 +53,6 @@ pub fn witness_with_notes<R: TellingRead, W: TellingWrite>(
     ensures witnesses { Witnesses (tuned pi dwell) (traffic R.remaining R.failures reader.old reader.new)
         (traffic W.contents W.failures writer.old writer.new) result }
     ensures reads { MadeReads (2 ^ 32) (R.reads reader.old) (R.reads reader.new) result }
-    ensures heard { OnOk result
-        (HeardLog pi (traffic R.remaining R.failures reader.old reader.new) notes.new.heard) }
-    ensures bad { (n : ℕ) → result ≡ Err (faults.BadLine n)
-        → NotesFault (traffic R.remaining R.failures reader.old reader.new) (faults.BadLine n) notes.new.bad }
 {
     let log = gather(alloc, reader, pi, MOST_READS, notes)?;
     let Ok(found) = find(alloc, log.as_slice(), pi, dwell) else {

@@ -1,11 +1,8 @@
 //! The engine of `witness --lose`: finds the mixes of a receiver that loses given slots.
-ghost use Rattle.std.specs.Prelude.{◌≡◌, ◌<◌, ◌≤◌, ◌+◌, ◌^◌, [], ℕ, Err, IfOk, List, OnOk, Option, length};
+ghost use Rattle.std.specs.Prelude.{◌≡◌, ◌<◌, ◌≤◌, ◌+◌, ◌^◌, [], ℕ, IfOk, List, OnOk, Option, length};
 ghost use Rattle.rds_block.specs.declared.group.Group.{Group};
 ghost use Rattle.rds_io.specs.Told.{traffic};
-ghost use Rattle.rds_io.specs.declared.fault.LogFault.TheVariants as faults;
-ghost use Rattle.rds_log.specs.Heard.{HeardLog};
 ghost use Rattle.rds_log.specs.LogWrites.{tuned};
-ghost use Rattle.rds_log.specs.Notes.{NotesFault};
 ghost use Rattle.rds_log.specs.Reads.{MadeReads};
 ghost use Rattle.rds_receiver.specs.Receipts.{Tuning};
 ghost use Rattle.rds_receiver.specs.Stored.{IsStored, receiver_stored};
@@ -57,10 +54,6 @@ pub fn lose_with_notes<R: TellingRead, W: TellingWrite>(
         (traffic R.remaining R.failures reader.old reader.new)
         (traffic W.contents W.failures writer.old writer.new) result }
     ensures reads { MadeReads (2 ^ 32) (R.reads reader.old) (R.reads reader.new) result }
-    ensures heard { OnOk result
-        (HeardLog losing.now.pi (traffic R.remaining R.failures reader.old reader.new) notes.new.heard) }
-    ensures bad { (n : ℕ) → result ≡ Err (faults.BadLine n)
-        → NotesFault (traffic R.remaining R.failures reader.old reader.new) (faults.BadLine n) notes.new.bad }
 {
     let log = gather(alloc, reader, losing.pi, MOST_READS, notes)?;
     let Ok(lines) = lines_of(alloc, log.as_slice(), losing) else {

@@ -1,19 +1,31 @@
--- The state of the decoder of a log after these lines, the newest first. w is the traffic with the writer.
-use Rattle.std.specs.Prelude.{◌++◌, ℕ, List, Option}
-use Rattle.std.specs.Io.KnownBytes.{Appends}
+-- The state of the taker of `decode` after these lines, the newest first.
+use Rattle.std.specs.Prelude.{◌≢◌, [], ℕ, List, Option}
 use Rattle.rds_block.specs.declared.group.Group.{Group}
-use Rattle.rds_io.specs.Told.{IsCalm, Traffic}
 use Rattle.rds_log.specs.LogLines.{Line}
-use Rattle.rds_log.specs.LogWrites.{AreSlots, tuning_of}
+use Rattle.rds_log.specs.LogWrites.{AreSlots, LinesWrite, tuning_of}
 use Rattle.rds_log.specs.Inside.ViewLines.{ViewsStandAt}
 use Rattle.rds_log.specs.declared.decode_log.Decoding.{Decoding}
 use Rattle.rds_log.specs.declared.decoder.Decoder.{Decoder}
 
--- the decoder took these lines; a part of their output was written, and the rest waits
-pub record HasDecoded (how : Decoding) (d : Decoder) (w : Traffic) (lines : List Line) : Type 0 where
+-- the decoder took these lines, and this is their output
+pub record HasDecoded (how : Decoding) (d : Decoder) (lines : List Line) (total : List ℕ) : Type 0 where
   pub slots : List (Option Group)
   pub say : AreSlots lines slots
-  pub written : List ℕ
-  pub views : ViewsStandAt how.says_why (tuning_of how) d.views slots (written ++ d.output)
-  pub wrote : Appends w.before w.after written
-  pub calm : IsCalm w
+  pub views : ViewsStandAt how.says_why (tuning_of how) d.views slots total
+
+-- the output of the lines that it took
+output_of : (how : Decoding) (d : Decoder) (lines : List Line) (total : List ℕ) → HasDecoded how d lines total
+    → LinesWrite how lines total
+output_of how d lines total has = record {
+  slots = has.slots;
+  say = has.say;
+  write = record { displays = has.views.displays; are = has.views.are; changes = has.views.changes };
+}
+
+pub decoded_lines : (how : Decoding) (d : Decoder) (lines : List Line) (total : List ℕ) → HasDecoded how d lines total
+    → (⊥ → ⊥) → LinesWrite how lines total
+decoded_lines how d lines total has wants = output_of how d lines total has
+
+pub decoded_part : (how : Decoding) (d : Decoder) (lines : List Line) (total : List ℕ) → HasDecoded how d lines total
+    → total ≢ [] → LinesWrite how lines total
+decoded_part how d lines total has some = output_of how d lines total has

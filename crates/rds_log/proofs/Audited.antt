@@ -1,0 +1,465 @@
+-- What the taker of `audit` takes, and what it has written at the end.
+use Rattle.std.proofs.Common.{◌≡◌, ◌≢◌, ◌⊎◌, ◌++◌, ◌+◌, ◌↔◌, ◌∙◌, ℕ, Bool, true, false, List, [], ◌∷◌, length}
+use Rattle.std.proofs.Common.{Option, Some, None, append_assoc, ap, arith, inl, inr, refl, subst, sym}
+use Rattle.std.specs.Prelude.{MatchOption, MatchResult, OnOk, Result, Ok, Err}
+use Rattle.std.proofs.lemmas.List.{append-nil}
+use Rattle.rds_block.specs.declared.group.Group.{Group}
+use Rattle.rds_io.specs.Told.{Traffic}
+use Rattle.rds_io.specs.Waits.{IsLost, Waits}
+use Rattle.rds_io.specs.declared.told.WriteFault.{WriteFault}
+use Rattle.rds_io.proofs.Waiting.{waits_more, wrote_all}
+use Rattle.rds_audit.specs.Judging.{judged_step}
+use Rattle.rds_audit.specs.AuditStandsAt.{AuditStandsAt, FollowsLog, HasJudged, HoldsLog, TakesAll}
+use Rattle.rds_audit.specs.AuditState.{AuditState}
+use Rattle.rds_audit.specs.Recording.{counted_as, judged_as}
+use Rattle.rds_audit.specs.Rules.{LogPasses}
+use Rattle.rds_fields.specs.declared.message.Message.{Message}
+use Rattle.rds_receiver.specs.OneView.{same_heard}
+use Rattle.rds_receiver.specs.Receipts.{AreHeard}
+use Rattle.rds_audit.specs.Listing.{IsFaultOf, first_of, none_broken, slot_adds}
+use Rattle.rds_audit.specs.declared.audit.AuditFault.{AuditFault}
+use Rattle.rds_audit.specs.declared.audit.AuditFault.TheVariants.{Changed, NotOneText, EarlyFlag, EarlyTag, TagOutside}
+use Rattle.rds_audit.specs.declared.fault_set.FaultSet.{FaultSet}
+use Rattle.rds_audit.specs.declared.log_start.LogStart.{LogStart}
+use Rattle.rds_log.specs.Audit.{SlotsFail, SlotsPass, judged, spacing}
+use Rattle.rds_log.specs.FaultList.{AreAdded, AreFaultsOf, AnswersYes, Audits, BeginsWithNo, FindsFaults, IsNo}
+use Rattle.rds_log.specs.FaultList.{LinesAnswer, LinesGoOn, LosesYes, SaysNo, SlotsList}
+use Rattle.rds_log.specs.FaultList.{fault_lines, first_line, lines_for, list_lines, no_line, yes_line}
+use Rattle.rds_log.specs.Inside.Auditor.{HasAudited}
+use Rattle.rds_log.specs.LineSays.{LineSays}
+use Rattle.rds_log.specs.LogLines.{Line}
+use Rattle.rds_log.specs.Outputs.{HasTaken, Pushed, Runs, RunsAll, RunsUpTo, StopsBy}
+use Rattle.rds_io.specs.declared.fault.LogFault.{LogFault}
+use Rattle.rds_io.specs.declared.fault.LogFault.TheVariants as faults
+use Rattle.rds_log.specs.declared.audit_log.Auditing.{Auditing}
+use Rattle.rds_log.specs.declared.audit_log.Stop.{Stop}
+use Rattle.rds_log.specs.declared.audit_log.Stop.TheVariants.{FirstFault, LogEnd}
+use Rattle.rds_log.specs.declared.auditor.Auditor.{Auditor}
+use Rattle.rds_log.specs.declared.log_line.LogLine.TheVariants.{Skip, Slot}
+
+-- ---- the slots
+
+-- what an audit without a fault took passes
+pub slots_pass : (a : Auditing) (state : AuditState) (slots : List (Option Group)) → AuditStandsAt a.pi (spacing a) state slots → state.start ≡ a.start → state.fault ≡ None → SlotsPass a slots
+slots_pass a state slots s begins none = record {
+  heard = s.heard;
+  are = s.are;
+  passes =
+      let all = judged a s.heard in
+      let held : LogPasses (spacing a) all × HoldsLog (spacing a) all state =
+      subst (λ (o : Option AuditFault). MatchOption o (LogPasses (spacing a) all × HoldsLog (spacing a) all state) (IsFaultOf (spacing a) all)) none
+      (subst (λ (st : LogStart). HasJudged (spacing a) state (judged_as st (spacing a) s.heard)) begins s.holds) in
+      held.0;
+}
+
+-- slots that fail with the newest one
+pub fails_at : (a : Auditing) (state after : AuditState) (number : ℕ) (slots : List (Option Group)) (slot : Option Group) (fault : AuditFault)
+    → AuditStandsAt a.pi (spacing a) state slots → state.start ≡ a.start → state.fault ≡ None → number ≡ length slots
+    → (stands : AuditStandsAt a.pi (spacing a) after (slot ∷ slots)) → after.start ≡ a.start
+    → IsFaultOf (spacing a) (judged_as after.start (spacing a) stands.heard) fault → SlotsFail a number fault (slot ∷ slots)
+fails_at a state after number slots slot fault s begins passed count stands start is = record {
+  newest = slot;
+  before = slots;
+  cut = refl;
+  number = count;
+  passed = slots_pass a state slots s begins passed;
+  heard = stands.heard;
+  are = stands.are;
+  fault_is = subst (λ (st : LogStart). IsFaultOf (spacing a) (judged_as st (spacing a) stands.heard) fault) start is;
+}
+
+-- the fault in the state of an audit is that of its log
+pub fault_of : (d : ℕ) (state : AuditState) (fault : AuditFault) (judged : List (Option Message)) → state.fault ≡ Some fault → HasJudged d state judged → IsFaultOf d judged fault
+fault_of d state fault judged some has = subst (λ (o : Option AuditFault). MatchOption o (LogPasses d judged × HoldsLog d judged state) (λ f. IsFaultOf d judged f)) some has
+
+-- ---- the lines of a slot
+
+-- the lines of a slot with a first fault begin with the line of that
+begins_with_first : (t : ℕ) (f : FaultSet) (fault : AuditFault) → first_of f ≡ Some fault
+    → (rest : List ℕ) × (fault_lines t f ≡ no_line t fault ++ rest)
+begins_with_first t f fault some = by f.changed f.early_flag f.not_one_text f.early_tag f.tag_outside fault some
+  where
+    same : (g h : AuditFault) → Some g ≡ Some h → g ≡ h
+    same g h e = (cc)
+
+    with_line : (g h : AuditFault) (rest lines : List ℕ) → lines ≡ no_line t g ++ rest → Some g ≡ Some h
+        → (rest : List ℕ) × (lines ≡ no_line t h ++ rest)
+    with_line g h rest lines is e = (rest, subst (λ x. lines ≡ no_line t x ++ rest) (same g h e) is)
+
+    by : (c e n g o : Bool) (h : AuditFault)
+        → first_of record { changed = c; early_flag = e; not_one_text = n; early_tag = g; tag_outside = o } ≡ Some h
+        → (rest : List ℕ)
+        × (fault_lines t record { changed = c; early_flag = e; not_one_text = n; early_tag = g; tag_outside = o }
+        ≡ no_line t h ++ rest)
+    by true e n g o h is = with_line Changed h _ _ refl is
+    by false true n g o h is = with_line EarlyFlag h _ _ refl is
+    by false false true g o h is = with_line NotOneText h _ _ refl is
+    by false false false true o h is = with_line EarlyTag h _ _ refl is
+    by false false false false true h is = with_line TagOutside h [] _ (sym (append-nil (no_line t TagOutside))) is
+    by false false false false false h is = absurd (cc)
+
+-- a slot without a first fault has no line
+no_lines : (t : ℕ) (f : FaultSet) → first_of f ≡ None → fault_lines t f ≡ []
+no_lines t f none = by f.changed f.early_flag f.not_one_text f.early_tag f.tag_outside none
+  where
+    by : (c e n g o : Bool)
+        → first_of record { changed = c; early_flag = e; not_one_text = n; early_tag = g; tag_outside = o } ≡ None
+        → fault_lines t record { changed = c; early_flag = e; not_one_text = n; early_tag = g; tag_outside = o } ≡ []
+    by true e n g o is = absurd (cc)
+    by false true n g o is = absurd (cc)
+    by false false true g o is = absurd (cc)
+    by false false false true o is = absurd (cc)
+    by false false false false true is = absurd (cc)
+    by false false false false false is = refl
+
+-- ---- the auditor
+
+-- what the list says of the slots, as far as the audit knows their first fault
+abbrev Says : Stop → Auditing → Option AuditFault → List (Option Group) → List ℕ → Type 0
+Says stop a known slots total =
+    MatchOption known (SlotsPass a slots × (total ≡ [])) (λ fault. SaysNo stop a fault slots total)
+
+-- what it says with one slot more
+adds : (a : Auditing) (stop : Stop) (before after : Option AuditFault) (t : ℕ) (slots : List (Option Group))
+    (slot : Option Group) (all : List ℕ) (found : FaultSet)
+    → (stop ≡ FirstFault → before ≡ None) → Says stop a before slots all
+    → (before ≡ None → after ≡ first_of found)
+    → ((fault : AuditFault) → before ≡ Some fault → after ≡ Some fault)
+    → (after ≡ None → SlotsPass a (slot ∷ slots))
+    → ((fault : AuditFault) → before ≡ None → after ≡ Some fault → SlotsFail a t fault (slot ∷ slots))
+    → Says stop a after (slot ∷ slots) (all ++ lines_for stop t found)
+adds a FirstFault None None t slots slot all found wants had first again passes fails =
+    (passes refl, ap (λ (l : List ℕ). l ++ first_line t (first_of found)) had.1 ∙ ap (first_line t) (sym (first refl)))
+adds a FirstFault None (Some fault) t slots slot all found wants had first again passes fails = record {
+  number = t;
+  fail = fails fault refl refl;
+  line = ap (λ (l : List ℕ). l ++ first_line t (first_of found)) had.1 ∙ ap (first_line t) (sym (first refl));
+}
+adds a FirstFault (Some fault) after t slots slot all found wants had first again passes fails =
+    (let bad = wants refl in absurd (cc))
+adds a LogEnd None None t slots slot all found wants had first again passes fails =
+    (passes refl, ap (λ (l : List ℕ). l ++ fault_lines t found) had.1 ∙ no_lines t found (sym (first refl)))
+adds a LogEnd None (Some fault) t slots slot all found wants had first again passes fails =
+    let (rest, is) = begins_with_first t found fault (sym (first refl)) in
+    record {
+      newer = [];
+      failed = slot ∷ slots;
+      cut = refl;
+      number = t;
+      fail = fails fault refl refl;
+      further = rest;
+      lines = ap (λ (l : List ℕ). l ++ fault_lines t found) had.1 ∙ is;
+    }
+adds a LogEnd (Some fault) None t slots slot all found wants had first again passes fails =
+    (let bad = again fault refl in absurd (cc))
+adds a LogEnd (Some fault) (Some other) t slots slot all found wants had first again passes fails =
+    let one : fault ≡ other = (let e : Some other ≡ Some fault = again fault refl in cc) in
+    subst (λ x. BeginsWithNo a x (slot ∷ slots) (all ++ fault_lines t found)) one
+    record {
+      newer = slot ∷ had.newer;
+      failed = had.failed;
+      cut = ap (λ l. slot ∷ l) had.cut;
+      number = had.number;
+      fail = had.fail;
+      further = had.further ++ fault_lines t found;
+      lines = ap (λ l. l ++ fault_lines t found) had.lines
+          ∙ append_assoc (no_line had.number fault) had.further (fault_lines t found);
+    }
+
+-- what one more slot adds
+faults_of_more : (a : Auditing) (l after : AuditState) (slots : List (Option Group)) (slot : Option Group) (faults : List FaultSet) (found : FaultSet) (s : FollowsLog a.pi (spacing a) l slots) → l.start ≡ a.start
+    → (heard : List (Option Message)) → AreHeard a.pi (slot ∷ slots) heard → TakesAll l after slot found → AreFaultsOf a slots faults → AreFaultsOf a (slot ∷ slots) (found ∷ faults)
+faults_of_more a l after slots slot faults found s begins [] hear takes of = absurd hear
+faults_of_more a l after slots slot faults found s begins (m ∷ h) hear takes of =
+    let each = of.each in
+    record {
+      each = omega (arith, each);
+      heard = m ∷ h;
+      are = hear;
+      added = subst (λ (x : List (Option Message)). AreAdded (spacing a) x (found ∷ faults)) (sym (judged_step a.start (spacing a) m h)) (adds, older);
+    }
+  where
+    adds : found ≡ slot_adds (spacing a) (counted_as a.start (judged a h) m) (judged a h)
+    adds =
+        subst (λ (x : List (Option Message)). found ≡ slot_adds (spacing a) (counted_as a.start (judged a x) m) (judged a x)) (same_heard a.pi slots s.at.heard h s.at.are hear.1)
+        (subst (λ (st : LogStart). found ≡ slot_adds (spacing a) (counted_as st (judged_as st (spacing a) s.at.heard) m) (judged_as st (spacing a) s.at.heard)) begins (takes.adds a.pi (spacing a) slots s m hear.0))
+
+    older : AreAdded (spacing a) (judged a h) faults
+    older = subst (λ (x : List (Option Message)). AreAdded (spacing a) (judged a x) faults) (same_heard a.pi slots of.heard h of.are hear.1) of.added
+
+-- the answer that the list gives
+answer_of : (a : Auditing) (known : Option AuditFault) (slots : List (Option Group)) (total : List ℕ)
+    → Says a.stop a known slots total
+    → (SlotsPass a slots × (total ≡ [])) ⊎ ((fault : AuditFault) × SaysNo a.stop a fault slots total)
+answer_of a None slots total says = inl says
+answer_of a (Some fault) slots total says = inr (fault, says)
+
+-- what is not true is false
+not_true : (b : Bool) → (b ≡ true → ⊥) → b ≡ false
+not_true true never = absurd (never refl)
+not_true false never = refl
+
+-- a slot with these faults
+pub takes_slot : (a : Auditing) (l after : Auditor) (w : Traffic) (out now : List ℕ) (lines : List Line) (line : Line)
+    (slot : Option Group) (found : FaultSet) → LineSays line (Slot slot)
+    → HasTaken (HasAudited a l) w out lines → (l.is_done ≡ true → ⊥) → TakesAll l.audit after.audit slot found
+    → now ≡ out ++ lines_for l.stop l.slots found → after.slots ≡ l.slots + 1 → after.stop ≡ l.stop
+    → (after.is_done ≡ true) ↔ ((l.stop ≡ FirstFault) × (first_of found ≢ None))
+    → HasTaken (HasAudited a after) w now (line ∷ lines)
+takes_slot a l after w out now lines line slot found says taken goes_on takes output slots keeps done =
+    let count = s.count in
+    let each = s.list.are.each in
+    record {
+      total = taken.total ++ lines_for a.stop l.slots found;
+      took = record {
+        slots = slot ∷ s.slots;
+        say = inr (slot, s.slots, says, refl, s.say);
+        count = omega (arith, count, slots);
+        stop = keeps ∙ s.stop;
+        audit = takes.follows a.pi (spacing a) s.slots s.audit;
+        begins = takes.start ∙ s.begins;
+        list = record {
+          faults = found ∷ s.list.faults;
+          are = faults_of_more a l.audit after.audit s.slots slot s.list.faults found s.audit s.begins stands.heard
+              stands.are takes s.list.are;
+          lines = ap (λ (x : List ℕ). x ++ lines_for a.stop l.slots found) s.list.lines
+              ∙ ap (λ n. list_lines a.stop s.list.faults ++ lines_for a.stop n found) (count ∙ sym each);
+          answer = answer_of a after.audit.fault (slot ∷ s.slots) _ further;
+        };
+        first = further;
+        wants = λ going first. none_now (first_of found) refl going first;
+        done = λ yes. (
+            let (stop, some) = done.0 yes in
+            let first = sym s.stop ∙ stop in
+            (first, λ none. some (sym (takes.first (wanted first)) ∙ none))
+            );
+      };
+      waits = waits_more w out now taken.total (lines_for a.stop l.slots found) taken.waits
+          (output ∙ ap (λ (st : Stop). out ++ lines_for st l.slots found) s.stop);
+    }
+  where
+    s : HasAudited a l lines taken.total
+    s = taken.took
+
+    wanted : a.stop ≡ FirstFault → l.audit.fault ≡ None
+    wanted first = s.wants (not_true l.is_done goes_on) first
+
+    stands : AuditStandsAt a.pi (spacing a) after.audit (slot ∷ s.slots)
+    stands = takes.stands a.pi (spacing a) s.slots s.audit.at
+
+    fails : (fault : AuditFault) → l.audit.fault ≡ None → after.audit.fault ≡ Some fault
+        → SlotsFail a l.slots fault (slot ∷ s.slots)
+    fails fault none some =
+        fails_at a l.audit after.audit l.slots s.slots slot fault s.audit.at s.begins none s.count stands
+        (takes.start ∙ s.begins)
+        (fault_of (spacing a) after.audit fault (judged_as after.audit.start (spacing a) stands.heard) some stands.holds)
+
+    further : Says a.stop a after.audit.fault (slot ∷ s.slots) (taken.total ++ lines_for a.stop l.slots found)
+    further =
+        adds a a.stop l.audit.fault after.audit.fault l.slots s.slots slot taken.total found wanted s.first takes.first
+        takes.again (slots_pass a after.audit (slot ∷ s.slots) stands (takes.start ∙ s.begins)) fails
+
+    none_now : (o : Option AuditFault) → first_of found ≡ o → after.is_done ≡ false → a.stop ≡ FirstFault
+        → after.audit.fault ≡ None
+    none_now None is going first = takes.first (wanted first) ∙ is
+    none_now (Some fault) is going first =
+        let some : first_of found ≢ None = λ none. (let bad : Some fault ≡ None = sym is ∙ none in cc) in
+        let yes = done.1 (s.stop ∙ first, some) in
+        absurd (cc)
+
+-- a slot without a fault
+pub takes_good_slot : (a : Auditing) (l after : Auditor) (w : Traffic) (out : List ℕ) (lines : List Line) (line : Line)
+    (slot : Option Group) (found : FaultSet) → LineSays line (Slot slot)
+    → HasTaken (HasAudited a l) w out lines → (l.is_done ≡ true → ⊥) → TakesAll l.audit after.audit slot found
+    → found ≡ none_broken → after.slots ≡ l.slots + 1 → after.stop ≡ l.stop → after.is_done ≡ l.is_done
+    → HasTaken (HasAudited a after) w out (line ∷ lines)
+takes_good_slot a l after w out lines line slot found says taken goes_on takes none slots keeps same =
+    takes_slot a l after w out out lines line slot found says taken goes_on takes
+    (sym (ap (λ (x : List ℕ). out ++ x) (nothing l.stop) ∙ append-nil out)) slots keeps
+    (λ yes. absurd (goes_on (sym same ∙ yes)), λ some. absurd (some.1 (ap first_of none)))
+  where
+    nothing : (stop : Stop) → lines_for stop l.slots found ≡ []
+    nothing FirstFault = ap (λ (f : FaultSet). first_line l.slots (first_of f)) none
+    nothing LogEnd = ap (λ (f : FaultSet). fault_lines l.slots f) none
+
+-- a line that is skipped
+pub takes_skip : (a : Auditing) (l after : Auditor) (w : Traffic) (out : List ℕ) (lines : List Line) (line : Line)
+    → LineSays line Skip → after.audit ≡ l.audit → after.slots ≡ l.slots → after.stop ≡ l.stop
+    → after.is_done ≡ l.is_done
+    → HasTaken (HasAudited a l) w out lines → HasTaken (HasAudited a after) w out (line ∷ lines)
+takes_skip a l after w out lines line says audit slots keeps same taken =
+    let s = taken.took in
+    record {
+      total = taken.total;
+      took = record {
+        slots = s.slots;
+        say = inl (says, s.say);
+        count = slots ∙ s.count;
+        stop = keeps ∙ s.stop;
+        audit = rw audit s.audit;
+        begins = rw audit s.begins;
+        list = s.list;
+        first = rw audit s.first;
+        wants = λ going first. rw audit (s.wants (sym same ∙ going) first);
+        done = λ yes. rw audit (s.done (sym same ∙ yes));
+      };
+      waits = taken.waits;
+    }
+
+-- before the first line
+pub audited_none : (a : Auditing) (l : Auditor) → FollowsLog a.pi (spacing a) l.audit [] → l.audit.start ≡ a.start
+    → l.audit.fault ≡ None → l.slots ≡ 0 → l.stop ≡ a.stop → l.is_done ≡ false → HasAudited a l [] []
+audited_none a l follows begins none slots keeps going =
+    let passes = slots_pass a l.audit [] follows.at begins none in
+    record {
+      slots = [];
+      say = refl;
+      count = slots;
+      stop = keeps;
+      audit = follows;
+      begins = begins;
+      list = record {
+        faults = [];
+        are = record { each = refl; heard = []; are = tt; added = tt };
+        lines = refl;
+        answer = inl (passes, refl);
+      };
+      first = rw none (passes, refl);
+      wants = λ _ _. none;
+      done = λ yes. (let bad : false ≡ true = sym going ∙ yes in absurd (cc));
+    }
+
+-- ---- the end
+
+-- the waiting line was written, or the writer failed at it
+pub flushed : (w : Traffic) (now total : List ℕ) (r : Result (Unit {0}) WriteFault) → OnOk r (now ≡ [])
+    → MatchResult r (λ _. Waits w now total) (λ _. IsLost w total) → Pushed w [] total r
+flushed w now total (Ok done) none waits = subst (λ (l : List ℕ). Waits w l total) none waits
+flushed w now total (Err fault) none lost = lost
+
+-- the run stopped at a fault
+pub stops : (a : Auditing) (reads : ℕ) (r w : Traffic) (fault : LogFault)
+    → StopsBy (LinesGoOn a) (LinesAnswer a) reads r w fault → Audits a reads r w (Err fault)
+stops a reads r w (faults.BadLine n) stopped = stopped
+stops a reads r w (faults.BadRow n) stopped = stopped
+stops a reads r w faults.Read stopped = stopped
+stops a reads r w faults.Write (text, read, stopped, calm) = (text, read, inl stopped, calm)
+stops a reads r w faults.TooLong stopped = stopped
+stops a reads r w faults.Memory stopped = stopped
+
+-- how a run ended over the lines of a log that an auditor took
+abbrev Ended : Auditing → Auditor → Traffic → Traffic → Type 0
+Ended a l r w =
+    (RunsAll (HasAudited a l) r w × (l.is_done ≡ true → ⊥)) ⊎ (RunsUpTo (HasAudited a l) r w × (l.is_done ≡ true))
+
+-- the audit found a fault
+pub finds : (a : Auditing) (l : Auditor) (r w : Traffic) → l.audit.fault ≢ None → Ended a l r w
+    → FindsFaults a.stop a r w
+finds a l r w some ended = by a.stop refl l.audit.fault refl ended
+  where
+    by : (stop : Stop) → a.stop ≡ stop → (known : Option AuditFault) → l.audit.fault ≡ known → Ended a l r w
+        → FindsFaults stop a r w
+    by stop is None e ended = absurd (some e)
+    by FirstFault is (Some fault) e (inl (all, wants)) =
+        absurd (some (all.run.took.wants (not_true l.is_done wants) is))
+    by FirstFault is (Some fault) e (inr (run, done)) =
+        let says : IsNo a fault run.took.slots run.written =
+        subst (λ (st : Stop). Says st a (Some fault) run.took.slots run.written) is
+        (subst (λ (o : Option AuditFault). Says a.stop a o run.took.slots run.written) e run.took.first) in
+        record {
+          text = run.text;
+          read = run.read;
+          number = says.number;
+          fault = fault;
+          stops = record {
+            lines = run.lines;
+            begins = run.begins;
+            slots = run.took.slots;
+            say = run.took.say;
+            fail = says.fail;
+          };
+          wrote = rw says.line at run.wrote;
+          read_calm = run.read_calm;
+          write_calm = run.write_calm;
+        }
+    by LogEnd is (Some fault) e (inl (all, wants)) = record {
+      text = all.run.text;
+      read = all.run.read;
+      end = all.end;
+      lines = all.run.lines;
+      are = all.are;
+      written = all.run.written;
+      list = record { slots = all.run.took.slots; say = all.run.took.say; list = all.run.took.list };
+      some = (
+        fault,
+        subst (λ (st : Stop). Says st a (Some fault) all.run.took.slots all.run.written) is
+            (subst (λ (o : Option AuditFault). Says a.stop a o all.run.took.slots all.run.written) e all.run.took.first),
+      );
+      wrote = all.run.wrote;
+      read_calm = all.run.read_calm;
+      write_calm = all.run.write_calm;
+    }
+    by LogEnd is (Some fault) e (inr (run, done)) =
+        let first : LogEnd ≡ FirstFault = sym is ∙ (run.took.done done).0 in
+        absurd (cc)
+
+-- the log was read to its end, and its slots pass: nothing was written
+passed_all : (a : Auditing) (l : Auditor) (r w : Traffic) → l.audit.fault ≡ None → Ended a l r w
+    → (all : RunsAll (HasAudited a l) r w) × SlotsPass a all.run.took.slots × (all.run.written ≡ [])
+passed_all a l r w none (inl (all, wants)) =
+    let says = subst (λ (o : Option AuditFault). Says a.stop a o all.run.took.slots all.run.written) none all.run.took.first in
+    (all, says.0, says.1)
+passed_all a l r w none (inr (run, done)) = absurd ((run.took.done done).1 none)
+
+-- nothing waits before the line of a yes
+pub before_yes : (a : Auditing) (l : Auditor) (r w : Traffic) → l.audit.fault ≡ None → Ended a l r w → Waits w [] []
+before_yes a l r w none ended =
+    let (all, pass, nothing) = passed_all a l r w none ended in
+    record { written = []; all = refl; wrote = rw nothing at all.run.wrote; calm = all.run.write_calm }
+
+-- the line of a yes was written
+pub says_yes : (a : Auditing) (l : Auditor) (r w v : Traffic) → l.audit.fault ≡ None → Ended a l r w
+    → Waits v [] (yes_line l.slots) → AnswersYes a r v
+says_yes a l r w v none ended waits =
+    let (all, pass, nothing) = passed_all a l r w none ended in
+    record {
+      text = all.run.text;
+      read = all.run.read;
+      end = all.end;
+      number = l.slots;
+      passes = record {
+        lines = all.run.lines;
+        are = all.are;
+        slots = all.run.took.slots;
+        say = all.run.took.say;
+        number = all.run.took.count;
+        pass = pass;
+      };
+      wrote = wrote_all v [] (yes_line l.slots) waits refl;
+      read_calm = all.run.read_calm;
+      write_calm = waits.calm;
+    }
+
+-- the writer failed at it
+pub loses_yes : (a : Auditing) (reads : ℕ) (l : Auditor) (r w v : Traffic) → l.audit.fault ≡ None → Ended a l r w
+    → IsLost v (yes_line l.slots) → Audits a reads r v (Err faults.Write)
+loses_yes a reads l r w v none ended lost =
+    let (all, pass, nothing) = passed_all a l r w none ended in (
+      all.run.text,
+      all.run.read,
+      inr record {
+        end = all.end;
+        number = l.slots;
+        passes = record {
+          lines = all.run.lines;
+          are = all.are;
+          slots = all.run.took.slots;
+          say = all.run.took.say;
+          number = all.run.took.count;
+          pass = pass;
+        };
+        wrote = lost.wrote;
+        failed = lost.failed;
+      },
+      all.run.read_calm,
+    )
