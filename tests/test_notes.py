@@ -1,5 +1,6 @@
 """The notes of the program on standard error: each note, and the calls without one."""
 import collections
+import json
 import os
 import pty
 import random
@@ -421,6 +422,61 @@ class Warnings(ProgramCase):
         both = noted("encode --pi C201", b"text,HI,1,\nx\n")[2]
         self.check("a warning and a fault", both, note(silent) + note(
             "fault row 2 (line 2): expected 4 fields (COMMAND,ARGUMENT,FREE,RECEPTIONS), found 1"))
+
+
+# a command, its input, and its notes as objects without their sentences
+OBJECTS = [
+    (f"{DECODE}", b"bad\n", [{"kind": "fault", "fault": "line", "line": 1}]),
+    (ENCODE, b"text,HI,1,\nx\n", [{"kind": "refused", "slot": 0, "set": "text", "why": "silent", "slots": 1},
+                                  {"kind": "fault", "fault": "row", "row": 2}]),
+    ("decode --pi X", b"", [{"kind": "fault", "fault": "pi"}]),
+    (f"{AUDIT} --m 4", HI + b"C201 2150 594F 0D20 12.5\n" + HI,
+     [{"kind": "no", "fault": "EarlyFlag", "of": "text", "slot": 2, "line": 3, "earlier": 0, "needed": 4}]),
+    (f"{AUDIT} --m 4", HI + b"C201 B148 2002 0000 @2024/06/01 07:58:12.08\n",
+     [{"kind": "no", "fault": "EarlyTag", "of": "tags", "slot": 1, "line": 2, "time": "2024/06/01 07:58:12.08",
+       "earlier": 0, "first": 0, "needed": 4}]),
+    (f"{AUDIT} --m 4", b"C201 2140 4802 0D20\n",
+     [{"kind": "no", "fault": "NotOneText", "of": "text", "slot": 0, "line": 1, "needed": 4, "cause": "byte", "byte": 2,
+       "place": 1}]),
+    (f"{AUDIT} --m 8 --all", HI + b"C201 B148 2002 0000 12.5\n",
+     [{"kind": "faults", "fault": "EarlyTag", "of": "text", "count": 1, "judged": 1, "first_slot": 1, "first_line": 2,
+       "first_time": "12.5", "last_slot": 1, "last_line": 2, "last_time": "12.5"},
+      {"kind": "judged", "slots": 2, "empty": 0, "texts": 1, "names": 0, "tags": 1, "short": 0}]),
+    (AUDIT, HI.rstrip() + b" 0.1\n" + LOST,
+     [{"kind": "judged", "slots": 2, "empty": 1, "texts": 1, "names": 0, "tags": 0, "short": 0},
+      {"kind": "few", "groups": 1, "slots": 2}]),
+    (AUDIT, b"C201 2940 4849 0D20\n", [{"kind": "nothing", "short": 1}]),
+    (DECODE, HI + b"C201 2940 4849 0D20\n", [{"kind": "short", "groups": 1}]),
+    ("decode --pi ABCD", HI + b"F201 2140 4849 0D20\n",
+     [{"kind": "no_group", "slots": 2, "first": "C201", "groups": 1, "others": 1}]),
+    (DECODE, HI.rstrip() + b" 0.0\n" + HI.rstrip() + b" 9.0\n", [{"kind": "lack", "slots": 103, "lines": 2, "start": True}]),
+    ("slots --pi C201", b"F201 2140 4849 0D20 1.0\n" + HI + HI.rstrip() + b" 9.0\n" + HI.rstrip() + b" 8.0\n",
+     [{"kind": "break", "why": "back"}, {"kind": "untimed", "groups": 1}, {"kind": "others", "lines": 1},
+      {"kind": "breaks", "count": 1}]),
+    ("slots --m 1", b"".join(HI.rstrip() + b" %d.0\n" % (at // 40) for at in range(200)) + HI.rstrip() + b" 7.0\n",
+     [{"kind": "coarse"}]),
+]
+
+
+class Objects(ProgramCase):
+    def test_each_note_is_an_object_with_its_facts_and_its_sentence(self):
+        for words, given, wanted in OBJECTS:
+            status, output, told = noted(f"{words} --json-notes", given)
+            got = [json.loads(it) for it in told.splitlines()]
+            plain = noted(words, given)
+            self.check(f"{words}: the sentences", "".join(note(it.pop("text")) for it in got), plain[2], given)
+            self.check(f"{words}: status and output", (status, output), plain[:2], given)
+            facts = [{name: it.get(name) for name in one} if one["kind"] == "coarse" else it
+                     for it, one in zip(got, wanted)]
+            self.check(f"{words}: the facts", (len(got), facts), (len(wanted), wanted), given)
+
+    def test_with_quiet_only_faults_are_objects(self):
+        got = noted(f"{ENCODE} --json-notes --quiet", b"text,HI,1,\nx\n")[2]
+        self.check("--quiet", [json.loads(it)["kind"] for it in got.splitlines()], ["fault"])
+
+    def test_a_sentence_with_quotation_marks_is_a_string(self):
+        got = json.loads(noted(f"{DECODE} --json-notes", b'"\\\x01\xff\n')[2])["text"]
+        self.check("the text", got, 'fault line 1: ""\\\\x01\\xFF": it has no space' + LOOKS)
 
 
 class WhereNotesGo(ProgramCase):

@@ -10,12 +10,12 @@ _rdsrt() {
     case $command in
         '') offered='decode audit witness slots encode sim help --help --version' ;;
         help) offered='decode audit witness slots encode sim help' ;;
-        decode) offered='--pi --m --confirm --why --quiet --help' ;;
-        witness) offered='--pi --m --lose --flag-alone --quiet --help' ;;
-        audit) offered='--pi --m --k --running --all --quiet --help' ;;
-        slots) offered='--pi --grain --m --quiet --help' ;;
-        encode) offered='--pi --m --k --pty --tp --quiet --help' ;;
-        sim) offered='--pi --m --k --pty --tp --confirm --flag-alone --why --quiet --help' ;;
+        decode) offered='--pi --m --confirm --why --quiet --json-notes --help' ;;
+        witness) offered='--pi --m --lose --flag-alone --quiet --json-notes --help' ;;
+        audit) offered='--pi --m --k --running --all --quiet --json-notes --help' ;;
+        slots) offered='--pi --grain --m --quiet --json-notes --help' ;;
+        encode) offered='--pi --m --k --pty --tp --quiet --json-notes --help' ;;
+        sim) offered='--pi --m --k --pty --tp --confirm --flag-alone --why --quiet --json-notes --help' ;;
     esac
     mapfile -t COMPREPLY < <(compgen -W "$offered" -- "$word")
 }

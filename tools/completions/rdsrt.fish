@@ -27,3 +27,4 @@ complete -c rdsrt -n "$no_help slots" -l grain -x -d 'Milliseconds by which the 
 complete -c rdsrt -n "$no_help encode sim" -l pty -x -d 'Programme type (PTY) in each group, 0 to 31'
 complete -c rdsrt -n "$no_help encode sim" -l tp -d 'Sets the TP flag in each group'
 complete -c rdsrt -n "$no_help decode audit witness slots encode sim" -l quiet -d 'Prints no warnings on standard error'
+complete -c rdsrt -n "$no_help decode audit witness slots encode sim" -l json-notes -d 'Prints each note on standard error as a JSON object'

@@ -98,9 +98,14 @@ why_rule = flag_rule (codes "why")
 abbrev pub quiet_rule : Rule
 quiet_rule = flag_rule (codes "quiet")
 
+-- `--json-notes`
+abbrev pub json_notes_rule : Rule
+json_notes_rule = flag_rule (codes "json-notes")
+
 -- a subcommand that reads a log
 unfoldable pub log_app : Text → App
-log_app name = with_rule (with_rule (with_rule (new_app name) pi_rule) dwell_rule) quiet_rule
+log_app name =
+    with_rule (with_rule (with_rule (with_rule (new_app name) pi_rule) dwell_rule) quiet_rule) json_notes_rule
 
 -- `--confirm W`, from 2 to 255, which may be given
 abbrev pub confirm_rule : Rule
@@ -136,7 +141,7 @@ timed_app name = with_rule (with_rule (new_app name) own_pi_rule) grain_rule
 
 -- the subcommand that fills a log with times
 unfoldable pub slots_app : Text → App
-slots_app name = with_rule (with_rule (timed_app name) dwell_rule) quiet_rule
+slots_app name = with_rule (with_rule (with_rule (timed_app name) dwell_rule) quiet_rule) json_notes_rule
 
 -- a subcommand with a station of its own
 unfoldable pub station_app : Text → App
@@ -176,13 +181,13 @@ TakesWords words = takes whole_app words ≡ true
 
 -- ---- the request of the arguments
 
--- the task, the argument of `--pi`, that of `--lose` or nothing, the dwell in slots, and whether warnings are left out
+-- the task, the argument of `--pi`, that of `--lose` or nothing, and the dwell in slots. `--quiet` and `--json-notes` are
+-- about notes alone
 pub record Requested : Type 0 where
   pub task : Task
   pub pi : Text
   pub lose : Text
   pub dwell : ℕ
-  pub quiet : Bool
 
 -- four hexadecimal digits of either case, and the programme identification that they spell
 pub record IsPi (given : Text) (pi : ℕ) : Type 0 where
@@ -232,9 +237,6 @@ flag_alone_in = flag_in (codes "flag-alone")
 abbrev pub why_in : List Row → Bool
 why_in = flag_in (codes "why")
 
-abbrev pub quiet_in : List Row → Bool
-quiet_in = flag_in (codes "quiet")
-
 -- an option has a value
 abbrev pub has_value : Text → List Row → Bool
 has_value name rows = is_some (first_of name rows)
@@ -277,10 +279,9 @@ task_in name rows =
     then option_map (λ grain. Slots grain (has_value (codes "pi") rows)) (grain_in rows)
     else None
 
-abbrev pub asked : Option Task → Option Text → Text → Option ℕ → Bool → Option Requested
-asked (Some task) (Some pi) lose (Some dwell) quiet =
-    Some (record { task = task; pi = pi; lose = lose; dwell = dwell; quiet = quiet })
-asked _ _ _ _ _ = None
+abbrev pub asked : Option Task → Option Text → Text → Option ℕ → Option Requested
+asked (Some task) (Some pi) lose (Some dwell) = Some (record { task = task; pi = pi; lose = lose; dwell = dwell })
+asked _ _ _ _ = None
 
 -- the argument of `--pi`; the task of `slots` says whether it is given, and 0000 stands for none
 abbrev pub pi_in : Text → List Row → Option Text
@@ -289,7 +290,7 @@ pi_in name rows =
 
 -- the request of a subcommand and its options
 abbrev pub asked_of : Text × List Row → Option Requested
-asked_of p = asked (task_in p.0 p.1) (pi_in p.0 p.1) (lose_in p.1) (dwell_in p.1) (quiet_in p.1)
+asked_of p = asked (task_in p.0 p.1) (pi_in p.0 p.1) (lose_in p.1) (dwell_in p.1)
 
 -- the request of the arguments, as `clap`'s definition reads them
 abbrev pub asked_in : List Text → Option Requested

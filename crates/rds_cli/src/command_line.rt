@@ -1,10 +1,11 @@
 //! The command line as a command of `clap`: commands, options and help texts.
 ghost use Rattle.std.specs.Prelude.{◌≡◌, IfOk, codes, false};
-ghost use Rattle.clap.specs.Words.{App, app_of, rule_of, with_subcommand};
+ghost use Rattle.clap.specs.Words.{App, app_of, new_app, rule_of, with_rule, with_subcommand};
 ghost use Rattle.clap.specs.declared.builder.command.Command.TheViews.{out-Command};
 ghost use Rattle.rds_cli.specs.CommandLine.{audit_app, confirm_rule, decode_app, dwell_rule, flag_rule, grain_rule};
 ghost use Rattle.rds_cli.specs.CommandLine.{all_rule, flag_alone_rule, late_app, late_rule};
-ghost use Rattle.rds_cli.specs.CommandLine.{log_app, number_rule, own_pi_rule, pi_rule, pty_rule, quiet_rule};
+ghost use Rattle.rds_cli.specs.CommandLine.{json_notes_rule, log_app, number_rule, own_pi_rule, pi_rule};
+ghost use Rattle.rds_cli.specs.CommandLine.{pty_rule, quiet_rule};
 ghost use Rattle.rds_cli.specs.CommandLine.{running_rule, sim_app, slots_app, station_app, timed_app, top_app, tp_rule};
 ghost use Rattle.rds_cli.specs.CommandLine.{lose_rule, whole_app, why_rule, witness_app};
 
@@ -256,6 +257,20 @@ fn quiet<'a>(alloc: Global) -> Arg<'a>
     flag(alloc, "quiet", help).display_order(100)
 }
 
+/// Makes the flag `--json-notes`. Help lists it last.
+fn json_notes<'a>(alloc: Global) -> Arg<'a>
+    ensures rule { rule_of result ≡ json_notes_rule }
+    ensures local { result.global ≡ false }
+{
+    let help = "Prints each note on standard error as a JSON object";
+    flag(alloc, "json-notes", help)
+        .display_order(101)
+        .long_help(
+            "Prints each note on standard error as one JSON object a line: its kind, its numbers and\n\
+             its sentence (text)",
+        )
+}
+
 /// The help texts of a subcommand.
 #[derive(Clone, Copy)]
 struct Page<'a> {
@@ -265,18 +280,27 @@ struct Page<'a> {
     ending: &'a str,
 }
 
-/// Makes a subcommand that reads a log.
-#[tactic(auto, unfolding(crate::specs::CommandLine::log_app))]
-fn log_reader<'a>(alloc: Global, name: &'a str, page: Page<'a>) -> Result<Command<'a>, AllocError>
-    ensures app { IfOk result (λ c. app_of c ≡ log_app name.entry.now) }
+/// Makes a subcommand that takes `--pi` and `--m`.
+fn tuned<'a>(alloc: Global, name: &'a str, page: Page<'a>) -> Result<Command<'a>, AllocError>
+    ensures app { IfOk result (λ c. app_of c ≡ with_rule (with_rule (new_app name.entry.now) pi_rule) dwell_rule) }
     ensures local { IfOk result (λ c. (out-Command c).has_globals ≡ false) }
 {
     Command::new(alloc, name)
         .about(page.about)
         .after_long_help(page.ending)
         .arg(pi(alloc))?
-        .arg(dwell(alloc))?
-        .arg(quiet(alloc))
+        .arg(dwell(alloc))
+}
+
+/// Makes a subcommand that reads a log.
+#[tactic(auto, unfolding(crate::specs::CommandLine::log_app))]
+fn log_reader<'a>(alloc: Global, name: &'a str, page: Page<'a>) -> Result<Command<'a>, AllocError>
+    ensures app { IfOk result (λ c. app_of c ≡ log_app name.entry.now) }
+    ensures local { IfOk result (λ c. (out-Command c).has_globals ≡ false) }
+{
+    tuned(alloc, name, page)?
+        .arg(quiet(alloc))?
+        .arg(json_notes(alloc))
 }
 
 /// Makes the subcommand `decode`.
@@ -417,7 +441,8 @@ fn slots<'a>(alloc: Global) -> Result<Command<'a>, AllocError>
     };
     timed_reader(alloc, "slots", page)?
         .arg(dwell(alloc))?
-        .arg(quiet(alloc))
+        .arg(quiet(alloc))?
+        .arg(json_notes(alloc))
 }
 
 /// Makes a subcommand that has a station of its own.

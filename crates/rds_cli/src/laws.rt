@@ -3,7 +3,6 @@ ghost use Rattle.std.specs.Prelude.{[], codes, false, true};
 ghost use Rattle.rds_cli.specs.CommandLine.{AskFor, AskForHelp, default_dwell};
 ghost use Rattle.rds_cli.specs.Examples.{AreNotTaken, CallForHelp, auditing, auditing_running, confirming, decoding};
 ghost use Rattle.rds_cli.specs.Examples.{decoding_why, encoding, filling, filling_one, listing_running, losing};
-ghost use Rattle.rds_cli.specs.Examples.{quietly};
 ghost use Rattle.rds_cli.specs.Examples.{simulating, simulating_flag_alone, simulating_confirmed, typed, witnessing};
 
 /// Shows the definition at work. The arguments of README's examples are taken and ask for these tasks. A dwell of 0
@@ -43,7 +42,9 @@ pub fn words_of_the_examples()
     ensures decode_short { AskFor (typed (codes "rdsrt decode --pi C201 -m 8")) (decoding (codes "C201") 8) }
     ensures sim_short { AskFor (typed (codes "rdsrt sim --pi C201 -k 2")) (simulating default_dwell 0 false 2) }
     ensures decode_quiet { AskFor (typed (codes "rdsrt decode --pi C201 --quiet"))
-        (quietly (decoding (codes "C201") default_dwell)) }
+        (decoding (codes "C201") default_dwell) }
+    ensures decode_json_notes { AskFor (typed (codes "rdsrt decode --pi C201 --json-notes"))
+        (decoding (codes "C201") default_dwell) }
     ensures decode_confirm { AskFor (typed (codes "rdsrt decode --pi C201 -m 64 --confirm 65")) (confirming 64 65) }
     ensures decode_why { AskFor (typed (codes "rdsrt decode --pi C201 --m 8 --why")) (decoding_why 8) }
     ensures audit_why { AreNotTaken (typed (codes "rdsrt audit --pi C201 --why")) }
@@ -56,7 +57,8 @@ pub fn words_of_the_examples()
         (simulating_flag_alone 8 true) }
     ensures sim_confirm { AskFor (typed (codes "rdsrt sim --pi C201 -m 64 --confirm 65")) (simulating_confirmed 64 65) }
     ensures sim_quiet { AskFor (typed (codes "rdsrt sim --quiet --pi C201 --pty 10 --tp"))
-        (quietly (simulating default_dwell 10 true 0)) }
+        (simulating default_dwell 10 true 0) }
+    ensures slots_json_notes { AskFor (typed (codes "rdsrt slots --json-notes --quiet")) (filling default_dwell 20) }
     ensures help { AskForHelp (typed (codes "rdsrt --help")) }
     ensures help_of_one { AskForHelp (typed (codes "rdsrt decode --help")) }
     ensures version { AskForHelp (typed (codes "rdsrt --version")) }

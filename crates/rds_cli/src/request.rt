@@ -76,8 +76,10 @@ pub struct Request<'a> {
     /// The argument of `--lose`, unchecked. Empty if there is none.
     pub lose: &'a str,
     pub dwell: Dwell,
-    /// Whether warnings are left out.
+    /// Whether warnings are left out. No contract speaks of it.
     pub quiet: bool,
+    /// Whether notes are JSON objects instead of sentences. No contract speaks of it.
+    pub json_notes: bool,
 }
 
 /// Reads the argument of `--pi`. `None` if it is not four hexadecimal digits, of either case.
@@ -129,6 +131,7 @@ fn request_of<'a>(name: &'a str, inner: &ArgMatches<'a>) -> Option<Request<'a>>
         lose: lose_of(inner),
         dwell: slots_of(inner, "m")?,
         quiet: is_given(inner, "quiet"),
+        json_notes: is_given(inner, "json-notes"),
     })
 }
 

@@ -2,4 +2,3 @@ pub mod Run
 pub mod RunsBy
 pub mod Timing
 pub mod Breaks
-pub mod Notes

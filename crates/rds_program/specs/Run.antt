@@ -17,12 +17,13 @@ use Rattle.rds_world.specs.declared.receiver_kind.ReceiverKind.{ReceiverKind}
 use Rattle.rds_world.specs.declared.receiver_kind.ReceiverKind.TheVariants.{FlagAlone, WithDwell}
 use Rattle.rds_world.specs.declared.world.Config.{Config}
 use Rattle.rds_audit.specs.AuditState.{start_if}
-use Rattle.rds_log.specs.Audit.{Audits}
 use Rattle.rds_log.specs.Decode.{Decodes}
-use Rattle.rds_log.specs.FaultList.{Lists}
+use Rattle.rds_log.specs.FaultList.{Audits}
 use Rattle.rds_log.specs.Fill.{Fills}
 use Rattle.rds_log.specs.LogWrites.{tuned}
 use Rattle.rds_log.specs.declared.audit_log.Auditing.{Auditing}
+use Rattle.rds_log.specs.declared.audit_log.Stop.{Stop}
+use Rattle.rds_log.specs.declared.audit_log.Stop.TheVariants.{FirstFault, LogEnd}
 use Rattle.rds_log.specs.declared.decode_log.Decoding.{Decoding}
 use Rattle.rds_log.specs.declared.filler.Filling.{Filling}
 use Rattle.rds_log.specs.declared.filler.Times.{Times}
@@ -162,11 +163,16 @@ simulated_station t programme late window alone =
 abbrev pub decoding_of : Tuning → Option ℕ → Bool → Decoding
 decoding_of t window why = record { pi = t.programme; dwell = t.dwell; window = window; says_why = why }
 
+-- where `audit` stops: with `--all` at the end of the log
+abbrev pub stop_if : Bool → Stop
+stop_if false = FirstFault
+stop_if true = LogEnd
+
 -- how `audit` judges a log: for receivers that are tuned so and whose groups come at most so late. With `running` the
 -- log begins inside the output of its station
-abbrev pub auditing_of : Tuning → ℕ → Bool → Auditing
-auditing_of t late running =
-    record { pi = t.programme; dwell = t.dwell; late = late; start = start_if running }
+abbrev pub auditing_of : Tuning → ℕ → Bool → Bool → Auditing
+auditing_of t late running all =
+    record { pi = t.programme; dwell = t.dwell; late = late; start = start_if running; stop = stop_if all }
 
 -- how `slots` fills a log for receivers that are tuned so: by this grain in microseconds, and by the lines of their
 -- programme alone or of all
@@ -225,10 +231,8 @@ TaskRuns (Encode programme late) lose t r w status =
 TaskRuns (Simulate programme late window alone why) lose t r w status =
     SimulationRuns why (simulated_station t programme late window alone) (Simulate programme late window alone why) r w
     status
-TaskRuns (Audit late running false) lose t r w status =
-    Runs (Audits (auditing_of t late running) (2 ^ 32) r.traffic) verdict_status (Audit late running false) w status
-TaskRuns (Audit late running true) lose t r w status =
-    Runs (Lists (auditing_of t late running) (2 ^ 32) r.traffic) verdict_status (Audit late running true) w status
+TaskRuns (Audit late running all) lose t r w status =
+    Runs (Audits (auditing_of t late running all) (2 ^ 32) r.traffic) verdict_status (Audit late running all) w status
 TaskRuns Witness lose t r w status = Runs (Witnesses t r.traffic) witness_status Witness w status
 TaskRuns (Lose alone) lose t r w status = LossRuns (bursts_in lose) alone t r w status
 TaskRuns (Slots grain only) lose t r w status =

@@ -3,7 +3,7 @@
 ghost use Rattle.std.specs.Prelude.{◌≡◌, ◌≤◌, length};
 ghost use Rattle.rds_program.specs.Breaks.{writer_of};
 
-use crate::note_lines::print_break;
+use crate::printing::{NoteForm, print_break};
 use memchr::memchr_iter;
 use rds_arrivals::Break;
 use rds_io::TellingWrite;
@@ -17,6 +17,7 @@ use std::mem;
 pub struct Breaks<W, N> {
     writer: W,
     screen: N,
+    form: NoteForm,
     left: Left,
 }
 
@@ -46,6 +47,7 @@ impl<W, N: TellingWrite> Breaks<W, N> {
         Breaks {
             writer,
             screen,
+            form: NoteForm::of(words),
             left: Left {
                 back: tells,
                 day: tells,
@@ -65,7 +67,7 @@ impl<W: Write, N: TellingWrite> Write for Breaks<W, N> {
     fn write(&mut self, buf: &[u8]) -> io::Result<usize> {
         let written = self.writer.write(buf)?;
         if self.left.back || self.left.day {
-            note_breaks(&buf[..written], &mut self.left, &mut self.screen);
+            note_breaks(&buf[..written], self.form, &mut self.left, &mut self.screen);
         }
         Ok(written)
     }
@@ -77,12 +79,12 @@ impl<W: Write, N: TellingWrite> Write for Breaks<W, N> {
 
 /// Prints those of the breaks left whose comments begin in these bytes, and takes them out. A number sign begins each
 /// comment in the output of `slots`, and is nowhere else in it.
-fn note_breaks<N: TellingWrite>(bytes: &[u8], left: &mut Left, screen: &mut N) {
+fn note_breaks<N: TellingWrite>(bytes: &[u8], form: NoteForm, left: &mut Left, screen: &mut N) {
     for place in memchr_iter(b'#', bytes) {
         if let Some(why) = break_at(bytes, place)
             && left.take(why)
         {
-            print_break(why, screen);
+            print_break(why, form, screen);
         }
     }
 }

@@ -1,72 +1,46 @@
 //! The words about the faults of a log.
 
-use crate::note_lines::{Line, begun, print, push, push_count};
-use crate::notes::{Options, RunNotes};
+use crate::note::FaultOf;
+use crate::note_lines::{Line, push, push_count};
+use crate::notes::RunNotes;
 use rds_audit::AuditFault;
 use rds_cli::Task;
-use rds_io::TellingWrite;
-use rds_log::{FaultCount, FaultCounts, FaultPlace, LineTime, NoNote, SegmentCause, fault_name};
+use rds_log::{FaultCount, FaultPlace, NoNote, SegmentCause, fault_name};
 use std::io::Write;
 
-/// Prints how often each fault of a log came, a line each.
-pub(crate) fn print_listed<N: TellingWrite>(run: &RunNotes, screen: &mut N) {
-    let log = &run.log;
-    for count in log.listed.before.counts {
-        if let Some(count) = count {
-            let mut line = begun();
+/// Appends how often a fault came, of so many texts or names, and where it came first and last.
+pub(crate) fn push_found(of: FaultOf, judged: u64, count: FaultCount, line: &mut Line) {
+    match of {
+        FaultOf::Before => {
             let _ = write!(line, "tags before the first text");
-            push_found(count, &mut line);
-            print(line, screen);
+        }
+        FaultOf::Text => {
+            let _ = write!(line, "{} of ", count.count);
+            push_count(judged, "text", "texts", line);
+        }
+        FaultOf::Name => {
+            let _ = write!(line, "{} of ", count.count);
+            push_count(judged, "name", "names", line);
         }
     }
-    print_counts(&log.listed.texts, log.texts, "text", "texts", screen);
-    print_counts(&log.listed.names, log.names, "name", "names", screen);
-}
-
-/// Prints how often each fault of the texts, or of the names, came.
-fn print_counts<N: TellingWrite>(
-    counts: &FaultCounts,
-    judged: u64,
-    one: &str,
-    more: &str,
-    screen: &mut N,
-) {
-    for count in counts.counts {
-        let Some(count) = count else {
-            continue;
-        };
-        let mut line = begun();
-        let _ = write!(line, "{} of ", count.count);
-        push_count(judged, one, more, &mut line);
-        push_found(count, &mut line);
-        print(line, screen);
-    }
-}
-
-/// Appends the name of a fault, and where it came first and last.
-fn push_found(count: FaultCount, line: &mut Line) {
     let _ = write!(line, ": ");
     push(fault_name(count.fault), line);
     if count.count == 1 {
         let _ = write!(line, " in ");
-        push_fault_place(count.first, line);
+        push_place(count.first, line);
         return;
     }
     let _ = write!(line, ", first in ");
-    push_fault_place(count.first, line);
+    push_place(count.first, line);
     let _ = write!(line, ", last in ");
-    push_fault_place(count.last, line);
+    push_place(count.last, line);
 }
 
-/// Appends the slot of a fault, its line and its time.
-fn push_fault_place(place: FaultPlace, line: &mut Line) {
-    push_place(place.slot, place.line, place.time, line);
-}
-
-/// Appends a slot, its line, and the time in this line, if it has one.
-fn push_place(slot: u64, number: u64, time: LineTime, line: &mut Line) {
+/// Appends the slot of a fault, its line, and the time in this line, if it has one.
+fn push_place(place: FaultPlace, line: &mut Line) {
+    let (slot, number) = (place.slot, place.line);
     let _ = write!(line, "slot {slot} (line {number}");
-    let bytes = time.bytes();
+    let bytes = place.time.bytes();
     if !bytes.is_empty() {
         let _ = write!(line, ", ");
         push(bytes.strip_prefix(b"@").unwrap_or(bytes), line);
@@ -75,11 +49,11 @@ fn push_place(slot: u64, number: u64, time: LineTime, line: &mut Line) {
 }
 
 /// Appends which rule the log breaks first, and what to try next.
-pub(crate) fn push_no(run: &RunNotes, options: Options, line: &mut Line) {
-    let Some(no) = run.log.no else {
+pub(crate) fn push_no(no: NoNote, run: &RunNotes, line: &mut Line) {
+    let Some(options) = run.options else {
         return;
     };
-    push_place(no.slot, no.line, no.time, line);
+    push_place(no.at, line);
     let _ = write!(line, ": ");
     push_rule(no, line);
     let _ = write!(

@@ -6,15 +6,17 @@ mod breaks;
 mod fault_lines;
 mod note;
 mod note_lines;
+mod note_objects;
 mod notes;
+mod printing;
 mod program;
 mod status;
 mod streams;
 mod times;
 mod words;
 
-pub use note_lines::print_notes;
 pub use notes::{End, Options, RunNotes};
+pub use printing::print_notes;
 pub use program::{run, run_with_notes};
 pub use status::{FAULT, REFUSED, no_words, write_no_memory};
 pub use streams::{Input, Output, input_of, output_of, run_over};

@@ -1,158 +1,107 @@
-//! Prints the notes of a run as lines. Each begins with `rdsrt: ` and goes out in one write.
+//! The sentences of notes.
 
-use crate::fault_lines::{print_listed, push_no};
-use crate::note::{Note, notes_of, short_texts};
-use crate::notes::{End, RunNotes};
+use crate::fault_lines::{push_found, push_no};
+use crate::note::{CoarseTimes, Judged, Note, OtherGroups};
+use crate::notes::RunNotes;
 use crate::times::Lack;
 use arrayvec::ArrayVec;
-use memchr::memchr;
-use rds_arrivals::{Break, Grain};
+use rds_arrivals::Break;
 use rds_cli::Task;
 use rds_encoder::Refusal;
-use rds_fields::Dwell;
-use rds_io::{LogFault, TellingWrite, put};
-use rds_log::{BadStart, Gap, comment_of};
-use rds_script::Thing;
-use std::io::{self, ErrorKind, Write};
+use rds_log::{BadStart, LogFault, comment_of};
+use rds_script::{EarlySet, Thing};
+use std::io::{self, Write};
 
 /// The most bytes of a note. All notes are shorter.
-const ROOM: usize = 1024;
+const ROOM: usize = 2048;
 
 /// The beginning of a note.
-const BEGUN: &[u8] = b"rdsrt: ";
-
-/// The beginning of `clap`'s text on a word that no option takes.
-const NO_OPTION: &[u8] = b"error: unexpected argument '";
-
-/// The most bytes of such a word in a note.
-const LONGEST_NAME: usize = 200;
+pub(crate) const BEGUN: &[u8] = b"rdsrt: ";
 
 /// The bytes of an unfinished note.
 pub(crate) type Line = ArrayVec<u8, ROOM>;
 
-/// Prints why the arguments were refused, as `clap` says it.
-pub fn print_refusal<N: TellingWrite>(notes: &RunNotes, screen: &mut N) {
-    let _ = put(notes.refused.as_slice(), screen);
-}
-
-/// Prints how a command takes a file, if its arguments were refused because of the name of one.
-pub fn print_input<N: TellingWrite>(notes: &RunNotes, words: &[&str], screen: &mut N) {
-    let Some(command) = words.get(1) else {
-        return;
-    };
-    let refused = notes.refused.as_slice();
-    if !refused.starts_with(NO_OPTION) {
-        return;
-    }
-    let name = match refused.get(NO_OPTION.len()..) {
-        Some(rest) => name_in(rest),
-        None => return,
-    };
-    // a PI without its option, or an option that does not exist
-    if memchr(b'.', name).is_none() || name.starts_with(b"-") {
-        return;
-    }
-    let mut line = begun();
-    let _ = write!(
-        line,
-        "{command} reads standard input: rdsrt {command} .. < "
-    );
-    push(name, &mut line);
-    print(line, screen);
-}
-
-/// Returns the bytes before a quotation mark, up to `LONGEST_NAME` of them.
-fn name_in(quoted: &[u8]) -> &[u8] {
-    let end = memchr(b'\'', quoted).unwrap_or(quoted.len());
-    &quoted[..end.min(LONGEST_NAME)]
-}
-
-/// Prints the notes of a run. `reason` is the system's error of a failed read or write.
-pub fn print_notes<N: TellingWrite>(run: &RunNotes, reason: Option<&io::Error>, screen: &mut N) {
-    let notes = notes_of(run, lack_of(run).is_some(), is_gone(reason));
-    for note in notes.as_slice() {
-        match *note {
-            Note::Listed => print_listed(run, screen),
-            note => print(line_of(note, run, reason), screen),
-        }
-    }
-}
-
-/// Returns the words of a note.
-fn line_of(note: Note, run: &RunNotes, reason: Option<&io::Error>) -> Line {
-    let mut line = begun();
-    let Some(options) = run.options else {
-        return line;
-    };
+/// Appends the sentence of a note. `reason` is the system's error of a failed read or write.
+pub(crate) fn push_note(note: Note, run: &RunNotes, reason: Option<&io::Error>, line: &mut Line) {
     match note {
-        Note::Listed => {}
-        Note::SetTooEarly => push_wait(run, &mut line),
-        Note::BrokenRule => push_no(run, options, &mut line),
-        Note::Lacking => push_lack(lack_of(run), &mut line),
-        Note::Untimed => push_untimed(run.slots.untimed, &mut line),
-        Note::OthersLeftOut => push_others(run, &mut line),
-        Note::Coarse => push_coarse(options.task, options.dwell, run, &mut line),
-        Note::Breaks => push_breaks(run.slots.breaks, &mut line),
-        Note::NoGroup => push_no_group(options.task, run, &mut line),
-        Note::NothingToRead => push_nothing(options.task, run, &mut line),
-        Note::Judged => push_judged(run, &mut line),
-        Note::ShortTexts => push_short(run, "", "read", &mut line),
-        Note::BadPi => push_pi(run.pi.as_slice(), &mut line),
-        Note::BadWindow => push_window(&mut line),
-        Note::BadSpans => push_spans(&mut line),
-        Note::Fault => push_fault(options.task, run, reason, &mut line),
+        Note::SetTooEarly(wait) => push_wait(wait, line),
+        Note::BrokenRule(no) => push_no(no, run, line),
+        Note::Found(of, judged, count) => push_found(of, judged, count, line),
+        Note::Lacking(lack) => push_lack(lack, line),
+        Note::Untimed(groups) => push_untimed(groups, line),
+        Note::OthersLeftOut(lines) => push_others(lines, run, line),
+        Note::Coarse(coarse) => push_coarse(coarse, line),
+        Note::Breaks(count) => push_breaks(count, line),
+        Note::Break(why) => push_break(why, line),
+        Note::NoGroup(other) => push_no_group(other, run, line),
+        Note::NothingToRead(short) => push_nothing(short, run, line),
+        Note::Judged(judged) => push_judged(judged, line),
+        Note::Few(groups, slots) => push_few(groups, slots, run, line),
+        Note::ShortTexts(short) => push_short(short, "", "read", line),
+        Note::BadPi => push_pi(run.pi.as_slice(), line),
+        Note::BadWindow => push_window(line),
+        Note::BadSpans => push_spans(line),
+        Note::Fault(fault) => push_fault(fault, run, reason, line),
     }
-    line
+}
+
+/// Returns the command of a run.
+fn task_of(run: &RunNotes) -> Option<Task> {
+    match run.options {
+        Some(options) => Some(options.task),
+        None => None,
+    }
 }
 
 /// Appends that the programme has no group of a text, a name or tags.
-fn push_nothing(task: Task, run: &RunNotes, line: &mut Line) {
-    // Prover: a value is copied by a new name before its second use (docs/PROVER.md, "Workarounds").
-    let asked = task;
+fn push_nothing(short: u64, run: &RunNotes, line: &mut Line) {
     let _ = write!(line, "no 2A, 10A or 11A group of ");
     push(run.pi.as_slice(), line);
-    let _ = write!(line, "{}", nothing_said(task));
-    let verb = match asked {
-        Task::Audit { .. } => "judged",
-        Task::Decode { .. }
-        | Task::Encode(..)
-        | Task::Simulate { .. }
-        | Task::Witness
-        | Task::Lose { .. }
-        | Task::Slots(..) => "read",
+    let _ = write!(line, "{}", nothing_said(run));
+    let verb = match task_of(run) {
+        Some(Task::Audit { .. }) => "judged",
+        Some(_) | None => "read",
     };
-    push_short(run, "; ", verb, line);
+    push_short(short, "; ", verb, line);
 }
 
 /// Appends, after these words, that groups 2B were not read or judged, if there were some.
-fn push_short(run: &RunNotes, join: &str, verb: &str, line: &mut Line) {
-    let count = short_texts(&run.log.heard.counts);
-    if count == 0 {
+fn push_short(short: u64, join: &str, verb: &str, line: &mut Line) {
+    if short == 0 {
         return;
     }
     let _ = write!(line, "{join}");
-    push_count(count, "group 2B was", "groups 2B were", line);
+    push_count(short, "group 2B was", "groups 2B were", line);
     let _ = write!(line, " not {verb}");
 }
 
 /// Appends what an audit judged.
-fn push_judged(run: &RunNotes, line: &mut Line) {
-    let texts = run.log.texts;
-    let names = run.log.names;
-    let slots = run.log.slots;
-    let empty = slots.saturating_sub(run.log.heard.counts.total());
+fn push_judged(judged: Judged, line: &mut Line) {
     let _ = write!(line, "judged in ");
-    push_count(slots, "slot", "slots", line);
+    push_count(judged.slots, "slot", "slots", line);
+    let empty = judged.empty;
     if empty > 0 {
         let _ = write!(line, ", {empty} without a group");
     }
     let _ = write!(line, ": ");
-    push_count(texts, "text", "texts", line);
+    push_count(judged.texts, "text", "texts", line);
     let _ = write!(line, ", ");
-    push_count(names, "name", "names", line);
+    push_count(judged.names, "name", "names", line);
     let _ = write!(line, ", ");
-    push_count(run.log.tags, "pair of tags", "pairs of tags", line);
-    push_short(run, "; ", "judged", line);
+    push_count(judged.tags, "pair of tags", "pairs of tags", line);
+    push_short(judged.short, "; ", "judged", line);
+}
+
+/// Appends that a log with times has a group of the programme in few of its slots.
+fn push_few(groups: u64, slots: u64, run: &RunNotes, line: &mut Line) {
+    let _ = write!(line, "{groups} of ");
+    push_count(slots, "slot has", "slots have", line);
+    let _ = write!(line, " a group of ");
+    push(run.pi.as_slice(), line);
+    let _ = write!(
+        line,
+        ", less than nine tenths: the yes says nothing of what was sent in the others"
+    );
 }
 
 /// Appends a number of things.
@@ -162,20 +111,17 @@ pub(crate) fn push_count(count: u64, one: &str, more: &str, line: &mut Line) {
 }
 
 /// Returns the end of a note on a log with nothing to read: what the answer is worth.
-fn nothing_said(task: Task) -> &'static str {
-    match task {
-        Task::Audit { .. } => ": the yes says nothing",
-        Task::Witness => ": the search says nothing",
-        Task::Lose { .. } => ": the answer says nothing",
-        Task::Decode { .. } | Task::Encode(..) | Task::Simulate { .. } | Task::Slots(..) => "",
+fn nothing_said(run: &RunNotes) -> &'static str {
+    match task_of(run) {
+        Some(Task::Audit { .. }) => ": the yes says nothing",
+        Some(Task::Witness) => ": the search says nothing",
+        Some(Task::Lose { .. }) => ": the answer says nothing",
+        Some(_) | None => "",
     }
 }
 
 /// Appends that something was set too early, and in which slot it can be accepted.
-fn push_wait(run: &RunNotes, line: &mut Line) {
-    let Some(wait) = run.script.wait else {
-        return;
-    };
+fn push_wait(wait: EarlySet, line: &mut Line) {
     let thing = match wait.thing {
         Thing::Text => "text",
         Thing::Name => "name",
@@ -205,56 +151,26 @@ fn push_wait(run: &RunNotes, line: &mut Line) {
 }
 
 /// Appends that the log has no group of the wanted programme, and which programmes it has.
-fn push_no_group(task: Task, run: &RunNotes, line: &mut Line) {
-    let heard = run.log.heard;
-    let slots = run.log.slots;
+fn push_no_group(other: OtherGroups, run: &RunNotes, line: &mut Line) {
     let _ = write!(line, "no group of ");
     push(run.pi.as_slice(), line);
     let _ = write!(line, " in ");
-    push_count(slots, "slot", "slots", line);
-    let count = heard.of_first;
-    let others = heard.groups.saturating_sub(count);
-    if let Some(first) = heard.first {
+    push_count(other.slots, "slot", "slots", line);
+    let (count, others) = (other.of_first, other.others);
+    if let Some(first) = other.first {
         let _ = write!(line, " ({first:04X}: {count}");
         if others > 0 {
             let _ = write!(line, ", others: {others}");
         }
         let _ = write!(line, ")");
     }
-    let _ = write!(line, "{}", nothing_said(task));
-}
-
-/// Returns by how much a log has too few lines for its times. After a no the first lines decide: the log was not read to
-/// its end.
-fn lack_of(run: &RunNotes) -> Option<Lack> {
-    let times = run.times.as_ref()?;
-    match run.end {
-        End::Done if run.log.no.is_none() => times.lack(run.log.slots),
-        End::Done => times.early_lack(),
-        End::NotRun | End::BadPi | End::BadWindow | End::BadSpans | End::Fault(_) => None,
-    }
-}
-
-/// Prints that a log spans more slots by its times than it has lines.
-pub(crate) fn print_lack<N: TellingWrite>(lack: Lack, screen: &mut N) {
-    let mut line = begun();
-    push_lack(Some(lack), &mut line);
-    print(line, screen);
+    let _ = write!(line, "{}", nothing_said(run));
 }
 
 /// Appends that a log, or its start, spans more slots by its times than it has lines.
-fn push_lack(lack: Option<Lack>, line: &mut Line) {
-    let Some(
-        Lack {
-            slots,
-            lines,
-            is_of_start,
-        },
-    ) = lack
-    else {
-        return;
-    };
-    if is_of_start {
+fn push_lack(lack: Lack, line: &mut Line) {
+    let (slots, lines) = (lack.slots, lack.lines);
+    if lack.is_of_start {
         let _ = write!(line, "the first ");
         push_count(lines, "line spans", "lines span", line);
         let _ = write!(line, " {slots} slots by the times in them");
@@ -265,21 +181,18 @@ fn push_lack(lack: Option<Lack>, line: &mut Line) {
     let _ = write!(line, ": put rdsrt slots before this command");
 }
 
-/// Prints that nobody knows how many slots were lost at a break of a log, and why.
-pub(crate) fn print_break<N: TellingWrite>(why: Break, screen: &mut N) {
+/// Appends that nobody knows how many slots were lost at a break of a log, and why.
+fn push_break(why: Break, line: &mut Line) {
     let comment = comment_of(why);
-    let mut line = begun();
-    push(comment.strip_prefix(b"# ").unwrap_or(comment), &mut line);
+    push(comment.strip_prefix(b"# ").unwrap_or(comment), line);
     let _ = write!(
         line,
         ": nobody knows how many slots were lost, so M lost slots stand for them"
     );
-    print(line, screen);
 }
 
 /// Appends how many lines of other programmes were left out.
-fn push_others(run: &RunNotes, line: &mut Line) {
-    let others = run.slots.others;
+fn push_others(others: u64, run: &RunNotes, line: &mut Line) {
     push_count(
         others,
         "line of another programme than ",
@@ -319,42 +232,28 @@ fn push_left_out(count: u64, line: &mut Line) {
 
 /// Appends that the times of a log are too coarse, with the slots of the newest stretch that shows it, and what else may
 /// be the cause.
-fn push_coarse(task: Task, dwell: Dwell, run: &RunNotes, line: &mut Line) {
-    let Some(stretch) = run.slots.coarse else {
-        return;
-    };
-    let Task::Slots(grain, _) = task else {
-        return;
-    };
-    let slots = stretch.slots;
-    let room = stretch.room(Grain::of_milliseconds(grain));
+fn push_coarse(coarse: CoarseTimes, line: &mut Line) {
+    let room = coarse.room;
     let _ = write!(line, "the times vary by more than the grain: ");
-    push_count(slots, "slot was", "slots were", line);
+    push_count(coarse.slots, "slot was", "slots were", line);
     let _ = write!(
         line,
         " counted where a station sends {room} at most, so slots may be missing elsewhere. Do not audit this output. \
          If the recording lost nothing, audit the log itself"
     );
-    push_jump(run.slots.gap, dwell, line);
-    if let Some(number) = run.slots.misfit {
+    if let Some(gap) = coarse.gap {
+        let (lost, number) = (gap.lost, gap.line);
+        let _ = write!(
+            line,
+            ". The longest gap has {lost} lost slots, before line {number}: if a clock was set there, cut the log in two"
+        );
+    }
+    if let Some(number) = coarse.misfit {
         let _ = write!(
             line,
             ". A line without a group before line {number} has a time that does not fit the group of that line"
         );
     }
-}
-
-/// Appends the longest gap of a log, if a clock may have been set in it: more than M slots were lost.
-fn push_jump(gap: Gap, dwell: Dwell, line: &mut Line) {
-    let lost = gap.lost;
-    if lost <= u32::from(dwell.get()) {
-        return;
-    }
-    let _ = write!(
-        line,
-        ". The longest gap has {lost} lost slots, before line {}: if a clock was set there, cut the log in two",
-        gap.line
-    );
 }
 
 /// Appends why a PI code was refused.
@@ -385,17 +284,14 @@ fn push_spans(line: &mut Line) {
 }
 
 /// Appends a fault of the log or script, of the input or of the output.
-fn push_fault(task: Task, run: &RunNotes, reason: Option<&io::Error>, line: &mut Line) {
-    let End::Fault(fault) = run.end else {
-        return;
-    };
+fn push_fault(fault: LogFault, run: &RunNotes, reason: Option<&io::Error>, line: &mut Line) {
     match fault {
         LogFault::BadLine(number) => push_bad_line(number, bad_of(run), line),
         LogFault::BadRow(number) => push_bad_row(number, run, line),
         LogFault::Read => push_failed("fault read: reading standard input failed", reason, line),
         LogFault::Write => push_failed("writing standard output failed", reason, line),
-        LogFault::TooLong => push_too_long(task, line),
-        LogFault::Memory => push_no_memory(task, line),
+        LogFault::TooLong => push_too_long(run, line),
+        LogFault::Memory => push_no_memory(run, line),
     }
 }
 
@@ -407,14 +303,6 @@ fn bad_of(run: &RunNotes) -> &Option<BadStart> {
     &run.log.bad
 }
 
-/// Returns whether the reader of a pipe has gone.
-fn is_gone(reason: Option<&io::Error>) -> bool {
-    match reason {
-        Some(error) => error.kind() == ErrorKind::BrokenPipe,
-        None => false,
-    }
-}
-
 /// Appends a failure with the system's reason.
 fn push_failed(what: &str, reason: Option<&io::Error>, line: &mut Line) {
     let _ = write!(line, "{what}");
@@ -424,9 +312,9 @@ fn push_failed(what: &str, reason: Option<&io::Error>, line: &mut Line) {
 }
 
 /// Appends that memory is out, and for a script what else it may be.
-fn push_no_memory(task: Task, line: &mut Line) {
+fn push_no_memory(run: &RunNotes, line: &mut Line) {
     let _ = write!(line, "fault memory: out of memory");
-    if reads_script(task) {
+    if reads_script(run) {
         let _ = write!(
             line,
             ", or a line of the script has more than 65,536 commas"
@@ -435,8 +323,8 @@ fn push_no_memory(task: Task, line: &mut Line) {
 }
 
 /// Appends that the input is too long.
-fn push_too_long(task: Task, line: &mut Line) {
-    let unit = if reads_script(task) { "rows" } else { "reads" };
+fn push_too_long(run: &RunNotes, line: &mut Line) {
+    let unit = if reads_script(run) { "rows" } else { "reads" };
     let _ = write!(
         line,
         "fault too long: the input has 4294967296 {unit} or more"
@@ -469,7 +357,7 @@ pub(crate) fn push(bytes: &[u8], line: &mut Line) {
 }
 
 /// Appends the first bytes of a text between quotation marks, with `\xHH` for a byte that is not printable ASCII.
-fn push_shown(bytes: &[u8], line: &mut Line) {
+pub(crate) fn push_shown(bytes: &[u8], line: &mut Line) {
     let _ = write!(line, "\"");
     for &byte in bytes {
         let _ = if byte.is_ascii_graphic() || byte == b' ' {
@@ -482,15 +370,8 @@ fn push_shown(bytes: &[u8], line: &mut Line) {
 }
 
 /// Returns whether the command reads a script instead of a log.
-fn reads_script(task: Task) -> bool {
-    match task {
-        Task::Encode(..) | Task::Simulate { .. } => true,
-        Task::Decode { .. }
-        | Task::Audit { .. }
-        | Task::Witness
-        | Task::Lose { .. }
-        | Task::Slots(..) => false,
-    }
+fn reads_script(run: &RunNotes) -> bool {
+    matches!(task_of(run), Some(Task::Encode(..) | Task::Simulate { .. }))
 }
 
 /// Returns the beginning of a note.
@@ -498,10 +379,4 @@ pub(crate) fn begun() -> Line {
     let mut line = Line::new();
     push(BEGUN, &mut line);
     line
-}
-
-/// Ends a note, and prints it as far as the writer takes it.
-pub(crate) fn print<N: TellingWrite>(mut line: Line, screen: &mut N) {
-    let _ = writeln!(line);
-    let _ = put(line.as_slice(), screen);
 }

@@ -38,6 +38,8 @@ pub struct Options {
     pub dwell: Dwell,
     /// Whether warnings are left out.
     pub quiet: bool,
+    /// Whether notes are JSON objects instead of sentences.
+    pub json_notes: bool,
 }
 
 /// Notes of a run (this project's own rule).
@@ -68,7 +70,7 @@ impl RunNotes {
             options: None,
             pi: ArrayVec::new(),
             refused: ArrayVec::new(),
-            log: LogNotes::new(0),
+            log: LogNotes::new(),
             times: None,
             slots: SlotNotes::new(),
             script: ScriptNotes::new(),

@@ -26,8 +26,8 @@ use rds_cli::{Programme, Request, Task, identification_of, read_words};
 use rds_fields::{Dwell, Head, Late};
 use rds_io::{Lines, LogFault, TellingRead, TellingWrite, put};
 use rds_log::{
-    Auditing, Decoding, Filling, MOST_READS, Times, audit_with_notes, decode_with_notes,
-    fill_with_notes, list_with_notes,
+    Auditing, Decoding, Filling, MOST_READS, Stop, Times, audit_with_notes, decode_with_notes,
+    fill_with_notes,
 };
 use rds_receiver::Window;
 use rds_script::{Form, MOST_RECORDS, Playing, play_script};
@@ -150,6 +150,7 @@ fn answer<R: TellingRead, W: TellingWrite>(
         task: request.task,
         dwell: request.dwell,
         quiet: request.quiet,
+        json_notes: request.json_notes,
     });
     let _ = notes.pi.write(request.pi.as_bytes());
     let Some(pi) = identification_of(request.pi) else {
@@ -216,14 +217,9 @@ fn run_task<R: TellingRead, W: TellingWrite>(
                 dwell,
                 late,
                 start: start_of(running),
+                stop: stop_of(lists_all),
             };
-            let log = &mut notes.log;
-            let audited = if lists_all {
-                list_with_notes(reader, writer, auditing, MOST_READS, log)
-            } else {
-                audit_with_notes(reader, writer, auditing, MOST_READS, log)
-            };
-            match audited {
+            match audit_with_notes(reader, writer, auditing, MOST_READS, &mut notes.log) {
                 Ok(passed) => answer_by(passed, OK, NO, &mut notes.end),
                 Err(fault) => fail_with(asked, fault, writer, &mut notes.end),
             }
@@ -402,6 +398,17 @@ fn start_of(running: bool) -> LogStart
         LogStart::Running
     } else {
         LogStart::Complete
+    }
+}
+
+/// Returns where an audit stops.
+fn stop_of(lists_all: bool) -> Stop
+    ensures { result ≡ specs.stop_if lists_all }
+{
+    if lists_all {
+        Stop::LogEnd
+    } else {
+        Stop::FirstFault
     }
 }
 

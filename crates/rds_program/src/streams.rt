@@ -7,8 +7,8 @@ ghost use Rattle.rds_program.specs.Run.{IsUntouched, RunsWords, TaskRuns, reader
 ghost use Rattle.rds_program.specs.Timing.{inner_of as timed};
 
 use crate::breaks::Breaks;
-use crate::note_lines::{print_input, print_notes, print_refusal};
 use crate::notes::RunNotes;
+use crate::printing::{print_input, print_notes, print_refusal};
 use crate::program::run_with_notes;
 use crate::times::Timing;
 use rds_io::{Prompting, Reasoned, TellingWrite, Told, prompt_for};

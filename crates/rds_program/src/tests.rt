@@ -20,6 +20,7 @@ fn too_long(rt: HostRuntime) -> Result<(), Fail> {
             },
             dwell: Dwell::new(128).ok_or("dwell")?,
             quiet,
+            json_notes: false,
         });
         let mut told = Vec::new(rt.alloc());
         print_notes(&notes, None, &mut Told::new(&mut told));

@@ -4,7 +4,7 @@ ghost use Rattle.std.specs.Prelude.{◌≡◌, ◌<◌, IsTrue, length};
 ghost use Rattle.rds_program.specs.Timing.{inner_of};
 
 use crate::breaks::break_at;
-use crate::note_lines::print_lack;
+use crate::printing::{NoteForm, print_lack};
 use arrayvec::ArrayVec;
 use memchr::{memchr_iter, memrchr};
 use rds_arrivals::{Grain, lost_between, slots_in, stamp_in};
@@ -63,6 +63,11 @@ impl LogTimes {
             lines: 0,
             early: 0,
         }
+    }
+
+    /// Returns whether a line had a time.
+    pub(crate) fn has_times(&self) -> bool {
+        self.first.is_some()
     }
 
     /// Takes the bytes of a read.
@@ -199,6 +204,7 @@ fn time_of(line: &[u8]) -> Option<u64> {
 pub struct Timing<R, N> {
     reader: R,
     screen: Option<N>,
+    form: NoteForm,
     /// The times so far. `None` if the command does not want them, or they were noted.
     times: Option<LogTimes>,
 }
@@ -217,6 +223,7 @@ impl<R, N: TellingWrite> Timing<R, N> {
         Timing {
             reader,
             screen,
+            form: NoteForm::of(words),
             times,
         }
     }
@@ -249,7 +256,7 @@ impl<R, N: TellingWrite> Timing<R, N> {
         if let Some(lack) = times.early_lack()
             && let Some(screen) = &mut self.screen
         {
-            print_lack(lack, screen);
+            print_lack(lack, self.form, screen);
             self.times = None;
         }
     }

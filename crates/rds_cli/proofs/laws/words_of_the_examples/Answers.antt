@@ -31,6 +31,7 @@ returns c = record {
   decode_short = record { taken = refl; ask = refl };
   sim_short = record { taken = refl; ask = refl };
   decode_quiet = record { taken = refl; ask = refl };
+  decode_json_notes = record { taken = refl; ask = refl };
   decode_confirm = record { taken = refl; ask = refl };
   decode_why = record { taken = refl; ask = refl };
   audit_why = record { taken = refl; refused = refl };
@@ -41,6 +42,7 @@ returns c = record {
   sim_why = record { taken = refl; ask = refl };
   sim_confirm = record { taken = refl; ask = refl };
   sim_quiet = record { taken = refl; ask = refl };
+  slots_json_notes = record { taken = refl; ask = refl };
   help = refl;
   help_of_one = refl;
   version = refl;

@@ -1,20 +1,20 @@
 use Rattle.std.proofs.Common.{◌≡◌, ◌∙◌, Option, None, Some, ap, refl, sym}
-use Rattle.std.specs.Prelude.{ℕ, Bool, option_map}
+use Rattle.std.specs.Prelude.{ℕ, option_map}
 use Rattle.clap.specs.Words.{Text, found_of, rows_of}
 use Rattle.rds_cli.specs.Asks.{asked_by}
-use Rattle.rds_cli.specs.CommandLine.{asked, dwell_in, lose_in, pi_in, quiet_in, task_in}
+use Rattle.rds_cli.specs.CommandLine.{asked, dwell_in, lose_in, pi_in, task_in}
 use Rattle.rds_cli.specs.declared.request.Task.{Task}
 use Rattle.rds_cli.proofs.request.request_of.Goals as goal
 
-no_text : (task : Option Task) (lose : Text) (dwell : Option ℕ) (quiet : Bool) → asked task None lose dwell quiet ≡ None
-no_text None lose dwell quiet = refl
-no_text (Some task) lose dwell quiet = refl
+no_text : (task : Option Task) (lose : Text) (dwell : Option ℕ) → asked task None lose dwell ≡ None
+no_text None lose dwell = refl
+no_text (Some task) lose dwell = refl
 
 pub returns-in_err-pi_of : goal.returns-in_err-pi_of
 returns-in_err-pi_of c =
     let rows = rows_of (found_of c.args.inner.now) in
     let pi : pi_in c.args.name.now rows ≡ None = sym c.pi_of.ensures ∙ ap (option_map (λ s. s.now)) c.in_err-pi_of.was in
-    let none = ap (λ (x : Option Text). asked (task_in c.args.name.now rows) x (lose_in rows) (dwell_in rows) (quiet_in rows)) pi ∙ no_text (task_in c.args.name.now rows) (lose_in rows) (dwell_in rows) (quiet_in rows) in
+    let none = ap (λ (x : Option Text). asked (task_in c.args.name.now rows) x (lose_in rows) (dwell_in rows)) pi ∙ no_text (task_in c.args.name.now rows) (lose_in rows) (dwell_in rows) in
     ap (option_map asked_by) c.from_residual-in_err-pi_of.ensures ∙ sym none
 
 pub returns : goal.returns
@@ -23,6 +23,5 @@ returns c =
     let pi : pi_in c.args.name.now rows ≡ Some c.in_ok-pi_of.field-0.now = sym c.pi_of.ensures ∙ ap (option_map (λ s. s.now)) c.in_ok-pi_of.was in
     let task = sym c.task_of.ensures ∙ c.in_ok-task_of.was in
     let dwell = sym c.slots_of.ensures ∙ c.in_ok-slots_of.was in
-    let quiet : quiet_in rows ≡ c.is_given.result = sym c.is_given.ensures in
     let lose : lose_in rows ≡ c.lose_of.result.now = sym c.lose_of.ensures in
-    sym (rw (task, pi, lose, dwell, quiet) refl)
+    sym (rw (task, pi, lose, dwell) refl)

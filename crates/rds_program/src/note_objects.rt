@@ -1,0 +1,258 @@
+//! The objects of notes: one JSON object a note, with its kind, its facts and its sentence. Slots count from 0, lines and
+//! rows from 1.
+
+use crate::note::{FaultOf, Note};
+use crate::note_lines::{BEGUN, Line, push};
+use rds_arrivals::Break;
+use rds_audit::AuditFault;
+use rds_encoder::Refusal;
+use rds_log::{FaultCount, FaultPlace, LogFault, NoNote, SegmentCause, fault_name};
+use rds_script::{EarlySet, Thing};
+use std::io::Write;
+
+/// Appends the object of a note with this sentence.
+pub(crate) fn push_object(note: Note, sentence: &[u8], line: &mut Line) {
+    match note {
+        Note::SetTooEarly(wait) => push_wait(wait, line),
+        Note::BrokenRule(no) => push_no(no, line),
+        Note::Found(of, judged, count) => push_found(of, judged, count, line),
+        Note::Lacking(lack) => {
+            push_kind("lack", line);
+            push_number("slots", lack.slots, line);
+            push_number("lines", lack.lines, line);
+            push_flag("start", lack.is_of_start, line);
+        }
+        Note::Untimed(groups) => push_one("untimed", "groups", groups, line),
+        Note::OthersLeftOut(lines) => push_one("others", "lines", lines, line),
+        Note::Coarse(coarse) => {
+            push_kind("coarse", line);
+            push_number("slots", coarse.slots, line);
+            push_number("room", coarse.room, line);
+            if let Some(gap) = coarse.gap {
+                push_number("gap", u64::from(gap.lost), line);
+                push_number("gap_line", gap.line, line);
+            }
+            push_known("misfit", coarse.misfit, line);
+        }
+        Note::Breaks(count) => push_one("breaks", "count", count, line),
+        Note::Break(why) => {
+            push_kind("break", line);
+            push_text("why", break_name(why), line);
+        }
+        Note::NoGroup(other) => {
+            push_kind("no_group", line);
+            push_number("slots", other.slots, line);
+            if let Some(first) = other.first {
+                let _ = write!(line, ",\"first\":\"{first:04X}\"");
+            }
+            push_number("groups", other.of_first, line);
+            push_number("others", other.others, line);
+        }
+        Note::NothingToRead(short) => push_one("nothing", "short", short, line),
+        Note::Judged(judged) => {
+            push_kind("judged", line);
+            push_number("slots", judged.slots, line);
+            push_number("empty", judged.empty, line);
+            push_number("texts", judged.texts, line);
+            push_number("names", judged.names, line);
+            push_number("tags", judged.tags, line);
+            push_number("short", judged.short, line);
+        }
+        Note::Few(groups, slots) => {
+            push_kind("few", line);
+            push_number("groups", groups, line);
+            push_number("slots", slots, line);
+        }
+        Note::ShortTexts(short) => push_one("short", "groups", short, line),
+        Note::BadPi => push_fault("pi", line),
+        Note::BadWindow => push_fault("confirm", line),
+        Note::BadSpans => push_fault("lose", line),
+        Note::Fault(fault) => push_log_fault(fault, line),
+    }
+    push_text(
+        "text",
+        sentence.strip_prefix(BEGUN).unwrap_or(sentence),
+        line,
+    );
+    push(b"}", line);
+}
+
+/// Appends the facts of something that was set too early.
+fn push_wait(wait: EarlySet, line: &mut Line) {
+    push_kind("refused", line);
+    push_number("slot", wait.slot, line);
+    let set: &[u8] = match wait.thing {
+        Thing::Text => b"text",
+        Thing::Name => b"name",
+        Thing::Tags => b"tags",
+    };
+    push_text("set", set, line);
+    match wait.refusal {
+        Refusal::Silent(slots) => push_slots_more(b"silent", slots, line),
+        Refusal::Held(slots) => push_slots_more(b"held", slots, line),
+        Refusal::NoText | Refusal::OutOfText(_) => {}
+    }
+}
+
+/// Appends why it was refused, and for how many slots more.
+fn push_slots_more(why: &[u8], slots: u32, line: &mut Line) {
+    push_text("why", why, line);
+    push_number("slots", u64::from(slots), line);
+}
+
+/// Appends the facts of the rule that a log breaks first.
+fn push_no(no: NoNote, line: &mut Line) {
+    push_kind("no", line);
+    push_text("fault", fault_name(no.fault), line);
+    let of: &[u8] = match no.fault {
+        AuditFault::EarlyTag | AuditFault::TagOutside => b"tags",
+        AuditFault::Changed | AuditFault::NotOneText | AuditFault::EarlyFlag => {
+            if no.of_name { b"name" } else { b"text" }
+        }
+    };
+    push_text("of", of, line);
+    push_place("", no.at, line);
+    push_known("earlier", no.earlier, line);
+    push_known("first", no.first, line);
+    if let Some(pause) = no.paused {
+        push_known("pause_from", pause.from, line);
+        push_number("pause_until", pause.until, line);
+    }
+    push_number("needed", u64::from(no.spacing), line);
+    push_cause(no.cause, line);
+}
+
+/// Appends what is wrong with a segment.
+fn push_cause(cause: Option<SegmentCause>, line: &mut Line) {
+    match cause {
+        None => {}
+        Some(SegmentCause::Byte(byte, place)) => push_byte(b"byte", byte, place, line),
+        Some(SegmentCause::AfterReturn(byte, place)) => push_byte(
+            b"after return",
+            byte,
+            place,
+            line,
+        ),
+        Some(SegmentCause::PastReturn(place)) => {
+            push_text("cause", b"past return", line);
+            push_number("place", u64::from(place), line);
+        }
+        Some(SegmentCause::EarlyReturn(place)) => {
+            push_text("cause", b"early return", line);
+            push_number("place", u64::from(place), line);
+        }
+    }
+}
+
+/// Appends a byte that is wrong, and its place.
+fn push_byte(cause: &[u8], byte: u8, place: u8, line: &mut Line) {
+    push_text("cause", cause, line);
+    push_number("byte", u64::from(byte), line);
+    push_number("place", u64::from(place), line);
+}
+
+/// Appends how often a fault came.
+fn push_found(of: FaultOf, judged: u64, count: FaultCount, line: &mut Line) {
+    push_kind("faults", line);
+    push_text("fault", fault_name(count.fault), line);
+    let of: &[u8] = match of {
+        FaultOf::Before => b"before",
+        FaultOf::Text => b"text",
+        FaultOf::Name => b"name",
+    };
+    push_text("of", of, line);
+    push_number("count", count.count, line);
+    push_number("judged", judged, line);
+    push_place("first_", count.first, line);
+    push_place("last_", count.last, line);
+}
+
+/// Appends a slot, its line and the time in this line, by names with this beginning.
+fn push_place(begin: &str, place: FaultPlace, line: &mut Line) {
+    let (slot, number) = (place.slot, place.line);
+    let _ = write!(line, ",\"{begin}slot\":{slot},\"{begin}line\":{number}");
+    let bytes = place.time.bytes();
+    if !bytes.is_empty() {
+        let _ = write!(line, ",\"{begin}time\":");
+        push_string(bytes.strip_prefix(b"@").unwrap_or(bytes), line);
+    }
+}
+
+/// Appends the facts of a fault of the log or script, of the input or of the output.
+fn push_log_fault(fault: LogFault, line: &mut Line) {
+    match fault {
+        LogFault::BadLine(number) => {
+            push_fault("line", line);
+            push_number("line", number, line);
+        }
+        LogFault::BadRow(number) => {
+            push_fault("row", line);
+            push_number("row", number, line);
+        }
+        LogFault::Read => push_fault("read", line),
+        LogFault::Write => push_fault("write", line),
+        LogFault::TooLong => push_fault("too long", line),
+        LogFault::Memory => push_fault("memory", line),
+    }
+}
+
+/// Begins the object of a fault with this name.
+fn push_fault(name: &str, line: &mut Line) {
+    push_kind("fault", line);
+    push_text("fault", name.as_bytes(), line);
+}
+
+/// Begins the object of a note of this kind with one number.
+fn push_one(kind: &str, name: &str, number: u64, line: &mut Line) {
+    push_kind(kind, line);
+    push_number(name, number, line);
+}
+
+/// Begins the object of a note of this kind.
+fn push_kind(kind: &str, line: &mut Line) {
+    let _ = write!(line, "{{\"kind\":\"{kind}\"");
+}
+
+/// Appends a number.
+fn push_number(name: &str, number: u64, line: &mut Line) {
+    let _ = write!(line, ",\"{name}\":{number}");
+}
+
+/// Appends a number, if it is known.
+fn push_known(name: &str, number: Option<u64>, line: &mut Line) {
+    if let Some(number) = number {
+        push_number(name, number, line);
+    }
+}
+
+/// Appends whether something is so.
+fn push_flag(name: &str, is_so: bool, line: &mut Line) {
+    let _ = write!(line, ",\"{name}\":{is_so}");
+}
+
+/// Appends a text.
+fn push_text(name: &str, text: &[u8], line: &mut Line) {
+    let _ = write!(line, ",\"{name}\":");
+    push_string(text, line);
+}
+
+/// Appends the name of a break.
+fn break_name(why: Break) -> &'static [u8] {
+    match why {
+        Break::Back => b"back",
+        Break::Day => b"day",
+    }
+}
+
+/// Appends a JSON string.
+fn push_string(text: &[u8], line: &mut Line) {
+    push(b"\"", line);
+    for &byte in text {
+        let _ = match byte {
+            b'"' | b'\\' => write!(line, "\\{}", char::from(byte)),
+            0..=31 => write!(line, "\\u{byte:04x}"),
+            _ => line.write(&[byte]).map(|_| ()),
+        };
+    }
+    push(b"\"", line);
+}
