@@ -14,8 +14,6 @@ use Rattle.rds_script.specs.Outcomes.{AreOutcomes, IsOutcome, Outcome, answer_li
 use Rattle.rds_script.specs.Inside.Compared.{HasRoom}
 use Rattle.rds_script.specs.Inside.Player.{AppendsRow, HasWatched, IsBegun, Played, PlayerStandsAt}
 use Rattle.rds_script.specs.Inside.Watched.{AreKept, WatchedStandsAt, WereShown, views_kept}
-use Rattle.rds_script.specs.Notes.{first_of, wait_of}
-use Rattle.rds_script.specs.declared.notes.EarlySet.{EarlySet}
 use Rattle.rds_script.specs.declared.player.Player.{Player}
 use Rattle.rds_script.specs.declared.watched.Watched.{Watched}
 use Rattle.rds_charset.specs.Laws.{TextIsReadOneWay}
@@ -139,10 +137,9 @@ pub plays_on : {T E : Type 0} (r : Result T E) (before now : Player) (played : P
     → AreRows played.config.premise receivers played.records s.events → SaysEvent row e → AreKept kept (newest_views s.outcomes)
     → OnOk r (CanBeTaken played.config.premise receivers e s.events) → OnOk r (WatchedStandsAt played.config receivers w (e ∷ s.events))
     → OnOk r ((o : Outcome) × IsOutcome played.config e s.events o × (o.views ≡ views_kept w) × (new ≡ old ++ (slot_lines played.form played.config before.slot e s.events kept o ++ compared_lines played.config before.slot (length o.views) e s.events kept o.views)))
-    → OnOk r (now.wait ≡ first_of (wait_of before.slot e.command (reply_at (distance played.config) e.command (entries s.events))) before.wait)
     → OnOk r (AppendsRow now row old new played)
-plays_on (Err why) before now played s receivers kept w row e old new form config slot watched allowed rows says same taken stands outcome wait = tt
-plays_on (Ok done) before now played s receivers kept w row e old new form config slot watched allowed rows says same taken stands (o, is, views, gave) wait = (
+plays_on (Err why) before now played s receivers kept w row e old new form config slot watched allowed rows says same taken stands outcome = tt
+plays_on (Ok done) before now played s receivers kept w row e old new form config slot watched allowed rows says same taken stands (o, is, views, gave) = (
   slot_lines played.form played.config before.slot e s.events kept o ++ compared_lines played.config before.slot (length o.views) e s.events kept o.views,
   gave,
   (
@@ -157,9 +154,6 @@ plays_on (Ok done) before now played s receivers kept w row e old new form confi
       are = (is, s.are);
       slot = slot ∙ ap (λ (n : ℕ). n + 1) s.slot ∙ add-one (length s.outcomes);
       lines = slot_written played.form played.config before.slot kept e s.events o s.outcomes played.written _ s.lines s.slot same refl;
-      wait =
-          let slots : before.slot ≡ length s.events = s.slot ∙ sym (as_many_outcomes played.config s.events s.outcomes s.are) in
-          wait ∙ ap₂ (λ (n : ℕ) (x : Option EarlySet). first_of (wait_of n e.command (reply_at (distance played.config) e.command (entries s.events))) x) slots s.wait;
       watched = subst (λ (x : Option Watched). HasWatched played.config receivers x (e ∷ s.events) (o ∷ s.outcomes)) (sym watched) (omega arith, stands, λ i. ap (λ (views : List ShownView). view_at views i) (sym views));
     },
   ),

@@ -1,7 +1,4 @@
-//! Notes on a script, beside its output.
-ghost use Rattle.std.specs.Prelude.{◌≡◌, None};
-ghost use Rattle.rds_script.specs.Notes.{first_of, wait_for, wait_of};
-ghost use Rattle.rds_world.specs.declared.reply.Reply.TheVariants as replies;
+//! Notes on a script, beside its output. No contract speaks of them.
 
 use crate::row_cause::RowCause;
 use rds_encoder::Refusal;
@@ -18,10 +15,7 @@ pub struct ScriptNotes {
 
 impl ScriptNotes {
     /// Makes notes that are empty.
-    pub fn new() -> ScriptNotes
-        ensures bad { result.bad ≡ None }
-        ensures wait { result.wait ≡ None }
-    {
+    pub fn new() -> ScriptNotes {
         ScriptNotes {
             bad: None,
             wait: None,
@@ -34,8 +28,6 @@ impl ScriptNotes {
 pub struct BadRow {
     /// The line on which the record starts: 1 + the number of line ends in the bytes before its first byte. LF, CR LF
     /// and a lone CR end a line.
-    ///
-    /// No clause says so; tests compare it with a plain count.
     pub line: u64,
     /// Why it is not a row.
     pub cause: RowCause,
@@ -66,9 +58,7 @@ pub enum Thing {
 
 /// Notes the reply to a command, if it is the first refusal for coming too early.
 #[inline(always)]
-pub(crate) fn note_wait(wait: &mut Option<EarlySet>, slot: u64, command: &Command, reply: Reply)
-    ensures { wait.new ≡ first_of (wait_of slot command.now reply) wait.old }
-{
+pub(crate) fn note_wait(wait: &mut Option<EarlySet>, slot: u64, command: &Command, reply: Reply) {
     if let Reply::Refused(refusal) = reply {
         note_refused(wait, slot, command, refusal);
     }
@@ -76,9 +66,7 @@ pub(crate) fn note_wait(wait: &mut Option<EarlySet>, slot: u64, command: &Comman
 
 /// Notes a refusal, if it is the first for coming too early. Other replies pay nothing for this function.
 #[inline(never)]
-fn note_refused(wait: &mut Option<EarlySet>, slot: u64, command: &Command, refusal: Refusal)
-    ensures { wait.new ≡ first_of (wait_of slot command.now (replies.Refused refusal)) wait.old }
-{
+fn note_refused(wait: &mut Option<EarlySet>, slot: u64, command: &Command, refusal: Refusal) {
     if wait.is_none() {
         *wait = match command {
             Command::Quiet | Command::Restart => None,
@@ -90,9 +78,7 @@ fn note_refused(wait: &mut Option<EarlySet>, slot: u64, command: &Command, refus
 }
 
 /// Makes a note of `Silent` or `Held`, which end after some slots.
-fn wait_for(slot: u64, thing: Thing, refusal: Refusal) -> Option<EarlySet>
-    ensures { result ≡ wait_for slot thing refusal }
-{
+fn wait_for(slot: u64, thing: Thing, refusal: Refusal) -> Option<EarlySet> {
     match refusal {
         Refusal::Silent(_) | Refusal::Held(_) => Some(EarlySet {
             slot,

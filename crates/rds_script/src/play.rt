@@ -5,7 +5,6 @@ ghost use Rattle.csv.specs.Records.{fields_of};
 ghost use Rattle.rds_io.specs.Told.{traffic};
 ghost use Rattle.rds_io.specs.ReadFailed.{SomeReadFailed};
 ghost use Rattle.rds_script.specs.Inside.Player.{Played, PlayerStandsAt, PlaysNext, ScriptStandsAt, nothing_played};
-ghost use Rattle.rds_script.specs.Notes.{NotesTell};
 ghost use Rattle.rds_script.specs.Play.{Plays, reading, with_form};
 ghost use Rattle.rds_script.specs.declared.form.Form.TheVariants as forms;
 ghost use Rattle.rds_script.specs.declared.watched.TheConstants.{OUTPUT_ROOM, ROW_ROOM};
@@ -139,10 +138,8 @@ pub fn play_script<R: TellingRead + Drop, W: TellingWrite>(
     notes: &mut ScriptNotes,
 ) -> Result<(), LogFault>
     requires { records ≤ 2 ^ 32 }
-    ensures plays { Plays playing records (reading R.remaining R.failures reader)
+    ensures { Plays playing records (reading R.remaining R.failures reader)
         (traffic W.contents W.failures writer.old writer.new) result }
-    ensures notes { NotesTell playing records (reading R.remaining R.failures reader)
-        (traffic W.contents W.failures writer.old writer.new) result notes.new }
 {
     let mut script = Records::new(alloc, reader);
     let mut player = Player::new(alloc, playing.form, playing.config);
@@ -176,17 +173,14 @@ fn play_rows<R: TellingRead, W: TellingWrite>(
 ) -> Result<(), LogFault>
     requires bound { records ≤ 2 ^ 32 }
     requires first { player.old.slot ≡ 0 }
-    requires good { bad.old ≡ None }
     ensures { (how : Playing) (known : Option (List ℕ))
         → PlayerStandsAt player.old (nothing_played how) → ScriptStandsAt R.remaining known script.old []
-        → NotesTell how records (record { known = known; Failed = SomeReadFailed R.failures })
-        (traffic W.contents W.failures writer.old writer.new) result
-        (record { bad = bad.new; wait = player.new.wait }) }
+        → Plays how records (record { known = known; Failed = SomeReadFailed R.failures })
+        (traffic W.contents W.failures writer.old writer.new) result }
 {
     let mut lines = RowLines::new();
     for turn in 0..records {
-        let mut cause = None;
-        match play_next(script, player, row, turn + 1, &mut lines, &mut cause) {
+        match play_next(script, player, row, turn + 1, &mut lines, bad) {
             Ok(true) => {}
             Ok(false) => {
                 lines.write(writer)?;
@@ -194,7 +188,6 @@ fn play_rows<R: TellingRead, W: TellingWrite>(
             }
             Err(fault) => {
                 lines.write(writer)?;
-                *bad = cause;
                 return Err(fault);
             }
         }
@@ -222,14 +215,12 @@ fn play_next<R: TellingRead>(
 ) -> Result<bool, LogFault>
     requires slots { player.old.slot < 2 ^ 64 - 1 }
     requires room { length lines.old + ROW_ROOM ≤ OUTPUT_ROOM }
-    requires good { bad.old ≡ None }
     ensures slot { result ≡ Ok true → player.new.slot ≡ player.old.slot + 1 }
-    ensures kept { result ≢ Ok true → player.new.wait ≡ player.old.wait }
     ensures no_lines { result ≢ Ok true → lines.new ≡ lines.old }
     ensures plays { (known : Option (List ℕ)) (played : Played)
         → ScriptStandsAt R.remaining known script.old played.records → PlayerStandsAt player.old played
         → PlaysNext R.remaining (SomeReadFailed R.failures) known script.new player.new (fields_of row.new) number
-        lines.old lines.new bad.new played result }
+        lines.old lines.new played result }
 {
     if !script.next(row)? {
         return Ok(false);

@@ -59,7 +59,6 @@ impl Player {
             OnOk result (AppendsRow self.new (fields_of row.now) lines.old lines.new played)) }
         ensures refused { WherePlayerStands self.old (λ played.
             IfErr result (IsRowRefused played (fields_of row.now))) }
-        ensures kept { OnErr result (self.new.wait ≡ self.old.wait) }
         ensures no_lines { OnErr result (lines.new ≡ lines.old) }
     {
         // A record is one event: this law is used below.
@@ -102,7 +101,6 @@ impl Player {
         ensures begins { OnOk result ((w : Watched) × (self.new ≡ record self.old { watched = Some w })
             × IsBegun self.old.config receivers self.old.watched w) }
         ensures memory { IfErr result (λ why. (why ≡ refused.Memory) × IsFirstOrAlone self.old.watched) }
-        ensures kept { OnErr result (self.new.wait ≡ self.old.wait) }
     {
         match &mut self.watched {
             Some(watched) => watched.make_room(),

@@ -13,7 +13,6 @@ ghost use Rattle.rds_world.specs.declared.receiver_kind.ReceiverKind.TheVariants
 ghost use Rattle.rds_view_lines.specs.KeptView.{view_kept};
 ghost use Rattle.rds_script.specs.Inside.Compared.{HasRoom};
 ghost use Rattle.rds_script.specs.Inside.Watched.{AreKept, WereShown};
-ghost use Rattle.rds_script.specs.Notes.{first_of, wait_of};
 ghost use Rattle.rds_script.specs.Outcomes.{IsOutcome, Outcome, compared_lines, receiver_changes, slot_lines, view_at};
 ghost use Rattle.rds_script.specs.Outcomes.{whys_after, whys_at, whys_said};
 ghost use Rattle.rds_script.specs.declared.row.RowRefused.TheVariants as refused;
@@ -118,10 +117,6 @@ impl Watched {
             OnOk result ((o : Outcome) × IsOutcome config event.now events o × (o.views ≡ views_kept self.new)
             × (lines.new ≡ lines.old ++ (slot_lines form config slot event.now events (views_kept self.old) o
             ++ compared_lines config slot (length o.views) event.now events (views_kept self.old) o.views)))) }
-        ensures wait { WhereWatchedStands self.old (λ config receivers events.
-            OnOk result (wait.new ≡ first_of (wait_of slot event.now.command
-            (reply_at (distance config) event.now.command (entries events))) wait.old)) }
-        ensures no_wait { OnErr result (wait.new ≡ wait.old) }
         ensures refused { WhereWatchedStands self.old (λ config receivers events.
             IfErr result (IsStepRefused config.premise receivers event.now events)) }
         ensures kept { OnErr result (self.new ≡ self.old) }

@@ -1,11 +1,11 @@
 -- The state of the parts of a script's engine: its reader after these records, and its station after their slots. Lists
 -- have the newest first.
-use Rattle.std.specs.Prelude.{◌≡◌, ◌⊎◌, ◌<◌, ◌++◌, ◌∷◌, ℕ, [], Bool, Err, IsSome, List, None, Ok, Option, Result, Some, false}
+use Rattle.std.specs.Prelude.{◌≡◌, ◌⊎◌, ◌<◌, ◌++◌, ◌∷◌, ℕ, [], Bool, Err, List, None, Ok, Option, Result, Some, false}
 use Rattle.std.specs.Prelude.{length, true}
-use Rattle.std.specs.Io.KnownBytes.{Appends}
 use Rattle.csv.specs.Reading.{Ready, default_config, is_flexible, reader_config, reader_state, reader_trim, source_of}
 use Rattle.csv.specs.declared.reader.Trim.TheVariants.{None as untrimmed}
-use Rattle.rds_io.specs.Told.{IsCalm, Traffic}
+use Rattle.rds_io.specs.Told.{Traffic}
+use Rattle.rds_io.specs.Waits.{Waits}
 use Rattle.rds_world.specs.declared.receiver_kind.ReceiverKind.TheVariants.{FlagAlone}
 use Rattle.rds_world.specs.declared.world.Config.{Config}
 use Rattle.rds_world.specs.Event.{Event}
@@ -15,10 +15,8 @@ use Rattle.rds_script.specs.Inside.Watched.{AreKept, WatchedStandsAt, WhereWatch
 use Rattle.rds_script.specs.Rows.{AreNoRows, AreRows, IsAllowed, Record}
 use Rattle.rds_script.specs.Outcomes.{AreOutcomes, Outcome, lines_of, newest_views}
 use Rattle.rds_script.specs.Play.{HasAllRecords, HasRecords, RecordsUpTo}
-use Rattle.rds_script.specs.Notes.{first_wait}
 use Rattle.rds_io.specs.declared.fault.LogFault.{LogFault}
 use Rattle.rds_io.specs.declared.fault.LogFault.TheVariants.{BadLine, BadRow, Memory, Read, TooLong, Write}
-use Rattle.rds_script.specs.declared.notes.BadRow.{BadRow as BadRecord}
 use Rattle.rds_script.specs.declared.form.Form.{Form}
 use Rattle.rds_script.specs.declared.play.Playing.{Playing}
 use Rattle.rds_script.specs.declared.player.Player.{Player}
@@ -84,7 +82,6 @@ pub record PlayerStandsAt (p : Player) (played : Played) : Type 0 where
   pub slot : p.slot ≡ length outcomes
   pub watched : HasWatched played.config played.receivers p.watched events outcomes
   pub lines : played.written ≡ lines_of played.form played.config events outcomes
-  pub wait : p.wait ≡ first_wait played.config events
 
 -- for each state of the player: this holds of its history
 abbrev pub WherePlayerStands : Player → (Played → Type 0) → Type 0
@@ -118,36 +115,32 @@ abbrev pub IsRowRefused : Played → Record → RowRefused → Type 0
 IsRowRefused played row (NoRow cause) = AreNoRows played.config.premise played.form (row ∷ played.records)
 IsRowRefused played row refused.Memory = (length played.records ≡ 0) ⊎ (played.config.kind ≡ FlagAlone)
 
--- after the records that were played, this one, which is number n, is not a row, and a cause is noted
-pub record IsBadRecord (known : Option (List ℕ)) (played : Played) (row : Record) (number n : ℕ)
-    (bad : Option BadRecord) : Type 0 where
+-- after the records that were played, this one, which is number n, is not a row
+pub record IsBadRecord (known : Option (List ℕ)) (played : Played) (row : Record) (number n : ℕ) : Type 0 where
   pub number_is : n ≡ number
   pub begins : HasRecords known (row ∷ played.records)
   pub none : AreNoRows played.config.premise played.form (row ∷ played.records)
-  pub noted : IsSome bad
 
 -- the next record of a script: true if it is a row and the player played it, false if the script has no more records.
 -- It has this number; ReadFailed says that a read of the reader failed
 abbrev pub PlaysNext : {R : Type 0} {g h : _} (remaining : R → Option (List ℕ)) (ReadFailed : Type 0)
     (known : Option (List ℕ)) (s : Records R g h) (p : Player) (row : Record) (number : ℕ) (old new : List ℕ)
-    (bad : Option BadRecord) (played : Played) → Result Bool LogFault → Type 0
-PlaysNext remaining ReadFailed known s p row number old new bad played (Ok true) =
+    (played : Played) → Result Bool LogFault → Type 0
+PlaysNext remaining ReadFailed known s p row number old new played (Ok true) =
     ScriptStandsAt remaining known s (row ∷ played.records) × AppendsRow p row old new played
-PlaysNext remaining ReadFailed known s p row number old new bad played (Ok false) =
-    HasAllRecords known played.records
-PlaysNext remaining ReadFailed known s p row number old new bad played (Err (BadRow n)) =
-    IsBadRecord known played row number n bad
-PlaysNext remaining ReadFailed known s p row number old new bad played (Err Read) = ReadFailed × (bad ≡ None)
-PlaysNext remaining ReadFailed known s p row number old new bad played (Err Memory) = bad ≡ None
-PlaysNext remaining ReadFailed known s p row number old new bad played (Err (BadLine n)) = ⊥
-PlaysNext remaining ReadFailed known s p row number old new bad played (Err Write) = ⊥
-PlaysNext remaining ReadFailed known s p row number old new bad played (Err TooLong) = ⊥
+PlaysNext remaining ReadFailed known s p row number old new played (Ok false) = HasAllRecords known played.records
+PlaysNext remaining ReadFailed known s p row number old new played (Err (BadRow n)) =
+    IsBadRecord known played row number n
+PlaysNext remaining ReadFailed known s p row number old new played (Err Read) = ReadFailed
+PlaysNext remaining ReadFailed known s p row number old new played (Err Memory) = Unit {0}
+PlaysNext remaining ReadFailed known s p row number old new played (Err (BadLine n)) = ⊥
+PlaysNext remaining ReadFailed known s p row number old new played (Err Write) = ⊥
+PlaysNext remaining ReadFailed known s p row number old new played (Err TooLong) = ⊥
 
--- the station played these records; a part of their output was written, and the rest waits
+-- the station played these records, and this is their output; a part of it was written, and the rest waits
 pub record PlayedSoFar (how : Playing) (p : Player) (records : List Record) (w : Traffic)
     (waiting : List ℕ) : Type 0 where
   pub receivers : ℕ
-  pub written : List ℕ
-  pub player : PlayerStandsAt p (played_by how receivers records (written ++ waiting))
-  pub wrote : Appends w.before w.after written
-  pub calm : IsCalm w
+  pub total : List ℕ
+  pub player : PlayerStandsAt p (played_by how receivers records total)
+  pub waits : Waits w waiting total

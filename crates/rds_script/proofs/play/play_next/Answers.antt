@@ -17,5 +17,4 @@ returns-in-Err-NoRow-clause-plays g c known played stands player =
       number_is = refl;
       begins = has_records g.R.Read.remaining known c.next.new.self (fields_of c.next.new.row ∷ played.records) after;
       none = refused;
-      noted = refl;
     }

@@ -4,95 +4,118 @@ use Rattle.std.proofs.lemmas.Result.{err_from_is_err_and}
 use Rattle.csv.specs.Records.{fields_of}
 use Rattle.rds_io.specs.Told.{traffic}
 use Rattle.rds_io.specs.ReadFailed.{SomeReadFailed}
-use Rattle.rds_script.proofs.Plays.{all_wrote, ends_all, ends_by_fault, ends_by_write, ends_too_long, not_more, played_on, where_next}
+use Rattle.rds_script.proofs.Plays.{ends_all, ends_by_fault, ends_by_write, ends_too_long, not_more, played_on}
+use Rattle.rds_script.proofs.Plays.{waits_now, where_next}
 use Rattle.rds_script.proofs.play.play_rows.Goals as goal
 use Rattle.rds_script.proofs.play.play_rows.Goals.{then-not-has_next+in_ok-write, else-not-has_next+else-not-has_room}
 
 pub returns-in_err-write-in-Ok-false : goal.returns-in_err-write-in-Ok-false
 returns-in_err-write-in-Ok-false g c how known begun fresh =
     let (records, stands, count, played) = c.loop-turn.invariant.played how known begun fresh in
-    let other : Ok c.in-Ok-false.field-0 ≢ Ok true = not_more c.in-Ok-false.field-0 (Ok c.in-Ok-false.field-0) refl c.in-Ok-false.field-0-test in
+    let other : Ok c.in-Ok-false.field-0 ≢ Ok true =
+    not_more c.in-Ok-false.field-0 (Ok c.in-Ok-false.field-0) refl c.in-Ok-false.field-0-test in
     let p = err_from_is_err_and c.from_residual.result c.from_residual.ensures.1 in
-    rw (p.1, p.2) (ends_by_write g.R.Read.remaining how c.args.records (record { known = known; Failed = SomeReadFailed g.R.TellingRead.failures })
-    c.loop-turn.script c.loop-turn.player c.play_next.new.player records
-    (g.W.Write.contents c.args.writer.now) (g.W.Write.contents c.loop-turn.writer) (g.W.Write.contents c.write.new.writer)
-    (g.W.TellingWrite.failures c.args.writer.now) (g.W.TellingWrite.failures c.loop-turn.writer) (g.W.TellingWrite.failures c.write.new.writer)
-    c.loop-turn.lines c.loop-turn.bad stands (omega (arith, count, c.loop-turn-test.true)) played (rw (c.in-Ok-false.ensures.no_lines other) at c.in_err-write-in-Ok-false.ensures.puts.0) c.in_err-write-in-Ok-false.ensures.puts.1
-    (c.in-Ok-false.ensures.kept other) c.loop-turn.invariant.good)
+    rw (p.1, p.2) (ends_by_write g.R.Read.remaining how c.args.records
+    (record { known = known; Failed = SomeReadFailed g.R.TellingRead.failures })
+    (traffic g.W.Write.contents g.W.TellingWrite.failures c.args.writer.now c.loop-turn.writer)
+    (traffic g.W.Write.contents g.W.TellingWrite.failures c.args.writer.now c.write.new.writer) c.loop-turn.lines
+    c.loop-turn.script c.loop-turn.player records stands (omega (arith, count, c.loop-turn-test.true)) played
+    (c.in_err-write-in-Ok-false.ensures.waits c.args.writer.now played.total
+    (rw (c.in-Ok-false.ensures.no_lines other) played.waits)))
 
 pub returns-in-Ok-false : goal.returns-in-Ok-false
 returns-in-Ok-false g c how known begun fresh =
     let (records, stands, count, played) = c.loop-turn.invariant.played how known begun fresh in
-    let other : Ok c.in-Ok-false.field-0 ≢ Ok true = not_more c.in-Ok-false.field-0 (Ok c.in-Ok-false.field-0) refl c.in-Ok-false.field-0-test in
-    let wrote = all_wrote how c.loop-turn.player records
-    (g.W.Write.contents c.args.writer.now) (g.W.Write.contents c.loop-turn.writer) (g.W.Write.contents c.write.new.writer)
-    (g.W.TellingWrite.failures c.args.writer.now) (g.W.TellingWrite.failures c.loop-turn.writer) (g.W.TellingWrite.failures c.write.new.writer)
-    c.loop-turn.lines played (rw (c.in-Ok-false.ensures.no_lines other) at c.in_ok-write-in-Ok-false.ensures.puts.0) c.in_ok-write-in-Ok-false.ensures.puts.1 in
-    ends_all g.R.Read.remaining how c.args.records (record { known = known; Failed = SomeReadFailed g.R.TellingRead.failures }) (traffic g.W.Write.contents g.W.TellingWrite.failures c.args.writer.now c.write.new.writer)
-    c.loop-turn.script c.loop-turn.player c.play_next.new.player records c.loop-turn.bad stands wrote (omega (arith, count, c.loop-turn-test.true))
-    (rw c.in-Ok-false.field-0-test at (c.in-Ok-false.ensures.plays known (where_next how c.loop-turn.player records (traffic g.W.Write.contents g.W.TellingWrite.failures c.args.writer.now c.loop-turn.writer) c.loop-turn.lines played) stands played.player)) (c.in-Ok-false.ensures.kept other) c.loop-turn.invariant.good
+    let w = traffic g.W.Write.contents g.W.TellingWrite.failures c.args.writer.now c.loop-turn.writer in
+    let v = traffic g.W.Write.contents g.W.TellingWrite.failures c.args.writer.now c.write.new.writer in
+    let other : Ok c.in-Ok-false.field-0 ≢ Ok true =
+    not_more c.in-Ok-false.field-0 (Ok c.in-Ok-false.field-0) refl c.in-Ok-false.field-0-test in
+    let wrote = waits_now how c.loop-turn.player records w v c.loop-turn.lines c.write.new.self played
+    (c.in_ok-write-in-Ok-false.ensures.waits c.args.writer.now played.total
+    (rw (c.in-Ok-false.ensures.no_lines other) played.waits)) in
+    ends_all g.R.Read.remaining how c.args.records
+    (record { known = known; Failed = SomeReadFailed g.R.TellingRead.failures }) v c.write.new.self c.loop-turn.script
+    c.loop-turn.player records stands wrote c.in_ok-write-in-Ok-false.ensures.empty
+    (omega (arith, count, c.loop-turn-test.true))
+    (rw c.in-Ok-false.field-0-test at (c.in-Ok-false.ensures.plays known
+    (where_next how c.loop-turn.player records w c.loop-turn.lines played) stands played.player))
 
 pub returns-in_err-write-in-Err : goal.returns-in_err-write-in-Err
 returns-in_err-write-in-Err g c how known begun fresh =
     let (records, stands, count, played) = c.loop-turn.invariant.played how known begun fresh in
     let other : Err c.in-Err.fault ≢ Ok true = λ e. (cc) in
     let p = err_from_is_err_and c.from_residual-in_err-write-in-Err.result c.from_residual-in_err-write-in-Err.ensures.1 in
-    rw (p.1, p.2) (ends_by_write g.R.Read.remaining how c.args.records (record { known = known; Failed = SomeReadFailed g.R.TellingRead.failures })
-    c.loop-turn.script c.loop-turn.player c.play_next.new.player records
-    (g.W.Write.contents c.args.writer.now) (g.W.Write.contents c.loop-turn.writer) (g.W.Write.contents c.write-in-Err.new.writer)
-    (g.W.TellingWrite.failures c.args.writer.now) (g.W.TellingWrite.failures c.loop-turn.writer) (g.W.TellingWrite.failures c.write-in-Err.new.writer)
-    c.loop-turn.lines c.loop-turn.bad stands (omega (arith, count, c.loop-turn-test.true)) played (rw (c.in-Err.ensures.no_lines other) at c.in_err-write-in-Err.ensures.puts.0) c.in_err-write-in-Err.ensures.puts.1
-    (c.in-Err.ensures.kept other) c.loop-turn.invariant.good)
+    rw (p.1, p.2) (ends_by_write g.R.Read.remaining how c.args.records
+    (record { known = known; Failed = SomeReadFailed g.R.TellingRead.failures })
+    (traffic g.W.Write.contents g.W.TellingWrite.failures c.args.writer.now c.loop-turn.writer)
+    (traffic g.W.Write.contents g.W.TellingWrite.failures c.args.writer.now c.write-in-Err.new.writer) c.loop-turn.lines
+    c.loop-turn.script c.loop-turn.player records stands (omega (arith, count, c.loop-turn-test.true)) played
+    (c.in_err-write-in-Err.ensures.waits c.args.writer.now played.total
+    (rw (c.in-Err.ensures.no_lines other) played.waits)))
 
 pub returns-in-Err : goal.returns-in-Err
 returns-in-Err g c how known begun fresh =
     let (records, stands, count, played) = c.loop-turn.invariant.played how known begun fresh in
+    let w = traffic g.W.Write.contents g.W.TellingWrite.failures c.args.writer.now c.loop-turn.writer in
+    let v = traffic g.W.Write.contents g.W.TellingWrite.failures c.args.writer.now c.write-in-Err.new.writer in
     let other : Err c.in-Err.fault ≢ Ok true = λ e. (cc) in
-    let wrote = all_wrote how c.loop-turn.player records
-    (g.W.Write.contents c.args.writer.now) (g.W.Write.contents c.loop-turn.writer) (g.W.Write.contents c.write-in-Err.new.writer)
-    (g.W.TellingWrite.failures c.args.writer.now) (g.W.TellingWrite.failures c.loop-turn.writer) (g.W.TellingWrite.failures c.write-in-Err.new.writer)
-    c.loop-turn.lines played (rw (c.in-Err.ensures.no_lines other) at c.in_ok-write-in-Err.ensures.puts.0) c.in_ok-write-in-Err.ensures.puts.1 in
-    ends_by_fault g.R.Read.remaining how c.args.records (record { known = known; Failed = SomeReadFailed g.R.TellingRead.failures }) (traffic g.W.Write.contents g.W.TellingWrite.failures c.args.writer.now c.write-in-Err.new.writer) (traffic g.W.Write.contents g.W.TellingWrite.failures c.args.writer.now c.loop-turn.writer)
-    c.loop-turn.script c.play_next.new.script c.loop-turn.player c.play_next.new.player (fields_of c.play_next.new.row) records c.loop-turn.lines c.play_next.new.lines c.loop-turn.turn c.play_next.new.bad c.in-Err.fault
-    stands wrote count c.loop-turn-test.true (c.in-Err.ensures.kept other) played (c.in-Err.ensures.plays known (where_next how c.loop-turn.player records (traffic g.W.Write.contents g.W.TellingWrite.failures c.args.writer.now c.loop-turn.writer) c.loop-turn.lines played) stands played.player)
+    let wrote = waits_now how c.loop-turn.player records w v c.loop-turn.lines c.write-in-Err.new.self played
+    (c.in_ok-write-in-Err.ensures.waits c.args.writer.now played.total
+    (rw (c.in-Err.ensures.no_lines other) played.waits)) in
+    ends_by_fault g.R.Read.remaining how c.args.records
+    (record { known = known; Failed = SomeReadFailed g.R.TellingRead.failures }) v w c.write-in-Err.new.self
+    c.loop-turn.script c.play_next.new.script c.loop-turn.player c.play_next.new.player (fields_of c.play_next.new.row)
+    records c.loop-turn.lines c.play_next.new.lines c.loop-turn.turn c.in-Err.fault stands wrote
+    c.in_ok-write-in-Err.ensures.empty count c.loop-turn-test.true played
+    (c.in-Err.ensures.plays known (where_next how c.loop-turn.player records w c.loop-turn.lines played) stands
+    played.player)
 
 pub returns-in_err-write : goal.returns-in_err-write
 returns-in_err-write g c how known begun fresh =
     let (records, stands, count, played) = c.loop-turn.invariant.played how known begun fresh in
+    let w = traffic g.W.Write.contents g.W.TellingWrite.failures c.args.writer.now c.loop-turn.writer in
     let is : c.play_next.result ≡ Ok true = c.in-Ok-true.is ∙ ap Ok c.in-Ok-true.field-0-test in
-    let (further, now) = played_on g.R.Read.remaining (SomeReadFailed g.R.TellingRead.failures) how known c.play_next.new.script c.loop-turn.player c.play_next.new.player (fields_of c.play_next.new.row) (c.loop-turn.turn + 1) records
-    (traffic g.W.Write.contents g.W.TellingWrite.failures c.args.writer.now c.loop-turn.writer) c.loop-turn.lines c.play_next.new.lines c.play_next.new.bad c.play_next.result
-    played (c.play_next.ensures.plays known (where_next how c.loop-turn.player records (traffic g.W.Write.contents g.W.TellingWrite.failures c.args.writer.now c.loop-turn.writer) c.loop-turn.lines played) stands played.player) is in
+    let (further, now) = played_on g.R.Read.remaining (SomeReadFailed g.R.TellingRead.failures) how known
+    c.play_next.new.script c.loop-turn.player c.play_next.new.player (fields_of c.play_next.new.row)
+    (c.loop-turn.turn + 1) records w c.loop-turn.lines c.play_next.new.lines c.play_next.result played
+    (c.play_next.ensures.plays known (where_next how c.loop-turn.player records w c.loop-turn.lines played) stands
+    played.player) is in
     let p = err_from_is_err_and c.from_residual-in_err-write.result c.from_residual-in_err-write.ensures.1 in
-    rw (p.1, p.2) (ends_by_write g.R.Read.remaining how c.args.records (record { known = known; Failed = SomeReadFailed g.R.TellingRead.failures })
-    c.play_next.new.script c.play_next.new.player c.play_next.new.player (fields_of c.play_next.new.row ∷ records)
-    (g.W.Write.contents c.args.writer.now) (g.W.Write.contents c.loop-turn.writer) (g.W.Write.contents c.write-then-not-has_next.new.writer)
-    (g.W.TellingWrite.failures c.args.writer.now) (g.W.TellingWrite.failures c.loop-turn.writer) (g.W.TellingWrite.failures c.write-then-not-has_next.new.writer)
-    c.play_next.new.lines c.loop-turn.bad further (omega (arith, count, c.loop-turn-test.true)) now c.in_err-write.ensures.puts.0 c.in_err-write.ensures.puts.1 refl c.loop-turn.invariant.good)
+    rw (p.1, p.2) (ends_by_write g.R.Read.remaining how c.args.records
+    (record { known = known; Failed = SomeReadFailed g.R.TellingRead.failures }) w
+    (traffic g.W.Write.contents g.W.TellingWrite.failures c.args.writer.now c.write-then-not-has_next.new.writer)
+    c.play_next.new.lines c.play_next.new.script c.play_next.new.player (fields_of c.play_next.new.row ∷ records) further
+    (omega (arith, count, c.loop-turn-test.true)) now
+    (c.in_err-write.ensures.waits c.args.writer.now now.total now.waits))
 
 pub loop-turn-preserved : goal.loop-turn-preserved
 loop-turn-preserved g c = record {
   room = elim c.if-not-has_next.branch [
-    | then-not-has_next+in_ok-write w ↦ (let none : length w.write-then-not-has_next.new.self ≡ 0 = rw w.in_ok-write.ensures.empty refl in rw w.lines-is (omega (arith, none)))
+    | then-not-has_next+in_ok-write w ↦
+        let none : length w.write-then-not-has_next.new.self ≡ 0 = rw w.in_ok-write.ensures.empty refl in
+        rw w.lines-is (omega (arith, none))
     | else-not-has_next+else-not-has_room w ↦ rw w.lines-is (search rules)
   ];
-  good = c.loop-turn.invariant.good;
   slot = c.in-Ok-true.ensures.slot (ap Ok c.in-Ok-true.field-0-test) ∙ ap (λ n. n + 1) c.loop-turn.invariant.slot;
   played = λ how known begun fresh.
       let (records, stands, count, played) = c.loop-turn.invariant.played how known begun fresh in
+      let w = traffic g.W.Write.contents g.W.TellingWrite.failures c.args.writer.now c.loop-turn.writer in
       let is : c.play_next.result ≡ Ok true = c.in-Ok-true.is ∙ ap Ok c.in-Ok-true.field-0-test in
-      let (further, now) = played_on g.R.Read.remaining (SomeReadFailed g.R.TellingRead.failures) how known c.play_next.new.script c.loop-turn.player c.play_next.new.player (fields_of c.play_next.new.row) (c.loop-turn.turn + 1) records
-      (traffic g.W.Write.contents g.W.TellingWrite.failures c.args.writer.now c.loop-turn.writer) c.loop-turn.lines c.play_next.new.lines c.play_next.new.bad c.play_next.result
-      played (c.play_next.ensures.plays known (where_next how c.loop-turn.player records (traffic g.W.Write.contents g.W.TellingWrite.failures c.args.writer.now c.loop-turn.writer) c.loop-turn.lines played) stands played.player) is in (
+      let (further, now) = played_on g.R.Read.remaining (SomeReadFailed g.R.TellingRead.failures) how known
+      c.play_next.new.script c.loop-turn.player c.play_next.new.player (fields_of c.play_next.new.row)
+      (c.loop-turn.turn + 1) records w c.loop-turn.lines c.play_next.new.lines c.play_next.result played
+      (c.play_next.ensures.plays known (where_next how c.loop-turn.player records w c.loop-turn.lines played) stands
+      played.player) is in (
         fields_of c.play_next.new.row ∷ records,
         further,
         omega (arith, count),
         elim c.if-not-has_next.branch [
-          | then-not-has_next+in_ok-write w ↦ rw (w.writer-is, w.lines-is, w.in_ok-write.ensures.empty) (all_wrote how c.play_next.new.player (fields_of c.play_next.new.row ∷ records)
-              (g.W.Write.contents c.args.writer.now) (g.W.Write.contents c.loop-turn.writer) (g.W.Write.contents w.write-then-not-has_next.new.writer)
-              (g.W.TellingWrite.failures c.args.writer.now) (g.W.TellingWrite.failures c.loop-turn.writer) (g.W.TellingWrite.failures w.write-then-not-has_next.new.writer)
-              c.play_next.new.lines now w.in_ok-write.ensures.puts.0 w.in_ok-write.ensures.puts.1)
-          | else-not-has_next+else-not-has_room w ↦ rw (w.writer-is, w.lines-is) now
+          | then-not-has_next+in_ok-write v ↦
+              rw (v.writer-is, v.lines-is) (waits_now how c.play_next.new.player (fields_of c.play_next.new.row ∷ records)
+              w (traffic g.W.Write.contents g.W.TellingWrite.failures c.args.writer.now v.write-then-not-has_next.new.writer)
+              c.play_next.new.lines v.write-then-not-has_next.new.self now
+              (v.in_ok-write.ensures.waits c.args.writer.now now.total now.waits))
+          | else-not-has_next+else-not-has_room v ↦ rw (v.writer-is, v.lines-is) now
         ],
       );
 }
@@ -101,18 +124,21 @@ pub returns-in_err-write-2 : goal.returns-in_err-write-2
 returns-in_err-write-2 g c how known begun fresh =
     let (records, stands, count, played) = c.loop-turn.invariant.played how known begun fresh in
     let p = err_from_is_err_and c.from_residual-in_err-write-2.result c.from_residual-in_err-write-2.ensures.1 in
-    rw (p.1, p.2) (ends_by_write g.R.Read.remaining how c.args.records (record { known = known; Failed = SomeReadFailed g.R.TellingRead.failures })
-    c.loop-turn.script c.loop-turn.player c.loop-turn.player records
-    (g.W.Write.contents c.args.writer.now) (g.W.Write.contents c.loop-turn.writer) (g.W.Write.contents c.write-2.new.writer)
-    (g.W.TellingWrite.failures c.args.writer.now) (g.W.TellingWrite.failures c.loop-turn.writer) (g.W.TellingWrite.failures c.write-2.new.writer)
-    c.loop-turn.lines c.loop-turn.bad stands (omega (arith, count, c.loop-turn.auto)) played c.in_err-write-2.ensures.puts.0 c.in_err-write-2.ensures.puts.1 refl c.loop-turn.invariant.good)
+    rw (p.1, p.2) (ends_by_write g.R.Read.remaining how c.args.records
+    (record { known = known; Failed = SomeReadFailed g.R.TellingRead.failures })
+    (traffic g.W.Write.contents g.W.TellingWrite.failures c.args.writer.now c.loop-turn.writer)
+    (traffic g.W.Write.contents g.W.TellingWrite.failures c.args.writer.now c.write-2.new.writer) c.loop-turn.lines
+    c.loop-turn.script c.loop-turn.player records stands (omega (arith, count, c.loop-turn.auto)) played
+    (c.in_err-write-2.ensures.waits c.args.writer.now played.total played.waits))
 
 pub returns : goal.returns
 returns g c how known begun fresh =
     let (records, stands, count, played) = c.loop-turn.invariant.played how known begun fresh in
-    let wrote = all_wrote how c.loop-turn.player records
-    (g.W.Write.contents c.args.writer.now) (g.W.Write.contents c.loop-turn.writer) (g.W.Write.contents c.write-2.new.writer)
-    (g.W.TellingWrite.failures c.args.writer.now) (g.W.TellingWrite.failures c.loop-turn.writer) (g.W.TellingWrite.failures c.write-2.new.writer)
-    c.loop-turn.lines played (c.in_ok-write-2.ensures.puts.0) c.in_ok-write-2.ensures.puts.1 in
-    ends_too_long g.R.Read.remaining how c.args.records (record { known = known; Failed = SomeReadFailed g.R.TellingRead.failures }) (traffic g.W.Write.contents g.W.TellingWrite.failures c.args.writer.now c.write-2.new.writer)
-    c.loop-turn.script c.loop-turn.player records c.loop-turn.bad stands wrote (omega (arith, count, c.loop-turn-test.false, c.loop-turn.auto)) c.loop-turn.invariant.good
+    let v = traffic g.W.Write.contents g.W.TellingWrite.failures c.args.writer.now c.write-2.new.writer in
+    let wrote = waits_now how c.loop-turn.player records
+    (traffic g.W.Write.contents g.W.TellingWrite.failures c.args.writer.now c.loop-turn.writer) v c.loop-turn.lines
+    c.write-2.new.self played (c.in_ok-write-2.ensures.waits c.args.writer.now played.total played.waits) in
+    ends_too_long g.R.Read.remaining how c.args.records
+    (record { known = known; Failed = SomeReadFailed g.R.TellingRead.failures }) v c.write-2.new.self c.loop-turn.script
+    c.loop-turn.player records stands wrote c.in_ok-write-2.ensures.empty
+    (omega (arith, count, c.loop-turn-test.false, c.loop-turn.auto))

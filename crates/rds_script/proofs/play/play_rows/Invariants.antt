@@ -9,7 +9,6 @@ use Rattle.rds_script.proofs.play.play_rows.Given as goal
 abbrev pub invariant-loop-turn : goal.invariant-loop-turn
 invariant-loop-turn g l = record {
   room : length l.lines + 17592 ≤ 65536;
-  good : l.bad ≡ None;
   slot : l.player.slot ≡ l.turn;
   played : (how : Playing) (known : Option (List ℕ)) → PlayerStandsAt l.initial.player (nothing_played how) → ScriptStandsAt g.R.Read.remaining known l.initial.script []
       → (records : List Record) × ScriptStandsAt g.R.Read.remaining known l.script records × (length records ≡ l.turn)

@@ -1,15 +1,8 @@
 use Rattle.std.proofs.Common.{◌≡◌, ◌⊎◌, ◌<◌, ◌∙◌, ◌+◌, ℕ, List, None, Option, Some, ap, arith, inl, inr, length, refl, rules, subst, sym}
 use Rattle.std.proofs.lemmas.Result.{err_from_is_err_and}
 use Rattle.csv.specs.Records.{fields_of}
-use Rattle.std.specs.Prelude.{OnOk}
 use Rattle.rds_world.specs.Event.{Event}
-use Rattle.rds_world.specs.Replies.{reply_at}
-use Rattle.rds_world.specs.Slots.{entries}
-use Rattle.rds_world.specs.State.{distance}
 use Rattle.rds_world.specs.declared.receiver_kind.ReceiverKind.TheVariants.{FlagAlone}
-use Rattle.rds_world.specs.declared.reply.Reply.{Reply}
-use Rattle.rds_script.specs.Notes.{first_of, wait_of}
-use Rattle.rds_script.specs.declared.notes.EarlySet.{EarlySet}
 use Rattle.rds_script.specs.Inside.Player.{HasWatched, IsFirstOrAlone, Played}
 use Rattle.rds_script.specs.Inside.Watched.{views_kept}
 use Rattle.rds_script.specs.Outcomes.{Outcome}
@@ -57,16 +50,11 @@ returns-in-Ok-clause-stands c played s =
     let allowed : IsAllowed c.args.self.now.form c.len-receivers.result = search rules in
     let r = subst (IsReady played s.events s.outcomes c.len-receivers.result) is
     (is_ready c.args.self.now.watched w played c.len-receivers.result s.events s.outcomes s.allowed (rw s.form_is at allowed) s.rows s.are s.watched (rw s.config_is at begun)) in
-    let slots : c.begin.new.self.slot ≡ c.args.self.now.slot = slot in
-    let before : c.begin.new.self.wait ≡ c.args.self.now.wait = ap (λ (p : Player). p.wait) same in
-    let answered : Reply = reply_at (distance played.config) c.read_event.new.event.command (entries s.events) in
-    let noted : c.play.new.wait ≡ first_of (wait_of c.args.self.now.slot c.read_event.new.event.command answered) c.args.self.now.wait = c.in-Ok.ensures.wait played.config r.receivers s.events r.stands
-    ∙ ap (λ (n : ℕ). first_of (wait_of n c.read_event.new.event.command answered) c.begin.new.self.wait) slots
-    ∙ ap (λ (x : Option EarlySet). first_of (wait_of c.args.self.now.slot c.read_event.new.event.command answered) x) before in
-    let waited : OnOk c.play.result (c.play.new.wait ≡ first_of (wait_of c.args.self.now.slot c.read_event.new.event.command answered) c.args.self.now.wait) = rw c.in-Ok.is noted in
-    let all = plays_on c.play.result c.args.self.now _ played s r.receivers (views_kept c.in-Some.watched) c.play.new.self (fields_of c.args.row.now) c.read_event.new.event c.args.lines.now c.play.new.lines form (ap (λ (p : Player). p.config) same) (ap (λ n. n + 1) slot) refl
+    let all = plays_on c.play.result c.args.self.now
+    record c.begin.new.self { watched = Some c.play.new.self; slot = c.begin.new.self.slot + 1; wait = c.play.new.wait }
+    played s r.receivers (views_kept c.in-Some.watched) c.play.new.self (fields_of c.args.row.now) c.read_event.new.event c.args.lines.now c.play.new.lines form (ap (λ (p : Player). p.config) same) (ap (λ n. n + 1) slot) refl
     r.allowed r.rows c.in_default.ensures.says r.same (c.play.ensures.taken played.config r.receivers s.events r.stands) (c.play.ensures.stands played.config r.receivers s.events r.stands)
-    (rw (form, s.form_is, slot) at (c.play.ensures.outcome played.config r.receivers s.events r.stands)) waited in
+    (rw (form, s.form_is, slot) at (c.play.ensures.outcome played.config r.receivers s.events r.stands)) in
     rw c.in-Ok.is at all
 
 pub returns-in-Err-play-clause-refused : goal.returns-in-Err-play-clause-refused
