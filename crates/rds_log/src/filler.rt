@@ -269,6 +269,7 @@ impl Filler {
     }
 
     /// Appends the comment of a break, and the lost slots of these that are not written yet.
+    #[inline(always)]
     fn push_more<W: TellingWrite>(
         &mut self,
         why: Option<Break>,
@@ -293,6 +294,8 @@ impl Filler {
 }
 
 /// Appends the comment of a break.
+// Cold path.
+#[inline(never)]
 fn push_comment<W: TellingWrite>(
     why: Option<Break>,
     output: &mut Lines<OUTPUT_ROOM>,
