@@ -28,7 +28,7 @@ use Rattle.rds_log.specs.declared.filler.Filler.{Filler}
 use Rattle.rds_log.specs.declared.filler.Times.{Times}
 use Rattle.rds_log.specs.declared.log_line.LogLine.{LogLine}
 use Rattle.rds_log.specs.declared.log_line.LogLine.TheVariants.{Skip, Slot}
-use Rattle.rds_log.proofs.OneOutput.{same_said}
+use Rattle.rds_log.specs.OneLog.{same_said}
 
 -- the output of some lost slots begins that of more
 pub lost_split : (i n : ℕ) → i ≤ n → (rest : List ℕ) × (lost_lines n ≡ lost_lines i ++ rest)

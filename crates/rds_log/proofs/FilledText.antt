@@ -29,7 +29,7 @@ use Rattle.rds_log.specs.declared.log_line.Block.TheVariants.{Missing}
 use Rattle.rds_log.specs.declared.log_line.LogLine.TheVariants.{Skip, Slot}
 use Rattle.rds_log.proofs.Cutting.{text_of-more}
 use Rattle.rds_log.proofs.FirstBytes.{content_near, same_slot_line}
-use Rattle.rds_log.proofs.OneOutput.{same_lines, same_slots}
+use Rattle.rds_log.specs.OneLog.{same_lines, same_slots}
 
 -- ---- a line as far as its time
 

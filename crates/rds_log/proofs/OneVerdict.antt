@@ -26,7 +26,7 @@ use Rattle.rds_log.specs.declared.audit_log.Auditing.{Auditing}
 use Rattle.rds_log.specs.declared.audit_log.Stop.{Stop}
 use Rattle.rds_log.specs.declared.audit_log.Stop.TheVariants.{FirstFault, LogEnd}
 use Rattle.rds_log.proofs.Cutting.{text_of-more}
-use Rattle.rds_log.proofs.OneOutput.{same_lines, same_slots}
+use Rattle.rds_log.specs.OneLog.{same_lines, same_slots}
 use Rattle.rds_log.proofs.WholeBytes.{read_and_left, read_whole}
 
 -- ---- lines

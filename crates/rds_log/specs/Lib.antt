@@ -13,3 +13,5 @@ pub mod FilledLog
 pub mod Gather
 -- The state of the crate's objects, a file for each. Callers do not need them.
 pub mod Inside
+-- Lemmas that crates above use.
+pub mod OneLog
