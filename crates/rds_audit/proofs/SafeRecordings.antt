@@ -21,7 +21,7 @@ use Rattle.rds_safety.specs.Plans.{AreLawful, Plans}
 use Rattle.rds_safety.specs.Safe.{AreNeighbours, AreSafe, Listener, ListensTo, ShowsNameOnAir, ShowsTagsOfItsText, ShowsTextOnAir, WasOnAir}
 use Rattle.rds_safety.specs.Source.{IsSource, LastWasSentIn, name_run, text_run}
 use Rattle.rds_safety.proofs.Entries.{entry_beside}
-use Rattle.rds_audit.specs.AuditLaws.{IsSafeRecording, PassesExactlyByPlans, WhatPassesAsARecordingIsSafe, later}
+use Rattle.rds_audit.specs.AuditLaws.{IsSafeRecording, PassesExactlyByPlans, PlansOfARecordingAreSafe, WhatPassesAsARecordingIsSafe, later}
 use Rattle.rds_audit.specs.Recording.{from_first_text, judged_as, preceded}
 use Rattle.rds_audit.specs.declared.log_start.LogStart.{LogStart}
 use Rattle.rds_audit.specs.declared.log_start.LogStart.TheVariants.{Running}
@@ -213,8 +213,7 @@ safe_for_the_log n d m t plans log receivers h = record {
 
 -- ---- the law
 
-safe_by_own_clocks : LawfulPlansAreSafeByOwnClocks → (d m now n : ℕ) (plans : Plans) (log : List (Option Message)) (receivers : List Listener)
-    → AreLawful d plans (from_first_text (preceded n log)) → All (ListensByOwnClock d m now log) receivers → AreSafe d m (now + n) plans (preceded n log) (map (later n) receivers)
+pub safe_by_own_clocks : LawfulPlansAreSafeByOwnClocks → PlansOfARecordingAreSafe
 safe_by_own_clocks own d m now n plans log receivers lawful all =
     safe_for_the_log n d m (now + n) plans log receivers
     (own d m (now + n) plans (from_first_text (preceded n log)) (map (judging n log) receivers) lawful
@@ -226,16 +225,16 @@ late_is_own late slow m k t log r listens =
     let by = late k m t log r.input listens.late listens.now in
     record { heard = slow k m t log r.input by.0 by.1; shows = listens.shows }
 
-pub safe_recording : PassesExactlyByPlans → LawfulPlansAreSafeByOwnClocks → LateIsBySlowClock → ASlowClockIsAnOwnClock → WhatPassesAsARecordingIsSafe
+pub safe_recording : PassesExactlyByPlans → PlansOfARecordingAreSafe → LateIsBySlowClock → ASlowClockIsAnOwnClock → WhatPassesAsARecordingIsSafe
 safe_recording law own late slow m k log pos p =
     let w = (law (m + k) (from_first_text (preceded (m + k) log)) (omega arith)).0 p in
     record {
       plans = w.plans;
       lawful = w.lawful;
       dense = w.dense;
-      safe = λ t receivers all. safe_by_own_clocks own (m + k) m t (m + k) w.plans log receivers w.lawful
+      safe = λ t receivers all. own (m + k) m t (m + k) w.plans log receivers w.lawful
           (All-weaker (ListensTo k m t log) (ListensByOwnClock (m + k) m t log) (late_is_own late slow m k t log) receivers all);
-      own_clocks = λ now receivers all. safe_by_own_clocks own (m + k) m now (m + k) w.plans log receivers w.lawful all;
+      own_clocks = λ now receivers all. own (m + k) m now (m + k) w.plans log receivers w.lawful all;
     }
 
 -- the audit of a running station judged the log with m + k slots in front

@@ -105,6 +105,14 @@ pub record IsSafeRecording (m k : ℕ) (log : List (Option Message)) : Type 0 wh
   pub own_clocks : (now : ℕ) (receivers : List Listener) → All (ListensByOwnClock (m + k) m now log) receivers
       → AreSafe (m + k) m (now + (m + k)) plans (preceded (m + k) log) (map (later (m + k)) receivers)
 
+-- plans that are lawful for the log with n slots in front and without the tags before its first text segment make each
+-- slot safe for any number of receivers of the log as it is, with clocks of their own
+abbrev pub PlansOfARecordingAreSafe : Type 0
+PlansOfARecordingAreSafe =
+    (d m now n : ℕ) (plans : Plans) (log : List (Option Message)) (receivers : List Listener)
+    → AreLawful d plans (from_first_text (preceded n log)) → All (ListensByOwnClock d m now log) receivers
+    → AreSafe d m (now + n) plans (preceded n log) (map (later n) receivers)
+
 -- a log that passes as a recording with d = m + k is a safe recording
 abbrev pub WhatPassesAsARecordingIsSafe : Type 0
 WhatPassesAsARecordingIsSafe =

@@ -1,6 +1,6 @@
 //! Laws about all logs that are audited: when a log passes, that it has one fault at most, what is safe if it passes,
 //! and what the list of its faults judges.
-ghost use Rattle.rds_audit.specs.AuditLaws.{BroadcastsAreTheReigns, PassesExactlyByPlans};
+ghost use Rattle.rds_audit.specs.AuditLaws.{BroadcastsAreTheReigns, PassesExactlyByPlans, PlansOfARecordingAreSafe};
 ghost use Rattle.rds_audit.specs.AuditLaws.{WhatHasAFaultDoesNotPass, WhatPassesAsARecordingIsSafe};
 ghost use Rattle.rds_audit.specs.AuditLaws.{WhatPassesIsSafe, WhatPassesIsSafeOnTime};
 ghost use Rattle.rds_audit.specs.FlagLaws.{WhatPassesIsSafeByTheFlag, WithoutPauseFlagsAlternate};
@@ -33,13 +33,21 @@ pub fn what_passes_is_safe()
     safe_by_plans();
 }
 
+/// States that plans which are lawful for what the audit judges of a recording make the views of all receivers of the
+/// recording safe.
+pub fn recordings_are_safe_by_plans()
+    ensures { PlansOfARecordingAreSafe }
+{
+    safe_by_plans();
+}
+
 /// States that the views of all receivers of a recording that passes are safe. They are receivers of the log as it is:
 /// they may hear the tags before its first text segment.
 pub fn what_passes_as_a_recording_is_safe()
     ensures { WhatPassesAsARecordingIsSafe }
 {
     passes_by_plans();
-    safe_by_plans();
+    recordings_are_safe_by_plans();
     own_clocks();
 }
 
