@@ -1,0 +1,166 @@
+-- What `slots` writes of a recording is received, by a clock of the receiver's own.
+use Rattle.std.proofs.Common.{◌≡◌, ◌<◌, ◌≤◌, ◌+◌, ◌-◌, ◌==◌, ◌∷◌, [], ◌∙◌, ℕ, zero, suc, Bool, true, false, cond}
+use Rattle.std.proofs.Common.{List, Option, None, Some, ap, arith, inl, inr, length, map, refl, subst, sym}
+use Rattle.std.proofs.lemmas.List.{length-map}
+use Rattle.rds_arrivals.specs.Arrivals.{Arrival, and_lost, filled}
+use Rattle.rds_arrivals.specs.Delivered.{arrivals, origins}
+use Rattle.rds_arrivals.specs.Laws.{FilledLogsAreOwnClocks}
+use Rattle.rds_block.specs.declared.group.Group.{Group}
+use Rattle.rds_log.specs.FilledLog.{FilledTextsAreLogs, IsLogOf}
+use Rattle.rds_log.specs.OneLog.{same_log}
+use Rattle.rds_safety.specs.Late.{HasEntry, IsOfItsOrigin}
+use Rattle.rds_safety.specs.OwnClock.{IsHeardByOwnClock}
+use Rattle.rds_wire.specs.FromTimes.{WhatSlotsWritesIsReceived}
+use Rattle.rds_wire.specs.Received.{first_of, own_group}
+use Rattle.rds_wire.proofs.Firsts.{entry_below, first_all}
+
+-- ---- without the groups of other programmes
+
+-- the origin of a group of another programme is none
+abbrev kept_origin : ℕ → Option Group → Option ℕ → Option ℕ
+kept_origin pi None origin = origin
+kept_origin pi (Some g) origin = cond (g.pi == pi) origin None
+
+abbrev kept_origins : ℕ → List (Option Group) → List (Option ℕ) → List (Option ℕ)
+kept_origins pi [] from = []
+kept_origins pi (slot ∷ before) [] = []
+kept_origins pi (slot ∷ before) (origin ∷ older) = kept_origin pi slot origin ∷ kept_origins pi before older
+
+kept_long : (pi : ℕ) (got : List (Option Group)) (from : List (Option ℕ)) → length from ≡ length got
+    → length (kept_origins pi got from) ≡ length got
+kept_long pi [] from same = refl
+kept_long pi (slot ∷ before) [] same = absurd (omega (arith, same))
+kept_long pi (slot ∷ before) (origin ∷ older) same = ap suc (kept_long pi before older (omega (arith, same)))
+
+-- an origin that was kept, with its group and what it was before
+record Kept (pi : ℕ) (got : List (Option Group)) (from : List (Option ℕ)) (t : ℕ) (origin : Option ℕ) : Type 0 where
+  slot : Option Group
+  came : HasEntry 0 got t slot
+  was : Option ℕ
+  from_was : HasEntry 0 from t was
+  is : origin ≡ kept_origin pi slot was
+
+kept : (pi : ℕ) (got : List (Option Group)) (from : List (Option ℕ)) (t : ℕ) (origin : Option ℕ)
+    → length from ≡ length got → HasEntry 0 (kept_origins pi got from) t origin → Kept pi got from t origin
+kept pi [] from t origin same at = absurd at
+kept pi (slot ∷ before) [] t origin same at = absurd at
+kept pi (slot ∷ before) (o ∷ older) t origin same (inl here) =
+    let less : length older ≡ length before = omega (arith, same) in
+    let long = kept_long pi before older less in
+    record {
+      slot = slot;
+      came = inl (omega (arith, here.0, long), refl);
+      was = o;
+      from_was = inl (omega (arith, here.0, long, less), refl);
+      is = here.1;
+    }
+kept pi (slot ∷ before) (o ∷ older) t origin same (inr there) =
+    let it = kept pi before older t origin (omega (arith, same)) there in
+    record { slot = it.slot; came = inr it.came; was = it.was; from_was = inr it.from_was; is = it.is }
+
+-- an origin that is there was kept
+was_there : (pi : ℕ) (slot : Option Group) (was : Option ℕ) (s : ℕ) → Some s ≡ kept_origin pi slot was → was ≡ Some s
+was_there pi None was s is = sym is
+was_there pi (Some g) was s is = by (g.pi == pi) is
+  where
+    by : (b : Bool) → Some s ≡ cond b was None → was ≡ Some s
+    by true e = sym e
+    by false e = absurd (cc)
+
+one_entry : {X : Type 0} (xs : List X) (t : ℕ) (x y : X) → HasEntry 0 xs t x → HasEntry 0 xs t y → x ≡ y
+one_entry [] t x y p q = absurd p
+one_entry (z ∷ xs) t x y (inl p) (inl q) = p.1 ∙ sym q.1
+one_entry (z ∷ xs) t x y (inl p) (inr q) = absurd (omega (arith, p.0, entry_below 0 xs t y q))
+one_entry (z ∷ xs) t x y (inr p) (inl q) = absurd (omega (arith, q.0, entry_below 0 xs t x p))
+one_entry (z ∷ xs) t x y (inr p) (inr q) = one_entry xs t x y p q
+
+map_entry : (f : Option Group → Option Group) (xs : List (Option Group)) (t : ℕ) (x : Option Group) → HasEntry 0 xs t x
+    → HasEntry 0 (map f xs) t (f x)
+map_entry f [] t x at = absurd at
+map_entry f (y ∷ xs) t x (inl here) =
+    inl (omega (arith, here.0, length-map xs f), ap f here.1)
+map_entry f (y ∷ xs) t x (inr there) = inr (map_entry f xs t x there)
+
+module _ (pi d m now : ℕ) (sent got : List (Option Group)) (from : List (Option ℕ))
+    (own : IsHeardByOwnClock d m now sent record { first = 0; heard = got; origins = from }) where
+  before : (t s : ℕ) → HasEntry 0 (kept_origins pi got from) t (Some s) → HasEntry 0 from t (Some s)
+  before t s at =
+      let it = kept pi got from t (Some s) own.order.beside at in
+      subst (λ (o : Option ℕ). HasEntry 0 from t o) (was_there pi it.slot it.was s it.is) it.from_was
+
+  each : (t : ℕ) (origin : Option ℕ) (entry : Option Group) → HasEntry 0 (kept_origins pi got from) t origin
+      → HasEntry 0 (map (own_group pi) got) t entry → IsOfItsOrigin sent origin entry
+  each t origin entry p q =
+      let it = kept pi got from t origin own.order.beside p in
+      let same = one_entry (map (own_group pi) got) t entry (own_group pi it.slot) q
+      (map_entry (own_group pi) got t it.slot it.came) in
+      subst (λ (o : Option Group). IsOfItsOrigin sent origin o) (sym same)
+      (subst (λ (o : Option ℕ). IsOfItsOrigin sent o (own_group pi it.slot)) (sym it.is)
+      (by it.slot it.was (own.order.each t it.was it.slot it.from_was it.came)))
+    where
+      by : (slot : Option Group) (was : Option ℕ) → IsOfItsOrigin sent was slot
+          → IsOfItsOrigin sent (kept_origin pi slot was) (own_group pi slot)
+      by None was is = is
+      by (Some g) was is = of (g.pi == pi)
+        where
+          of : (b : Bool) → IsOfItsOrigin sent (cond b was None) (cond b (Some g) None)
+          of true = is
+          of false = refl
+
+  -- a receiver of the programme hears the same by the same clock
+  own_by_own_clock : IsHeardByOwnClock d m now sent
+      record { first = 0; heard = map (own_group pi) got; origins = kept_origins pi got from }
+  own_by_own_clock = record {
+    order = record {
+      beside = kept_long pi got from own.order.beside ∙ sym (length-map got (own_group pi));
+      each = each;
+      rising = λ t u r s p q. own.order.rising t u r s (before t r p) (before u s q);
+    };
+    between = λ t u r s p q. own.between t u r s (before t r p) (before u s q);
+    since = λ t s p near. own.since t s (before t s p) (omega (arith, near, length-map got (own_group pi)));
+    past = λ t s p. own.past t s (before t s p);
+  }
+
+-- ---- what `slots` writes
+
+-- a clock for d slots is one for more
+looser : (d e m now : ℕ) (sent got : List (Option Group)) (from : List (Option ℕ)) → d ≤ e
+    → IsHeardByOwnClock d m now sent record { first = 0; heard = got; origins = from }
+    → IsHeardByOwnClock e m now sent record { first = 0; heard = got; origins = from }
+looser d e m now sent got from more own = record {
+  order = own.order;
+  between = λ t u r s p q near. omega (arith, more, own.between t u r s p q near);
+  since = λ t s p near. omega (arith, more, own.since t s p near);
+  past = own.past;
+}
+
+-- the slots of the newest group and of what was lost since are some
+some_slots : (n : ℕ) (slots : List (Option Group)) → 0 < length slots → 0 < length (and_lost n slots)
+some_slots zero slots some = some
+some_slots (suc n) slots some = omega arith
+
+-- what `slots` writes is received
+pub filled_is_received : FilledTextsAreLogs → FilledLogsAreOwnClocks Group → WhatSlotsWritesIsReceived
+filled_is_received logs clocks a f spread log sent newest before lines s got wide some dwell is given all fill came
+    got_is few =
+    let now = newest.slot + s.told in
+    let slots : List (Option Group) = and_lost s.told (filled f.grain f.dwell (arrivals (newest ∷ before))) in
+    let same : got ≡ slots = same_log s.written got slots got_is
+    (subst (λ (l : List (Arrival Group)). IsLogOf s.written (and_lost s.told (filled f.grain f.dwell l))) came
+    (logs f lines s all fill)) in
+    let from = and_lost s.told (filled f.grain f.dwell (origins (newest ∷ before))) in
+    let own = clocks f.grain spread f.dwell 0 s.told sent newest before wide some given in
+    let long : 0 < length got =
+    subst (λ (l : List (Option Group)). 0 < length l) (sym same)
+    (some_slots s.told (filled f.grain f.dwell (arrivals (newest ∷ before))) (omega arith)) in
+    let whole : first_of (length got - 1 + 1) got ≡ slots =
+    first_all (length got - 1 + 1) got (omega (arith, long)) ∙ same in
+    record {
+      sent = sent;
+      log_has = is;
+      reached = omega (arith, long);
+      few = few;
+      origins = kept_origins a.pi slots from;
+      came = inr (rw (whole, dwell) (own_by_own_clock a.pi (f.dwell + a.late) f.dwell now sent slots from
+          (looser f.dwell (f.dwell + a.late) f.dwell now sent slots from (omega arith) own)));
+    }

@@ -1,0 +1,406 @@
+-- The output of `encode` is a log, and its slots are the groups that were sent.
+use Rattle.std.proofs.Common.{◌≡◌, ◌≢◌, ◌<◌, ◌+◌, ◌/◌, ◌%◌, ◌==◌, ◌++◌, ◌∷◌, [], ◌∙◌, ℕ, zero, suc, Bool, true, false}
+use Rattle.std.proofs.Common.{cond, List, Option, None, Some, append_assoc, append-nil, ap, arith, codes, decimal, inl}
+use Rattle.std.proofs.Common.{inr, length, refl, subst, sym, slice_index}
+use Rattle.std.specs.Char.{digit_value}
+use Rattle.std.specs.List.{AllByRecursion}
+use Rattle.std.specs.Prelude.{All, nat_le}
+use Rattle.std.proofs.lemmas.Bool.Decides.{nat_tests}
+use Rattle.std.proofs.lemmas.List.Elements.{All-cons, All-nil}
+use Rattle.rds_assembly.specs.Whole.{carriage_return}
+use Rattle.rds_block.specs.declared.group.Group.{Group}
+use Rattle.rds_block.specs.SecondWord.{from_bool-lt}
+use Rattle.rds_block.specs.Words.{second_word_of}
+use Rattle.rds_fields.specs.Canonical.{IsWritten}
+use Rattle.rds_fields.specs.Spells.{Spells}
+use Rattle.rds_fields.specs.declared.head.Head.{Head}
+use Rattle.rds_fields.specs.declared.message.Message.{Message}
+use Rattle.rds_fields.specs.declared.message.Message.TheVariants.{Text, Name, Announce, Tags, Other}
+use Rattle.rds_fields.specs.Tag.{PairFields}
+use Rattle.rds_io.specs.Digits.{HasWord, upper_digit, word_digits}
+use Rattle.rds_encoder.specs.Entries.{Entry, Move, name_moves, slot_of, text_moves}
+use Rattle.rds_encoder.specs.Plan.{OnAir, on_air}
+use Rattle.rds_encoder.specs.Round.{turn_in}
+use Rattle.rds_encoder.specs.Sent.{IsSent, is_turn, name_segment, sent_at_turn, sent_in, tags_due, text_segment}
+use Rattle.rds_encoder.specs.Sent.{turn_of}
+use Rattle.rds_encoder.specs.Tags.{pair_on_air}
+use Rattle.rds_encoder.specs.declared.reply.Refusal.{Refusal}
+use Rattle.rds_encoder.specs.declared.reply.Refusal.TheVariants.{Silent, Held, NoText, OutOfText}
+use Rattle.rds_fields.specs.declared.pair.Which.TheVariants.{One, Two}
+use Rattle.rds_log.specs.FilledLog.{IsLogOf}
+use Rattle.rds_log.specs.LineSays.{IsLaidOut, IsSkipped, SaysSlot}
+use Rattle.rds_log.specs.OneLog.{says_group, says_none}
+use Rattle.rds_log.specs.LogLines.{IsLine, Line, content_length, line_feed, text_of}
+use Rattle.rds_log.specs.LogWrites.{AreSlots}
+use Rattle.rds_receiver.specs.Shown.{ShownView}
+use Rattle.rds_receiver.specs.declared.why.Whys.{Whys}
+use Rattle.rds_script.specs.Outcomes.{AreOutcomes, Outcome, block_digits, lines_of, log_line, receiver_changes}
+use Rattle.rds_script.specs.Outcomes.{refusal_content, reply_line, spaced_digits, newest_views, thing_set, whys_at}
+use Rattle.rds_script.specs.declared.form.Form.TheVariants.{Log}
+use Rattle.rds_view_lines.specs.Output.{line_of, slot_stamp}
+use Rattle.rds_world.specs.Event.{Event}
+use Rattle.rds_world.specs.Slots.{commanded, entries}
+use Rattle.rds_world.specs.declared.event.Command.{Command}
+use Rattle.rds_world.specs.declared.event.Command.TheVariants.{Quiet, Restart, SetText, SetName, SetTags}
+use Rattle.rds_world.specs.declared.reply.Reply.{Reply}
+use Rattle.rds_world.specs.declared.reply.Reply.TheVariants.{Restarted, Done, Refused}
+use Rattle.rds_world.specs.declared.reply.Reply.TheVariants as reply
+use Rattle.rds_wire.specs.Wire.{IsHead, station_of}
+use Rattle.rds_wire.proofs.Printed.{decimal_line, empty_line, feedless, join_lines, more_line, stamps}
+
+-- ---- bytes without a line feed
+
+join : (one other : List ℕ) → IsLine one → IsLine other → IsLine (one ++ other)
+join one other p q = join_lines one other p q
+
+-- ---- lines more
+
+-- the text has these lines, and ends between lines
+pub record HasCut (text : List ℕ) (slots : List (Option Group)) : Type 0 where
+  pub cut : List Line
+  pub text_is : text ≡ text_of cut []
+  pub lines : All IsLine cut
+  pub say : AreSlots cut slots
+
+text_more : (closed : List Line) (begun bytes : Line) → text_of closed begun ++ bytes ≡ text_of closed (begun ++ bytes)
+text_more [] begun bytes = refl
+text_more (line ∷ before) begun bytes = append_assoc (text_of before line) (line_feed ∷ begun) bytes
+
+more_text : (text line : List ℕ) (cut : List Line) → text ≡ text_of cut [] → text ++ (line ++ codes "\n") ≡ text_of
+    (line ∷ cut) []
+more_text text line cut is =
+    ap (λ (l : List ℕ). l ++ (line ++ codes "\n")) is ∙ sym (append_assoc (text_of cut []) line (codes "\n"))
+    ∙ ap (λ (l : List ℕ). l ++ codes "\n") (text_more cut [] line)
+
+with_slot : (text line : List ℕ) (slot : Option Group) (slots : List (Option Group)) → HasCut text slots → IsLine line
+    → IsLaidOut line × SaysSlot line slot
+    → HasCut (text ++ (line ++ codes "\n")) (slot ∷ slots)
+with_slot text line slot slots had is says = record {
+  cut = line ∷ had.cut;
+  text_is = more_text text line had.cut had.text_is;
+  lines = All-cons IsLine line had.cut is had.lines;
+  say = inr (slot, slots, says, refl, had.say);
+}
+
+with_comment : (text line : List ℕ) (slots : List (Option Group)) → HasCut text slots → IsLine line → IsSkipped line
+    → HasCut (text ++ (line ++ codes "\n")) slots
+with_comment text line slots had is says = record {
+  cut = line ∷ had.cut;
+  text_is = more_text text line had.cut had.text_is;
+  lines = All-cons IsLine line had.cut is had.lines;
+  say = inl (says, had.say);
+}
+
+same_text : (text other : List ℕ) (slots : List (Option Group)) → text ≡ other → HasCut text slots → HasCut other slots
+same_text text other slots same had = subst (λ (l : List ℕ). HasCut l slots) same had
+
+-- ---- replies
+
+things : (c : Command) → IsLine (thing_set c)
+things Quiet = feedless [] refl
+things Restart = feedless [] refl
+things (SetText x) = feedless (codes "text") refl
+things (SetName x) = feedless (codes "name") refl
+things (SetTags pair) = feedless (codes "tags") refl
+
+refusals : (r : Refusal) → IsLine (refusal_content r)
+refusals (Silent k) = join (codes " silent ") (decimal k) (feedless (codes " silent ") refl) (decimal_line k)
+refusals (Held k) = join (codes " held ") (decimal k) (feedless (codes " held ") refl) (decimal_line k)
+refusals NoText = feedless (codes " notext") refl
+refusals (OutOfText One) = feedless (codes " outoftext 1") refl
+refusals (OutOfText Two) = feedless (codes " outoftext 2") refl
+
+with_mark : (text stamp thing content : List ℕ) (slots : List (Option Group)) → IsLine stamp → IsLine thing
+    → IsLine content → HasCut text slots
+    → HasCut (text ++ (codes "# " ++ line_of stamp thing content)) slots
+with_mark text stamp thing content slots s t c had =
+    same_text _ _ slots (ap (λ (l : List ℕ). text ++ (codes "# " ++ l)) ends)
+    (with_comment text (codes "# " ++ (stamp ++ (thing ++ content))) slots had
+    (join (codes "# ") (stamp ++ (thing ++ content)) (feedless (codes "# ") refl)
+    (join stamp (thing ++ content) s (join thing content t c)))
+    (inr (inr (inl refl))))
+  where
+    ends : (stamp ++ (thing ++ content)) ++ codes "\n" ≡ line_of stamp thing content
+    ends = ap (λ (l : List ℕ). l ++ codes "\n") (sym (append_assoc stamp thing content))
+
+with_reply : (text : List ℕ) (slot : ℕ) (c : Command) (r : Reply) (slots : List (Option Group)) → HasCut text slots
+    → HasCut (text ++ reply_line (codes "# ") slot c r) slots
+with_reply text slot c reply.Quiet slots had = same_text text (text ++ []) slots (sym (append-nil text)) had
+with_reply text slot c Restarted slots had = with_mark text (slot_stamp slot) (codes "restart") [] slots (stamps slot)
+    (feedless (codes "restart") refl) (feedless [] refl) had
+with_reply text slot c Done slots had = with_mark text (slot_stamp slot) (thing_set c) (codes " ok") slots (stamps slot)
+    (things c) (feedless (codes " ok") refl) had
+with_reply text slot c (Refused refusal) slots had = with_mark text (slot_stamp slot) (thing_set c)
+    (refusal_content refusal) slots (stamps slot) (things c) (refusals refusal) had
+
+-- ---- groups
+
+value : (n : ℕ) → n < 16 → digit_value (upper_digit n) ≡ n
+value n h = grind (arith, nat_tests)
+
+digit : (n : ℕ) → n < 16 → upper_digit n ≢ line_feed
+digit n h = grind (arith, nat_tests)
+
+no_return : (n : ℕ) → n < 16 → (upper_digit n == carriage_return) ≡ false
+no_return n h = grind (arith, nat_tests)
+
+word_at : (line : List ℕ) (at w : ℕ) → w < 65536 → slice_index line at ≡ upper_digit (w / 4096)
+    → slice_index line (at + 1) ≡ upper_digit (w / 256 % 16)
+    → slice_index line (at + 2) ≡ upper_digit (w / 16 % 16) → slice_index line (at + 3) ≡ upper_digit (w % 16)
+    → HasWord line at w
+word_at line at w fits a b c d =
+    let first = value (w / 4096) (omega (arith, fits)) in
+    let second = value (w / 256 % 16) (omega arith) in
+    let third = value (w / 16 % 16) (omega arith) in
+    let fourth = value (w % 16) (omega arith) in
+    record {
+      first = rw (a, first) (omega (arith, fits));
+      second = rw (b, second) (omega arith);
+      third = rw (c, third) (omega arith);
+      fourth = rw (d, fourth) (omega arith);
+      word = rw (a, b, c, d, first, second, third, fourth) (omega (arith, fits));
+    }
+
+-- the words and the fields of a group fit into their bits
+pub record Fits (g : Group) : Type 0 where
+  pub pi : g.pi < 65536
+  pub number : g.number < 16
+  pub pty : g.pty < 32
+  pub low : g.low < 32
+  pub c : g.c < 65536
+  pub d : g.d < 65536
+
+second_fits : (g : Group) → Fits g → second_word_of g < 65536
+second_fits g f = omega (arith, f.number, f.pty, f.low, from_bool-lt g.version, from_bool-lt g.tp)
+
+word_line : (w : ℕ) → w < 65536 → IsLine (word_digits w)
+word_line w fits =
+    more_line (upper_digit (w / 4096))
+    (upper_digit (w / 256 % 16) ∷ upper_digit (w / 16 % 16) ∷ upper_digit (w % 16) ∷ [])
+    (digit (w / 4096) (omega (arith, fits)))
+    (more_line (upper_digit (w / 256 % 16)) (upper_digit (w / 16 % 16) ∷ upper_digit (w % 16) ∷ [])
+    (digit (w / 256 % 16) (omega arith))
+    (more_line (upper_digit (w / 16 % 16)) (upper_digit (w % 16) ∷ []) (digit (w / 16 % 16) (omega arith))
+    (more_line (upper_digit (w % 16)) [] (digit (w % 16) (omega arith)) empty_line)))
+
+spaced_line : (w : ℕ) → w < 65536 → IsLine (spaced_digits w)
+spaced_line w fits = join (codes " ") (word_digits w) (feedless (codes " ") refl) (word_line w fits)
+
+-- a group has no line feed
+pub group_line : (g : Group) → Fits g → IsLine (block_digits g)
+group_line g f =
+    let b = second_word_of g in
+    join (word_digits g.pi ++ spaced_digits b ++ spaced_digits g.c) (spaced_digits g.d)
+    (join (word_digits g.pi ++ spaced_digits b) (spaced_digits g.c)
+    (join (word_digits g.pi) (spaced_digits b) (word_line g.pi f.pi) (spaced_line b (second_fits g f)))
+    (spaced_line g.c f.c)) (spaced_line g.d f.d)
+
+-- the digits of a group say its slot
+pub group_says : (g : Group) → Fits g → IsLaidOut (block_digits g) × SaysSlot (block_digits g) (Some g)
+group_says g f = (
+  record {
+    at_least = omega (arith, long);
+    spaces = record { first = refl; second = refl; third = refl };
+    ends =
+        inl long;
+  },
+  says_group (block_digits g) g.pi (second_word_of g) g.c g.d g
+      (word_at (block_digits g) 0 g.pi f.pi refl refl refl refl)
+      (word_at (block_digits g) 5 (second_word_of g) (second_fits g f) refl refl refl refl)
+      (word_at (block_digits g) 10 g.c f.c refl refl refl refl)
+      (word_at (block_digits g) 15 g.d f.d refl refl refl refl)
+      (record { blocks = refl; number = f.number; pty = f.pty; low = f.low }),
+)
+  where
+    long : content_length (block_digits g) ≡ 19
+    long = rw (no_return (g.d % 16) (omega arith)) refl
+
+-- dashes say a lost slot
+pub dashes : IsLaidOut (codes "---- ---- ---- ----") × SaysSlot (codes "---- ---- ---- ----") None
+dashes = (
+  record { at_least = omega arith; spaces = record { first = refl; second = refl; third = refl }; ends = inl refl },
+  says_none (codes "---- ---- ---- ----") (record { first = refl; second = refl; third = refl; fourth = refl })
+      (record { first = refl; second = refl; third = refl; fourth = refl })
+      (record { first = refl; second = refl; third = refl; fourth = refl })
+      (record { first = refl; second = refl; third = refl; fourth = refl }),
+)
+
+-- ---- what an encoder sends fits
+
+-- a message that an encoder sends
+abbrev IsSendable : Message → Type 0
+IsSendable (Text f a b) = Unit {0}
+IsSendable (Name f a b) = Unit {0}
+IsSendable (Announce code bits aid) = (bits < 65536) × (aid < 65536)
+IsSendable (Tags pair) = Unit {0}
+IsSendable Other = ⊥
+
+abbrev AreSendable : Option Message → Type 0
+AreSendable None = Unit {0}
+AreSendable (Some message) = IsSendable message
+
+sendable_if : (b : Bool) (o : Option Message) → AreSendable o → AreSendable (cond b o None)
+sendable_if true o is = is
+sendable_if false o is = tt
+
+text_sendable : (d : ℕ) (moves : List Move) (o : Option OnAir) → AreSendable (text_segment d moves o)
+text_sendable d moves None = tt
+text_sendable d moves (Some air) = tt
+
+name_sendable : (a : ℕ) (o : Option OnAir) → AreSendable (name_segment a o)
+name_sendable a None = tt
+name_sendable a (Some air) = tt
+
+tags_sendable : (d now : ℕ) (o : Option OnAir) (p : Option PairFields) → AreSendable (tags_due d now o p)
+tags_sendable d now None p = tt
+tags_sendable d now (Some air) None = tt
+tags_sendable d now (Some air) (Some pair) = sendable_if (nat_le (air.start + d) now) (Some (Tags pair)) tt
+
+sends : (d place : ℕ) (before : List Entry) → AreSendable (sent_at_turn d (turn_in place) before)
+sends d zero before = text_sendable d (text_moves before) (on_air d (text_moves before))
+sends d (suc zero) before = name_sendable 0 (on_air d (name_moves before))
+sends d (suc (suc zero)) before = text_sendable d (text_moves before) (on_air d (text_moves before))
+sends d (suc (suc (suc zero))) before = name_sendable 1 (on_air d (name_moves before))
+sends d (suc (suc (suc (suc zero)))) before = text_sendable d (text_moves before) (on_air d (text_moves before))
+sends d (suc (suc (suc (suc (suc zero))))) before = (omega arith, omega arith)
+sends d (suc (suc (suc (suc (suc (suc zero)))))) before =
+    text_sendable d (text_moves before) (on_air d (text_moves before))
+sends d (suc (suc (suc (suc (suc (suc (suc zero))))))) before =
+    tags_sendable d (slot_of (text_moves before)) (on_air d (text_moves before)) (pair_on_air d before)
+sends d (suc (suc (suc (suc (suc (suc (suc (suc n)))))))) before =
+    text_sendable d (text_moves before) (on_air d (text_moves before))
+
+-- an encoder sends only such messages
+pub sent_is_sendable : (d : ℕ) (free : Bool) (before : List Entry) → AreSendable (sent_in d free before)
+sent_is_sendable d free before = sendable_if (is_turn d free (text_moves before))
+    (sent_at_turn d (turn_in (turn_of d (text_moves before) % 8)) before)
+    (sends d (turn_of d (text_moves before) % 8) before)
+
+spelled_fits : (m : Message) (h : Head) (g : Group) → IsHead h → IsSendable m → IsWritten m h g → Fits g
+spelled_fits m h g head is w =
+    let pi = w.head.pi in
+    let pty = w.head.pty in
+    let at : g.pi < 65536 = omega (arith, pi, head.pi) in
+    let to : g.pty < 32 = omega (arith, pty, head.pty) in
+    by m is w.spelled at to
+  where
+    by : (m : Message) → IsSendable m → Spells m g → g.pi < 65536 → g.pty < 32 → Fits g
+    by (Text f a b) is s at to = record {
+      pi = at;
+      number = omega (arith, s.of.number);
+      pty = to;
+      low = omega (arith, s.low, s.address, from_bool-lt f);
+      c = omega (arith, s.bytes.first, s.bytes.fits 0, s.bytes.fits 1);
+      d = omega (arith, s.bytes.second, s.bytes.fits 2, s.bytes.fits 3);
+    }
+    by (Name f a b) is (rest, s) at to = record {
+      pi = at;
+      number = omega (arith, s.of.number);
+      pty = to;
+      low = omega (arith, s.low, s.address, s.between, from_bool-lt f);
+      c = omega (arith, s.bytes.first, s.bytes.fits 0, s.bytes.fits 1);
+      d = omega (arith, s.bytes.second, s.bytes.fits 2, s.bytes.fits 3);
+    }
+    by (Announce code bits aid) is s at to = record {
+      pi = at;
+      number = omega (arith, s.of.number);
+      pty = to;
+      low = omega (arith, s.low, s.code);
+      c = omega (arith, s.third, is.0);
+      d = omega (arith, s.fourth, is.1);
+    }
+    by (Tags pair) is (sent, s) at to = record {
+      pi = at;
+      number = omega (arith, s.of.number);
+      pty = to;
+      low = omega (
+        arith,
+        s.pair.bits,
+        s.pair.fits.toggle,
+        s.pair.fits.running,
+        s.pair.fits.class_one,
+        s.pair.fits.start_one,
+        s.pair.fits.extra_one,
+        s.pair.fits.class_two,
+        s.pair.fits.start_two,
+        s.pair.fits.extra_two,
+      );
+      c = s.third;
+      d = s.fourth;
+    }
+    by Other is s at to = absurd is
+
+sent_fits : (h : Head) (message : Option Message) (g : Group) → IsHead h → AreSendable message
+    → IsSent h message (Some g) → Fits g
+sent_fits h None g head is sent = absurd sent
+sent_fits h (Some m) g head is sent = spelled_fits m h g head is sent
+
+-- ---- the whole output
+
+-- the groups that were sent
+abbrev pub groups_sent : List Outcome → List (Option Group)
+groups_sent [] = []
+groups_sent (o ∷ older) = o.sent ∷ groups_sent older
+
+with_log_line : (h : Head) (text : List ℕ) (message : Option Message) (sent : Option Group)
+    (slots : List (Option Group)) → IsHead h → AreSendable message → IsSent h message sent → HasCut text slots
+    → HasCut (text ++ log_line sent) (sent ∷ slots)
+with_log_line h text message None slots head is of had =
+    with_slot text (codes "---- ---- ---- ----") None slots had (feedless (codes "---- ---- ---- ----") refl) dashes
+with_log_line h text message (Some g) slots head is of had =
+    let fits = sent_fits h message g head is of in
+    with_slot text (block_digits g) (Some g) slots had (group_line g fits) (group_says g fits)
+
+-- without receivers there is no change
+no_changes : (n slot : ℕ) (whys : ℕ → Option Whys) (before now : List ShownView) → n ≡ 0
+    → receiver_changes slot n whys before now ≡ []
+unfolding receiver_changes
+no_changes zero slot whys before now none = refl
+no_changes (suc n) slot whys before now none = absurd (omega (arith, none))
+
+-- no event has a receiver
+abbrev pub HasNoReceivers : List Event → Type 0
+HasNoReceivers events = AllByRecursion (λ (e : Event). length e.receptions ≡ 0) events
+
+joined : (text reply line changes : List ℕ) → changes ≡ []
+    → (text ++ reply) ++ line ≡ text ++ (((reply ++ line) ++ changes) ++ [])
+joined text reply line changes none =
+    append_assoc text reply line
+    ∙ ap (λ (l : List ℕ). text ++ l)
+    (sym (append-nil (reply ++ line)) ∙ ap (λ (l : List ℕ). (reply ++ line) ++ l) (sym none)
+    ∙ sym (append-nil ((reply ++ line) ++ changes)))
+
+cut_of : (h : Head) (m k : ℕ) (events : List Event) (outcomes : List Outcome) → IsHead h → HasNoReceivers events
+    → AreOutcomes (station_of h m k) events outcomes
+    → HasCut (lines_of Log (station_of h m k) events outcomes) (groups_sent outcomes)
+cut_of h m k [] [] head none are = record { cut = []; text_is = refl; lines = All-nil IsLine; say = refl }
+cut_of h m k [] (o ∷ older) head none are = absurd are
+cut_of h m k (e ∷ before) [] head none are = absurd are
+cut_of h m k (e ∷ before) (o ∷ older) head none are =
+    let had = cut_of h m k before older head none.1 are.1 in
+    let text = lines_of Log (station_of h m k) before older in
+    let reply = reply_line (codes "# ") (length older) o.command o.reply in
+    let replied = with_reply text (length older) o.command o.reply (groups_sent older) had in
+    let said = with_log_line h (text ++ reply) (sent_in (m + k) e.free (commanded e.command (entries before))) o.sent
+    (groups_sent older) head
+    (sent_is_sendable (m + k) e.free (commanded e.command (entries before))) are.0.sent replied in
+    let whys = whys_at Log (station_of h m k) e.receptions (e ∷ before) in
+    let alone = no_changes (length o.views) (length older) whys (newest_views older) o.views
+    (are.0.receivers ∙ none.0) in
+    same_text ((text ++ reply) ++ log_line o.sent) (lines_of Log (station_of h m k) (e ∷ before) (o ∷ older))
+    (o.sent ∷ groups_sent older)
+    (joined text reply (log_line o.sent)
+    (receiver_changes (length older) (length o.views) whys (newest_views older) o.views) alone) said
+
+-- the output of `encode` is a log, and its slots are the groups that were sent
+pub encoded_is_log : (h : Head) (m k : ℕ) (events : List Event) (outcomes : List Outcome) (log : List ℕ) → IsHead h
+    → HasNoReceivers events → AreOutcomes (station_of h m k) events outcomes
+    → log ≡ lines_of Log (station_of h m k) events outcomes → IsLogOf log (groups_sent outcomes)
+encoded_is_log h m k events outcomes log head none are is =
+    let had = cut_of h m k events outcomes head none are in
+    record {
+      lines = had.cut;
+      are = (had.cut, [], is ∙ had.text_is, had.lines, All-nil _, inl (refl, refl));
+      say =
+          had.say;
+    }

@@ -1,0 +1,153 @@
+-- The printed form of a text has no line feed, and neither has a decimal number.
+use Rattle.std.proofs.Common.{◌≡◌, ◌≢◌, ◌<◌, ◌-◌, ◌/◌, ◌%◌, ◌==◌, ◌++◌, ◌∷◌, [], ◌∙◌, ℕ, zero, suc, decimal, Bool, true}
+use Rattle.std.proofs.Common.{false, not, cond, List, Option, None, Some, ap, arith, codes, length, refl, subst, sym}
+use Rattle.std.proofs.Common.{get_or, inl, inr}
+use Rattle.std.specs.Char.{encode_utf8}
+use Rattle.std.specs.Fmt.{digits, digits_onto, digit_glyph}
+use Rattle.std.specs.List.{list_all, slice_get}
+use Rattle.std.specs.Option.{option_map_or, option_or}
+use Rattle.std.specs.Prelude.{All, nat_le}
+use Rattle.std.proofs.lemmas.Bool.{and_parts}
+use Rattle.std.proofs.lemmas.Bool.Decides.{eqb_tells, nat_tests}
+use Rattle.std.proofs.lemmas.List.Elements.{All-append, All-cons, All-nil}
+use Rattle.std.proofs.lemmas.List.Folds.{list_all_at}
+use Rattle.std.proofs.lemmas.Option.{get_or_from_slice_get, slice_get_within}
+use Rattle.rds_charset.specs.Printed.{escaped, printed, printed_byte, shown_character}
+use Rattle.rds_charset.specs.Table.{Stretch, character_at, character_in, character_of, table}
+use Rattle.rds_io.specs.Digits.{upper_digit}
+use Rattle.rds_view_lines.specs.Output.{slot_stamp}
+
+-- no line feed is in the bytes
+abbrev pub IsFeedless : List ℕ → Type 0
+IsFeedless bytes = All (λ (b : ℕ). b ≢ 10) bytes
+
+-- no bytes have no line feed
+pub empty_line : IsFeedless []
+empty_line = All-nil (λ (x : ℕ). x ≢ 10)
+
+-- a byte that is no line feed before others
+pub more_line : (b : ℕ) (rest : List ℕ) → b ≢ 10 → IsFeedless rest → IsFeedless (b ∷ rest)
+more_line b rest p q = All-cons (λ (x : ℕ). x ≢ 10) b rest p q
+
+-- bytes without a line feed after others
+pub join_lines : (one other : List ℕ) → IsFeedless one → IsFeedless other → IsFeedless (one ++ other)
+join_lines one other p q = All-append (λ (x : ℕ). x ≢ 10) one other p q
+
+-- bytes that a test finds without a line feed
+pub feedless : (bytes : List ℕ) → list_all (λ b. not (b == 10)) bytes ≡ true → IsFeedless bytes
+feedless [] e = All-nil (λ (x : ℕ). x ≢ 10)
+feedless (b ∷ rest) e =
+    let both = and_parts (not (b == 10)) (list_all (λ b. not (b == 10)) rest) e in
+    All-cons (λ (x : ℕ). x ≢ 10) b rest (other both.0) (feedless rest both.1)
+  where
+    other : not (b == 10) ≡ true → b ≢ 10
+    other test = elim (eqb_tells b 10) [
+      | inl same ↦ absurd (let bad : false ≡ true = rw same.0 at test in cc)
+      | inr apart ↦ apart.1
+    ]
+
+-- whether the bytes of a character have no line feed
+abbrev clean : ℕ → Bool
+clean character = list_all (λ b. not (b == 10)) (encode_utf8 character)
+
+all_clean : list_all (λ (s : Stretch). list_all clean s.1) table ≡ true
+unfolding encode_utf8
+all_clean = refl
+
+-- an element of a list of which each passes a test
+pub of_each : {X : Type 0} (test : X → Bool) (xs : List X) (i : ℕ) (x : X) → list_all test xs ≡ true
+    → slice_get xs i ≡ Some x → test x ≡ true
+of_each test xs i x all is = by (test x) refl
+  where
+    by : (b : Bool) → test x ≡ b → test x ≡ true
+    by true e = e
+    by false e = absurd
+        (let bad : false ≡ true =
+        sym (list_all_at test xs i x (slice_get_within xs i x is) (ap test (get_or_from_slice_get xs i x x is) ∙ e))
+        ∙ all in cc)
+
+of_all : (xs : List ℕ) (i : ℕ) → i < length xs → list_all clean xs ≡ true → clean (get_or xs i 0) ≡ true
+of_all xs i within all = by (clean (get_or xs i 0)) refl
+  where
+    by : (b : Bool) → clean (get_or xs i 0) ≡ b → clean (get_or xs i 0) ≡ true
+    by true e = e
+    by false e = absurd (let bad : false ≡ true = sym (list_all_at clean xs i 0 within e) ∙ all in cc)
+
+clean_at : (s : Stretch) (byte c : ℕ) → list_all clean s.1 ≡ true → character_at s byte ≡ Some c → clean c ≡ true
+clean_at s byte c all is = by (nat_le s.0 byte) is
+  where
+    by : (b : Bool) → cond b (slice_get s.1 (byte - s.0)) None ≡ Some c → clean c ≡ true
+    by true e = subst (λ (x : ℕ). clean x ≡ true) (get_or_from_slice_get s.1 (byte - s.0) c 0 e)
+        (of_all s.1 (byte - s.0) (slice_get_within s.1 (byte - s.0) c e) all)
+    by false e = absurd (cc)
+
+clean_in : (all : List Stretch) (byte c : ℕ) → list_all (λ (s : Stretch). list_all clean s.1) all ≡ true
+    → character_in all byte ≡ Some c → clean c ≡ true
+clean_in [] byte c all is = absurd (cc)
+clean_in (s ∷ more) byte c all is =
+    let both = and_parts (list_all clean s.1) (list_all (λ (s : Stretch). list_all clean s.1) more) all in
+    by (character_at s byte) refl is both.0 (clean_in more byte c both.1)
+  where
+    by : (o : Option ℕ) → character_at s byte ≡ o → option_or o (character_in more byte) ≡ Some c
+        → list_all clean s.1 ≡ true → (character_in more byte ≡ Some c → clean c ≡ true) → clean c ≡ true
+    by (Some x) e f one rest = (let same : x ≡ c = cc in clean_at s byte c one (e ∙ ap Some same))
+    by None e f one rest = rest f
+
+clean_of : (byte c : ℕ) → character_of byte ≡ Some c → clean c ≡ true
+unfolding character_of
+clean_of byte c is = clean_in table byte c all_clean is
+
+digit : (n : ℕ) → upper_digit n ≢ 10
+digit n = grind (arith, nat_tests)
+
+escaped_line : (byte : ℕ) → IsFeedless (escaped byte)
+escaped_line byte =
+    let low : List ℕ = upper_digit (byte % 16) ∷ [] in
+    join_lines (codes "\\x") (upper_digit (byte / 16) ∷ low) (feedless (codes "\\x") refl)
+    (more_line (upper_digit (byte / 16)) low (digit (byte / 16))
+    (more_line (upper_digit (byte % 16)) [] (digit (byte % 16)) empty_line))
+
+byte_line : (byte : ℕ) → IsFeedless (printed_byte byte)
+unfolding printed_byte
+byte_line byte = by (shown_character byte) (λ c is. shown byte c (byte == 0x22) is)
+  where
+    shown : (byte c : ℕ) (b : Bool) → cond b None (character_of byte) ≡ Some c → clean c ≡ true
+    shown byte c true is = absurd (cc)
+    shown byte c false is = clean_of byte c is
+
+    by : (o : Option ℕ) → ((c : ℕ) → o ≡ Some c → clean c ≡ true)
+        → IsFeedless (option_map_or encode_utf8 o (escaped byte))
+    by None own = escaped_line byte
+    by (Some c) own = feedless (encode_utf8 c) (own c refl)
+
+-- the printed form of any bytes has no line feed
+pub printed_line : (bytes : List ℕ) → IsFeedless (printed bytes)
+printed_line [] = empty_line
+printed_line (byte ∷ rest) = join_lines (printed_byte byte) (printed rest) (byte_line byte) (printed_line rest)
+
+-- ---- decimal numbers
+
+either_line : (b : Bool) (one other : List ℕ) → IsFeedless one → IsFeedless other → IsFeedless (cond b one other)
+either_line true one other p q = p
+either_line false one other p q = q
+
+glyph : (n : ℕ) → n < 10 → digit_glyph false n ≢ 10
+glyph n h = grind (arith, nat_tests)
+
+digits_line : (k n : ℕ) (acc : List ℕ) → IsFeedless acc → IsFeedless (digits_onto k 10 false n acc)
+digits_line zero n acc is = is
+digits_line (suc k) n acc is =
+    let more : IsFeedless (digit_glyph false (n % 10) ∷ acc) =
+    more_line (digit_glyph false (n % 10)) acc (glyph (n % 10) (omega arith)) is in
+    either_line (n / 10 == 0) (digit_glyph false (n % 10) ∷ acc)
+    (digits_onto k 10 false (n / 10) (digit_glyph false (n % 10) ∷ acc)) more
+    (digits_line k (n / 10) (digit_glyph false (n % 10) ∷ acc) more)
+
+-- a number has no line feed
+pub decimal_line : (n : ℕ) → IsFeedless (decimal n)
+unfolding digits
+decimal_line n = digits_line 64 n [] empty_line
+
+-- nor has the stamp of a slot
+pub stamps : (slot : ℕ) → IsFeedless (slot_stamp slot)
+stamps slot = join_lines (decimal slot) (codes " ") (decimal_line slot) (feedless (codes " ") refl)

@@ -1,0 +1,194 @@
+-- From the views of two receivers to what their output shows.
+use Rattle.std.proofs.Common.{◌≡◌, ◌≢◌, ◌⊎◌, ◌≤◌, ◌∷◌, [], ◌∙◌, ℕ, List, Option, None, Some, ap, ap₂, arith, inl, inr}
+use Rattle.std.proofs.Common.{length, refl, sym, lt-ltb, le-leb, ne_eqb}
+use Rattle.std.specs.Prelude.{All, IfSome}
+use Rattle.std.proofs.lemmas.List.Elements.{All-head, All-tail}
+use Rattle.rds_fields.specs.declared.message.Message.{Message}
+use Rattle.rds_fields.specs.declared.pair.Which.TheVariants.{One, Two}
+use Rattle.rds_fields.specs.Tag.{PairFields, TagFields, end_of}
+use Rattle.rds_encoder.specs.Plan.{Broadcast}
+use Rattle.rds_encoder.specs.Spaced.{IsSpaced}
+use Rattle.rds_receiver.specs.Receipts.{Segment}
+use Rattle.rds_receiver.specs.Shown.{ShownView, ShowsView, view_with}
+use Rattle.rds_receiver.specs.declared.why.WhyNone.{WhyNone}
+use Rattle.rds_receiver.specs.declared.why.Whys.{Whys}
+use Rattle.rds_receiver.specs.Tags.{cut_by, item_of, pair_held, tag_of}
+use Rattle.rds_safety.specs.Late.{Input}
+use Rattle.rds_safety.specs.Laws.{ARunHasOneSource}
+use Rattle.rds_safety.specs.Marks.{IsMarkIn, Mark, Tagged, marks, text_mark}
+use Rattle.rds_safety.specs.Safe.{AreNeighbours, HaveNearSources, Listener, NamesPiece, ShowsNameOnAir, ShowsNoTags}
+use Rattle.rds_safety.specs.Safe.{ShowsTagsOf, ShowsTagsOfItsText, ShowsTextOnAir}
+use Rattle.rds_safety.specs.Safe as safe
+use Rattle.rds_view_lines.specs.Output.{item_content, none_content, quoted, tag_content, text_content, why_name}
+use Rattle.rds_view_lines.specs.Output.{why_text}
+use Rattle.rds_view_lines.specs.ViewParts.{IsNothing, Item, Name, Part, Tag1, Tag2, Text, part_content}
+use Rattle.rds_wire.specs.Safe.{AreSafe, IsOfPair, OnAir, WentWith, WereOnAir}
+
+-- ---- texts and names
+
+-- texts or names that two receivers show were on air
+pub were : (d t : ℕ) (plan : List Broadcast) (i j : Input) (r q : List Segment) (o w : Option (List ℕ))
+    (x y : List ℕ) (v u : Option WhyNone) → x ≡ text_content v o → y ≡ text_content u w
+    → IfSome o (safe.WasOnAir d t plan i r) → IfSome w (safe.WasOnAir d t plan j q) → HaveNearSources plan i r j q
+    → IsNothing x ⊎ IsNothing y ⊎ WereOnAir d t plan x y
+were d t plan i j r q None w x y v u ex ey one other near = inl (v, ex)
+were d t plan i j r q (Some a) None x y v u ex ey one other near = inr (inl (u, ey))
+were d t plan i j r q (Some a) (Some b) x y v u ex ey one other near = inr (inr (record {
+  k = one.number;
+  l = other.number;
+  first = record {
+    broadcast = one.broadcast;
+    planned = one.source.planned;
+    says = ex ∙ ap quoted (sym one.bytes);
+    slot = one.slot;
+    covers = one.covers;
+    past = one.past;
+    recent = one.recent;
+  };
+  second = record {
+    broadcast = other.broadcast;
+    planned = other.source.planned;
+    says = ey ∙ ap quoted (sym other.bytes);
+    slot = other.slot;
+    covers = other.covers;
+    past = other.past;
+    recent = other.recent;
+  };
+  near = near one.number other.number one.broadcast other.broadcast one.source other.source;
+}))
+
+-- ---- tags
+
+abbrev shown_as : ℕ → List ℕ → Option (ℕ × List ℕ)
+shown_as class piece = Some (class, piece)
+
+cuts : (tag : TagFields) (text : List ℕ) (shown : ℕ × List ℕ) → NamesPiece tag text shown → cut_by tag text ≡ Some shown
+cuts tag text (class, piece) n =
+    let real = n.real in
+    let some : tag.class ≢ 0 = λ e. omega (arith, e, real) in
+    rw (lt-ltb 0 tag.class n.real, ne_eqb tag.class 0 some, le-leb (end_of tag) (length text) n.ends)
+    (ap₂ shown_as (sym n.class) (sym n.piece))
+
+-- no text, no part of a pair
+none_without : (part : Part) → IsOfPair part → (whys : Option Whys) (view : ShownView) (pair : Option PairFields)
+    → view.text ≡ None → view.item ≡ item_of view.text pair → view.one ≡ tag_of One view.text pair
+    → view.two ≡ tag_of Two view.text pair → part_content part whys view ≡ none_content None
+none_without Text of whys view pair none item one two = absurd of
+none_without Name of whys view pair none item one two = absurd of
+none_without Item of whys view pair none item one two =
+    ap item_content (item ∙ ap (λ (o : Option (List ℕ)). item_of o pair) none)
+none_without Tag1 of whys view pair none item one two =
+    ap tag_content (one ∙ ap (λ (o : Option (List ℕ)). tag_of One o pair) none)
+none_without Tag2 of whys view pair none item one two =
+    ap tag_content (two ∙ ap (λ (o : Option (List ℕ)). tag_of Two o pair) none)
+
+none_of_none : (part : Part) → IsOfPair part → (whys : Option Whys) (view : ShownView) → ShowsNoTags view
+    → part_content part whys view ≡ none_content None
+none_of_none Text of whys view none = absurd of
+none_of_none Name of whys view none = absurd of
+none_of_none Item of whys view none = ap item_content none.item
+none_of_none Tag1 of whys view none = ap tag_content none.one
+none_of_none Tag2 of whys view none = ap tag_content none.two
+
+-- a part of a pair is nothing, or what the pair cuts
+of_pair : (part : Part) → IsOfPair part → (whys : Option Whys) (view : ShownView) (bytes : List ℕ) (pair : PairFields)
+    → view.item ≡ Some (pair.toggle, pair.running) → IfSome view.one (NamesPiece pair.one bytes)
+    → IfSome view.two (NamesPiece pair.two bytes) → (part_content part whys view ≡ none_content None)
+    ⊎ (part_content part whys view ≡ part_content part None (view_with (Some bytes) None (Some pair)))
+of_pair Text of whys view bytes pair item one two = absurd of
+of_pair Name of whys view bytes pair item one two = absurd of
+of_pair Item of whys view bytes pair item one two = inr (ap item_content item)
+of_pair Tag1 of whys view bytes pair item one two = by view.one one
+  where
+    by : (o : Option (ℕ × List ℕ)) → IfSome o (NamesPiece pair.one bytes)
+        → (tag_content o ≡ none_content None) ⊎ (tag_content o ≡ tag_content (cut_by pair.one bytes))
+    by None n = inl refl
+    by (Some tag) n = inr (ap tag_content (sym (cuts pair.one bytes tag n)))
+of_pair Tag2 of whys view bytes pair item one two = by view.two two
+  where
+    by : (o : Option (ℕ × List ℕ)) → IfSome o (NamesPiece pair.two bytes)
+        → (tag_content o ≡ none_content None) ⊎ (tag_content o ≡ tag_content (cut_by pair.two bytes))
+    by None n = inl refl
+    by (Some tag) n = inr (ap tag_content (sym (cuts pair.two bytes tag n)))
+
+-- the content is that of the part of the view, with some reason or none
+abbrev pub IsContentOf : Part → ShownView → List ℕ → Type 0
+IsContentOf part view content = (whys : Option Whys) × (content ≡ part_content part whys view)
+
+-- tags of the log are tags of the station, and were sent by now
+abbrev pub AreTagsUpTo : ℕ → OnAir → List Mark → Type 0
+AreTagsUpTo now air sent =
+    (slot : ℕ) (pair : PairFields) → IsMarkIn sent slot (Tagged pair) → air.HasTags slot pair × (slot ≤ now)
+
+was_with : ARunHasOneSource → (d now : ℕ) (air : OnAir) (sent : List Mark) (i : Input) (r : List Segment) (m : ℕ)
+    (view : ShownView) (x : List ℕ) (contents : Part → List ℕ) → AreTagsUpTo now air sent → IsSpaced d air.plans.text
+    → ShowsView m i.first i.heard view → IsContentOf Text view x
+    → ((part : Part) → IsOfPair part → IsContentOf part view (contents part))
+    → IfSome view.text (safe.WasOnAir d now air.plans.text i r)
+    → ShowsNoTags view ⊎ ShowsTagsOf d air.plans.text sent i r view
+    → ((part : Part) → IsOfPair part → IsNothing (contents part))
+    ⊎ ((k : ℕ) × WentWith d now air x contents k)
+was_with law d now air sent i r m view x contents upto spaced shows ex ey was (inl none) =
+    inl (λ part of. (None, (ey part of).1 ∙ none_of_none part of (ey part of).0 view none))
+was_with law d now air sent i r m view x contents upto spaced shows ex ey was (inr tags) = by view.text refl was
+  where
+    by : (o : Option (List ℕ)) → view.text ≡ o → IfSome o (safe.WasOnAir d now air.plans.text i r)
+        → ((part : Part) → IsOfPair part → IsNothing (contents part))
+        ⊎ ((k : ℕ) × WentWith d now air x contents k)
+    by None text w =
+        inl (λ part of. (
+          None,
+          (ey part of).1 ∙ none_without part of (ey part of).0 view (pair_held m i.first i.heard)
+              text shows.item shows.one shows.two,
+        ))
+    by (Some a) text w =
+        let same =
+        law d air.plans.text i r w.number tags.number w.broadcast tags.broadcast spaced w.source tags.source in
+        let bytes : tags.broadcast.bytes ≡ a = ap (λ (b : Broadcast). b.bytes) (sym same.1) ∙ w.bytes in
+        let went = upto tags.slot tags.pair tags.tagged in
+        inr (
+          tags.number,
+          record {
+            broadcast = tags.broadcast;
+            planned = tags.source.planned;
+            says = ex.1 ∙ ap (text_content (why_text ex.0)) (text ∙ ap Some (sym bytes));
+            pair = tags.pair;
+            slot = tags.slot;
+            went = went.0;
+            lasted = tags.lasted;
+            to = tags.to;
+            by_now = went.1;
+            cut = λ part of.
+                elim (of_pair part of (ey part of).0 view tags.broadcast.bytes tags.pair tags.item tags.one tags.two) [
+                  | inl none ↦ inl (None, (ey part of).1 ∙ none)
+                  | inr cut ↦ inr ((ey part of).1 ∙ cut)
+                ];
+          },
+        )
+
+-- two receivers whose views are safe show what is safe
+pub shown_safely : ARunHasOneSource → (d m now : ℕ) (air : OnAir) (messages : List (Option Message)) (r s : Listener)
+    (One Other : Part → List ℕ → Type 0) → AreTagsUpTo now air (marks text_mark messages) → IsSpaced d air.plans.text
+    → safe.AreSafe d m now air.plans messages (r ∷ s ∷ []) → ShowsView m r.input.first r.input.heard r.view
+    → ((part : Part) (x : List ℕ) → One part x → IsContentOf part r.view x)
+    → ((part : Part) (x : List ℕ) → Other part x → IsContentOf part s.view x)
+    → AreSafe d now air One Other
+shown_safely source d m now air messages r s P Q upto spaced views shows one other =
+    let near : AreNeighbours m air.plans r s =
+    All-head (AreNeighbours m air.plans r) s []
+    (All-tail (AreNeighbours m air.plans r) r (s ∷ [])
+    (All-head (λ x. All (AreNeighbours m air.plans x) (r ∷ s ∷ [])) r (s ∷ []) views.neighbours)) in
+    let text = ShowsTextOnAir d m now air.plans in
+    let name = ShowsNameOnAir d m now air.plans in
+    record {
+      texts = λ x y p q. were d now air.plans.text r.input s.input _ _ r.view.text s.view.text x y
+          (why_text (one Text x p).0) (why_text (other Text y q).0) (one Text x p).1 (other Text y q).1
+          (All-head text r (s ∷ []) views.texts) (All-head text s [] (All-tail text r (s ∷ []) views.texts)) near.texts;
+      names = λ x y p q. were d now air.plans.name r.input s.input _ _ r.view.name s.view.name x y
+          (why_name (one Name x p).0) (why_name (other Name y q).0) (one Name x p).1 (other Name y q).1
+          (All-head name r (s ∷ []) views.names) (All-head name s [] (All-tail name r (s ∷ []) views.names)) near.names;
+      tags = λ x contents p q. was_with source d now air (marks text_mark messages) r.input _ m r.view x contents upto
+          spaced shows (one Text x p) (λ part of. one part (contents part) (q part of))
+          (All-head text r (s ∷ []) views.texts)
+          (All-head (ShowsTagsOfItsText d m air.plans messages) r (s ∷ []) views.tags);
+    }

@@ -1,0 +1,139 @@
+-- The wire law for receivers that show only what they heard twice.
+use Rattle.std.proofs.Common.{◌≡◌, ◌+◌, ◌∷◌, [], ◌∙◌, ℕ, List, Option, Some, arith, length, refl, subst, sym}
+use Rattle.std.proofs.lemmas.List.Elements.{All-cons, All-nil}
+use Rattle.rds_block.specs.declared.group.Group.{Group}
+use Rattle.rds_fields.specs.declared.message.Message.{Message}
+use Rattle.rds_fields.specs.Tag.{PairFields}
+use Rattle.rds_receiver.specs.Confirmed.{confirmed}
+use Rattle.rds_receiver.specs.OneView.{same_heard}
+use Rattle.rds_receiver.specs.Receipts.{AreHeard, Hears, Tuning}
+use Rattle.rds_receiver.specs.Shown.{IsView, ShowsView}
+use Rattle.rds_safety.specs.Confirmed.{IsHeardWithWrong, ListensConfirmed, confirmed_input, lateness_of_two}
+use Rattle.rds_safety.specs.ConfirmedLaws.{LawfulPlansAreSafeConfirmed}
+use Rattle.rds_safety.specs.Late.{HasEntry, Input}
+use Rattle.rds_safety.specs.Laws.{ARunHasOneSource}
+use Rattle.rds_safety.specs.Marks.{IsMarkIn, Tagged, marks, text_mark}
+use Rattle.rds_safety.specs.Plans.{AreLawful}
+use Rattle.rds_safety.specs.Safe.{Listener}
+use Rattle.rds_world.specs.Slots.{log as log_of}
+use Rattle.rds_view_lines.specs.Output.{Display}
+use Rattle.rds_view_lines.specs.ViewParts.{Part}
+use Rattle.rds_log.specs.OneLog.{same_log}
+use Rattle.rds_wire.specs.Printed.{Prints, Shows}
+use Rattle.rds_wire.specs.Received.{first_of}
+use Rattle.rds_wire.specs.Safe.{OnAir}
+use Rattle.rds_wire.specs.Twice.{HasMessages, IsReceivedWithWrong, IsSafeIfHeardTwice, WhatIsEncodedIsSafeIfHeardTwice}
+use Rattle.rds_wire.specs.Wire.{aired}
+use Rattle.rds_wire.proofs.Firsts.{entry_below, entry_of_first, first_length}
+use Rattle.rds_wire.proofs.Receiving.{zip_long}
+use Rattle.rds_wire.proofs.Safe.{AreTagsUpTo, IsContentOf, shown_safely}
+use Rattle.rds_wire.proofs.Scripts.{tagged}
+use Rattle.rds_wire.proofs.Views.{displays_long, lawful_first, mark_in_first, view_in}
+use Rattle.rds_wire.proofs.Wired.{EncoderLaws, entry_at, log_of_script, shown}
+
+-- bytes are heard as one list of messages
+same_messages : (pi : ℕ) (log : List ℕ) (one other : List (Option Message)) → HasMessages pi log one
+    → HasMessages pi log other → one ≡ other
+same_messages pi log one other p q =
+    let slots = same_log log p.slots q.slots p.has q.has in
+    same_heard pi q.slots one other (subst (λ (l : List (Option Group)). AreHeard pi l one) slots p.heard) q.heard
+
+-- the laws of the crates below
+pub record TwiceLaws : Type 0 where
+  pub safe : LawfulPlansAreSafeConfirmed
+  pub source : ARunHasOneSource
+
+module _ (pi m w k : ℕ) (log : List ℕ) (sent : List (Option Message)) (is : HasMessages pi log sent)
+    (received printed : List ℕ) (t : ℕ) (p : Prints pi m (Some w) received printed)
+    (r : IsReceivedWithWrong pi w k log p.write.slots t) where
+  abbrev tuning : Tuning
+  tuning = record { programme = pi; dwell = m; window = Some w; first = 0 }
+
+  display : (d : Display) × HasEntry 0 p.write.write.displays t d
+  display =
+      let reached = r.reached in
+      entry_at p.write.write.displays t
+      (omega (arith, reached, displays_long p.why tuning p.write.slots _ p.write.write.are))
+
+  abbrev raw : Input
+  raw = record { first = 0; heard = r.heard; origins = r.origins }
+
+  abbrev listener : Listener
+  listener = record { input = confirmed_input w m raw; view = display.0.view }
+
+  long : length r.heard ≡ t + 1
+  long =
+      let reached = r.reached in
+      sym (zip_long (Hears pi) (first_of (t + 1) p.write.slots) r.heard r.hears)
+      ∙ first_length (t + 1) p.write.slots (omega (arith, reached))
+
+  heard_first : IsHeardWithWrong k (first_of (t + 1) sent) raw
+  heard_first =
+      let late = r.late in
+      let same = same_messages pi log r.sent sent r.log_has is in
+      let beside = late.beside in
+      record {
+        beside = late.beside;
+        each = λ u s entry from at.
+            let past = late.past u s from in
+            let below = entry_below 0 r.origins u (Some s) from in
+            entry_of_first (t + 1) sent s entry
+            (subst (λ (l : List (Option Message)). HasEntry 0 l s entry) same (late.each u s entry from at))
+            (omega (arith, past, below, beside, long));
+        rising = late.rising;
+        past = late.past;
+        late = late.late;
+      }
+
+  listens : ListensConfirmed w k m t (first_of (t + 1) sent) listener
+  listens =
+      let view : IsView tuning (first_of (t + 1) p.write.slots) display.0.view =
+      (view_in p.why tuning p.write.slots p.write.write.displays t display.0 p.write.write.are display.1).0 in
+      let heard = same_heard pi (first_of (t + 1) p.write.slots) view.0 r.heard view.1 r.hears in
+      record {
+        raw = raw;
+        heard = heard_first;
+        once = r.once;
+        now = omega (arith, long);
+        confirmed = refl;
+        shows =
+            subst (λ (l : List (Option Message)). ShowsView m 0 (confirmed w m 0 l) display.0.view) heard view.2;
+      }
+
+  shows : (part : Part) (content : List ℕ) → Shows printed t part content → IsContentOf part display.0.view content
+  shows part content sh =
+      let few = r.few in
+      shown p.write.write.displays printed t part content display.0 p.write.write.changes
+      (omega (arith, few, displays_long p.why tuning p.write.slots _ p.write.write.are)) display.1 sh
+
+-- a log with lawful plans is safe for such receivers
+lawful_is_safe_twice : TwiceLaws → (pi m w k : ℕ) (log : List ℕ) (sent : List (Option Message)) (air : OnAir)
+    → HasMessages pi log sent → AreLawful (m + lateness_of_two w k) air.plans sent
+    → ((slot : ℕ) (pair : PairFields) → IsMarkIn (marks text_mark sent) slot (Tagged pair) → air.HasTags slot pair)
+    → IsSafeIfHeardTwice pi m w k log air
+lawful_is_safe_twice laws pi m w k log sent air is lawful tags x p y q t one other ra rb =
+    let d = m + lateness_of_two w k in
+    let r = listener pi m w k log sent is x p t one ra in
+    let s = listener pi m w k log sent is y q t other rb in
+    let Listens = ListensConfirmed w k m t (first_of (t + 1) sent) in
+    let lr : Listens r = listens pi m w k log sent is x p t one ra in
+    let ls : Listens s = listens pi m w k log sent is y q t other rb in
+    shown_safely laws.source d m t air (first_of (t + 1) sent) r s (Shows p t) (Shows q t) upto lawful.text.spaced
+    (laws.safe w k m t air.plans (first_of (t + 1) sent) (r ∷ s ∷ []) (lawful_first d (t + 1) air.plans sent lawful)
+    (All-cons Listens r (s ∷ []) lr (All-cons Listens s [] ls (All-nil Listens)))) lr.shows
+    (shows pi m w k log sent is x p t one ra) (shows pi m w k log sent is y q t other rb)
+  where
+    upto : AreTagsUpTo t air (marks text_mark (first_of (t + 1) sent))
+    upto slot pair mark =
+        let it = mark_in_first text_mark (t + 1) sent slot (Tagged pair) mark in
+        (tags slot pair it.0, omega (arith, it.1))
+
+-- the law of scripts for receivers that show only what they heard twice
+pub encoded_is_safe_twice : TwiceLaws → EncoderLaws → WhatIsEncodedIsSafeIfHeardTwice
+encoded_is_safe_twice laws encoder head m w k script log is_head some encoded =
+    let late = lateness_of_two w k in
+    let events = encoded.write.events in
+    let has = log_of_script encoder head m late script log is_head some encoded in
+    lawful_is_safe_twice laws head.pi m w k log (log_of (m + late) events) (aired (m + late) events)
+    (record { slots = has.sent; has = has.is; heard = has.heard }) has.lawful
+    (λ slot pair is. (tagged encoder.tags (m + late) events slot pair is).0)

@@ -1,0 +1,296 @@
+-- The wire laws.
+use Rattle.std.proofs.Common.{◌≡◌, ◌<◌, ◌+◌, ◌^◌, ◌∷◌, [], ◌∙◌, ℕ, List, Option, None, arith, inl, inr}
+use Rattle.std.proofs.Common.{length, map, refl, subst, sym}
+use Rattle.std.specs.List.{Contains}
+use Rattle.std.proofs.lemmas.Bool.{cases_lt}
+use Rattle.std.proofs.lemmas.List.{length-map}
+use Rattle.std.proofs.lemmas.List.Elements.{All-cons, All-nil}
+use Rattle.rds_block.specs.declared.group.Group.{Group}
+use Rattle.rds_fields.specs.declared.head.Head.{Head}
+use Rattle.rds_fields.specs.declared.message.Message.{Message}
+use Rattle.rds_fields.specs.Tag.{PairFields}
+use Rattle.rds_encoder.specs.Laws.{TagsAreOfTheTextOnAir}
+use Rattle.rds_receiver.specs.Receipts.{AreHeard}
+use Rattle.rds_receiver.specs.Shown.{IsView}
+use Rattle.rds_safety.specs.Late.{HasEntry}
+use Rattle.rds_safety.specs.Laws.{ARunHasOneSource, LawfulPlansAreSafeByOwnClocks}
+use Rattle.rds_safety.specs.Marks.{IsMarkIn, Tagged, marks, text_mark}
+use Rattle.rds_safety.specs.OwnClock.{ListensByOwnClock}
+use Rattle.rds_safety.specs.Plans.{AreLawful}
+use Rattle.rds_safety.specs.Safe.{Listener}
+use Rattle.rds_world.specs.Event.{Event}
+use Rattle.rds_world.specs.Premise.{Premise}
+use Rattle.rds_world.specs.Slots.{plans_of}
+use Rattle.rds_world.specs.Slots.{log as log_of}
+use Rattle.rds_world.specs.Station.{SlotsOfAWorldAreSlots, TheEncoderIsLawful}
+use Rattle.rds_audit.specs.AuditLaws.{PlansOfARecordingAreSafe, WhatPassesAsARecordingIsSafe, WhatPassesIsSafe, later}
+use Rattle.rds_audit.specs.Recording.{from_first_text, preceded}
+use Rattle.rds_audit.specs.declared.log_start.LogStart.{LogStart}
+use Rattle.rds_audit.specs.declared.log_start.LogStart.TheVariants.{Complete, Running}
+use Rattle.rds_view_lines.specs.Output.{Display, changes_of}
+use Rattle.rds_view_lines.specs.ViewParts.{Part, line_in}
+use Rattle.rds_log.specs.Audit.{WholePasses, spacing}
+use Rattle.rds_log.specs.FilledLog.{IsLogOf}
+use Rattle.rds_log.specs.OneLog.{same_lines, same_log}
+use Rattle.rds_log.specs.LogWrites.{tuned}
+use Rattle.rds_log.specs.declared.audit_log.Auditing.{Auditing}
+use Rattle.rds_log.specs.declared.audit_log.Stop.{Stop}
+use Rattle.rds_log.specs.declared.audit_log.Stop.TheVariants.{FirstFault}
+use Rattle.rds_script.specs.Play.{with_form}
+use Rattle.rds_script.specs.declared.form.Form.TheVariants.{Log}
+use Rattle.rds_wire.specs.Printed.{Prints, Shows}
+use Rattle.rds_wire.specs.Received.{IsReceived, first_of, own_group}
+use Rattle.rds_wire.specs.Safe.{OnAir}
+use Rattle.rds_wire.specs.Wire.{Encodes, HasSafePlans, IsHead, IsSafeOnTheWire, WhatIsEncodedIsSafeOnTheWire}
+use Rattle.rds_wire.specs.Wire.{WhatPassesIsSafeOnTheWire, aired, station_of}
+use Rattle.rds_wire.proofs.Begun.{preceded_first, settled_first}
+use Rattle.rds_wire.proofs.Firsts.{entry_below, first_length}
+use Rattle.rds_wire.proofs.Logs.{encoded_is_log, groups_sent}
+use Rattle.rds_wire.proofs.Reading.{In, are_lines, contains_from_in, in_from_contains, line_shows, lines_of, stays}
+use Rattle.rds_wire.proofs.Reading.{unshown}
+use Rattle.rds_wire.proofs.Receiving.{ClockLaws, by_own_clock, own_heard}
+use Rattle.rds_wire.proofs.Safe.{AreTagsUpTo, IsContentOf, shown_safely}
+use Rattle.rds_wire.proofs.Scripts.{groups_are_heard, log_is_lawful, rows_name_none, rows_set, tagged}
+use Rattle.rds_wire.proofs.Views.{displays_long, lawful_first, mark_in_first, view_in}
+
+-- ---- one receiver
+
+-- what the output shows of a part is what the display shows
+pub shown : (displays : List Display) (printed : List ℕ) (t : ℕ) (part : Part) (content : List ℕ) (d : Display)
+    → printed ≡ changes_of displays → length displays < 2 ^ 64
+    → HasEntry 0 displays t d → Shows printed t part content → IsContentOf part d.view content
+shown displays printed t part content d is few at (inl s) =
+    let same = same_lines printed s.lines (lines_of displays) s.are (are_lines displays printed is) in
+    let below = entry_below 0 displays t d at in
+    let past = s.past in
+    let here = line_shows displays s.slot part content (omega (arith, past, below, few)) few
+    (subst (λ l. In (line_in s.slot part content) l) same
+    (in_from_contains (line_in s.slot part content) s.lines s.line)) in (
+      here.0.whys,
+      here.2 ∙ sym (stays displays part here.0.whys s.slot t here.0 d s.past here.1 at
+          (λ u other after upto is. s.newest u other after upto
+          (subst (λ l. Contains l (line_in u part other)) (sym same)
+          (contains_from_in (line_in u part other) (lines_of displays) is)))),
+    )
+shown displays printed t part content d is few at (inr (s, empty)) =
+    let same = same_lines printed s.lines (lines_of displays) s.are (are_lines displays printed is) in (
+      None,
+      empty ∙ sym (unshown displays part t d at
+          (λ u other upto is. s.none u other upto
+          (subst (λ l. Contains l (line_in u part other)) (sym same)
+          (contains_from_in (line_in u part other) (lines_of displays) is)))),
+    )
+
+-- each slot has an entry
+pub entry_at : {X : Type 0} (xs : List X) (t : ℕ) → t < length xs → (x : X) × HasEntry 0 xs t x
+entry_at [] t below = absurd (omega (arith, below))
+entry_at (x ∷ older) t below = elim (cases_lt t (length older)) [
+  | inl less ↦ (let it = entry_at older t less in (it.0, inr it.1))
+  | inr here ↦ (x, inl (omega (arith, here, below), refl))
+]
+
+-- the laws of the crates below about all logs
+pub record LogLaws : Type 0 where
+  pub clocks : ClockLaws
+  pub safe : LawfulPlansAreSafeByOwnClocks
+  pub recording : PlansOfARecordingAreSafe
+  pub source : ARunHasOneSource
+
+module _ (a : Auditing) (log : List ℕ) (sent : List (Option Group)) (messages : List (Option Message)) (now : ℕ)
+    (is : IsLogOf log sent) (heard : AreHeard a.pi sent messages) where
+  module _ (received printed : List ℕ) (t : ℕ) (p : Prints a.pi a.dwell None received printed)
+      (r : IsReceived a log p.write.slots t now) where
+    -- the display in slot t
+    display : (d : Display) × HasEntry 0 p.write.write.displays t d
+    display =
+        let reached = r.reached in
+        entry_at p.write.write.displays t
+        (omega (arith, reached, displays_long p.why (tuned a.pi a.dwell) p.write.slots _ p.write.write.are))
+
+    view : IsView (tuned a.pi a.dwell) (first_of (t + 1) p.write.slots) display.0.view
+    view = (view_in p.why (tuned a.pi a.dwell) p.write.slots p.write.write.displays t display.0 p.write.write.are
+        display.1).0
+
+    -- the receiver as one with a clock of its own
+    abbrev listener : Listener
+    listener = record {
+      input = record { first = 0; heard = view.0; origins = r.origins };
+      view = display.0.view;
+    }
+
+    listens : ClockLaws → ListensByOwnClock (spacing a) a.dwell now (first_of (now + 1) messages) listener
+    listens laws =
+        let got = first_of (t + 1) p.write.slots in
+        let reached = r.reached in
+        let long = length-map got (own_group a.pi) ∙ first_length (t + 1) p.write.slots (omega (arith, reached)) in
+        let same = same_log log r.sent sent r.log_has is in
+        let came = r.came in
+        record {
+          heard = by_own_clock a.pi now sent (map (own_group a.pi) got) messages view.0 r.origins heard
+              (own_heard a.pi got view.0 view.1) laws a t long (rw same at came);
+          shows = view.2;
+        }
+
+    shows : (part : Part) (content : List ℕ) → Shows printed t part content
+        → IsContentOf part display.0.view content
+    shows part content sh =
+        let few = r.few in
+        shown p.write.write.displays printed t part content display.0 p.write.write.changes
+        (omega (arith, few, displays_long p.why (tuned a.pi a.dwell) p.write.slots _ p.write.write.are)) display.1 sh
+
+-- ---- logs with lawful plans
+
+-- a complete log with lawful plans is safe on the wire
+pub lawful_is_safe : LogLaws → (stop : Stop) (pi m k : ℕ) (log : List ℕ) (sent : List (Option Group))
+    (messages : List (Option Message)) (air : OnAir) → IsLogOf log sent → AreHeard pi sent messages
+    → AreLawful (m + k) air.plans messages
+    → ((slot : ℕ) (pair : PairFields) → IsMarkIn (marks text_mark messages) slot (Tagged pair) → air.HasTags slot pair)
+    → IsSafeOnTheWire (record { pi = pi; dwell = m; late = k; start = Complete; stop = stop }) log air
+lawful_is_safe laws stop pi m k log sent messages air is heard lawful tags x p y q t u now one other ra rb =
+    let a : Auditing = record { pi = pi; dwell = m; late = k; start = Complete; stop = stop } in
+    let r = listener a log sent messages now is heard x p t one ra in
+    let s = listener a log sent messages now is heard y q u other rb in
+    let Listens = ListensByOwnClock (m + k) m now (first_of (now + 1) messages) in
+    let lr : Listens r = listens a log sent messages now is heard x p t one ra laws.clocks in
+    let ls : Listens s = listens a log sent messages now is heard y q u other rb laws.clocks in
+    shown_safely laws.source (m + k) m now air (first_of (now + 1) messages) r s (Shows p t) (Shows q u) upto
+    lawful.text.spaced
+    (laws.safe (m + k) m now air.plans (first_of (now + 1) messages) (r ∷ s ∷ [])
+    (lawful_first (m + k) (now + 1) air.plans messages lawful)
+    (All-cons Listens r (s ∷ []) lr (All-cons Listens s [] ls (All-nil Listens)))) lr.shows
+    (shows a log sent messages now is heard x p t one ra) (shows a log sent messages now is heard y q u other rb)
+  where
+    upto : AreTagsUpTo now air (marks text_mark (first_of (now + 1) messages))
+    upto slot pair mark =
+        let it = mark_in_first text_mark (now + 1) messages slot (Tagged pair) mark in
+        (tags slot pair it.0, omega (arith, it.1))
+
+-- so is the log of a running station, by plans that count from m + k slots before it
+pub recording_is_safe : LogLaws → (stop : Stop) (pi m k : ℕ) (log : List ℕ) (sent : List (Option Group))
+    (messages : List (Option Message)) (air : OnAir) → IsLogOf log sent → AreHeard pi sent messages
+    → AreLawful (m + k) air.plans (from_first_text (preceded (m + k) messages))
+    → ((slot : ℕ) (pair : PairFields) → IsMarkIn (marks text_mark (preceded (m + k) messages)) slot (Tagged pair)
+    → air.HasTags slot pair)
+    → IsSafeOnTheWire (record { pi = pi; dwell = m; late = k; start = Running; stop = stop }) log air
+recording_is_safe laws stop pi m k log sent messages air is heard lawful tags x p y q t u now one other ra rb =
+    let a : Auditing = record { pi = pi; dwell = m; late = k; start = Running; stop = stop } in
+    let r = listener a log sent messages now is heard x p t one ra in
+    let s = listener a log sent messages now is heard y q u other rb in
+    let Listens = ListensByOwnClock (m + k) m now (first_of (now + 1) messages) in
+    let lr : Listens r = listens a log sent messages now is heard x p t one ra laws.clocks in
+    let ls : Listens s = listens a log sent messages now is heard y q u other rb laws.clocks in
+    shown_safely laws.source (m + k) m (now + (m + k)) air (preceded (m + k) (first_of (now + 1) messages))
+    (later (m + k) r) (later (m + k) s) (Shows p t) (Shows q u) upto lawful.text.spaced
+    (laws.recording (m + k) m now (m + k) air.plans (first_of (now + 1) messages) (r ∷ s ∷ []) cut
+    (All-cons Listens r (s ∷ []) lr (All-cons Listens s [] ls (All-nil Listens)))) lr.shows
+    (shows a log sent messages now is heard x p t one ra) (shows a log sent messages now is heard y q u other rb)
+  where
+    n : ℕ
+    n = now + 1 + (m + k)
+
+    cut : AreLawful (m + k) air.plans (from_first_text (preceded (m + k) (first_of (now + 1) messages)))
+    cut =
+        subst (λ (l : List (Option Message)). AreLawful (m + k) air.plans (from_first_text l))
+        (preceded_first (m + k) (now + 1) messages)
+        (subst (AreLawful (m + k) air.plans) (settled_first n (preceded (m + k) messages))
+        (lawful_first (m + k) n air.plans (from_first_text (preceded (m + k) messages)) lawful))
+
+    upto : AreTagsUpTo (now + (m + k)) air (marks text_mark (preceded (m + k) (first_of (now + 1) messages)))
+    upto slot pair mark =
+        let it = mark_in_first text_mark n (preceded (m + k) messages) slot (Tagged pair)
+        (subst (λ (l : List (Option Message)). IsMarkIn (marks text_mark l) slot (Tagged pair))
+        (sym (preceded_first (m + k) (now + 1) messages)) mark) in
+        (tags slot pair it.0, omega (arith, it.1))
+
+-- ---- scripts
+
+-- the laws about encoders
+pub record EncoderLaws : Type 0 where
+  pub lawful : TheEncoderIsLawful
+  pub slots : SlotsOfAWorldAreSlots
+  pub tags : TagsAreOfTheTextOnAir
+
+-- what follows of the log of a script: its slots, what receivers of the programme hear in them, and that this is lawful
+pub record HasLog (head : Head) (m k : ℕ) (log : List ℕ) (events : List Event) : Type 0 where
+  pub sent : List (Option Group)
+  pub is : IsLogOf log sent
+  pub heard : AreHeard head.pi sent (log_of (m + k) events)
+  pub lawful : AreLawful (m + k) (plans_of (m + k) events) (log_of (m + k) events)
+
+-- the log of a script has all that
+pub log_of_script : EncoderLaws → (head : Head) (m k : ℕ) (script log : List ℕ) → IsHead head → 0 < m
+    → (encoded : Encodes (with_form Log (station_of head m k)) script log)
+    → HasLog head m k log encoded.write.events
+log_of_script encoder head m k script log is_head some encoded =
+    let events = encoded.write.events in
+    let outcomes = encoded.write.write.outcomes in
+    let are = encoded.write.write.are in
+    let say = encoded.write.say in
+    let premise : Premise = record { late = k; window = None } in
+    let none = rows_name_none premise say.receivers encoded.records events say.allowed say.rows in
+    record {
+      sent = groups_sent outcomes;
+      is = encoded_is_log head m k events outcomes log is_head none are encoded.write.write.lines;
+      heard = groups_are_heard (station_of head m k) events outcomes are;
+      lawful = log_is_lawful encoder.lawful encoder.slots (m + k) events (omega (arith, some))
+          (rows_set premise say.receivers encoded.records events say.rows);
+    }
+
+-- the law of scripts
+pub encoded_is_safe : LogLaws → EncoderLaws → WhatIsEncodedIsSafeOnTheWire
+encoded_is_safe laws encoder head m k script log is_head some encoded =
+    let events = encoded.write.events in
+    let has = log_of_script encoder head m k script log is_head some encoded in
+    lawful_is_safe laws FirstFault head.pi m k log has.sent (log_of (m + k) events) (aired (m + k) events) has.is
+    has.heard
+    has.lawful (λ slot pair is. (tagged encoder.tags (m + k) events slot pair is).0)
+
+-- ---- audits
+
+-- the laws about audits
+pub record AuditLaws : Type 0 where
+  pub complete : WhatPassesIsSafe
+  pub running : WhatPassesAsARecordingIsSafe
+
+passed_from : LogLaws → AuditLaws → (start : LogStart) (stop : Stop) (pi m k n : ℕ) (log : List ℕ) → 0 < m
+    → WholePasses (record { pi = pi; dwell = m; late = k; start = start; stop = stop }) n log
+    → HasSafePlans (record { pi = pi; dwell = m; late = k; start = start; stop = stop }) log
+passed_from laws audits Complete stop pi m k n log some whole =
+    let safe = audits.complete m k whole.pass.heard some whole.pass.passes in
+    let is : IsLogOf log whole.slots = record { lines = whole.lines; are = whole.are; say = whole.say } in
+    record {
+      slots = whole.slots;
+      has = is;
+      messages = whole.pass.heard;
+      heard = whole.pass.are;
+      plans = safe.plans;
+      lawful = safe.lawful;
+      safe = lawful_is_safe laws stop pi m k log whole.slots whole.pass.heard
+          (record {
+            plans = safe.plans;
+            HasTags = λ slot pair. IsMarkIn (marks text_mark whole.pass.heard) slot (Tagged pair);
+          })
+          is whole.pass.are safe.lawful (λ slot pair mark. mark);
+    }
+passed_from laws audits Running stop pi m k n log some whole =
+    let safe = audits.running m k whole.pass.heard some whole.pass.passes in
+    let is : IsLogOf log whole.slots = record { lines = whole.lines; are = whole.are; say = whole.say } in
+    record {
+      slots = whole.slots;
+      has = is;
+      messages = whole.pass.heard;
+      heard = whole.pass.are;
+      plans = safe.plans;
+      lawful = safe.lawful;
+      safe = recording_is_safe laws stop pi m k log whole.slots whole.pass.heard
+          (record {
+            plans = safe.plans;
+            HasTags = λ slot pair. IsMarkIn (marks text_mark (preceded (m + k) whole.pass.heard)) slot (Tagged pair);
+          })
+          is whole.pass.are safe.lawful (λ slot pair mark. mark);
+    }
+
+-- the law of audits
+pub passed_is_safe : LogLaws → AuditLaws → WhatPassesIsSafeOnTheWire
+passed_is_safe laws audits a n log some whole =
+    passed_from laws audits a.start a.stop a.pi a.dwell a.late n log some whole

@@ -1,0 +1,10 @@
+use Rattle.rds_wire.proofs.Filling.{filled_is_received}
+use Rattle.rds_wire.proofs.Losing.{lost_is_received}
+use Rattle.rds_wire.proofs.laws.what_is_received.Goals as goal
+
+pub returns-clause-lost : goal.returns-clause-lost
+returns-clause-lost c = lost_is_received
+
+pub returns-clause-filled : goal.returns-clause-filled
+returns-clause-filled c =
+    filled_is_received c.filled_texts_are_logs.ensures.log c.filled_logs_are_safe.ensures.own_clock

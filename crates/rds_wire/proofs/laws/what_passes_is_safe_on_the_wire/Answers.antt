@@ -1,0 +1,15 @@
+use Rattle.rds_wire.proofs.Wired.{passed_is_safe}
+use Rattle.rds_wire.proofs.laws.what_passes_is_safe_on_the_wire.Goals as goal
+
+pub returns : goal.returns
+returns c = passed_is_safe
+    record {
+      clocks = record { late = c.own_clocks.ensures.late; slow = c.own_clocks.ensures.slow };
+      safe = c.safe_by_plans.ensures.own_clocks;
+      recording = c.recordings_are_safe_by_plans.ensures;
+      source = c.one_source.ensures;
+    }
+    record {
+      complete = c.what_passes_is_safe.ensures.late;
+      running = c.what_passes_as_a_recording_is_safe.ensures;
+    }

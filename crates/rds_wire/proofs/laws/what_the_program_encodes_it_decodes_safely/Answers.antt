@@ -1,0 +1,8 @@
+use Rattle.rds_wire.proofs.Runs.{decoded_by_the_program, encoded_by_the_program}
+use Rattle.rds_wire.proofs.laws.what_the_program_encodes_it_decodes_safely.Goals as goal
+
+pub returns-clause-encodes : goal.returns-clause-encodes
+returns-clause-encodes c = encoded_by_the_program c.what_is_encoded_is_safe_on_the_wire.ensures
+
+pub returns-clause-decodes : goal.returns-clause-decodes
+returns-clause-decodes c = decoded_by_the_program

@@ -1,0 +1,9 @@
+-- The wire laws: from the bytes of a log to the lines that receivers print.
+pub mod Received
+pub mod Printed
+pub mod Safe
+pub mod Wire
+-- The same for what `slots` writes, for receivers that show only what they heard twice, and for runs of the program.
+pub mod FromTimes
+pub mod Twice
+pub mod Program

@@ -1,0 +1,49 @@
+-- The wire law for receivers that get wrong groups too, and show only what they heard twice within a window of w slots
+-- (this project's own rule). Here d is m + k + w - 1. Lists have the newest first.
+use Rattle.std.specs.Prelude.{◌+◌, ◌<◌, ◌^◌, ℕ, List, Option, Some, length}
+use Rattle.rds_block.specs.declared.group.Group.{Group}
+use Rattle.rds_fields.specs.declared.head.Head.{Head}
+use Rattle.rds_fields.specs.declared.message.Message.{Message}
+use Rattle.rds_receiver.specs.Receipts.{AreHeard}
+use Rattle.rds_safety.specs.Confirmed.{IsHeardWithWrong, NoWrongConfirmed, lateness_of_two}
+use Rattle.rds_log.specs.FilledLog.{IsLogOf}
+use Rattle.rds_script.specs.Play.{with_form}
+use Rattle.rds_script.specs.declared.form.Form.TheVariants.{Log}
+use Rattle.rds_wire.specs.Printed.{Prints, Shows}
+use Rattle.rds_wire.specs.Received.{first_of}
+use Rattle.rds_wire.specs.Safe.{AreSafe, OnAir}
+use Rattle.rds_wire.specs.Wire.{Encodes, IsHead, aired, station_of}
+
+-- receivers of this programme hear these messages in the slots of a log
+pub record HasMessages (pi : ℕ) (log : List ℕ) (messages : List (Option Message)) : Type 0 where
+  pub slots : List (Option Group)
+  pub has : IsLogOf log slots
+  pub heard : AreHeard pi slots messages
+
+-- a receiver got these slots. In each slot up to t it heard a message that the log has at most k slots before, in the
+-- order of sending, or nothing, or a wrong message; no segment and no pair of tags is wrong twice within w slots
+pub record IsReceivedWithWrong (pi w k : ℕ) (log : List ℕ) (got : List (Option Group)) (t : ℕ) : Type 0 where
+  pub sent : List (Option Message)
+  pub log_has : HasMessages pi log sent
+  pub reached : t < length got
+  pub few : length got < 2 ^ 64
+  pub heard : List (Option Message)
+  pub hears : AreHeard pi (first_of (t + 1) got) heard
+  pub origins : List (Option ℕ)
+  pub late : IsHeardWithWrong k sent record { first = 0; heard = heard; origins = origins }
+  pub once : NoWrongConfirmed w record { first = 0; heard = heard; origins = origins }
+
+-- whatever two such receivers of the log print is safe
+abbrev pub IsSafeIfHeardTwice : ℕ → ℕ → ℕ → ℕ → List ℕ → OnAir → Type 0
+IsSafeIfHeardTwice pi m w k log air =
+    (received printed other_received other_printed : List ℕ) (t : ℕ)
+    → (one : Prints pi m (Some w) received printed) → (other : Prints pi m (Some w) other_received other_printed)
+    → IsReceivedWithWrong pi w k log one.write.slots t → IsReceivedWithWrong pi w k log other.write.slots t
+    → AreSafe (m + lateness_of_two w k) t air (Shows printed t) (Shows other_printed t)
+
+-- the log that `encode` writes with a lateness of k + w - 1 is safe for receivers with a window of w slots
+abbrev pub WhatIsEncodedIsSafeIfHeardTwice : Type 0
+WhatIsEncodedIsSafeIfHeardTwice =
+    (head : Head) (m w k : ℕ) (script log : List ℕ) → IsHead head → 0 < m
+    → (encoded : Encodes (with_form Log (station_of head m (lateness_of_two w k))) script log)
+    → IsSafeIfHeardTwice head.pi m w k log (aired (m + lateness_of_two w k) encoded.write.events)

@@ -1,0 +1,74 @@
+//! The wire laws, from bytes to bytes.
+ghost use Rattle.rds_wire.specs.FromTimes.{WhatSlotsWritesIsReceived};
+ghost use Rattle.rds_wire.specs.Program.{WhatTheProgramDecodesIsPrinted, WhatTheProgramEncodesIsSafe};
+ghost use Rattle.rds_wire.specs.Received.{WhoLosesSlotsReceives};
+ghost use Rattle.rds_wire.specs.Twice.{WhatIsEncodedIsSafeIfHeardTwice};
+ghost use Rattle.rds_wire.specs.Wire.{WhatIsEncodedIsSafeOnTheWire, WhatPassesIsSafeOnTheWire};
+
+use rds_arrivals::filled_logs_are_safe;
+use rds_audit::{
+    recordings_are_safe_by_plans, what_passes_as_a_recording_is_safe, what_passes_is_safe,
+};
+use rds_encoder::sent_is_of_what_is_on_air;
+use rds_log::filled_texts_are_logs;
+use rds_safety::{one_source, own_clocks, safe_by_plans, safe_if_confirmed};
+use rds_world::{a_station_is_safe, the_encoder_is_lawful};
+
+/// States the law of scripts: what `decode` prints for the log that `encode` wrote, with slots lost and groups at most
+/// K slots late, was on air by the script within the last M + K slots.
+pub fn what_is_encoded_is_safe_on_the_wire()
+    ensures { WhatIsEncodedIsSafeOnTheWire }
+{
+    own_clocks();
+    one_source();
+    safe_by_plans();
+    recordings_are_safe_by_plans();
+    a_station_is_safe();
+    the_encoder_is_lawful();
+    sent_is_of_what_is_on_air();
+}
+
+/// States the law of audits: a log to which `audit` said yes has lawful plans, and what `decode` prints for it, with
+/// slots lost and groups at most K slots late, was on air by these plans within the last M + K slots.
+pub fn what_passes_is_safe_on_the_wire()
+    ensures { WhatPassesIsSafeOnTheWire }
+{
+    own_clocks();
+    one_source();
+    safe_by_plans();
+    recordings_are_safe_by_plans();
+    what_passes_is_safe();
+    what_passes_as_a_recording_is_safe();
+}
+
+/// States two ways in which a log is received. A receiver that loses some slots of a log receives it, for any lateness.
+/// And what `slots` writes of a recording with times is received by a clock of the receiver's own, if the delays of the
+/// groups vary by less than a slot less the grain. So both laws hold for these logs.
+pub fn what_is_received()
+    ensures lost { WhoLosesSlotsReceives }
+    ensures filled { WhatSlotsWritesIsReceived }
+{
+    filled_logs_are_safe();
+    filled_texts_are_logs();
+}
+
+/// States the law of scripts for receivers that get wrong groups too, and show only what they heard twice within W
+/// slots: what `decode --confirm W` prints for them was on air by the script within the last M + K + W - 1 slots.
+pub fn what_is_encoded_is_safe_if_heard_twice()
+    ensures { WhatIsEncodedIsSafeIfHeardTwice }
+{
+    one_source();
+    safe_if_confirmed();
+    a_station_is_safe();
+    the_encoder_is_lawful();
+    sent_is_of_what_is_on_air();
+}
+
+/// States the law of scripts for runs of the program: what the command `encode` writes is safe on the wire, and what
+/// the command `decode` writes is what the laws say of receivers.
+pub fn what_the_program_encodes_it_decodes_safely()
+    ensures encodes { WhatTheProgramEncodesIsSafe }
+    ensures decodes { WhatTheProgramDecodesIsPrinted }
+{
+    what_is_encoded_is_safe_on_the_wire();
+}

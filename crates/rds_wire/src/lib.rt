@@ -1,0 +1,12 @@
+//! The wire laws: whatever slots of a log are lost, and however late its groups come, up to K slots, what `decode`
+//! prints was on air lately. They hold for each log that `encode` writes, and for each log to which `audit` says yes.
+//!
+//! No crate of the program uses this one: it says what their promises mean together.
+#![tactic(auto)]
+
+mod laws;
+
+pub use laws::{
+    what_is_encoded_is_safe_if_heard_twice, what_is_encoded_is_safe_on_the_wire, what_is_received,
+    what_passes_is_safe_on_the_wire, what_the_program_encodes_it_decodes_safely,
+};
