@@ -51,38 +51,36 @@ class Broadcast:
 
 
 class Service:
-    """Texts or names, as the encoder accepts them: from which slot on, how many since the restart, and the last one
-    with flag 0."""
+    """Texts or names that the encoder accepted: how many since the restart, and the last one with flag 0."""
 
-    def __init__(self, first, silent):
-        self.first, self.until, self.count, self.with_flag_0 = first, silent, 0, None
+    def __init__(self, first):
+        self.first, self.count, self.with_flag_0 = first, 0, None
 
-    def restart(self, silent):
-        self.until, self.count = silent, 0
-
-    def accept(self, value, until):
+    def accept(self, value):
         """Returns the value to set: `first` says what comes first after a restart."""
         if self.count == 0 and self.with_flag_0 is not None:
             value = {"empty": "", "again": self.with_flag_0, "any": value}[self.first]
         if self.count % 2 == 0:
             self.with_flag_0 = value
-        self.count, self.until = self.count + 1, until
+        self.count += 1
         return value
 
 
 def commands(rng, spacing, first_text, first_name):
     """Gives the command of a station in each slot. After a restart the first text that is accepted is the empty one, or
     the last one with flag 0 again, or any one, and the first name one of the last two."""
-    services = {"text": Service(first_text, spacing), "name": Service(first_name, spacing)}
+    services = {"text": Service(first_text), "name": Service(first_name)}
+    rules = plain_worlds.Acceptance(spacing)
     for slot in range(SLOTS):
         kind = rng.choices(("restart", "text", "name", "tags", "-"), weights=(2, 34, 20, 24, 20))[0]
         tags = " ".join(str(it) for tag in rng.choices(plain_worlds.TAGS, k=2) for it in tag)
         given = {"text": rng.choice(plain_worlds.TEXTS), "name": rng.choice(plain_worlds.NAMES), "tags": f"1 1 {tags}"}
+        is_accepted = rules.takes(slot, kind, given.get(kind, ""))
         if kind == "restart":
             for it in services.values():
-                it.restart(slot + spacing)
-        elif kind in services and slot >= services[kind].until:
-            given[kind] = services[kind].accept(given[kind], slot + 2 * spacing)
+                it.count = 0
+        elif kind in services and is_accepted:
+            given[kind] = services[kind].accept(given[kind])
         yield random_scripts.Row(kind, given.get(kind, ""), "1" if rng.random() < 7 / 8 else "0", "")
 
 

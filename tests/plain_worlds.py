@@ -66,6 +66,36 @@ def script(rows):
     return b"".join(map(random_scripts.line, rows))
 
 
+class Acceptance:
+    """Says of each command of a station whether it is accepted, by the rules of docs/FORMATS.md: nothing is for the
+    spacing after a restart, a text or a name for two spacings after the one before, and tags only if they end in the
+    text on air."""
+
+    def __init__(self, spacing):
+        self.spacing, self.silent_until, self.held_until, self.text = spacing, spacing, {}, None
+
+    def takes(self, slot, command, argument):
+        """Returns whether the command of this slot is accepted. Slots come in their order."""
+        if command == "restart":
+            self.silent_until, self.held_until, self.text = slot + self.spacing, {}, None
+        if command in ("restart", "-") or slot < max(self.silent_until, self.held_until.get(command, 0)):
+            return False
+        if command == "tags":
+            _, _, *numbers = map(int, argument.split())
+            tags = (numbers[:3], numbers[3:])
+            return self.text is not None and all(start + extra < len(self.text) for kind, start, extra in tags if kind)
+        self.held_until[command] = slot + 2 * self.spacing
+        if command == "text":
+            self.text = argument
+        return True
+
+
+def accepted_of(rows, spacing):
+    """Returns the slots in which a station accepts a text, a name or tags. It asks no program."""
+    rules = Acceptance(spacing)
+    return {slot for slot, row in enumerate(rows) if rules.takes(slot, row.command, row.argument)}
+
+
 class Diary:
     """Keeps for each service, at the end of each slot, the number of the broadcast on air and its characters."""
 
@@ -120,13 +150,15 @@ def pieces_by_part(tags, text):
 
 
 def shown(lines, slots):
-    """Returns the view at the end of each of so many slots, by lines of `decode`: part and value."""
+    """Returns the view at the end of each of so many slots, by lines of `decode`, with reasons or without: part and
+    value."""
     changes, view, views = collections.defaultdict(dict), {}, []
     for line in lines:
         slot, part, value = line.split(" ", 2)
-        changes[int(slot)][part] = value.strip('"') if part in ("text", "name") else value
+        is_none = value.split(" ")[0] == "none"
+        changes[int(slot)][part] = None if is_none else value.strip('"') if part in ("text", "name") else value
     for slot in range(slots):
-        view = {part: value for part, value in {**view, **changes[slot]}.items() if value != "none"}
+        view = {part: value for part, value in {**view, **changes[slot]}.items() if value is not None}
         views.append(view)
     return views
 
