@@ -110,15 +110,15 @@ class Pages(Case):
         for path, it in found.items():
             self.check(f"version in {path}", it, version)
 
-    def test_the_contract_in_trust_is_in_the_sources(self):
-        """The lines of the contract that TRUST shows are in the sources."""
+    def test_the_contracts_in_trust_are_in_the_sources(self):
+        """The lines of the contracts that TRUST shows are in the sources."""
         sources = set()
         for kind in ("src/*.rt", "specs/*.antt"):
             for path in glob.glob(os.path.join(ROOT, "crates/*", kind)):
                 sources |= {line.strip() for line in text_of(os.path.relpath(path, ROOT)).splitlines()}
         blocks = [it for it in re.findall(r"```text\n(.*?)```", text_of("docs/TRUST.md"), re.S) if "pub record" in it]
-        self.check("TRUST has a contract", len(blocks), 1)
-        shown = [line.strip() for line in blocks[0].splitlines() if line.strip()]
+        self.check("TRUST has contracts: that of the wire and that of a world", len(blocks), 2)
+        shown = [line.strip() for block in blocks for line in block.splitlines() if line.strip()]
         # two dots replace the parameters
         missing = [it for it in shown if it not in sources and not any(
             line.startswith(it.partition(" .. ")[0] + " ") for line in sources if " .. " in it)]

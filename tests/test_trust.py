@@ -1,76 +1,20 @@
-"""docs/TRUST.md: its reading list has each file that the headline reaches, and no other one."""
+"""docs/TRUST.md: its reading lists have each definition and each file that the headlines reach, and no other one."""
 import re
 
 from tests.support import Case, text_of
+import reading
 
-# what the headline says: the definitions in the clause `safe` of `World::step`
-ROOTS = (("rds_world/specs/SafeSlots", "OnlyWhatWasOnAirIsShown"), ("rds_world/specs/StandsAt", "WhereItStands"))
 STEP = "rds_world/src/world.rt"
-USE = re.compile(r"^use Rattle\.(rds_\w+)\.specs\.([\w.]+?)(?:\.\{([^}]*)\}| as (\w+))$", re.M)
-HEAD = re.compile(r"^(?:(?:abbrev|unfoldable|record|data) )*(?:pub )?(?:(?:abbrev|unfoldable|record|data) )?(\S+)")
 
 
-class Module:
-    """A file of definitions: the text of each definition, and where its other names come from."""
-
-    def __init__(self, at):
-        text = re.sub(r"--.*", "", text_of(f"crates/{at}.antt"))
-        self.names, self.modules, self.texts = {}, {}, {}
-        for named, module, names, alias in USE.findall(text):
-            to = f"{named}/specs/{module.replace('.', '/')}"
-            if alias:
-                self.modules[alias] = to
-            self.names.update({it.strip(): to for it in names.split(",") if it.strip()})
-        name = None
-        for line in USE.sub("", text).splitlines():
-            if line and not line[0].isspace():
-                name = HEAD.match(line)[1]
-            if name:
-                self.texts[name] = self.texts.get(name, "") + line + "\n"
-
-    def reached_by(self, name):
-        """Gives the file and the name of each definition in the text of this one."""
-        for word in re.findall(r"[^\s(){}\[\],;]+", self.texts.get(name, "")):
-            alias, _, inner = word.partition(".")
-            if word in self.texts and word != name:
-                yield None, word
-            elif word in self.names:
-                yield self.names[word], word
-            elif alias in self.modules:
-                yield self.modules[alias], inner
-            elif alias in self.names:
-                yield self.names[alias], alias
-
-
-def source_of(declared):
-    """Returns the source of a type that the crate declares, from the path of its definition."""
-    crate, _, rest = declared.partition("/specs/declared/")
-    return f"{crate}/src/{rest.split('/')[0]}.rt"
-
-
-def closure(roots):
-    """Returns the files with the definitions that these reach."""
-    modules, seen, left, files = {}, set(), [*roots], set()
-    while left:
-        at, name = left.pop()
-        if (at, name) in seen:
-            continue
-        seen.add((at, name))
-        if "/declared/" in at:
-            files.add(source_of(at))
-            continue
-        files.add(f"{at}.antt")
-        if at not in modules:
-            modules[at] = Module(at)
-        left += [(to or at, it) for to, it in modules[at].reached_by(name)]
-    return files
+def section():
+    return text_of("docs/TRUST.md").split("### Reading list\n")[1].split("\n\nThe notation")[0]
 
 
 def listed():
-    """Returns the files of the reading list."""
-    section = text_of("docs/TRUST.md").split("### Reading list\n")[1].split("\n1. ")[1].split("\n\nThe notation")[0]
+    """Returns the files of the reading list of a world."""
     found, crate, kind = set(), None, None
-    for word in re.findall(r"rds_\w+|`[^`]+`", section):
+    for word in re.findall(r"rds_\w+|`[^`]+`", section().split("\n1. ")[1]):
         if word.startswith("rds_"):
             crate = word
             continue
@@ -82,9 +26,22 @@ def listed():
 
 
 class Trust(Case):
-    def test_the_reading_list_is_what_the_headline_reaches(self):
-        reached, shown = closure(ROOTS) | {STEP}, listed()
+    def test_the_first_list_has_the_definitions_of_the_headline(self):
+        rows, definitions, lines = reading.by_file(reading.closure(reading.WIRE, reading.PROMISED))
+        text = section()
+        self.check("the table", re.findall(r"^\|rds_.*$", text, re.M), rows)
+        self.check("its size", re.findall(r"these (\d+) definitions, which have (\d+)\nlines", text),
+                   [(f"{definitions}", f"{lines}")])
+        self.check("what the law of audits adds", re.findall(r"adds (\d+) definitions", text),
+                   [f"{reading.added_by_audits()}"])
+        promised = {f"`{name}`" for _, name in reading.PROMISED}
+        said = set(re.findall(r"`\w+`", text.split("|File|")[0]))
+        self.check("promises that the page does not explain", promised - said, set())
+
+    def test_the_second_list_is_what_the_headline_of_a_world_reaches(self):
+        reached, shown = reading.files(reading.closure(reading.WORLD)) | {STEP}, listed()
         self.check("not in the list", sorted(reached - shown), [])
         self.check("in the list, and not reached", sorted(shown - reached), [])
         lines = sum(len(text_of(f"crates/{it}").splitlines()) for it in shown if "/specs/" in it)
-        self.check("its size", re.findall(r"have ([\d,]+) lines", text_of("docs/TRUST.md")), [f"{round(lines, -2):,}"])
+        self.check("its size", re.findall(r"have ([\d,]+)\s+lines\.", section().split("For `sim`")[1]),
+                   [f"{round(lines, -2):,}"])
