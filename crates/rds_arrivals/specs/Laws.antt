@@ -1,18 +1,12 @@
 -- The laws of filled logs. Lists have the newest first.
-use Rattle.std.specs.Prelude.{◌≡◌, ◌+◌, ◌*◌, ◌<◌, ◌≤◌, ℕ, List, [], ◌∷◌, Option, None, length}
-use Rattle.std.specs.List.{All, AllZip}
+use Rattle.std.specs.Prelude.{◌≡◌, ◌+◌, ◌*◌, ◌<◌, ◌≤◌, ℕ, List, ◌∷◌, Option, length}
+use Rattle.std.specs.List.{All}
 use Rattle.rds_block.specs.declared.group.Group.{Group}
-use Rattle.rds_fields.specs.declared.head.Head.{Head}
-use Rattle.rds_fields.specs.declared.message.Message.{Message}
-use Rattle.rds_encoder.specs.Sent.{IsSent}
-use Rattle.rds_receiver.specs.Shown.{IsView, ShownView}
 use Rattle.rds_safety.specs.Late.{IsHeardLate}
 use Rattle.rds_safety.specs.OwnClock.{IsHeardByOwnClock}
-use Rattle.rds_safety.specs.Plans.{AreLawful, Plans}
-use Rattle.rds_safety.specs.Safe.{AreSafe}
-use Rattle.rds_arrivals.specs.Arrivals.{AreLost, and_lost, filled, lost_between, lost_within, nineteen_slots}
+use Rattle.rds_arrivals.specs.Arrivals.{AreLost, filled, lost_between, lost_within, nineteen_slots}
 use Rattle.rds_arrivals.specs.Delivered.{AreBelowASlot, AreOf, AreToldInTime, Delivery, EachTwo, IsLater, IsOnItsWay}
-use Rattle.rds_arrivals.specs.Delivered.{IsUnbroken, KeepsPace, arrivals, input_of, oldest_slot, origins}
+use Rattle.rds_arrivals.specs.Delivered.{IsUnbroken, KeepsPace, arrivals, input_of, oldest_slot}
 
 -- the number of lost slots is the one of the definition
 abbrev pub LostSlotsAreCounted : Type 0
@@ -39,26 +33,6 @@ FilledLogsAreOwnClocks X =
     (grain spread m first lost : ℕ) (log : List (Option X)) (newest : Delivery X) (before : List (Delivery X))
     → AreBelowASlot grain spread → 0 < m → AreDelivered spread log (newest ∷ before)
     → IsHeardByOwnClock m m (newest.slot + lost) log (input_of grain m first lost (newest ∷ before))
-
--- if the plans of a station are lawful for m slots, the view of a receiver of dwell m of the filled log is safe in the
--- slot of the newest group, and in the lost slots that follow
-abbrev pub FilledLogsAreSafe : Type 0
-FilledLogsAreSafe =
-    (station : Head) (grain spread m first lost : ℕ) (plans : Plans) (log : List (Option Message))
-    (sent : List (Option Group))
-    (newest : Delivery Group) (before : List (Delivery Group)) (view : ShownView)
-    → AreBelowASlot grain spread → 0 < m
-    → AreLawful m plans log → AllZip (IsSent station) log sent → AreDelivered spread sent (newest ∷ before)
-    → (v : IsView record { programme = station.pi; dwell = m; window = None; first = first }
-    (and_lost lost (filled grain m (arrivals (newest ∷ before)))) view)
-    → AreSafe m m (newest.slot + lost) plans log (record {
-      input = record {
-        first = first;
-        heard = v.0;
-        origins = and_lost lost (filled grain m (origins (newest ∷ before)));
-      };
-      view = view;
-    } ∷ [])
 
 -- if the delays vary by no more than the grain and no break is between two groups, each entry has its own slot: the
 -- receiver is on time

@@ -1,11 +1,9 @@
-//! Laws about filled logs: a receiver of one counts no slot too few, and what it shows is safe.
+//! Laws about filled logs: a receiver of one counts no slot too few.
 ghost use Rattle.rds_block.specs.declared.group.Group.{Group};
 ghost use Rattle.rds_fields.specs.declared.message.Message.{Message};
 ghost use Rattle.rds_arrivals.specs.Coarse.{EvenLogsAreNotCoarse};
 ghost use Rattle.rds_arrivals.specs.Laws.{ASlotIsTooMuch, EvenDelaysKeepPace, EvenLogsAreOnTime};
-ghost use Rattle.rds_arrivals.specs.Laws.{FilledLogsAreOwnClocks, FilledLogsAreSafe, LostSlotsAreCounted, OneCount};
-
-use rds_safety::{groups_listen, safe_by_plans};
+ghost use Rattle.rds_arrivals.specs.Laws.{FilledLogsAreOwnClocks, LostSlotsAreCounted, OneCount};
 
 /// States which number of lost slots is counted, and that there is one.
 pub fn lost_slots_are_counted()
@@ -14,17 +12,11 @@ pub fn lost_slots_are_counted()
 {}
 
 /// States that a receiver of a filled log hears by a clock that counts no slot too few, whatever it loses and whenever
-/// the times break. So the safety law holds for it, with the same dwell. The delays of the groups vary by less than a
-/// slot less the grain.
-pub fn filled_logs_are_safe()
+/// the times break. The delays of the groups vary by less than a slot less the grain.
+pub fn filled_logs_are_own_clocks()
     ensures pace { EvenDelaysKeepPace Group }
     ensures own_clock { FilledLogsAreOwnClocks Group }
-    ensures of_messages { FilledLogsAreOwnClocks Message }
-    ensures safe { FilledLogsAreSafe }
-{
-    groups_listen();
-    safe_by_plans();
-}
+{}
 
 /// States that a receiver of a filled log is on time if the delays vary by no more than the grain, no slot was told too
 /// early, and no time breaks. Without the last premise, the times are still not coarse.

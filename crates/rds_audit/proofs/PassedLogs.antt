@@ -1,10 +1,10 @@
 -- Lemmas: a log passes exactly if it has plans, and then it is safe.
 use Rattle.std.proofs.Common.{◌+◌, ◌<◌, ◌∷◌, ℕ, List, Option, arith}
 use Rattle.rds_fields.specs.declared.message.Message.{Message}
-use Rattle.rds_audit.specs.AuditLaws.{IsSafeLog, IsSafeOnTime, PassesExactlyByPlans}
+use Rattle.rds_audit.specs.AuditLaws.{IsSafeLog, PassesExactlyByPlans}
 use Rattle.rds_audit.specs.Dense.{HasPlans}
 use Rattle.rds_safety.specs.Lawful.{names, texts}
-use Rattle.rds_safety.specs.Laws.{LawfulPlansAreSafe, LawfulPlansAreSafeByOwnClocks, LawfulPlansAreSafeOnTime, PlanLaws}
+use Rattle.rds_safety.specs.Laws.{LawfulPlansAreSafe, LawfulPlansAreSafeByOwnClocks, PlanLaws}
 use Rattle.rds_safety.specs.Marks.{marks, name_mark, text_mark}
 use Rattle.rds_audit.specs.Rules.{LogPasses}
 use Rattle.rds_audit.proofs.Matching.{passes}
@@ -57,8 +57,3 @@ safe_log law safe own m k log pos p =
       safe = λ t receivers all. safe m k t w.plans log receivers w.lawful all;
       own_clocks = λ now receivers all. own (m + k) m now w.plans log receivers w.lawful all;
     }
-
-pub safe_on_time : PassesExactlyByPlans → LawfulPlansAreSafeOnTime → (m : ℕ) (log : List (Option Message)) → 0 < m → LogPasses m log → IsSafeOnTime m log
-safe_on_time law safe m log pos p =
-    let w = (law m log pos).0 p in
-    record { plans = w.plans; lawful = w.lawful; dense = w.dense; safe = λ t receivers all. safe m t w.plans log receivers w.lawful all }

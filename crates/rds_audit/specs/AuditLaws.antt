@@ -118,17 +118,3 @@ abbrev pub WhatPassesAsARecordingIsSafe : Type 0
 WhatPassesAsARecordingIsSafe =
     (m k : ℕ) (log : List (Option Message)) → 0 < m → LogPasses (m + k) (from_first_text (preceded (m + k) log))
     → IsSafeRecording m k log
-
--- some plans of the log are lawful and dense, and make each slot safe for any number of receivers of dwell m that are
--- on time, whatever they lose and whenever they restart
-pub record IsSafeOnTime (m : ℕ) (log : List (Option Message)) : Type 0 where
-  pub plans : Plans
-  pub lawful : AreLawful m plans log
-  pub dense : AreDense m plans log
-  pub safe : (t : ℕ) (receivers : List Listener) → All (ListensTo 0 m t log) receivers
-      → AreSafe m m t plans log receivers
-
--- a log that passes with d = m is safe if all receivers are on time
--- Prover: a law of its own, since `m + 0` does not compute to `m` (docs/PROVER.md, "Workarounds").
-abbrev pub WhatPassesIsSafeOnTime : Type 0
-WhatPassesIsSafeOnTime = (m : ℕ) (log : List (Option Message)) → 0 < m → LogPasses m log → IsSafeOnTime m log

@@ -2,7 +2,7 @@
 //! and what the list of its faults judges.
 ghost use Rattle.rds_audit.specs.AuditLaws.{BroadcastsAreTheReigns, PassesExactlyByPlans, PlansOfARecordingAreSafe};
 ghost use Rattle.rds_audit.specs.AuditLaws.{WhatHasAFaultDoesNotPass, WhatPassesAsARecordingIsSafe};
-ghost use Rattle.rds_audit.specs.AuditLaws.{WhatPassesIsSafe, WhatPassesIsSafeOnTime};
+ghost use Rattle.rds_audit.specs.AuditLaws.{WhatPassesIsSafe};
 ghost use Rattle.rds_audit.specs.FlagLaws.{WhatPassesIsSafeByTheFlag, WithoutPauseFlagsAlternate};
 ghost use Rattle.rds_audit.specs.ListingLaws.{SpansAreReigns, WhatHasNoFaultPasses, WhatPassesAddsNothing};
 ghost use Rattle.rds_safety.specs.Lawful.{names, texts};
@@ -26,8 +26,7 @@ pub fn broadcasts_are_the_reigns()
 
 /// States that the views of all receivers of a log that passes are safe, whatever they lose and whenever they restart.
 pub fn what_passes_is_safe()
-    ensures late { WhatPassesIsSafe }
-    ensures on_time { WhatPassesIsSafeOnTime }
+    ensures { WhatPassesIsSafe }
 {
     passes_by_plans();
     safe_by_plans();

@@ -1,4 +1,4 @@
--- The output of `slots` is a log of the filled slots, and what a receiver of it shows is safe.
+-- The output of `slots` is a log of the filled slots.
 use Rattle.std.proofs.Common.{◌≡◌, ◌≢◌, ◌+◌, ◌-◌, ◌==◌, ◌≤◌, ℕ, zero, suc, Bool, true, false, not, cond, List, [], ◌∷◌, ◌++◌, Option, Some, None, append_assoc, ap, codes, drop, length, max, take, refl, sym, subst, ◌∙◌, arith, inl, inr}
 use Rattle.std.specs.Prelude.{All, nat_lt}
 use Rattle.std.proofs.Math.Nat.{max-eq_left, max-eq_right, max-zero}
@@ -8,28 +8,23 @@ use Rattle.std.proofs.lemmas.Bool.Decides.{eqb_tells}
 use Rattle.std.proofs.lemmas.List.{append-nil, drop_all, get_or-take, length-take}
 use Rattle.std.proofs.lemmas.List.Elements.{All-cons, All-head, All-nil, All-tail, All-take}
 use Rattle.rds_block.specs.declared.group.Group.{Group}
-use Rattle.rds_receiver.specs.Receipts.{Tuning}
-use Rattle.rds_receiver.specs.Shown.{IsView}
-use Rattle.rds_view_lines.specs.Output.{Display}
 use Rattle.rds_arrivals.specs.Arrivals.{Arrival, and_lost, filled, lost_between, lost_until}
 use Rattle.rds_arrivals.specs.Breaks.{break_of}
 use Rattle.rds_arrivals.specs.Delivered.{arrivals}
-use Rattle.rds_arrivals.specs.Laws.{FilledLogsAreSafe}
 use Rattle.rds_arrivals.specs.Stamps.{stamp_in}
 use Rattle.rds_arrivals.specs.declared.lost.Break.{Break}
 use Rattle.rds_arrivals.specs.declared.lost.Break.TheVariants.{Back, Day}
 use Rattle.rds_arrivals.specs.declared.stamp.Stamp.{Stamp}
 use Rattle.rds_log.specs.Fill.{AreFilled, SoFar, break_line, ended_within, gap_lines, lost_lines, more_lines, newest_time, time_of}
-use Rattle.rds_log.specs.FilledLog.{FilledTextsAreLogs, FilledTextsAreSafe}
+use Rattle.rds_log.specs.FilledLog.{FilledTextsAreLogs}
 use Rattle.rds_log.specs.LineSays.{LineSays}
 use Rattle.rds_log.specs.LogLines.{IsLine, Line, line_feed, text_of}
-use Rattle.rds_log.specs.LogWrites.{AreDisplays, AreSlots, tuned}
+use Rattle.rds_log.specs.LogWrites.{AreSlots}
 use Rattle.rds_log.specs.declared.filler.Filling.{Filling}
 use Rattle.rds_log.specs.declared.log_line.Block.TheVariants.{Missing}
 use Rattle.rds_log.specs.declared.log_line.LogLine.TheVariants.{Skip, Slot}
 use Rattle.rds_log.proofs.Cutting.{text_of-more}
 use Rattle.rds_log.proofs.FirstBytes.{content_near, same_slot_line}
-use Rattle.rds_log.specs.OneLog.{same_lines, same_slots}
 
 -- ---- a line as far as its time
 
@@ -187,33 +182,3 @@ pub are_logs : FilledTextsAreLogs
 are_logs f lines s all fill =
     let had = cut_of f lines s all fill in
     record { lines = had.cut; are = (had.cut, [], had.text_is, had.lines, All-nil _, inl (refl, refl)); say = had.say }
-
--- ---- the view of a receiver of it
-
--- the newest display of some slots
-newest_of : (t : Tuning) (slot : Option Group) (slots : List (Option Group)) (displays : List Display) → AreDisplays false t (slot ∷ slots) displays
-    → (display : Display) × (older : List Display) × (displays ≡ display ∷ older) × IsView t (slot ∷ slots) display.view
-newest_of t slot slots [] are = absurd are
-newest_of t slot slots (display ∷ older) are = (display, older, refl, are.0.view)
-
--- lost slots may follow
-newest_after : (t : Tuning) (n : ℕ) (slot : Option Group) (slots : List (Option Group)) (displays : List Display) → AreDisplays false t (and_lost n (slot ∷ slots)) displays
-    → (display : Display) × (older : List Display) × (displays ≡ display ∷ older) × IsView t (and_lost n (slot ∷ slots)) display.view
-newest_after t zero slot slots displays are = newest_of t slot slots displays are
-newest_after t (suc n) slot slots displays are = newest_of t None (and_lost n (slot ∷ slots)) displays are
-
-pub texts_are_safe : FilledLogsAreSafe → FilledTextsAreSafe
-texts_are_safe law station f spread plans log sent newest before lines s shown wide some lawful zip are all fill came decoded =
-    let log_of = are_logs f lines s all fill in
-    let same : decoded.cut ≡ log_of.lines = same_lines s.written decoded.cut log_of.lines decoded.are log_of.are in
-    let slots : decoded.write.slots ≡ and_lost s.told (filled f.grain f.dwell (arrivals (newest ∷ before))) =
-    same_slots log_of.lines decoded.write.slots _ (rw same at decoded.write.say)
-    (subst (λ (l : List (Arrival Group)). AreSlots log_of.lines (and_lost s.told (filled f.grain f.dwell l))) came log_of.say) in
-    let (display, older, is_newest, is) = newest_after (tuned station.pi f.dwell) s.told _ _ decoded.write.write.displays (rw slots at decoded.write.write.are) in
-    rw slots record {
-      display = display;
-      older = older;
-      newest = is_newest;
-      is = is;
-      safe = law station f.grain spread f.dwell 0 s.told plans log sent newest before display.view wide some lawful zip are is;
-    }

@@ -5,7 +5,7 @@ ghost use Rattle.rds_io.specs.Told.{Traffic};
 ghost use Rattle.rds_io.specs.Alike.{WriteAlike};
 ghost use Rattle.rds_log.specs.Audit.{SlotsAreSafe, SlotsFail, SlotsHaveNoPlans, SlotsPass, spacing};
 ghost use Rattle.rds_log.specs.FaultList.{Audits};
-ghost use Rattle.rds_log.specs.FilledLog.{FilledTextsAreLogs, FilledTextsAreSafe};
+ghost use Rattle.rds_log.specs.FilledLog.{FilledTextsAreLogs};
 ghost use Rattle.rds_log.specs.LogLines.{Line};
 ghost use Rattle.rds_log.specs.LineSays.{LineSays};
 ghost use Rattle.rds_log.specs.LogWrites.{LogWrites};
@@ -15,7 +15,6 @@ ghost use Rattle.rds_log.specs.declared.decode_log.Decoding.{Decoding};
 ghost use Rattle.rds_log.specs.declared.log_line.LogLine.{LogLine};
 ghost use Rattle.rds_audit.specs.declared.audit.AuditFault.{AuditFault};
 
-use rds_arrivals::filled_logs_are_safe;
 use rds_audit::{
     passes_by_plans, passes_without_a_fault, what_passes_as_a_recording_is_safe,
     what_passes_is_safe,
@@ -58,11 +57,7 @@ pub fn what_an_answer_means()
     what_passes_as_a_recording_is_safe();
 }
 
-/// Shows that the output of `slots` is a log with the lost slots put back. So the headline holds for what `decode`
-/// shows of it, with the same dwell, if the delays of the groups vary by less than a slot less the grain.
+/// Shows that the output of `slots` is a log with the lost slots put back.
 pub fn filled_texts_are_logs()
-    ensures log { FilledTextsAreLogs }
-    ensures safe { FilledTextsAreSafe }
-{
-    filled_logs_are_safe();
-}
+    ensures { FilledTextsAreLogs }
+{}

@@ -375,9 +375,6 @@ one_slot_less_by_slow_clock m k h =
       fails = late.fails;
     }
 
-pub one_slot_less_on_time : (m : ℕ) → 1 < m → ShowsAMix (m - 1) m (ListensTo 0 m)
-one_slot_less_on_time m h = subst (λ (d : ℕ). ShowsAMix (d - 1) m (ListensTo 0 m)) (let e : m + 0 ≡ m = omega arith in e) (one_slot_less m 0 h)
-
 by_own_clock : (n j : ℕ) → ShowsAMix (j + 1) (n + 2) (ListensByOwnClock (j + 2) (n + 2))
 by_own_clock n j = mixes (n + 2) j (j + 1) (ListensByOwnClock (j + 2) (n + 2)) (receiver 0 n j) refl (listens_by_own_clock n j)
 

@@ -10,7 +10,6 @@ pub mod Confirmed
 pub mod Safety
 pub mod OnTime
 pub mod OwnClocks
-pub mod Groups
 pub mod Least
 pub mod LeastConfirmed
 pub mod LooserClocks

@@ -1,5 +1,5 @@
 -- Lemmas: lawful plans make each slot safe for any number of receivers.
-use Rattle.std.proofs.Common.{◌≡◌, ◌+◌, ℕ, List, Option, Some, slice_index_or, sym, ap, subst, arith}
+use Rattle.std.proofs.Common.{◌≡◌, ◌+◌, ℕ, List, Option, Some, slice_index_or, ap}
 use Rattle.std.specs.List.{All}
 use Rattle.rds_fields.specs.declared.message.Message.{Message}
 use Rattle.rds_fields.specs.declared.message.Message.TheVariants.{Text, Name, Announce, Tags, Other}
@@ -91,12 +91,3 @@ pub are_safe_late : PlanLaws → (m k t : ℕ) (plans : Plans) (log : List (Opti
     → AreLawful (m + k) plans log → All (ListensTo k m t log) receivers → AreSafe (m + k) m t plans log receivers
 are_safe_late laws m k t plans log receivers law all =
     are_safe_by_slow_clocks laws m k t plans log receivers law (λ i o h. late_listens k m t log (slice_index_or receivers i o) (all i o h))
-
--- if no receiver is late, plans that are lawful for m are enough
--- Prover: a law of its own, since `m + 0` does not compute to `m` (docs/PROVER.md, "Workarounds").
-pub are_safe_on_time : PlanLaws → (m t : ℕ) (plans : Plans) (log : List (Option Message)) (receivers : List Listener)
-    → AreLawful m plans log → All (ListensTo 0 m t log) receivers → AreSafe m m t plans log receivers
-are_safe_on_time laws m t plans log receivers law all =
-    let none_late : m + 0 ≡ m = omega arith in
-    subst (λ (d : ℕ). AreSafe d m t plans log receivers) none_late
-    (are_safe_late laws m 0 t plans log receivers (subst (λ (d : ℕ). AreLawful d plans log) (sym none_late) law) all)

@@ -1,19 +1,16 @@
 -- The laws about receivers that show only what they heard twice. Lists have the newest first.
-use Rattle.std.specs.Prelude.{◌≡◌, ◌+◌, ◌-◌, ◌<◌, ◌≤◌, ℕ, List, Option, Some, length}
+use Rattle.std.specs.Prelude.{◌≡◌, ◌+◌, ◌-◌, ◌<◌, ◌≤◌, ℕ, List, Option, Some}
 use Rattle.std.specs.List.{All}
-use Rattle.rds_block.specs.declared.group.Group.{Group}
 use Rattle.rds_fields.specs.declared.message.Message.{Message}
 use Rattle.rds_assembly.specs.Body.{segment_count, text_body}
 use Rattle.rds_encoder.specs.Plan.{Broadcast, HasNumber}
 use Rattle.rds_receiver.specs.Receipts.{Fragment, name_fragment, text_fragment}
-use Rattle.rds_receiver.specs.Shown.{IsView, ShownView}
 use Rattle.rds_safety.specs.Late.{CameFrom, HasEntry, Input}
 use Rattle.rds_safety.specs.Laws.{ShowsAMix}
 use Rattle.rds_safety.specs.Near.{ListensNear}
 use Rattle.rds_safety.specs.Plans.{AreLawful, Plans}
 use Rattle.rds_safety.specs.Safe.{AreSafe, Listener}
-use Rattle.rds_safety.specs.Confirmed.{IsHeardWithWrong, ListensConfirmed, ListensOnce, NoWrongConfirmed}
-use Rattle.rds_safety.specs.Confirmed.{confirmed_input}
+use Rattle.rds_safety.specs.Confirmed.{ListensConfirmed, ListensOnce}
 use Rattle.rds_safety.specs.Confirmed.{lateness_of_two}
 
 -- the confirmed messages are near the log, for the lateness of two receipts
@@ -38,24 +35,6 @@ OneSlotLessMixesConfirmed =
 -- for a receiver that shows what it heard once, no spacing is enough: one wrong message makes a mix
 abbrev pub OneWrongMessageMixes : Type 0
 OneWrongMessageMixes = (d m : ℕ) → 0 < d → 1 < m → ShowsAMix d m (ListensOnce 0 m)
-
--- the input of a receiver: what it heard of the groups that it got, with their origins
-abbrev pub raw_input : ℕ → List (Option Message) → List (Option ℕ) → Input
-raw_input first heard origins = record { first = first; heard = heard; origins = origins }
-
--- a receiver with a window of w slots that got groups, some of them wrong, and shows their view listens
-abbrev pub WhoIsHandedWrongGroupsListens : Type 0
-WhoIsHandedWrongGroupsListens =
-    (pi w k m first t : ℕ) (log : List (Option Message)) (handed : List (Option Group))
-    (origins : List (Option ℕ)) (view : ShownView)
-    → (v : IsView record { programme = pi; dwell = m; window = Some w; first = first } handed view)
-    → IsHeardWithWrong k log (raw_input first v.0 origins)
-    → NoWrongConfirmed w (raw_input first v.0 origins)
-    → first + length v.0 ≡ t + 1
-    → ListensConfirmed w k m t log record {
-      input = confirmed_input w m (raw_input first v.0 origins);
-      view = view;
-    }
 
 -- a segment of a service with this address came in this slot
 pub record CameAt (pick : Message → Option Fragment) (raw : Input) (slot address : ℕ) : Type 0 where

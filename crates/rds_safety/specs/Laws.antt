@@ -1,17 +1,13 @@
 -- The laws about all plans, logs and inputs. Lists have the newest first.
-use Rattle.std.specs.Prelude.{◌≡◌, ◌+◌, ◌-◌, ◌<◌, ◌↔◌, ℕ, List, [], ◌∷◌, Option, None, Some, length}
-use Rattle.std.specs.List.{All, AllZip}
-use Rattle.rds_block.specs.declared.group.Group.{Group}
-use Rattle.rds_fields.specs.declared.head.Head.{Head}
+use Rattle.std.specs.Prelude.{◌≡◌, ◌+◌, ◌-◌, ◌<◌, ◌↔◌, ℕ, List, [], ◌∷◌, Option, Some}
+use Rattle.std.specs.List.{All}
 use Rattle.rds_fields.specs.declared.message.Message.{Message}
 use Rattle.rds_encoder.specs.Laws.{ANumberIsBelowTheLength, ANumberNamesOne, SpacedAreFarApart}
 use Rattle.rds_encoder.specs.Laws.{SpacedAreInOrder, SpacedOfOneFlagAreFarApart}
 use Rattle.rds_encoder.specs.Plan.{Broadcast, HasNumber}
-use Rattle.rds_encoder.specs.Sent.{IsSent}
 use Rattle.rds_encoder.specs.Spaced.{IsSpaced}
-use Rattle.rds_receiver.specs.Receipts.{AreHeard, Segment}
-use Rattle.rds_receiver.specs.Shown.{IsView, ShownView}
-use Rattle.rds_safety.specs.Late.{Input, InputOf, IsHeardInOrder, IsHeardLate, IsHeardOnTime, own_origins}
+use Rattle.rds_receiver.specs.Receipts.{Segment}
+use Rattle.rds_safety.specs.Late.{Input, IsHeardInOrder, IsHeardLate, IsHeardOnTime, own_origins}
 use Rattle.rds_safety.specs.Near.{ListensNear}
 use Rattle.rds_safety.specs.OwnClock.{IsHeardByOwnClock, IsTrueClock, ListensByOwnClock}
 use Rattle.rds_safety.specs.OwnClock.{ListensBySlowClock, LosesAtMost, next_slot}
@@ -55,13 +51,6 @@ LawfulPlansAreSafe =
     (m k t : ℕ) (plans : Plans) (log : List (Option Message)) (receivers : List Listener)
     → AreLawful (m + k) plans log → All (ListensTo k m t log) receivers → AreSafe (m + k) m t plans log receivers
 
--- if all receivers are on time, plans that are lawful for m make each slot safe
--- Prover: a law of its own, since `m + 0` does not compute to `m` (docs/PROVER.md, "Workarounds").
-abbrev pub LawfulPlansAreSafeOnTime : Type 0
-LawfulPlansAreSafeOnTime =
-    (m t : ℕ) (plans : Plans) (log : List (Option Message)) (receivers : List Listener)
-    → AreLawful m plans log → All (ListensTo 0 m t log) receivers → AreSafe m m t plans log receivers
-
 -- a run has at most one source
 abbrev pub ARunHasOneSource : Type 0
 ARunHasOneSource =
@@ -100,42 +89,6 @@ TheTrueClockIsNoSlotLate =
     (log : List (Option Message)) (input : Input)
     → (IsHeardInOrder log input × IsTrueClock input) ↔ IsHeardLate 0 log input
 
--- an input that is at most k slots late as groups is so as messages
-abbrev pub LateGroupsAreLateMessages : Type 0
-LateGroupsAreLateMessages =
-    (pi k first : ℕ) (sent handed : List (Option Group)) (origins : List (Option ℕ)) (log heard : List (Option Message))
-    → AreHeard pi sent log → AreHeard pi handed heard
-    → IsHeardLate k sent record { first = first; heard = handed; origins = origins }
-    → IsHeardLate k log record { first = first; heard = heard; origins = origins }
-
--- a receiver that got the groups of a station late, and shows their view, listens to the log of messages
-abbrev pub WhoIsHandedGroupsListens : Type 0
-WhoIsHandedGroupsListens =
-    (station : Head) (k m t : ℕ) (log : List (Option Message)) (sent : List (Option Group)) (input : InputOf Group)
-    (view : ShownView)
-    → AllZip (IsSent station) log sent → IsHeardLate k sent input → input.first + length input.heard ≡ t + 1
-    → (v : IsView record { programme = station.pi; dwell = m; window = None; first = input.first } input.heard view)
-    → ListensTo k m t log record {
-      input = record { first = input.first; heard = v.0; origins = input.origins };
-      view = view;
-    }
-
--- a receiver that got them by its own clock, and shows their view, listens by its own clock
-abbrev pub WhoIsHandedGroupsListensByOwnClock : Type 0
-WhoIsHandedGroupsListensByOwnClock =
-    (station : Head) (d m now : ℕ) (log : List (Option Message)) (sent : List (Option Group)) (input : InputOf Group)
-    (view : ShownView)
-    → AllZip (IsSent station) log sent → IsHeardByOwnClock d m now sent input
-    → (v : IsView record { programme = station.pi; dwell = m; window = None; first = input.first } input.heard view)
-    → ListensByOwnClock d m now log record {
-      input = record {
-        first = input.first;
-        heard = v.0;
-        origins = input.origins;
-      };
-      view = view;
-    }
-
 -- there are plans that are lawful for so many slots, and a receiver of dwell m that listens in this way and shows a
 -- mix: a text that no broadcast of the plans has; so its view is safe for no d
 pub record ShowsAMix (slots m : ℕ) (Listens : ℕ → List (Option Message) → Listener → Type 0) : Type 0 where
@@ -164,10 +117,6 @@ pub record IsUnsafe (d m : ℕ) (Listens : ℕ → List (Option Message) → Lis
 -- plans that are lawful for m + k - 1 slots are not enough
 abbrev pub OneSlotLessMixes : Type 0
 OneSlotLessMixes = (m k : ℕ) → 1 < m → ShowsAMix (m + k - 1) m (ListensTo k m)
-
--- so for receivers that are on time, plans that are lawful for m - 1 slots are not enough
-abbrev pub OneSlotLessMixesOnTime : Type 0
-OneSlotLessMixesOnTime = (m : ℕ) → 1 < m → ShowsAMix (m - 1) m (ListensTo 0 m)
 
 -- if fewer than m slots of a receiver's own clock are fewer than d of the station, plans that are lawful for d - 1
 -- slots are not enough

@@ -10,34 +10,29 @@ ghost use Rattle.rds_safety.specs.FlagLaws.{TheFlagAloneIsADwellWhileHeard, TheF
 ghost use Rattle.rds_safety.specs.FlagLaws.{WhoGetsSomeHearsOneIn};
 ghost use Rattle.rds_safety.specs.FlagLaws.{WhoHearsOneInHearsEach};
 ghost use Rattle.rds_safety.specs.FlagLaws.{WhoHearsOneInHearsTextBeforeTags, WhoLosesFewGetsSome};
-ghost use Rattle.rds_safety.specs.Laws.{ARunHasOneSource, ASlowClockIsAnOwnClock, LateGroupsAreLateMessages};
+ghost use Rattle.rds_safety.specs.Laws.{ARunHasOneSource, ASlowClockIsAnOwnClock};
 ghost use Rattle.rds_safety.specs.Laws.{LateIsBySlowClock, LawfulPlansAreSafe, LawfulPlansAreSafeByOwnClocks};
 ghost use Rattle.rds_safety.specs.Laws.{LawfulPlansAreSafeForSlowClocks, LawfulPlansAreSafeNear};
-ghost use Rattle.rds_safety.specs.Laws.{LawfulPlansAreSafeOnTime};
 ghost use Rattle.rds_safety.specs.Laws.{NoSlotLateIsOnTime, OnTimeIsNoSlotLate, OneSlotLessMixes};
 ghost use Rattle.rds_safety.specs.Laws.{OneSlotLessMixesByOwnClock, OneSlotLessMixesForSlowClocks};
-ghost use Rattle.rds_safety.specs.Laws.{OneSlotLessMixesOnTime, PlanLaws, TheTrueClockIsNoSlotLate};
+ghost use Rattle.rds_safety.specs.Laws.{PlanLaws, TheTrueClockIsNoSlotLate};
 ghost use Rattle.rds_safety.specs.ConfirmedLaws.{LawfulPlansAreSafeConfirmed, OneSlotLessMixesConfirmed};
 ghost use Rattle.rds_safety.specs.ConfirmedLaws.{OneWrongMessageMixes, WhoConfirmsListensNear};
 ghost use Rattle.rds_safety.specs.ConfirmedLaws.{WhoHearsBothSegmentsTwiceShowsTheName};
-ghost use Rattle.rds_safety.specs.ConfirmedLaws.{WhoHearsEachSegmentTwiceShowsTheText, WhoIsHandedWrongGroupsListens};
-ghost use Rattle.rds_safety.specs.Laws.{WhoIsHandedGroupsListens, WhoIsHandedGroupsListensByOwnClock};
+ghost use Rattle.rds_safety.specs.ConfirmedLaws.{WhoHearsEachSegmentTwiceShowsTheText};
 
 use rds_encoder::{broadcasts_are_spaced, numbers_name_broadcasts};
-use rds_fields::one_message;
 
 /// States that lawful plans make each slot safe for any number of receivers:
 ///
 /// - plans lawful for M + K, if no group comes more than K slots late, or if each receiver's clock counts at most K
 ///   slots too few within M;
 /// - plans lawful for d, if fewer than M slots of each receiver's own clock are fewer than d slots of the station.
-// Prover: `on_time` is a clause of its own, since `M + 0` does not compute to `M` (docs/PROVER.md, "Workarounds").
 pub fn safe_by_plans()
     ensures near { LawfulPlansAreSafeNear }
     ensures own_clocks { LawfulPlansAreSafeByOwnClocks }
     ensures slow_clocks { LawfulPlansAreSafeForSlowClocks }
     ensures late { LawfulPlansAreSafe }
-    ensures on_time { LawfulPlansAreSafeOnTime }
 {
     plan_laws();
 }
@@ -71,27 +66,10 @@ pub fn own_clocks()
     ensures no_slot_late { TheTrueClockIsNoSlotLate }
 {}
 
-/// States that an input that is late as groups is late as messages.
-pub fn late_as_messages()
-    ensures { LateGroupsAreLateMessages }
-{
-    one_message();
-}
-
-/// States that a receiver listens to the log of a station if it got the station's groups, late or by its own clock, and
-/// shows their view.
-pub fn groups_listen()
-    ensures late { WhoIsHandedGroupsListens }
-    ensures own_clock { WhoIsHandedGroupsListensByOwnClock }
-{
-    one_message();
-}
-
 /// States that one slot less of spacing is not enough: neither M + K - 1 for late groups and slow clocks, nor d - 1 for
 /// own clocks. There are plans, a log and a receiver that shows a text of no broadcast.
 pub fn the_dwell_is_the_least()
     ensures late { OneSlotLessMixes }
-    ensures on_time { OneSlotLessMixesOnTime }
     ensures own_clock { OneSlotLessMixesByOwnClock }
     ensures slow_clock { OneSlotLessMixesForSlowClocks }
 {}
@@ -105,7 +83,6 @@ pub fn the_dwell_is_the_least()
 ///
 /// For a receiver that shows what it heard once, no spacing is enough (if M > 1).
 pub fn safe_if_confirmed()
-    ensures listens { WhoIsHandedWrongGroupsListens }
     ensures near { WhoConfirmsListensNear }
     ensures safe { LawfulPlansAreSafeConfirmed }
     ensures text { WhoHearsEachSegmentTwiceShowsTheText }

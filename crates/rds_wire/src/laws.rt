@@ -5,7 +5,7 @@ ghost use Rattle.rds_wire.specs.Received.{WhoLosesSlotsReceives};
 ghost use Rattle.rds_wire.specs.Twice.{WhatIsEncodedIsSafeIfHeardTwice};
 ghost use Rattle.rds_wire.specs.Wire.{WhatIsEncodedIsSafeOnTheWire, WhatPassesIsSafeOnTheWire};
 
-use rds_arrivals::filled_logs_are_safe;
+use rds_arrivals::filled_logs_are_own_clocks;
 use rds_audit::{
     recordings_are_safe_by_plans, what_passes_as_a_recording_is_safe, what_passes_is_safe,
 };
@@ -48,7 +48,7 @@ pub fn what_is_received()
     ensures lost { WhoLosesSlotsReceives }
     ensures filled { WhatSlotsWritesIsReceived }
 {
-    filled_logs_are_safe();
+    filled_logs_are_own_clocks();
     filled_texts_are_logs();
 }
 

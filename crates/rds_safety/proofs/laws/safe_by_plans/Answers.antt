@@ -1,4 +1,4 @@
-use Rattle.rds_safety.proofs.Safety.{are_safe, are_safe_by_own_clocks, are_safe_by_slow_clocks, are_safe_late, are_safe_on_time}
+use Rattle.rds_safety.proofs.Safety.{are_safe, are_safe_by_own_clocks, are_safe_by_slow_clocks, are_safe_late}
 use Rattle.rds_safety.proofs.laws.safe_by_plans.Goals as goal
 
 pub returns-clause-near : goal.returns-clause-near
@@ -12,6 +12,3 @@ returns-clause-slow_clocks c = are_safe_by_slow_clocks c.plan_laws.ensures
 
 pub returns-clause-late : goal.returns-clause-late
 returns-clause-late c = are_safe_late c.plan_laws.ensures
-
-pub returns-clause-on_time : goal.returns-clause-on_time
-returns-clause-on_time c = are_safe_on_time c.plan_laws.ensures

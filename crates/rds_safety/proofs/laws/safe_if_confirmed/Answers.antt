@@ -1,13 +1,8 @@
-use Rattle.std.proofs.Common.{refl}
 use Rattle.rds_safety.proofs.LeastConfirmed.{one_slot_less_confirmed, one_wrong_mixes}
 use Rattle.rds_safety.proofs.Safety.{are_safe_confirmed}
 use Rattle.rds_safety.proofs.Confirmed.{confirmed_listens}
 use Rattle.rds_safety.proofs.ConfirmedDelivery.{name_shown_twice, text_shown_twice}
 use Rattle.rds_safety.proofs.laws.safe_if_confirmed.Goals as goal
-
-pub returns-clause-listens : goal.returns-clause-listens
-returns-clause-listens c pi w k m first t log handed origins view v heard once now =
-    record { raw = _; heard = heard; once = once; now = now; confirmed = refl; shows = v.2 }
 
 pub returns-clause-near : goal.returns-clause-near
 returns-clause-near c = confirmed_listens

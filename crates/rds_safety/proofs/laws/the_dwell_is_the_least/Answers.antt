@@ -1,11 +1,8 @@
-use Rattle.rds_safety.proofs.Least.{one_slot_less, one_slot_less_by_own_clock, one_slot_less_by_slow_clock, one_slot_less_on_time}
+use Rattle.rds_safety.proofs.Least.{one_slot_less, one_slot_less_by_own_clock, one_slot_less_by_slow_clock}
 use Rattle.rds_safety.proofs.laws.the_dwell_is_the_least.Goals as goal
 
 pub returns-clause-late : goal.returns-clause-late
 returns-clause-late c = one_slot_less
-
-pub returns-clause-on_time : goal.returns-clause-on_time
-returns-clause-on_time c = one_slot_less_on_time
 
 pub returns-clause-own_clock : goal.returns-clause-own_clock
 returns-clause-own_clock c = one_slot_less_by_own_clock

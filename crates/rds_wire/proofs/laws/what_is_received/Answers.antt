@@ -7,4 +7,4 @@ returns-clause-lost c = lost_is_received
 
 pub returns-clause-filled : goal.returns-clause-filled
 returns-clause-filled c =
-    filled_is_received c.filled_texts_are_logs.ensures.log c.filled_logs_are_safe.ensures.own_clock
+    filled_is_received c.filled_texts_are_logs.ensures c.filled_logs_are_own_clocks.ensures.own_clock

@@ -10,6 +10,6 @@ returns c = passed_is_safe
       source = c.one_source.ensures;
     }
     record {
-      complete = c.what_passes_is_safe.ensures.late;
+      complete = c.what_passes_is_safe.ensures;
       running = c.what_passes_as_a_recording_is_safe.ensures;
     }

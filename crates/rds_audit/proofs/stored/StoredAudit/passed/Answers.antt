@@ -22,7 +22,7 @@ returns-clause-plans c pi d log s =
 pub returns-clause-safe : goal.returns-clause-safe
 returns-clause-safe c pi d log s m k pos same is_so =
     let exactly = returns-clause-passes c pi d log s in
-    c.what_passes_is_safe.ensures.late m k _ pos (rw same (exactly.0 is_so))
+    c.what_passes_is_safe.ensures m k _ pos (rw same (exactly.0 is_so))
 
 pub returns-clause-recording : goal.returns-clause-recording
 returns-clause-recording c pi m k log s running pos passed =
