@@ -62,12 +62,23 @@ pub record HasCut (text : List ℕ) (slots : List (Option Group)) : Type 0 where
   pub lines : All IsLine cut
   pub say : AreSlots cut slots
 
-text_more : (closed : List Line) (begun bytes : Line) → text_of closed begun ++ bytes ≡ text_of closed (begun ++ bytes)
+-- bytes after a text go on with its last line
+pub text_more : (closed : List Line) (begun bytes : Line) → text_of closed begun ++ bytes ≡ text_of closed
+    (begun ++ bytes)
 text_more [] begun bytes = refl
 text_more (line ∷ before) begun bytes = append_assoc (text_of before line) (line_feed ∷ begun) bytes
 
-more_text : (text line : List ℕ) (cut : List Line) → text ≡ text_of cut [] → text ++ (line ++ codes "\n") ≡ text_of
-    (line ∷ cut) []
+-- such a text is a log
+pub is_log_of : (text : List ℕ) (slots : List (Option Group)) → HasCut text slots → IsLogOf text slots
+is_log_of text slots had = record {
+  lines = had.cut;
+  are = (had.cut, [], had.text_is, had.lines, All-nil _, inl (refl, refl));
+  say = had.say;
+}
+
+-- a line more after a text
+pub more_text : (text line : List ℕ) (cut : List Line) → text ≡ text_of cut []
+    → text ++ (line ++ codes "\n") ≡ text_of (line ∷ cut) []
 more_text text line cut is =
     ap (λ (l : List ℕ). l ++ (line ++ codes "\n")) is ∙ sym (append_assoc (text_of cut []) line (codes "\n"))
     ∙ ap (λ (l : List ℕ). l ++ codes "\n") (text_more cut [] line)
@@ -82,7 +93,8 @@ with_slot text line slot slots had is says = record {
   say = inr (slot, slots, says, refl, had.say);
 }
 
-with_comment : (text line : List ℕ) (slots : List (Option Group)) → HasCut text slots → IsLine line → IsSkipped line
+-- a comment changes no slot
+pub with_comment : (text line : List ℕ) (slots : List (Option Group)) → HasCut text slots → IsLine line → IsSkipped line
     → HasCut (text ++ (line ++ codes "\n")) slots
 with_comment text line slots had is says = record {
   cut = line ∷ had.cut;
@@ -201,8 +213,7 @@ group_says g f = (
   record {
     at_least = omega (arith, long);
     spaces = record { first = refl; second = refl; third = refl };
-    ends =
-        inl long;
+    ends = inl long;
   },
   says_group (block_digits g) g.pi (second_word_of g) g.c g.d g
       (word_at (block_digits g) 0 g.pi f.pi refl refl refl refl)
@@ -393,14 +404,9 @@ cut_of h m k (e ∷ before) (o ∷ older) head none are =
     (receiver_changes (length older) (length o.views) whys (newest_views older) o.views) alone) said
 
 -- the output of `encode` is a log, and its slots are the groups that were sent
-pub encoded_is_log : (h : Head) (m k : ℕ) (events : List Event) (outcomes : List Outcome) (log : List ℕ) → IsHead h
+pub encoded_cut : (h : Head) (m k : ℕ) (events : List Event) (outcomes : List Outcome) (log : List ℕ) → IsHead h
     → HasNoReceivers events → AreOutcomes (station_of h m k) events outcomes
-    → log ≡ lines_of Log (station_of h m k) events outcomes → IsLogOf log (groups_sent outcomes)
-encoded_is_log h m k events outcomes log head none are is =
-    let had = cut_of h m k events outcomes head none are in
-    record {
-      lines = had.cut;
-      are = (had.cut, [], is ∙ had.text_is, had.lines, All-nil _, inl (refl, refl));
-      say =
-          had.say;
-    }
+    → log ≡ lines_of Log (station_of h m k) events outcomes → HasCut log (groups_sent outcomes)
+encoded_cut h m k events outcomes log head none are is =
+    same_text (lines_of Log (station_of h m k) events outcomes) log (groups_sent outcomes) (sym is)
+    (cut_of h m k events outcomes head none are)

@@ -127,26 +127,39 @@ printed_line (byte ∷ rest) = join_lines (printed_byte byte) (printed rest) (by
 
 -- ---- decimal numbers
 
-either_line : (b : Bool) (one other : List ℕ) → IsFeedless one → IsFeedless other → IsFeedless (cond b one other)
-either_line true one other p q = p
-either_line false one other p q = q
+-- bytes without this byte
+abbrev pub Lacks : ℕ → List ℕ → Type 0
+Lacks b bytes = All (λ (x : ℕ). x ≢ b) bytes
 
-glyph : (n : ℕ) → n < 10 → digit_glyph false n ≢ 10
-glyph n h = grind (arith, nat_tests)
+-- a byte that is no digit
+abbrev pub IsNoDigit : ℕ → Type 0
+IsNoDigit b = (n : ℕ) → n < 10 → digit_glyph false n ≢ b
 
-digits_line : (k n : ℕ) (acc : List ℕ) → IsFeedless acc → IsFeedless (digits_onto k 10 false n acc)
-digits_line zero n acc is = is
-digits_line (suc k) n acc is =
-    let more : IsFeedless (digit_glyph false (n % 10) ∷ acc) =
-    more_line (digit_glyph false (n % 10)) acc (glyph (n % 10) (omega arith)) is in
-    either_line (n / 10 == 0) (digit_glyph false (n % 10) ∷ acc)
+either_lacks : (b : ℕ) (t : Bool) (one other : List ℕ) → Lacks b one → Lacks b other → Lacks b (cond t one other)
+either_lacks b true one other p q = p
+either_lacks b false one other p q = q
+
+digits_lack : (b : ℕ) → IsNoDigit b → (k n : ℕ) (acc : List ℕ) → Lacks b acc
+    → Lacks b (digits_onto k 10 false n acc)
+digits_lack b none zero n acc is = is
+digits_lack b none (suc k) n acc is =
+    let more : Lacks b (digit_glyph false (n % 10) ∷ acc) =
+    All-cons (λ (x : ℕ). x ≢ b) (digit_glyph false (n % 10)) acc (none (n % 10) (omega arith)) is in
+    either_lacks b (n / 10 == 0) (digit_glyph false (n % 10) ∷ acc)
     (digits_onto k 10 false (n / 10) (digit_glyph false (n % 10) ∷ acc)) more
-    (digits_line k (n / 10) (digit_glyph false (n % 10) ∷ acc) more)
+    (digits_lack b none k (n / 10) (digit_glyph false (n % 10) ∷ acc) more)
+
+-- a number has no byte that is no digit
+pub decimal_lacks : (b : ℕ) → IsNoDigit b → (n : ℕ) → Lacks b (decimal n)
+unfolding digits
+decimal_lacks b none n = digits_lack b none 64 n [] (All-nil (λ (x : ℕ). x ≢ b))
+
+no_feed : IsNoDigit 10
+no_feed n h = grind (arith, nat_tests)
 
 -- a number has no line feed
 pub decimal_line : (n : ℕ) → IsFeedless (decimal n)
-unfolding digits
-decimal_line n = digits_line 64 n [] empty_line
+decimal_line n = decimal_lacks 10 no_feed n
 
 -- nor has the stamp of a slot
 pub stamps : (slot : ℕ) → IsFeedless (slot_stamp slot)

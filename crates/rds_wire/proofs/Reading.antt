@@ -1,8 +1,7 @@
 -- The lines of the output of `decode`, read back: what they show in a slot is what the display shows there.
-use Rattle.std.proofs.Common.{◌≡◌, ◌≢◌, ◌⊎◌, ◌<◌, ◌≤◌, ◌-◌, ◌/◌, ◌%◌, ◌^◌, ◌==◌, ◌++◌, ◌∷◌, [], ◌∙◌, ℕ, zero, suc, Bool}
+use Rattle.std.proofs.Common.{◌≡◌, ◌≢◌, ◌⊎◌, ◌<◌, ◌≤◌, ◌-◌, ◌^◌, ◌==◌, ◌++◌, ◌∷◌, [], ◌∙◌, ℕ, zero, suc, Bool}
 use Rattle.std.proofs.Common.{true, false, not, cond, List, Option, None, Some, append_assoc, append-nil, ap, arith}
 use Rattle.std.proofs.Common.{codes, decimal, inl, inr, length, refl, subst, sym, get_or}
-use Rattle.std.specs.Fmt.{digits, digits_onto, digit_glyph}
 use Rattle.std.specs.List.{Contains, list_all, slice_get}
 use Rattle.std.specs.Str.{bytes_eq}
 use Rattle.std.specs.Prelude.{All}
@@ -11,7 +10,7 @@ use Rattle.std.proofs.lemmas.Bool.Decides.{eqb_tells, nat_tests}
 use Rattle.std.proofs.lemmas.Fmt.{decimal_injective}
 use Rattle.std.proofs.lemmas.List.Elements.{All-cons, All-nil, All-head, All-tail}
 use Rattle.std.proofs.lemmas.Slice.Eq.{bytes_eq-Decides}
-use Rattle.rds_log.specs.LogLines.{AreLines, IsLine, Line, line_feed, text_of}
+use Rattle.rds_log.specs.LogLines.{AreLines, IsLine, Line, text_of}
 use Rattle.rds_receiver.specs.Run.{is_same}
 use Rattle.rds_receiver.specs.Shown.{ShownView}
 use Rattle.rds_safety.specs.Late.{HasEntry}
@@ -25,31 +24,25 @@ use Rattle.rds_view_lines.specs.Output.{none_content, nothing_shown, quoted, slo
 use Rattle.rds_view_lines.specs.Output.{unless_same, why_content, why_name, why_text}
 use Rattle.rds_view_lines.specs.ViewParts.{Item, Name, Part, Tag1, Tag2, Text, line_in, part_content, part_name}
 use Rattle.rds_wire.proofs.Firsts.{entry_below}
-use Rattle.rds_wire.proofs.Printed.{decimal_line, empty_line, feedless, join_lines, of_each, printed_line, stamps}
+use Rattle.rds_wire.proofs.Logs.{text_more}
+use Rattle.rds_wire.proofs.Printed.{IsNoDigit, Lacks, decimal_lacks, decimal_line, empty_line, feedless, join_lines}
+use Rattle.rds_wire.proofs.Printed.{of_each, printed_line, stamps}
 
 -- ---- the stamp of a line
 
--- bytes without a byte
-abbrev Lacks : ℕ → List ℕ → Type 0
-Lacks b bytes = All (λ x. x ≢ b) bytes
+no_space : IsNoDigit 32
+no_space n h = grind (arith, nat_tests)
 
-glyph : (n : ℕ) → n < 10 → digit_glyph false n ≢ 32
-glyph n h = grind (arith, nat_tests)
+no_f : IsNoDigit 102
+no_f n h = grind (arith, nat_tests)
 
-either_lacks : (t : Bool) (one other : List ℕ) → Lacks 32 one → Lacks 32 other → Lacks 32 (cond t one other)
-either_lacks true one other p q = p
-either_lacks false one other p q = q
-
-digits_lack : (k n : ℕ) (acc : List ℕ) → Lacks 32 acc → Lacks 32 (digits_onto k 10 false n acc)
-digits_lack zero n acc is = is
-digits_lack (suc k) n acc is =
-    let more : Lacks 32 (digit_glyph false (n % 10) ∷ acc) =
-    All-cons (λ (x : ℕ). x ≢ 32) _ acc (glyph (n % 10) (omega arith)) is in
-    either_lacks (n / 10 == 0) _ _ more (digits_lack k (n / 10) _ more)
-
-decimal_lacks : (n : ℕ) → Lacks 32 (decimal n)
-unfolding digits
-decimal_lacks n = digits_lack 64 n [] (All-nil (λ (x : ℕ). x ≢ 32))
+-- a stamp does not begin with an f, as the line of a fault does
+pub stamp_lacks : (slot : ℕ) (x : List ℕ) → get_or (slot_stamp slot ++ x) 0 0 ≢ 102
+stamp_lacks slot x = by (decimal slot) (decimal_lacks 102 no_f slot)
+  where
+    by : (digits : List ℕ) → Lacks 102 digits → get_or ((digits ++ codes " ") ++ x) 0 0 ≢ 102
+    by [] all = λ e. omega (arith, e)
+    by (d ∷ rest) all = All-head (λ (y : ℕ). y ≢ 102) d rest all
 
 -- the first space stands at one place
 same_first : (p q x y : List ℕ) → Lacks 32 p → Lacks 32 q → p ++ 32 ∷ x ≡ q ++ 32 ∷ y → (p ≡ q) × (x ≡ y)
@@ -67,7 +60,7 @@ same_first (c ∷ p) (d ∷ q) x y a b e =
 pub same_stamp : (s n : ℕ) (x y : List ℕ) → s < 2 ^ 64 → n < 2 ^ 64 → slot_stamp s ++ x ≡ slot_stamp n ++ y
     → (s ≡ n) × (x ≡ y)
 same_stamp s n x y small less e =
-    let same = same_first (decimal s) (decimal n) x y (decimal_lacks s) (decimal_lacks n)
+    let same = same_first (decimal s) (decimal n) x y (decimal_lacks 32 no_space s) (decimal_lacks 32 no_space n)
     (sym (append_assoc (decimal s) (codes " ") x) ∙ e ∙ append_assoc (decimal n) (codes " ") y) in
     (decimal_injective s n small less same.0, same.1)
 
@@ -210,10 +203,6 @@ abbrev pub lines_of : List Display → List Line
 lines_of [] = []
 lines_of (d ∷ older) = with_slot (length older) (newest older) d (lines_of older)
 
-text_more : (closed : List Line) (begun bytes : Line) → text_of closed begun ++ bytes ≡ text_of closed (begun ++ bytes)
-text_more [] begun bytes = refl
-text_more (line ∷ before) begun bytes = append_assoc (text_of before line) (line_feed ∷ begun) bytes
-
 body_text : (b : Bool) (body : Line) (rest : List Line) → text_of (body_unless b body rest) [] ≡ text_of rest []
     ++ unless_same b (body ++ codes "\n")
 body_text true body rest = sym (append-nil (text_of rest []))
@@ -263,7 +252,8 @@ slot_text n before now rest =
         unless_same (is_same_part part before now.view)
         (line_of (slot_stamp n) (part_name part) (part_content part now.whys now.view))
 
-changes_text : (displays : List Display) → changes_of displays ≡ text_of (lines_of displays) []
+-- the output is the text of these lines
+pub changes_text : (displays : List Display) → changes_of displays ≡ text_of (lines_of displays) []
 changes_text [] = refl
 changes_text (d ∷ older) =
     ap (λ (l : List ℕ). l ++ change (slot_stamp (length older)) d.whys (newest older) d.view) (changes_text older)
@@ -281,7 +271,8 @@ slot_lines n before now rest all =
     λ part l a. body_lines (is_same_part part before now.view) (line_of_part n now part) l (in_line n part now) a in
     more Tag2 _ (more Tag1 _ (more Item _ (more Name _ (more Text rest all))))
 
-all_lines : (displays : List Display) → All IsLine (lines_of displays)
+-- each of them is a line
+pub all_lines : (displays : List Display) → All IsLine (lines_of displays)
 all_lines [] = All-nil IsLine
 all_lines (d ∷ older) = slot_lines (length older) (newest older) d (lines_of older) (all_lines older)
 

@@ -1,85 +1,343 @@
 -- The wire law for runs of the program.
-use Rattle.std.proofs.Common.{◌≡◌, ◌∙◌, ◌++◌, ◌^◌, [], ℕ, List, None, Option, Some, ap, append-nil, arith, inr, refl}
-use Rattle.std.proofs.Common.{sym}
+use Rattle.std.proofs.Common.{◌≡◌, ◌⊎◌, ◌∙◌, ◌++◌, ◌∷◌, ◌^◌, [], ℕ, List, None, Option, Some}
+use Rattle.std.proofs.Common.{ap, append_assoc}
+use Rattle.std.proofs.Common.{append-nil, arith, codes, decimal, get_or, inl, inr, refl, subst, sym}
 use Rattle.std.specs.Io.KnownBytes.{Appends, Consumes, IsAtEnd}
-use Rattle.std.specs.Prelude.{Err, Ok, Result}
+use Rattle.std.specs.List.{Contains}
+use Rattle.std.specs.Prelude.{All, Err, Ok, Result}
+use Rattle.std.proofs.lemmas.List.Elements.{All-cons}
+use Rattle.rds_block.specs.declared.group.Group.{Group}
 use Rattle.rds_cli.specs.declared.request.Programme.{Programme}
 use Rattle.rds_cli.specs.declared.request.Task.TheVariants.{Decode, Encode}
+use Rattle.rds_io.specs.Puts.{Puts}
+use Rattle.rds_io.specs.Told.{Failed, Traffic}
 use Rattle.rds_io.specs.declared.fault.LogFault.{LogFault}
+use Rattle.rds_io.specs.declared.fault.LogFault.TheVariants.{BadLine, BadRow, Memory, Read, TooLong, Write}
+use Rattle.rds_io.specs.declared.told.WriteFault.{WriteFault}
+use Rattle.rds_log.specs.Audit.{complete}
+use Rattle.rds_fields.specs.declared.head.Head.{Head}
 use Rattle.rds_log.specs.Decode.{Decodes}
-use Rattle.rds_log.specs.LogWrites.{LogWrites, tuned}
-use Rattle.rds_program.specs.Run.{EndsWith, decoding_of, done, script_in}
-use Rattle.rds_script.specs.Play.{Plays, with_form}
+use Rattle.rds_log.specs.FilledLog.{IsLogOf}
+use Rattle.rds_log.specs.LineSays.{IsSkipped}
+use Rattle.rds_log.specs.LogLines.{AreLines, IsLine, Line, text_of}
+use Rattle.rds_log.specs.LogWrites.{LinesWrite, LogWrites, tuned}
+use Rattle.rds_log.specs.OneLog.{same_lines, same_log}
+use Rattle.rds_log.specs.Outputs.{StopsBetween, WroteLines}
+use Rattle.rds_log.specs.declared.audit_log.Auditing.{Auditing}
+use Rattle.rds_log.specs.declared.decode_log.Decoding.{Decoding}
+use Rattle.rds_program.specs.Run.{EndsWith, PutsLine, decoding_of, done, script_in}
+use Rattle.rds_script.specs.Play.{HasRecords, Plays, WroteRows, with_form}
+use Rattle.rds_script.specs.Rows.{Record}
 use Rattle.rds_script.specs.declared.form.Form.TheVariants.{Log}
-use Rattle.rds_world.specs.declared.world.Config.{Config}
-use Rattle.rds_wire.specs.Printed.{Prints}
-use Rattle.rds_wire.specs.Program.{RanWell, WhatTheProgramDecodesIsPrinted, WhatTheProgramEncodesIsSafe, over}
-use Rattle.rds_wire.specs.Wire.{Encodes, WhatIsEncodedIsSafeOnTheWire, station_of}
+use Rattle.rds_script.specs.declared.play.Playing.{Playing}
+use Rattle.rds_view_lines.specs.Output.{Display, changes_of}
+use Rattle.rds_view_lines.specs.ViewParts.{Part, line_in, part_name}
+use Rattle.rds_wire.specs.Printed.{Prints, Shows}
+use Rattle.rds_wire.specs.Program.{Ran, WhatTheProgramDecodesIsPrinted, WhatTheProgramEncodesIsSafe, over}
+use Rattle.rds_wire.specs.Received.{IsReceived}
+use Rattle.rds_wire.specs.Wire.{Encodes, IsHead, WhatIsEncodedIsSafeOnTheWire, station_of}
+use Rattle.rds_wire.proofs.Logs.{HasCut, is_log_of, more_text, with_comment}
+use Rattle.rds_wire.proofs.Printed.{decimal_line, empty_line, feedless, join_lines}
+use Rattle.rds_wire.proofs.Reading.{In, all_lines, are_lines, changes_text, contains_from_in, in_from_contains}
+use Rattle.rds_wire.proofs.Reading.{lines_of}
+use Rattle.rds_wire.proofs.Reading.{stamp_lacks}
+use Rattle.rds_wire.proofs.Wired.{EncoderLaws, log_of_script}
 
--- a call that ended without a fault wrote its bytes to a fresh writer
-appended : (before after : Option (List ℕ)) (written output : List ℕ) → before ≡ Some [] → after ≡ Some output
-    → Appends before after written → written ≡ output
-appended None after written output fresh wrote is = absurd (cc)
-appended (Some xs) None written output fresh wrote is = absurd (cc)
-appended (Some xs) (Some ys) written output fresh wrote is =
+-- ---- bytes of a run
+
+-- a call that ended calmly wrote its bytes to a fresh writer
+fresh_has : (before after : Option (List ℕ)) (written : List ℕ) → before ≡ Some [] → Appends before after written
+    → after ≡ Some written
+fresh_has None after written fresh is = absurd (cc)
+fresh_has (Some xs) None written fresh is = absurd is
+fresh_has (Some xs) (Some ys) written fresh is =
     let empty : xs ≡ [] = cc in
+    ap Some (is ∙ ap (λ (l : List ℕ). l ++ written) empty)
+
+-- and then a line
+has_more : (before after : Option (List ℕ)) (written line output : List ℕ) → before ≡ Some written
+    → after ≡ Some output → Appends before after line → output ≡ written ++ line
+has_more None after written line output had has is = absurd (cc)
+has_more (Some xs) None written line output had has is = absurd is
+has_more (Some xs) (Some ys) written line output had has is =
+    let was : xs ≡ written = cc in
     let all : ys ≡ output = cc in
-    sym (ap (λ (l : List ℕ). l ++ written) empty) ∙ sym is ∙ all
+    sym all ∙ is ∙ ap (λ (l : List ℕ). l ++ line) was
 
--- and read all bytes
-consumed : (before after : Option (List ℕ)) (input text : List ℕ) → before ≡ Some input → Consumes before after text
-    → IsAtEnd after → text ≡ input
-consumed None after input text given read end = absurd (cc)
-consumed (Some xs) None input text given read end = absurd read
-consumed (Some xs) (Some left) input text given read end =
-    let all : xs ≡ input = cc in
-    sym (append-nil text) ∙ sym (ap (λ (l : List ℕ). text ++ l) end) ∙ sym read ∙ all
+same_known : (a : Option (List ℕ)) (x y : List ℕ) → a ≡ Some x → a ≡ Some y → x ≡ y
+same_known None x y p q = absurd (cc)
+same_known (Some z) x y p q = cc
 
-encoded : (programme : Programme) (pi m k : ℕ) (script log : List ℕ)
-    → RanWell (Encode programme k) (tuned pi m) script log
-    → Encodes (with_form Log (station_of (record { pi = pi; tp = programme.tp; pty = programme.pty }) m k)) script log
-encoded programme pi m k script log ran = by ran.ran.outcome ran.ran.ran ran.ran.ended
+-- a count of 0 failures has no failure before it
+no_failure : (f g : ℕ) → g ≡ 0 → Failed f g → ⊥
+no_failure f g none (inl up) = omega (arith, none, up)
+no_failure f g none (inr most) = omega (arith, none, most.0, most.1)
+
+-- without a failure the whole line was written
+puts_whole : (w : Traffic) (line : List ℕ) → w.failures_after ≡ 0 → PutsLine line w → Appends w.before w.after line
+puts_whole w line none (r, puts) = by r puts
   where
-    station : Config
-    station = station_of (record { pi = pi; tp = programme.tp; pty = programme.pty }) m k
+    by : (r : Result (Unit {0}) WriteFault) → Puts w line r → Appends w.before w.after line
+    by (Ok done) p = p.0
+    by (Err fault) p = absurd (no_failure w.failures_before w.failures_after none p.1)
 
-    by : (outcome : Result (Unit {0}) LogFault)
-        → Plays (with_form Log station) (2 ^ 32) (script_in (over ran.r))
-        (record ran.w { after = ran.ran.mid; failures_after = ran.ran.failures }) outcome
-        → EndsWith done (Encode programme k) outcome
-        (record ran.w { before = ran.ran.mid; failures_before = ran.ran.failures }) 0
-        → Encodes (with_form Log station) script log
-    by (Ok done) plays ended = record {
-      records = plays.records;
-      begins = rw ran.given at plays.wrote.begins;
-      write = rw (appended ran.w.before ran.ran.mid plays.wrote.written log ran.fresh (sym ended.1.bytes ∙ ran.wrote)
-          plays.wrote.wrote) at plays.wrote.write;
+-- ---- `encode`
+
+-- the output is the log, or the log and a comment
+abbrev EndsAs : List ℕ → List ℕ → Type 0
+EndsAs log output =
+    (output ≡ log) ⊎ ((line : List ℕ) × IsLine line × IsSkipped line × (output ≡ log ++ (line ++ codes "\n")))
+
+-- what a run of `encode` wrote
+record Wrote (how : Playing) (script output : List ℕ) : Type 0 where
+  log : List ℕ
+  encoded : Encodes how script log
+  ends : EndsAs log output
+
+module _ (how : Playing) (script output : List ℕ) (known : Option (List ℕ)) (w mid : Traffic)
+    (given : known ≡ Some script)
+    (fresh : w.before ≡ Some []) (between : mid.before ≡ w.after) (has : mid.after ≡ Some output)
+    (none : mid.failures_after ≡ 0) where
+  wrote_rows : (records : List Record) (rows : WroteRows how known w records) → EndsAs rows.written output
+      → Wrote how script output
+  wrote_rows records rows ends = record {
+    log = rows.written;
+    encoded = record {
+      records = records;
+      begins = subst (λ (o : Option (List ℕ)). HasRecords o records) given rows.begins;
+      write = rows.write;
+    };
+    ends = ends;
+  }
+
+  with_fault : (records : List Record) (rows : WroteRows how known w records) (text : List ℕ) → IsLine text
+      → PutsLine ((codes "# " ++ text) ++ codes "\n") mid → Wrote how script output
+  with_fault records rows text is told =
+      let had = between ∙ fresh_has w.before w.after rows.written fresh rows.wrote in
+      wrote_rows records rows (inr (
+        codes "# " ++ text,
+        join_lines (codes "# ") text (feedless (codes "# ") refl) is,
+        inr (inr (inl refl)),
+        has_more mid.before mid.after rows.written ((codes "# " ++ text) ++ codes "\n") output had has
+            (puts_whole mid ((codes "# " ++ text) ++ codes "\n") none told),
+      ))
+
+-- a run of `encode` wrote the log of the first records, and the line of its fault
+wrote : (programme : Programme) (pi m k : ℕ) (script output : List ℕ)
+    → Ran (Encode programme k) (tuned pi m) script output
+    → Wrote (with_form Log (station_of (record { pi = pi; tp = programme.tp; pty = programme.pty }) m k)) script output
+wrote programme pi m k script output ran = by ran.ran.outcome ran.ran.ran ran.ran.ended
+  where
+    how : Playing
+    how = with_form Log (station_of (record { pi = pi; tp = programme.tp; pty = programme.pty }) m k)
+
+    first : Traffic
+    first = record ran.w { after = ran.ran.mid; failures_after = ran.ran.failures }
+
+    rest : Traffic
+    rest = record ran.w { before = ran.ran.mid; failures_before = ran.ran.failures }
+
+    fault : (records : List Record) (rows : WroteRows how ran.r.before first records) (text : List ℕ) → IsLine text
+        → PutsLine ((codes "# " ++ text) ++ codes "\n") rest → Wrote how script output
+    fault = with_fault how script output ran.r.before first rest ran.given ran.fresh refl ran.wrote ran.unfailed
+
+    by : (outcome : Result (Unit {0}) LogFault) → Plays how (2 ^ 32) (script_in (over ran.r)) first outcome
+        → EndsWith done (Encode programme k) outcome rest ran.status → Wrote how script output
+    by (Ok done) plays ended =
+        wrote_rows how script output ran.r.before first rest ran.given ran.fresh refl ran.wrote ran.unfailed
+        plays.records plays.wrote (inl (same_known ran.w.after output plays.wrote.written ran.wrote
+        (ended.1.bytes ∙ fresh_has ran.w.before ran.ran.mid plays.wrote.written ran.fresh plays.wrote.wrote)))
+    by (Err (BadLine n)) plays ended = absurd plays
+    by (Err (BadRow n)) plays ended =
+        fault plays.0.records plays.0.wrote (codes "fault row " ++ decimal n)
+        (join_lines (codes "fault row ") (decimal n) (feedless (codes "fault row ") refl) (decimal_line n)) ended.1
+    by (Err Read) plays ended =
+        fault plays.0 plays.1 (codes "fault read") (feedless (codes "fault read") refl) ended.1
+    by (Err Memory) plays ended =
+        fault plays.0 plays.1 (codes "fault memory") (feedless (codes "fault memory") refl) ended.1
+    by (Err TooLong) plays ended =
+        fault plays.0 plays.1 (codes "fault too long") (feedless (codes "fault too long") refl) ended.1
+    by (Err Write) plays ended =
+        absurd (no_failure ran.w.failures_before ran.ran.failures (sym ended.1.calm ∙ ran.unfailed) plays.failed)
+
+-- a receiver of the output is one of the log
+of_log : (log output : List ℕ) (sent : List (Option Group)) → HasCut log sent → EndsAs log output → HasCut output sent
+of_log log output sent had (inl same) = subst (λ (l : List ℕ). HasCut l sent) (sym same) had
+of_log log output sent had (inr (line, is, skipped, same)) =
+    subst (λ (l : List ℕ). HasCut l sent) (sym same) (with_comment log line sent had is skipped)
+
+received_of : (a : Auditing) (log output : List ℕ) (sent got : List (Option Group)) (t now : ℕ) → HasCut log sent
+    → HasCut output sent → IsReceived a output got t now → IsReceived a log got t now
+received_of a log output sent got t now had has r =
+    let same = same_log output sent r.sent (is_log_of output sent has) r.log_has in
+    record {
+      sent = r.sent;
+      log_has = subst (IsLogOf log) same (is_log_of log sent had);
+      reached = r.reached;
+      few = r.few;
+      origins = r.origins;
+      came = r.came;
     }
-    by (Err fault) plays ended = absurd (omega (arith, ended.0))
 
 -- what a run of `encode` writes is safe on the wire
-pub encoded_by_the_program : WhatIsEncodedIsSafeOnTheWire → WhatTheProgramEncodesIsSafe
-encoded_by_the_program law programme pi m k script log fits type some ran =
-    let it = encoded programme pi m k script log ran in (
-      it,
-      law (record { pi = pi; tp = programme.tp; pty = programme.pty }) m k script log (record { pi = fits; pty = type })
-          some it,
+pub encoded_by_the_program : WhatIsEncodedIsSafeOnTheWire → EncoderLaws → WhatTheProgramEncodesIsSafe
+encoded_by_the_program law encoder programme pi m k script output fits type some ran =
+    let head : Head = record { pi = pi; tp = programme.tp; pty = programme.pty } in
+    let is_head : IsHead head = record { pi = fits; pty = type } in
+    let it = wrote programme pi m k script output ran in
+    let has = log_of_script encoder head m k script it.log is_head some it.encoded in
+    let all = of_log it.log output has.sent has.cut it.ends in
+    let a = complete pi m k in (
+      it.log,
+      it.encoded,
+      λ x p y q t u now one other ra rb. law head m k script it.log is_head some it.encoded x p y q t u now one other
+          (received_of a it.log output has.sent one.write.slots t now has.cut all ra)
+          (received_of a it.log output has.sent other.write.slots u now has.cut all rb),
     )
+
+-- ---- `decode`
+
+-- the bytes begin with what was read
+all_bytes : (before after : Option (List ℕ)) (received text : List ℕ) → before ≡ Some received
+    → Consumes before after text → (left : List ℕ) × (after ≡ Some left) × (received ≡ text ++ left)
+all_bytes None after received text given read = absurd (cc)
+all_bytes (Some xs) None received text given read = absurd read
+all_bytes (Some xs) (Some left) received text given read =
+    (let all : xs ≡ received = cc in (left, refl, sym all ∙ read))
+
+-- all bytes were read
+consumed : (before after : Option (List ℕ)) (received text : List ℕ) → before ≡ Some received
+    → Consumes before after text → IsAtEnd after → text ≡ received
+consumed None after received text given read end = absurd (cc)
+consumed (Some xs) None received text given read end = absurd read
+consumed (Some xs) (Some left) received text given read end =
+    let all : xs ≡ received = cc in
+    sym (append-nil text) ∙ sym (ap (λ (l : List ℕ). text ++ l) end) ∙ sym read ∙ all
+
+-- a line of the output is one of the lines before the fault
+not_fault : (line : Line) (u : ℕ) (part : Part) (content : List ℕ) (lines : List Line) → get_or line 0 0 ≡ 102
+    → Contains (line ∷ lines) (line_in u part content) → Contains lines (line_in u part content)
+not_fault line u part content lines f is = by (in_from_contains (line_in u part content) (line ∷ lines) is)
+  where
+    by : In (line_in u part content) (line ∷ lines) → Contains lines (line_in u part content)
+    by (inl same) =
+        absurd (stamp_lacks u (part_name part ++ content) (sym (ap (λ (l : List ℕ). get_or l 0 0) same) ∙ f))
+    by (inr more) = contains_from_in (line_in u part content) lines more
+
+or_later : (line : Line) (u : ℕ) (part : Part) (content : List ℕ) (lines : List Line)
+    → Contains lines (line_in u part content) → Contains (line ∷ lines) (line_in u part content)
+or_later line u part content lines is =
+    contains_from_in (line_in u part content) (line ∷ lines) (inr (in_from_contains (line_in u part content) lines is))
+
+-- the line of a fault changes nothing that is shown
+shows_before : (displays : List Display) (printed output : List ℕ) (line : Line) (t : ℕ) (part : Part)
+    (content : List ℕ)
+    → printed ≡ changes_of displays → IsLine line → get_or line 0 0 ≡ 102 → output ≡ printed ++ (line ++ codes "\n")
+    → Shows output t part content → Shows printed t part content
+shows_before displays printed output line t part content is single f all sh = by sh
+  where
+    before : AreLines printed (lines_of displays)
+    before = are_lines displays printed is
+
+    whole : AreLines output (line ∷ lines_of displays)
+    whole = (
+      line ∷ lines_of displays,
+      [],
+      all ∙ more_text printed line (lines_of displays) (is ∙ changes_text displays),
+      All-cons IsLine line (lines_of displays) single (all_lines displays),
+      empty_line,
+      inl (refl, refl),
+    )
+
+    by : Shows output t part content → Shows printed t part content
+    by (inl s) =
+        let same = same_lines output s.lines (line ∷ lines_of displays) s.are whole in
+        inl (record {
+          lines = lines_of displays;
+          are = before;
+          slot = s.slot;
+          past = s.past;
+          line = not_fault line s.slot part content (lines_of displays) f (rw same at s.line);
+          newest = λ u other after upto has. s.newest u other after upto
+              (subst (λ (l : List Line). Contains l (line_in u part other)) (sym same)
+              (or_later line u part other (lines_of displays) has));
+        })
+    by (inr (s, none)) =
+        let same = same_lines output s.lines (line ∷ lines_of displays) s.are whole in
+        inr (
+          record {
+            lines = lines_of displays;
+            are = before;
+            none = λ u other upto has. s.none u other upto
+                (subst (λ (l : List Line). Contains l (line_in u part other)) (sym same)
+                (or_later line u part other (lines_of displays) has));
+          },
+          none,
+        )
+
+-- what a run of `decode` printed
+abbrev Shown : Option ℕ → ℕ → ℕ → List ℕ → List ℕ → Type 0
+Shown window pi m received output = (printed : List ℕ) × Prints pi m window received printed
+    × ((t : ℕ) (part : Part) (content : List ℕ) → Shows output t part content → Shows printed t part content)
 
 -- what a run of `decode` writes is printed for its log
 pub decoded_by_the_program : WhatTheProgramDecodesIsPrinted
-decoded_by_the_program window why pi m received printed ran = by ran.ran.outcome ran.ran.ran ran.ran.ended
+decoded_by_the_program window why pi m received output ran = by ran.ran.outcome ran.ran.ran ran.ran.ended
   where
-    by : (outcome : Result (Unit {0}) LogFault)
-        → Decodes (decoding_of (tuned pi m) window why) (2 ^ 32) ran.r
-        (record ran.w { after = ran.ran.mid; failures_after = ran.ran.failures }) outcome
-        → EndsWith done (Decode window why) outcome
-        (record ran.w { before = ran.ran.mid; failures_before = ran.ran.failures }) 0
-        → Prints pi m window received printed
+    how : Decoding
+    how = decoding_of (tuned pi m) window why
+
+    first : Traffic
+    first = record ran.w { after = ran.ran.mid; failures_after = ran.ran.failures }
+
+    rest : Traffic
+    rest = record ran.w { before = ran.ran.mid; failures_before = ran.ran.failures }
+
+    fault : (lines : List Line) (line : Line) (more : List ℕ) (wrote : WroteLines (LinesWrite how) first lines)
+        (text : List ℕ) → received ≡ text_of lines line ++ more → All IsLine lines → IsLine line → IsLine text
+        → get_or text 0 0 ≡ 102 → PutsLine (text ++ codes "\n") rest → Shown window pi m received output
+    fault lines line more wrote text cut are is single f told =
+        let all = has_more ran.ran.mid ran.w.after wrote.written (text ++ codes "\n") output
+        (fresh_has ran.w.before ran.ran.mid wrote.written ran.fresh wrote.wrote) ran.wrote
+        (puts_whole rest (text ++ codes "\n") ran.unfailed told) in (
+          wrote.written,
+          record { lines = lines; begins = inl (line, more, cut, are, is); why = why; write = wrote.write },
+          λ t part content sh. shows_before wrote.write.write.displays wrote.written output text t part content
+              wrote.write.write.changes single f all sh,
+        )
+
+    between : (least : ℕ) (stops : StopsBetween (LinesWrite how) ran.r first least) (text : List ℕ) → IsLine text
+        → get_or text 0 0 ≡ 102 → PutsLine (text ++ codes "\n") rest → Shown window pi m received output
+    between least stops text single f told =
+        let read = all_bytes ran.r.before ran.r.after received (text_of stops.closed stops.reads.begun) ran.given
+        stops.reads.read in
+        fault stops.closed stops.reads.begun read.0 stops.wrote text read.2 stops.reads.lines_are stops.reads.line_is
+        single f told
+
+    by : (outcome : Result (Unit {0}) LogFault) → Decodes how (2 ^ 32) ran.r first outcome
+        → EndsWith done (Decode window why) outcome rest ran.status → Shown window pi m received output
     by (Ok done) all ended =
         let text = consumed ran.r.before ran.r.after received all.text ran.given all.read all.end in
-        let write = appended ran.w.before ran.ran.mid all.written printed ran.fresh (sym ended.1.bytes ∙ ran.wrote)
-        all.wrote in
-        let writes : LogWrites (decoding_of (tuned pi m) window why) received printed = rw (text, write) at all.write in
-        record { lines = writes.cut; begins = inr (refl, writes.are); why = why; write = writes.write }
-    by (Err fault) all ended = absurd (omega (arith, ended.0))
+        let same = same_known ran.w.after output all.written ran.wrote
+        (ended.1.bytes ∙ fresh_has ran.w.before ran.ran.mid all.written ran.fresh all.wrote) in
+        let writes : LogWrites how received all.written = rw text at all.write in (
+          all.written,
+          record { lines = writes.cut; begins = inr (refl, writes.are); why = why; write = writes.write },
+          λ t part content sh. subst (λ (l : List ℕ). Shows l t part content) same sh,
+        )
+    by (Err (BadLine n)) (text, read, stops, calm) ended =
+        let bytes = all_bytes ran.r.before ran.r.after received text ran.given read in
+        fault stops.lines stops.next.line (stops.next.rest ++ bytes.0) stops.wrote (codes "fault line " ++ decimal n)
+        (bytes.2 ∙ ap (λ (l : List ℕ). l ++ bytes.0) stops.next.cut
+        ∙ append_assoc (text_of stops.lines stops.next.line) stops.next.rest bytes.0) stops.next.bad.lines
+        stops.next.bad.is_line
+        (join_lines (codes "fault line ") (decimal n) (feedless (codes "fault line ") refl)
+        (decimal_line n)) refl ended.1
+    by (Err Read) (stops, failed) ended =
+        between 0 stops (codes "fault read") (feedless (codes "fault read") refl) refl ended.1
+    by (Err TooLong) (stops, calm) ended =
+        between (2 ^ 32) stops (codes "fault too long") (feedless (codes "fault too long") refl) refl ended.1
+    by (Err Write) (text, read, stops, calm) ended =
+        absurd (no_failure ran.w.failures_before ran.ran.failures (sym ended.1.calm ∙ ran.unfailed) stops.wrote.failed)
+    by (Err (BadRow n)) all ended = absurd all
+    by (Err Memory) all ended = absurd all

@@ -25,6 +25,7 @@ use Rattle.rds_wire.specs.Safe.{OnAir}
 use Rattle.rds_wire.specs.Twice.{HasMessages, IsReceivedWithWrong, IsSafeIfHeardTwice, WhatIsEncodedIsSafeIfHeardTwice}
 use Rattle.rds_wire.specs.Wire.{aired}
 use Rattle.rds_wire.proofs.Firsts.{entry_below, entry_of_first, first_length}
+use Rattle.rds_wire.proofs.Logs.{is_log_of}
 use Rattle.rds_wire.proofs.Receiving.{zip_long}
 use Rattle.rds_wire.proofs.Safe.{AreTagsUpTo, IsContentOf, shown_safely}
 use Rattle.rds_wire.proofs.Scripts.{tagged}
@@ -135,5 +136,5 @@ encoded_is_safe_twice laws encoder head m w k script log is_head some encoded =
     let events = encoded.write.events in
     let has = log_of_script encoder head m late script log is_head some encoded in
     lawful_is_safe_twice laws head.pi m w k log (log_of (m + late) events) (aired (m + late) events)
-    (record { slots = has.sent; has = has.is; heard = has.heard }) has.lawful
+    (record { slots = has.sent; has = is_log_of log has.sent has.cut; heard = has.heard }) has.lawful
     (λ slot pair is. (tagged encoder.tags (m + late) events slot pair is).0)

@@ -45,7 +45,7 @@ use Rattle.rds_wire.specs.Wire.{Encodes, HasSafePlans, IsHead, IsSafeOnTheWire, 
 use Rattle.rds_wire.specs.Wire.{WhatPassesIsSafeOnTheWire, aired, station_of}
 use Rattle.rds_wire.proofs.Begun.{preceded_first, settled_first}
 use Rattle.rds_wire.proofs.Firsts.{entry_below, first_length}
-use Rattle.rds_wire.proofs.Logs.{encoded_is_log, groups_sent}
+use Rattle.rds_wire.proofs.Logs.{HasCut, encoded_cut, groups_sent, is_log_of}
 use Rattle.rds_wire.proofs.Reading.{In, are_lines, contains_from_in, in_from_contains, line_shows, lines_of, stays}
 use Rattle.rds_wire.proofs.Reading.{unshown}
 use Rattle.rds_wire.proofs.Receiving.{ClockLaws, by_own_clock, own_heard}
@@ -213,7 +213,7 @@ pub record EncoderLaws : Type 0 where
 -- what follows of the log of a script: its slots, what receivers of the programme hear in them, and that this is lawful
 pub record HasLog (head : Head) (m k : ℕ) (log : List ℕ) (events : List Event) : Type 0 where
   pub sent : List (Option Group)
-  pub is : IsLogOf log sent
+  pub cut : HasCut log sent
   pub heard : AreHeard head.pi sent (log_of (m + k) events)
   pub lawful : AreLawful (m + k) (plans_of (m + k) events) (log_of (m + k) events)
 
@@ -230,7 +230,7 @@ log_of_script encoder head m k script log is_head some encoded =
     let none = rows_name_none premise say.receivers encoded.records events say.allowed say.rows in
     record {
       sent = groups_sent outcomes;
-      is = encoded_is_log head m k events outcomes log is_head none are encoded.write.write.lines;
+      cut = encoded_cut head m k events outcomes log is_head none are encoded.write.write.lines;
       heard = groups_are_heard (station_of head m k) events outcomes are;
       lawful = log_is_lawful encoder.lawful encoder.slots (m + k) events (omega (arith, some))
           (rows_set premise say.receivers encoded.records events say.rows);
@@ -241,8 +241,8 @@ pub encoded_is_safe : LogLaws → EncoderLaws → WhatIsEncodedIsSafeOnTheWire
 encoded_is_safe laws encoder head m k script log is_head some encoded =
     let events = encoded.write.events in
     let has = log_of_script encoder head m k script log is_head some encoded in
-    lawful_is_safe laws FirstFault head.pi m k log has.sent (log_of (m + k) events) (aired (m + k) events) has.is
-    has.heard
+    lawful_is_safe laws FirstFault head.pi m k log has.sent (log_of (m + k) events) (aired (m + k) events)
+    (is_log_of log has.sent has.cut) has.heard
     has.lawful (λ slot pair is. (tagged encoder.tags (m + k) events slot pair is).0)
 
 -- ---- audits

@@ -75,8 +75,7 @@ fits = record {
   pty = omega arith;
   low = omega arith;
   c = omega arith;
-  d =
-      omega arith;
+  d = omega arith;
 }
 
 has_hi : IsLogOf (codes "C201 2140 4849 0D20\n") (Some hi ∷ [])

@@ -1,4 +1,4 @@
--- The wire law for runs of the program: it encodes a script, and decodes what reached two receivers of the log.
+-- The wire law for runs of the program: it encodes a script, and decodes what reached the receivers of the log.
 use Rattle.std.specs.Prelude.{◌≡◌, ◌<◌, ◌+◌, ◌^◌, [], ℕ, Bool, List, Option, Some}
 use Rattle.rds_cli.specs.declared.request.Programme.{Programme}
 use Rattle.rds_cli.specs.declared.request.Task.{Task}
@@ -10,34 +10,40 @@ use Rattle.rds_program.specs.Run.{ReaderOver, TaskRuns}
 use Rattle.rds_receiver.specs.Receipts.{Tuning}
 use Rattle.rds_script.specs.Play.{with_form}
 use Rattle.rds_script.specs.declared.form.Form.TheVariants.{Log}
-use Rattle.rds_wire.specs.Printed.{Prints}
+use Rattle.rds_view_lines.specs.ViewParts.{Part}
+use Rattle.rds_wire.specs.Printed.{Prints, Shows}
 use Rattle.rds_wire.specs.Wire.{Encodes, IsSafeOnTheWire, aired, station_of}
 
 -- a reader of which only its bytes and its count of failures matter
 abbrev pub over : Traffic → ReaderOver
 over r = record { traffic = r; ReadFailed = Unit {0}; Untouched = Unit {0} }
 
--- a run of this task over this input, with a writer that had nothing, wrote this output and ended with status 0
-pub record RanWell (task : Task) (t : Tuning) (input output : List ℕ) : Type 0 where
+-- a run of this task over this input, with a writer that had nothing, wrote this output, and no write failed. It may
+-- have ended at a fault
+pub record Ran (task : Task) (t : Tuning) (input output : List ℕ) : Type 0 where
   pub lose : List ℕ
+  pub status : ℕ
   pub r : Traffic
   pub w : Traffic
   pub given : r.before ≡ Some input
   pub fresh : w.before ≡ Some []
   pub wrote : w.after ≡ Some output
-  pub ran : TaskRuns task lose t (over r) w 0
+  pub unfailed : w.failures_after ≡ 0
+  pub ran : TaskRuns task lose t (over r) w status
 
 -- what the program encodes with M and K is safe on the wire, by the texts that the script sets
 abbrev pub WhatTheProgramEncodesIsSafe : Type 0
 WhatTheProgramEncodesIsSafe =
-    (programme : Programme) (pi m k : ℕ) (script log : List ℕ) → pi < 2 ^ 16 → programme.pty < 32 → 0 < m
-    → RanWell (Encode programme k) (tuned pi m) script log
-    → (encoded : Encodes (with_form Log
+    (programme : Programme) (pi m k : ℕ) (script output : List ℕ) → pi < 2 ^ 16 → programme.pty < 32 → 0 < m
+    → Ran (Encode programme k) (tuned pi m) script output
+    → (log : List ℕ) × (encoded : Encodes (with_form Log
     (station_of (record { pi = pi; tp = programme.tp; pty = programme.pty }) m k)) script log)
-    × IsSafeOnTheWire (complete pi m k) log (aired (m + k) encoded.write.events)
+    × IsSafeOnTheWire (complete pi m k) output (aired (m + k) encoded.write.events)
 
--- what the program decodes with M is what such receivers print
+-- what the program decodes with M shows what such receivers print
 abbrev pub WhatTheProgramDecodesIsPrinted : Type 0
 WhatTheProgramDecodesIsPrinted =
-    (window : Option ℕ) (why : Bool) (pi m : ℕ) (received printed : List ℕ)
-    → RanWell (Decode window why) (tuned pi m) received printed → Prints pi m window received printed
+    (window : Option ℕ) (why : Bool) (pi m : ℕ) (received output : List ℕ)
+    → Ran (Decode window why) (tuned pi m) received output
+    → (printed : List ℕ) × Prints pi m window received printed
+    × ((t : ℕ) (part : Part) (content : List ℕ) → Shows output t part content → Shows printed t part content)

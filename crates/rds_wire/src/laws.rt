@@ -65,10 +65,13 @@ pub fn what_is_encoded_is_safe_if_heard_twice()
 }
 
 /// States the law of scripts for runs of the program: what the command `encode` writes is safe on the wire, and what
-/// the command `decode` writes is what the laws say of receivers.
+/// the command `decode` writes shows what the laws say of receivers. Either run may end at a fault.
 pub fn what_the_program_encodes_it_decodes_safely()
     ensures encodes { WhatTheProgramEncodesIsSafe }
     ensures decodes { WhatTheProgramDecodesIsPrinted }
 {
     what_is_encoded_is_safe_on_the_wire();
+    a_station_is_safe();
+    the_encoder_is_lawful();
+    sent_is_of_what_is_on_air();
 }
