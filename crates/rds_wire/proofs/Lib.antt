@@ -13,4 +13,5 @@ pub mod Wired
 pub mod Filling
 pub mod Twice
 pub mod Runs
+pub mod Mixes
 pub mod WorkedRows

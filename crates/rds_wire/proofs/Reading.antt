@@ -166,7 +166,7 @@ name_line Tag1 = feedless (codes "tag1") refl
 name_line Tag2 = feedless (codes "tag2") refl
 
 -- the line of a part of a display
-abbrev line_of_part : ℕ → Display → Part → Line
+abbrev pub line_of_part : ℕ → Display → Part → Line
 line_of_part n d part = line_in n part (part_content part d.whys d.view)
 
 in_line : (n : ℕ) (part : Part) (d : Display) → IsLine (line_of_part n d part)
@@ -176,23 +176,23 @@ in_line n part d = join_lines (slot_stamp n) (part_name part ++ part_content par
 -- ---- the lines of displays
 
 -- the line, unless nothing changed
-abbrev body_unless : Bool → Line → List Line → List Line
+abbrev pub body_unless : Bool → Line → List Line → List Line
 body_unless true body rest = rest
 body_unless false body rest = body ∷ rest
 
 -- whether two views show the same of a part
-abbrev is_same_part : Part → ShownView → ShownView → Bool
+abbrev pub is_same_part : Part → ShownView → ShownView → Bool
 is_same_part Text v w = is_same_text v.text w.text
 is_same_part Name v w = is_same_text v.name w.name
 is_same_part Item v w = is_same_item v.item w.item
 is_same_part Tag1 v w = is_same_tag v.one w.one
 is_same_part Tag2 v w = is_same_tag v.two w.two
 
-abbrev with_body : ℕ → ShownView → Display → Part → List Line → List Line
+abbrev pub with_body : ℕ → ShownView → Display → Part → List Line → List Line
 with_body n before now part rest = body_unless (is_same_part part before now.view) (line_of_part n now part) rest
 
 -- the lines of a slot after others, the newest first
-abbrev with_slot : ℕ → ShownView → Display → List Line → List Line
+abbrev pub with_slot : ℕ → ShownView → Display → List Line → List Line
 with_slot n before now rest =
     with_body n before now Tag2
     (with_body n before now Tag1
@@ -353,7 +353,8 @@ line_shows (d ∷ older) s p content small less is =
       | inr there ↦ (let it = line_shows older s p content small (omega (arith, less)) there in (it.0, inr it.1, it.2))
     ]
 
-in_older : (line : Line) (n : ℕ) (before : ShownView) (now : Display) (rest : List Line) → In line rest
+-- lines of earlier slots are lines of all
+pub in_older : (line : Line) (n : ℕ) (before : ShownView) (now : Display) (rest : List Line) → In line rest
     → In line (with_slot n before now rest)
 in_older line n before now rest is =
     let more : (part : Part) (l : List Line) → In line l → In line (with_body n before now part l) =
@@ -361,7 +362,7 @@ in_older line n before now rest is =
     more Tag2 _ (more Tag1 _ (more Item _ (more Name _ (more Text rest is))))
 
 -- a part that changed has its line
-in_slot : (p : Part) (n : ℕ) (before : ShownView) (now : Display) (rest : List Line)
+pub in_slot : (p : Part) (n : ℕ) (before : ShownView) (now : Display) (rest : List Line)
     → is_same_part p before now.view ≡ false → In (line_of_part n now p) (with_slot n before now rest)
 in_slot p n before now rest changed = by p changed
   where
@@ -397,7 +398,8 @@ same_number a b e = elim (eqb_tells a b) [
   | inr apart ↦ absurd (let bad : false ≡ true = sym apart.0 ∙ e in cc)
 ]
 
-text_stays : (o w : Option (List ℕ)) → is_same_text o w ≡ true → o ≡ w
+-- texts that are the same
+pub text_stays : (o w : Option (List ℕ)) → is_same_text o w ≡ true → o ≡ w
 text_stays None None e = refl
 text_stays None (Some y) e = absurd (cc)
 text_stays (Some x) None e = absurd (cc)
@@ -419,7 +421,8 @@ item_stays (Some (a, b)) (Some (c, d)) e =
     let other = bit_stays b d both.1 in
     (cc)
 
-tag_stays : (o w : Option (ℕ × List ℕ)) → is_same_tag o w ≡ true → o ≡ w
+-- tags that are the same
+pub tag_stays : (o w : Option (ℕ × List ℕ)) → is_same_tag o w ≡ true → o ≡ w
 tag_stays None None e = refl
 tag_stays None (Some y) e = absurd (cc)
 tag_stays (Some x) None e = absurd (cc)

@@ -7,3 +7,5 @@ pub mod Wire
 pub mod FromTimes
 pub mod Twice
 pub mod Program
+-- What the lines of `witness` mean.
+pub mod Mixes

@@ -1,5 +1,6 @@
 //! The wire laws, from bytes to bytes.
 ghost use Rattle.rds_wire.specs.FromTimes.{WhatSlotsWritesIsReceived};
+ghost use Rattle.rds_wire.specs.Mixes.{AMixIsShown};
 ghost use Rattle.rds_wire.specs.Program.{WhatTheProgramDecodesIsPrinted, WhatTheProgramEncodesIsSafe};
 ghost use Rattle.rds_wire.specs.Received.{WhoLosesSlotsReceives};
 ghost use Rattle.rds_wire.specs.Twice.{WhatIsEncodedIsSafeIfHeardTwice};
@@ -75,3 +76,9 @@ pub fn what_the_program_encodes_it_decodes_safely()
     the_encoder_is_lawful();
     sent_is_of_what_is_on_air();
 }
+
+/// States what a mix of `witness` means: the output of `decode` for the slots of the log without the lost ones, with
+/// reasons or without, shows the mix in its slot.
+pub fn what_a_mix_means()
+    ensures { AMixIsShown }
+{}

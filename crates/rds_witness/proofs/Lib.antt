@@ -1,7 +1,6 @@
 pub mod Slots
 pub mod Mixes
 pub mod Logs
-pub mod Parts
 pub mod PartSteps
 pub mod TagParts
 pub mod PairRuns

@@ -12,6 +12,5 @@ pub mod LossLines
 pub mod SomeLines
 pub mod Candidates
 pub mod Witness
-pub mod Prints
 -- The slots to lose, on a command line.
 pub mod Spans

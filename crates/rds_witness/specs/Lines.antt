@@ -8,20 +8,34 @@ use Rattle.rds_fields.specs.declared.pair.Which.{Which}
 use Rattle.rds_fields.specs.declared.pair.Which.TheVariants.{One, Two}
 use Rattle.rds_receiver.specs.Receipts.{Tuning}
 use Rattle.rds_view_lines.specs.Output.{line_of, quoted, slot_stamp, tag_content}
+use Rattle.rds_view_lines.specs.ViewParts as view
+use Rattle.rds_view_lines.specs.ViewParts.{Part, part_name}
 use Rattle.rds_witness.specs.Mix.{IsMix, IsPlace, Name, Tag, Text, Thing}
 use Rattle.rds_witness.specs.Search.{NoMixes, NoMixesIn}
 use Rattle.rds_witness.specs.declared.burst.Burst.{Burst}
 
+abbrev pub tag_part : Which → Part
+tag_part One = view.Tag1
+tag_part Two = view.Tag2
+
 abbrev pub tag_name : Which → List ℕ
-tag_name One = codes "tag1"
-tag_name Two = codes "tag2"
+tag_name which = part_name (tag_part which)
+
+-- the part of a view that has the thing
+abbrev pub part_of : Thing → Part
+part_of (Text x) = view.Text
+part_of (Name x) = view.Name
+part_of (Tag which class piece) = tag_part which
+
+-- the content of that part
+abbrev pub content_of : Thing → List ℕ
+content_of (Text x) = quoted x
+content_of (Name x) = quoted x
+content_of (Tag which class piece) = tag_content (Some (class, piece))
 
 -- the line of `decode` if this is shown in a slot
 abbrev pub shown_line : ℕ → Thing → List ℕ
-shown_line slot (Text x) = line_of (slot_stamp slot) (codes "text") (quoted x)
-shown_line slot (Name x) = line_of (slot_stamp slot) (codes "name") (quoted x)
-shown_line slot (Tag which class piece) =
-    line_of (slot_stamp slot) (tag_name which) (tag_content (Some (class, piece)))
+shown_line slot thing = line_of (slot_stamp slot) (part_name (part_of thing)) (content_of thing)
 
 -- the slots of a burst: its first and its last one, or the only one
 abbrev pub burst_text : Burst → List ℕ

@@ -24,6 +24,6 @@ mod thing;
 
 pub use burst::Burst;
 pub use find_witness::{witness, witness_with_notes};
-pub use laws::{a_part_shows_no_more, what_a_mix_means};
+pub use laws::{a_part_shows_no_more, who_loses_nothing_gets_the_log};
 pub use lose_log::{Losing, lose_with_notes};
 pub use spans::bursts_of;
