@@ -25,8 +25,8 @@ SCHEMES = ("light", "dark")
 READY = "probe.isReady()"
 # milliseconds of probe.yardstick() on a quiet machine: that of the bounds for tasks
 YARDSTICK = 30
-# a module with a memory of 64 bits
-WIDE = "WebAssembly.validate(Uint8Array.of(0, 97, 115, 109, 1, 0, 0, 0, 5, 3, 1, 4, 1))"
+# whether the browser is new enough for the page
+IS_NEW = "CSS.supports('color', 'light-dark(red, blue)') && 'popover' in HTMLElement.prototype && 'any' in AbortSignal"
 HI = "C201 2140 4849 0D20"
 NOTHING = "---- ---- ---- ----"
 GROUPS = [HI, "C201 2150 594F 0D20", "C201 2140 4A41 5A5A", "C201 2141 2046 4D0D", "C201 A140 504F 5020",
@@ -227,8 +227,8 @@ class PageCase(Case):
             raise RuntimeError(f"no page in {FOLDER}: page/build makes it")
         cls.b = cls.driver.Browser()
         cls.addClassCleanup(cls.b.close)
-        if not cls.b.run(WIDE):
-            raise unittest.SkipTest(f"this {cls.name} is too old for the page: it has no WebAssembly with 64-bit memory")
+        if not cls.b.run(IS_NEW):
+            raise unittest.SkipTest(f"this {cls.name} is too old for the page")
 
     def setUp(self):
         self.b.size(1280, 900)

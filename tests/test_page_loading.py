@@ -11,13 +11,13 @@ IN_SIGHT = ("[...document.querySelectorAll('#loading, noscript p, #no-engine, ma
 class Loading:
     is_quiet = False
 
-    def test_a_browser_without_wide_memory_gets_a_sentence(self):
+    def test_a_browser_without_webassembly_gets_a_sentence(self):
         b = self.b
-        undo = b.before_load("WebAssembly.instantiate = () => Promise.reject(new Error('no memory of 64 bits'))")
+        undo = b.before_load("WebAssembly.instantiate = () => Promise.reject(new Error('no such thing'))")
         visit(b, URL)
-        self.check("a browser without such a memory gets a sentence", text_of(b, "#no-engine"),
-                   "This browser cannot run the program. It needs WebAssembly with 64-bit memory: Chrome or Edge 133, "
-                   "Firefox 134, or later. (no memory of 64 bits)")
+        self.check("it names the browsers", text_of(b, "#no-engine"),
+                   "This browser cannot run the program. The page needs Chrome or Edge 123, Firefox 125, Safari 17.5, or "
+                   "later. (no such thing)")
         self.check("and nothing else", b.run(f"{IN_SIGHT}.map(e => e.id)"), ["no-engine"])
         undo()
         self.nothing_fetched()

@@ -29,11 +29,17 @@ export function layout(words, input, room, heap) {
   return at;
 }
 
-/* One call. Its memory is one of 64 bits, so addresses and lengths are BigInts. */
+/* Makes the memory as large as this. It has 4 GB at most, and a phone gives less. */
+function grow(end) {
+  const pages = Math.ceil((end - module.memory.buffer.byteLength) / PAGE);
+  if (pages <= 0) return;
+  try { module.memory.grow(pages); } catch { throw new Error("no memory for this input: the page takes up to about 180 MB"); }
+}
+
+/* One call. The program was compiled for 64 bits, so its calls take addresses and lengths as BigInts. */
 function call(words, input, room, heap) {
   const at = layout(words.length, input.length, room, heap);
-  const pages = Math.ceil((at.end - module.memory.buffer.byteLength) / PAGE);
-  if (pages > 0) module.memory.grow(BigInt(pages));
+  grow(at.end);
   const bytes = new Uint8Array(module.memory.buffer);
   bytes.set(words, at.words);
   bytes.set(input, at.input);

@@ -193,8 +193,8 @@ async function openAddress() {
 
 async function begin() {
   const compiled = await rdsrt.load().catch(({ message }) => {
-    $("no-engine").textContent = "This browser cannot run the program. It needs WebAssembly with 64-bit memory: "
-      + `Chrome or Edge 133, Firefox 134, or later. (${message})`;
+    $("no-engine").textContent = "This browser cannot run the program. The page needs Chrome or Edge 123, Firefox 125, "
+      + `Safari 17.5, or later. (${message})`;
   });
   $("loading").hidden = true;
   if (!compiled) return;
