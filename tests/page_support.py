@@ -20,7 +20,7 @@ URL = f"file://{FOLDER}/index.html"
 EXAMPLES = path("examples")
 PROBE = path("tests/page_probe.js")
 SEED = 20261123
-TABS = ("log", "script", "dwell")
+TABS = ("log", "script")
 SCHEMES = ("light", "dark")
 READY = "probe.isReady()"
 # milliseconds of probe.yardstick() on a quiet machine: that of the bounds for tasks
@@ -179,10 +179,12 @@ def longest_task(b, does, most):
 
 def first_examples(b):
     """Opens the first example of each tab. Drops edits that are not saved."""
+    tab = "script" if of(b, "#log", "hidden") else "log"
     for name in ("log-example", "script-example"):
         call(b, "probe.choose", name, 0)
         b.run("document.querySelector('#ask').open && document.querySelector('#ask-yes').click()")
         settle(b)
+    to_tab(b, tab)
 
 
 def waited_for(path):

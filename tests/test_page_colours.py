@@ -1,5 +1,6 @@
 """What the page draws in red: parts that nobody sent, at each time, beside a plain history of what was on air; and the
-hues of kinds."""
+hues of texts."""
+import json
 import random
 import re
 
@@ -13,16 +14,6 @@ SEED, SCRIPTS, SLOTS = 20261127, 40, 90
 TEXTS = (("ABCDEFG", "ABCDEFG"), ("STUVWXY", "STUVWXY"), (r"\x41BCDWXY", "ABCDWXY"), ("STUVEFG", "STUVEFG"),
          (r"caf\x82 noir", "café noir"), ('say "hi"', r"say \x22hi\x22"), (r"\x22", r"\x22"), ("", ""))
 NAMES = ((r"\x41BC", "ABC     "), ("JAZZ FM", "JAZZ FM "), ("JAZZ", "JAZZ    "))
-# lanes of a script by the kind that they show, and the codes of groups of each kind
-LANES = {"text": "on air", "name": "  its name", "tags": "  its tags"}
-CODES = {"text": (1, 9), "name": (2,), "tags": (3,)}
-# degrees: of red, from one to the other; between the shades of a kind, also at their edges; and between two kinds
-RED, NEAR, BLENDED, APART = (338, 12), 8, 20, 25
-
-
-def apart(one, other):
-    """Returns the degrees between two hues."""
-    return min((one - other) % 360, (other - one) % 360)
 
 
 def random_script(rng):
@@ -84,7 +75,7 @@ class Colours:
         for name, rows in (("as it is", script), ("with the text later", later)):
             open_script(b, rows, m=8, k=0)
             self.check(f"{name}: the mix is counted", text_of(b, "#script-count"),
-                       "With the flag bit alone, receivers show a mix: a text. With the dwell none does.")
+                       "Ordinary radios show a mix: a text. With rdsrt none does.")
             move(b, "script", 60)
             self.check(f"{name}: it is red", (of(b, "#script-alone", "className"), text_of(b, "#script-alone .led")),
                        ("radio alone mixed", "mix"))
@@ -98,8 +89,8 @@ class Colours:
         texts = [(it["from"], it["value"]) for it in call(b, "probe.runs", "log", "view", "text")]
         self.check("the dwell drops the text and shows it again", texts, [(0, "HI"), (8, None), (11, "HI")])
         move(b, "log", 20)
-        inks = call(b, "probe.columnsOf", "log", "flag bit alone", "stale", "shade-text-0")
-        self.check("one calm bar", (inks["stale"], inks["shade-text-0"] > inks["width"] / 2), (0, True), log)
+        inks = call(b, "probe.inksOf", "log", "ordinary radio", "stale", "shade-text-0")
+        self.check("one calm bar", (inks["stale"], inks["shade-text-0"] > 1000), (0, True), log)
 
     def test_a_replaced_tag_is_not_red(self):
         """The station replaced the tag before the radio had the text whole. The words name it, and no mix is counted."""
@@ -109,7 +100,7 @@ class Colours:
         rows = "".join(f"{commands.get(slot, '-,')},1,{'G' if slot in got else 'L'}\n" for slot in range(30))
         open_script(b, rows, m=4, k=0)
         move(b, "script", 27)
-        words = of(b, "#script-time canvas", "ariaValueText").split("With the flag bit alone: ")[1]
+        words = of(b, "#script-time canvas", "ariaValueText").split("An ordinary radio: ")[1]
         self.check("it is old", (of(b, "#script-alone", "className"), text_of(b, "#script-alone .led"), words),
                    ("radio alone", "tag: replaced", "“ABCDEFGH”, title: AB, replaced."))
         self.check("no mix is counted", text_of(b, "#script-count").startswith("No receiver shows a mix here."), True)
@@ -141,44 +132,31 @@ class Colours:
         yield "light"
 
     def reds(self, tab):
-        """Returns the lanes of a tab that have a red pixel, and the elements in sight that have a red colour."""
+        """Returns the lanes of a tab that have a red pixel, and the elements in sight that are red."""
         lanes = call(self.b, "probe.lanes", tab)
-        hues = [call(self.b, "probe.huesOfLane", tab, number) for number in range(len(lanes))]
-        is_red = lambda hue: hue >= RED[0] or hue < RED[1]
-        red_lanes = [name for name, some in zip(lanes, hues) if any(map(is_red, some))]
-        return red_lanes, call(self.b, "probe.elementsOfHue", *RED)
+        red_lanes = [name for name in dict.fromkeys(lanes) if sum(call(self.b, "probe.inksOf", tab, name, "bad", "wrong").values())]
+        reds = [call(self.b, "probe.colour", it) for it in ("bad", "wrong")]
+        is_red = f"(it) => {json.dumps(reds)}.some(red => [it.color, it.backgroundColor, it.borderLeftColor].includes(red))"
+        seen = ("[...document.querySelectorAll('body *')].filter(it => it.checkVisibility() && !(it instanceof SVGElement)"
+                f" && ({is_red})(getComputedStyle(it))).map(it => `${{it.tagName}}#${{it.id}}`)")
+        return red_lanes, self.b.run(seen)
 
-    def test_each_kind_has_one_hue(self):
-        """Ticks, bars, legend and list of texts, of names, and of tags have it. Its shades differ."""
+    def test_each_text_has_its_hue_everywhere(self):
+        """On air, in each lane, and in the displays: the texts of a station have three hues in turn. Kinds have others."""
         b = self.b
         for scheme in self.in_schemes():
-            open_script(b, "".join(f"{line}GG\n" for line in example("chanson.csv").decode().splitlines()), m=8, k=0)
+            open_script(b, example("mix.csv").decode(), m=8, k=0)
             settle(b)
-            hues = {}
-            for kind in LANES:
-                shades = [call(b, "probe.colour", f"shade-{kind}-{shade}") for shade in range(3)]
-                hues[kind], *others = [call(b, "probe.hue", it) for it in shades]
-                self.check(f"{scheme}: {kind} has one hue in three shades",
-                           (len(set(shades)), [it for it in others if apart(it, hues[kind]) > NEAR]), (3, []))
-            all_hues = [*hues.values(), 0]
-            close = [(one, two) for i, one in enumerate(all_hues) for two in all_hues[:i] if apart(one, two) < APART]
-            self.check(f"{scheme}: the kinds and red differ", close, [])
-            sent = call(b, "probe.codes", "script", "sent")
-            for kind, lane in LANES.items():
-                number = call(b, "probe.lanes", "script").index(lane)
-                of_lane = call(b, "probe.huesOfLane", "script", number)
-                slots = [slot for slot, code in enumerate(sent) if code in CODES[kind]]
-                ticks = [call(b, "probe.huesOfLane", "script", 0, slot) for slot in slots]
-                swatch = "document.querySelector('#script .legend [data-shows=\"{}\"]')"
-                legend = [b.run(f"probe.huesOf({swatch.format(code)}, 6, 0, 2, 20)") for code in CODES[kind]]
-                for name, some in (("bars", [of_lane]), ("ticks", ticks), ("legend", legend)):
-                    wrong = [it for it in some if not it or any(apart(hue, hues[kind]) > BLENDED for hue in it)]
-                    self.check(f"{scheme}: {name} of {kind}", (len(some) > 0, wrong), (True, []))
-            to_tab(b, "log")
-            call(b, "probe.choose", "log-example", 2)
-            for kind in LANES:
-                ink = b.run(f"probe.hue(getComputedStyle(document.querySelector('#log-changes .part.{kind}')).color)")
-                self.check(f"{scheme}: the list's {kind}", apart(ink, hues[kind]) <= NEAR, True)
+            lanes = {lane: call(b, "probe.inksOf", "script", lane, *(f"shade-text-{it}" for it in range(3)))
+                     for lane in ("on air", "ordinary radio", "with rdsrt")}
+            self.check(f"{scheme}: three hues on air", [count > 500 for count in lanes["on air"].values()], [True] * 3)
+            self.check(f"{scheme}: and below", [max(it.values()) > 500 for it in lanes.values()], [True] * 3)
+            colours = {call(b, "probe.colour", f"shade-{kind}-{shade}") for kind in ("text", "name", "tags") for shade in range(3)}
+            self.check(f"{scheme}: nine colours", len(colours), 9)
+            move(b, "script", 60)
+            hues = lambda display: b.run(f"[...document.querySelectorAll('#script-{display} .text span')].map(it => it.className)")
+            self.check(f"{scheme}: the displays", (hues("air"), hues("alone")),
+                       (["hue-2"], ["hue-0", "hue-2", "hue-2", "hue-2"]))
 
     def test_red_is_for_mixes_and_noes_alone(self):
         """Lost slots, restarts, refused commands and faults have other colours."""
@@ -191,8 +169,8 @@ class Colours:
                 self.check(f"{scheme}: a script with {name}", self.reds("script"), ([], []))
             open_script(b, example("mix.csv").decode(), m=8, k=0)
             settle(b)
-            lanes, elements = self.reds("script")
-            self.check(f"{scheme}: a script with a mix", (set(lanes), len(elements) > 0), ({"  flag bit alone"}, True))
+            self.check(f"{scheme}: a script with a mix", (self.reds("script")[0], of(b, "#script-alone", "className")),
+                       (["  ordinary radio"], "radio alone mixed"))
             passes = f"{HI}\n" * 20 + f"{NOTHING}\n" * 3 + f"{YO}\n" * 20
             verdict_of(b, passes, 8)
             call(b, "probe.lose", 4, 5, 6, 7)
@@ -205,7 +183,7 @@ class Colours:
             self.check(f"{scheme}: a malformed line", self.reds("log"), ([], []))
             verdict_of(b, example("flags.log").decode(), 8)
             lanes, elements = self.reds("log")
-            self.check(f"{scheme}: a no", (lanes, {"DIV#verdict", "CODE#"} <= set(elements)), (["events"], True))
+            self.check(f"{scheme}: a no", (lanes, {"DIV#verdict", "CODE#"} <= set(elements)), (["faults"], True))
 
 
 class Chromium(Colours, ChromiumCase):

@@ -81,7 +81,7 @@ class Faults:
         move(b, "script", 3)
         self.check("a text is shown before a bad row", (shown(b, "script-radio"), shown(b, "script-alone")),
                    ("HI", "HI"))
-        ends = call(b, "probe.endsOfLanes")
+        ends = b.run("$script.scriptTab.timeline.lanes.map(({ codes, runs }) => codes?.length ?? runs?.end ?? 0)")
         self.check("no lane goes on behind it", [it for it in ends if it > 5], [])
         for slot in (5, 11):
             move(b, "script", slot)

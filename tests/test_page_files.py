@@ -1,6 +1,5 @@
 """Files that the page opens and saves, and edits that are not saved."""
 import os
-import struct
 import tempfile
 
 from tests.page_support import (EVERY_100, HI, NOTHING, TABS, URL, ChromiumCase, FirefoxCase, call, click, example,
@@ -20,11 +19,11 @@ class Files:
         names = b.run("RDSRT_EXAMPLES.log.map(it => it.name)")
         titles = ["A car leaves a tunnel. What does its display say?", "Drop a log of your station"]
         self.check("the road and the field alone", (seen("#log h2"), seen(result)), (titles, []))
-        self.check("the examples", (seen("#log-start-examples button"), len(names) > 4), (names, True))
+        self.check("the examples", (seen("#log-start-examples a"), len(names) > 4), (names, True))
         b.run("document.querySelector('#tab-log').focus()")
         reached = []
         on_road = [f"{it} tunnel, its {part}" for it in ("First", "Second") for part in ("place", "exit")]
-        on_road += ["road-car", "road-play", "road-speed", "road-open"]
+        on_road = ["Text 1", "Text 2", "Text 3", *on_road, "Play", "Speed", "Slot of the road", "road-share", "road-script"]
         for _ in range(len(on_road) + 1 + len(names)):
             b.key("Tab")
             reached.append(b.run("(e => e.id || e.ariaLabel || e.textContent)(document.activeElement)"))
@@ -68,12 +67,12 @@ class Files:
                            ("large.txt", b"\xFE\xFF" + log.encode("utf-16-be")), ("spread.csv", log.encode())):
             b.run(f"probe.openFile(new File([Uint8Array.from({list(data)})], '{name}'))")
             settle(b)
-            got = hidden(b), of(b, "#log-text", "value"), text_of(b, "#log-lines")
-            self.check(name, got, (["script", "dwell"], log, '0 text "HI"\n'))
+            got = hidden(b), call(b, "probe.textOfLog"), text_of(b, "#log-lines")
+            self.check(name, got, (["script"], log, '0 text "HI"\n'))
         script = "\uFEFFtext,HI,1,G\n"
         call(b, "probe.drop", "own.txt", script)
         settle(b)
-        self.check("a script with a mark", (hidden(b), of(b, "#script-text", "value")), (["log", "dwell"], script))
+        self.check("a script with a mark", (hidden(b), of(b, "#script-text", "value")), (["log"], script))
 
     def test_a_long_field_is_printed_nowhere(self):
         """A fault does not quote a field of 3 MB, and the form shows its begin."""
@@ -201,21 +200,20 @@ class Files:
         b.run(f"probe.openFile({slow.format(own.format(repr(EVERY_100)))}); probe.openFile({own.format(repr(HI))})")
         b.until("new Promise(done => setTimeout(() => done(true), 600))")
         settle(b)
-        self.check("two files", of(b, "#log-text", "value"), HI)
+        self.check("two files", call(b, "probe.textOfLog"), HI)
 
     def test_what_is_pasted_is_opened(self):
         """Unless it belongs to a field. A saved file keeps its name."""
         b = self.b
         paste = ("(text, at) => {{ const data = new DataTransfer(); data.setData('text', text); document.querySelector(at)"
                  ".dispatchEvent(Object.assign(new Event('paste', {{ bubbles: true }}), {{ clipboardData: data }})); }}")
-        in_log, in_script = ["script", "dwell"], ["log", "dwell"]
+        in_log, in_script = ["script"], ["log"]
         for text, at, wanted in ((EVERY_100, "h1", (in_log, EVERY_100)), (HI, "#log-find", (in_log, EVERY_100)),
                                  (example("tunnel.csv").decode(), "h1", (in_script, EVERY_100))):
             call(b, f"({paste.format()})", text, at)
-            self.check(f"pasted over {at}: {text[:9]!r}", (hidden(b), of(b, "#log-text", "value")), wanted)
+            self.check(f"pasted over {at}: {text[:9]!r}", (hidden(b), call(b, "probe.textOfLog")), wanted)
         call(b, "probe.drop", "my.station.log", EVERY_100)
         settle(b)
-        self.check("the name of a saved log", call(b, "probe.savedBy", "log-save"), "my.station.log")
 
     def test_a_log_that_changes_on_the_disk_stays_as_it_was_opened(self):
         """The answer and the search for a witness are over the same bytes."""
@@ -237,10 +235,10 @@ class Files:
         for name, text in (("marks", "#" * 9000 + " my script\n"), ("lines", "\n" * 9000), ("blanks", " \t \n" * 9000)):
             call(b, "probe.drop", "own.csv", f"{text}Slot;Text\n")
             settle(b)
-            self.check(name, hidden(b), ["log", "dwell"])
+            self.check(name, hidden(b), ["log"])
             call(b, "probe.drop", "own.csv", f"{text[:9000]}\n{HI}\n")
             settle(b)
-            self.check(f"{name} before a log", hidden(b), ["script", "dwell"])
+            self.check(f"{name} before a log", hidden(b), ["script"])
 
     def test_the_name_of_a_file_is_shown_as_long_as_the_file(self):
         """It is beside the field and in the title. The file can be chosen again."""
@@ -269,25 +267,6 @@ class Files:
         self.check("the title is of the open tab", b.run("document.title"), title)
         first_examples(b)
 
-    def test_an_edited_log_is_asked_about_until_it_is_saved(self):
-        b = self.b
-        first_examples(b)
-        b.run("document.querySelector('#log-text').closest('details').open = true")
-        call(b, "probe.choose", "log-text", f"{HI}\n")
-        settle(b)
-        self.check("an edited log is unsaved", b.run("dispatchEvent(new Event('beforeunload', { cancelable: true }))"), False)
-        call(b, "probe.drop", "own.log", EVERY_100)
-        settle(b)
-        self.check("the page asks", (of(b, "#ask", "open"), of(b, "#log-text", "value")), (True, f"{HI}\n"))
-        click(b, "#ask-no")
-        call(b, "probe.savedBy", "log-save")
-        call(b, "probe.drop", "own.log", EVERY_100)
-        settle(b)
-        self.check("a saved one is not asked about", (of(b, "#ask", "open"), of(b, "#log-text", "value")),
-                   (False, EVERY_100))
-        b.run("document.querySelector('#log-text').closest('details').open = false")
-        first_examples(b)
-
 
 class Chromium(Files, ChromiumCase):
     def test_files_are_dropped_and_saved(self):
@@ -296,21 +275,16 @@ class Chromium(Files, ChromiumCase):
                 ("a", f"{NOTHING}\n{HI}\n", "log"), ("tunnel.txt", example("tunnel.csv").decode(), "script")]
         first_examples(b)
         for name, text, tab in rows:
-            to_tab(b, "dwell")
+            to_tab(b, "script" if tab == "log" else "log")
             call(b, "probe.drop", name, text)
             settle(b)
-            opened = of(b, "#script-text" if tab == "script" else "#log-text", "value")
+            opened = of(b, "#script-text", "value") if tab == "script" else call(b, "probe.textOfLog")
             self.check(f"{name} is dropped", (hidden(b), opened), ([it for it in TABS if it != tab], text))
         with tempfile.TemporaryDirectory() as folder:
             b.ask("Browser.setDownloadBehavior", behavior="allow", downloadPath=folder)
             open_script(b, example("late.csv").decode(), m=4, k=2)
             click(b, "#script-save")
             self.check("a saved script", waited_for(os.path.join(folder, "script.csv")), example("late.csv"))
-            click(b, "#script-time [data-do=save]")
-            data = waited_for(os.path.join(folder, "timeline.png"))
-            width = of(b, "#script-time canvas", "width + 32")
-            self.check("a saved picture", (data[:8], struct.unpack(">I", data[16:20])),
-                       (b"\x89PNG\r\n\x1a\n", (width,)))
 
 
 class Firefox(Files, FirefoxCase):

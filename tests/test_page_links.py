@@ -60,7 +60,7 @@ class Links:
         link, before = b.run("location.href"), printed(b)
         visit(b, link)
         self.check("a link opens its script", (printed(b), hidden(b), len(link) < 2000),
-                   (before, ["log", "dwell"], True))
+                   (before, ["log"], True))
         for name, broken, told in (("holds none", f"{URL}#script=nonsense&end", "The link has no script."),
                                    ("was cut", link[:-9], "The link was cut: copy the whole link.")):
             visit(b, broken)
@@ -72,7 +72,7 @@ class Links:
             visit(b, f"{URL}#script={packed(b'-,,1,' + bytes(size - 5))}&m=8&end")
             self.check(f"a link that holds {size} bytes", text_of(b, "#script-saved"), told)
         visit(b, f"{URL}#script")
-        self.check("a tab by its name", (text_of(b, "#script-saved"), hidden(b)), ("", ["log", "dwell"]))
+        self.check("a tab by its name", (text_of(b, "#script-saved"), hidden(b)), ("", ["log"]))
         dice = random.Random(SEED)
         open_script(b, "".join(f"text,{dice.random()},1,\n" for _ in range(20_000)))
         click(b, "#script-share")
@@ -90,7 +90,7 @@ class Links:
             click(b, "#tab-script")
             call(b, "probe.choose", "script-example", 1)
             b.drag(*[call(b, "probe.place", "script", 1, "receiver 1")] * 2)
-            b.drag(call(b, "probe.axis", "script", 14), call(b, "probe.axis", "script", 32))
+            call(b, "probe.zoom", "script", 14, 32)
             move(b, "script", 23)
             click(b, "#script-share")
             b.until("document.querySelector('#script-saved').textContent !== ''")
@@ -105,11 +105,11 @@ class Links:
             click(b, "#script-undo")
             self.check("an undo has it in the address again", script_link(b), ["", False, True, "1"])
             to_tab(b, "log")
-            self.check("another tab has its own address", b.run("location.hash"), "#log")
+            self.check("another tab has its own address", b.run("location.hash"), "")
             visit(b, link)
-            self.check("the link opens all that", [printed(b), sight(b), hidden(b)], [before, seen, ["log", "dwell"]])
+            self.check("the link opens all that", [printed(b), sight(b), hidden(b)], [before, seen, ["log"]])
             reload(b)
-            self.check("and a reload too", [printed(b), sight(b), hidden(b)], [before, seen, ["log", "dwell"]])
+            self.check("and a reload too", [printed(b), sight(b), hidden(b)], [before, seen, ["log"]])
             for more in ("&slot=9999999&from=-1&across=0&receiver=9", "&slot=x&from=1e9&across=1e9&receiver="):
                 visit(b, f"{re.sub('&slot=.*', '', link)}{more}&end")
                 _, receiver, _, across = sight(b)
@@ -140,7 +140,7 @@ class Links:
             settle(b)
             self.check("and without it the address has it again", (told(), b.run(address)), ("", True))
             visit(b, link)
-            self.check("the link opens all that", [log_state(b), hidden(b)], [before, ["script", "dwell"]])
+            self.check("the link opens all that", [log_state(b), hidden(b)], [before, ["script"]])
             bare = re.sub("&.*", "", link)
             visit(b, f"{bare}&m=128&lost=0-9999999&end")
             state = log_state(b)
@@ -154,7 +154,7 @@ class Links:
                     ("holds none", f"{url}#log=nonsense&end", "The link has no log."),
                     ("was cut", link[:200], "The link was cut: copy the whole link.")):
                 visit(b, broken)
-                card = text_of(b, "#verdict"), of(b, "#verdict", "className"), of(b, "#log-text", "value")
+                card = text_of(b, "#verdict"), of(b, "#verdict", "className"), call(b, "probe.textOfLog")
                 self.check(f"a link that {name}", (told(), card), (why, (f"{why}No log is open.", "verdict no", "")))
             dice = random.Random(SEED)
             call(b, "probe.open", "log", "".join(f"# {dice.random()}\n" for _ in range(20_000)))
@@ -163,29 +163,56 @@ class Links:
             self.check("a log that is too long for one", told(), "This log is too long for a link: save it as a file.")
 
 
-    def test_back_and_reload_fit_the_page(self):
-        """Back after a link leaves the address of what is shown. An example is opened again by a reload."""
+    def test_the_address_holds_what_is_seen(self):
+        """M, K, W, lost slots and the slot stand behind the example. A reload, a colleague and Back show the same."""
+        b = self.b
+        first = lambda: (of(b, "#road", "checkVisibility()"), b.run("location.hash"))
+        self.check("the start", first(), (True, ""))
+        click(b, "#log-start-examples a")
+        settle(b)
+        call(b, "probe.choose", "log-m", 4)
+        settle(b)
+        call(b, "probe.lose", 2, 3)
+        move(b, "log", 4)
+        settle(b)
+        self.check("an example with options", b.run("location.hash"), "#log&example=0&pi=C201&m=4&k=0&lost=2-3&slot=4")
+        before = log_state(b)
+        reload(b)
+        settle(b)
+        self.check("a reload", log_state(b), before)
+        self.check("the heading leads home", (click(b, "h1 a"), settle(b), first())[2], (True, ""))
+        b.run("history.back()")
+        b.until("!document.querySelector('#road').checkVisibility()")
+        settle(b)
+        self.check("Back to the log", (log_state(b), b.run("location.hash")), (before, "#log&example=0&pi=C201&m=4&k=0&lost=2-3&slot=4"))
+        call(b, "probe.drop", "own.log", EVERY_100)
+        settle(b)
+        self.check("a file", (b.run("location.hash"), call(b, "probe.textOfLog")), ("#log", EVERY_100))
+        b.run("history.back()")
+        b.until("document.querySelector('#log-example').value === '0'")
+        settle(b)
+        self.check("Back to the example", log_state(b)[:2], before[:2])
+        visit(b, f"{URL}#log&example=0&m=x")
+        settle(b)
+        self.check("a damaged option", text_of(b, "#log-saved"), "The link is damaged: an option of it is wrong.")
+        visit(b, f"{URL}#script&example=2&m=5&k=1&slot=9")
+        settle(b)
+        self.check("an example of a script", [of(b, f"#script-{it}", "value") for it in ("example", "m", "k")] + [cursor(b, "script")],
+                   ["2", "5", "1", 9])
+
+    def test_back_after_a_link_shows_it_again(self):
         b = self.b
         visit(b, f"{URL}#log")
         b.run(f"location.hash = 'log={packed(EVERY_100.encode())}&m=8&lost=0-149&end'; undefined")
         b.until("document.querySelector('#log-lines').textContent !== ''")
         settle(b)
         self.check("a link with many lost slots", len(call(b, "probe.lost")), 150)
-        click(b, "#tab-dwell")
+        click(b, "#tab-script")
         b.run("history.back()")
         b.until("!document.querySelector('#log').hidden")
         settle(b)
-        self.check("back", (hidden(b), b.run("location.hash").startswith("#log="), of(b, "#log-text", "value")),
-                   (["script", "dwell"], True, EVERY_100))
-        visit(b, URL)
-        to_tab(b, "log")
-        b.run("document.querySelectorAll('#log-start-examples button')[2].click()")
-        settle(b)
-        before = text_of(b, "#log-lines")
-        self.check("the address of an example", b.run("location.hash"), "#log&example=2")
-        reload(b)
-        settle(b)
-        self.check("a reload", (text_of(b, "#log-lines") == before != "", of(b, "#log-example", "value")), (True, "2"))
+        self.check("back", (hidden(b), b.run("location.hash").startswith("#log="), call(b, "probe.textOfLog")),
+                   (["script"], True, EVERY_100))
 
 
 class Chromium(Links, ChromiumCase):

@@ -1,4 +1,4 @@
-"""All faults of a log: the strip, the table and the report, by the list of the program."""
+"""All faults of a log: the lane, the table and the report, by the list of the program."""
 import re
 
 from tests.page_support import (HI, NOTHING, YO, ChromiumCase, FirefoxCase, call, click, cursor, first_examples, of,
@@ -14,12 +14,6 @@ def rows(b, query):
     """Returns the texts of the cells of each row of a table."""
     cells = "[...it.cells].map(cell => cell.textContent)"
     return b.run(f"[...document.querySelectorAll('{query}')].map(it => {cells})")
-
-
-def strip(b):
-    """Returns the names of the strip's rows, its buttons, and its labels."""
-    texts = lambda query, what: b.run(f"[...document.querySelectorAll('#log-strip {query}')].map(it => it.{what})")
-    return texts("b", "textContent"), texts("button", "title"), texts("span", "textContent")
 
 
 def opened(b, log, **options):
@@ -50,7 +44,7 @@ class Listing:
         for name, log, wanted in cases:
             opened(b, log, running=True)
             got = rows(b, "#log-faults:not([hidden]) tbody tr")
-            self.check(name, (got, of(b, "#log-strip", "hidden")), (wanted, not wanted), log)
+            self.check(name, got, wanted, log)
         tags = "C201 B148 2002 0000"
         opened(b, f"{tags}\n{HI}\n{tags}\n")
         self.check("tags before the first text", rows(b, "#log-faults:not([hidden]) tbody tr"),
@@ -61,62 +55,34 @@ class Listing:
         self.check("M = 10", rows(b, "#log-kinds tr"), [["EarlyFlag", "1 of 3 texts", "slot 16"]])
         call(b, "probe.choose", "log-m", 0)
         settle(b)
-        self.check("no M", [of(b, f"#{it}", "hidden") for it in ("log-faults", "log-strip")], [True] * 2)
-
-    def test_a_strip_has_the_faults_by_kind_and_time(self):
-        """By the hour, in a shorter log by ten minutes or by the minute, and by even parts of a log without times."""
-        b = self.b
-        opened(b, FEW, running=True)
-        self.check("without times", strip(b),
-                   (["EarlyTag", "EarlyFlag"],
-                    ["EarlyTag from slot 2 on: go to slot 2", "EarlyFlag from slot 3 on: go to slot 3"],
-                    ["slot 0", "slot 1", "slot 2", "slot 3"]))
-        begin = [(HI, "07:10:00.00"), (OTHER, "07:10:00.09")]
-        opened(b, timed(*begin, (HI, "09:15:00.00")))
-        self.check("two hours", strip(b),
-                   (["Changed", "EarlyFlag"],
-                    ["Changed from 07:10 on: go to slot 1", "Changed from 09:10 on: go to slot 2",
-                     "EarlyFlag from 09:10 on: go to slot 2"], ["07:10", "07:40", "08:10", "08:40", "09:10"]))
-        opened(b, timed(*begin, (HI, "17:15:00.00"), (OTHER, "17:59:00.00")))
-        self.check("ten hours", strip(b),
-                   (["Changed", "EarlyFlag"],
-                    ["Changed from 07:00 on: go to slot 1", "Changed from 17:00 on: go to slot 2",
-                     "EarlyFlag from 17:00 on: go to slot 2"], ["07:00", "09:00", "11:00", "13:00", "15:00", "17:00"]))
-        opened(b, f"{HI}\n{OTHER}\n" + f"{NOTHING}\n" * 70)
-        self.check("even parts of three slots", strip(b)[1:],
-                   (["Changed from slot 0 on: go to slot 1"], [f"slot {slot}" for slot in range(0, 72, 12)]))
+        self.check("no M", of(b, "#log-faults", "hidden"), True)
 
     def test_a_click_goes_to_the_slot(self):
-        """Of the strip to the first fault of the part, and of the table to the first and the last. After a no the
-        cursor stands at the fault."""
+        """To the first and the last fault of a kind. After a no the cursor stands at the fault."""
         b = self.b
         opened(b, timed((HI, "07:10:00.00"), (OTHER, "07:10:00.09"), (HI, "09:15:00.00"), (OTHER, "09:15:00.09")))
         self.check("after the no", (cursor(b, "log"), text_of(b, "#log-rows [aria-current] .number")), (1, "2"))
         self.check("the place of the no", "First in slot 1 (line 2, 2024/06/01 07:10:00.09): a text changed"
                    in text_of(b, "#verdict"), True, text_of(b, "#verdict"))
-        for query, slot in (("#log-kinds tr:first-child td:last-child button", 3), ("#log-kinds tr td button", 1),
-                            ("#log-strip button:nth-of-type(2)", 2)):
+        for query, slot in (("#log-kinds tr:first-child td:last-child button", 3), ("#log-kinds tr td button", 1)):
             click(b, query)
             self.check(query, cursor(b, "log"), slot)
         self.check("the clock", rows(b, "#log-kinds tr"), [["Changed", "3 of 4 texts", "07:10:00", "09:15:00"],
                                                            ["EarlyFlag", "2 of 4 texts", "09:15:00", "09:15:00"]])
         self.check("the place in words", of(b, "#log-kinds button", "title"),
                    "slot 1 (line 2, 2024/06/01 07:10:00.09)")
-        b.run("document.querySelector('#log-strip button').focus()")
-        b.key("ArrowRight")
-        self.check("arrow keys go along the strip", b.run("document.activeElement.title"), strip(b)[1][1])
 
     def test_a_slot_of_a_line_with_a_time_has_no_time_by_its_number(self):
         """An hour is missing before the fault. Without times a slot is so many slots after the first."""
         b = self.b
         hours = [(HI, f"{hour}:00:00.{part:02d}") for hour in ("07", "08") for part in (0, 9, 18)]
         for name, log, wanted in (
-                ("a clock", timed(*hours, (OTHER, "08:00:00.27")), ["slot 6 of 7 · line 7 · 08:00:00", "",
+                ("a clock", timed(*hours, (OTHER, "08:00:00.27")), ["slot 6 of 7 · 08:00:00", "",
                  "7 slots, from 07:00:00 to 08:00:00 by its lines", "08:00:00"]),
                 ("seconds", "".join(f"{HI} {at}\n" for at in ("0.00", "0.09", "3600.1")) + f"{OTHER} 3600.2\n",
-                 ["slot 3 of 4 · line 4", "", "4 slots", ""]),
+                 ["slot 3 of 4", "", "4 slots", ""]),
                 ("none", f"{HI}\n" * 6 + f"{OTHER}\n",
-                 ["slot 6 of 7 · line 7 · 0.53 s", "This slot is 0.53 s after the first.", "7 slots, 0.61 s", "0.53 s"])):
+                 ["slot 6 of 7 · 0.53 s", "This slot is 0.53 s after the first.", "7 slots, 0.61 s", "0.53 s"])):
             opened(b, log)
             told = "".join(re.findall(r"This slot is [\d.]+ s after the first\.", text_of(b, "#verdict")))
             click(b, "#log-report")
@@ -152,9 +118,8 @@ class Listing:
         self.check("the answer", "EarlyFlag" in said, True, said)
         self.check("the count", rows(b, "#log-kinds tr"),
                    [["EarlyFlag", "9,998 of 10,000 texts", "slot 4", "slot 19,998"]])
-        names, buttons, labels = strip(b)
-        self.check("a button for each part", (names, len(buttons), buttons[-1], len(labels)),
-                   (["EarlyFlag"], 26, "EarlyFlag from slot 19,250 on: go to slot 19,250", 6))
+        inks = call(b, "probe.inksOf", "log", "faults", "bad", "lane")
+        self.check("the lane of faults has no room between them", inks["bad"] > inks["lane"] / 4, True, str(inks))
         first_examples(b)
 
 

@@ -4,6 +4,22 @@ from http.server import BaseHTTPRequestHandler, ThreadingHTTPServer
 
 from tests.page_support import URL, ChromiumCase, FirefoxCase, call, text_of, visit
 
+# tries to run scripts from a text and to fetch from this address, each by an element; answers which ran or was applied
+TEMPT = """async (address) => {
+  const root = document.body.appendChild(document.createElement("div")), ran = window.tempted = [];
+  root.innerHTML = `<a id="tempting" href="javascript:tempted.push('href')" onclick="tempted.push('handler')"></a>
+    <i style="display: none"></i><link rel="stylesheet" href="${address}style.css"><link rel="prefetch" href="${address}prefetch">
+    <img src="${address}image.png" alt=""><audio src="${address}audio" preload="auto"></audio><iframe src="${address}frame"></iframe>`;
+  const add = (props) => root.appendChild(Object.assign(document.createElement("script"), props));
+  add({ textContent: "tempted.push('inline')" });
+  for (const src of ["data:text/javascript,tempted.push('data')", `${address}script.js`]) add({ src });
+  document.getElementById("tempting").click();
+  await new FontFace("tempting", `url(${address}font)`).load().then(() => ran.push("font"), () => {});
+  await new Promise((done) => setTimeout(done, 1000));
+  if (getComputedStyle(root.querySelector("i")).display === "none") ran.push("style");
+  root.remove();
+  return ran;
+}"""
 IN_SIGHT = ("[...document.querySelectorAll('#loading, noscript p, #no-engine, main, .verdict')]"
             ".filter(e => e.checkVisibility())")
 
@@ -41,7 +57,7 @@ class Loading:
         threading.Thread(target=server.serve_forever, daemon=True).start()
         try:
             visit(b, URL)
-            ran = call(b, "probe.tempt", f"http://127.0.0.1:{server.server_port}/")
+            ran = call(b, f"({TEMPT})", f"http://127.0.0.1:{server.server_port}/")
         finally:
             server.shutdown()
             server.server_close()

@@ -84,44 +84,80 @@ class LogTab:
         call(b, "probe.choose", "log-example", 0)
         settled_verdict(b)
         self.check("its verdict", text_of(b, "#verdict h2 code"), "EarlyFlag")
-        self.check("it shows the mix", (shown(b, "log-radio"), of(b, "#log-radio", "className")),
-                   ("JAZZMIX", "radio mixed"))
-        self.check("its lines", text_of(b, "#log-lines"), '1 text "JAZZ FM"\n5 text "JAZZMIX"\n')
+        self.check("nothing is lost, and nothing is red", (lost(b), cursor(b, "log"), of(b, "#log-radio", "className")),
+                   ([], 4, "radio"))
+        click(b, "#verdict .witness button")
+        idle(b)
+        self.check("the button loses the slots of the witness", (lost(b), shown(b, "log-radio"), of(b, "#log-radio", "className")),
+                   ([2, 3], "POP  FM", "radio mixed"))
         focus(b, "log")
         b.key("ArrowLeft")
-        self.check("a key moves a slot back", (cursor(b, "log"), shown(b, "log-radio")), (4, "JAZZ FM"))
+        self.check("a key moves a slot back", (cursor(b, "log"), shown(b, "log-radio")), (3, "JAZZ FM"))
         b.key("l")
         idle(b)
-        self.check("a key gives a lost slot back", lost(b), [2, 3])
+        self.check("a key gives a lost slot back", lost(b), [2])
         told = of(b, "#log-time canvas", "ariaValueText").split(". ")
-        self.check("the slider tells slot and group", told[:2], ["slot 4 of 6 · line 5 · 0.35 s", "text group"])
+        self.check("the slider tells slot and group", told[:2], ["slot 3 of 6 · 0.26 s", "text group"])
         click(b, "#log-unlose")
         self.check("all received again", text_of(b, "#log-lines").splitlines()[-1], '5 text "POP MIX"')
         settled_verdict(b)
         click(b, "#verdict .witness button")
-        self.check("the button loses the slots of the witness", (lost(b), shown(b, "log-radio")), ([2, 3], "POP  FM"))
+        idle(b)
         click(b, "#log-click")
         at = call(b, "probe.place", "log", 0, "received")
         b.drag(at, at)
         self.check("a click loses a slot", lost(b), [2, 3, 0])
         click(b, "#log-click")
 
-    def test_a_drag_loses_a_range_and_undo_takes_it_back(self):
+    def test_the_answer_is_drawn(self):
+        """A bracket has the slots from the earlier one to the fault, how many it needs, and the first slot that is right."""
+        b = self.b
+        log = "".join(f"{it}\n" for it in (HI, YO, "C201 B158 8012 0985"))
+        call(b, "probe.choose", "log-example", 0)
+        parts = "[...document.querySelectorAll('#verdict .bracket :is(b, i)')].map(it => it.innerText)"
+        self.check("the first example", b.run(parts), ["3 slots", "it needs 8", "slot 1", "slot 4", "right from slot 9"])
+        self.check("in words", of(b, ".bracket", "ariaLabel"),
+                   "From slot 1 to slot 4: 3 slots. It needs 8, so the first right slot is 9.")
+        width = lambda query: b.run(f"document.querySelector('{query}').getBoundingClientRect().width")
+        self.check("it is to scale", abs(width(".bracket .had") / width(".bracket") - 3 / 8) < 0.02, True)
+        verdict_of(b, log, 8)
+        self.check("tags", b.run(parts), ["1 slot", "it needs 8", "slot 1", "slot 2", "right from slot 9"])
+        verdict_of(b, f"{HI}\nC201 2140 594F 0D20\n", 8)
+        self.check("a rule without a distance", b.run(parts), [])
+        first_examples(b)
+
+    def test_the_blocks_of_a_group_have_the_colours_of_what_they_mean(self):
+        b = self.b
+        verdict_of(b, f"{HI}\n", 8)
+        parts = b.run("[...document.querySelectorAll('#log-group span')].map(it => [it.className, it.textContent])")
+        self.check("words and blocks", parts, [["type", "2A RadioText"], ["flag", "flag A"], ["segment", "segment 0"],
+                                               ["letters", "“HI”"], ["pi", "C201"], ["type", "2"], ["flag", "4"],
+                                               ["segment", "0"], ["letters", "4849"], ["letters", "0D20"]])
+        colours = b.run("[...new Set([...document.querySelectorAll('#log-group span')].map(it => getComputedStyle(it).color))].length")
+        self.check("five colours", colours, 5)
+        first_examples(b)
+
+    def test_reading_can_be_stopped(self):
+        b = self.b
+        b.run("probe.keepBack(answer => answer.programmes)")
+        b.run(f"probe.openFile(new File([{HI!r}], 'own.log')); undefined")
+        b.until("document.querySelector('#log-stop').checkVisibility()")
+        b.run("document.querySelector('#log-stop').click()")
+        b.until("document.querySelector('#log').ariaBusy === null")
+        self.check("stopped", text_of(b, "#verdict"), "No verdictReading was stopped.")
+        b.run("probe.letGo()")
+        first_examples(b)
+
+    def test_a_drag_loses_a_range(self):
         b = self.b
         call(b, "probe.open", "log", f"{HI}\n" * 20, {"pi": "C201", "m": 8, "k": 0})
         click(b, "#log-click")
-        self.check("nothing to undo", of(b, "#log-undo", "disabled"), True)
         slots = [call(b, "probe.place", "log", slot, "received") for slot in range(20)]
         for first, last, left in ((3, 11, range(3, 12)), (9, 15, range(3, 9))):
             b.drag(slots[first], slots[last])
             idle(b)
             self.check(f"a drag from slot {first} to {last}", sorted(lost(b)), list(left))
         self.check("the display drops the text", text_of(b, "#log-lines"), '0 text "HI"\n')
-        click(b, "#log-undo")
-        self.check("an undo", (sorted(lost(b)), text_of(b, "#log-lines").split("\n")[1:]),
-                   (list(range(3, 12)), ["10 text none dropped", '12 text "HI"', ""]))
-        click(b, "#log-undo")
-        self.check("another undo", (lost(b), of(b, "#log-undo", "disabled")), ([], True))
         click(b, "#log-click")
 
     def test_a_window_shows_what_was_heard_twice(self):
@@ -166,7 +202,7 @@ class LogTab:
             buttons = "[...document.querySelectorAll('#verdict button')]"
             b.run(f"{buttons}.find(it => it.textContent === 'Add the lost slots').click()")
             idle(b)
-            self.check(f"seed {SEED}, times {number}: added as by the program", of(b, "#log-text", "value"), filled,
+            self.check(f"seed {SEED}, times {number}: added as by the program", call(b, "probe.textOfLog"), filled,
                        log)
             settle(b)
             self.check(f"seed {SEED}, times {number}: offered once", "Add the lost" in text_of(b, "#verdict"), False, log)
@@ -198,7 +234,7 @@ class LogTab:
             before = "\n".join(good[:int(bad[1]) - 1]) + "\n" if bad else log
             slots = program(["decode", "--pi", "C201", "--m", "1"], before.encode())[0]
             count = sum(1 for line in before.split("\n") if line.strip("\r") and line[0] not in "<#%")
-            self.check(f"seed {SEED}, slots of odd log {number}", (call(b, "probe.slotsOfLog"), slots), (count, 0),
+            self.check(f"seed {SEED}, slots of odd log {number}", (b.run("$log.logTab.log.count"), slots), (count, 0),
                        log)
 
     def test_the_list_has_each_change_and_can_be_filtered(self):
@@ -327,7 +363,8 @@ class LogTab:
         settled_verdict(b)
         settle(b)
         b.run("scrollTo(0, 0)")
-        ends = call(b, "probe.bottoms", "log")
+        top = b.run("document.querySelector('#log-time canvas').getBoundingClientRect().top")
+        ends = [top + it for it in b.run("$log.logTab.timeline.lanes.map(({ top, height }) => top + height)")]
         rows = b.run("document.querySelector('#log-rows [aria-current]').getBoundingClientRect().bottom")
         self.check("in sight", (sum(end <= 800 for end in ends) >= 5, rows <= 800), (True, True), f"{ends} {rows}")
         b.size(1280, 900)
@@ -350,7 +387,7 @@ class LogTab:
         self.check("one slot", of(b, "#log-time", "checkVisibility()"), True)
 
     def test_each_task_takes_at_most_four_clicks(self):
-        """Is my encoder safe, what M for 15 s, when did the text change?"""
+        """Is my encoder safe, and when did the text change?"""
         b = self.b
         def clicks(*steps):
             for step in steps:
@@ -364,13 +401,10 @@ class LogTab:
         wanted = ["✗ EarlyFlag with M = 128 (11.2 s)", "Keep each text on air for at least M + K slots"]
         self.check("is my encoder safe, and what to change", (used <= 4, [it for it in wanted if it not in told]),
                    (True, []))
-        used = clicks(lambda: click(b, "#tab-dwell"), lambda: call(b, "probe.choose", "dwell-s", 15),
-                      lambda: click(b, "#dwell button"))
-        self.check("what M for texts of 15 s", (used <= 4, of(b, "#dwell-m", "value")), (True, "172"))
         used = clicks(lambda: click(b, "#tab-log"), file, lambda: call(b, "probe.choose", "log-find", "news"),
                       lambda: click(b, "#log-changes button"))
         self.check("when did the text change", (used <= 4, text_of(b, "#log-time output")),
-                   (True, "slot 101 of 300 · line 102 · 8.85 s"))
+                   (True, "slot 101 of 300 · 8.85 s"))
         call(b, "probe.choose", "log-find", "")
         first_examples(b)
 

@@ -1,11 +1,12 @@
 """Long and nasty inputs: no task of the page may hold up what people do, and no more than 1 GB may be in use."""
+import json
 import os
 import re
 import tempfile
 import time
 
-from tests.page_support import (HI, NOTHING, URL, ChromiumCase, FirefoxCase, call, idle, longest_task, move, of, program,
-                                settle, shown, text_of, to_tab, verdict_of, visit)
+from tests.page_support import (HI, NOTHING, URL, ChromiumCase, FirefoxCase, call, idle, longest_task, move, of, printed,
+                                program, settle, shown, text_of, to_tab, verdict_of, visit)
 from tests.slot import SLOT
 from tests.support import PROMPT
 
@@ -18,6 +19,14 @@ DAY = 982_000
 TYPED = "Song of the night"
 # each 997th of a million changes is compared
 EACH = 997
+# the letters of an output that the page shows
+MOST_SHOWN = 400_000
+
+
+def script_of(count):
+    """Returns a script of so many slots for eight receivers."""
+    row = lambda slot: f"text,Song number {slot}" if slot % 600 == 300 else "-,"
+    return "".join(f"{row(slot)},{1 if slot % 3 else 0},GLGGGGGG\n" for slot in range(count))
 
 
 def turning():
@@ -100,8 +109,9 @@ class Long:
     def test_of_several_edits_only_the_last_ones_result_is_shown(self):
         b = self.b
         to_tab(b, "script")
-        call(b, "probe.open", "script", b.run("probe.scriptOf(20000)"), {"m": 8, "k": 0})
-        b.run("probe.countShows()")
+        call(b, "probe.open", "script", script_of(20_000), {"m": 8, "k": 0})
+        b.run("{ const it = $script.scriptTab.timeline, plain = it.show; window.shows = 0;"
+              " it.show = function (...given) { window.shows++; plain.apply(it, given); }; }")
         move(b, "script", 10)
         b.run("['restart', 'tags', '-', 'restart'].forEach(command => probe.choose('command', command))")
         row = of(b, "#script-text", "value").splitlines()[10]
@@ -110,7 +120,7 @@ class Long:
         script = of(b, "#script-text", "value")
         wanted = program(["sim", "--pi", "C201", "--pty", "10", "--m", "8", "--k", "0", "--why"], script.encode())[1]
         self.check("one result is shown, the last one's",
-                   (call(b, "probe.shownTimes"), call(b, "probe.outputOfScript") == wanted[:1_600_004]), (1, True))
+                   (b.run("window.shows"), printed(b)[:MOST_SHOWN] == wanted[:MOST_SHOWN]), (1, True))
 
     def test_a_script_that_plays_for_long_can_be_stopped_and_is_not_waited_for(self):
         """After a second a button ends the run, and a newer number does so at once. The answer of the run is kept back, for
@@ -163,7 +173,7 @@ class Chromium(Long, ChromiumCase):
         """The page plays it in a worker."""
         b = self.b
         to_tab(b, "script")
-        b.run(f"window.long = probe.scriptOf({ROWS}); undefined")
+        b.run(f"window.long = {json.dumps(script_of(ROWS))}; undefined")
         edit = f"(probe.move('script', 900), probe.typeAndLeave({TYPED!r}, 960))"
         steps = {"opened": "probe.open('script', long, { m: 128, k: 0 })", "a letter is typed": edit,
                  "a reception": "document.querySelector('#script-time canvas').dispatchEvent(new KeyboardEvent('keydown', { key: 'l' }))",
@@ -178,7 +188,7 @@ class Chromium(Long, ChromiumCase):
             self.check("the row has the text", of(b, "#script-text", "value").split("\n")[900].split(",")[1], TYPED)
             script = of(b, "#script-text", "value").encode()
             wanted = program(["sim", "--pi", "C201", "--pty", "10", "--m", "128", "--k", "0", "--why"], script)[1]
-            self.check("it is played", call(b, "probe.outputOfScript") == wanted[:1_600_004], True)
+            self.check("it is played", printed(b)[:MOST_SHOWN] == wanted[:MOST_SHOWN], True)
             move(b, "script", 1000)
             self.check("and shown", shown(b, "script-air"), TYPED)
             waits = "document.querySelector('#script-wait').checkVisibility()"
@@ -204,7 +214,9 @@ class Chromium(Long, ChromiumCase):
             groups[slot] = f"{NOTHING}\n"
         output = program(["decode", "--pi", "C201", "--m", "64"], "".join(groups).encode())[1]
         told = [[int(slot), text or None] for slot, text in re.findall('^(\\d+) text (?:"(.*)"|none)$', output, re.M)]
-        self.check("some of what is shown", call(b, "probe.someRuns", EACH), [len(told), told[::EACH]])
+        some = (f"(({{ text }}) => [text.length, Array.from(text.starts.keys()).filter(i => i % {EACH} === 0)"
+                ".map(i => [text.from(i), text.value(i)])])($log.logTab.view.parts)")
+        self.check("some of what is shown", b.run(some), [len(told), told[::EACH]])
         shows = sum(1 for _, text in told if text)
         self.check("its changes", text_of(b, "#log-found").partition(" of ")[2], f"{shows:,} changes")
         self.check("its answer", text_of(b, "#verdict h2 code"), "EarlyFlag")

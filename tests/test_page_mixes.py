@@ -33,7 +33,7 @@ class Mixes:
             self.check(f"{tab}: a mix of tags is red",
                        (of(b, f"#{tab}-alone", "className"), text_of(b, f"#{tab}-alone .led")),
                        ("radio alone mixed", led))
-            told = of(b, f"#{tab}-time canvas", "ariaValueText").split("With the flag bit alone: ")[1]
+            told = of(b, f"#{tab}-time canvas", "ariaValueText").split("An ordinary radio: ")[1]
             self.check(f"{tab}: and is in the words", told,
                        f"“Édith Piaf, Milord”{text}, artist: Édith Pia, {words}, title:  Milo, {words}.")
             self.check(f"{tab}: with the dwell there is none", of(b, f"#{tab}-radio", "className"), "radio")
@@ -65,13 +65,13 @@ class Mixes:
             self.check(f"what it keeps of {text.count(chr(10))} slots", got, wanted)
 
     def test_the_examples_say_why_no_text_is_shown(self):
-        """They open on a mix of the flag bit alone beside the dwell."""
+        """They open on a mix of an ordinary radio beside a receiver with rdsrt."""
         b = self.b
         reload(b)
         example_of(b, "log", "A long tunnel")
         lines = program(["sim", "--pi", "C201", "--m", "8"], example("mix.csv"))[1]
         slot = re.search("^(\\d+) r1 text", lines, re.M)[1]
-        told = f"The receiver with the dwell shows no text. It shows the next one when it is complete: in slot {slot}."
+        told = f"The receiver with rdsrt shows no text. It shows the next one when it is complete: in slot {slot}."
         for tab in ("log", "script"):
             to_tab(b, tab)
             kinds = [of(b, f"#{tab}-{it}", "classList.contains('mixed')") for it in ("radio", "alone")]
@@ -106,7 +106,7 @@ class Mixes:
                                     ("with the empty text", with_it, [])):
             open_script(b, "".join(f"{row}\n" for row in script), m=8, k=0)
             all_shown = [text for _, text in runs_of(b, "script", "alone", 0) if text is not None]
-            told = ("With the flag bit alone, receivers show mixes: 2 texts. With the dwell none does."
+            told = ("Ordinary radios show mixes: 2 texts. With rdsrt none does."
                     if mixes
                     else "No receiver shows a mix here. Lose more slots: a whole text and the next flip of the flag.")
             self.check(f"restart {name}: mixes", [it for it in all_shown if f"text,{it}" not in "\n".join(script)],

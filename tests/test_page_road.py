@@ -13,7 +13,7 @@ DISPLAYS = (f"Array.from({{ length: {SLOTS} }}, (_, slot) => {{ probe.moveCar(sl
             "document.getElementById(`road-${it}`).classList.contains('mixed')]); })")
 HANDLES = ("[...document.querySelectorAll('#road-band .end')].map(it => it.getBoundingClientRect())"
            ".map(it => [it.left + it.width / 2, it.top + it.height / 2])")
-CAR = "Number(document.querySelector('#road-car').ariaValueNow)"
+CAR = "Number(document.querySelector('#road-time canvas').ariaValueNow)"
 
 
 def through(output, part):
@@ -55,21 +55,50 @@ class Road:
             mixes += any(is_mixed for *_, (_, is_mixed) in got)
             x, y = dice.choice(b.run(HANDLES))
             b.drag((x, y), (min(1240, max(30, x + dice.randrange(-400, 400))), y))
-            b.run("probe.roadIsPlayed()")
+            settle(b)
         self.check_all("roads with a mix and without", 0 < mixes <= DRAGS, True)
 
     def test_the_first_road_shows_the_mix(self):
-        """The car drives up to it. Who asks for reduced motion sees it at once."""
+        """First both displays have the right text. The car drives up to the mix. Who asks for reduced motion sees it at once."""
         b = self.b
-        self.check("it stops at the mix", b.until(f"{CAR} === 52 && !probe.drives()"), True)
-        self.check("displays", [text_of(b, f"#road-{it} .text") for it in ("air", "dwell", "alone")],
-                   ["B7: closed today", "— no text —", "A1: closed today"])
-        self.check("words", text_of(b, "#road-says"), "“A1: closed today” was never on air. The receiver with the dwell "
-                   "shows no text. It shows the next one when it is complete: in slot 78.")
-        click(b, "#road-open")
-        self.check("as a script", (b.until("document.querySelector('#script-text').value !== ''"), hidden(b)),
-                   (True, ["log", "dwell"]))
+        self.check("it stops at the mix", b.until(f"{CAR} === 54 && !probe.plays('road')"), True)
+        texts = lambda: [text_of(b, f"#road-{it} .text") for it in ("air", "dwell", "alone")]
+        self.check("displays", texts(), ["B7: closed today", "— dropped —", "B7: opened today"])
+        self.check("words", text_of(b, "#road-says"), "“B7: opened today” was never on air. The receiver with rdsrt "
+                   "shows no text (dropped). It shows the next one when it is complete: in slot 80.")
+        call(b, "probe.moveCar", 20)
+        self.check("before the tunnels", texts(), ["A1: open again, slow"] * 3)
+        names = [of(b, f"#road-{it}", "ariaLabel") for it in ("air", "dwell", "alone")]
+        self.check("names without a word of RDS", names, ["On air", "A receiver with rdsrt", "An ordinary radio"])
+        click(b, "#road-script")
+        self.check("as a script", (b.until("document.querySelector('#script-text').value !== ''"), hidden(b)), (True, ["log"]))
         self.check("its rows", of(b, "#script-text", "value"), call(b, "probe.roadAsScript"))
+
+    def test_each_four_letters_of_a_mix_have_the_hue_of_their_text(self):
+        """The fields of the texts have these hues, and their bars."""
+        b = self.b
+        b.run("probe.stopRoad()")
+        hues = lambda display: b.run(f"[...document.querySelectorAll('#road-{display} .text span')].map(it => [it.textContent, it.className])")
+        call(b, "probe.moveCar", 60)
+        self.check("the mix", hues("alone"), [["B7: ", "hue-2"], ["open", "hue-0"], ["ed t", "hue-2"], ["oday", "hue-2"]])
+        self.check("on air", hues("air"), [["B7: closed today", "hue-2"]])
+        fields = b.run("[...document.querySelectorAll('#road-texts input')].map(it => [it.value, it.className])")
+        self.check("the fields", fields, [["A1: open again, slow", "hue-0"], ["Night Train, live tonight", "hue-1"],
+                                          ["B7: closed today", "hue-2"]])
+
+    def test_other_texts_can_be_typed(self):
+        """A text that is no text is said."""
+        b = self.b
+        b.run("probe.stopRoad()")
+        typed = lambda number, text: (b.run(f"{{ const it = document.querySelectorAll('#road-texts input')[{number}]; it.value = {text!r};"
+                                            " it.dispatchEvent(new Event('input')); }"), settle(b))
+        typed(0, "Free ice cream today")
+        typed(2, "Heavy ice on the A9")
+        call(b, "probe.moveCar", 60)
+        self.check("the mix", text_of(b, "#road-alone .text"), "Heav icee on the A9")
+        self.check("the program says so", shown(b), wanted(call(b, "probe.roadAsScript")))
+        typed(1, "\u2603")
+        self.check("a refused text", "is not in the RDS character table" in text_of(b, "#road-says"), True, text_of(b, "#road-says"))
 
     def test_keys_move_tunnels_and_car(self):
         b = self.b
@@ -77,17 +106,33 @@ class Road:
         before = call(b, "probe.tunnels")
         b.run("document.querySelector('#road-band .tunnel').focus()")
         b.key("ArrowRight")
-        b.run("probe.roadIsPlayed()")
+        settle(b)
         self.check("a tunnel goes on by a slot", call(b, "probe.tunnels"), [[it + 1 for it in before[0]], before[1]])
-        b.run("document.querySelector('#road-car').focus()")
+        b.run("document.querySelector('#road-time canvas').focus()")
         b.key("End")
         self.check("the car goes to the end", b.run(CAR), SLOTS - 1)
-        call(b, "probe.choose", "road-speed", 32)
-        b.run("probe.stopClock()")
-        click(b, "#road-play")
+        b.run("document.querySelector('#road-time select').value = 32; probe.stopClock()")
+        click(b, "#road-time .play")
         for slots, at, drives in ((0.5, 0, True), (10, 10, True), (40, 50, True), (60, SLOTS - 1, False), (60, SLOTS - 1, False)):
             b.run(f"probe.pass({slots}, 32)")
-            self.check("it plays from the start, and stops at the end", b.run(f"[{CAR}, probe.drives()]"), [at, drives])
+            self.check("it plays from the start, and stops at the end", b.run(f"[{CAR}, probe.plays('road')]"), [at, drives])
+
+    def test_a_link_holds_the_road(self):
+        """Its texts and its tunnels. A drag drops the link from the address."""
+        b = self.b
+        b.run("probe.stopRoad()")
+        b.run("document.querySelector('#road-band .tunnel').focus()")
+        b.key("ArrowRight")
+        settle(b)
+        click(b, "#road-share")
+        tunnels, script = call(b, "probe.tunnels"), call(b, "probe.roadAsScript")
+        self.check("the address", b.until("location.hash.startsWith('#road=')"), True)
+        visit(b, b.run("location.href"))
+        self.check("the road again", (call(b, "probe.tunnels"), call(b, "probe.roadAsScript")), (tunnels, script))
+        b.run("document.querySelector('#road-band .tunnel').focus()")
+        b.key("ArrowRight")
+        settle(b)
+        self.check("another road", b.run("location.hash"), "")
 
     def test_a_log_and_a_script_play(self):
         """A button and the space bar run the cursor. A link with `&play` plays at once."""
@@ -129,8 +174,8 @@ class Chromium(Road, ChromiumCase):
         b = self.b
         b.scheme("light", **{"prefers-reduced-motion": "reduce"})
         visit(b, URL)
-        b.run("probe.roadIsPlayed()")
-        self.check("the car stands at the mix", b.run(f"[{CAR}, probe.drives()]"), [52, False])
+        settle(b)
+        self.check("the car stands at the mix", b.run(f"[{CAR}, probe.plays('road')]"), [54, False])
 
 
 class Firefox(Road, FirefoxCase):

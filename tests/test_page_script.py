@@ -15,7 +15,7 @@ class ScriptTab:
         both = shown(b, "script-alone"), shown(b, "script-radio")
         self.check("one with the flag bit alone shows a mix", both, ("A1: closed today", "— no text —"))
         self.check("the mix is counted", text_of(b, "#script-count"),
-                   "With the flag bit alone, receivers show a mix: a text. With the dwell none does.")
+                   "Ordinary radios show a mix: a text. With rdsrt none does.")
         self.check("it is the example", of(b, "#script-text", "value"), example("mix.csv").decode())
         before = printed(b)
         move(b, "script", 30)
@@ -113,7 +113,7 @@ class ScriptTab:
         self.check("the command", text_of(b, "#script-command"),
                    "rdsrt sim --pi C201 --pty 10 --m 8 --k 0 --confirm 8 --why")
         self.check("a radio shows a text that nobody sent", text_of(b, "#script-count"),
-                   "With the flag bit alone, receivers show a mix: a text. With the dwell none does.")
+                   "Ordinary radios show a mix: a text. With rdsrt none does.")
         self.check("the brush for wrong groups", of(b, "#brush-wrong", "hidden"), False)
         call(b, "probe.choose", "script-w", "")
         settle(b)

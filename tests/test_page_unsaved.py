@@ -54,7 +54,7 @@ class Chromium(ChromiumCase):
             call(b, "probe.drop", "own.log", f"{HI}\n")
             settle(b)
             self.check("a log over a script asks nothing", (of(b, "#ask", "open"), hidden(b)),
-                       (False, ["script", "dwell"]))
+                       (False, ["script"]))
             for asks in (True, False):
                 b.events.clear()
                 visit(b, URL)

@@ -17,14 +17,14 @@ import sys
 
 PAGE_FOLDER = os.path.dirname(os.path.dirname(os.path.abspath(__file__)))
 # The module with which the page begins, and the one of its workers. Their imports lead to all others.
-PAGE, WORKER = "ui/app.js", "program/worker.js"
+PAGE, WORKER = "ui/app.js", "model/worker.js"
 IMPORT = re.compile(r'^import (?:(?:\* as (\w+)|(\{[^}]+\})) from )?"(.+)";\n', re.M)
 # an exported definition, or a list of names
 EXPORT = re.compile(r"^export (?:(?=(?:async )?(?:const|class|function) ([\w$]+))|\{ (.*) \};\n)", re.M)
 
 ENCODE = ["encode", "--pi", "C201", "--pty", "10", "--m", "8"]
 LOGS = [
-    ("An encoder turns its flag back too soon", "flags.log", {"pi": "C201", "m": 8, "lost": [2, 3, 4]}),
+    ("An encoder turns its flag back too soon", "flags.log", {"pi": "C201", "m": 8}),
     ("A song with its artist and title", "accents.log", {"pi": "F201", "m": 128}),
     ("Our own encoder", "chanson.csv", {"from": ENCODE, "pi": "C201", "m": 8}),
     ("A wrong group, heard twice", "corrected.log", {"pi": "C201", "m": 8, "w": 8}),
@@ -105,6 +105,8 @@ def joined(path):
     """The module at this path and all that it imports, as one script."""
     done = {}
     join(path, done)
+    if len({*map(name_of, done)}) < len(done):
+        sys.exit(f"build.py: two modules have one name: {', '.join(done)}")
     return done, "".join(done.values())
 
 

@@ -1,4 +1,4 @@
-/* Reads the notes of the program, and groups. docs/FORMATS.md has the forms of the lines. */
+/* Slots in time, and groups. docs/FORMATS.md has the forms of the lines. */
 
 export const LOST = "---- ---- ---- ----";
 export const SLOT = 104 / 1187.5;
@@ -6,16 +6,18 @@ export const SLOT = 104 / 1187.5;
 export const seconds = (slots) => slots * SLOT;
 /* Rounded first, so that no part comes to 60. */
 export function time(slots) {
-  const s = seconds(slots), whole = Math.round(s);
-  if (s < 59.95) return `${s.toFixed(s < 9.995 ? 2 : 1)} s`;
-  const minutes = Math.floor(whole / 60), short = `${minutes % 60} min ${whole % 60} s`;
+  const exact = seconds(slots);
+  const whole = Math.round(exact);
+  if (exact < 59.95) return `${exact.toFixed(exact < 9.995 ? 2 : 1)} s`;
+  const minutes = Math.floor(whole / 60);
+  const short = `${minutes % 60} min ${whole % 60} s`;
   return minutes < 60 ? short : `${Math.floor(minutes / 60)} h ${short}`;
 }
 
 /* Slots as spans, in order: 2-4 and 9 are 2, 3, 4 and 9. */
 export function spansOf(slots) {
   const spans = [];
-  for (const slot of [...slots].sort((a, b) => a - b)) {
+  for (const slot of [...slots].sort((one, other) => one - other)) {
     const last = spans.at(-1);
     if (last && last[1] + 1 === slot) last[1] = slot; else spans.push([slot, slot]);
   }
@@ -24,21 +26,23 @@ export function spansOf(slots) {
 
 export const groupIn = (line) => line.split(" ").map((word) => parseInt(word, 16));
 
-/* The notes of a run, one a line, without the name of the program. */
-export const notes = (text) => text.split("\n").filter((line) => line).map((line) => line.replace(/^rdsrt: /, ""));
-
 /* The first note that begins so, without its advice for a terminal; empty if there is none. */
 const ADVICE = ". To look for lost slots";
 export const noteOf = (all, begin) => (all.find((note) => note.startsWith(begin)) ?? "").split(ADVICE)[0];
 
-/* The second block has the group type with its version, and for a text its A/B flag. */
+/* The second block has the group type with its version, and for a text its A/B flag and the address of its segment. */
 const KIND_SHIFT = 11;
 export const FLAG_BIT = 0x10;
+export const ADDRESS = 0x0F;
 export const typeOf = (group) => `${group[1] >> 12}${group[1] >> KIND_SHIFT & 1 ? "B" : "A"}`;
 
 /* The kinds of groups. In a list of codes FLAG marks a text whose A/B flag is 1. */
-const NOTHING = 0, TEXT = 1, NAME = 2, TAGS = 3, OTHER = 4, FLAG = 8;
-export { FLAG, NAME, NOTHING, OTHER, TAGS, TEXT };
+export const NOTHING = 0;
+export const TEXT = 1;
+export const NAME = 2;
+export const TAGS = 3;
+export const OTHER = 4;
+export const FLAG = 8;
 /* The group types of the services, with their versions: 2A, 10A and 11A. */
 const SERVICES = { [2 << 1]: TEXT, [10 << 1]: NAME, [11 << 1]: TAGS };
 export function codeOf(group, pi) {

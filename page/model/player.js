@@ -1,7 +1,7 @@
-/* Plays a script: what is on air, and what each receiver gets and shows, beside one with the flag bit alone. A worker
-   does it. The program says what is shown and what is on air. */
-import * as output from "./output.js";
+/* Plays a script: what is on air, and what each receiver gets and shows, beside one with the flag bit alone. The program
+   says what is shown and what is on air. */
 import * as rdsrt from "../program/rdsrt.js";
+import * as displays from "./displays.js";
 import * as lines from "./lines.js";
 import * as records from "./records.js";
 
@@ -11,38 +11,63 @@ export const PI = "C201";
 /* The kind of what a receiver gets in a slot: a wrong group, one of this slot, or a late one. `codes` has the code of
    each slot's group. A group that has nothing to do with texts is not printed. */
 export function kindHeard(codes, reception = "L", slot) {
-  const [letter, rest] = [reception[0], reception.slice(1)], source = slot - Number(rest);
+  const [letter, rest] = [reception[0], reception.slice(1)];
+  const source = slot - Number(rest);
   if (letter === "W") return lines.codeOf(lines.groupIn(`${PI} ${rest.match(/.{4}/g).join(" ")}`), null);
   return letter === "G" && source >= 0 ? codes[source] & ~lines.FLAG || lines.OTHER : lines.NOTHING;
 }
 
-/* Reads the output of `sim`: the displays, the groups in typed arrays as those of a log are, and the replies. */
+/* Reads the output of `sim`: the displays, the words of all groups, the kind of each slot's group, and the replies. */
 function read(text, count, values) {
-  const words = new Uint16Array(4 * count), missing = new Uint8Array(count).fill(15), codes = new Uint8Array(count);
-  const replies = [], { displays, fault } = output.read(text, values, (slot, what, reply) => {
+  const words = new Uint16Array(4 * count);
+  const codes = new Uint8Array(count);
+  const replies = [];
+  const { displays: found, fault } = displays.read(text, values, (slot, what, reply) => {
     if (what !== "sent") { replies.push({ slot, what, reply }); return; }
     const group = lines.groupIn(reply);
     words.set(group, 4 * slot);
-    missing[slot] = 0;
     codes[slot] = lines.markedCodeOf(group, null);
   });
   // the rows from a bad one on are not played
-  const bad = /^fault row (\d+)/.exec(fault), played = bad ? Math.min(count, Number(bad[1]) - 1) : count;
-  const packed = (by) => displays[by]?.packed(played), sent = { count: played, words, missing, codes };
-  return { packed, replies, sent: { ...sent, codes: codes.slice(0, played) }, fault, played };
+  const bad = /^fault row (\d+)/.exec(fault);
+  const played = bad ? Math.min(count, Number(bad[1]) - 1) : count;
+  return { packed: (by) => found[by]?.packed(played), words, codes: codes.slice(0, played), replies, fault, played };
 }
+
+/* The group that was sent in a slot, or null. */
+export const sentIn = ({ words, codes }, slot) => codes[slot] ? [...words.subarray(4 * slot, 4 * slot + 4)] : null;
 
 /* Plays a script with its receivers, and with radios in their places. `input` is what the program gets. */
 export function play({ text, input = text, pty, m, k, w }) {
   const words = ["sim", "--pi", PI, "--pty", pty, "--m", m, "--k", k, ...rdsrt.windowWords(w), "--why"];
-  const got = rdsrt.run(words, input), rows = records.read(text), values = new output.Values();
-  const { packed, replies, sent, fault, played } = read(got.output, rows.length, values);
+  const { output, notes } = rdsrt.run(words, input);
+  const rows = records.read(text);
+  const values = new displays.Values();
+  const { packed, ...station } = read(output, rows.length, values);
   const radios = read(rdsrt.run([...words, "--flag-alone"], input).output, rows.length, values);
-  const each = [...rows[0]?.receptions.keys() ?? []], some = rows.slice(0, played);
-  const heardBy = (i) => Uint8Array.from(some, (row, slot) => kindHeard(sent.codes, row.receptions[i], slot));
+  const each = [...rows[0]?.receptions.keys() ?? []];
+  const heardBy = (i) =>
+    Uint8Array.from(station.codes, (_, slot) => kindHeard(station.codes, rows[slot].receptions[i], slot));
   return {
-    command: rdsrt.command(words), output: output.beginOf(got.output), notes: got.notes, replies, fault, played, sent,
-    heard: each.map(heardBy), views: each.map((i) => packed(`r${i}`)), alone: each.map((i) => radios.packed(`r${i}`)),
+    ...station, command: rdsrt.command(words), output: displays.beginOf(output), notes, heard: each.map(heardBy),
+    views: each.map((i) => packed(`r${i}`)), alone: each.map((i) => radios.packed(`r${i}`)),
     air: radios.packed("air"), values: values.packed(),
   };
+}
+
+/* Where each four letters of a radio's text in a slot come from: the slot of the last group that the radio got with this
+   place and the flag of the newest one. `sourceOf` returns the slot whose group the radio got in a slot, -1 for none. */
+export function originsOf(played, sourceOf, slot) {
+  const origins = [];
+  let newest = null;
+  for (let at = slot; at >= 0; at--) {
+    const source = sourceOf(at);
+    const kind = source < 0 ? lines.NOTHING : played.codes[source];
+    if ((kind & ~lines.FLAG) !== lines.TEXT) continue;
+    newest ??= kind;
+    // a text with the other flag begins anew
+    if (kind !== newest) break;
+    origins[sentIn(played, source)[1] & lines.ADDRESS] ??= source;
+  }
+  return origins;
 }

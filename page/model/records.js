@@ -6,7 +6,8 @@ const FIELD = /(?:"([^"]*(?:""[^"]*)*)("?))?([^,\r\n]*)(,|\r\n|[\r\n]|$)/y;
 /* Reads the record that begins at `at`: its fields, the end behind its line end, and whether it ends in quotes. */
 function recordAt(text, at) {
   const fields = [];
-  let isOpen = false, end = ",";
+  let isOpen = false;
+  let end = ",";
   for (FIELD.lastIndex = at; end === ",";) {
     const [, quoted, quote, plain, ends] = FIELD.exec(text);
     fields.push(quoted === undefined ? plain : quoted.replaceAll('""', '"') + plain);
@@ -22,13 +23,15 @@ function letters(receptions) {
 }
 
 /* A row of a script: where it begins, the text from the end of the row before it to its own end, and its fields. */
+/** @type {(start: number, written: string | undefined, fields: string[]) => any} */
 const rowOf = (start, written, [command = "", argument = "", free = "", receptions = ""]) =>
   ({ start, written, command, argument, free, receptions: letters(receptions) });
 
 /* Reads the rows of a script. Empty lines make no row. The last row has the rest of the text too. */
 export function read(text) {
   const rows = [];
-  let from = 0, isOpen = false;
+  let from = 0;
+  let isOpen = false;
   for (let at = text.charCodeAt(0) === 0xFEFF ? 1 : 0, record; at < text.length; at = record.end) {
     record = recordAt(text, at);
     if (text[at] === "\n" || text[at] === "\r") continue;

@@ -4,9 +4,18 @@
 /* The milliseconds of this time, if nobody names others. */
 const PATIENCE = 300;
 
+/** @typedef {{ call: string, given: any, tell?: Function, resolve: Function, reject: Function, signal?: AbortSignal }} Question */
+
 export class Program {
+  /** @type {Worker | null} */ worker = null;
+  /** @type {{ blob: Blob } | null} */ input = null;
+  /** @type {Question | null} */ asked = null;
+  /** @type {Question[]} */ queue = [];
+
+  /** @param {WebAssembly.Module} compiled */
   constructor(compiled, patience = PATIENCE) {
-    Object.assign(this, { compiled, patience, worker: null, input: null, asked: null, queue: [] });
+    this.compiled = compiled;
+    this.patience = patience;
   }
 
   /* Takes the bytes of another log, and drops all questions on the one before. */
@@ -18,13 +27,14 @@ export class Program {
   /* The worker comes from a text of the page: a page that was opened from a disk may load no script for it. */
   start() {
     const url = URL.createObjectURL(new Blob([RDSRT_WORKER], { type: "text/javascript" }));
-    const worker = this.worker = new Worker(url);
+    const worker = new Worker(url);
+    this.worker = worker;
     URL.revokeObjectURL(url);
     worker.onmessage = ({ data }) => { if (worker === this.worker) this.hear(data); };
     worker.onerror = ({ message }) => this.end(new Error(`a worker of the page stopped: ${message}`));
-    const first = [["begin", this.compiled], ...this.input ? [["keep", this.input]] : []];
-    const reject = (error) => this.end(error), resolve = () => {};
-    this.queue.unshift(...first.map(([call, given]) => ({ call, given, resolve, reject })));
+    const reject = (error) => this.end(error);
+    const first = (call, given) => ({ call, given, resolve() {}, reject });
+    this.queue.unshift(first("begin", this.compiled), ...this.input ? [first("keep", this.input)] : []);
   }
 
   /* Ends the worker, which frees its memory. Whoever waits gets the error. The next question starts another worker. */
@@ -32,7 +42,7 @@ export class Program {
     const waiting = [this.asked, ...this.queue].filter(Boolean);
     this.stop();
     this.queue = [];
-    for (const it of waiting) it.reject(error);
+    for (const { reject } of waiting) reject(error);
   }
 
   stop() {
@@ -41,7 +51,9 @@ export class Program {
   }
 
   /* Asks for one thing. `tell` hears how far it is. */
-  ask(call, given, { signal, tell = () => {} } = {}) {
+  /** @param {{ signal?: AbortSignal, tell?: Function }} how @returns {Promise<any>} */
+  ask(call, given, how = {}) {
+    const { signal, tell = () => {} } = how;
     return new Promise((resolve, reject) => {
       signal?.throwIfAborted();
       const question = { call, given, tell, resolve, reject, signal };
@@ -57,8 +69,10 @@ export class Program {
   next() {
     if (!this.worker) this.start();
     while (!this.asked && this.queue.length) {
-      const { call, given, signal } = this.asked = this.queue.shift();
-      if (signal?.aborted) this.asked = null; else this.worker.postMessage({ call, given });
+      const question = this.queue.shift();
+      if (question.signal?.aborted) continue;
+      this.asked = question;
+      this.worker.postMessage({ call: question.call, given: question.given });
     }
   }
 

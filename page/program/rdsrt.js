@@ -1,25 +1,36 @@
-/* The program itself: words and input in, status, output and notes out. lines.js reads its output and its notes. */
-import * as lines from "../model/lines.js";
+/* The program itself: words and input in, status, output and notes out. */
 
-const HEAP = 1 << 20, ROOM = 1 << 16, NOTES = 1 << 13, MOST = 2 ** 31, PAGE = 1 << 16;
+const HEAP = 1 << 20;
+const ROOM = 1 << 16;
+const NOTES = 1 << 13;
+const PAGE = 1 << 16;
 const FAULT = "fault memory\n";
-const encoder = new TextEncoder(), decoder = new TextDecoder();
+const NO_MEMORY = "no memory for this input: the page takes up to about 180 MB";
+const encoder = new TextEncoder();
+const decoder = new TextDecoder();
+/** @type {any} */
 let module = null;
 
 /* Compiles the module, which comes packed in engine.js: a page that was opened from a disk may fetch nothing. */
 export async function load() {
-  const packed = Uint8Array.from(atob(RDSRT_ENGINE), (c) => c.charCodeAt(0));
+  const packed = Uint8Array.from(atob(RDSRT_ENGINE), (letter) => letter.charCodeAt(0));
   const plain = new Blob([packed]).stream().pipeThrough(new DecompressionStream("gzip"));
   const compiled = await WebAssembly.compile(await new Response(plain).arrayBuffer());
   await begin(compiled);
   return compiled;
 }
 
-export async function begin(compiled) { module = (await WebAssembly.instantiate(compiled, {})).exports; }
+/** @param {WebAssembly.Module} compiled */
+export async function begin(compiled) {
+  /** @type {any} */
+  const instance = await WebAssembly.instantiate(compiled, {});
+  module = instance.exports;
+}
 
 /* Places words, input, output, notes and heap of one run in memory, after the module's own. */
-export function layout(words, input, room, heap) {
-  const up = (n) => 16 * Math.ceil(n / 16), ended = up(Number(module.__heap_base.value));
+function layout(words, input, room, heap) {
+  const up = (place) => 16 * Math.ceil(place / 16);
+  const ended = up(Number(module.__heap_base.value));
   const at = { ended, words: ended + 64 };
   at.input = up(at.words + words);
   at.output = up(at.input + input);
@@ -33,7 +44,7 @@ export function layout(words, input, room, heap) {
 function grow(end) {
   const pages = Math.ceil((end - module.memory.buffer.byteLength) / PAGE);
   if (pages <= 0) return;
-  try { module.memory.grow(pages); } catch { throw new Error("no memory for this input: the page takes up to about 180 MB"); }
+  try { module.memory.grow(pages); } catch { throw new Error(NO_MEMORY); }
 }
 
 /* One call. The program was compiled for 64 bits, so its calls take addresses and lengths as BigInts. */
@@ -44,43 +55,42 @@ function call(words, input, room, heap) {
   bytes.set(words, at.words);
   bytes.set(input, at.input);
   module.rdsrt_heap(BigInt(at.heap), BigInt(at.end));
-  const given = [at.words, words.length, at.input, input.length], taken = [at.output, room, at.notes, NOTES];
-  module.rdsrt_run(...[at.ended, ...given, ...taken].map(BigInt));
-  const ended = new DataView(module.memory.buffer, at.ended, 32), used = Number(module.rdsrt_heap_at()) - at.heap;
+  const given = [at.words, words.length, at.input, input.length];
+  module.rdsrt_run(...[at.ended, ...given, at.output, room, at.notes, NOTES].map(BigInt));
+  const ended = new DataView(module.memory.buffer, at.ended, 32);
   const [length, failures, noted] = [0, 8, 16].map((place) => Number(ended.getBigUint64(place, true)));
-  return { at, length, failures, noted, status: ended.getUint8(24), used };
+  return { at, length, failures, noted, status: ended.getUint8(24) };
 }
 
 const bytesAt = (at, length) => new Uint8Array(module.memory.buffer, at, length);
 const textAt = (at, length) => decoder.decode(bytesAt(at, length));
 
+/* The notes of a run, one a line, without the name of the program. */
+const notesOf = (text) => text.split("\n").filter(Boolean).map((line) => line.replace(/^rdsrt: /, ""));
+
 /* Runs the program. Where there was no memory, or no room for the output, it runs again with more. The output is
    bytes in the program's memory, up to the next run. The notes are those that have room. */
 export function runBytes(words, input) {
   const given = encoder.encode(["rdsrt", ...words].join("\n"));
-  const bytes = typeof input === "string" ? encoder.encode(input) : input, from = performance.now();
-  let room = ROOM + 4 * bytes.length, heap = HEAP + 2 * room;
+  const bytes = typeof input === "string" ? encoder.encode(input) : input;
+  let room = ROOM + 4 * bytes.length;
+  let heap = HEAP + 2 * room;
   for (;;) {
-    const { at, length, failures, noted, status, used } = call(given, bytes, room, heap), fits = length <= room;
-    const last = Math.min(length, FAULT.length), hasFault = fits && textAt(at.output + length - last, last) === FAULT;
-    if (failures > 0 || hasFault) {
-      heap *= 2;
-      if (heap > MOST) throw new Error("no memory for this input");
-    } else if (!fits) {
+    const { at, length, failures, noted, status } = call(given, bytes, room, heap);
+    const last = Math.min(length, FAULT.length);
+    if (failures > 0 || (length <= room && textAt(at.output + length - last, last) === FAULT)) heap *= 2;
+    else if (length > room) {
       room = length;
       heap = Math.max(heap, HEAP + 2 * room);
-    } else {
-      const notes = lines.notes(textAt(at.notes, Math.min(noted, NOTES)));
-      return { status, bytes: bytesAt(at.output, length), notes, heap: used, ms: performance.now() - from };
-    }
+    } else return { status, bytes: bytesAt(at.output, length), notes: notesOf(textAt(at.notes, Math.min(noted, NOTES))) };
   }
 }
 
 /* Runs the program, whose output becomes a text. */
 export function run(words, input) {
-  const { bytes, ...got } = runBytes(words, input);
-  return { ...got, output: decoder.decode(bytes) };
+  const { bytes, ...ended } = runBytes(words, input);
+  return { ...ended, output: decoder.decode(bytes) };
 }
 
-export const windowWords = (w) => w ? ["--confirm", w] : [];
+export const windowWords = (window) => window ? ["--confirm", window] : [];
 export const command = (words) => ["rdsrt", ...words].join(" ");

@@ -1,53 +1,50 @@
-/* The page: its tabs, the files that are dropped on it, and its begin. */
+/* The page: its tabs, its address, the files that are dropped on it, and its begin. */
 import * as rdsrt from "../program/rdsrt.js";
 import * as links from "./links.js";
+import { logTab } from "./log.js";
 import { $, counted, entitle, isolated, make } from "./parts.js";
 import { Play } from "./play.js";
-import * as road from "./road.js";
-import { TABS } from "./tab.js";
-// the tabs, in their order
-import { logTab } from "./log.js";
+import { road } from "./road.js";
 import { scriptTab } from "./script.js";
-import "./dwell.js";
 
-const named = (id) => TABS.find((it) => it.id === id);
+const TABS = [logTab, scriptTab];
 /* `files` counts the files that were chosen: only the newest one is opened. */
 export const state = { ready: false, files: 0 };
 /* The M and the K of a file: those that the program takes without options. */
 const DEFAULTS = { m: 128, k: 0 };
 const decoder = new TextDecoder("utf-8", { ignoreBOM: true });
-/* The bytes of a file by which a script is told from a log. */
+/* The bytes of a file by which a script is told from a log, and the width up to which a form is closed at first. */
 const BEGIN = 10_000;
+const PHONE = "(max-width: 600px)";
 
-export function tab(id, focus = false) {
+export function tab(it, { focus = false } = {}) {
   for (const other of TABS) {
-    const isOpen = other.id === id;
-    $(other.id).hidden = !isOpen;
-    Object.assign($(`tab-${other.id}`), { ariaSelected: isOpen, tabIndex: isOpen ? 0 : -1 });
+    $(other.id).hidden = other !== it;
+    Object.assign($(`tab-${other.id}`), { ariaSelected: other === it, tabIndex: other === it ? 0 : -1 });
   }
-  if (focus) $(`tab-${id}`).focus();
-  // both tabs with a timeline share one legend
-  $(id).querySelector(".explains")?.append($("legend"));
+  if (focus) $(`tab-${it.id}`).focus();
+  // both tabs share one legend
+  $(it.id).querySelector(".explains").append($("legend"));
   $("legend").hidden = false;
-  links.putAddress(named(id));
+  links.putAddress(it);
   entitle();
-  named(id).timeline?.draw();
+  for (const { timeline } of [it, road]) timeline.draw();
 }
 
-/* Makes the row of tabs, which arrow keys go along, and the section of a tab that index.html does not have. */
+/* Makes the row of tabs, which arrow keys go along. */
 function beginTabs() {
-  TABS.forEach(({ id, title }, i) => {
-    const onclick = () => tab(id), onkeydown = (event) => {
-      const to = { ArrowRight: (i + 1) % TABS.length, ArrowLeft: i - 1, Home: 0, End: -1 }[event.key];
+  for (const it of TABS) {
+    const { id, title } = it;
+    const onkeydown = (event) => {
+      const to = { ArrowRight: 1, ArrowLeft: -1, Home: -TABS.indexOf(it), End: -1 - TABS.indexOf(it) }[event.key];
       if (to === undefined) return;
       event.preventDefault();
-      tab(TABS.at(to).id, true);
+      tab(TABS.at((TABS.indexOf(it) + to) % TABS.length), { focus: true });
     };
-    const props = { type: "button", role: "tab", id: `tab-${id}`, textContent: title, onclick, onkeydown };
-    if (!$(id)) document.querySelector("main").append(make("section", { id, role: "tabpanel", ariaLabel: title }));
+    const props = { type: "button", role: "tab", id: `tab-${id}`, textContent: title, onclick: () => tab(it), onkeydown };
     $("tabs").append(make("button", props));
     $(`tab-${id}`).setAttribute("aria-controls", id);
-  });
+  }
 }
 
 /* The content decides before the extension: a script has a comma in its first line, and a log has blocks there. */
@@ -62,49 +59,52 @@ const MARKED = { as: "read without its byte-order mark", by: "tail -c +4" };
 function inUtf8(bytes) {
   const encoding = { "255,254": "utf-16le", "254,255": "utf-16be" }[String(bytes.subarray(0, 2))];
   const input = encoding ? new TextEncoder().encode(new TextDecoder(encoding).decode(bytes)) : bytes;
-  const isMarked = String(bytes.subarray(0, 3)) === "239,187,191", plain = isMarked ? bytes.subarray(3) : input;
-  return { input, plain, read: encoding ? UTF_16 : isMarked && MARKED };
+  const isMarked = String(bytes.subarray(0, 3)) === "239,187,191";
+  return { input, plain: isMarked ? bytes.subarray(3) : input, read: encoding ? UTF_16 : isMarked && MARKED };
 }
 
 /* Asks whether edits that nobody saved may go. Until it is answered, another question gets a no. */
-function ask({ id }) {
+function ask() {
   const dialog = $("ask");
   if (dialog.open) return Promise.resolve(false);
   dialog.returnValue = "";
-  $("ask-what").textContent = `The ${id} has edits that are not saved. Opening another one drops them.`;
   dialog.showModal();
   return new Promise((answer) => { dialog.onclose = () => answer(dialog.returnValue === "yes"); });
 }
 
 /* Opens something in a tab: at once if the tab has no unsaved edits, or else after a yes. */
-async function replace(it, open, keep = () => {}) {
-  if (it.isUnsaved() && !await ask(it)) return keep();
+async function replace(it, open) {
+  if (it.isUnsaved() && !await ask()) return false;
   $("left-out").replaceChildren();
   return open();
 }
 
 /* Opens a file. The program gets its bytes as they are. The text that the page shows keeps a byte-order mark. */
 export async function openFile(file) {
-  const number = ++state.files, buffer = await file.arrayBuffer().catch(() => null);
+  const number = ++state.files;
+  const buffer = await file.arrayBuffer().catch(() => null);
   if (state.files !== number) return false;
-  const refuse = () => { tab("log"); return logTab.refuse(`The page cannot read ${file.name}.`, DEFAULTS); };
-  if (!buffer) return replace(logTab, refuse);
-  const bytes = new Uint8Array(buffer), { input, plain, read } = inUtf8(bytes);
-  const isOfScript = isScript(file.name, decoder.decode(plain.subarray(0, BEGIN)));
-  const options = { ...DEFAULTS, file: file.name }, it = isOfScript ? scriptTab : logTab;
+  const refuse = () => { tab(logTab); return logTab.refuse(`The page cannot read ${file.name}.`, DEFAULTS); };
+  if (!buffer) return refuse();
+  const bytes = new Uint8Array(buffer);
+  const { input, plain, read } = inUtf8(bytes);
+  const it = isScript(file.name, decoder.decode(plain.subarray(0, BEGIN))) ? scriptTab : logTab;
+  const options = { ...DEFAULTS, file: file.name };
   return replace(it, async () => {
-    tab(it.id);
+    const opened = it === scriptTab ? it.open(decoder.decode(input), { ...options, input })
+      : it.open(plain, { ...options, running: true, source: { origin: file.name, bytes, read } });
+    tab(it);
     // the last answer may be below the fold, with the focus in it
-    document.activeElement?.blur();
+    /** @type {any} */ (document.activeElement)?.blur();
     scrollTo({ top: 0 });
-    if (isOfScript) await scriptTab.open(decoder.decode(input), { ...options, input });
-    else await logTab.open(plain, { ...options, running: true, source: { origin: file.name, bytes, read } });
+    await opened;
     return true;
   });
 }
 
 /* Opens the first of the dropped files, and says how many it left out. */
-async function openDropped([first, ...others]) {
+async function openDropped(files) {
+  const [first, ...others] = files;
   if (!first || !(await openFile(first)) || !others.length) return;
   const left = ` and left out ${counted(others.length, "other file")}.`;
   $("left-out").replaceChildren("The page shows one file at a time. It opened ", isolated(first.name), left);
@@ -131,12 +131,6 @@ function drops() {
   document.onpaste = paste;
 }
 
-function openExample(it, number) {
-  const example = RDSRT_EXAMPLES[it.id][number];
-  const text = example.from ? rdsrt.run(example.from, example.text).output : example.text;
-  return it.open(text, { ...DEFAULTS, ...example, example: number });
-}
-
 /* Opens the file that is chosen in a field. An empty field hears the choice of the same file again. */
 function takeFile({ target }) {
   const [file] = target.files;
@@ -144,23 +138,22 @@ function takeFile({ target }) {
   if (file) openFile(file);
 }
 
-function beginInput(it) {
-  const select = it.field("example"), open = () => openExample(it, select.value);
-  const options = RDSRT_EXAMPLES[it.id].map(({ name }, i) => new Option(name, i)), own = () => { select.value = ""; };
+/* The examples of a tab: each is an address. */
+function beginExamples({ id }) {
+  const select = $(`${id}-example`);
+  const options = RDSRT_EXAMPLES[id].map(({ name }, i) => new Option(name, `${i}`));
   select.replaceChildren(...options, new Option("your own", ""));
-  own();
-  select.onchange = () => { if (select.value) replace(it, open, own); };
+  select.onchange = () => { if (select.value) location.hash = `${id}&example=${select.value}`; };
 }
 
 function beginStart() {
-  // the start is hidden then, so the focus goes to the same examples in the bar
-  const open = (i) => { openExample(logTab, i); $("log-example").focus(); };
   $("log-start-examples").replaceChildren(...RDSRT_EXAMPLES.log.map(({ name }, i) =>
-    make("li", {}, make("button", { type: "button", textContent: name, onclick: () => open(i) }))));
+    make("li", {}, make("a", { href: `#log&example=${i}`, textContent: name, className: "button" }))));
 }
 
 function toggleKeys(event) {
   if (event.key !== "?" || event.target.matches("input, select, textarea")) return;
+  /** @type {any} */
   const keys = document.querySelector("[role=tabpanel]:not([hidden]) .keys");
   if (keys) keys.open = !keys.open;
 }
@@ -168,28 +161,53 @@ function toggleKeys(event) {
 /* The link before all else leads over the road to the log: to its field for a file, or to its timeline. */
 function skip(event) {
   event.preventDefault();
-  tab("log");
+  tab(logTab);
   [$("log-start-file"), logTab.timeline.canvas].find((it) => it.checkVisibility()).focus();
 }
 
-/* Opens what the address names: a link, an example, or a tab alone. Returns the tab. */
-async function openAddress() {
-  const hash = location.hash.slice(1), given = new URLSearchParams(hash);
-  // the name of a tab alone is no link
-  const linked = TABS.find(({ id, open }) => open && given.get(id));
-  const it = linked ?? named(hash.split("&")[0]) ?? logTab;
-  const number = given.get("example"), isThere = RDSRT_EXAMPLES[it.id]?.[number];
-  const open = async () => {
-    try { await it.openLink(hash, DEFAULTS); } catch (error) {
-      const why = links.whyNot(it, error);
-      await it.refuse(why, DEFAULTS);
-      links.tell(it, why);
-    }
-  };
-  if (linked) await replace(it, open);
-  else if (isThere && it.value("example") !== number) await replace(it, () => openExample(it, number));
-  return it.id;
+/* The text and the options of an example. */
+function exampleOf(it, number) {
+  const example = RDSRT_EXAMPLES[it.id][number];
+  const text = example.from ? rdsrt.run(example.from, example.text).output : example.text;
+  return { text, options: { ...DEFAULTS, ...example, example: number } };
 }
+
+/* Opens what a link or the number of an example names in a tab, or says why not. */
+async function openIn(it, hash, example) {
+  try {
+    const { text, options } = example === null ? { text: await links.textOf(it, hash), options: DEFAULTS } : exampleOf(it, example);
+    if (it !== road) await links.open(it, hash, text, options);
+    else await road.open(text, hash);
+  } catch (error) {
+    const why = links.whyNot(it, error);
+    if (it !== road) await it.refuse(why, DEFAULTS);
+    links.tell(it, why);
+  }
+}
+
+/* Opens what the address names: the start, a link, an example, or a tab alone. Shows its tab. */
+async function openAddress() {
+  const hash = location.hash.slice(1);
+  const given = new URLSearchParams(hash);
+  const linked = [road, ...TABS].find(({ id }) => given.get(id));
+  /** @type {any} */
+  const it = linked ?? TABS.find(({ id }) => id === hash.split("&")[0]) ?? logTab;
+  const number = given.get("example");
+  const example = RDSRT_EXAMPLES[it.id]?.[number] ? number : null;
+  // what is open already is left as it is
+  const isOpen = hash === links.hashOf(it) && (it !== logTab || logTab.bytes.length > 0);
+  const opens = !isOpen && (linked || example !== null);
+  const wasStart = state.ready && logTab.isStart;
+  if (opens && !await replace(it === road ? logTab : it, () => true)) { tab(scriptTab); return; }
+  if (it !== scriptTab) logTab.home(!isOpen && (!opens || it === road));
+  if (opens) await openIn(it, hash, linked ? null : example);
+  tab(it === road ? logTab : it);
+  // the start is hidden then, so the focus goes to the same examples in the bar
+  if (wasStart && !logTab.isStart && it === logTab) $("log-example").focus({ preventScroll: true });
+}
+
+/** @type {(query: string) => Iterable<any>} */
+const all = (query) => document.querySelectorAll(query);
 
 async function begin() {
   const compiled = await rdsrt.load().catch(({ message }) => {
@@ -199,26 +217,30 @@ async function begin() {
   $("loading").hidden = true;
   if (!compiled) return;
   document.querySelector("main").hidden = false;
+  Object.assign(logTab, { road });
   beginTabs();
-  const withInput = TABS.filter((it) => it.open);
-  for (const it of TABS) it.begin(compiled);
-  for (const it of withInput) beginInput(it);
+  for (const it of TABS) {
+    it.begin(compiled);
+    beginExamples(it);
+  }
   beginStart();
-  for (const field of document.querySelectorAll("[type=file]")) field.onchange = takeFile;
+  $("log-numbers").open = !matchMedia(PHONE).matches;
+  for (const field of all("[type=file]")) field.onchange = takeFile;
   $("skip").onclick = skip;
-  road.begin(compiled, (...script) => replace(scriptTab, () => {
-    tab("script", true);
-    return scriptTab.open(...script);
+  road.begin(compiled, (text, options) => replace(scriptTab, () => {
+    tab(scriptTab, { focus: true });
+    return scriptTab.open(text, options);
   }));
-  await openExample(scriptTab, 0);
-  for (const form of document.querySelectorAll("form:not([method])")) form.onsubmit = (event) => event.preventDefault();
+  const { text, options } = exampleOf(scriptTab, 0);
+  await scriptTab.open(text, options);
+  for (const form of all("form:not([method])")) form.onsubmit = (event) => event.preventDefault();
   drops();
   document.addEventListener("keydown", toggleKeys);
   document.addEventListener("keydown", Play.space);
-  tab(await openAddress());
+  await openAddress();
   road.greet();
-  window.onhashchange = async () => tab(await openAddress());
-  window.onbeforeunload = (event) => { if (withInput.some((it) => it.isUnsaved())) event.preventDefault(); };
+  window.onhashchange = openAddress;
+  window.onbeforeunload = (event) => { if (scriptTab.isUnsaved()) event.preventDefault(); };
   state.ready = true;
 }
 begin();

@@ -1,6 +1,5 @@
 /* The list of changes of a log: what the receiver shows, from which slot on. A field filters it. */
-import { labelOf, lastAt } from "../display/runs.js";
-import { KIND_OF, PARTS } from "../model/output.js";
+import { KIND_OF, PARTS, labelOf, lastAt } from "../model/displays.js";
 import { $, counted, make, number, soon } from "./parts.js";
 import { Rows } from "./rows.js";
 
@@ -10,7 +9,8 @@ const PATIENCE = 40;
 /* The view, all its changes, and those that were found: each is four times its slot and the number of its part. */
 export const state = { view: null, all: [], found: [], slot: 0, turn: 0, work: Promise.resolve(), tab: null };
 const rows = new Rows($("log-changes"), row);
-const slotOf = (key) => key >> 2, partOf = (key) => PARTS[key & 3];
+const slotOf = (key) => key >> 2;
+const partOf = (key) => PARTS[key & 3];
 
 export function show(view, all, tab) {
   Object.assign(state, { view, all, tab });
@@ -18,7 +18,7 @@ export function show(view, all, tab) {
 }
 
 /* Keeps the changes that have the words of the field. */
-const find = () => { state.work = search($("log-find").value.trim().toLowerCase(), ++state.turn); };
+function find() { state.work = search($("log-find").value.trim().toLowerCase(), ++state.turn); }
 async function search(words, turn) {
   const found = words ? await keysWith(words, turn) : state.all;
   if (state.turn !== turn) return;
@@ -30,10 +30,14 @@ async function search(words, turn) {
 
 /* Returns the changes with these words. Each distinct value is searched once. */
 async function keysWith(words, turn) {
-  const { view, all } = state, known = new Map(), found = [];
+  const { view, all } = state;
+  const known = new Map();
+  const found = [];
   let from = performance.now();
   for (const key of all) {
-    const runs = view.parts[partOf(key)], run = runs.indexAt(slotOf(key)), value = runs.numbers[run];
+    const runs = view.parts[partOf(key)];
+    const run = runs.indexAt(slotOf(key));
+    const value = runs.numbers[run];
     if (!known.has(value)) known.set(value, labelOf(runs.value(run)).toLowerCase().includes(words));
     if (known.get(value)) found.push(key);
     if (performance.now() - from < PATIENCE) continue;
@@ -48,14 +52,16 @@ async function keysWith(words, turn) {
 const rowAt = (slot) => lastAt(state.found.length, (i) => slotOf(state.found[i]), slot);
 
 function row(i) {
-  const { found, tab, view } = state, slot = slotOf(found[i]), part = partOf(found[i]), runs = view.parts[part];
-  const run = runs.indexAt(slot), isMix = runs.isMix(run), text = labelOf(runs.value(run));
+  const { found, tab, view } = state;
+  const slot = slotOf(found[i]);
+  const part = partOf(found[i]);
+  const { label, mix } = view.parts[part].piece(view.parts[part].indexAt(slot));
   const cell = (className, textContent) => make("span", { className, textContent });
   return {
-    className: isMix ? "mix" : "", title: `${tab.line(slot)}: ${text}`, act: () => tab.goTo(slot),
+    className: mix ? "mix" : "", title: label, act: () => tab.goTo(slot),
     cells: [
       cell("slot", number(slot)), cell("time", tab.clock(slot) || tab.elapsed(slot)),
-      cell(`part ${KIND_OF[part]}`, NAMES[KIND_OF[part]]), cell("value", isMix ? `⚠ ${text}` : text),
+      cell(`part ${KIND_OF[part]}`, NAMES[KIND_OF[part]]), cell("value", mix ? `⚠ ${label}` : label),
     ],
   };
 }

@@ -1,4 +1,5 @@
-/* Links that hold a log or a script, with the options, the slot, the zoom and an end mark; and the address. */
+/* The address: what is open, with its options, lost slots and slot. And links that hold a log or a script, with an end
+   mark. */
 import * as lines from "../model/lines.js";
 import { $, make } from "./parts.js";
 
@@ -18,51 +19,66 @@ const FROM_DISK = "This page was opened from a disk, so its links are of no use 
 async function squeezed(bytes, by, most) {
   const pieces = [];
   let length = 0;
-  for await (const piece of new Blob([bytes]).stream().pipeThrough(by)) {
-    length += piece.length;
+  // Safari has no iterator of a stream
+  const reader = new Blob([bytes]).stream().pipeThrough(by).getReader();
+  for (let { done, value } = await reader.read(); !done; { done, value } = await reader.read()) {
+    length += value.length;
     if (length > most) return null;
-    pieces.push(piece);
+    pieces.push(value);
   }
   return new Uint8Array(await new Blob(pieces).arrayBuffer());
 }
 
 /* Returns a text as letters; null if it is too long. */
 async function pack(text) {
-  const plain = new TextEncoder().encode(text ?? ""), isLong = text === null || plain.length > MOST_PLAIN;
+  const plain = new TextEncoder().encode(text ?? "");
+  const isLong = text === null || plain.length > MOST_PLAIN;
   const bytes = isLong ? null : await squeezed(plain, new CompressionStream("deflate-raw"), MOST);
   return bytes && btoa(String.fromCharCode(...bytes)).replaceAll("+", "-").replaceAll("/", "_").replace(/=+$/, "");
 }
 
 async function unpack(id, packed) {
   const letters = atob(packed.replaceAll("-", "+").replaceAll("_", "/"));
-  const given = Uint8Array.from(letters, (c) => c.charCodeAt(0));
+  const given = Uint8Array.from(letters, (letter) => letter.charCodeAt(0));
   const bytes = await squeezed(given, new DecompressionStream("deflate-raw"), MOST_PLAIN);
   if (!bytes) throw new Refusal(`The link holds a ${id} of more than 4 MB. The page does not open it.`);
   return new TextDecoder("utf-8", { fatal: true, ignoreBOM: true }).decode(bytes);
 }
 
-/* The hash of the address while a tab is open: its link, or its name with its example if it holds another input now. */
-function hashOf({ id, link }) {
+/* What the address names: nothing, a tab, or an example. */
+const nameOf = (hash) => /^\w*(?:&example=\d+)?/.exec(hash)[0];
+const now = () => location.hash.slice(1);
+
+/* The hash of what a tab holds: its link, its example, or its name if it holds another input. */
+export function hashOf(tab) {
+  const { id, link } = tab;
   const example = $(`${id}-example`)?.value;
   if (link?.isNow) return link.hash;
-  return example ? `${id}&example=${example}` : id;
+  return example ? `${id}&example=${example}&${tab.options()}&slot=${tab.timeline.cursor}` : id;
 }
 
+/* The hash of the start: nothing, or the link of its road. */
+const hashOfStart = ({ link }) => link?.isNow ? link.hash : "";
+
+/* Puts what a tab holds into the address. Back leads to what was open before. */
 export function putAddress(tab) {
-  const hash = `#${hashOf(tab)}`;
-  if ($(tab.id).hidden || location.hash === hash) return;
-  try { history.replaceState(null, "", hash); } catch { /* some browsers refuse it to a file */ }
+  const hash = tab.isStart ? hashOfStart(tab.road) : hashOf(tab);
+  if ($(tab.id).hidden || now() === hash) return;
+  const isSame = nameOf(now()) === nameOf(hash) || (now() !== "" && hash.startsWith(now()));
+  // some browsers refuse it to a file
+  try { history[isSame ? "replaceState" : "pushState"](null, "", `#${hash}`); } catch { /* the address stays */ }
 }
 
 /* Notes the link of a tab: the text and the options that it holds, and its hash. */
-export function hold(tab, link) {
+function hold(tab, link) {
   tab.link = { ...link, isNow: true };
   putAddress(tab);
 }
 
 /* Drops the link of a tab if the tab holds another input by now. */
 export function keep(tab) {
-  const { link } = tab, isNow = link?.text === tab.text && link.options === tab.options();
+  const { link } = tab;
+  const isNow = link?.text === tab.text && link.options === tab.options();
   if (link) link.isNow = isNow;
   putAddress(tab);
   if (isNow) return;
@@ -79,20 +95,22 @@ function sightOf({ cursor, from, across, count }) {
 
 export async function give(tab) {
   tab.settle();
-  const { id, text } = tab, options = tab.options(), sight = sightOf(tab.timeline) + tab.moreSight();
-  const packed = await pack(text), isShown = packed !== null && location.protocol !== "file:";
+  const { id, text } = tab;
+  const options = tab.options();
+  const packed = await pack(text);
+  const isShown = packed !== null && location.protocol !== "file:";
   tab.field("link").hidden = !isShown;
   if (packed === null) { tell(tab, `This ${id} is too long for a link: save it as a file.`); return; }
-  hold(tab, { text, options, hash: `${id}=${packed}&${options}&${sight}${END}` });
+  hold(tab, { text, options, hash: `${id}=${packed}&${options}&${sightOf(tab.timeline)}${tab.moreSight()}${END}` });
   const save = make("button", { type: "button", textContent: `Save the ${id}`, onclick: () => tab.save() });
-  if (!isShown) { tell(tab, FROM_DISK, save); return; }
+  if (!isShown) { tell(tab, FROM_DISK, ...tab.save ? [save] : []); return; }
   await copy(tab);
   tab.shared(text);
 }
 
 async function copy(tab) {
   const field = tab.field("link");
-  field.value = `${location.href.split("#")[0]}#${hashOf(tab)}`;
+  field.value = `${location.href.split("#")[0]}#${tab.link.hash}`;
   field.focus();
   field.select();
   try {
@@ -101,10 +119,9 @@ async function copy(tab) {
   } catch { tell(tab, "This is the link: copy it."); }
 }
 
-/* Reads the text of a link, and its numbers within bounds. `option` gives a number without which the link is damaged,
-   unless it has another one to take in its place. */
-export async function read({ id }, hash) {
-  if (!hash.endsWith(END)) throw new Refusal("The link was cut: copy the whole link.");
+/* Reads the options of an address. `within` gives a number within bounds or undefined, `option` one without which the link
+   is damaged, unless it has another one to take in its place. */
+export function optionsIn(hash) {
   const given = new URLSearchParams(hash);
   const within = (name, low, high) => {
     const number = /^\d{1,7}$/.test(given.get(name) ?? "") ? Number(given.get(name)) : NaN;
@@ -115,22 +132,43 @@ export async function read({ id }, hash) {
     if (number === undefined) throw damaged();
     return number;
   };
-  return { text: await unpack(id, given.get(id)), given, option, within };
+  return { given, option, within };
 }
 
-/* Shows the slot and the zoom of a link. A link with `&play` plays from there. */
-export function look(timeline, { given, within }) {
-  const { count } = timeline, slot = within("slot", 0, count - 1) ?? timeline.cursor;
+/* The text of a link. */
+export function textOf({ id }, hash) {
+  if (!hash.endsWith(END)) throw new Refusal("The link was cut: copy the whole link.");
+  return unpack(id, new URLSearchParams(hash).get(id));
+}
+
+/* Shows the slot and the zoom of an address. A link with `&play` plays from there. */
+function look(timeline, { given, within }) {
+  const { count } = timeline;
+  const slot = within("slot", 0, count - 1) ?? timeline.cursor;
   timeline.sight(within("from", 0, count - 1) ?? timeline.from, within("across", 1, count) ?? timeline.across);
   timeline.move(slot, { keep: true });
   if (given.has("play")) timeline.play.greet();
+}
+
+/* Opens what an address holds in a tab: a text with options, and else those of `defaults`. */
+export async function open(tab, hash, text, defaults) {
+  const options = optionsIn(hash);
+  const { option } = options;
+  const numbers = {
+    // a link has its M
+    m: option("m", 1, 65535, hash.startsWith(`${tab.id}=`) ? undefined : defaults.m), k: option("k", 0, 1024, defaults.k), w: option("w", 2, 255, defaults.w ?? ""),
+  };
+  await tab.open(text, { ...defaults, ...numbers, ...tab.settingsOf(options, defaults) });
+  tab.afterLink(options);
+  look(tab.timeline, options);
+  if (hash.startsWith(`${tab.id}=`)) hold(tab, { text, options: tab.options(), hash });
 }
 
 /* Slots as a link has them: 2-4.9 is 2, 3, 4 and 9. */
 export const inLetters = (slots) => lines.spansOf(slots).join(".");
 
 /* The slots of these letters, as far as a log may have them. Throws at other letters, and if they do not ascend. */
-export function slotsOf(letters, end = MOST_SLOTS) {
+export function slotsOf(letters) {
   const all = new Set();
   let next = 0;
   if (!letters) return all;
@@ -139,7 +177,7 @@ export function slotsOf(letters, end = MOST_SLOTS) {
     const [first, last = first] = span.split("-").map(Number);
     if (first < next || last < first) throw damaged();
     next = last + 1;
-    for (let slot = first; slot <= last && slot < end; slot++) all.add(slot);
+    for (let slot = first; slot <= last && slot < MOST_SLOTS; slot++) all.add(slot);
   }
   return all;
 }

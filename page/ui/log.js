@@ -1,53 +1,75 @@
 /* The tab of a log: the receiver's display, the audit's answer, the log itself, and the lost slots. One worker shows
    what receivers show, another one judges. */
-import { Marks, Texts, View } from "../display/runs.js";
+import { Marks, Texts, View } from "../model/displays.js";
 import * as lines from "../model/lines.js";
-import * as logfile from "../model/logfile.js";
-import * as output from "../model/output.js";
+import * as logs from "../model/slots.js";
 import { Program } from "../program/program.js";
 import * as changes from "./changes.js";
 import * as faults from "./faults.js";
+import { nameFor, saveAs } from "./files.js";
 import * as groups from "./groups.js";
 import * as links from "./links.js";
-import { $, counted, hex, make, number, radio, soon, whyNoMix } from "./parts.js";
-import * as picture from "./picture.js";
+import { $, counted, hex, make, number, radio, whyNoMix } from "./parts.js";
 import * as report from "./report.js";
 import { Rows } from "./rows.js";
-import { Tab, added } from "./tab.js";
+import { Tab } from "./tab.js";
 import * as verdict from "./verdict.js";
 
-/* The worker that has searched a log of more slots ends, to free its memory. A log of more bytes cannot be edited. */
-const LONG = 100_000, MOST_EDITED = 400_000;
+/* The worker that has searched a log of more slots ends, to free its memory. */
+const LONG = 100_000;
 /* How many dwells after a no are searched first for a witness, since most are there; and how many slots after that,
    about a day: each takes some 41 bytes of memory. */
-const NEAR = 4, FAR = 1_000_000;
+const NEAR = 4;
+const FAR = 1_000_000;
 /* A display takes no longer with another M, and a new worker would have to read the log again. */
-const SECOND = 1000, PATIENCE = 20 * SECOND;
-const NO_SEARCH = "the search is for a receiver without a window", STOPPED = "the search was stopped";
+const SECOND = 1000;
+const PATIENCE = 20 * SECOND;
+const NO_SEARCH = "the search is for a receiver without a window";
+const STOPPED = "the search was stopped";
 /* The names of the lanes of a receiver, each with the one on a phone. */
 const LANES = { text: ["text", "text"], name: ["name (PTYN)", "name"], tags: ["tags", "tags"] };
-const ALONE = { text: ["flag bit alone", "flag bit"], name: ["  its name", " name"], tags: ["  its tags", " tags"] };
+const ALONE = { text: ["ordinary radio", "ordinary"], name: ["  its name", " name"], tags: ["  its tags", " tags"] };
 const KINDS = ["nothing", "text", "name", "tags", "other"];
-const CLOCK = /\d\d:\d\d:\d\d/, LONGEST_LINE = 96;
-const encoder = new TextEncoder(), decoder = new TextDecoder("utf-8", { ignoreBOM: true });
-const NO_LOG = { count: 0, end: 0, words: [], missing: new Uint8Array(0), starts: [], numbers: [] };
-const empty = () => ({
-  view: new View(), alone: new View(), codes: new Uint8Array(0),
-  events: { slots: new Int32Array(0), numbers: new Int32Array(0) }, answer: null, witness: null,
-});
+const CLOCK = /\d\d:\d\d:\d\d/;
+const LONGEST_LINE = 96;
+const encoder = new TextEncoder();
+const decoder = new TextDecoder("utf-8", { ignoreBOM: true });
+/** @type {any} */
+const NO_LOG = { count: 0, end: 0, starts: [], numbers: [], clocks: [] };
+const empty = () => ({ view: new View(), alone: new View(), codes: new Uint8Array(0), answer: null, witness: null });
 
 class LogTab extends Tab {
+  bytes = new Uint8Array(0);
+  log = NO_LOG;
+  /** @type {any} */ source = {};
+  /** @type {any} */ times = {};
+  /** @type {Set<number>} */ lost = new Set();
+  /** @type {"add" | "delete" | null} */ brush = null;
+  hadLost = false;
+  pi = 0;
+  w = 0;
+  view = new View();
+  alone = new View();
+  codes = new Uint8Array(0);
+  /** @type {any} */ answer = null;
+  /** @type {any} */ witness = null;
+  searching = new AbortController();
+  /** @type {any} */ display;
+  /** @type {any} */ judge;
+
   constructor() {
     super("log", "Look at a log");
-    Object.assign(this, empty(), {
-      bytes: new Uint8Array(0), text: "", source: {}, isEdited: false, lost: new Set(), brush: null,
-      log: NO_LOG, times: {}, pi: 0, w: 0,
-    });
     this.rows = new Rows($("log-rows"), (i) => this.row(i));
+    this.home(true);
+  }
+
+  /* Shows the start, or the log that is open. */
+  home(isStart) {
+    this.isStart = isStart;
+    $("log").classList.toggle("unopened", isStart);
   }
 
   get no() { return this.answer?.no ?? null; }
-  get station() { return this.value("pi"); }
   get inOneLine() { return $("verdict").querySelector("h2").textContent; }
 
   goTo(slot) {
@@ -58,18 +80,7 @@ class LogTab extends Tab {
   /* Loses these slots, or gives back those that are lost. */
   lose(slots) {
     for (const slot of slots) if (!this.lost.delete(slot)) this.lost.add(slot);
-    return this.lostChanged();
-  }
-
-  lostChanged() {
-    this.note(links.inLetters(this.lost));
     return this.look();
-  }
-
-  // the page wrote these letters itself
-  takeUndone(letters) {
-    this.lost = links.slotsOf(letters, Infinity);
-    this.look();
   }
 
   /* Loses the slots of a drag while it goes on, or gives them back if its first slot was lost. */
@@ -84,44 +95,43 @@ class LogTab extends Tab {
 
   painted() {
     this.brush = null;
-    this.lostChanged();
+    this.look();
   }
 
   key(key, event) {
-    if (super.key(key, event)) return true;
-    if (key === "l") this.lose([this.timeline.cursor]);
-    return key === "l";
+    if (key !== "l" || event.ctrlKey || event.metaKey) return false;
+    this.lose([this.timeline.cursor]);
+    return true;
   }
 
   /* Opens a log: its text, or the bytes of its file. Returns when its display and its verdict are shown. The workers
      read the page's own bytes: a file may change while it is open. */
+  /** @param {string | Uint8Array} content @param {any} [settings] */
   open(content, settings = {}) {
-    const { m, k, w, running = false, lost = [], example = "", file = "", isEdited = false } = settings;
-    const bytes = typeof content === "string" ? encoder.encode(content) : content, blob = new Blob([bytes]);
+    const { m, k, w, running = false, lost = [], example = "", file = "", source = {}, pi } = settings;
+    const bytes = typeof content === "string" ? encoder.encode(content) : content;
     // a link holds no longer text
     const text = bytes.length > links.MOST_PLAIN ? null : decoder.decode(bytes);
-    const source = { file, ...settings.source }, isLong = bytes.length > MOST_EDITED;
-    Object.assign(this, empty(), { log: NO_LOG, bytes, text, source, isEdited, lost: new Set(lost), brush: null });
-    $("log").classList.remove("unopened");
+    Object.assign(this, empty(), { log: NO_LOG, bytes, text, source: { file, ...source }, lost: new Set(lost), brush: null });
+    this.hadLost = example !== "" && this.lost.size > 0;
+    this.home(false);
     this.rows.show(0);
-    this.note(links.inLetters(this.lost), { isFirst: true });
     this.nameFile(file);
     this.setFields({ example, m, k, w: w || "" });
     $("log-running").checked = running;
-    $("log-text").closest("details").hidden = isLong;
-    this.fillText(isLong ? "" : text);
     report.take(source.bytes ?? bytes);
-    for (const program of [this.display, this.judge]) program.keep(blob);
-    return this.look({ opens: true, pi: settings.pi });
+    for (const program of [this.display, this.judge]) program.keep(new Blob([bytes]));
+    return this.look({ opens: true, pi });
   }
 
   async read(pi, signal) {
     const tell = (share) => { $("log-progress").value = share; };
     const { programmes, ...read } = await this.display.ask("open", undefined, { signal, tell });
-    const options = programmes.map(([p, n]) => new Option(`${hex(p)} (${counted(n, "group")})`, hex(p)));
+    const options = programmes.map(([code, count]) => new Option(`${hex(code)} (${counted(count, "group")})`, hex(code)));
     Object.assign(this, read);
     $("log-pi").replaceChildren(...options.length ? options : [new Option("no group", "C201")]);
     if (options.some(({ value }) => value === pi)) $("log-pi").value = pi;
+    this.prepare();
     $("log").classList.toggle("without-slots", !this.log.count);
     this.rows.show(this.log.count + (this.log.end < this.bytes.length));
   }
@@ -140,13 +150,24 @@ class LogTab extends Tab {
     faults.hide();
   }
 
+  /* Ends what the workers do. */
+  stop() {
+    this.turn.abort(new Error("Reading was stopped"));
+    for (const program of [this.display, this.judge]) program.stop();
+  }
+
   /* What the form holds. A window makes what it shows later by its length less one. */
   asking() {
     const [m, k, w] = ["m", "k", "w"].map((name) => Number(this.value(name)));
     return { pi: this.value("pi"), m, k: k + Math.max(0, w - 1), w, running: $("log-running").checked };
   }
 
-  prepare() { $("log-unlose").hidden = !this.lost.size; }
+  prepare() {
+    $("log-unlose").hidden = !this.lost.size;
+    const [m, k, w] = ["m", "k", "w"].map((name) => this.value(name));
+    const words = [this.value("pi"), `M = ${m}`, `K = ${k}`, w && `W = ${w}`];
+    $("log-options").textContent = words.filter(Boolean).join(", ");
+  }
 
   async show(signal, { opens = false, pi }) {
     if (this.log === NO_LOG) await this.read(pi, signal);
@@ -159,35 +180,37 @@ class LogTab extends Tab {
   }
 
   async showDisplay(asked, fit, signal) {
-    const got = await this.display.ask("decode", asked, { signal }), values = new Texts(got.values);
-    const [view, alone] = [got.view, got.alone].map((packed) => new View(packed, values));
-    const { codes, events } = got, pi = parseInt(asked.pi, 16);
-    Object.assign(this, { view, alone, codes, events, pi, w: asked.w });
+    const shown = await this.display.ask("decode", asked, { signal });
+    const values = new Texts(shown.values);
+    const [view, alone] = [shown.view, shown.alone].map((packed) => new View(packed, values));
+    Object.assign(this, { view, alone, codes: shown.codes, pi: parseInt(asked.pi, 16), w: asked.w });
     this.timeline.show(this.lanes(), this.log.count, { fit });
-    this.tellLines("log", got.command, got.output);
-    changes.show(view, got.changes, this);
+    this.tellLines("log", shown.command, shown.output);
+    changes.show(view, shown.changes, this);
   }
 
   async showAnswer(asked, signal) {
-    const audit = await this.judge.ask("audit", asked, { signal }), { log, times } = this;
-    this.answer = { ...verdict.show({ ...asked, audit, log, times }, this.actions), audit };
+    const audit = await this.judge.ask("audit", asked, { signal });
+    const { bytes, log, times } = this;
+    this.answer = { ...verdict.show({ ...asked, audit, bytes, log, times }, this.actions), audit };
     this.tellLines("audit", audit.command, audit.output);
-    faults.show({ ...audit, isSure: this.answer.isSure }, log, (slot) => this.goTo(slot));
+    faults.show({ ...audit, isSure: this.answer.isSure }, (slot) => this.goTo(slot));
     // the row of the fault is red
     this.rows.layOut(Math.max(0, this.rows.chosen));
-    // the answer has a mark in the lane of events
+    // the faults have marks
     if (this.no && this.timeline.lanes.length) this.timeline.show(this.lanes(), log.count);
   }
 
   /* The slot to look at first: that of a no if no slot is lost, or else the first mix, or else the last text. */
   firstSlot() {
     if (this.no && !this.lost.size) return this.no.slot;
-    const { parts: { text } } = this.view, last = text.numbers.findLastIndex((value) => value !== output.NOTHING);
+    const { text } = this.view.parts;
     for (const runs of [text, this.alone.parts.text]) {
       const mix = runs.find((i) => runs.isMix(i));
       if (mix >= 0) return runs.from(mix);
     }
-    return last < 0 ? 0 : text.from(last);
+    const last = [...text.starts.keys()].filter((i) => text.isShown(i)).at(-1);
+    return last === undefined ? 0 : text.from(last);
   }
 
   /* Shows why nothing is decoded, and no result of what was there before. What the page refuses is red. */
@@ -215,14 +238,21 @@ class LogTab extends Tab {
 
   /* Looks for a witness after a no. Says each second how long, and in how many slots. */
   async search(asked, signal) {
-    const { no, log } = this, { pi, m, k, w } = asked, from = performance.now();
+    const { no, log } = this;
+    const { pi, m, k, w } = asked;
+    const from = performance.now();
     const end = (slots) => ({ slots, bytes: log.starts[slots] ?? this.bytes.length });
-    const near = end(Math.min(log.count, no.slot + NEAR * m)), far = end(Math.min(log.count, near.slots + FAR));
-    let slots = 0, failure = NO_SEARCH, found = null;
+    const near = end(Math.min(log.count, no.slot + NEAR * m));
+    const far = end(Math.min(log.count, near.slots + FAR));
+    let slots = 0;
+    let failure = NO_SEARCH;
+    let found = null;
     const say = () => verdict.showSearch({ slots, seconds: Math.round((performance.now() - from) / SECOND) });
-    const timer = setInterval(say, SECOND), tell = (count) => { slots = count; };
+    const timer = setInterval(say, SECOND);
+    const tell = (count) => { slots = count; };
     this.searching = new AbortController();
-    const ends = AbortSignal.any([signal, this.searching.signal]);
+    const { any } = /** @type {any} */ (AbortSignal);
+    const ends = any.call(AbortSignal, [signal, this.searching.signal]);
     try {
       const given = { pi, m, near, far, isAll: far.slots === log.count };
       if (!w) found = await this.judge.ask("witness", given, { signal: ends, tell });
@@ -241,36 +271,38 @@ class LogTab extends Tab {
     /* Loses these slots alone, and goes to the one in which the mix is shown. */
     lose: async (slot, first, last) => {
       this.lost = new Set(Array.from({ length: last - first + 1 }, (_, i) => first + i));
-      await this.lostChanged();
+      await this.look();
       this.goTo(slot);
     },
   };
 
   /* Opens the log with a line for each slot that its times say it lacks. */
   async fill() {
-    const { pi, m, w, running } = this.asking(), k = this.value("k"), { isEdited } = this;
-    const { bytes } = await this.display.ask("fill", { m }), file = `${this.source.file || "log"}, with its lost slots`;
+    const { pi, m, w, running } = this.asking();
+    const { bytes } = await this.display.ask("fill", { m });
+    const file = `${this.source.file || "log"}, with its lost slots`;
     const source = { ...this.source, file, slots: `rdsrt slots --m ${m}` };
-    await this.open(bytes, { pi, m, k, w, running, isEdited, file, source });
+    await this.open(bytes, { pi, m, k: this.value("k"), w, running, file, source });
   }
 
-  /* The events of the display, and the answer of the audit, which is red if it is no doubtful one. */
+  /* The faults of the audit, which are red if it is no doubtful answer. */
   marks() {
-    const { events: { slots, numbers }, no, answer } = this, all = new Marks(slots, numbers, output.EVENTS);
-    return no ? all.with(no.slot, { label: no.fault, kind: answer.isSure ? "no" : "refused" }) : all;
+    const { slots, numbers, kinds } = this.answer?.audit.list ?? { slots: [], numbers: [], kinds: [] };
+    const kind = this.answer?.isSure ? "no" : "refused";
+    return new Marks(slots, numbers, kinds.map((label) => ({ label, kind })));
   }
 
   lanes() {
     const { view, alone, codes, lost } = this;
     return [
       // a slot without a group may have been silent: it is not drawn as lost
-      { name: "received", kind: "ticks", codes, lost }, { name: "events", kind: "marks", marks: this.marks() },
+      { name: "received", kind: "ticks", codes, lost }, { name: "faults", kind: "marks", marks: this.marks() },
       ...view.lanes(LANES, {}, { strong: true, gap: 10 }), ...alone.lanes(ALONE, {}, { gap: 12 }),
     ];
   }
 
   lineAt(start) {
-    const end = Math.min(logfile.endOf(this.bytes, start), start + LONGEST_LINE);
+    const end = Math.min(logs.endOf(this.bytes, start), start + LONGEST_LINE);
     const text = decoder.decode(this.bytes.subarray(start, end)).trimEnd();
     return end === start + LONGEST_LINE ? `${text}…` : text;
   }
@@ -278,73 +310,73 @@ class LogTab extends Tab {
   /* The clock time at the end of a slot's line; empty if it has none. */
   clock(slot) {
     if (slot >= this.log.count) return "";
-    return CLOCK.exec(this.lineAt(this.log.starts[slot]).slice(logfile.BLOCKS))?.[0] ?? "";
+    return CLOCK.exec(this.lineAt(this.log.starts[slot]).slice(logs.BLOCKS))?.[0] ?? "";
   }
 
   /* Empty if the lines have times: slots may be missing between two lines. */
   elapsed(slot) { return this.times.looksTimed || this.clock(slot) ? "" : super.elapsed(slot); }
-  line(slot) { return slot < this.log.count ? `line ${number(this.log.numbers[slot])}` : ""; }
-  seconds(slot) { return this.log.clocks?.[slot] ?? NaN; }
+  seconds(slot) { return this.log.clocks[slot] ?? NaN; }
 
-  /* A row of the log itself: the line of a slot, or the one behind all slots, which is malformed. */
+  /* A row of the log itself: the line of a slot, its blocks and its clock; or the one behind all slots, which is malformed. */
   row(slot) {
-    const { log, no, answer } = this, isSlot = slot < log.count, before = slot ? log.numbers[slot - 1] : 0;
-    const textContent = number(isSlot ? log.numbers[slot] : before + 1);
+    const { log, no, answer } = this;
+    const isSlot = slot < log.count;
+    const line = this.lineAt(isSlot ? log.starts[slot] : log.end);
+    const clock = this.clock(slot);
+    const before = slot ? log.numbers[slot - 1] : 0;
     return {
-      className: isSlot && no?.slot === slot && answer.isSure ? "fault" : "",
+      className: isSlot && no?.slot === slot && answer.isSure ? "fault" : "", title: line,
       act: () => this.goTo(Math.min(slot, log.count - 1)),
       cells: [
-        make("span", { className: "number", textContent }),
-        make("code", { textContent: this.lineAt(isSlot ? log.starts[slot] : log.end) }),
+        make("span", { className: "number", textContent: number(isSlot ? log.numbers[slot] : before + 1) }),
+        make("code", { textContent: clock ? `${line.slice(0, logs.BLOCKS)} ${clock}` : line }),
       ],
     };
   }
 
   showSlot(slot) {
-    const { log, view, alone } = this, group = logfile.groupAt(log, slot);
+    const { bytes, log, view, alone } = this;
+    const group = logs.groupAt(bytes, log, slot);
     const sent = group ? `${KINDS[lines.codeOf(group, this.pi)]} group` : "nothing received";
-    const what = this.lost.has(slot) ? "lost" : sent, more = this.w ? ` and W = ${this.w}` : "";
+    const what = this.lost.has(slot) ? "lost" : sent;
     const led = this.answer ? what : "";
-    const shown = radio($("log-radio"), `The receiver, with the dwell${more}`, view, slot, { led });
-    const other = radio($("log-alone"), "Flag bit alone: decode --m 65535", alone, slot);
+    const shown = radio($("log-radio"), `A receiver with rdsrt${this.w ? `, W = ${this.w}` : ""}`, view, slot, { led });
+    const other = radio($("log-alone"), "An ordinary radio", alone, slot);
     $("log-why").textContent = whyNoMix(view, alone, slot);
-    $("log-group").textContent = log.count ? groups.ofSlot(log, slot, this.pi) : "";
+    $("log-group").replaceChildren(...groups.ofSlot(bytes, log, slot, this.pi));
     this.rows.choose(slot);
     changes.move(slot);
-    return `${what}. The receiver shows ${shown}. With the flag bit alone: ${other}.`;
+    this.putAddressSoon();
+    return `${what}. The receiver shows ${shown}. An ordinary radio: ${other}.`;
   }
 
   options() {
-    const lost = this.lost.size ? `&lost=${links.inLetters(this.lost)}` : "";
+    // an example may begin with lost slots
+    const lost = this.lost.size || this.hadLost ? `&lost=${links.inLetters(this.lost)}` : "";
     return `pi=${this.value("pi")}&${super.options()}${$("log-running").checked ? "&running=1" : ""}${lost}`;
   }
 
-  settingsOf({ given, option }) {
-    return { pi: given.get("pi"), lost: links.slotsOf(given.get("lost")), running: option("running", 0, 1, 0) === 1 };
+  settingsOf({ given, option }, { pi, running = false, lost = [] }) {
+    return {
+      pi: given.get("pi") ?? pi, lost: given.has("lost") ? links.slotsOf(given.get("lost")) : lost,
+      running: option("running", 0, 1, Number(running)) === 1,
+    };
   }
 
   afterLink({ given }) {
     if (given.has("pi") && given.get("pi") !== this.value("pi")) throw links.damaged();
   }
 
-  isUnsaved() { return this.isEdited; }
-
-  save() {
-    this.isEdited = false;
-    picture.saveAs(picture.nameFor("log", ".log"), this.bytes, "text/plain");
-  }
+  isUnsaved() { return false; }
+  save() { saveAs(nameFor("log", ".log"), this.bytes, "text/plain"); }
 
   begin(compiled) {
     super.begin(["pi", "m", "k", "w", "running"], () => this.look());
     Object.assign(this, { display: new Program(compiled, PATIENCE), judge: new Program(compiled) });
-    $("log-text").oninput = soon(() => {
-      const { pi, w, running } = this.asking();
-      this.open($("log-text").value, { pi, w, running, isEdited: true });
-    });
-    $("log-unlose").onclick = () => { this.lost.clear(); this.lostChanged(); };
+    $("log-unlose").onclick = () => { this.lost.clear(); this.look(); };
     changes.begin();
     report.begin(this);
   }
 }
 
-export const logTab = added(new LogTab());
+export const logTab = new LogTab();

@@ -1,19 +1,23 @@
 /* What the tabs share: elements, words, and displays. */
-import { kindOf, wordsOfTag } from "../display/runs.js";
+import { kindOf, wordsOfTag } from "../model/displays.js";
 
 export const number = (n) => n.toLocaleString("en");
 /* A note with commas in its long numbers. Those of a time stay as they are. */
 export const grouped = (note) =>
   note.replace(/(?<![\d/:.])\d{4,}(?![\d/:]|\.\d)/g, (digits) => number(Number(digits)));
+/** @type {(id: string) => any} */
 export const $ = (id) => document.getElementById(id);
+/** @type {(tag: string, props?: object, ...inside: (string | Node)[]) => any} */
 export const make = (tag, props = {}, ...inside) => {
   const element = Object.assign(document.createElement(tag), props);
   element.append(...inside);
   return element;
 };
 /* Copies a template. `given` has the words or nodes of elements, what buttons do, and whether elements are there. */
+/** @type {(id: string, given: Record<string, any>) => any[]} */
 export function filled(id, given) {
-  const copy = $(id).content.cloneNode(true), named = (name) => copy.querySelectorAll(`[data-${name}]`);
+  const copy = $(id).content.cloneNode(true);
+  const named = (name) => copy.querySelectorAll(`[data-${name}]`);
   for (const it of named("if")) if (!given[it.dataset.if]) it.remove();
   for (const it of named("value")) it.append(...[given[it.dataset.value]].flat());
   for (const it of named("act")) it.onclick = given[it.dataset.act];
@@ -70,41 +74,57 @@ export const MIXED = { led: (which) => which ? `${which}: mix` : "mix", words: "
 const NOBODY = { led: (which) => `nobody sent this ${which}`.trim(), words: "which nobody sent" };
 
 const partsAt = (view, slot) => Object.entries(WORDS).map(([part, words]) => {
-  const { value = null, mixTo, stale = "" } = view?.at(part, slot) ?? {};
-  return { name: part.replace(/\d$/, ""), value, stale, isMix: slot < mixTo, words: value !== null && words(value) };
+  const { value = null, state = "" } = view?.at(part, slot) ?? {};
+  return { name: part.replace(/\d$/, ""), value, state, words: value !== null && words(value) };
 });
 const namesOf = (all) => [...new Set(all.map(({ name }) => name))];
+const isStale = ({ state }) => state === "old" || state === "replaced";
+
+/* The letters of a text in its hue; those of a mix, each four of them, in the hues of the texts that they came from. */
+const FOUR = /(?:\\x[0-9A-F]{2}|[^]){1,4}/gu;
+function lettersOf(view, slot, origins) {
+  const { label, mix, shade } = view.parts.text.piece(view.parts.text.indexAt(slot));
+  const hues = mix ? origins() : [];
+  const pieces = mix ? label.match(FOUR) : [label];
+  return pieces.map((textContent, i) => make("span", { className: `hue-${mix ? hues[i] ?? "" : shade}`, textContent }));
+}
 
 /* Shows a display as a car has it: the name, the text and its tags in a slot. Parts that nobody sent make it red. What
-   stands in place of a text is why, if the program says so. Returns the display in words. */
-export function radio(root, caption, view, slot, { led: calm = "", none: other, mixed = NOBODY } = {}) {
-  const all = partsAt(view, slot), [text, name, ...tags] = all;
+   stands in place of a text is why, if the program says so. `origins` returns the hues of a mix, four letters each.
+   Returns the display in words. */
+/** @param {{ led?: string, none?: string, mixed?: typeof NOBODY, origins?: () => number[] }} how */
+export function radio(root, caption, view, slot, how = {}) {
+  const { led: calm = "", none: other, mixed = NOBODY, origins = () => [] } = how;
+  const all = partsAt(view, slot);
+  const [text, name, ...tags] = all;
   const none = other ?? (view?.at("text", slot)?.why || "no text");
-  const mixes = namesOf(all.filter(({ isMix }) => isMix)), isMixed = mixes.length > 0;
+  const mixes = namesOf(all.filter(({ state }) => state === "mix"));
   const pieces = tags.map(({ value }) => value).filter(Boolean).map((tag) =>
     make("span", {}, make("b", { textContent: kindOf(tag) }), tag.text));
-  const led = isMixed ? mixed.led(mixes.includes("text") ? "" : mixes.join(" and ")) : calm;
-  const shown = { name: name.value ?? " ", text: text.value ?? `— ${none} —`, tags: pieces };
-  root.replaceChildren(...filled("display", { caption, led, ...shown }));
+  const led = mixes.length ? mixed.led(mixes.includes("text") ? "" : mixes.join(" and ")) : calm;
+  const letters = text.value === null ? `— ${none} —` : lettersOf(view, slot, origins);
+  root.replaceChildren(...filled("display", { caption, led, name: name.value ?? " ", text: letters, tags: pieces }));
   root.querySelector(".text").classList.toggle("none", text.value === null);
-  root.classList.toggle("mixed", isMixed);
+  root.classList.toggle("mixed", mixes.length > 0);
   root.ariaLabel = caption;
-  const inWords = ({ isMix, stale, words }) => [words, isMix ? mixed.words : stale].filter(Boolean).join(", ");
+  const word = (it) => it.state === "mix" ? mixed.words : isStale(it) && it.state;
+  const inWords = (it) => [it.words, word(it)].filter(Boolean).join(", ");
   return [...text.value === null ? [none] : [], ...all.filter(({ words }) => words).map(inWords)].join(", ");
 }
 
 /* What a display shows that was on air before, with the names of the parts if its text is on air now. */
 export function staleAt(view, slot) {
-  const stale = partsAt(view, slot).filter((it) => it.stale), [first] = stale;
-  if (first?.name === "text") return first.stale;
-  return [...new Set(stale.map((it) => `${it.name}: ${it.stale}`))].join(", ");
+  const stale = partsAt(view, slot).filter(isStale);
+  if (stale[0]?.name === "text") return stale[0].state;
+  return [...new Set(stale.map(({ name, state }) => `${name}: ${state}`))].join(", ");
 }
 
-/* Beside a mix of the flag bit alone: why the receiver with the dwell shows no text. Empty in other slots. */
+/* Beside a mix: why the receiver with rdsrt shows no text. Empty in other slots. */
 export function whyNoMix(view, alone, slot) {
-  const run = view?.at("text", slot) ?? null;
-  if (!(slot < alone?.at("text", slot)?.mixTo) || (run && run.value !== null)) return "";
-  const runs = view?.parts.text, next = runs ? runs.find((i) => runs.isShown(i), runs.indexAt(slot) + 1) : -1;
-  const none = `The receiver with the dwell shows no text${run?.why ? ` (${run.why})` : ""}.`;
+  const run = view?.at("text", slot);
+  if (alone?.at("text", slot)?.state !== "mix" || (run && run.value !== null)) return "";
+  const { text: runs } = view.parts;
+  const next = runs.find((i) => runs.isShown(i), runs.indexAt(slot) + 1);
+  const none = `The receiver with rdsrt shows no text${run?.why ? ` (${run.why})` : ""}.`;
   return next < 0 ? none : `${none} It shows the next one when it is complete: in slot ${number(runs.from(next))}.`;
 }

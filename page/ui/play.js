@@ -8,8 +8,11 @@ export class Play {
   /* The button and the speeds are in the root. The slots have a number, a cursor, and `move`. */
   constructor(root, slots) {
     const [button, speed] = [".play", ".time-bar select"].map((query) => root.querySelector(query));
-    Object.assign(this, { button, speed, slots, frame: 0 });
-    speed.replaceChildren(...SPEEDS.map((it) => new Option(`×${it}`, it)));
+    this.button = button;
+    this.speed = speed;
+    this.slots = slots;
+    this.frame = 0;
+    speed.replaceChildren(...SPEEDS.map((times) => new Option(`×${times}`, `${times}`)));
     button.onclick = () => { if (this.frame) this.stop(); else this.start(); };
   }
 
@@ -17,7 +20,8 @@ export class Play {
   start(end = this.slots.count - 1) {
     this.stop();
     const { slots } = this;
-    let slot = slots.cursor < end ? slots.cursor : 0, last = performance.now();
+    let slot = slots.cursor < end ? slots.cursor : 0;
+    let last = performance.now();
     const step = (now) => {
       // a pointer or a key moved the cursor
       if (Math.floor(slot) !== slots.cursor) slot = slots.cursor;
@@ -38,10 +42,8 @@ export class Play {
     this.tell();
   }
 
-  /* A button with a name of its own shows a sign alone. */
   tell() {
-    const sign = this.frame ? "❚❚" : "▶", word = this.frame ? " Pause" : " Play";
-    this.button.textContent = this.button.ariaLabel ? sign : sign + word;
+    this.button.textContent = this.frame ? "❚❚" : "▶";
     this.button.ariaPressed = this.frame !== 0;
   }
 
@@ -51,7 +53,7 @@ export class Play {
   /* The space bar starts and stops what is in sight, unless it belongs to a control. */
   static space(event) {
     if (event.key !== " " || event.target.closest("button, input, select, textarea, summary, a, dialog")) return;
-    const button = [...document.querySelectorAll(".play")].find((it) => it.checkVisibility());
+    const button = [.../** @type {any} */ (document.querySelectorAll(".play"))].find((it) => it.checkVisibility());
     if (button) event.preventDefault();
     button?.click();
   }

@@ -1,8 +1,8 @@
 /* The report on a log: one page to print and to send. It has what the program said, and how to ask it again. */
 import * as lines from "../model/lines.js";
 import * as rdsrt from "../program/rdsrt.js";
+import { nameFor, saveAs } from "./files.js";
 import { $, counted, filled, make } from "./parts.js";
-import * as picture from "./picture.js";
 
 const NO_FILE = "none: an example or a text of the page";
 /* The newest log, and the SHA-256 of its file. */
@@ -11,7 +11,8 @@ const state = { tab: null, bytes: null, hash: "" };
 /* Takes the bytes of a file. A page that was not sent safely has no call for a hash. */
 export async function take(bytes) {
   Object.assign(state, { bytes, hash: "not computed: the page came over http" });
-  const hash = await crypto.subtle?.digest("SHA-256", bytes), digits = (byte) => byte.toString(16).padStart(2, "0");
+  const hash = await crypto.subtle?.digest("SHA-256", bytes);
+  const digits = (byte) => byte.toString(16).padStart(2, "0");
   if (hash && state.bytes === bytes) state.hash = Array.from(new Uint8Array(hash), digits).join("");
 }
 
@@ -36,7 +37,8 @@ function faultsOf({ answer }) {
 }
 
 function rows(tab) {
-  const { log, source, answer } = tab, times = [0, Math.max(0, log.count - 1)].map((slot) => tab.clock(slot));
+  const { log, source, answer } = tab;
+  const times = [0, Math.max(0, log.count - 1)].map((slot) => tab.clock(slot));
   const byLines = times[0] && times[1] ? `from ${times[0]} to ${times[1]} by its lines` : "";
   const length = [counted(log.count, "slot"), byLines || tab.elapsed(log.count)].filter(Boolean).join(", ");
   const [pi, m, k, w] = ["pi", "m", "k", "w"].map((name) => tab.value(name));
@@ -63,7 +65,7 @@ function fill() {
 
 function save() {
   const text = rows(state.tab).map(([name, words]) => `${name}: ${[words].flat().join("\n  ")}\n`).join("");
-  picture.saveAs(picture.nameFor("log", " report.txt"), text, "text/plain");
+  saveAs(nameFor("log", " report.txt"), text, "text/plain");
 }
 
 export function begin(tab) {

@@ -1,200 +1,243 @@
 /* The first screen: a car on a road with tunnels, over the slots of the first example. In a tunnel its receivers get
-   nothing. The program says what they show: the page only moves the tunnels and the car. */
-import { Texts, View } from "../display/runs.js";
-import * as painter from "../display/painter.js";
+   nothing. The program says what they show: the page only moves the tunnels and the car, and takes other texts. */
+import { AXIS } from "../display/painter.js";
+import { Texts, View } from "../model/displays.js";
 import * as lines from "../model/lines.js";
+import * as player from "../model/player.js";
 import * as records from "../model/records.js";
 import { Program } from "../program/program.js";
-import { $, MIXED, filled, radio, whyNoMix } from "./parts.js";
-import { Play } from "./play.js";
+import * as links from "./links.js";
+import { $, MIXED, filled, make, nodesOf, radio, soon, whyNoMix } from "./parts.js";
 import { Timeline } from "./timeline.js";
 
-/* The receiver of the example whose lost slots are the first tunnels. */
-const RECEIVER = 1;
-const STEPS = { ...Timeline.STEPS, ArrowUp: 1, ArrowDown: -1 };
-export const state = {
-  rows: [], tunnels: [], text: "", cursor: 0, views: {}, work: Promise.resolve(), held: null, move,
-  get count() { return this.rows.length; },
-};
-let program = null, ink = null;
-export const drive = new Play($("road"), state);
+/* The slots [from, to) of the first tunnels, and the letters of a text that a car gets whole between two of them. */
+const TUNNELS = [[26, 47], [55, 71]];
+const LONGEST = 24;
+const STEPS = { ArrowRight: 1, ArrowLeft: -1, ArrowUp: 1, ArrowDown: -1, Home: -Infinity, End: Infinity };
 const within = (low, slot, high) => Math.max(low, Math.min(slot, high));
-const percent = (slot) => `${100 * slot / state.count}%`;
 
-/* The slots [from, to) that the receiver loses, as tunnels. */
-function tunnelsOf(rows) {
-  const isLost = (slot) => rows[slot]?.receptions[RECEIVER] === "L", slots = [...rows.keys()];
-  const ends = slots.filter((slot) => isLost(slot) && !isLost(slot + 1));
-  return slots.filter((slot) => isLost(slot) && !isLost(slot - 1)).map((from, i) => ({ from, to: ends[i] + 1 }));
-}
+class Road {
+  id = "road";
+  /** @type {any[]} */ rows = [];
+  /** @type {any[]} */ tunnels = [];
+  text = "";
+  /** @type {Promise<any>} */ work = Promise.resolve();
+  /** @type {any} */ link = null;
+  /** @type {any} */ held = null;
+  /** @type {any} */ played = null;
+  air = new View();
+  dwell = new View();
+  alone = new View();
+  isMoved = false;
+  isPlaying = false;
+  /** @type {any} */ program;
+  /** @type {any} */ timeline;
+  /** @type {any} */ car;
+  /* The start has the address of its link. */
+  isStart = true;
+  road = this;
 
-/* Moves a tunnel to a slot, or one of its ends, as near as the tunnels before and behind it let it. One slot stays
-   between two tunnels. */
-function moveTunnel(i, what, slot) {
-  const it = state.tunnels[i], { from, to } = it, { to: before = -1 } = state.tunnels[i - 1] ?? {};
-  const { from: behind = state.count + 1 } = state.tunnels[i + 1] ?? {};
-  if (what === "from") it.from = within(before + 1, slot, to - 1);
-  if (what === "to") it.to = within(from + 1, slot, behind - 1);
-  if (what === "whole") it.from = within(before + 1, slot, behind - 1 - (to - from));
-  if (what === "whole") it.to = it.from + to - from;
-  if (it.from === from && it.to === to) return;
-  state.held = it;
-  showTunnels();
-  play();
-}
+  get count() { return this.rows.length; }
+  percent(slot) { return `${100 * slot / this.count}%`; }
 
-/* Plays the road in the worker, and again if a tunnel moved meanwhile. */
-function play() {
-  state.isMoved = true;
-  if (!state.isPlaying) state.work = playMoves().catch((error) => { $("road-says").textContent = error.message; });
-}
+  /* Takes a script with one receiver: the slots that it loses are the tunnels. */
+  take(text, tunnels = null) {
+    this.rows = records.read(text);
+    const isLost = (slot) => this.rows[slot]?.receptions[0] === "L";
+    const slots = [...this.rows.keys()];
+    const starts = slots.filter((slot) => isLost(slot) && !isLost(slot - 1));
+    const ends = slots.filter((slot) => isLost(slot) && !isLost(slot + 1));
+    this.tunnels = (tunnels ?? starts.map((from, i) => [from, ends[i] + 1])).map(([from, to], i) => this.tunnel(from, to, i));
+    $("road-band").replaceChildren(...this.tunnels.flatMap(({ place, exit }) => [place, exit]), this.car);
+    $("road-texts").replaceChildren(...this.rows.filter(({ command }) => command === "text").map(this.fieldOf, this));
+    this.placeTunnels();
+    return this.play();
+  }
 
-async function playMoves() {
-  for (state.isPlaying = true; state.isMoved;) await playNow();
-  state.isPlaying = false;
-}
+  /* A field for a text of the station. */
+  fieldOf(row, i) {
+    const field = make("input", { className: `hue-${i % 3}`, maxLength: LONGEST, value: row.argument, ariaLabel: `Text ${i + 1}` });
+    field.oninput = soon(() => {
+      records.edit(row, { argument: field.value });
+      this.play();
+    });
+    return field;
+  }
 
-/* The car stands where the radio first shows a mix, or else behind the tunnel that was moved. */
-async function playNow() {
-  state.isMoved = false;
-  const isLost = (slot) => state.tunnels.some(({ from, to }) => from <= slot && slot < to);
-  state.rows.forEach((row, slot) => records.edit(row, { receptions: [isLost(slot) ? "L" : "G"] }));
-  state.text = records.write(state.rows);
-  const got = await program.ask("play", { ...RDSRT_EXAMPLES.script[0], text: state.text });
-  const values = new Texts(got.values), view = (packed) => new View(packed, values);
-  const [air, dwell, alone] = [got.air, got.views[0], got.alone[0]].map(view);
-  state.views = { air, dwell, alone };
-  // the texts keep their shades while the receivers show others
-  air.parts.text.numbers.forEach((number, i) => { values.shades[number] = i % 3; });
-  const mix = firstMix();
-  move(mix ? mix.from : state.held?.to ?? state.cursor);
-}
+  /* A tunnel: its place with its entry, and its exit. The keys need no third slider for the entry. */
+  tunnel(from, to, i) {
+    const [place, exit] = filled("tunnel", {});
+    const it = { from, to, place, exit };
+    place.ariaLabel = `${["First", "Second"][i] ?? "Next"} tunnel, its place`;
+    exit.ariaLabel = place.ariaLabel.replace("place", "exit");
+    this.slider(place, () => it.from, (slot) => this.moveTunnel(i, "whole", slot));
+    this.slider(exit, () => it.to, (slot) => this.moveTunnel(i, "to", slot));
+    this.slider(place.lastChild, () => it.from, (slot) => this.moveTunnel(i, "from", slot), place);
+    return it;
+  }
 
-/* Where the radio first shows a mix, as the program says; undefined if it shows none. */
-function firstMix() {
-  const { text } = state.views.alone.parts, [i] = text.mixes();
-  return i === undefined ? undefined : text.at(i);
-}
+  /* Moves a tunnel to a slot, or one of its ends, as near as the tunnels before and behind it let it. One slot stays
+     between two tunnels. */
+  moveTunnel(i, what, slot) {
+    const it = this.tunnels[i];
+    const { from, to } = it;
+    const { to: before = -1 } = this.tunnels[i - 1] ?? {};
+    const { from: behind = this.count + 1 } = this.tunnels[i + 1] ?? {};
+    if (what === "to") it.to = within(from + 1, slot, behind - 1);
+    else it.from = within(before + 1, slot, what === "from" ? to - 1 : behind - 1 - (to - from));
+    if (what === "whole") it.to = it.from + to - from;
+    if (it.from === from && it.to === to) return;
+    this.held = it;
+    this.placeTunnels();
+    this.play();
+  }
 
-export function move(slot) {
-  const at = state.cursor = within(0, slot, state.count - 1), { air, dwell, alone } = state.views;
-  const onAir = radio($("road-air"), "On air", air, at, { none: "silence" });
-  const shown = radio($("road-dwell"), "Receiver with the dwell", dwell, at);
-  const other = radio($("road-alone"), "Radio with the flag bit alone", alone, at, { mixed: MIXED });
-  const place = $("road-at").textContent = `slot ${at}, ${lines.time(at)}`;
-  put($("road-car"), at, `${place}. On air ${onAir}. Receiver: ${shown}. Radio: ${other}`);
-  $("road-car").style.left = percent(at + 0.5);
-  tell();
-  paint();
-}
+  placeTunnels() {
+    for (const { from, to, place, exit } of this.tunnels) {
+      const length = lines.time(to - from);
+      const ariaValueText = `tunnel from slot ${from} to ${to}, ${length}`;
+      place.firstChild.textContent = length;
+      Object.assign(place.style, { left: this.percent(from), width: this.percent(to - from) });
+      exit.style.left = this.percent(to);
+      Object.assign(place, { ariaValueMax: this.count, ariaValueNow: from, ariaValueText });
+      Object.assign(exit, { ariaValueMax: this.count, ariaValueNow: to, ariaValueText });
+    }
+  }
 
-/* Says in a sentence what the displays show, if it is worth one. */
-function tell() {
-  const { cursor: slot, views: { dwell, alone } } = state;
-  if (!alone) return;
-  const mix = firstMix(), run = alone.at("text", slot);
-  const later = mix && `The radio first shows a mix at ${lines.time(mix.from)}.`;
-  const now = slot < run?.mixTo && `“${run.value}” was never on air. ${whyNoMix(dwell, alone, slot)}`;
-  const sentence = now || later || "No display shows a mix on this road. Drag the ends of the tunnels.";
-  if ($("road-says").textContent !== sentence) $("road-says").textContent = sentence;
-}
+  slotAt({ clientX }) {
+    const { left, width } = $("road-band").getBoundingClientRect();
+    return (clientX - left) / width * this.count;
+  }
 
-function put(slider, now, text) {
-  Object.assign(slider, { ariaValueMax: state.count, ariaValueNow: now, ariaValueText: text });
-}
+  /* A slider on the road: `value` reads its slot, `move` sets it. Without a value it goes to the pointer at once. */
+  slider(element, value, move, focus = element) {
+    element.onpointerdown = (event) => {
+      if (event.button || !event.isPrimary) return;
+      event.preventDefault();
+      event.stopPropagation();
+      this.timeline.play.stop();
+      focus.focus({ preventScroll: true, focusVisible: false });
+      const grabbed = value ? this.slotAt(event) - value() : 0.5;
+      const go = (moved) => move(Math.round(this.slotAt(moved) - grabbed));
+      element.setPointerCapture(event.pointerId);
+      element.onpointermove = go;
+      element.onpointerup = element.onpointercancel = () => { element.onpointermove = null; };
+      if (!value) go(event);
+    };
+    if (value) element.onkeydown = (event) => {
+      if (!(event.key in STEPS) || event.altKey || event.ctrlKey || event.metaKey) return;
+      event.preventDefault();
+      event.stopPropagation();
+      this.timeline.play.stop();
+      move(value() + STEPS[event.key]);
+    };
+  }
 
-const slotAt = ({ clientX }) => {
-  const { left, width } = $("road-band").getBoundingClientRect();
-  return (clientX - left) / width * state.count;
-};
+  /* Plays the road in the worker, and again if something moved meanwhile. */
+  play() {
+    this.isMoved = true;
+    if (!this.isPlaying) this.work = this.playMoves().catch((error) => { $("road-says").textContent = error.message; });
+    return this.work;
+  }
 
-/* A slider on the road: `value` reads its slot, `move` sets it. One that jumps goes to the pointer at once. */
-function slider(element, value, move, { focus = element, jumps = false } = {}) {
-  element.onpointerdown = (event) => {
-    if (event.button || !event.isPrimary) return;
-    event.preventDefault();
-    event.stopPropagation();
-    drive.stop();
-    focus.focus({ preventScroll: true, focusVisible: false });
-    const grabbed = jumps ? 0.5 : slotAt(event) - value();
-    const go = (moved) => move(Math.round(slotAt(moved) - grabbed));
-    element.setPointerCapture(event.pointerId);
-    element.onpointermove = go;
-    element.onpointerup = element.onpointercancel = () => { element.onpointermove = null; };
-    if (jumps) go(event);
-  };
-  element.onkeydown = (event) => {
-    if (!(event.key in STEPS) || event.altKey || event.ctrlKey || event.metaKey) return;
-    event.preventDefault();
-    event.stopPropagation();
-    drive.stop();
-    move(value() + STEPS[event.key]);
-  };
-}
+  async playMoves() {
+    for (this.isPlaying = true; this.isMoved;) await this.playNow().catch((error) => { $("road-says").textContent = error.message; });
+    this.isPlaying = false;
+  }
 
-/* The elements of a tunnel: its place with its entry, and its exit. The keys need no third slider for the entry. */
-function tunnelOf(it, i) {
-  const [place, exit] = filled("tunnel", {}), name = `${["First", "Second"][i] ?? "Next"} tunnel`;
-  Object.assign(it, { place, exit });
-  place.ariaLabel = `${name}, its place`;
-  exit.ariaLabel = `${name}, its exit`;
-  slider(place, () => it.from, (slot) => moveTunnel(i, "whole", slot));
-  slider(exit, () => it.to, (slot) => moveTunnel(i, "to", slot));
-  slider(place.lastChild, () => it.from, (slot) => moveTunnel(i, "from", slot), { focus: place });
-  return [place, exit];
-}
+  /* The car stands where the radio begins to show its longest mix, or else behind the tunnel that was moved. */
+  async playNow() {
+    this.isMoved = false;
+    const isLost = (slot) => this.tunnels.some(({ from, to }) => from <= slot && slot < to);
+    this.rows.forEach((row, slot) => records.edit(row, { receptions: [isLost(slot) ? "L" : "G"] }));
+    this.text = records.write(this.rows);
+    if (this.link) links.keep(this);
+    const played = await this.program.ask("play", { ...RDSRT_EXAMPLES.script[0], text: this.text });
+    const values = new Texts(played.values);
+    const [air, dwell, alone] = [played.air, played.views[0], played.alone[0]].map((packed) => new View(packed, values));
+    air.shadeTexts();
+    Object.assign(this, { played, air, dwell, alone });
+    this.timeline.show(this.lanes(), this.count);
+    this.timeline.move(this.longestMix()?.from ?? this.held?.to ?? this.timeline.cursor);
+  }
 
-function showTunnels() {
-  for (const { from, to, place, exit } of state.tunnels) {
-    const length = place.firstChild.textContent = lines.time(to - from);
-    const text = `tunnel from slot ${from} to ${to}, ${length}`;
-    Object.assign(place.style, { left: percent(from), width: percent(to - from) });
-    exit.style.left = percent(to);
-    put(place, from, text);
-    put(exit, to, text);
+  lanes() {
+    const lane = (name, short, view) => ({ name, short, kind: "bars", runs: view.parts.text, strong: true });
+    return [lane("on air", "on air", this.air), lane("with rdsrt", "with rdsrt", this.dwell),
+      lane("ordinary radio", "ordinary", this.alone)];
+  }
+
+  /* The mix that the radio shows for the longest time, as the program says; undefined if it shows none. */
+  longestMix() {
+    const { text } = this.alone.parts;
+    return text.mixes().map((i) => text.at(i)).sort((one, other) => other.to - other.from - (one.to - one.from))[0];
+  }
+
+  showSlot(slot) {
+    const { air, dwell, alone, played } = this;
+    const sourceOf = (at) => this.rows[at].receptions[0] === "G" ? at : -1;
+    const origins = () => player.originsOf(played, sourceOf, slot).map((at) => air.shadeAt(at));
+    const onAir = radio($("road-air"), "On air", air, slot, { none: "silence" });
+    const shown = radio($("road-dwell"), "A receiver with rdsrt", dwell, slot);
+    const other = radio($("road-alone"), "An ordinary radio", alone, slot, { mixed: MIXED, origins });
+    this.car.style.left = this.percent(slot + 0.5);
+    this.tell(slot);
+    return `On air ${onAir}. A receiver with rdsrt: ${shown}. An ordinary radio: ${other}`;
+  }
+
+  /* Says in a sentence what the displays show, if it is worth one. */
+  tell(slot) {
+    const { dwell, alone, played } = this;
+    if (!played) return;
+    const mix = this.longestMix();
+    const run = alone.at("text", slot);
+    const later = mix && `The ordinary radio shows a mix from ${lines.time(mix.from)} on.`;
+    const now = run?.state === "mix" && `“${run.value}” was never on air. ${whyNoMix(dwell, alone, slot)}`;
+    const calm = "No display shows a mix on this road. Drag the ends of the tunnels.";
+    const words = played.fault ? nodesOf(`${lines.noteOf(played.notes, played.fault) || played.fault}.`) : [now || later || calm];
+    $("road-says").replaceChildren(...words);
+  }
+
+  /* What a timeline asks for. */
+  choose() {}
+  paint() { return false; }
+  key() { return false; }
+  clock() { return ""; }
+  elapsed(slot) { return lines.time(slot); }
+  seconds() { return NaN; }
+
+  /* What a link asks for. */
+  field(name) { return $(`road-${name}`); }
+  options() { return ""; }
+  moreSight() { return ""; }
+  settle() {}
+  shared() {}
+
+  async open(text, hash) {
+    await this.take(text);
+    this.link = { text: this.text, options: this.options(), hash, isNow: true };
+  }
+
+  /* Begins with the compiled program. `open` opens a script in its tab. */
+  begin(compiled, open) {
+    const { text, m, k, pty } = RDSRT_EXAMPLES.script[0];
+    this.program = new Program(compiled);
+    this.car = $("road-car");
+    this.timeline = new Timeline(this, AXIS);
+    this.slider($("road-band"), null, (slot) => this.timeline.move(slot), this.timeline.canvas);
+    $("road-script").onclick = () => open(this.text, { m, k, pty });
+    $("road-share").onclick = () => links.give(this);
+    return this.take(text, TUNNELS);
+  }
+
+  /* Drives up to the longest mix, once. Who wants no motion sees the car there at once. */
+  async greet() {
+    await this.work;
+    const mix = this.played && this.longestMix();
+    if (!mix || !$("road").checkVisibility()) return;
+    this.timeline.move(mix.from);
+    this.timeline.play.greet(mix.from);
   }
 }
 
-function paint() {
-  const canvas = $("road-lanes"), width = canvas.clientWidth, { air, dwell, alone } = state.views;
-  if (!width || !air) return;
-  const lane = (name, view) => ({ name, kind: "bars", runs: view.parts.text, gap: 20 });
-  const lanes = [
-    lane("on air", air), lane("receiver with the dwell", dwell), lane("radio with the flag bit alone", alone),
-  ];
-  // the road stands in place of the axis
-  const height = painter.place(lanes), ctx = painter.sized(canvas, width, height, painter.AXIS);
-  const { count, cursor } = state, x = (slot) => slot / count * width;
-  const sight = { from: 0, across: count, room: width, gutter: 0, width, cursor, x };
-  painter.paint(ctx, lanes, sight, { ...ink, line: "transparent" }, height);
-  ctx.font = `12px ${painter.FONT}`;
-  ctx.fillStyle = ink.dim;
-  for (const { name, top } of lanes) ctx.fillText(name, 1, top - 8);
-}
-
-/* Begins with the compiled program. `open` opens a script in its tab. */
-export function begin(compiled, open) {
-  const { text, m, k, pty } = RDSRT_EXAMPLES.script[0];
-  program = new Program(compiled);
-  state.rows = records.read(text);
-  state.tunnels = tunnelsOf(state.rows);
-  $("road-band").prepend(...state.tunnels.flatMap(tunnelOf));
-  const car = $("road-car"), slot = () => state.cursor;
-  slider(car, slot, move);
-  for (const id of ["road-lanes", "road-band"]) slider($(id), slot, move, { focus: car, jumps: true });
-  $("road-open").onclick = () => open(state.text, { m, k, pty });
-  painter.watchInks($("road"), (it) => { ink = it; paint(); });
-  new ResizeObserver(paint).observe($("road-lanes"));
-  showTunnels();
-  move(0);
-  play();
-}
-
-/* Drives up to the first mix, once. Who wants no motion sees the car there at once. */
-export async function greet() {
-  await state.work;
-  const mix = state.views.alone && firstMix();
-  if (!mix || !$("road").checkVisibility()) return;
-  move(mix.from);
-  drive.greet(mix.from);
-}
+export const road = new Road();

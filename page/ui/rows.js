@@ -6,7 +6,13 @@ const ROWS = 100;
 
 export class Rows {
   /* `row` returns the class, the title, the cells and the action of a row by its number. */
-  constructor(list, row) { Object.assign(this, { list, row, count: 0, first: 0, chosen: -1 }); }
+  constructor(list, row) {
+    this.list = list;
+    this.row = row;
+    this.count = 0;
+    this.first = 0;
+    this.chosen = -1;
+  }
 
   show(count, chosen = -1) {
     Object.assign(this, { count, chosen });
@@ -37,11 +43,13 @@ export class Rows {
 
   /* Marks the chosen row, and brings it into sight of the list. */
   mark() {
-    const { list } = this, row = list.querySelector(`[data-row="${this.chosen}"]`);
+    const { list } = this;
+    const row = list.querySelector(`[data-row="${this.chosen}"]`);
     list.querySelector("[aria-current]")?.removeAttribute("aria-current");
     if (!row) return;
     row.setAttribute("aria-current", "true");
-    const top = row.offsetTop, bottom = top + row.offsetHeight;
+    const top = row.offsetTop;
+    const bottom = top + row.offsetHeight;
     const isInSight = top >= list.scrollTop && bottom <= list.scrollTop + list.clientHeight;
     if (!isInSight) list.scrollTop = top - list.clientHeight / 3;
   }

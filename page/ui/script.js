@@ -1,46 +1,61 @@
 /* The tab of a script: a station and up to eight receivers, each beside one with the flag bit alone. */
-import { Marks, Texts, View } from "../display/runs.js";
+import { Marks, Texts, View } from "../model/displays.js";
 import * as lines from "../model/lines.js";
-import * as logfile from "../model/logfile.js";
 import * as player from "../model/player.js";
 import * as records from "../model/records.js";
 import { Program } from "../program/program.js";
+import { nameFor, saveAs } from "./files.js";
 import * as links from "./links.js";
 import { $, MIXED, counted, hex, make, nodesOf, number, problemOf, radio, soon, staleAt, whyNoMix } from "./parts.js";
-import * as picture from "./picture.js";
-import { Tab, added } from "./tab.js";
+import { Tab } from "./tab.js";
 
-const UNPLAYED = "not played", LOOK = "look";
+const UNPLAYED = "not played";
+const LOOK = "look";
 /* The most letters of an argument that the form takes: a text has 64 characters, and an escape is four letters. */
 const LONG_ARGUMENT = 400;
+const MOST_STATES = 200;
 /* The names of lanes, each with the one on a phone. */
 const AIR = { text: ["on air", "on air"], name: ["  its name", " name"], tags: ["  its tags", " tags"] };
 const OTHERS = { name: ["  its name", "  name"], tags: ["  its tags", "  tags"] };
-const DWELL = { text: ["  with the dwell", " dwell"], ...OTHERS };
-const ALONE = { text: ["  flag bit alone", " flag bit"], ...OTHERS };
-const NOTHING_SENT = { count: 0, words: [], missing: [], codes: new Uint8Array(0) };
+const DWELL = { text: ["  with rdsrt", " rdsrt"], ...OTHERS };
+const ALONE = { text: ["  ordinary radio", " ordinary"], ...OTHERS };
 const unplayed = () => ({
-  played: 0, air: new View(), views: [], alone: [], heard: [], sent: NOTHING_SENT, fault: null, replies: new Map(),
-  notes: [], firstMix: null,
+  played: 0, air: new View(), views: [], alone: [], heard: [], codes: new Uint8Array(0), fault: null, replies: new Map(), notes: [],
 });
+/** @type {() => any[]} */
 const brushes = () => [...document.querySelectorAll("[name=brush]")];
-const brushNow = () => brushes().find((it) => it.checked);
+const brushNow = () => brushes().find(({ checked }) => checked);
 /* The example of an argument of the form's command; undefined if it takes none. */
 const hintNow = () => $("command").selectedOptions[0].dataset.hint;
 const receiversOf = (rows) => rows[0]?.receptions.length ?? 0;
 
 class ScriptTab extends Tab {
+  /** @type {any[]} */ rows = [];
+  /** @type {any} */ opened = { text: "", input: "", file: "", example: "" };
+  /** @type {string[]} */ states = [];
+  /** @type {View[]} */ views = [];
+  /** @type {View[]} */ alone = [];
+  /** @type {Uint8Array[]} */ heard = [];
+  /** @type {string[]} */ notes = [];
+  /** @type {string | null} */ fault = null;
+  /** @type {any} */ firstMix;
+  /** @type {any} */ program;
+  air = new View();
+  words = new Uint16Array(0);
+  codes = new Uint8Array(0);
+  replies = new Map();
+  played = 0;
+  chosen = 0;
+  pty = "10";
+  saved = "";
+  now = -1;
+
   constructor() {
     super("script", "Play a script");
-    Object.assign(this, unplayed(), {
-      rows: [], text: "", chosen: 0, pty: "10", opened: { text: "", input: "", file: "", example: "" }, saved: "",
-    });
     this.playedSoon = soon(() => this.edited());
   }
 
-  station = player.PI;
-  waitsFor = "Playing the script";
-  get inOneLine() { return $("script-count").textContent; }
+  get waitsFor() { return "Playing the script"; }
   get receivers() { return Number(this.value("n")); }
 
   /* Chooses a receiver, as far as there is one. */
@@ -52,15 +67,16 @@ class ScriptTab extends Tab {
 
   /* Edits the receptions of a stroke. Its lane shows them before the script is played. */
   paint(lane, from, to) {
-    const letter = brushNow().value, { group } = lane ?? {}, { timeline, sent, rows } = this;
+    const letter = brushNow().value;
+    const { group } = lane ?? {};
     if (letter === LOOK || group === undefined) return false;
-    const { codes } = timeline.lanes.find((it) => it.kind === "ticks" && it.group === group);
+    const { codes } = this.timeline.lanes.find((it) => it.kind === "ticks" && it.group === group);
     for (let slot = from; slot <= to; slot++) {
       this.setReception(slot, group, letter);
-      if (slot < codes.length) codes[slot] = player.kindHeard(sent.codes, rows[slot].receptions[group], slot);
+      if (slot < codes.length) codes[slot] = player.kindHeard(this.codes, this.rows[slot].receptions[group], slot);
     }
     this.turn.abort();
-    timeline.draw();
+    this.timeline.draw();
     return true;
   }
 
@@ -73,12 +89,14 @@ class ScriptTab extends Tab {
   }
 
   key(key, event) {
-    if (super.key(key, event)) return true;
-    const { timeline, chosen, receivers: n } = this, by = { ArrowDown: 1, ArrowUp: -1 }[key];
+    const { timeline, chosen, receivers } = this;
+    const by = { ArrowDown: 1, ArrowUp: -1 }[key];
     const letter = "lgr".includes(key) && key.toUpperCase();
-    if (key === "Enter") $("command").focus();
-    else if (!n || !(by || letter)) return false;
-    else if (by) this.choose((chosen + n + by) % n);
+    if (event.ctrlKey || event.metaKey) {
+      if (key === "z" || key === "y") this.back(key === "y" || event.shiftKey ? 1 : -1);
+    } else if (key === "Enter") $("command").focus();
+    else if (!receivers || !(by || letter)) return false;
+    else if (by) this.choose((chosen + receivers + by) % receivers);
     else {
       this.setReception(timeline.cursor, chosen, letter);
       this.edited();
@@ -88,43 +106,66 @@ class ScriptTab extends Tab {
 
   /* Edits what a receiver does. A wrong group is the one of the slot with its last bit wrong, if one was sent. */
   setReception(slot, receiver, letter) {
-    const row = this.rows[slot], group = letter === "W" && logfile.groupAt(this.sent, slot);
-    const wrong = group ? `W${group.with(3, group[3] ^ 1).slice(1).map(hex).join("")}` : "L";
+    const row = this.rows[slot];
+    const group = letter === "W" && player.sentIn(this, slot);
+    const wrong = group ? `W${[group[1], group[2], group[3] ^ 1].map(hex).join("")}` : "L";
     if (row) records.editReception(row, receiver, letter === "W" ? wrong : letter);
   }
 
   edited(how) {
     this.text = records.write(this.rows);
-    this.note(this.text);
+    this.note();
     this.look(how);
   }
 
-  settle() { this.playedSoon.now(); }
+  /* Notes a state of the edits, and drops the undone ones; or begins anew with it. */
+  note({ isFirst = false } = {}) {
+    if (isFirst) this.states = [];
+    if (this.states[this.now] === this.text && !isFirst) return;
+    this.states.splice(this.now + 1, Infinity, this.text);
+    this.states = this.states.slice(-MOST_STATES);
+    this.standAt(this.states.length - 1);
+  }
 
-  takeUndone(text) {
+  standAt(now) {
+    this.now = now;
+    $("script-undo").disabled = now === 0;
+    $("script-redo").disabled = now === this.states.length - 1;
+  }
+
+  /* Goes back (-1) or forth (1) over the edits. */
+  back(by) {
+    this.settle();
+    const text = this.states[this.now + by];
+    if (text === undefined) return;
+    this.standAt(this.now + by);
     this.take(text);
     this.look();
   }
 
+  settle() { this.playedSoon.now(); }
+
   /* Writes the form's command into the row of the chosen slot, if there is one, and goes on. */
   writeCommand(goOn) {
-    const row = this.rows[this.timeline.cursor], field = $("argument");
-    const { value: command } = $("command"), free = $("free").checked ? "1" : "0";
+    const row = this.rows[this.timeline.cursor];
+    const field = $("argument");
     field.hidden = !hintNow();
     if (!row) return;
     const argument = field.readOnly ? row.argument : field.value;
-    records.edit(row, { command, argument: hintNow() ? argument : "", free });
+    const free = $("free").checked ? "1" : "0";
+    records.edit(row, { command: $("command").value, argument: hintNow() ? argument : "", free });
     goOn();
   }
 
   /* A number of the form was changed: a script of another size is edited, and one of the same is played again. */
   formChanged() {
-    const { rows, receivers } = this, n = receiversOf(rows), count = Number(this.value("slots"));
-    const isSame = receivers === n && count === Math.max(1, rows.length);
+    const { rows, receivers } = this;
+    const count = Number(this.value("slots"));
+    const isSame = receivers === receiversOf(rows) && count === Math.max(1, rows.length);
     if (isSame || problemOf(this.field("form"))) { this.look(); return; }
     while (rows.length < count) rows.push(records.empty(receivers));
     rows.length = count;
-    if (receivers !== n) for (const row of rows) records.editReceivers(row, receivers);
+    if (receivers !== receiversOf(rows)) for (const row of rows) records.editReceivers(row, receivers);
     this.edited({ fit: true });
   }
 
@@ -136,46 +177,53 @@ class ScriptTab extends Tab {
 
   /* Opens a script: its text, and the program's input for this text, which for a file is the file's bytes. Returns when
      it is played, or when another one is. */
-  async open(text, { m, k, w = "", pty = "10", example = "", file = "", input = text } = {}) {
+  /** @param {string} text @param {any} [settings] */
+  async open(text, settings = {}) {
+    const { m, k, w = "", pty = "10", example = "", file = "", input = text } = settings;
     Object.assign(this, { pty, opened: { text, input, file, example }, saved: text });
     this.setFields({ m, k, w });
     this.take(text);
-    this.note(text, { isFirst: true });
+    this.note({ isFirst: true });
     if (!await this.look({ fit: true })) return;
-    const { firstMix, timeline, air: { parts: { text: onAir } } } = this;
-    const behindFirst = onAir.length ? onAir.from(0) + Number(this.value("m")) : timeline.cursor;
-    if (firstMix) this.choose(firstMix.receiver);
-    timeline.move(firstMix?.slot ?? behindFirst, { keep: true });
+    const { text: onAir } = this.air.parts;
+    const behindFirst = onAir.length ? onAir.from(0) + Number(this.value("m")) : this.timeline.cursor;
+    if (this.firstMix) this.choose(this.firstMix.receiver);
+    this.timeline.move(this.firstMix?.slot ?? behindFirst, { keep: true });
   }
 
   prepare() {
-    const { opened, text } = this, isOpened = text === opened.text;
-    this.setFields({ example: isOpened ? opened.example : "" });
-    this.nameFile(opened.file, !isOpened);
+    const { opened, text } = this;
+    this.setFields({ example: text === opened.text ? opened.example : "" });
+    this.nameFile(opened.file, text !== opened.text);
     links.keep(this);
-    this.fillText(text);
+    if (this.value("text") !== text) this.field("text").value = text;
   }
 
   async show(signal, { fit = false }) {
-    const { text, opened } = this, input = text === opened.text ? opened.input : text;
+    const { text, opened } = this;
     const [m, k, w] = ["m", "k", "w"].map((name) => this.value(name));
-    const given = { text, input: input === text ? undefined : input, pty: this.pty, m, k, w };
-    const got = await this.program.ask("play", given, { signal }), values = new Texts(got.values);
-    const view = (packed) => new View(packed, values), replies = new Map(got.replies.map((it) => [it.slot, it]));
-    const shown = { views: got.views.map(view), alone: got.alone.map(view), air: view(got.air), replies };
-    Object.assign(this, got, shown);
+    const input = text === opened.text && opened.input !== text ? opened.input : undefined;
+    const played = await this.program.ask("play", { text, input, pty: this.pty, m, k, w }, { signal });
+    const values = new Texts(played.values);
+    const view = (packed) => new View(packed, values);
+    Object.assign(this, played, {
+      air: view(played.air), views: played.views.map(view), alone: played.alone.map(view),
+      replies: new Map(played.replies.map((reply) => [reply.slot, reply])),
+    });
+    this.air.shadeTexts();
     $("brush-wrong").hidden = !w;
     this.choose(this.chosen);
     this.timeline.show(this.lanes(), this.rows.length, { fit });
-    this.tellLines("script", got.command, got.output);
-    const wait = lines.noteOf(got.notes, "slot ");
+    this.tellLines("script", played.command, played.output);
+    const wait = lines.noteOf(played.notes, "slot ");
     this.tell(this.mixesInWords(), wait && `${wait}.`, this.faultInNodes());
   }
 
   /* Why the page does not play these rows; empty if it does. */
   problem() {
-    const n = receiversOf(this.rows), most = (name) => Number(this.field(name).max);
-    if (n > most("n")) return `The script has ${number(n)} receivers. The page plays at most ${most("n")}.`;
+    const receivers = receiversOf(this.rows);
+    const most = (name) => Number(this.field(name).max);
+    if (receivers > most("n")) return `The script has ${number(receivers)} receivers. The page plays at most ${most("n")}.`;
     if (this.rows.length <= most("slots")) return super.problem();
     return `The script has ${counted(this.rows.length, "row")}. The page plays at most ${number(most("slots"))}.`;
   }
@@ -207,44 +255,51 @@ class ScriptTab extends Tab {
       { name: `receiver ${group}`, kind: "ticks", codes, losses: true, group, gap: 14 },
       ...this.views[group].lanes(DWELL, { group, gap: 2 }), ...this.alone[group].lanes(ALONE, { group, gap: 2 }),
     ]);
-    const sent = { name: "sent", kind: "ticks", codes: this.sent.codes };
+    const sent = { name: "sent", kind: "ticks", codes: this.codes };
     const station = { name: "station", kind: "marks", marks: this.marks() };
     return [sent, station, ...this.air.lanes(AIR, {}, { strong: true, gap: 8 }), ...receivers];
   }
 
-  /* How many texts, names and tags are mixes. That no receiver with the dwell shows one is proved. */
+  /* How many texts, names and tags are mixes. That no receiver with rdsrt shows one is proved. */
   mixesInWords() {
     const mixes = this.alone.flatMap((view, receiver) => Object.entries(view.parts).flatMap(([part, runs]) =>
       runs.mixes().map((i) => ({ receiver, slot: runs.from(i), part: part.replace(/[12]$/, "") }))));
     mixes.sort((one, other) => one.receiver - other.receiver || one.slot - other.slot);
-    const [first = null] = mixes;
-    this.firstMix = first;
+    this.firstMix = mixes[0];
     const count = (part) => mixes.filter((it) => it.part === part).length;
     const inWords = (part) => count(part) === 1 ? `a ${part}` : counted(count(part), part);
     const kinds = ["text", "name", "tag"].filter(count).map(inWords);
     if (this.receivers === 0 || this.fault) return "";
-    if (!first) return "No receiver shows a mix here. Lose more slots: a whole text and the next flip of the flag.";
-    const one = mixes.length === 1 ? "a mix" : "mixes";
-    return `With the flag bit alone, receivers show ${one}: ${kinds.join(" and ")}. With the dwell none does.`;
+    if (!mixes.length) return "No receiver shows a mix here. Lose more slots: a whole text and the next flip of the flag.";
+    const word = mixes.length === 1 ? "a mix" : "mixes";
+    return `Ordinary radios show ${word}: ${kinds.join(" and ")}. With rdsrt none does.`;
   }
 
   /* A fault of the script, by the program's note; and a button to a bad row in the text that was played. */
   faultInNodes() {
-    const { fault, notes, text } = this, row = /^fault row (\d+)/.exec(fault ?? "");
-    const bad = row && records.read(text)[Number(row[1]) - 1], onclick = () => this.showRow(bad);
-    const button = make("button", { type: "button", textContent: "Show the line", onclick });
+    const { fault, notes, text } = this;
+    const row = /^fault row (\d+)/.exec(fault ?? "");
+    const bad = row && records.read(text)[Number(row[1]) - 1];
+    const button = make("button", { type: "button", textContent: "Show the line", onclick: () => this.showRow(bad) });
     const words = fault ? nodesOf(`${lines.noteOf(notes, fault) || fault}.`) : [];
     return [...words, ...bad ? [" The rows after it are not played. ", button] : []];
   }
 
   /* Opens the text and chooses the line in which a row begins. Each line end is one letter of the field. */
   showRow({ start }) {
-    const area = $("script-text"), before = this.text.slice(0, start).replace(/\r\n?/g, "\n"), { length } = before;
+    const area = $("script-text");
+    const before = this.text.slice(0, start).replace(/\r\n?/g, "\n");
+    const end = before.length + area.value.slice(before.length).search(/$/m);
     area.closest("details").open = true;
     area.focus();
-    area.setSelectionRange(length, length + area.value.slice(length).search(/$/m));
-    const line = before.split("\n").length, { lineHeight } = getComputedStyle(area);
-    area.scrollTop = Math.max(0, (line - 4) * parseFloat(lineHeight));
+    area.setSelectionRange(before.length, end);
+    area.scrollTop = Math.max(0, (before.split("\n").length - 4) * parseFloat(getComputedStyle(area).lineHeight));
+  }
+
+  /* The slot whose group a receiver got in a slot; -1 if it got none. */
+  sourceOf(slot, receiver) {
+    const [letter, rest] = [this.rows[slot].receptions[receiver][0], this.rows[slot].receptions[receiver].slice(1)];
+    return letter === "G" ? slot - Number(rest) : -1;
   }
 
   receptionInWords(letter, slot) {
@@ -253,26 +308,33 @@ class ScriptTab extends Tab {
   }
 
   showSlot(slot) {
-    const { chosen, receivers: n } = this, row = this.rows[slot], reply = this.replies.get(slot);
-    const view = this.views[chosen], alone = this.alone[chosen], isPlayed = slot < this.played;
-    const orUnplayed = (word) => isPlayed ? word : UNPLAYED, none = isPlayed ? undefined : UNPLAYED;
-    const named = (what) => n ? `Receiver ${chosen}, ${what}` : "No receiver";
+    const { chosen, receivers, air } = this;
+    const row = this.rows[slot];
+    const reply = this.replies.get(slot);
+    const [view, alone] = [this.views[chosen], this.alone[chosen]];
+    const isPlayed = slot < this.played;
+    const orUnplayed = (word) => isPlayed ? word : UNPLAYED;
+    const none = isPlayed ? undefined : UNPLAYED;
+    const named = (what) => receivers ? `Receiver ${chosen}, ${what}` : "No receiver";
     const got = orUnplayed(this.receptionInWords(row?.receptions[chosen] ?? "", slot));
-    const sent = reply ? `${reply.what} ${reply.reply}` : orUnplayed(logfile.groupAt(this.sent, slot) ? "sends" : "");
-    const stale = { led: orUnplayed(staleAt(alone, slot)), none, mixed: MIXED };
-    const onAir = radio($("script-air"), "On air", this.air, slot, { led: sent, none: orUnplayed("silence") });
-    const shown = radio($("script-radio"), named("with the dwell"), view, slot, { led: got, none });
-    const other = radio($("script-alone"), named("flag bit alone"), alone, slot, stale);
+    const sent = reply ? `${reply.what} ${reply.reply}` : orUnplayed(player.sentIn(this, slot) ? "sends" : "");
+    const origins = () => player.originsOf(this, (at) => this.sourceOf(at, chosen), slot).map((at) => air.shadeAt(at));
+    const stale = { led: orUnplayed(staleAt(alone, slot)), none, mixed: MIXED, origins };
+    const onAir = radio($("script-air"), "On air", air, slot, { led: sent, none: orUnplayed("silence") });
+    const shown = radio($("script-radio"), named("with rdsrt"), view, slot, { led: got, none });
+    const other = radio($("script-alone"), named("ordinary radio"), alone, slot, stale);
     $("script-why").textContent = whyNoMix(view, alone, slot);
     this.showCommand(slot, row);
+    this.putAddressSoon();
     if (!isPlayed) return `${UNPLAYED}.`;
-    const received = n ? ` Receiver ${chosen} ${got}: ${shown}. With the flag bit alone: ${other}.` : "";
+    const received = receivers ? ` Receiver ${chosen} ${got}: ${shown}. An ordinary radio: ${other}.` : "";
     return `On air ${onAir}.${received}`;
   }
 
   /* The field shows the begin of an argument that is far too long, and takes no letters then. */
   showCommand(slot, { command = "-", argument = "", free = "1" } = {}) {
-    const field = $("argument"), isLong = argument.length > LONG_ARGUMENT;
+    const field = $("argument");
+    const isLong = argument.length > LONG_ARGUMENT;
     $("at-slot").textContent = `Slot ${number(slot)}`;
     if (document.activeElement !== field || field.readOnly) {
       $("command").value = command;
@@ -293,22 +355,25 @@ class ScriptTab extends Tab {
   save() {
     this.settle();
     this.saved = this.text;
-    picture.saveAs(picture.nameFor("script", ".csv"), this.text, "text/csv");
+    saveAs(nameFor("script", ".csv"), this.text, "text/csv");
   }
+
+  stop() { this.turn.abort(new Error("Playing was stopped")); }
 
   options() { return `${super.options()}&pty=${this.pty}`; }
   moreSight() { return `&receiver=${this.chosen}`; }
   shared(text) { this.saved = text; }
-  settingsOf({ option }) { return { pty: String(option("pty", 0, 31, 10)) }; }
+  settingsOf({ option }, { pty = 10 }) { return { pty: String(option("pty", 0, 31, Number(pty))) }; }
   afterLink({ within }) { this.choose(within("receiver", 0, this.receivers - 1) ?? this.chosen); }
 
   begin(compiled) {
     super.begin(["m", "k", "w", "n", "slots"], () => this.formChanged());
     this.program = new Program(compiled);
     $("script-text").oninput = soon(() => {
-      const area = $("script-text"), at = area.selectionStart;
+      const area = $("script-text");
+      const at = area.selectionStart;
       this.take(area.value);
-      this.note(this.text);
+      this.note();
       this.look({ fit: true });
       area.selectionStart = area.selectionEnd = at;
     });
@@ -320,8 +385,10 @@ class ScriptTab extends Tab {
     // the row gets each typed letter at once: another slot may be chosen before the rows are played
     $("argument").oninput = () => this.writeCommand(() => { this.turn.abort(); this.playedSoon(); });
     $("command-form").addEventListener("submit", command);
-    $("script-stop").onclick = () => this.turn.abort(new Error("Playing was stopped"));
+    $("script-undo").onclick = () => this.back(-1);
+    $("script-redo").onclick = () => this.back(1);
+    $("script-save").onclick = () => this.save();
   }
 }
 
-export const scriptTab = added(new ScriptTab());
+export const scriptTab = new ScriptTab();

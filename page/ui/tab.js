@@ -1,22 +1,25 @@
-/* What the tabs of a log and of a script share. A tab has `text`, `show` for a look, `showProblem`, `settingsOf` for a
-   link, `open`, `save`, `isUnsaved`, and for its timeline `showSlot`, `paint`, `painted`, `station`, `inOneLine`. */
+/* What the tabs of a log and of a script share. A tab has `text`, `show` for a look, `showProblem`, `settingsOf` for an
+   address, `open`, `isUnsaved`, and for its timeline `showSlot`, `paint`, `painted`. */
 import * as lines from "../model/lines.js";
 import * as links from "./links.js";
 import { $, entitle, isolated, problemOf, soon } from "./parts.js";
 import { Timeline } from "./timeline.js";
 
-/* The tabs of the page in their order. A file adds its own: an object with an id, which is that of its section, a title
-   and `begin`. One with an input has `open` too. */
-export const TABS = [];
-export const added = (it) => TABS[TABS.push(it) - 1];
-/* The milliseconds after which a tab shows that it waits, and the most letters of an output that is shown. */
-const PATIENCE = 150, MOST = 400_000;
-/* The most states of the undo, and the most letters in all of them. */
-const MOST_STATES = 200, MOST_LETTERS = 40e6;
+/* The milliseconds after which a tab shows that it waits. */
+const PATIENCE = 150;
 
 export class Tab {
+  /** @type {Promise<any>} */ work = Promise.resolve();
+  turn = new AbortController();
+  isStart = false;
+  text = "";
+  /** @type {any} */ link = null;
+  timer = 0;
+
   constructor(id, title) {
-    Object.assign(this, { id, title, work: Promise.resolve(), turn: new AbortController(), states: [], now: -1 });
+    this.id = id;
+    this.title = title;
+    this.putAddressSoon = soon(() => links.putAddress(this));
     this.timeline = new Timeline(this);
   }
 
@@ -29,22 +32,14 @@ export class Tab {
 
   /* Shows which file the tab holds, and whether it was edited; nothing if it holds none. */
   nameFile(name, isEdited = false) {
-    const edited = isEdited ? ", edited" : "";
-    this.field("file-name").replaceChildren(...name ? [isolated(name), edited] : []);
+    this.field("file-name").replaceChildren(...name ? [isolated(name), isEdited ? ", edited" : ""] : []);
     entitle();
   }
 
-  /* Shows what a command prints. A long text is closed: then the browser does not lay it out. */
+  /* Shows what a command prints. */
   tellLines(name, command, text) {
-    const element = $(`${name}-lines`), isLong = text.length > MOST;
-    if (isLong) element.closest("details").open = false;
-    element.textContent = isLong ? `${text.slice(0, MOST)}…` : text;
+    $(`${name}-lines`).textContent = text;
     $(`${name}-command`).textContent = command;
-  }
-
-  fillText(text) {
-    if (text.length > MOST) this.field("text").closest("details").open = false;
-    if (this.value("text") !== text) this.field("text").value = text;
   }
 
   /* Notes what is in work, so that a test can wait for it. */
@@ -54,9 +49,11 @@ export class Tab {
   look(how = {}) { return this.working(this.lookNow(how)); }
   async lookNow(how) {
     this.turn.abort();
-    const { signal } = this.turn = new AbortController();
+    this.turn = new AbortController();
+    const { signal } = this.turn;
     clearTimeout(this.timer);
-    const timer = this.timer = setTimeout(() => this.wait(true), PATIENCE);
+    const timer = setTimeout(() => this.wait(true), PATIENCE);
+    this.timer = timer;
     try {
       this.prepare();
       const problem = this.problem();
@@ -79,68 +76,35 @@ export class Tab {
     if (isWaiting) this.field("waits").textContent = this.waitsFor;
   }
 
+  /* What each tab has of its own. */
+  get waitsFor() { return ""; }
+  /** @param {AbortSignal} signal @param {any} how @returns {Promise<any>} */
+  async show(signal, how) { signal.throwIfAborted(); return how; }
+  /** @param {string} problem @param {{ isRefused?: boolean }} [how] */
+  showProblem(problem, how) { console.assert(!how, problem); }
+  /** @param {any} content @param {any} [settings] @returns {Promise<any>} */
+  open(content, settings) { return this.look({ content, settings }); }
+  stop() {}
   prepare() {}
   problem() { return problemOf(this.field("form")); }
 
-  /* What a timeline asks for: the choice of a receiver; of a slot the clock, the time since the first slot, the line,
-     and the seconds of the day. */
+  /* What a timeline asks for: the choice of a receiver; of a slot the clock, the time since the first slot, and the
+     seconds of the day. */
   choose() {}
   clock() { return ""; }
   elapsed(slot) { return lines.time(slot); }
-  line() { return ""; }
   seconds() { return NaN; }
-
-  /* The keys of undo and redo. Returns whether it is one with Ctrl. */
-  key(key, event) {
-    if (!event.ctrlKey && !event.metaKey) return false;
-    if (key === "z" || key === "y") this.back(key === "y" || event.shiftKey ? 1 : -1);
-    return true;
-  }
-
-  /* Notes a state of the edits, and drops the undone ones; or begins anew with it. */
-  note(text, { isFirst = false } = {}) {
-    if (isFirst) this.states = [];
-    const { states } = this, letters = () => states.reduce((sum, { length }) => sum + length, 0);
-    if (states[this.now] === text) return;
-    states.splice(this.now + 1, Infinity, text);
-    while (states.length > 2 && (states.length > MOST_STATES || letters() > MOST_LETTERS)) states.shift();
-    this.standAt(states.length - 1);
-  }
-
-  standAt(now) {
-    this.now = now;
-    this.field("undo").disabled = now === 0;
-    this.field("redo").disabled = now === this.states.length - 1;
-  }
-
-  /* Goes back (-1) or forth (1) over the edits. */
-  back(by) {
-    this.settle();
-    const now = this.now + by, text = this.states[now];
-    if (text === undefined) return;
-    this.standAt(now);
-    this.takeUndone(text);
-  }
+  key() { return false; }
 
   options() {
-    return ["m", "k", "w"].filter((it) => this.value(it)).map((it) => `${it}=${this.value(it)}`).join("&");
+    return ["m", "k", "w"].filter((name) => this.value(name)).map((name) => `${name}=${this.value(name)}`).join("&");
   }
 
   moreSight() { return ""; }
   shared() {}
   /* Takes what was typed last at once. */
   settle() {}
-
-  share() { return links.give(this); }
-
-  async openLink(hash, defaults) {
-    const it = await links.read(this, hash), { text, option } = it;
-    const numbers = { m: option("m", 1, 65535), k: option("k", 0, 1024, defaults.k), w: option("w", 2, 255, "") };
-    await this.open(text, { ...numbers, ...this.settingsOf(it) });
-    this.afterLink(it);
-    links.look(this.timeline, it);
-    links.hold(this, { text, options: this.options(), hash });
-  }
+  afterLink() {}
 
   /* Opens nothing, and says why. */
   async refuse(why, defaults) {
@@ -151,8 +115,7 @@ export class Tab {
   /* `changed` is called for changes of these fields. */
   begin(names, changed) {
     for (const name of names) this.field(name).oninput = soon(changed);
-    this.field("undo").onclick = () => this.back(-1);
-    this.field("redo").onclick = () => this.back(1);
-    for (const name of ["share", "save"]) this.field(name).onclick = () => this[name]();
+    this.field("share").onclick = () => links.give(this);
+    this.field("stop").onclick = () => this.stop();
   }
 }

@@ -3,34 +3,57 @@
 import * as painter from "../display/painter.js";
 import * as lines from "../model/lines.js";
 import { $, number } from "./parts.js";
-import * as picture from "./picture.js";
 import { Play } from "./play.js";
 
 /* The fewest slots in sight, the pixels that a click may move, and those of a wheel that double the slots. */
-const LEAST = 8, STILL = 3, WHEEL = 300;
+const LEAST = 8;
+const STILL = 3;
+const WHEEL = 300;
+/* The width of a phone, and the room for the names of lanes on it and elsewhere. */
+const PHONE = 560;
+const GUTTERS = [74, 132];
+
+const STEPS = { ArrowRight: 1, ArrowLeft: -1, PageDown: 16, PageUp: -16, Home: -Infinity, End: Infinity };
+/* What buttons do by their names, and keys. */
+/** @type {Record<string, [string, (it: Timeline) => void]>} */
+const ACTIONS = {
+  in: ["+=w", (it) => it.zoom(0.5)],
+  out: ["-s", (it) => it.zoom(2)],
+  all: ["0", (it) => it.zoomTo(0, it.count)],
+  earlier: ["a", (it) => it.showFrom(it.from - it.across / 4)],
+  later: ["d", (it) => it.showFrom(it.from + it.across / 4)],
+  next: ["n", (it) => it.step(1, { isText: true })],
+  previous: ["p", (it) => it.step(-1, { isText: true })],
+  nextChange: ["N", (it) => it.step(1)],
+  previousChange: ["P", (it) => it.step(-1)],
+};
 
 export class Timeline {
-  static STEPS = { ArrowRight: 1, ArrowLeft: -1, PageDown: 16, PageUp: -16, Home: -Infinity, End: Infinity };
-  /* What buttons do by their names, and keys. */
-  static ACTIONS = {
-    in: ["+=w", (it) => it.zoom(0.5)],
-    out: ["-s", (it) => it.zoom(2)],
-    all: ["0", (it) => it.zoomTo(0, it.count)],
-    earlier: ["a", (it) => it.showFrom(it.from - it.across / 4)],
-    later: ["d", (it) => it.showFrom(it.from + it.across / 4)],
-    next: ["n", (it) => it.step(1, { isText: true })],
-    previous: ["p", (it) => it.step(-1, { isText: true })],
-    nextChange: ["N", (it) => it.step(1)],
-    previousChange: ["P", (it) => it.step(-1)],
-    save: ["", (it) => picture.save(it)],
-  };
+  /** @type {any[]} */ lanes = [];
+  count = 1;
+  from = 0;
+  across = 1;
+  cursor = 0;
+  width = 0;
+  gutter = 0;
+  room = 0;
+  /** @type {number | null} */ chosen = null;
+  /** @type {Record<string, string>} */ ink = {};
+  stopping = new AbortController();
+  /** @type {PointerEvent | null} */ pressed = null;
+  isWaiting = false;
 
-  constructor(tab) {
+  /* What is above `top` is not drawn: a timeline without an axis begins under it. */
+  constructor(tab, top = 0) {
     const root = $(`${tab.id}-time`);
     root.append($("timeline").content.cloneNode(true));
     const [canvas, output, scroll] = ["canvas", "output", ".scroll"].map((query) => root.querySelector(query));
-    Object.assign(this, { tab, root, canvas, output, scroll });
-    Object.assign(this, { lanes: [], count: 1, from: 0, across: 1, cursor: 0, chosen: null, span: null });
+    this.tab = tab;
+    this.top = top;
+    this.root = root;
+    this.canvas = canvas;
+    this.output = output;
+    this.scroll = scroll;
     canvas.ariaLabel = `Slot of the ${tab.id}`;
     this.play = new Play(root, this);
     this.listen();
@@ -41,7 +64,6 @@ export class Timeline {
     const { canvas, scroll } = this;
     canvas.onpointerdown = (event) => this.press(event);
     canvas.onpointermove = (event) => this.hover(event);
-    canvas.ondblclick = (event) => { if (this.isAxis(event)) this.act("all"); };
     canvas.onkeydown = (event) => this.key(event);
     canvas.onwheel = (event) => this.wheel(event);
     for (const button of this.root.querySelectorAll("[data-do]")) button.onclick = () => this.act(button.dataset.do);
@@ -60,7 +82,7 @@ export class Timeline {
   show(lanes, count, { fit = false } = {}) {
     const before = this.count;
     Object.assign(this, { lanes, count: Math.max(1, count) });
-    if (fit || this.count !== before) this.fit();
+    if (fit || this.count !== before) Object.assign(this, { from: 0, across: this.count });
     this.move(this.cursor, { keep: true });
   }
 
@@ -76,15 +98,11 @@ export class Timeline {
     return Number.isNaN(seconds(first)) ? { seconds: lines.seconds, name: "elapsed" } : { seconds, name: "clock" };
   }
 
-  /* The nearest slot to this one from which on as many are in sight as now. */
-  within(from) { return Math.min(Math.max(0, this.count - this.across), Math.max(0, from)); }
-
+  /* Shows the slots from this one on, or from the nearest one from which on as many are in sight as now. */
   showFrom(from) {
-    this.from = this.within(from);
+    this.from = Math.min(Math.max(0, this.count - this.across), Math.max(0, from));
     this.draw();
   }
-
-  fit() { Object.assign(this, { from: 0, across: this.count }); }
 
   sight(from, across) {
     this.across = Math.min(this.count, Math.max(LEAST, across));
@@ -99,16 +117,17 @@ export class Timeline {
 
   /* Shows more or fewer slots by this factor. The slot `at` keeps its place if it is in sight, and else the middle. */
   zoom(by, at = this.cursor + 0.5) {
-    const share = (at - this.from) / this.across, fixed = share >= 0 && share <= 1 ? share : 0.5;
+    const share = (at - this.from) / this.across;
+    const fixed = share >= 0 && share <= 1 ? share : 0.5;
     const across = Math.min(this.count, Math.max(LEAST, this.across * by));
     this.sight(this.from + fixed * (this.across - across), across);
   }
 
   /* Goes to the next text, or to the next change of any part (1), or to the one before (-1). */
   step(by, { isText = false } = {}) {
-    const lanes = this.lanes.filter((lane) => lane.strong || !isText), fits = ({ label }) => !isText || label !== null;
-    const lists = lanes.flatMap((lane) => lane.runs ?? lane.marks ?? []);
-    const found = lists.map((list) => list.nearest(this.cursor, by, fits)).filter((slot) => slot !== undefined);
+    const lists = this.lanes.filter((lane) => lane.strong || !isText).flatMap((lane) => lane.runs ?? lane.marks ?? []);
+    const nearest = (list) => list.nearest(this.cursor, by, (i) => !isText || list.isShown(i));
+    const found = lists.map(nearest).filter((slot) => slot !== undefined);
     if (found.length) this.move(by > 0 ? Math.min(...found) : Math.max(...found));
   }
 
@@ -117,33 +136,33 @@ export class Timeline {
     this.cursor = Math.min(this.count - 1, Math.max(0, slot));
     if (!keep && this.cursor < this.from) this.from = this.cursor - this.across / 8;
     if (!keep && this.cursor >= this.from + this.across) this.from = this.cursor - this.across * 7 / 8;
-    const shown = this.tab.showSlot(this.cursor), place = this.place(), ariaValueText = `${place}. ${shown}`;
+    const shown = this.tab.showSlot(this.cursor);
+    const place = this.place();
     this.output.textContent = place;
+    const ariaValueText = `${place}. ${shown}`;
     Object.assign(this.canvas, { ariaValueMax: this.count - 1, ariaValueNow: this.cursor, ariaValueText });
     this.showFrom(this.from);
   }
 
   place() {
-    const { cursor, tab } = this, slot = `slot ${number(cursor)} of ${number(this.count)}`;
-    return [slot, tab.line(cursor), tab.elapsed(cursor), tab.clock(cursor)].filter(Boolean).join(" · ");
+    const { cursor, tab, count } = this;
+    return [`slot ${number(cursor)} of ${number(count)}`, tab.elapsed(cursor), tab.clock(cursor)].filter(Boolean).join(" · ");
   }
 
-  /* Returns whether a pointer is on the axis, the row of slot numbers. */
-  isAxis({ offsetX, offsetY }) { return offsetY < painter.AXIS && offsetX >= this.gutter; }
-  laneAt({ offsetY: y }) { return this.lanes.find(({ top, height }) => y >= top && y < top + height); }
-
-  /* The pointer shows what a press would do: on the axis, and on the lane of a receiver. */
-  hover(event) {
-    this.canvas.classList.toggle("axis", this.isAxis(event));
-    this.canvas.classList.toggle("receiver", this.laneAt(event)?.group !== undefined);
+  laneAt({ offsetY }) {
+    const y = offsetY + this.top;
+    return this.lanes.find(({ top, height }) => y >= top && y < top + height);
   }
+
+  /* The pointer shows what a press would do on the lane of a receiver. */
+  hover(event) { this.canvas.classList.toggle("receiver", this.laneAt(event)?.group !== undefined); }
 
   press(event) {
     if (event.button) return;
     this.canvas.focus();
     if (this.pressed && this.pressed.pointerId !== event.pointerId) { this.pinch(this.pressed, event); return; }
-    if (this.isAxis(event)) { this.select(event); return; }
-    const lane = this.laneAt(event), slot = this.slotUnder(event);
+    const lane = this.laneAt(event);
+    const slot = this.slotUnder(event);
     if (lane?.group !== undefined) this.tab.choose(lane.group);
     if (this.slotAt(event) < this.from) this.draw();
     else if (this.tab.paint(lane, slot, slot, event)) this.brush(event, lane);
@@ -155,7 +174,8 @@ export class Timeline {
     const at = new Map([first, second].map((it) => [it.pointerId, it.clientX]));
     const gap = () => Math.max(LEAST, Math.abs([...at.values()].reduce((one, other) => one - other)));
     const offsetX = second.offsetX + (first.clientX - second.clientX) / 2;
-    const middle = this.slotAt({ offsetX }), before = gap() * this.across;
+    const middle = this.slotAt({ offsetX });
+    const before = gap() * this.across;
     this.stopping.abort();
     const go = ({ pointerId, clientX }) => {
       if (at.has(pointerId)) at.set(pointerId, clientX);
@@ -166,7 +186,8 @@ export class Timeline {
 
   /* The wheel shows fewer slots, or more until all are in sight. Sideways, or with Shift, it moves them. */
   wheel(event) {
-    const { deltaX, deltaY, shiftKey } = event, isSideways = shiftKey || Math.abs(deltaX) > Math.abs(deltaY);
+    const { deltaX, deltaY, shiftKey } = event;
+    const isSideways = shiftKey || Math.abs(deltaX) > Math.abs(deltaY);
     if (this.across >= this.count && (isSideways || deltaY > 0)) return;
     event.preventDefault();
     if (isSideways) this.showFrom(this.from + (deltaX || deltaY) / this.room * this.across);
@@ -174,7 +195,9 @@ export class Timeline {
   }
 
   follow(event, go, end) {
-    const { canvas } = this, { signal } = this.stopping = new AbortController();
+    const { canvas } = this;
+    this.stopping = new AbortController();
+    const { signal } = this.stopping;
     const stop = (ended) => {
       this.stopping.abort();
       this.pressed = null;
@@ -209,34 +232,14 @@ export class Timeline {
     this.follow(event, pan, (released) => { if (!isDrag) this.move(this.slotUnder(released), { keep: true }); });
   }
 
-  /* Selects slots on the axis, and shows them as large as possible at the end. A click chooses a slot. */
-  select(event) {
-    const first = this.slotUnder(event);
-    const select = (moved) => {
-      if (!this.span && Math.abs(moved.clientX - event.clientX) <= STILL) return;
-      const [least, most] = painter.ends(this), slot = Math.min(most, Math.max(least, this.slotUnder(moved)));
-      const from = Math.min(first, slot), to = Math.max(first, slot);
-      this.span = [from, to + 1];
-      this.output.textContent = `slots ${number(from)} to ${number(to)} · ${lines.time(to + 1 - from)}`;
-      this.draw();
-    };
-    this.follow(event, select, ({ type }) => {
-      const { span } = this;
-      this.span = null;
-      this.output.textContent = this.place();
-      if (!span) this.move(first, { keep: true });
-      else if (type === "pointerup") this.zoomTo(...span);
-      this.draw();
-    });
-  }
-
-  act(name) { Timeline.ACTIONS[name][1](this); }
+  act(name) { ACTIONS[name][1](this); }
 
   key(event) {
     if (event.altKey) return;
     const key = event.key.length === 1 ? event.key.toLowerCase() : event.key;
-    const own = event.shiftKey && "np".includes(key) ? key.toUpperCase() : key, by = Timeline.STEPS[own];
-    const [, act] = Object.values(Timeline.ACTIONS).find(([keys]) => keys.includes(own)) ?? [];
+    const own = event.shiftKey && "np".includes(key) ? key.toUpperCase() : key;
+    const by = STEPS[own];
+    const [, act] = Object.values(ACTIONS).find(([keys]) => keys.includes(own)) ?? [];
     if (!this.tab.key(key, event)) {
       if (event.ctrlKey || event.metaKey || !(by || act)) return;
       if (by) this.move(this.cursor + by); else act(this);
@@ -254,12 +257,15 @@ export class Timeline {
   }
 
   paint() {
-    const { canvas, lanes: all, scroll, from, across, count } = this, height = painter.place(all);
+    const { canvas, lanes: all, scroll, from, across, count, root, top } = this;
+    const height = painter.place(all);
     // the width is asked of the page once a frame, since each question may lay it out
-    const width = canvas.clientWidth, gutter = width < 560 ? 74 : 132;
+    const width = canvas.clientWidth;
+    const gutter = GUTTERS[width < PHONE ? 0 : 1];
     Object.assign(this, { width, gutter, room: Math.max(20, width - gutter - 4) });
     if (!width) return;
-    painter.paint(painter.sized(canvas, width, height), all, this, this.ink, height);
+    root.parentElement.style.setProperty("--gutter", `${gutter}px`);
+    painter.paint(painter.sized(canvas, width, height, top), all, this, this.ink, height);
     const ariaValueText = `slots ${painter.ends(this).map(number).join(" to ")} of ${number(count)}`;
     Object.assign(scroll, { max: count - across, disabled: across >= count, value: from, ariaValueText });
   }

@@ -1,0 +1,290 @@
+/* Displays over time. A worker reads them from the output of `decode` and of `sim` and packs them into typed arrays, since
+   the log of a day may change its display a million times. The page reads these, and draws what is in sight. */
+
+/* The kind of each part. A kind has three shades. */
+export const KIND_OF = { text: "text", name: "name", tag1: "tags", tag2: "tags" };
+export const PARTS = Object.keys(KIND_OF);
+const SHADES = 3;
+export const NOTHING = -1;
+/* What a run that shows something is, as the program says. */
+const STATES = ["on air", "mix", "old", "replaced"];
+/* Why a run shows nothing, as the program says. Nothing was shown before the first one. */
+const WHYS = ["", "incomplete", "dropped", "restarted"];
+/* The most letters of an output that a page shows. */
+const MOST_SHOWN = 400_000;
+
+/* The distinct values of some displays, each with a number: its kind and what the program prints. */
+export class Values {
+  constructor() { this.numbers = new Map(); }
+
+  numberOf(part, printed) {
+    const value = `${KIND_OF[part]} ${printed}`;
+    if (!this.numbers.has(value)) this.numbers.set(value, this.numbers.size);
+    return this.numbers.get(value);
+  }
+
+  /* All values as one text, which is handed over faster than many; and for each where it ends in the text, and a shade:
+     those of its kind, in turn. */
+  packed() {
+    const all = [...this.numbers.keys()];
+    const counts = { text: 0, name: 0, tags: 0 };
+    const shadeOf = (value) => counts[value.slice(0, value.indexOf(" "))]++ % SHADES;
+    let end = 0;
+    const ends = Int32Array.from(all, ({ length }) => end += length);
+    return { text: all.join(""), ends, shades: Uint8Array.from(all, shadeOf) };
+  }
+}
+
+/* Writes a display over time: for each part the slots from which it shows another value, with the number of the value
+   and its state, or with NOTHING and the reason. */
+class Writer {
+  parts = Object.fromEntries(PARTS.map((part) => [part, { starts: [], numbers: [], states: [], state: 0 }]));
+
+  /** @param {Values} values */
+  constructor(values) { this.values = values; }
+
+  change({ starts, numbers, states }, slot, number, state) {
+    const at = starts.at(-1) === slot ? starts.length - 1 : starts.length;
+    [starts[at], numbers[at], states[at]] = [slot, number, state];
+  }
+
+  /* Takes what a line says of a part: its value, or its state. */
+  write(part, slot, said) {
+    const runs = this.parts[part];
+    const state = STATES.indexOf(said);
+    const number = runs.numbers.at(-1) ?? NOTHING;
+    if (state >= 0) runs.state = state;
+    if (said.startsWith("none")) this.change(runs, slot, NOTHING, WHYS.indexOf(said.slice("none ".length)));
+    else if (state < 0) this.change(runs, slot, this.values.numberOf(part, said), runs.state);
+    else if (number !== NOTHING) this.change(runs, slot, number, state);
+  }
+
+  packed(end) {
+    const pack = ({ starts, numbers, states }) =>
+      ({ starts: Int32Array.from(starts), numbers: Int32Array.from(numbers), states: Uint8Array.from(states), end });
+    return Object.fromEntries(PARTS.map((part) => [part, pack(this.parts[part])]));
+  }
+}
+
+/* Reads the lines of an output. Gives the displays by who shows them: "r0", or "air" for the station, or nobody's name
+   in the output of `decode`. `tell` hears the other lines of `sim`. The last line of another form is the fault. */
+const LINE = /^(\d+) (?:(r\d|air) )?(\w+) ?(.*)$/;
+export function read(output, values, tell = null) {
+  const displays = {};
+  let fault = null;
+  // a million lines at once would take much memory
+  for (let at = 0, end; at < output.length; at = end + 1) {
+    end = output.indexOf("\n", at);
+    if (end < 0) end = output.length;
+    const line = output.slice(at, end);
+    const [, slot, by = "", word, rest] = LINE.exec(line) ?? [];
+    if (word === undefined) fault = line || fault;
+    else if (tell && !by) tell(Number(slot), word, rest);
+    else if (word in KIND_OF) (displays[by] ??= new Writer(values)).write(word, Number(slot), rest);
+  }
+  return { displays, fault };
+}
+
+export const displayOf = (output, values, count) => (read(output, values).displays[""] ?? new Writer(values)).packed(count);
+export const beginOf = (output) => output.length > MOST_SHOWN ? `${output.slice(0, MOST_SHOWN)}…` : output;
+
+/* Where a packed display shows something else, in order: four times the slot, and the number of the part. */
+export function changesOf(display) {
+  const keys = PARTS.flatMap((part, i) => {
+    const { starts, numbers } = display[part];
+    return [...starts.map((slot) => 4 * slot + i).filter((_, run) => numbers[run] !== NOTHING)];
+  });
+  return Int32Array.from(keys).sort();
+}
+
+/* Marks the runs of a packed display that are mixes, by the lines of `witness --lose`, which are in order. */
+const MIX = STATES.indexOf("mix");
+export function markMixes(display, printed) {
+  const from = {};
+  for (const [, slot, , part] of printed.matchAll(new RegExp(LINE, "gm"))) {
+    const { starts, states } = display[part];
+    const at = starts.indexOf(Number(slot), from[part]);
+    states[at] = MIX;
+    from[part] = at;
+  }
+}
+
+// ---- what the page reads
+
+/* A class of RadioText Plus in small letters, as ITEM.ARTIST. */
+export const kindOf = (tag) => tag.kind.replace(/^ITEM\./, "").toLowerCase();
+export const wordsOfTag = (tag) => `${kindOf(tag)}: ${tag.text}`;
+export function labelOf(value) {
+  if (typeof value === "string") return value || "(empty)";
+  return value && wordsOfTag(value);
+}
+
+/* The values of displays: strings, and tags as { kind, text }. */
+export class Texts {
+  /** @param {{ text: string, ends: Int32Array, shades: Uint8Array }} packed */
+  constructor({ text, ends, shades }) {
+    this.text = text;
+    this.ends = ends;
+    this.shades = shades;
+  }
+
+  at(number) {
+    const packed = this.text.slice(number ? this.ends[number - 1] : 0, this.ends[number]);
+    const [, tag, text] = /^\w+ (?:(\S+) )?"(.*)"$/.exec(packed);
+    return tag === undefined ? text : { kind: tag, text };
+  }
+}
+
+/* The last of `length` places whose slot is this one or before; -1 if there is none. */
+export function lastAt(length, slotOf, slot) {
+  let low = 0;
+  let high = length;
+  while (low < high) {
+    const middle = (low + high) >> 1;
+    if (slotOf(middle) <= slot) low = middle + 1; else high = middle;
+  }
+  return low - 1;
+}
+
+/* What a lane draws: entries in order of their slots. `piece(i)` makes what is drawn of an entry: a bar with from, to, value,
+   label, kind, shade, mix and old, or a mark with from, label and kind. */
+class List {
+  end = 0;
+
+  /** @param {Int32Array} starts */
+  constructor(starts) { this.starts = starts; }
+
+  get length() { return this.starts.length; }
+  from(i) { return this.starts[i]; }
+  to(i) { return i + 1 < this.length ? this.starts[i + 1] : this.end; }
+  isShown(i) { return i < this.length; }
+  indexAt(slot) { return lastAt(this.length, (i) => this.starts[i], slot); }
+
+  /* The first entry from this one on that fits; -1 if none does. */
+  find(fits, from = 0) {
+    for (let i = from; i < this.length; i++) if (fits(i)) return i;
+    return -1;
+  }
+
+  /* The first entry from this one on that ends behind the slot. */
+  firstBehind(slot, from = 0) {
+    const i = Math.max(from, this.indexAt(slot));
+    return i < this.length && this.to(i) <= slot ? i + 1 : i;
+  }
+
+  /* Where the nearest entry that fits begins behind the slot (1) or before it (-1); undefined if there is none. */
+  nearest(slot, by, fits) {
+    const isThere = (i) => by * (this.from(i) - slot) > 0 && fits(i);
+    let i = Math.max(0, this.indexAt(slot));
+    while (i >= 0 && i < this.length && !isThere(i)) i += by;
+    return this.starts[i];
+  }
+}
+
+/* The runs [from, to) of a part of a display. */
+class Runs extends List {
+  /** @param {typeof NO_RUNS} packed @param {Texts} values @param {string} kind */
+  constructor({ starts, numbers, states, end }, values, kind) {
+    super(starts);
+    this.numbers = numbers;
+    this.states = states;
+    this.end = end;
+    this.values = values;
+    this.kind = kind;
+  }
+
+  isShown(i) { return this.numbers[i] !== NOTHING; }
+  value(i) { return this.isShown(i) ? this.values.at(this.numbers[i]) : null; }
+  state(i) { return this.isShown(i) ? STATES[this.states[i]] : ""; }
+  isMix(i) { return this.state(i) === "mix"; }
+  mixes() { return [...this.starts.keys()].filter((i) => this.isMix(i)); }
+
+  at(i) {
+    const value = this.value(i);
+    return { from: this.from(i), to: this.to(i), value, state: this.state(i), why: value === null ? WHYS[this.states[i]] : "" };
+  }
+
+  piece(i) {
+    const { from, to, value, state } = this.at(i);
+    const shade = value === null ? 0 : this.values.shades[this.numbers[i]];
+    const old = state === "old" || state === "replaced";
+    return { from, to, value, label: labelOf(value), kind: this.kind, shade, mix: state === "mix", old };
+  }
+}
+
+/* Both tags of a display as one lane. */
+class TagRuns extends List {
+  /** @param {Runs[]} both */
+  constructor(both) {
+    super(Int32Array.from(new Set(both.flatMap((runs) => [...runs.starts]))).sort());
+    this.both = both;
+    this.end = Math.max(...both.map((runs) => runs.end));
+  }
+
+  /* The pieces of the tags that an entry shows. */
+  tagsIn(i) {
+    const all = this.both.map((runs) => ({ runs, at: runs.indexAt(this.from(i)) }));
+    return all.filter(({ runs, at }) => at >= 0 && runs.isShown(at)).map(({ runs, at }) => runs.piece(at));
+  }
+
+  isShown(i) { return this.tagsIn(i).length > 0; }
+
+  piece(i) {
+    const tags = this.tagsIn(i);
+    const label = tags.map((tag) => tag.label).join(" · ") || null;
+    const is = (what) => tags.some((tag) => tag[what]);
+    return { ...tags[0], from: this.from(i), to: this.to(i), label, kind: "tags", mix: is("mix"), old: is("old") };
+  }
+}
+
+/* Marks at slots. Each has the number of one of the labels, { label, kind }. The kind is "no" for a fault, "refused" for a
+   command, and empty for others. */
+export class Marks extends List {
+  /** @param {Int32Array} starts @param {ArrayLike<number>} numbers @param {{ label: string, kind: string }[]} labels */
+  constructor(starts, numbers, labels) {
+    super(starts);
+    this.numbers = numbers;
+    this.labels = labels;
+  }
+
+  to(i) { return this.starts[i] + 1; }
+  piece(i) { return { from: this.starts[i], ...this.labels[this.numbers[i]] }; }
+
+  /* Marks of a few slots, each { slot, label, kind }. */
+  static of(all) { return new Marks(Int32Array.from(all.map(({ slot }) => slot)), Int32Array.from(all.keys()), all); }
+}
+
+const NO_RUNS = { starts: new Int32Array(0), numbers: new Int32Array(0), states: new Uint8Array(0), end: 0 };
+
+/* A display over time: the runs of each part. */
+export class View {
+  constructor(packed = {}, values = null) {
+    const runsOf = (part) => new Runs(packed[part] ?? NO_RUNS, values, KIND_OF[part]);
+    this.parts = Object.fromEntries(PARTS.map((part) => [part, runsOf(part)]));
+  }
+
+  at(part, slot) {
+    const runs = this.parts[part];
+    const i = runs.indexAt(slot);
+    return i >= 0 && slot < runs.to(i) ? runs.at(i) : null;
+  }
+
+  /* Gives the texts of the station their shades in turn. */
+  shadeTexts() {
+    const { numbers, values } = this.parts.text;
+    [...numbers].filter((number) => number !== NOTHING).forEach((number, i) => { values.shades[number] = i % SHADES; });
+  }
+
+  /* The shade of the text in a slot. */
+  shadeAt(slot) { return this.parts.text.piece(this.parts.text.indexAt(slot)).shade; }
+
+  /* The lanes of all that this display shows; the first one is of its text. `names` has a name and one for a phone of
+     each. All lanes have what is in `more`, and the first one what is in `first` too. */
+  lanes(names, more, first) {
+    const { text, name, tag1, tag2 } = this.parts;
+    const lane = ([long, short], runs) => ({ name: long, short, kind: "bars", runs, gap: 3, ...more });
+    const others = [lane(names.name, name), lane(names.tags, new TagRuns([tag1, tag2]))];
+    const isShown = ({ runs }) => runs.find((i) => runs.isShown(i)) >= 0;
+    return [{ ...lane(names.text, text), ...first }, ...others.filter(isShown)];
+  }
+}

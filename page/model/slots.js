@@ -1,0 +1,110 @@
+/* The places of the slots in the bytes of a log. The program says which line is malformed: of a slot line the page reads
+   fixed places, and no form. docs/FORMATS.md has the form of a log. */
+import * as lines from "./lines.js";
+
+const [NEWLINE, RETURN, DASH, COLON] = [..."\n\r-:"].map((letter) => letter.charCodeAt(0));
+const DAY = 86_400;
+/* A line that begins with one of these letters, or is empty, is no slot. */
+const SKIPPED = new Set([..."<#%\n\r"].map((letter) => letter.charCodeAt(0)));
+/* The bytes of four blocks with spaces between them, and where each block begins. */
+export const BLOCKS = 19;
+const PLACES = [0, 5, 10, 15];
+/* The bytes after which the reader says again how far it is. */
+const PER_STEP = 1 << 21;
+const LOST = new TextEncoder().encode(lines.LOST);
+
+const DIGITS = new Uint8Array(256);
+for (const digit of "0123456789abcdefABCDEF") DIGITS[digit.charCodeAt(0)] = parseInt(digit, 16);
+
+export function endOf(bytes, start) {
+  const newline = bytes.indexOf(NEWLINE, start);
+  return newline < 0 ? bytes.length : newline;
+}
+
+/* The seconds of the day in a part of a line, written as 07:58:12; NaN if it has none. */
+function clockIn(bytes, from, end) {
+  const two = (at) => DIGITS[bytes[at]] * 10 + DIGITS[bytes[at + 1]];
+  for (let i = from + 2; i + 5 < end; i++) {
+    if (bytes[i] === COLON && bytes[i + 3] === COLON) return 3600 * two(i - 2) + 60 * two(i + 1) + two(i + 4);
+  }
+  return NaN;
+}
+
+/* Goes on with the clock over lines without one, and over midnight. */
+function goOn(clocks) {
+  for (let slot = 1; slot < clocks.length; slot++) {
+    const next = clocks[slot - 1] + lines.SLOT;
+    if (Number.isNaN(clocks[slot])) clocks[slot] = next;
+    else if (!Number.isNaN(next)) clocks[slot] += DAY * Math.round((next - clocks[slot]) / DAY);
+  }
+}
+
+/* Reads a log up to a line, the first malformed one if there is one. Returns for each slot the first byte, the number and
+   the time of the day of its line. `end` is the first byte not read. */
+/** @param {(share: number) => void} tell */
+export function read(bytes, malformed = Infinity, tell = () => {}) {
+  const most = Math.floor((bytes.length + 1) / (BLOCKS + 1)) + 1;
+  const starts = new Uint32Array(most);
+  const numbers = new Uint32Array(most);
+  const clocks = new Float64Array(most);
+  let count = 0;
+  let start = 0;
+  for (let number = 1; start < bytes.length && number < malformed; number++) {
+    const end = endOf(bytes, start);
+    if (!SKIPPED.has(bytes[start])) {
+      starts[count] = start;
+      numbers[count] = number;
+      clocks[count++] = clockIn(bytes, start + BLOCKS, end);
+    }
+    if (Math.floor(end / PER_STEP) > Math.floor(start / PER_STEP)) tell(end / bytes.length);
+    start = end + 1;
+  }
+  const log = { starts: starts.slice(0, count), numbers: numbers.slice(0, count), clocks: clocks.slice(0, count) };
+  goOn(log.clocks);
+  return { ...log, count, end: Math.min(start, bytes.length) };
+}
+
+const wordAt = (bytes, at) =>
+  DIGITS[bytes[at]] << 12 | DIGITS[bytes[at + 1]] << 8 | DIGITS[bytes[at + 2]] << 4 | DIGITS[bytes[at + 3]];
+const isMissing = (bytes, at) => bytes[at] === DASH;
+
+/* The four blocks of a line, each a number, or null if it was not received. */
+export const blocksAt = (bytes, start) =>
+  PLACES.map((place) => isMissing(bytes, start + place) ? null : wordAt(bytes, start + place));
+
+/* Returns the group of a slot; null if a block is missing. */
+export function groupAt(bytes, { starts, count }, slot) {
+  const blocks = slot < count ? blocksAt(bytes, starts[slot]) : [null];
+  return blocks.includes(null) ? null : blocks;
+}
+
+/* Calls for each slot with all four blocks: with its number and its first two blocks. */
+function eachGroup(bytes, starts, call) {
+  for (let slot = 0; slot < starts.length; slot++) {
+    const at = starts[slot];
+    const isWhole = ![at, at + 5, at + 10, at + 15].some((place) => isMissing(bytes, place));
+    if (isWhole) call(slot, wordAt(bytes, at), wordAt(bytes, at + 5));
+  }
+}
+
+/* Returns the programmes of a log with their numbers of groups, those with the most groups first. */
+export function programmes(bytes, { starts }) {
+  const counts = new Map();
+  eachGroup(bytes, starts, (_, pi) => counts.set(pi, (counts.get(pi) ?? 0) + 1));
+  return [...counts].sort((one, other) => other[1] - one[1]);
+}
+
+/* Returns the kind of group in each slot. */
+export function codes(bytes, { starts, count }, pi) {
+  const all = new Uint8Array(count);
+  eachGroup(bytes, starts, (slot, first, second) => { all[slot] = lines.markedCodeOf([first, second], pi); });
+  return all;
+}
+
+/* Returns what a call returns while the bytes of the log are those of a receiver that loses these slots. */
+export function whileLost(bytes, { starts, count }, lost, call) {
+  const places = lost.filter((slot) => slot < count).map((slot) => starts[slot]);
+  const kept = places.map((at) => bytes.slice(at, at + BLOCKS));
+  for (const at of places) bytes.set(LOST, at);
+  try { return call(); } finally { places.forEach((at, i) => bytes.set(kept[i], at)); }
+}
