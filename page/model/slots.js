@@ -5,7 +5,8 @@ import * as lines from "./lines.js";
 const [NEWLINE, RETURN, DASH, COLON] = [..."\n\r-:"].map((letter) => letter.charCodeAt(0));
 const DAY = 86_400;
 /* A line that begins with one of these letters, or is empty, is no slot. */
-const SKIPPED = new Set([..."<#%\n\r"].map((letter) => letter.charCodeAt(0)));
+const SKIPPED = new Uint8Array(256);
+for (const letter of "<#%\n\r") SKIPPED[letter.charCodeAt(0)] = 1;
 /* The bytes of four blocks with spaces between them, and where each block begins. */
 export const BLOCKS = 19;
 const PLACES = [0, 5, 10, 15];
@@ -51,7 +52,7 @@ export function read(bytes, malformed = Infinity, tell = () => {}) {
   let start = 0;
   for (let number = 1; start < bytes.length && number < malformed; number++) {
     const end = endOf(bytes, start);
-    if (!SKIPPED.has(bytes[start])) {
+    if (!SKIPPED[bytes[start]]) {
       starts[count] = start;
       numbers[count] = number;
       clocks[count++] = clockIn(bytes, start + BLOCKS, end);
@@ -82,8 +83,9 @@ export function groupAt(bytes, { starts, count }, slot) {
 function eachGroup(bytes, starts, call) {
   for (let slot = 0; slot < starts.length; slot++) {
     const at = starts[slot];
-    const isWhole = ![at, at + 5, at + 10, at + 15].some((place) => isMissing(bytes, place));
-    if (isWhole) call(slot, wordAt(bytes, at), wordAt(bytes, at + 5));
+    // a list of the places would take longer than all else
+    const isLost = isMissing(bytes, at) || isMissing(bytes, at + 5) || isMissing(bytes, at + 10) || isMissing(bytes, at + 15);
+    if (!isLost) call(slot, wordAt(bytes, at), wordAt(bytes, at + 5));
   }
 }
 
