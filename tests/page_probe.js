@@ -1,6 +1,5 @@
 "use strict";
-/* What the tests of the page ask of it, run in it: `probe`. A test names a tab, and here are the parts of the page that
-   it stands for. What a user can see or press, a test asks of the document. */
+/* What the tests of the page ask of it, run in it: `probe`. What a user sees or presses, a test asks of the document. */
 const probe = (() => {
   const { logTab } = $log, { scriptTab } = $script, { road } = $road, { Program } = $program;
   const at = (id) => document.getElementById(id);
@@ -45,28 +44,26 @@ const probe = (() => {
     window.requestAnimationFrame = (step) => nextFrame(() => step(clock.now));
   }
 
-  /* Lets so many slots pass at this speed, and waits until they are shown: each frame calls those before it first. */
+  /* Lets so many slots pass at this speed, and waits until they are shown. */
   async function pass(slots, speed) {
     clock.now += 1000 * $lines.seconds(slots) / speed;
     for (let i = 0; i < 2; i++) await new Promise((done) => { nextFrame(done); });
   }
 
   /* Keeps back the answers of workers that fit, until `letGo`. */
-  const { hear } = Program.prototype;
+  const { hear } = Program.prototype, letGo = () => { Program.prototype.hear = hear; };
   function keepBack(fits) {
     Program.prototype.hear = function (data) { if (!data.answer || !fits(data.answer)) hear.call(this, data); };
   }
-  function letGo() { Program.prototype.hear = hear; }
 
   /* The longest task of the page, in milliseconds, while this goes on; tasks of less than 50 ms count as 0. */
   async function longestTask(what) {
-    let longest = 0;
-    const watcher = new PerformanceObserver((list) => { for (const { duration } of list.getEntries()) longest = Math.max(longest, duration); });
+    const all = [0], watcher = new PerformanceObserver((list) => all.push(...list.getEntries().map((it) => it.duration)));
     watcher.observe({ type: "longtask" });
     await what();
     await new Promise((done) => setTimeout(done, 100));
     watcher.disconnect();
-    return longest;
+    return Math.max(...all);
   }
 
   /* The milliseconds that this machine takes now for a fixed piece of work with strings, as tasks of the page are. */
@@ -109,29 +106,13 @@ const probe = (() => {
     scriptTab.timeline.move(slot);
   }
 
-  /* The name of the file that a button saves. Nothing is saved. */
-  function savedBy(id) {
-    let name = null;
-    HTMLAnchorElement.prototype.click = function () { name = this.download; };
-    at(id).click();
-    delete HTMLAnchorElement.prototype.click;
-    return name;
-  }
-
-  /* Ends the worker that judges a log, as a browser without memory does. It cannot begin again. */
-  function endJudge(message) {
-    logTab.judge.worker.onerror({ message });
-    logTab.judge.compiled = null;
-  }
-
   // ---- what the page holds
 
   const textOfLog = () => new TextDecoder("utf-8", { ignoreBOM: true }).decode(logTab.bytes);
-
   /* Status, output and notes of the program in the page over this text, or over these bytes. */
   function run(words, input) {
     const { status, output, notes } = $rdsrt.run(words, typeof input === "string" ? input : Uint8Array.from(input));
-    return [status, output, notes];
+    return [status, output, notes.filter(Boolean).map((note) => note.replace(/^rdsrt: /, ""))];
   }
 
   /* Where a part of a display of a tab shows another value, with the value: the displays of a script have a number too. */
@@ -182,13 +163,8 @@ const probe = (() => {
     return [...reader.getImageData(0, 0, 1, 1).data];
   }
   /* A colour of the style by its name. */
-  function colour(name) {
-    const element = document.body.appendChild(document.createElement("i"));
-    element.style.color = `var(--${name})`;
-    const { color } = getComputedStyle(element);
-    element.remove();
-    return color;
-  }
+  const probed = document.body.appendChild(document.createElement("i"));
+  const colour = (name) => { probed.style.color = `var(--${name})`; return getComputedStyle(probed).color; };
 
   /* In how many pixels of the lanes with this name each of these inks is to be seen. No cursor is drawn. */
   function inksOf(tab, name, ...inks) {
@@ -215,7 +191,6 @@ const probe = (() => {
     return Array.from({ length: count }, (_, slot) => column(timeline.canvas, timeline.x(slot + 0.5), timeline.lanes[0].top));
   }
 
-  // by the formula of WCAG 2
   const channel = (v) => v / 255 <= 0.03928 ? v / 255 / 12.92 : ((v / 255 + 0.055) / 1.055) ** 2.4;
   const light = (color) => rgba(color).slice(0, 3).map(channel).reduce((sum, it, i) => sum + it * [0.2126, 0.7152, 0.0722][i], 0);
   function ratio(one, other) {
@@ -254,11 +229,9 @@ const probe = (() => {
   const faint = (least) => GRAPHICS.filter(([a, b]) => ratio(colour(a), colour(b)) < least).map((pair) => pair.join(" on "));
 
   return {
-    bars, choose, colour, contrasts, displays, drop, dropAll, endJudge, faint, idle, inksOf, keepBack, letGo, longestTask, pass, pick,
-    place, run, runs, savedBy, stopClock, swatches, textOfLog, ticks, typeAndLeave, yardstick,
-    /* Whether the page is ready, or says that it cannot run. */
+    bars, choose, colour, contrasts, displays, drop, dropAll, faint, idle, inksOf, keepBack, letGo, longestTask, pass, pick,
+    place, run, runs, stopClock, swatches, textOfLog, ticks, typeAndLeave, yardstick,
     isReady: () => $app.state.ready || at("no-engine").textContent !== "",
-    chosenLine: (id) => at(id).value.slice(at(id).selectionStart, at(id).selectionEnd),
     codes: (tab, name) => [...laneOf(timelineOf(tab), name).codes],
     lanes: (tab) => timelineOf(tab).lanes.map(({ name }) => name),
     lose: (...slots) => logTab.lose(slots),
@@ -271,10 +244,7 @@ const probe = (() => {
     moveCar: (slot) => road.timeline.move(slot),
     stopRoad: () => road.work.then(() => road.timeline.play.stop()),
     tunnels: () => road.tunnels.map(({ from, to }) => [from, to]),
-    showWitness: (found) => $verdict.showWitness(found, {}),
     sight: (tab) => [timelineOf(tab).from, timelineOf(tab).across],
-    time: $lines.time,
-    witness: () => logTab.witness,
     zoom: (tab, from, to) => timelineOf(tab).zoomTo(from, to),
   };
 })();

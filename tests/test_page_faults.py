@@ -1,15 +1,18 @@
 """Faults and warnings of the page, beside those of the program."""
+import json
 import random
 import re
+import subprocess
 
 from tests.page_support import (EVERY_100, HI, NOTHING, SEED, YO, ChromiumCase, FirefoxCase, call, click,
                                 first_examples, move, of, open_script, run_program, settle, shown, text_of, to_tab,
                                 verdict_of)
 from tests.slot import SLOT
+from tests.support import PROGRAM
 
 # the same text of another station
 OTHER = HI.replace("C201", "F000")
-BAD_ROW = re.compile(r"fault row (\d+) \(line (\d+)\)")
+BAD_ROW = re.compile(r"[Ff]ault row (\d+) \(line (\d+)\)")
 SOME_ROWS = ["-,,1,G"] * 6 + ['"-","",1,G', '""', "", "", '-,"a\n,b",1,G', '-,"a""b",1,G', '-,"a"b,1,G', '"a\n\nb"',
                               "restart,,1,G"]
 
@@ -19,6 +22,17 @@ def results(b, tab):
     found = lambda query: b.run(f"[...document.querySelectorAll('#{tab} {query}:not(#road *)')].map(it => it.textContent)")
     lanes = len(call(b, "probe.lanes", tab))
     return found(".lcd .text:not(.none)"), len(found(".mixed")), lanes, text_of(b, f"#{tab}-lines")
+
+
+def chosen_line(b):
+    """Returns the part of the script's text that is chosen."""
+    return b.run("(it => it.value.slice(it.selectionStart, it.selectionEnd))(document.getElementById('script-text'))")
+
+
+def json_notes(words, log):
+    """Returns the notes of the program over a log as objects."""
+    done = subprocess.run([PROGRAM, *words.split(), "--json-notes"], input=log.encode(), capture_output=True, check=False)
+    return [json.loads(it) for it in done.stderr.decode().splitlines()]
 
 
 class Faults:
@@ -60,7 +74,7 @@ class Faults:
         b = self.b
         said = verdict_of(b, f"# note\n{HI}\nC201 <b>40 4849\n", 8)
         self.check("a bad line is named", said.partition("Show the line")[0],
-                   'Line 3 is malformed"C201 <b>40 4849": block 2 has 5 characters, expected 4; a log '
+                   'Line 3 is malformedFault line 3: "C201 <b>40 4849": block 2 has 5 characters, expected 4; a log '
                    f"line looks like {HI}. The page does not show the lines after it.")
         self.check("and its text is no HTML", b.run("document.querySelectorAll('#verdict b').length"), 0)
         b.run("[...document.querySelectorAll('#verdict button')].at(-1).click()")
@@ -74,9 +88,9 @@ class Faults:
         for text, why in rows:
             open_script(b, text, m=8, k=0)
             self.check(f"a bad row is named: {why}", text_of(b, "#script-fault"),
-                       f"fault {why}. The rows after it are not played. Show the line")
+                       f"Fault {why}. The rows after it are not played. Show the line")
         click(b, "#script-fault button")
-        self.check("and shown", call(b, "probe.chosenLine", "script-text"), "text,\u2603,1,G")
+        self.check("and shown", chosen_line(b), "text,\u2603,1,G")
         open_script(b, "text,HI,1,G\n" * 5 + "text,\u2603,1,G\n" + "-,,1,G\n" * 6, m=1, k=0)
         move(b, "script", 3)
         self.check("a text is shown before a bad row", (shown(b, "script-radio"), shown(b, "script-alone")),
@@ -108,18 +122,18 @@ class Faults:
             if not told or not got:
                 continue
             click(b, "#script-fault button")
-            self.check(f"seed {SEED}, the line of script {number}", call(b, "probe.chosenLine", "script-text"),
+            self.check(f"seed {SEED}, the line of script {number}", chosen_line(b),
                        plain.split("\n")[int(told[2]) - 1], script)
             seen.add(plain.split("\n")[int(told[2]) - 1])
         self.check_all("several kinds of bad rows", len(seen) > 4 or seen, True)
 
     def test_an_empty_yes_has_a_warning(self):
         b = self.b
-        noted, no_kind = "Nothing to auditThe program answers yes, with a note: ", "no 2A, 10A or 11A group of C201"
+        noted, no_kind = "Nothing to auditThe program answers yes, with a note: ", "No 2A, 10A or 11A group of C201"
         rows = [
-            ("", "empty", f"{noted}no group of C201 in 0 slots: the yes says nothing."),
-            ("# a note\n", "empty", f"{noted}no group of C201 in 0 slots: the yes says nothing."),
-            (f"{NOTHING}\n" * 3, "empty", f"{noted}no group of C201 in 3 slots: the yes says nothing."),
+            ("", "empty", f"{noted}No group of C201 in 0 slots: the yes says nothing."),
+            ("# a note\n", "empty", f"{noted}No group of C201 in 0 slots: the yes says nothing."),
+            (f"{NOTHING}\n" * 3, "empty", f"{noted}No group of C201 in 3 slots: the yes says nothing."),
             ("C201 0000 0000 0000\n", "empty", f"{noted}{no_kind}: the yes says nothing."),
             ("C201 2940 4849 0D20\n" * 2, "empty",
              f"{noted}{no_kind}: the yes says nothing; 2 groups 2B were not judged."),
@@ -143,27 +157,39 @@ class Faults:
                        (True, ink))
 
     def test_a_yes_over_a_log_that_does_not_show_enough_is_grey(self):
-        """Slots are absent by the times, times are too coarse to count by, or few slots have a group."""
+        """The program notes that slots are absent by the times, or that few slots have a group."""
         b = self.b
         cannot = "Cannot sayThe program answers yes with M = 8 (0.70 s), but the log does not show enough. Judged in "
-        coarse = "".join(f"{HI} {time:.1f}\n" for time in (0, 0, 0.2, 0.2, 0.4, 0.4))
+        few = "Lost slots: 1 of 2 slots have a group of C201, less than nine tenths: the yes says nothing of what was sent in the others."
         rows = [
-            ("absent", f"{HI} 0\n{HI} 3\n", ["Lost slots: The log spans 35 slots by its times and has 2 lines."]),
-            # between the first and the last time a clock has room for 4.7 slots
-            ("coarse", coarse, ["Coarse times: The times vary by more than the grain: ", "a station sends 4 at most"]),
-            ("few", f"{HI} 0\n{NOTHING}\n",
-             ["Lost slots: 1 of 2 slots have a group of C201 (50 %). The log says nothing of the others."]),
-            ("few of this station", f"{HI} 0\n{OTHER} {SLOT:.2f}\n",
-             ["Lost slots: 1 of 2 slots have a group of C201 (50 %). The log says nothing of the others."]),
+            ("absent", f"{HI} 0\n{HI} 3\n", "Lost slots: The log spans 35 slots by its times and has 2 lines. "),
+            ("few", f"{HI} 0\n{NOTHING}\n", few),
+            ("few of this station", f"{HI} 0\n{OTHER} {SLOT:.2f}\n", few),
         ]
         for name, log, wanted in rows:
             said = verdict_of(b, log, 8)
             colour = b.run("getComputedStyle(document.querySelector('#verdict')).borderLeftColor")
-            self.check(name, [it in said for it in (cannot, *wanted)] + [colour],
-                       [True] * (1 + len(wanted)) + [call(b, "probe.colour", "other")], said)
+            self.check(name, [cannot in said, wanted in said, colour], [True, True, call(b, "probe.colour", "other")], said)
         nine = "".join(f"{HI} {number * SLOT:.2f}\n" for number in range(9))
         said = verdict_of(b, f"{nine}{NOTHING}\n", 8)
         self.check("nine slots in ten", "✓ Passes with M = 8" in said, True, said)
+
+    def test_the_card_is_grey_if_the_program_notes_it(self):
+        """Of random logs, with times and without: the page has no rule of its own."""
+        b, dice, greys = self.b, random.Random(SEED), 0
+        for number in range(40):
+            is_timed, now, lines = dice.random() < 0.7, 0, []
+            for _ in range(dice.randrange(2, 40)):
+                now += dice.choice([1, 1, 1, 1, 1, 1, 2, 20])
+                line = dice.choice([HI, HI, HI, HI, OTHER, NOTHING] if dice.random() < 0.5 else [HI])
+                lines.append(f"{line} {now * SLOT:.2f}\n" if is_timed and line != NOTHING else f"{line}\n")
+            log = "".join(lines)
+            kinds = {it["kind"] for it in json_notes("audit --pi C201 --m 8", log)}
+            verdict_of(b, log, 8)
+            grey = of(b, "#verdict", "className") == "verdict empty"
+            self.check(f"seed {SEED}, log {number}: grey", grey, bool(kinds & {"few", "lack", "nothing", "no_group"}), log)
+            greys += grey
+        self.check_all("some are grey, and some are not", 5 < greys < 38, True)
 
     def test_a_group_of_another_station_is_a_slot_without_a_group(self):
         """The verdict is the one of the log with lost slots in their places."""
@@ -179,27 +205,12 @@ class Faults:
             headings.add(wanted.split(" with ")[0])
         self.check_all("several verdicts", len(headings) > 1, True)
 
-    def test_times_that_the_program_does_not_read_are_grey(self):
-        """A time of day, for example: slots may be missing. Words that are no time change nothing."""
+    def test_a_no_whose_cause_may_be_the_recording_is_grey(self):
+        """Slots are missing before the fault by the times. A gap after it changes nothing."""
         b = self.b
-        timed = "".join(f"{HI} 07:00:{second:02d}.{part:02d}\n" for second in range(60) for part in range(0, 99, 9))
-        said = verdict_of(b, timed, 8)
-        self.check("a time of day", (text_of(b, "#verdict h2"), "the program reads none in 660 groups." in said),
-                   ("Cannot say", True), said)
-        for name, log in (("a date", timed.replace(" 07:", " @2024/06/01 07:").replace("\n", "\n", 1)),
-                          ("words", f"{HI} noted\n" * 20), ("nothing", f"{HI}\n" * 20)):
-            self.check(name, "Unread times" in verdict_of(b, log, 8), False)
-
-    def test_a_no_whose_cause_is_the_recording_is_grey(self):
-        """The pause that made a text begin anew has no group, or slots are missing before the fault. A pause with another
-        group of the station is no fault of the recording."""
-        b = self.b
-        tags, other = "C201 B158 8002 0000", "C201 0548 1234 5649"
-        pause = f"{HI}\n" * 10 + f"{NOTHING}\n" * 12 + f"{HI}\n{tags}\n"
+        tags = "C201 B158 8002 0000"
         gap = f"{HI} 0.00\n{YO} 9.00\n" + "".join(f"{YO} {9.1 + number * SLOT:.2f}\n" for number in range(3))
-        rows = [("a pause without a group", pause, "Cannot say: the recording lost slots 10 to 21", "verdict empty"),
-                ("a pause with one", pause.replace(NOTHING, other, 1), "✗ EarlyTag with M = 8 (0.70 s)", "verdict no"),
-                ("a gap by its times", gap + f"{tags} 9.40\n", "Cannot say", "verdict empty"),
+        rows = [("a gap by its times", gap + f"{tags} 9.40\n", "Cannot say", "verdict empty"),
                 ("a gap after the no", f"{HI} 0.00\n{tags} 0.10\n{HI} 99.00\n", "✗ EarlyTag with M = 8 (0.70 s)",
                  "verdict no")]
         for name, log, heading, kind in rows:
@@ -215,8 +226,7 @@ class Faults:
         tags = "C201 B158 8002 0000"
         said = verdict_of(b, f"# noted\n{HI} 0.00\n{tags} 9.40\n{HI} 9.50\n{HI} 99.50\n", 8)
         # the second group comes 107 slots after the first; a comment is no line of a slot
-        self.check("up to the no", "Lost slots: Up to line 3, the log spans 108 slots by its times and has 2 lines. " in said,
-                   True, said)
+        self.check("up to the no", "Lost slots: The first 3 lines span 108 slots by the times in them. " in said, True, said)
         said = verdict_of(b, f"{HI} 0.00\n{HI} 9.40\n", 8)
         self.check("after a yes", "Lost slots: The log spans 108 slots by its times and has 2 lines. " in said, True, said)
 
@@ -224,7 +234,8 @@ class Faults:
         """The page does not wait for ever."""
         b = self.b
         verdict_of(b, f"{HI}\n" * 20, 8)
-        b.run("probe.endJudge('out of memory')")
+        # as a browser without memory does it: the worker cannot begin again
+        b.run("{ const it = $log.logTab.judge; it.worker.onerror({ message: 'out of memory' }); it.compiled = null; }")
         call(b, "probe.open", "log", f"{HI}\n" * 30, {"pi": "C201", "m": 8})
         self.check("a log", (text_of(b, "#verdict h2"), len(text_of(b, "#verdict p")) > 5), ("No verdict", True))
 
@@ -232,11 +243,11 @@ class Faults:
         b = self.b
         open_script(b, "text,HI,1,G\n" * 3, m=8, k=0)
         self.check("the first refused set", text_of(b, "#script-note"),
-                   "slot 0: text refused, the station is silent after a restart for 8 slots more: "
+                   "Slot 0: text refused, the station is silent after a restart for 8 slots more: "
                    "set it in slot 8 at the earliest, if the encoder does not restart.")
         open_script(b, "-,,1,G\n" * 8 + "text,HI,1,G\nname,POP,1,G\n-,,1,G\nname,JAZZ,1,G\n", m=8, k=0)
         self.check("one that is held", text_of(b, "#script-note"),
-                   "slot 11: name refused, the one before is still held for 14 slots more: "
+                   "Slot 11: name refused, the one before is still held for 14 slots more: "
                    "set it in slot 25 at the earliest, if the encoder does not restart.")
         open_script(b, "-,,1,G\n" * 8 + "text,HI,1,G\n", m=8, k=0)
         self.check("no refused set", (text_of(b, "#script-note"), of(b, "#script-note", "checkVisibility()")),

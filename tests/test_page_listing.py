@@ -62,7 +62,7 @@ class Listing:
         b = self.b
         opened(b, timed((HI, "07:10:00.00"), (OTHER, "07:10:00.09"), (HI, "09:15:00.00"), (OTHER, "09:15:00.09")))
         self.check("after the no", (cursor(b, "log"), text_of(b, "#log-rows [aria-current] .number")), (1, "2"))
-        self.check("the place of the no", "First in slot 1 (line 2, 2024/06/01 07:10:00.09): a text changed"
+        self.check("the place of the no", "Slot 1 (line 2, 2024/06/01 07:10:00.09): a text changed"
                    in text_of(b, "#verdict"), True, text_of(b, "#verdict"))
         for query, slot in (("#log-kinds tr:first-child td:last-child button", 3), ("#log-kinds tr td button", 1)):
             click(b, query)
@@ -98,14 +98,13 @@ class Listing:
         b = self.b
         opened(b, f"{FEW}bad\n", running=True)
         self.check("the answer is the first no", text_of(b, "#verdict h2 code"), "EarlyTag")
-        end = ('The list ends before line 5: "bad": it has no space; a log line looks like '
-               "C201 2140 4849 0D20.")
-        self.check("the end", text_of(b, "#log-faults-end"), end)
+        end = 'ault line 5: "bad": it has no space; a log line looks like C201 2140 4849 0D20'
+        self.check("the end", text_of(b, "#log-faults-end"), f"The list ends there. F{end}.")
         click(b, "#log-report")
         faults = b.run("[...[...document.querySelectorAll('#report-rows dt')].find(it => it.textContent === 'Faults')"
                        ".nextSibling.children].map(it => it.textContent)")
         self.check("the report", faults, ["1 of 3 texts: EarlyFlag in slot 3 (line 4)",
-                                          "1 of 3 texts: EarlyTag in slot 2 (line 3)", end])
+                                          "1 of 3 texts: EarlyTag in slot 2 (line 3)", f"f{end}"])
         click(b, "#report-close")
         first_examples(b)
 

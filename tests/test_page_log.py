@@ -20,25 +20,25 @@ GROUP_WORDS = [
 ]
 EXPLAINED = [
     ("EarlyFlag", [GROUPS[2], GROUPS[3], "C201 2150 4E45 5753", "C201 2151 2046 4D0D", "C201 2140 504F 5020"],
-     "First in slot 4 (line 5): a text reused the A/B flag less than M + K = 8 slots after the last group of the text "
+     "Slot 4 (line 5): a text reused the A/B flag less than M + K = 8 slots after the last group of the text "
      "before the previous one, in slot 1. This slot is 0.35 s after the first.",
      "Keep each text on air for at least M + K slots"),
     ("EarlyFlag", ["C201 A140 504F 5020", "C201 A150 4A41 5A5A", "C201 A140 504F 5020"],
-     "First in slot 2 (line 3): a name (PTYN) reused the A/B flag", "flip the flag only for a new text"),
+     "Slot 2 (line 3): a name (PTYN) reused the A/B flag", "flip the flag only for a new text"),
     ("Changed", [HI, "C201 2140 594F 0D20"],
-     "First in slot 1 (line 2): a text changed without a flip of the A/B flag. This slot",
+     "Slot 1 (line 2): a text changed without a flip of the A/B flag. This slot",
      "Flip the flag with every change"),
     ("NotOneText", ["C201 2140 4849 0D21"],
-     "First in slot 0 (line 1): the segments fit no text: byte 0x21 at place 3, after the carriage return. This slot", "end the text with one carriage return"),
+     "Slot 0 (line 1): the segments fit no text: byte 0x21 at place 3, after the carriage return. This slot", "end the text with one carriage return"),
     ("NotOneText", ["C201 A140 0148 4949"],
-     "First in slot 0 (line 1): the segments fit no name (PTYN): byte 0x01 at place 0. This slot", "A name has eight printable characters"),
+     "Slot 0 (line 1): the segments fit no name (PTYN): byte 0x01 at place 0. This slot", "A name has eight printable characters"),
     ("EarlyTag", ["# note", "C201 B158 8012 0985"],
-     "First in slot 0 (line 2): RT+ tags came before any text. This slot", "If this 11A is not RT+, empty its lines"),
+     "Slot 0 (line 2): RT+ tags came before any text. This slot", "If this 11A is not RT+, empty its lines"),
     ("EarlyTag", [HI, YO, "C201 B158 8012 0985"],
-     "First in slot 2 (line 3): RT+ tags came less than M + K = 8 slots after their text started, in slot 1. This slot",
+     "Slot 2 (line 3): RT+ tags came less than M + K = 8 slots after their text started, in slot 1. This slot",
      "Send the first tags M + K slots after"),
     ("TagOutside", [HI, *[NOTHING] * 6, HI, "C201 B158 8012 0985"],
-     "First in slot 8 (line 9): an RT+ tag ends past the end of its text. This slot", "Count the start from 0"),
+     "Slot 8 (line 9): an RT+ tag ends past the end of its text. This slot", "Count the start from 0"),
 ]
 
 
@@ -180,25 +180,22 @@ class LogTab:
                    "No verdictWindow W must be a whole number from 2 to 255.")
 
     def test_lost_slots_by_time_are_added_as_by_the_program(self):
-        """The page offers it if the program says that the log lacks slots, or that its times have a break. Until then the
-        verdict is neither green nor red."""
+        """The page offers it if the program notes that the log lacks slots. Until then the verdict is neither green nor red."""
         b = self.b
         dice, offered = random.Random(SEED), 0
         for number, (log, m) in self.cases((with_times(dice), dice.choice([8, 128])) for _ in range(60)):
             call(b, "probe.open", "log", log, {"pi": "C201", "m": m, "k": 0})
             filled = program(["slots", "--m", str(m)], log.encode())[1]
-            _, answer, notes = run_program(["audit", "--pi", "C201", "--m", str(m), "--k", "0"], log.encode())
+            notes = run_program(["audit", "--pi", "C201", "--m", str(m), "--k", "0"], log.encode())[2]
             at = re.search(r"^slot \d+ \(line (\d+)", "\n".join(notes), re.M)
             before = "".join(log.splitlines(keepends=True)[:int(at[1])] if at else log)
             lacks = any("put rdsrt slots" in it for it in run_program(["decode", "--pi", "C201"], before.encode())[2])
-            breaks = any("went back, or on" in it for it in run_program(["slots"], log.encode())[2])
             is_offered = "Add the lost slots" in text_of(b, "#verdict")
-            self.check(f"seed {SEED}, times {number}: offered", is_offered, lacks or breaks, log)
+            self.check(f"seed {SEED}, times {number}: offered", is_offered, lacks, log)
             if not is_offered:
                 continue
             offered += 1
-            self.check(f"seed {SEED}, times {number}: neither green nor red", of(b, "#verdict", "className"),
-                       "verdict no" if answer.startswith("no") and not lacks else "verdict empty", log)
+            self.check(f"seed {SEED}, times {number}: neither green nor red", of(b, "#verdict", "className"), "verdict empty", log)
             buttons = "[...document.querySelectorAll('#verdict button')]"
             b.run(f"{buttons}.find(it => it.textContent === 'Add the lost slots').click()")
             idle(b)
@@ -206,7 +203,7 @@ class LogTab:
                        log)
             settle(b)
             self.check(f"seed {SEED}, times {number}: offered once", "Add the lost" in text_of(b, "#verdict"), False, log)
-        self.check_all("lost slots were offered", offered > 20, True)
+        self.check_all("lost slots were offered", offered > 3, True)
         hour = f"{HI} @2026/11/26 10:00:00.00\nC201 2150 4A4F 0D20 @2026/11/26 11:00:00.00\n"
         call(b, "probe.open", "log", hour, {"pi": "C201", "m": 128, "k": 0})
         said = ("Lost slots: The log spans 41,106 slots by its times and has 2 lines. "
@@ -307,7 +304,7 @@ class LogTab:
                 self.check(f"seed {SEED}, log {number} passes", "✓ Passes with M = " in said, True, log)
                 continue
             told = program(["witness", *options], log.encode())[1].splitlines()
-            its = call(b, "probe.witness")
+            its = b.run("$log.logTab.witness")
             slots = its["lost"] and "-".join(map(str, sorted(set(its["lost"]))))
             self.check(f"seed {SEED}, witness of log {number}, M {m}",
                        [f"lose {slots}: {line}" for line in its["shown"]]
@@ -315,7 +312,7 @@ class LogTab:
             found += bool(its["shown"])
         self.check_all("witnesses were found", found > 5, True)
         verdict_of(b, example("flags.log").decode(), 8)
-        call(b, "probe.showWitness", {"lost": None, "shown": [], "failure": "no memory for this input"})
+        b.run("$verdict.showWitness({ lost: null, shown: [], failure: 'no memory for this input' }, {})")
         self.check("a search that fails", text_of(b, "#witness"),
                    "No witness: no memory for this input. A no says that a rule was broken.")
         # one text of one segment, whose flag turns each time, makes no mix
@@ -331,7 +328,7 @@ class LogTab:
         log = example("flags.log").decode()
         call(b, "probe.open", "log", log + f"{NOTHING}\n" * 40, {"pi": "C201", "m": 8, "k": 0})
         settled_verdict(b)
-        self.check("the cursor", (cursor(b, "log"), text_of(b, "#verdict [data-act=goTo]")), (4, "slot 4"))
+        self.check("the cursor", (cursor(b, "log"), text_of(b, "#verdict [data-act=goTo]")), (4, "Go to slot 4"))
         call(b, "probe.open", "log", log, {"pi": "C201", "m": 2, "k": 3})
         settled_verdict(b)
         idle(b)

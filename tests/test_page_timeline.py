@@ -9,6 +9,14 @@ GRAPHIC_CONTRAST = 3
 
 
 class Timeline:
+    def test_slots_in_time(self):
+        """No part of a time comes to 60."""
+        b = self.b
+        times = {0: "0.00 s", 114: "9.98 s", 685: "1 min 0 s", 1366: "2 min 0 s", 41_101: "1 h 0 min 0 s", 49_384: "1 h 12 min 5 s"}
+        self.check("times", {slots: b.run(f"$lines.time({slots})") for slots in times}, times)
+        all_times = "Array.from({ length: 200000 }, (_, slots) => $lines.time(slots))"
+        self.check("60", b.run(f"{all_times}.filter(told => /\\b60(\\.0+)? /.test(told))"), [])
+
     def test_keys_zoom_and_move(self):
         b = self.b
         first_examples(b)

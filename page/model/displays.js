@@ -67,25 +67,22 @@ class Writer {
 }
 
 /* Reads the lines of an output. Gives the displays by who shows them: "r0", or "air" for the station, or nobody's name
-   in the output of `decode`. `tell` hears the other lines of `sim`. The last line of another form is the fault. */
+   in the output of `decode`. `tell` hears the other lines of `sim`. */
 const LINE = /^(\d+) (?:(r\d|air) )?(\w+) ?(.*)$/;
 export function read(output, values, tell = null) {
   const displays = {};
-  let fault = null;
   // a million lines at once would take much memory
   for (let at = 0, end; at < output.length; at = end + 1) {
     end = output.indexOf("\n", at);
     if (end < 0) end = output.length;
-    const line = output.slice(at, end);
-    const [, slot, by = "", word, rest] = LINE.exec(line) ?? [];
-    if (word === undefined) fault = line || fault;
-    else if (tell && !by) tell(Number(slot), word, rest);
+    const [, slot, by = "", word, rest] = LINE.exec(output.slice(at, end)) ?? [];
+    if (tell && slot && !by) tell(Number(slot), word, rest);
     else if (word in KIND_OF) (displays[by] ??= new Writer(values)).write(word, Number(slot), rest);
   }
-  return { displays, fault };
+  return displays;
 }
 
-export const displayOf = (output, values, count) => (read(output, values).displays[""] ?? new Writer(values)).packed(count);
+export const displayOf = (output, values, count) => (read(output, values)[""] ?? new Writer(values)).packed(count);
 export const beginOf = (output) => output.length > MOST_SHOWN ? `${output.slice(0, MOST_SHOWN)}…` : output;
 
 /* Where a packed display shows something else, in order: four times the slot, and the number of the part. */

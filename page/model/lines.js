@@ -26,9 +26,8 @@ export function spansOf(slots) {
 
 export const groupIn = (line) => line.split(" ").map((word) => parseInt(word, 16));
 
-/* The first note that begins so, without its advice for a terminal; empty if there is none. */
-const ADVICE = ". To look for lost slots";
-export const noteOf = (all, begin) => (all.find((note) => note.startsWith(begin)) ?? "").split(ADVICE)[0];
+/* The first note of this kind; undefined if there is none. */
+export const noteOf = (notes, kind) => notes.find((note) => note.kind === kind);
 
 /* The second block has the group type with its version, and for a text its A/B flag and the address of its segment. */
 const KIND_SHIFT = 11;

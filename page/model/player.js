@@ -18,20 +18,20 @@ export function kindHeard(codes, reception = "L", slot) {
 }
 
 /* Reads the output of `sim`: the displays, the words of all groups, the kind of each slot's group, and the replies. */
-function read(text, count, values) {
+function read({ output: text, notes }, count, values) {
   const words = new Uint16Array(4 * count);
   const codes = new Uint8Array(count);
   const replies = [];
-  const { displays: found, fault } = displays.read(text, values, (slot, what, reply) => {
+  const found = displays.read(text, values, (slot, what, reply) => {
     if (what !== "sent") { replies.push({ slot, what, reply }); return; }
     const group = lines.groupIn(reply);
     words.set(group, 4 * slot);
     codes[slot] = lines.markedCodeOf(group, null);
   });
   // the rows from a bad one on are not played
-  const bad = /^fault row (\d+)/.exec(fault);
-  const played = bad ? Math.min(count, Number(bad[1]) - 1) : count;
-  return { packed: (by) => found[by]?.packed(played), words, codes: codes.slice(0, played), replies, fault, played };
+  const { row } = lines.noteOf(notes, "fault") ?? {};
+  const played = Math.min(count, row ? row - 1 : count);
+  return { packed: (by) => found[by]?.packed(played), words, codes: codes.slice(0, played), replies, played };
 }
 
 /* The group that was sent in a slot, or null. */
@@ -40,16 +40,16 @@ export const sentIn = ({ words, codes }, slot) => codes[slot] ? [...words.subarr
 /* Plays a script with its receivers, and with radios in their places. `input` is what the program gets. */
 export function play({ text, input = text, pty, m, k, w }) {
   const words = ["sim", "--pi", PI, "--pty", pty, "--m", m, "--k", k, ...rdsrt.windowWords(w), "--why"];
-  const { output, notes } = rdsrt.run(words, input);
+  const simulated = rdsrt.ask(words, input);
   const rows = records.read(text);
   const values = new displays.Values();
-  const { packed, ...station } = read(output, rows.length, values);
-  const radios = read(rdsrt.run([...words, "--flag-alone"], input).output, rows.length, values);
+  const { packed, ...station } = read(simulated, rows.length, values);
+  const radios = read(rdsrt.ask([...words, "--flag-alone"], input), rows.length, values);
   const each = [...rows[0]?.receptions.keys() ?? []];
   const heardBy = (i) =>
     Uint8Array.from(station.codes, (_, slot) => kindHeard(station.codes, rows[slot].receptions[i], slot));
   return {
-    ...station, command: rdsrt.command(words), output: displays.beginOf(output), notes, heard: each.map(heardBy),
+    ...station, command: rdsrt.command(words), output: displays.beginOf(simulated.output), notes: simulated.notes, heard: each.map(heardBy),
     views: each.map((i) => packed(`r${i}`)), alone: each.map((i) => radios.packed(`r${i}`)),
     air: radios.packed("air"), values: values.packed(),
   };

@@ -19,43 +19,13 @@ function arraysIn(value) {
   return value !== null && typeof value === "object" ? Object.values(value).flatMap(arraysIn) : [];
 }
 
-const run = (words, bytes = state.bytes) => rdsrt.run(words, bytes);
+const run = (words, bytes = state.bytes) => rdsrt.ask(words, bytes);
 
 /* The slots of the log, up to the line that the program finds malformed. */
 function logOf(tell) {
   if (state.log) return state.log;
-  const [, line = Infinity] = /^fault line (\d+)$/m.exec(run(["decode", "--pi", "0000"]).output) ?? [];
-  return state.log = logs.read(state.bytes, Number(line), tell);
-}
-
-/* Whether most of some lines have digits of a time behind their blocks. */
-const SOME = 1000;
-const LONGEST = 80;
-const TIME = /\d[:.]\d/;
-const wordsAt = (at) => new TextDecoder().decode(state.bytes.subarray(at, Math.min(logs.endOf(state.bytes, at), at + LONGEST)));
-function looksTimed({ starts, count }) {
-  const step = Math.ceil(count / SOME);
-  const some = starts.filter((_, slot) => slot % step === 0);
-  return 2 * some.filter((at) => TIME.test(wordsAt(at + logs.BLOCKS))).length > some.length;
-}
-
-/* Whether the log has a comment of `slots` on a break. A browser makes no string of more than 512 MB. */
-const HASH = "#".charCodeAt(0);
-const BREAK = /^# (?:time went back|more than a day passed)/;
-function hasBreaks() {
-  const { bytes } = state;
-  for (let at = bytes.indexOf(HASH); at >= 0; at = bytes.indexOf(HASH, at + 1)) if (BREAK.test(wordsAt(at))) return true;
-  return false;
-}
-
-/* The notes of `slots` on the times of the log: how many groups have no time that it reads, and its other notes. A log
-   that `slots` wrote has its breaks already. */
-const UNTIMED = /^(\d+) groups? without a time/;
-function timesOf() {
-  const { notes } = rdsrt.runBytes(["slots", "--m", "1"], state.bytes);
-  const [untimed] = notes.map((note) => UNTIMED.exec(note)).filter(Boolean);
-  const isOf = (note) => note.startsWith("the times vary") || (note.includes(" went back, or on by") && !hasBreaks());
-  return { untimed: Number(untimed?.[1] ?? 0), notes: notes.filter(isOf), looksTimed: looksTimed(state.log) };
+  const fault = lines.noteOf(run(["decode", "--pi", "0000"]).notes, "fault");
+  return state.log = logs.read(state.bytes, fault?.line, tell);
 }
 
 const decoding = ({ pi, m, w }) => ["decode", "--pi", pi, "--m", m, ...rdsrt.windowWords(w), "--why"];
@@ -106,30 +76,25 @@ function head(count) {
   return state.bytes.subarray(0, end);
 }
 
-/* All faults of the log, and the note that the log lacks slots by its times. After a no the note on its rule is that of
-   the audit that stops there, and only the lines up to it can lack slots: `lackTo` is the last of them. */
+/* All faults of the log. `first` has the notes of the audit over the lines up to the first fault: its rule, and whether
+   these lines lack slots. */
 function audit(asked) {
   const words = auditing(asked, "--all");
   const { output, notes } = run(words);
   const list = answers.read(output);
-  const rule = list.slots.length ? run(auditing(asked)).notes : [];
-  const line = /^slot \d+ \(line (\d+)/m.exec(rule.join("\n"));
-  const read = line ? run(["decode", "--pi", asked.pi], head(Number(line[1]))).notes : notes;
-  return {
-    list, command: rdsrt.command(words), output: displays.beginOf(output), notes: [...rule, ...notes],
-    counts: answers.counts(notes), end: lines.noteOf(notes, "fault ").slice("fault ".length), lackTo: line && Number(line[1]),
-    lack: lines.noteOf(read, "the log spans ") || lines.noteOf(read, "the first "),
-  };
+  const places = notes.filter(({ kind }) => kind === "faults").map((fault) => fault.first_line);
+  const first = places.length ? run(auditing(asked), head(Math.min(...places))).notes : notes;
+  return { list, notes, first, command: rdsrt.command(words), output: displays.beginOf(output) };
 }
 
 const REQUESTS = {
   /* Takes the bytes of a log. A blob is handed over without a copy. */
   async keep({ blob }) { Object.assign(state, { bytes: new Uint8Array(await blob.arrayBuffer()), ...NOTHING_READ }); },
 
-  /* The slots of the log, its programmes, and its times. */
+  /* The slots of the log and its programmes. */
   open(_, tell) {
     const log = structuredClone(logOf(tell));
-    return { log, programmes: logs.programmes(state.bytes, log), times: timesOf() };
+    return { log, programmes: logs.programmes(state.bytes, log) };
   },
 
   decode(asked) {

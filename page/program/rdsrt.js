@@ -2,7 +2,7 @@
 
 const HEAP = 1 << 20;
 const ROOM = 1 << 16;
-const NOTES = 1 << 13;
+const NOTES = 1 << 14;
 const PAGE = 1 << 16;
 const FAULT = "fault memory\n";
 const NO_MEMORY = "no memory for this input: the page takes up to about 180 MB";
@@ -65,8 +65,8 @@ function call(words, input, room, heap) {
 const bytesAt = (at, length) => new Uint8Array(module.memory.buffer, at, length);
 const textAt = (at, length) => decoder.decode(bytesAt(at, length));
 
-/* The notes of a run, one a line, without the name of the program. */
-const notesOf = (text) => text.split("\n").filter(Boolean).map((line) => line.replace(/^rdsrt: /, ""));
+/* The notes of a run, one a line: objects with --json-notes, else sentences. A last line without room is left out. */
+const notesOf = (text) => text.split("\n").slice(0, -1).map((line) => line.startsWith("{") ? JSON.parse(line) : line);
 
 /* Runs the program. Where there was no memory, or no room for the output, it runs again with more. The output is
    bytes in the program's memory, up to the next run. The notes are those that have room. */
@@ -91,6 +91,9 @@ export function run(words, input) {
   const { bytes, ...ended } = runBytes(words, input);
   return { ...ended, output: decoder.decode(bytes) };
 }
+
+/* Runs a command, whose notes become objects. */
+export const ask = (words, input) => run([...words, "--json-notes"], input);
 
 export const windowWords = (window) => window ? ["--confirm", window] : [];
 export const command = (words) => ["rdsrt", ...words].join(" ");

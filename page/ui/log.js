@@ -42,7 +42,6 @@ class LogTab extends Tab {
   bytes = new Uint8Array(0);
   log = NO_LOG;
   /** @type {any} */ source = {};
-  /** @type {any} */ times = {};
   /** @type {Set<number>} */ lost = new Set();
   /** @type {"add" | "delete" | null} */ brush = null;
   hadLost = false;
@@ -191,14 +190,13 @@ class LogTab extends Tab {
 
   async showAnswer(asked, signal) {
     const audit = await this.judge.ask("audit", asked, { signal });
-    const { bytes, log, times } = this;
-    this.answer = { ...verdict.show({ ...asked, audit, bytes, log, times }, this.actions), audit };
+    this.answer = { ...verdict.show({ ...asked, audit }, this.actions), audit };
     this.tellLines("audit", audit.command, audit.output);
     faults.show({ ...audit, isSure: this.answer.isSure }, (slot) => this.goTo(slot));
     // the row of the fault is red
     this.rows.layOut(Math.max(0, this.rows.chosen));
     // the faults have marks
-    if (this.no && this.timeline.lanes.length) this.timeline.show(this.lanes(), log.count);
+    if (this.no && this.timeline.lanes.length) this.timeline.show(this.lanes(), this.log.count);
   }
 
   /* The slot to look at first: that of a no if no slot is lost, or else the first mix, or else the last text. */
@@ -313,8 +311,12 @@ class LogTab extends Tab {
     return CLOCK.exec(this.lineAt(this.log.starts[slot]).slice(logs.BLOCKS))?.[0] ?? "";
   }
 
-  /* Empty if the lines have times: slots may be missing between two lines. */
-  elapsed(slot) { return this.times.looksTimed || this.clock(slot) ? "" : super.elapsed(slot); }
+  /* Empty if there is more than blocks in the line, maybe a time: slots may be missing before it. */
+  elapsed(slot) {
+    const { starts, count } = this.log;
+    const isBare = !count || this.lineAt(starts[Math.min(slot, count - 1)]).length <= logs.BLOCKS;
+    return isBare ? super.elapsed(slot) : "";
+  }
   seconds(slot) { return this.log.clocks[slot] ?? NaN; }
 
   /* A row of the log itself: the line of a slot, its blocks and its clock; or the one behind all slots, which is malformed. */

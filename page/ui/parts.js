@@ -5,6 +5,9 @@ export const number = (n) => n.toLocaleString("en");
 /* A note with commas in its long numbers. Those of a time stay as they are. */
 export const grouped = (note) =>
   note.replace(/(?<![\d/:.])\d{4,}(?![\d/:]|\.\d)/g, (digits) => number(Number(digits)));
+/* A sentence of the program: with a capital letter, and without its advice for a terminal. */
+const ADVICE = /(?:\. To look for|: put rdsrt) .*/;
+export const told = (text) => `${text.slice(0, 1).toUpperCase()}${text.slice(1).replace(ADVICE, "")}.`;
 /** @type {(id: string) => any} */
 export const $ = (id) => document.getElementById(id);
 /** @type {(tag: string, props?: object, ...inside: (string | Node)[]) => any} */

@@ -31,9 +31,10 @@ function sentences() {
 }
 
 function faultsOf({ answer }) {
-  const { audit } = answer ?? {};
-  if (!audit?.counts.length) return audit?.output.startsWith("yes ") ? "none found" : "not judged";
-  return [...audit.counts.map(({ note }) => note), ...audit.end ? [`The list ends before ${audit.end}.`] : []];
+  const { notes = [], output = "" } = answer?.audit ?? {};
+  const found = notes.filter(({ kind }) => kind === "faults");
+  if (!found.length) return output.startsWith("yes ") ? "none found" : "not judged";
+  return [...found, ...notes.filter(({ kind }) => kind === "fault")].map(({ text }) => text);
 }
 
 function rows(tab) {

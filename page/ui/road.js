@@ -7,7 +7,7 @@ import * as player from "../model/player.js";
 import * as records from "../model/records.js";
 import { Program } from "../program/program.js";
 import * as links from "./links.js";
-import { $, MIXED, filled, make, nodesOf, radio, soon, whyNoMix } from "./parts.js";
+import { $, MIXED, filled, make, nodesOf, radio, soon, told, whyNoMix } from "./parts.js";
 import { Timeline } from "./timeline.js";
 
 /* The slots [from, to) of the first tunnels, and the letters of a text that a car gets whole between two of them. */
@@ -194,7 +194,8 @@ class Road {
     const later = mix && `The ordinary radio shows a mix from ${lines.time(mix.from)} on.`;
     const now = run?.state === "mix" && `“${run.value}” was never on air. ${whyNoMix(dwell, alone, slot)}`;
     const calm = "No display shows a mix on this road. Drag the ends of the tunnels.";
-    const words = played.fault ? nodesOf(`${lines.noteOf(played.notes, played.fault) || played.fault}.`) : [now || later || calm];
+    const fault = lines.noteOf(played.notes, "fault");
+    const words = fault ? nodesOf(told(fault.text)) : [now || later || calm];
     $("road-says").replaceChildren(...words);
   }
 

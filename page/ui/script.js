@@ -6,7 +6,7 @@ import * as records from "../model/records.js";
 import { Program } from "../program/program.js";
 import { nameFor, saveAs } from "./files.js";
 import * as links from "./links.js";
-import { $, MIXED, counted, hex, make, nodesOf, number, problemOf, radio, soon, staleAt, whyNoMix } from "./parts.js";
+import { $, MIXED, counted, hex, make, nodesOf, number, problemOf, radio, soon, staleAt, told, whyNoMix } from "./parts.js";
 import { Tab } from "./tab.js";
 
 const UNPLAYED = "not played";
@@ -20,7 +20,7 @@ const OTHERS = { name: ["  its name", "  name"], tags: ["  its tags", "  tags"] 
 const DWELL = { text: ["  with rdsrt", " rdsrt"], ...OTHERS };
 const ALONE = { text: ["  ordinary radio", " ordinary"], ...OTHERS };
 const unplayed = () => ({
-  played: 0, air: new View(), views: [], alone: [], heard: [], codes: new Uint8Array(0), fault: null, replies: new Map(), notes: [],
+  played: 0, air: new View(), views: [], alone: [], heard: [], codes: new Uint8Array(0), fault: null, replies: new Map(),
 });
 /** @type {() => any[]} */
 const brushes = () => [...document.querySelectorAll("[name=brush]")];
@@ -36,8 +36,7 @@ class ScriptTab extends Tab {
   /** @type {View[]} */ views = [];
   /** @type {View[]} */ alone = [];
   /** @type {Uint8Array[]} */ heard = [];
-  /** @type {string[]} */ notes = [];
-  /** @type {string | null} */ fault = null;
+  /** @type {any} */ fault = null;
   /** @type {any} */ firstMix;
   /** @type {any} */ program;
   air = new View();
@@ -208,15 +207,15 @@ class ScriptTab extends Tab {
     const view = (packed) => new View(packed, values);
     Object.assign(this, played, {
       air: view(played.air), views: played.views.map(view), alone: played.alone.map(view),
-      replies: new Map(played.replies.map((reply) => [reply.slot, reply])),
+      replies: new Map(played.replies.map((reply) => [reply.slot, reply])), fault: lines.noteOf(played.notes, "fault"),
     });
     this.air.shadeTexts();
     $("brush-wrong").hidden = !w;
     this.choose(this.chosen);
     this.timeline.show(this.lanes(), this.rows.length, { fit });
     this.tellLines("script", played.command, played.output);
-    const wait = lines.noteOf(played.notes, "slot ");
-    this.tell(this.mixesInWords(), wait && `${wait}.`, this.faultInNodes());
+    const wait = lines.noteOf(played.notes, "refused");
+    this.tell(this.mixesInWords(), wait ? told(wait.text) : "", this.faultInNodes());
   }
 
   /* Why the page does not play these rows; empty if it does. */
@@ -277,12 +276,11 @@ class ScriptTab extends Tab {
 
   /* A fault of the script, by the program's note; and a button to a bad row in the text that was played. */
   faultInNodes() {
-    const { fault, notes, text } = this;
-    const row = /^fault row (\d+)/.exec(fault ?? "");
-    const bad = row && records.read(text)[Number(row[1]) - 1];
+    const { fault, text } = this;
+    if (!fault) return [];
+    const bad = records.read(text)[fault.row - 1];
     const button = make("button", { type: "button", textContent: "Show the line", onclick: () => this.showRow(bad) });
-    const words = fault ? nodesOf(`${lines.noteOf(notes, fault) || fault}.`) : [];
-    return [...words, ...bad ? [" The rows after it are not played. ", button] : []];
+    return [...nodesOf(told(fault.text)), ...bad ? [" The rows after it are not played. ", button] : []];
   }
 
   /* Opens the text and chooses the line in which a row begins. Each line end is one letter of the field. */
