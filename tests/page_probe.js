@@ -163,7 +163,7 @@ const probe = (() => {
     return [...reader.getImageData(0, 0, 1, 1).data];
   }
   /* A colour of the style by its name. */
-  const probed = document.body.appendChild(document.createElement("i"));
+  const probed = document.body.appendChild(Object.assign(document.createElement("i"), { hidden: true }));
   const colour = (name) => { probed.style.color = `var(--${name})`; return getComputedStyle(probed).color; };
 
   /* In how many pixels of the lanes with this name each of these inks is to be seen. No cursor is drawn. */

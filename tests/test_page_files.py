@@ -86,7 +86,7 @@ class Files:
             note = run_program(["sim", "--pi", "C201"], script.encode())[2][-1]
             fault = text_of(b, "#script-fault").partition(". The rows after")[0]
             got = fault, sizes, of(b, "#argument", "value.length")
-            self.check(f"a field of 3 MB in {script[:8]}", got, (note, [False, False], left))
+            self.check(f"a field of 3 MB in {script[:8]}", got, (note[:1].upper() + note[1:], [False, False], left))
         open_script(b, f"text,{long},1,G\n-,,1,G\n", m=8, k=0)
         move(b, "script", 0)
         b.run("document.getElementById('free').click()")

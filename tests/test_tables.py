@@ -11,7 +11,6 @@ DWELLS = [
     ("python/src/rdsrt/_library.py", r"\nDEFAULT_DWELL = "),
     ("page/ui/app.js", r"DEFAULTS = \{ m: "),
     ("page/index.html", r'id="log-m" min="1" max="65535" value="'),
-    ("page/index.html", r'id="dwell-m" min="1" max="65535" value="'),
     ("examples/station", r'"--m", type=int, default='),
     ("docs/GUIDE.md", r"The default is "),
 ]

@@ -143,8 +143,8 @@ export function lastAt(length, slotOf, slot) {
   return low - 1;
 }
 
-/* What a lane draws: entries in order of their slots. `piece(i)` makes what is drawn of an entry: a bar with from, to, value,
-   label, kind, shade, mix and old, or a mark with from, label and kind. */
+/* What a lane draws: entries in order of their slots. `piece(i)` makes what is drawn of an entry: a bar with from, to,
+   value, label, kind, shade, mix and old, or a mark with from, label and kind. */
 class List {
   end = 0;
 
@@ -198,7 +198,8 @@ class Runs extends List {
 
   at(i) {
     const value = this.value(i);
-    return { from: this.from(i), to: this.to(i), value, state: this.state(i), why: value === null ? WHYS[this.states[i]] : "" };
+    const why = value === null ? WHYS[this.states[i]] : "";
+    return { from: this.from(i), to: this.to(i), value, state: this.state(i), why };
   }
 
   piece(i) {

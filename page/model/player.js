@@ -49,7 +49,8 @@ export function play({ text, input = text, pty, m, k, w }) {
   const heardBy = (i) =>
     Uint8Array.from(station.codes, (_, slot) => kindHeard(station.codes, rows[slot].receptions[i], slot));
   return {
-    ...station, command: rdsrt.command(words), output: displays.beginOf(simulated.output), notes: simulated.notes, heard: each.map(heardBy),
+    ...station, command: rdsrt.command(words), output: displays.beginOf(simulated.output), notes: simulated.notes,
+    heard: each.map(heardBy),
     views: each.map((i) => packed(`r${i}`)), alone: each.map((i) => radios.packed(`r${i}`)),
     air: radios.packed("air"), values: values.packed(),
   };

@@ -84,8 +84,8 @@ function eachGroup(bytes, starts, call) {
   for (let slot = 0; slot < starts.length; slot++) {
     const at = starts[slot];
     // a list of the places would take longer than all else
-    const isLost = isMissing(bytes, at) || isMissing(bytes, at + 5) || isMissing(bytes, at + 10) || isMissing(bytes, at + 15);
-    if (!isLost) call(slot, wordAt(bytes, at), wordAt(bytes, at + 5));
+    const isFirstHalf = !isMissing(bytes, at) && !isMissing(bytes, at + 5);
+    if (isFirstHalf && !isMissing(bytes, at + 10) && !isMissing(bytes, at + 15)) call(slot, wordAt(bytes, at), wordAt(bytes, at + 5));
   }
 }
 

@@ -100,7 +100,8 @@ const REQUESTS = {
   decode(asked) {
     logOf();
     const { view, alone, codes, values, ...shown } = asked.lost.length ? lossyOf(asked) : wholeOf(asked);
-    return { ...shown, ...structuredClone({ view, alone, codes }), values: values.packed(), changes: displays.changesOf(view) };
+    const copies = structuredClone({ view, alone, codes });
+    return { ...shown, ...copies, values: values.packed(), changes: displays.changesOf(view) };
   },
 
   /* The text that a receiver without losses shows in a slot. */
@@ -112,18 +113,11 @@ const REQUESTS = {
 
   audit,
 
-  /* The slots to lose after a no and what is shown then, or the slot at which the search stopped. It takes the log up
-     to `near`, and then up to `far`: each is an end in bytes and in slots. A witness of the first part is one of the
-     second if the part has a dwell after the mix. */
-  witness({ pi, m, near, far, isAll }, tell) {
-    const search = ({ slots, bytes }) => {
-      tell(slots);
-      return answers.witness(run(["witness", "--pi", pi, "--m", m], state.bytes.subarray(0, bytes)).output);
-    };
-    const first = search(near);
-    if (near.slots >= far.slots || (first.lost && first.slot + m <= near.slots)) return first;
-    const found = search(far);
-    return found.lost || found.upto !== null || isAll ? found : { ...found, upto: far.slots };
+  /* The slots to lose after a no and what is shown then, or the slot at which the search stopped. It takes so many slots,
+     which end at a byte, and may not be all. */
+  witness({ pi, m, slots, end, isAll }) {
+    const found = answers.witness(run(["witness", "--pi", pi, "--m", m], state.bytes.subarray(0, end)).output);
+    return found.lost || found.upto !== null || isAll ? found : { ...found, upto: slots };
   },
 
   /* The log with a line for each slot that its times say it lacks. */

@@ -4,7 +4,8 @@
 /* The milliseconds of this time, if nobody names others. */
 const PATIENCE = 300;
 
-/** @typedef {{ call: string, given: any, tell?: Function, resolve: Function, reject: Function, signal?: AbortSignal }} Question */
+/** @typedef {{ call: string, given: any, tell?: Function, resolve: Function, reject: Function,
+ *    signal?: AbortSignal }} Question */
 
 export class Program {
   /** @type {Worker | null} */ worker = null;

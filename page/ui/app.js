@@ -175,7 +175,8 @@ function exampleOf(it, number) {
 /* Opens what a link or the number of an example names in a tab, or says why not. */
 async function openIn(it, hash, example) {
   try {
-    const { text, options } = example === null ? { text: await links.textOf(it, hash), options: DEFAULTS } : exampleOf(it, example);
+    const linked = async () => ({ text: await links.textOf(it, hash), options: DEFAULTS });
+    const { text, options } = example === null ? await linked() : exampleOf(it, example);
     if (it !== road) await links.open(it, hash, text, options);
     else await road.open(text, hash);
   } catch (error) {

@@ -154,14 +154,17 @@ function look(timeline, { given, within }) {
 export async function open(tab, hash, text, defaults) {
   const options = optionsIn(hash);
   const { option } = options;
+  const isLink = hash.startsWith(`${tab.id}=`);
   const numbers = {
     // a link has its M
-    m: option("m", 1, 65535, hash.startsWith(`${tab.id}=`) ? undefined : defaults.m), k: option("k", 0, 1024, defaults.k), w: option("w", 2, 255, defaults.w ?? ""),
+    m: option("m", 1, 65535, isLink ? undefined : defaults.m),
+    k: option("k", 0, 1024, defaults.k),
+    w: option("w", 2, 255, defaults.w ?? ""),
   };
   await tab.open(text, { ...defaults, ...numbers, ...tab.settingsOf(options, defaults) });
   tab.afterLink(options);
   look(tab.timeline, options);
-  if (hash.startsWith(`${tab.id}=`)) hold(tab, { text, options: tab.options(), hash });
+  if (isLink) hold(tab, { text, options: tab.options(), hash });
 }
 
 /* Slots as a link has them: 2-4.9 is 2, 3, 4 and 9. */

@@ -17,10 +17,8 @@ import * as verdict from "./verdict.js";
 
 /* The worker that has searched a log of more slots ends, to free its memory. */
 const LONG = 100_000;
-/* How many dwells after a no are searched first for a witness, since most are there; and how many slots after that,
-   about a day: each takes some 41 bytes of memory. */
-const NEAR = 4;
-const FAR = 1_000_000;
+/* How many slots after a no are searched for a witness, about a day: each takes some 41 bytes of memory. */
+const SEARCHED = 1_000_000;
 /* A display takes no longer with another M, and a new worker would have to read the log again. */
 const SECOND = 1000;
 const PATIENCE = 20 * SECOND;
@@ -111,7 +109,8 @@ class LogTab extends Tab {
     const bytes = typeof content === "string" ? encoder.encode(content) : content;
     // a link holds no longer text
     const text = bytes.length > links.MOST_PLAIN ? null : decoder.decode(bytes);
-    Object.assign(this, empty(), { log: NO_LOG, bytes, text, source: { file, ...source }, lost: new Set(lost), brush: null });
+    const opened = { bytes, text, source: { file, ...source }, lost: new Set(lost) };
+    Object.assign(this, empty(), { log: NO_LOG, brush: null, ...opened });
     this.hadLost = example !== "" && this.lost.size > 0;
     this.home(false);
     this.rows.show(0);
@@ -239,21 +238,17 @@ class LogTab extends Tab {
     const { no, log } = this;
     const { pi, m, k, w } = asked;
     const from = performance.now();
-    const end = (slots) => ({ slots, bytes: log.starts[slots] ?? this.bytes.length });
-    const near = end(Math.min(log.count, no.slot + NEAR * m));
-    const far = end(Math.min(log.count, near.slots + FAR));
-    let slots = 0;
+    const slots = Math.min(log.count, no.slot + SEARCHED);
+    const given = { pi, m, slots, end: log.starts[slots] ?? this.bytes.length, isAll: slots === log.count };
     let failure = NO_SEARCH;
     let found = null;
     const say = () => verdict.showSearch({ slots, seconds: Math.round((performance.now() - from) / SECOND) });
     const timer = setInterval(say, SECOND);
-    const tell = (count) => { slots = count; };
     this.searching = new AbortController();
     const { any } = /** @type {any} */ (AbortSignal);
     const ends = any.call(AbortSignal, [signal, this.searching.signal]);
     try {
-      const given = { pi, m, near, far, isAll: far.slots === log.count };
-      if (!w) found = await this.judge.ask("witness", given, { signal: ends, tell });
+      if (!w) found = await this.judge.ask("witness", given, { signal: ends });
     } catch (error) { failure = this.searching.signal.aborted ? STOPPED : error.message; }
     clearInterval(timer);
     if (signal.aborted) return;
@@ -319,7 +314,7 @@ class LogTab extends Tab {
   }
   seconds(slot) { return this.log.clocks[slot] ?? NaN; }
 
-  /* A row of the log itself: the line of a slot, its blocks and its clock; or the one behind all slots, which is malformed. */
+  /* A row of the log itself: the line of a slot, its blocks and its clock. The one behind all slots is malformed. */
   row(slot) {
     const { log, no, answer } = this;
     const isSlot = slot < log.count;

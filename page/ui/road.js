@@ -47,7 +47,8 @@ class Road {
     const slots = [...this.rows.keys()];
     const starts = slots.filter((slot) => isLost(slot) && !isLost(slot - 1));
     const ends = slots.filter((slot) => isLost(slot) && !isLost(slot + 1));
-    this.tunnels = (tunnels ?? starts.map((from, i) => [from, ends[i] + 1])).map(([from, to], i) => this.tunnel(from, to, i));
+    const places = tunnels ?? starts.map((from, i) => [from, ends[i] + 1]);
+    this.tunnels = places.map(([from, to], i) => this.tunnel(from, to, i));
     $("road-band").replaceChildren(...this.tunnels.flatMap(({ place, exit }) => [place, exit]), this.car);
     $("road-texts").replaceChildren(...this.rows.filter(({ command }) => command === "text").map(this.fieldOf, this));
     this.placeTunnels();
@@ -56,7 +57,8 @@ class Road {
 
   /* A field for a text of the station. */
   fieldOf(row, i) {
-    const field = make("input", { className: `hue-${i % 3}`, maxLength: LONGEST, value: row.argument, ariaLabel: `Text ${i + 1}` });
+    const props = { className: `hue-${i % 3}`, maxLength: LONGEST, ariaLabel: `Text ${i + 1}` };
+    const field = make("input", { ...props, value: row.argument });
     field.oninput = soon(() => {
       records.edit(row, { argument: field.value });
       this.play();
@@ -136,12 +138,13 @@ class Road {
   /* Plays the road in the worker, and again if something moved meanwhile. */
   play() {
     this.isMoved = true;
-    if (!this.isPlaying) this.work = this.playMoves().catch((error) => { $("road-says").textContent = error.message; });
+    if (!this.isPlaying) this.work = this.playMoves();
     return this.work;
   }
 
   async playMoves() {
-    for (this.isPlaying = true; this.isMoved;) await this.playNow().catch((error) => { $("road-says").textContent = error.message; });
+    const say = (error) => { $("road-says").textContent = error.message; };
+    for (this.isPlaying = true; this.isMoved;) await this.playNow().catch(say);
     this.isPlaying = false;
   }
 

@@ -146,7 +146,8 @@ export class Timeline {
 
   place() {
     const { cursor, tab, count } = this;
-    return [`slot ${number(cursor)} of ${number(count)}`, tab.elapsed(cursor), tab.clock(cursor)].filter(Boolean).join(" · ");
+    const words = [`slot ${number(cursor)} of ${number(count)}`, tab.elapsed(cursor), tab.clock(cursor)];
+    return words.filter(Boolean).join(" · ");
   }
 
   laneAt({ offsetY }) {

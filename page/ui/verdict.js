@@ -46,11 +46,13 @@ function answer({ audit, m, k, w }, actions) {
     ["no", "lack", "few", "judged", "fault", "nothing", "no_group"].map((kind) => lines.noteOf(audit.first, kind));
   const late = k ? ` and K ${w ? "+ W - 1 " : ""}= ${number(k)}` : "";
   const dwell = `M = ${number(m)} (${lines.time(m)})${late}`;
-  const doubts = filled("doubts", { lack: lack && told(grouped(lack.text)), few: few && told(grouped(few.text)), ...actions });
-  if (no) return [lack ? "empty" : "no", ...filled(lack ? "doubted" : "refused", { ...shownOf(no, actions), dwell }), ...doubts];
+  const words = (note) => note && told(grouped(note.text));
+  const doubts = filled("doubts", { lack: words(lack), few: words(few), ...actions });
+  const card = no && filled(lack ? "doubted" : "refused", { ...shownOf(no, actions), dwell });
+  if (no) return [lack ? "empty" : "no", ...card, ...doubts];
   if (fault) return ["fault", ...faulty(fault, actions)];
-  if (nothing ?? none) return ["empty", ...filled("nothing", { note: told(grouped((nothing ?? none).text)) }), ...doubts];
-  const covered = told(grouped(judged.text));
+  if (nothing ?? none) return ["empty", ...filled("nothing", { note: words(nothing ?? none) }), ...doubts];
+  const covered = words(judged);
   if (lack ?? few) return ["empty", ...filled("unsure", { dwell, covered }), ...doubts];
   const keeps = judged.slots - judged.empty === 1 ? "slot keeps" : "slots keep";
   const texts = judged.empty ? "the recorded texts" : "two texts";
