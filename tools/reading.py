@@ -28,7 +28,7 @@ PROMISED = {
     ("rds_world/specs/Replies", "CanBeTaken"): "the premises of receptions",
 }
 # the headline of a world: the definitions in the clause `safe` of `World::step`
-WORLD = (("rds_world/specs/SafeSlots", "OnlyWhatWasOnAirIsShown"), ("rds_world/specs/StandsAt", "WhereItStands"))
+WORLD = (("rds_world/specs/SafeSlots", "OnlyWhatWasOnAirIsShown"), ("rds_world/specs/WorldAt", "WhereWorldStands"))
 
 
 class Module:

@@ -11,7 +11,7 @@ use Rattle.rds_safety.proofs.OwnClocks.{true_clock}
 use Rattle.rds_arrivals.specs.Arrivals.{IsBreak, and_lost, day, filled, is_break, lost_before, lost_between, lost_until, lost_within, nineteen_slots}
 use Rattle.rds_arrivals.specs.Coarse.{AreCoarse, IsCoarse, begun_at, followed_by, newest_stretch}
 use Rattle.rds_arrivals.specs.declared.stretch.Stretch.{Stretch}
-use Rattle.rds_arrivals.specs.Delivered.{AreBelowASlot, AreOf, AreToldInTime, Delivery, EachTwo, IsLater, IsOnItsWay, IsUnbroken, KeepsPace, arrivals, input_of, oldest_slot, origins}
+use Rattle.rds_arrivals.specs.Delivered.{AreBelowASlot, AreOf, AreToldInTime, Delivery, EachTwo, IsLater, IsOnItsWay, IsUnbroken, KeepsPace, arrivals, delivered_input, oldest_slot, origins}
 use Rattle.rds_arrivals.specs.Laws.{AreDelivered}
 use Rattle.rds_arrivals.proofs.Counting.{IsAcross, IsWithin, are_lost, between_cases, break_cases}
 
@@ -61,8 +61,8 @@ some_is : (r s : ℕ) → Some s ≡ Some r → s ≡ r
 some_is r s e = cc
 
 -- an entry is the newest one, or it came before
-came_cases : {X : Type 0} (grain m first : ℕ) (d : Delivery X) (before : List (Delivery X)) (t s : ℕ) → CameFrom (input_of grain m first 0 (d ∷ before)) t s
-    → ((t + 1 ≡ first + length (from_of grain m (d ∷ before))) × (s ≡ d.slot)) ⊎ CameFrom (input_of grain m first 0 before) t s
+came_cases : {X : Type 0} (grain m first : ℕ) (d : Delivery X) (before : List (Delivery X)) (t s : ℕ) → CameFrom (delivered_input grain m first 0 (d ∷ before)) t s
+    → ((t + 1 ≡ first + length (from_of grain m (d ∷ before))) × (s ≡ d.slot)) ⊎ CameFrom (delivered_input grain m first 0 before) t s
 came_cases grain m first d before t s (inl a) = (let e = a.0 in inl (omega arith, some_is d.slot s a.1))
 came_cases grain m first d before t s (inr a) = inr (lost_came first (lost_at grain m before d) (from_of grain m before) t s a)
 
@@ -76,16 +76,16 @@ shorter Holds d [] all = tt
 shorter Holds d (e ∷ before) all = all.1
 
 -- no entry was sent later than the newest
-pub no_later : {X : Type 0} (grain m first : ℕ) (d : Delivery X) (before : List (Delivery X)) → EachTwo IsLater (d ∷ before) → (t s : ℕ) → CameFrom (input_of grain m first 0 (d ∷ before)) t s → s ≤ d.slot
+pub no_later : {X : Type 0} (grain m first : ℕ) (d : Delivery X) (before : List (Delivery X)) → EachTwo IsLater (d ∷ before) → (t s : ℕ) → CameFrom (delivered_input grain m first 0 (d ∷ before)) t s → s ≤ d.slot
 no_later {X} grain m first d [] later t s p = by (came_cases grain m first d [] t s p)
   where
-    by : ((t + 1 ≡ first + length (from_of grain m (d ∷ []))) × (s ≡ d.slot)) ⊎ CameFrom (input_of {X = X} grain m first 0 []) t s → s ≤ d.slot
+    by : ((t + 1 ≡ first + length (from_of grain m (d ∷ []))) × (s ≡ d.slot)) ⊎ CameFrom (delivered_input {X = X} grain m first 0 []) t s → s ≤ d.slot
     by (inl a) = omega (arith, a.1)
     by (inr a) = absurd a
 no_later {X} grain m first d (e ∷ before) later t s p = by (came_cases grain m first d (e ∷ before) t s p) (no_later grain m first e before later.1 t s)
   where
-    by : ((t + 1 ≡ first + length (from_of grain m (d ∷ e ∷ before))) × (s ≡ d.slot)) ⊎ CameFrom (input_of grain m first 0 (e ∷ before)) t s
-        → (CameFrom (input_of grain m first 0 (e ∷ before)) t s → s ≤ e.slot) → s ≤ d.slot
+    by : ((t + 1 ≡ first + length (from_of grain m (d ∷ e ∷ before))) × (s ≡ d.slot)) ⊎ CameFrom (delivered_input grain m first 0 (e ∷ before)) t s
+        → (CameFrom (delivered_input grain m first 0 (e ∷ before)) t s → s ≤ e.slot) → s ≤ d.slot
     by (inl a) older = omega (arith, a.1)
     by (inr a) older = omega (arith, later.0, older a)
 
@@ -107,11 +107,11 @@ keeps_up grain spread m d e before wide pace = by (between_cases grain m e.arriv
 
 -- an entry that came less than m own slots before the next one was sent no more slots before
 pub recent : {X : Type 0} (grain spread m first : ℕ) (d : Delivery X) (before : List (Delivery X)) → AreBelowASlot grain spread → EachTwo (KeepsPace spread) (d ∷ before)
-    → (t s : ℕ) → CameFrom (input_of grain m first 0 (d ∷ before)) t s → first + length (from_of grain m (d ∷ before)) ≤ t + m
+    → (t s : ℕ) → CameFrom (delivered_input grain m first 0 (d ∷ before)) t s → first + length (from_of grain m (d ∷ before)) ≤ t + m
     → d.slot + t + 1 ≤ s + (first + length (from_of grain m (d ∷ before)))
 recent {X} grain spread m first d [] wide pace t s p near = by (came_cases grain m first d [] t s p)
   where
-    by : ((t + 1 ≡ first + length (from_of grain m (d ∷ []))) × (s ≡ d.slot)) ⊎ CameFrom (input_of {X = X} grain m first 0 []) t s → d.slot + t + 1 ≤ s + (first + length (from_of grain m (d ∷ [])))
+    by : ((t + 1 ≡ first + length (from_of grain m (d ∷ []))) × (s ≡ d.slot)) ⊎ CameFrom (delivered_input {X = X} grain m first 0 []) t s → d.slot + t + 1 ≤ s + (first + length (from_of grain m (d ∷ [])))
     by (inl a) = omega (arith, a.0, a.1)
     by (inr a) = absurd a
 recent {X} grain spread m first d (e ∷ before) wide pace t s p near =
@@ -120,16 +120,16 @@ recent {X} grain spread m first d (e ∷ before) wide pace t s p near =
     more : length (from_of grain m (d ∷ e ∷ before)) ≡ lost_at grain m (e ∷ before) d + length (from_of grain m (e ∷ before)) + 1
     more = long grain m d (e ∷ before)
 
-    by : ((t + 1 ≡ first + length (from_of grain m (d ∷ e ∷ before))) × (s ≡ d.slot)) ⊎ CameFrom (input_of grain m first 0 (e ∷ before)) t s
+    by : ((t + 1 ≡ first + length (from_of grain m (d ∷ e ∷ before))) × (s ≡ d.slot)) ⊎ CameFrom (delivered_input grain m first 0 (e ∷ before)) t s
         → (m ≤ lost_at grain m (e ∷ before) d) ⊎ (d.slot ≤ e.slot + lost_at grain m (e ∷ before) d + 1)
-        → (CameFrom (input_of grain m first 0 (e ∷ before)) t s → first + length (from_of grain m (e ∷ before)) ≤ t + m → e.slot + t + 1 ≤ s + (first + length (from_of grain m (e ∷ before))))
+        → (CameFrom (delivered_input grain m first 0 (e ∷ before)) t s → first + length (from_of grain m (e ∷ before)) ≤ t + m → e.slot + t + 1 ≤ s + (first + length (from_of grain m (e ∷ before))))
         → d.slot + t + 1 ≤ s + (first + length (from_of grain m (d ∷ e ∷ before)))
     by (inl a) up older = omega (arith, a.0, a.1)
     by (inr a) (inl all) older = absurd (omega (arith, more, all, near, before_end first (from_of grain m (e ∷ before)) t (Some s) a))
     by (inr a) (inr up) older = omega (arith, more, up, older a (omega (arith, more, near)))
 
 -- the filled log is heard in order
-pub in_order : {X : Type 0} (grain m first : ℕ) (log : List (Option X)) (given : List (Delivery X)) → AreOf log given → EachTwo IsLater given → IsHeardInOrder log (input_of grain m first 0 given)
+pub in_order : {X : Type 0} (grain m first : ℕ) (log : List (Option X)) (given : List (Delivery X)) → AreOf log given → EachTwo IsLater given → IsHeardInOrder log (delivered_input grain m first 0 given)
 in_order grain m first log [] of later = nothing_in_order log first
 in_order {X} grain m first log (d ∷ before) of later =
     rw (← same_before grain m before d)
@@ -146,26 +146,26 @@ in_order {X} grain m first log (d ∷ before) of later =
 
 -- fewer than m own slots between two entries are fewer than m on air
 between : {X : Type 0} (grain spread m first : ℕ) (given : List (Delivery X)) → AreBelowASlot grain spread → 0 < m → EachTwo IsLater given → EachTwo (KeepsPace spread) given
-    → (t u r s : ℕ) → CameFrom (input_of grain m first 0 given) t r → CameFrom (input_of grain m first 0 given) u s → u < t + m → s < r + m
+    → (t u r s : ℕ) → CameFrom (delivered_input grain m first 0 given) t r → CameFrom (delivered_input grain m first 0 given) u s → u < t + m → s < r + m
 between grain spread m first [] wide some later pace t u r s p q near = absurd p
 between {X} grain spread m first (d ∷ before) wide some later pace t u r s p q near =
     by (came_cases grain m first d before t r p) (came_cases grain m first d before u s q)
     (λ a b. between grain spread m first before wide some (shorter IsLater d before later) (shorter (KeepsPace spread) d before pace) t u r s a b near)
   where
-    by : ((t + 1 ≡ first + length (from_of grain m (d ∷ before))) × (r ≡ d.slot)) ⊎ CameFrom (input_of grain m first 0 before) t r
-        → ((u + 1 ≡ first + length (from_of grain m (d ∷ before))) × (s ≡ d.slot)) ⊎ CameFrom (input_of grain m first 0 before) u s
-        → (CameFrom (input_of grain m first 0 before) t r → CameFrom (input_of grain m first 0 before) u s → s < r + m) → s < r + m
+    by : ((t + 1 ≡ first + length (from_of grain m (d ∷ before))) × (r ≡ d.slot)) ⊎ CameFrom (delivered_input grain m first 0 before) t r
+        → ((u + 1 ≡ first + length (from_of grain m (d ∷ before))) × (s ≡ d.slot)) ⊎ CameFrom (delivered_input grain m first 0 before) u s
+        → (CameFrom (delivered_input grain m first 0 before) t r → CameFrom (delivered_input grain m first 0 before) u s → s < r + m) → s < r + m
     by (inl a) b older = omega (arith, a.1, some, no_later grain m first d before later u s q)
     by (inr a) (inl b) older = omega (arith, b.0, b.1, near, recent grain spread m first d before wide pace t r p (omega (arith, b.0, near)))
     by (inr a) (inr b) older = older a b
 
 pub own_clock : {X : Type 0} (grain spread m first lost : ℕ) (log : List (Option X)) (d : Delivery X) (before : List (Delivery X)) → AreBelowASlot grain spread → 0 < m
-    → AreDelivered spread log (d ∷ before) → IsHeardByOwnClock m m (d.slot + lost) log (input_of grain m first lost (d ∷ before))
+    → AreDelivered spread log (d ∷ before) → IsHeardByOwnClock m m (d.slot + lost) log (delivered_input grain m first lost (d ∷ before))
 own_clock grain spread m first lost log d before wide some are =
     let order = in_order grain m first log (d ∷ before) are.of are.later in
     let all = lost_in_order log first lost (heard_of grain m (d ∷ before)) (from_of grain m (d ∷ before)) order in
     let long = lost_long lost (from_of grain m (d ∷ before)) in
-    let came = λ (t s : ℕ) (p : CameFrom (input_of grain m first lost (d ∷ before)) t s). lost_came first lost (from_of grain m (d ∷ before)) t s p in
+    let came = λ (t s : ℕ) (p : CameFrom (delivered_input grain m first lost (d ∷ before)) t s). lost_came first lost (from_of grain m (d ∷ before)) t s p in
     record {
       order = all;
       between = λ t u r s p q near. between grain spread m first (d ∷ before) wide some are.later are.pace t u r s (came t r p) (came u s q) near;
@@ -210,30 +210,30 @@ next_is {X} grain spread m least ahead d (e ∷ before) wide small later whole w
 
 true_slots : {X : Type 0} (grain spread m least ahead : ℕ) (d : Delivery X) (before : List (Delivery X)) → AreBelowASlot grain spread → spread ≤ grain
     → EachTwo IsLater (d ∷ before) → EachTwo IsUnbroken (d ∷ before) → All (IsOnItsWay least ahead spread) (d ∷ before) → AreToldInTime grain m (d ∷ before)
-    → (t s : ℕ) → CameFrom (input_of grain m (oldest_slot (d ∷ before)) 0 (d ∷ before)) t s → s ≡ t
+    → (t s : ℕ) → CameFrom (delivered_input grain m (oldest_slot (d ∷ before)) 0 (d ∷ before)) t s → s ≡ t
 true_slots {X} grain spread m least ahead d [] wide small later whole ways told t s p = by (came_cases grain m d.slot d [] t s p)
   where
-    by : ((t + 1 ≡ d.slot + length (from_of grain m (d ∷ []))) × (s ≡ d.slot)) ⊎ CameFrom (input_of {X = X} grain m d.slot 0 []) t s → s ≡ t
+    by : ((t + 1 ≡ d.slot + length (from_of grain m (d ∷ []))) × (s ≡ d.slot)) ⊎ CameFrom (delivered_input {X = X} grain m d.slot 0 []) t s → s ≡ t
     by (inl a) = omega (arith, a.0, a.1, next_is grain spread m least ahead d [] wide small later whole ways told)
     by (inr a) = absurd a
 true_slots {X} grain spread m least ahead d (e ∷ before) wide small later whole ways told t s p =
     by (came_cases grain m (oldest_slot (e ∷ before)) d (e ∷ before) t s p) (next_is grain spread m least ahead d (e ∷ before) wide small later whole ways told)
     (true_slots grain spread m least ahead e before wide small later.1 whole.1 (All-tail (IsOnItsWay {X = X} least ahead spread) d (e ∷ before) ways) told.1 t s)
   where
-    by : ((t + 1 ≡ oldest_slot (e ∷ before) + length (from_of grain m (d ∷ e ∷ before))) × (s ≡ d.slot)) ⊎ CameFrom (input_of grain m (oldest_slot (e ∷ before)) 0 (e ∷ before)) t s
+    by : ((t + 1 ≡ oldest_slot (e ∷ before) + length (from_of grain m (d ∷ e ∷ before))) × (s ≡ d.slot)) ⊎ CameFrom (delivered_input grain m (oldest_slot (e ∷ before)) 0 (e ∷ before)) t s
         → oldest_slot (e ∷ before) + length (from_of grain m (d ∷ e ∷ before)) ≡ d.slot + 1
-        → (CameFrom (input_of grain m (oldest_slot (e ∷ before)) 0 (e ∷ before)) t s → s ≡ t) → s ≡ t
+        → (CameFrom (delivered_input grain m (oldest_slot (e ∷ before)) 0 (e ∷ before)) t s → s ≡ t) → s ≡ t
     by (inl a) next older = omega (arith, a.0, a.1, next)
     by (inr a) next older = older a
 
 pub on_time : {X : Type 0} (grain spread m least ahead : ℕ) (log : List (Option X)) (d : Delivery X) (before : List (Delivery X)) → AreBelowASlot grain spread → spread ≤ grain
     → AreOf log (d ∷ before) → EachTwo IsLater (d ∷ before) → EachTwo IsUnbroken (d ∷ before) → All (IsOnItsWay least ahead spread) (d ∷ before) → AreToldInTime grain m (d ∷ before)
-    → IsHeardLate 0 log (input_of grain m (oldest_slot (d ∷ before)) 0 (d ∷ before)) × (oldest_slot (d ∷ before) + length (heard_of grain m (d ∷ before)) ≡ d.slot + 1)
+    → IsHeardLate 0 log (delivered_input grain m (oldest_slot (d ∷ before)) 0 (d ∷ before)) × (oldest_slot (d ∷ before) + length (heard_of grain m (d ∷ before)) ≡ d.slot + 1)
 on_time grain spread m least ahead log d before wide small of later whole ways told =
     let order = in_order grain m (oldest_slot (d ∷ before)) log (d ∷ before) of later in
     let next = next_is grain spread m least ahead d before wide small later whole ways told in
     let beside = order.beside in
-    ((true_clock log (input_of grain m (oldest_slot (d ∷ before)) 0 (d ∷ before))).0 (order, true_slots grain spread m least ahead d before wide small later whole ways told), omega (arith, next, beside))
+    ((true_clock log (delivered_input grain m (oldest_slot (d ∷ before)) 0 (d ∷ before))).0 (order, true_slots grain spread m least ahead d before wide small later whole ways told), omega (arith, next, beside))
 
 -- ---- even delays
 

@@ -18,8 +18,8 @@ origins [] = []
 origins (d ∷ before) = record { entry = d.slot; time = d.arrival.time; told = d.arrival.told } ∷ origins before
 
 -- the filled log as a receiver hears it, and the slot of each entry; `lost` slots without a group follow
-abbrev pub input_of : {X : Type 0} → ℕ → ℕ → ℕ → ℕ → List (Delivery X) → InputOf X
-input_of grain m first lost given = record {
+abbrev pub delivered_input : {X : Type 0} → ℕ → ℕ → ℕ → ℕ → List (Delivery X) → InputOf X
+delivered_input grain m first lost given = record {
   first = first;
   heard = and_lost lost (filled grain m (arrivals given));
   origins = and_lost lost (filled grain m (origins given));

@@ -6,7 +6,7 @@ use Rattle.rds_safety.specs.Late.{IsHeardLate}
 use Rattle.rds_safety.specs.OwnClock.{IsHeardByOwnClock}
 use Rattle.rds_arrivals.specs.Arrivals.{AreLost, filled, lost_between, lost_within, nineteen_slots}
 use Rattle.rds_arrivals.specs.Delivered.{AreBelowASlot, AreOf, AreToldInTime, Delivery, EachTwo, IsLater, IsOnItsWay}
-use Rattle.rds_arrivals.specs.Delivered.{IsUnbroken, KeepsPace, arrivals, input_of, oldest_slot}
+use Rattle.rds_arrivals.specs.Delivered.{IsUnbroken, KeepsPace, arrivals, delivered_input, oldest_slot}
 
 -- the number of lost slots is the one of the definition
 abbrev pub LostSlotsAreCounted : Type 0
@@ -32,7 +32,7 @@ abbrev pub FilledLogsAreOwnClocks : Type 0 → Type 0
 FilledLogsAreOwnClocks X =
     (grain spread m first lost : ℕ) (log : List (Option X)) (newest : Delivery X) (before : List (Delivery X))
     → AreBelowASlot grain spread → 0 < m → AreDelivered spread log (newest ∷ before)
-    → IsHeardByOwnClock m m (newest.slot + lost) log (input_of grain m first lost (newest ∷ before))
+    → IsHeardByOwnClock m m (newest.slot + lost) log (delivered_input grain m first lost (newest ∷ before))
 
 -- if the delays vary by no more than the grain and no break is between two groups, each entry has its own slot: the
 -- receiver is on time
@@ -42,7 +42,7 @@ EvenLogsAreOnTime X =
     → AreBelowASlot grain spread → spread ≤ grain
     → AreOf log (newest ∷ before) → EachTwo IsLater (newest ∷ before) → EachTwo IsUnbroken (newest ∷ before)
     → All (IsOnItsWay least ahead spread) (newest ∷ before) → AreToldInTime grain m (newest ∷ before)
-    → IsHeardLate 0 log (input_of grain m (oldest_slot (newest ∷ before)) 0 (newest ∷ before))
+    → IsHeardLate 0 log (delivered_input grain m (oldest_slot (newest ∷ before)) 0 (newest ∷ before))
     × (oldest_slot (newest ∷ before) + length (filled grain m (arrivals (newest ∷ before))) ≡ newest.slot + 1)
 
 -- two deliveries with such delays, and fewer slots of the log than of the station from one to the other

@@ -5,7 +5,7 @@ use Rattle.std.proofs.lemmas.Simd.{length-replicate}
 use Rattle.std.proofs.lemmas.List.{drop-replicate}
 use Rattle.std.proofs.Math.Seq.{drop-append_seam, take-append_seam}
 use Rattle.rds_assembly.specs.Value.{IsText}
-use Rattle.rds_assembly.specs.Filled.{IsFilled}
+use Rattle.rds_assembly.specs.Filled.{IsZeroFilled}
 
 rest_long : (n k : ℕ) → length (drop n (replicate {A = ℕ} k 0)) ≡ k - n
 rest_long n k = ap length (drop-replicate n k 0) ∙ length-replicate (k - n) 0
@@ -13,7 +13,7 @@ rest_long n k = ap length (drop-replicate n k 0) ∙ length-replicate (k - n) 0
 joined : (a b n m : ℕ) → a ≡ n → b ≡ m - n → n ≤ m → a + b ≡ m
 joined a b n m e f h = omega arith
 
-pub written : (n : ℕ) (x : List ℕ) → length x ≡ n → IsText x → IsFilled n (x ++ drop n (replicate 64 0))
+pub written : (n : ℕ) (x : List ℕ) → length x ≡ n → IsText x → IsZeroFilled n (x ++ drop n (replicate 64 0))
 written n x e t =
     let within : n ≤ 64 = (let long = t.at_most in omega arith) in
     record {

@@ -31,15 +31,15 @@ pub struct Text {
 
 impl Model for Text {
     ghost use Rattle.std.specs.Prelude.{List, ℕ, take, length};
-    ghost use Rattle.rds_assembly.specs.Filled.{IsFilled, filled, filled_back, end_back};
+    ghost use Rattle.rds_assembly.specs.Filled.{IsZeroFilled, zero_filled, filled_back, end_back};
 
     ghost Value = { List ℕ };
 
     ghost view = { λ t. take t.end t.buffer };
 
-    ghost invariant = { λ t. IsFilled t.end t.buffer };
+    ghost invariant = { λ t. IsZeroFilled t.end t.buffer };
 
-    ghost inverse = { λ x. record { buffer = filled x; end = length x } };
+    ghost inverse = { λ x. record { buffer = zero_filled x; end = length x } };
 
     ghost inverse_ok = { λ t h i. record {
       buffer = filled_back t.end t.buffer h i;

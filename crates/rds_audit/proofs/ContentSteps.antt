@@ -6,7 +6,7 @@ use Rattle.std.proofs.lemmas.List.{get_or-replicate, get_or-set_other, get_or-se
 use Rattle.rds_fields.specs.Tag.{PairFields}
 use Rattle.rds_receiver.specs.Receipts.{Fragment}
 use Rattle.rds_audit.specs.declared.audited.Lengths.{Lengths}
-use Rattle.rds_audit.specs.AuditStandsAt.{HoldsContent}
+use Rattle.rds_audit.specs.AuditAt.{HoldsContent}
 use Rattle.rds_audit.specs.ReignsState.{ContentState, no_content, tagged, taken}
 use Rattle.rds_audit.specs.Lengths.{Gauge, IsExact, IsFormed, narrowed, pair_end, sent_last}
 use Rattle.rds_audit.specs.Reigns.{SentTags}

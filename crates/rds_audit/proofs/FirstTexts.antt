@@ -9,7 +9,7 @@ use Rattle.rds_fields.specs.Tag.{PairFields}
 use Rattle.rds_safety.specs.Late.{SentIn}
 use Rattle.rds_safety.specs.Marks.{IsMarkIn, Tagged, marks, text_mark}
 use Rattle.rds_safety.proofs.Entries.{before_end}
-use Rattle.rds_audit.specs.Recording.{counted, from_first_text, has_text, preceded}
+use Rattle.rds_audit.specs.Recording.{counted_after, from_first_text, has_text, preceded}
 
 -- ---- the slots in front
 
@@ -89,7 +89,7 @@ same_length : (log : List (Option Message)) → length (from_first_text log) ≡
 same_length [] = refl
 same_length (newest ∷ before) = ap suc (same_length before)
 
-settled_is_counted : (judged : List (Option Message)) (message : Option Message) → settled (has_text judged) message ≡ counted judged message
+settled_is_counted : (judged : List (Option Message)) (message : Option Message) → settled (has_text judged) message ≡ counted_after judged message
 settled_is_counted judged None = refl
 settled_is_counted judged (Some (Text f a b)) = refl
 settled_is_counted judged (Some (Name f a b)) = refl
@@ -119,7 +119,7 @@ tags_are_of_the_log (newest ∷ before) s pair (inl h) = inl (h.0 ∙ marked_len
     marked_length [] = refl
     marked_length (x ∷ older) = ap suc (marked_length older)
 
-    by : (message : Option Message) → Tagged pair ≡ text_mark (counted (from_first_text before) message) → Tagged pair ≡ text_mark message
+    by : (message : Option Message) → Tagged pair ≡ text_mark (counted_after (from_first_text before) message) → Tagged pair ≡ text_mark message
     by None e = e
     by (Some (Text f a b)) e = e
     by (Some (Name f a b)) e = e

@@ -23,8 +23,8 @@ use Rattle.rds_audit.specs.Lengths.{Gauge, name_gauge, text_gauge}
 use Rattle.rds_audit.specs.Listing.{IsFaultOf, SentFragment, Span, added, both, broken_newest, first_fault, first_of, joined, newest_at, none_broken, or_else, same_bytes, slot_adds, spans, spans_after, spans_tagged}
 use Rattle.std.specs.List.{AllByRecursion}
 use Rattle.rds_audit.specs.ListingLaws.{IsFormedMessage}
-use Rattle.rds_audit.specs.AuditStandsAt.{AuditStandsAt, EndsSlot, FollowsLog, HasJudged, HoldsLog, HoldsNewestSpans, HoldsSlot, HoldsSpans, ListsGroup, ListsMessage, TakesAll, TakesSlot, reigns_of}
-use Rattle.rds_audit.specs.Stored.{IsStored, audit_stored}
+use Rattle.rds_audit.specs.AuditAt.{AuditAt, EndsSlot, FollowsLog, HasJudged, HoldsLog, HoldsNewestSpans, HoldsSlot, HoldsSpans, ListsGroup, ListsMessage, TakesAll, AuditTakesSlot, reigns_of}
+use Rattle.rds_audit.specs.Stored.{IsStoredAudit, audit_stored}
 use Rattle.rds_audit.specs.declared.stored.StoredAudit.{StoredAudit}
 use Rattle.rds_audit.specs.AuditState.{AuditState, aged_in}
 use Rattle.rds_audit.specs.Recording.{counted_as, has_text, judged_as, silent_as}
@@ -266,8 +266,8 @@ next_judged : (begins start : LogStart) (d : ℕ) (message : Option Message) (he
     → judged_as start d (message ∷ heard) ≡ counted_as begins (judged_as begins d heard) message ∷ judged_as begins d heard
 next_judged begins start d message heard same = ap (λ st. judged_as st d (message ∷ heard)) same ∙ judged_step begins d message heard
 
-goes_on : (pi d : ℕ) (a after : AuditState) (log : List (Option Group)) (s : AuditStandsAt pi d a log) (slot : Option Group) (message : Option Message) → HearsNext pi a after slot message
-    → HasJudged d after (counted_as a.start (judged_as a.start d s.heard) message ∷ judged_as a.start d s.heard) → AuditStandsAt pi d after (slot ∷ log)
+goes_on : (pi d : ℕ) (a after : AuditState) (log : List (Option Group)) (s : AuditAt pi d a log) (slot : Option Group) (message : Option Message) → HearsNext pi a after slot message
+    → HasJudged d after (counted_as a.start (judged_as a.start d s.heard) message ∷ judged_as a.start d s.heard) → AuditAt pi d after (slot ∷ log)
 goes_on pi d a after log s slot message (hears, programme, distance, start) has = record {
   programme = programme ∙ s.programme;
   distance = distance ∙ s.distance;
@@ -281,17 +281,17 @@ goes_on pi d a after log s slot message (hears, programme, distance, start) has 
 module _ (a next : AuditState) (slot : Option Group) (found : FaultSet) (took : ListsGroup a next slot found)
     (programme : next.programme ≡ a.programme) (distance : next.distance ≡ a.distance) (start : next.start ≡ a.start) (first : a.fault ≡ None → next.fault ≡ first_of found) (again : (fault : AuditFault) → a.fault ≡ Some fault → next.fault ≡ Some fault)
     (pi d : ℕ) (log : List (Option Group)) where
-  hears_here : AuditStandsAt pi d a log → Hears pi slot took.message
+  hears_here : AuditAt pi d a log → Hears pi slot took.message
   hears_here s = subst (λ n. Hears n slot took.message) s.programme took.hears
 
   -- what was found is what the slot adds
-  adds_here : (s : AuditStandsAt pi d a log) (judged : List (Option Message)) → HoldsLog d judged a → found ≡ slot_adds d (counted_as a.start judged took.message) judged
+  adds_here : (s : AuditAt pi d a log) (judged : List (Option Message)) → HoldsLog d judged a → found ≡ slot_adds d (counted_as a.start judged took.message) judged
   adds_here s judged h = took.added judged (subst (λ n. HoldsLog n judged a) (sym s.distance) h) ∙ ap (λ n. slot_adds n (counted_as a.start judged took.message) judged) s.distance
 
-  holds_here : (s : AuditStandsAt pi d a log) (judged : List (Option Message)) → HoldsLog d judged a → HoldsLog d (counted_as a.start judged took.message ∷ judged) next
+  holds_here : (s : AuditAt pi d a log) (judged : List (Option Message)) → HoldsLog d judged a → HoldsLog d (counted_as a.start judged took.message ∷ judged) next
   holds_here s judged h = subst (λ n. HoldsLog n (counted_as a.start judged took.message ∷ judged) next) s.distance (took.holds judged (subst (λ n. HoldsLog n judged a) (sym s.distance) h))
 
-  stands_next : AuditStandsAt pi d a log → AuditStandsAt pi d next (slot ∷ log)
+  stands_next : AuditAt pi d a log → AuditAt pi d next (slot ∷ log)
   stands_next s =
       goes_on pi d a next log s slot took.message (hears_here s, programme, distance, start)
       (judged_next d (counted_as a.start (judged_as a.start d s.heard) took.message) (judged_as a.start d s.heard) a next (formed_counted a.start (judged_as a.start d s.heard) took.message (formed_heard pi slot took.message (hears_here s)))
@@ -309,7 +309,7 @@ module _ (a next : AuditState) (slot : Option Group) (found : FaultSet) (took : 
       adds_here s.at (judged_as a.start d s.at.heard) s.holds ∙ ap (λ (m : Option Message). slot_adds d (counted_as a.start (judged_as a.start d s.at.heard) m) (judged_as a.start d s.at.heard)) (same_heard_in pi slot took.message message (hears_here s.at) hears)
 
 -- the group of a slot was taken, and the slot is over
-pub group_listed : (old heard new : StoredAudit) (group : Option Group) (found result : FaultSet) → IsStored old → heard.distance ≡ old.distance
+pub group_listed : (old heard new : StoredAudit) (group : Option Group) (found result : FaultSet) → IsStoredAudit old → heard.distance ≡ old.distance
     → (message : Option Message) × Hears old.pi group message × ListsMessage (audit_stored old) (audit_stored heard) message found → EndsSlot heard new → result ≡ found
     → ListsGroup (audit_stored old) (audit_stored new) group result
 group_listed old heard new group found result stored same (message, hears, lists) ends is = record {
@@ -320,7 +320,7 @@ group_listed old heard new group found result stored same (message, hears, lists
   added = λ judged h. is ∙ lists.added judged h;
 }
   where
-    good : IsStored heard
+    good : IsStoredAudit heard
     good = record { some = omega (arith, same, stored.some); distance = omega (arith, same, stored.distance) }
 
 pub takes_all : (a next : AuditState) (slot : Option Group) (found : FaultSet) → ListsGroup a next slot found
@@ -344,7 +344,7 @@ pub fault_is : (d : ℕ) (a : AuditState) (judged : List (Option Message)) (faul
 fault_is d a judged fault some has = subst (λ (o : Option AuditFault). MatchOption o (LogPasses d judged × HoldsLog d judged a) (IsFaultOf d judged)) some has
 
 -- after a fault an audit stays as it is
-pub takes_again : (a : AuditState) (slot : Option Group) (message : Option Message) (fault : AuditFault) → a.fault ≡ Some fault → Hears a.programme slot message → TakesSlot a a slot (Err fault)
+pub takes_again : (a : AuditState) (slot : Option Group) (message : Option Message) (fault : AuditFault) → a.fault ≡ Some fault → Hears a.programme slot message → AuditTakesSlot a a slot (Err fault)
 takes_again a slot message fault some hears = record {
   stands = λ pi d log s.
       goes_on pi d a a log s slot message (subst (λ n. Hears n slot message) s.programme hears, refl, refl, refl) (still d (counted_as a.start (judged_as a.start d s.heard) message) (judged_as a.start d s.heard) (fault_is d a (judged_as a.start d s.heard) fault some s.holds));

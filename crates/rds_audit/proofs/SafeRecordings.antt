@@ -18,7 +18,7 @@ use Rattle.rds_safety.specs.Late.{HasEntry, IsHeardInOrder, IsOfItsOrigin}
 use Rattle.rds_safety.specs.Laws.{ASlowClockIsAnOwnClock, LateIsBySlowClock, LawfulPlansAreSafeByOwnClocks}
 use Rattle.rds_safety.specs.OwnClock.{ListensByOwnClock}
 use Rattle.rds_safety.specs.Plans.{AreLawful, Plans}
-use Rattle.rds_safety.specs.Safe.{AreNeighbours, AreSafe, Listener, ListensTo, ShowsNameOnAir, ShowsTagsOfItsText, ShowsTextOnAir, WasOnAir}
+use Rattle.rds_safety.specs.Safe.{AreNeighbours, AreSafeViews, Listener, ListensTo, ShowsNameOnAir, ShowsTagsOfItsText, ShowsTextOnAir, RunWasOnAir}
 use Rattle.rds_safety.specs.Source.{IsSource, LastWasSentIn, name_run, text_run}
 use Rattle.rds_safety.proofs.Entries.{entry_beside}
 use Rattle.rds_audit.specs.AuditLaws.{IsSafeRecording, PassesExactlyByPlans, PlansOfARecordingAreSafe, WhatPassesAsARecordingIsSafe, later}
@@ -145,7 +145,7 @@ source_to : (n : ℕ) (log : List (Option Message)) (r : Listener) (plan : List 
 source_to n log r plan gs hs k b e h = record { planned = h.planned; slot = h.slot; sent = subst (λ (x : List Segment). LastWasSentIn (judging n log r).input x h.slot) (sym e) h.sent; covers = h.covers }
 
 on_air : (n : ℕ) (log : List (Option Message)) (r : Listener) (d t : ℕ) (plan : List Broadcast) (gs hs : List Segment) (shown : Option (List ℕ)) → gs ≡ hs
-    → IfSome shown (WasOnAir d t plan (judging n log r).input gs) → IfSome shown (WasOnAir d t plan (later n r).input hs)
+    → IfSome shown (RunWasOnAir d t plan (judging n log r).input gs) → IfSome shown (RunWasOnAir d t plan (later n r).input hs)
 on_air n log r d t plan gs hs None e h = tt
 on_air n log r d t plan gs hs (Some x) e h = record {
   number = h.number;
@@ -202,7 +202,7 @@ of_others : (P Q : Listener → Type 0) (f g : Listener → Listener) → ((x : 
 of_others P Q f g step xs h = All-map Q g xs (All-weaker (λ x. P (f x)) (λ x. Q (g x)) step xs (all_of P f xs h))
 
 safe_for_the_log : (n d m t : ℕ) (plans : Plans) (log : List (Option Message)) (receivers : List Listener)
-    → AreSafe d m t plans (from_first_text (preceded n log)) (map (judging n log) receivers) → AreSafe d m t plans (preceded n log) (map (later n) receivers)
+    → AreSafeViews d m t plans (from_first_text (preceded n log)) (map (judging n log) receivers) → AreSafeViews d m t plans (preceded n log) (map (later n) receivers)
 safe_for_the_log n d m t plans log receivers h = record {
   texts = of_others (ShowsTextOnAir d m t plans) (ShowsTextOnAir d m t plans) (judging n log) (later n) (shows_text n d m t plans log) receivers h.texts;
   names = of_others (ShowsNameOnAir d m t plans) (ShowsNameOnAir d m t plans) (judging n log) (later n) (shows_name n d m t plans log) receivers h.names;

@@ -13,7 +13,7 @@ use Rattle.rds_audit.specs.declared.fault_set.FaultSet.{FaultSet}
 use Rattle.rds_audit.specs.Lengths.{Gauge, IsExact, IsFormed, lengths_of, sent_last, tags_end}
 use Rattle.rds_audit.specs.Listing.{SentFragment, Span, added, broken_by, broken_newest, first_of_span, fits, fragments_in, joined, newest_at, none_broken, not_before, past_span, same_bytes, span_with, spans, spans_after, spans_tagged, turned}
 use Rattle.rds_audit.specs.ListingLaws.{IsFormedMark}
-use Rattle.rds_audit.specs.AuditStandsAt.{first_slot, reign_of, reigns_of}
+use Rattle.rds_audit.specs.AuditAt.{first_slot, reign_of, reigns_of}
 use Rattle.rds_audit.specs.Reigns.{Reign, SentTags, after_fragment, after_tags, joins, past_newest, reigns, with_fragment, opened_by}
 use Rattle.rds_audit.specs.Rules.{AreUnchanged, CanBeBroadcast, HaveOneValue, IsAfterFragment, Passes}
 use Rattle.rds_audit.proofs.Keeping.{AreKept, Keeps, keeps}

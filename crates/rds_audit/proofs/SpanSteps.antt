@@ -13,7 +13,7 @@ use Rattle.rds_audit.specs.declared.log_start.LogStart.{LogStart}
 use Rattle.rds_audit.specs.declared.log_start.LogStart.TheVariants.{Complete, Running}
 use Rattle.rds_audit.specs.declared.fault_set.FaultSet.{FaultSet}
 use Rattle.rds_audit.specs.Ages.{Ages, HoldsAges, Joins, age_at, age_of_newest, aged, ages_at}
-use Rattle.rds_audit.specs.AuditStandsAt.{FollowsFrom, HoldsContent, HoldsNewestSpans, HoldsSpans, first_slot, reign_of, reigns_of}
+use Rattle.rds_audit.specs.AuditAt.{FollowsFrom, HoldsContent, HoldsNewestSpans, HoldsSpans, first_slot, reign_of, reigns_of}
 use Rattle.rds_audit.specs.ReignsState.{ContentState, HoldsNoOther, ReignsState, cell_at, no_content}
 use Rattle.rds_audit.specs.Lengths.{Gauge, IsFormed, lengths_of, narrowed, pair_end, tags_end}
 use Rattle.rds_audit.specs.Listing.{SentFragment, Span, added, broken_by, broken_newest, first_of_span, fragments_in, has_early_tags, is_tagged, joined, newest_at, none_broken, not_before, past_span, same_bytes, span_with, spans, spans_after, spans_tagged, turned}

@@ -15,7 +15,7 @@ use Rattle.rds_audit.specs.Recording.{from_first_text, preceded}
 use Rattle.rds_audit.specs.Reigns.{Reign, SentTags, reigns}
 use Rattle.rds_audit.specs.Listing.{IsFaultOf}
 use Rattle.rds_audit.specs.Rules.{LogPasses}
-use Rattle.rds_safety.specs.Safe.{AreSafe, Listener, ListensTo}
+use Rattle.rds_safety.specs.Safe.{AreSafeViews, Listener, ListensTo}
 
 -- a log passes exactly if it has plans that are lawful and dense
 abbrev pub PassesExactlyByPlans : Type 0
@@ -73,9 +73,9 @@ pub record IsSafeLog (m k : ℕ) (log : List (Option Message)) : Type 0 where
   pub lawful : AreLawful (m + k) plans log
   pub dense : AreDense (m + k) plans log
   pub safe : (t : ℕ) (receivers : List Listener) → All (ListensTo k m t log) receivers
-      → AreSafe (m + k) m t plans log receivers
+      → AreSafeViews (m + k) m t plans log receivers
   pub own_clocks : (now : ℕ) (receivers : List Listener) → All (ListensByOwnClock (m + k) m now log) receivers
-      → AreSafe (m + k) m now plans log receivers
+      → AreSafeViews (m + k) m now plans log receivers
 
 -- a log that passes with d = m + k is safe
 abbrev pub WhatPassesIsSafe : Type 0
@@ -101,9 +101,9 @@ pub record IsSafeRecording (m k : ℕ) (log : List (Option Message)) : Type 0 wh
   pub lawful : AreLawful (m + k) plans (from_first_text (preceded (m + k) log))
   pub dense : AreDense (m + k) plans (from_first_text (preceded (m + k) log))
   pub safe : (t : ℕ) (receivers : List Listener) → All (ListensTo k m t log) receivers
-      → AreSafe (m + k) m (t + (m + k)) plans (preceded (m + k) log) (map (later (m + k)) receivers)
+      → AreSafeViews (m + k) m (t + (m + k)) plans (preceded (m + k) log) (map (later (m + k)) receivers)
   pub own_clocks : (now : ℕ) (receivers : List Listener) → All (ListensByOwnClock (m + k) m now log) receivers
-      → AreSafe (m + k) m (now + (m + k)) plans (preceded (m + k) log) (map (later (m + k)) receivers)
+      → AreSafeViews (m + k) m (now + (m + k)) plans (preceded (m + k) log) (map (later (m + k)) receivers)
 
 -- plans that are lawful for the log with n slots in front and without the tags before its first text segment make each
 -- slot safe for any number of receivers of the log as it is, with clocks of their own
@@ -111,7 +111,7 @@ abbrev pub PlansOfARecordingAreSafe : Type 0
 PlansOfARecordingAreSafe =
     (d m now n : ℕ) (plans : Plans) (log : List (Option Message)) (receivers : List Listener)
     → AreLawful d plans (from_first_text (preceded n log)) → All (ListensByOwnClock d m now log) receivers
-    → AreSafe d m (now + n) plans (preceded n log) (map (later n) receivers)
+    → AreSafeViews d m (now + n) plans (preceded n log) (map (later n) receivers)
 
 -- a log that passes as a recording with d = m + k is a safe recording
 abbrev pub WhatPassesAsARecordingIsSafe : Type 0

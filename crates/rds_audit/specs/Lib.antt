@@ -11,7 +11,7 @@ pub mod Ages
 pub mod ReignsState
 pub mod AuditState
 pub mod Stored
-pub mod AuditStandsAt
+pub mod AuditAt
 pub mod AuditLaws
 pub mod FlagLaws
 pub mod ListingLaws

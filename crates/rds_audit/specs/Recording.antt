@@ -20,18 +20,18 @@ has_text (Some (Tags pair) ∷ before) = has_text before
 has_text (Some Other ∷ before) = has_text before
 
 -- the message of a slot after these: tags count as nothing if no text segment came before
-abbrev pub counted : List (Option Message) → Option Message → Option Message
-counted before None = None
-counted before (Some (Text f a b)) = Some (Text f a b)
-counted before (Some (Name f a b)) = Some (Name f a b)
-counted before (Some (Announce code bits aid)) = Some (Announce code bits aid)
-counted before (Some (Tags pair)) = if has_text before then Some (Tags pair) else None
-counted before (Some Other) = Some Other
+abbrev pub counted_after : List (Option Message) → Option Message → Option Message
+counted_after before None = None
+counted_after before (Some (Text f a b)) = Some (Text f a b)
+counted_after before (Some (Name f a b)) = Some (Name f a b)
+counted_after before (Some (Announce code bits aid)) = Some (Announce code bits aid)
+counted_after before (Some (Tags pair)) = if has_text before then Some (Tags pair) else None
+counted_after before (Some Other) = Some Other
 
 -- the messages, except the tags before the first text segment
 abbrev pub from_first_text : List (Option Message) → List (Option Message)
 from_first_text [] = []
-from_first_text (newest ∷ before) = counted (from_first_text before) newest ∷ from_first_text before
+from_first_text (newest ∷ before) = counted_after (from_first_text before) newest ∷ from_first_text before
 
 -- the log with so many slots in front in which nothing was sent
 abbrev pub preceded : ℕ → List (Option Message) → List (Option Message)
@@ -46,7 +46,7 @@ judged_as Running d log = from_first_text (preceded d log)
 -- the message that is judged in the slot after these
 abbrev pub counted_as : LogStart → List (Option Message) → Option Message → Option Message
 counted_as Complete judged message = message
-counted_as Running judged message = counted judged message
+counted_as Running judged message = counted_after judged message
 
 -- the marks that are judged before the first slot of a log
 abbrev pub silent_as : LogStart → ℕ → List Mark

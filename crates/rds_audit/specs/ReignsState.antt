@@ -33,7 +33,7 @@ abbrev pub HoldsNoOther : ℕ → List ℕ → ContentState → Type 0
 HoldsNoOther address bytes c = (cell_at address c ≡ None) ⊎ (cell_at address c ≡ Some bytes)
 
 -- some length is in both ranges
-pub record HasRoom (allowed : Option Lengths) (l : Lengths) : Type 0 where
+pub record HasCommonLength (allowed : Option Lengths) (l : Lengths) : Type 0 where
   pub some : is_some allowed ≡ true
   pub room : (narrowed allowed l).least ≤ (narrowed allowed l).most
 

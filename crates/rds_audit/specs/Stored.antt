@@ -87,7 +87,7 @@ pub record AreBits (f : StoredFaults) : Type 0 where
   pub tag_outside : f.tag_outside ≤ 1
 
 -- the numbers are valid
-pub record IsStored (l : StoredAudit) : Type 0 where
+pub record IsStoredAudit (l : StoredAudit) : Type 0 where
   pub some : 0 < l.distance
   pub distance : l.distance ≤ 66559
 

@@ -3,14 +3,14 @@ ghost use Rattle.std.specs.Prelude.{◌≡◌, ◌+◌, ◌-◌, ◌<◌, ◌^�
 ghost use Rattle.rds_block.specs.declared.group.Group.{Group};
 ghost use Rattle.rds_audit.specs.declared.log_start.LogStart.TheVariants as LogStart;
 ghost use Rattle.rds_audit.specs.AuditLaws.{IsSafeLog, IsSafeRecording};
-ghost use Rattle.rds_audit.specs.AuditStandsAt.{AuditStandsAt, FollowsLog, TakesAll, TakesSlot};
-ghost use Rattle.rds_audit.specs.AuditStandsAt.{WhereItFollows, WhereTheAuditStands};
+ghost use Rattle.rds_audit.specs.AuditAt.{AuditAt, FollowsLog, TakesAll, AuditTakesSlot};
+ghost use Rattle.rds_audit.specs.AuditAt.{WhereItFollows, WhereTheAuditStands};
 ghost use Rattle.rds_audit.specs.Dense.{HasPlans};
 ghost use Rattle.rds_audit.specs.FlagLaws.{NamesAreSafeByFlag, TextsAreSafeByFlag};
 ghost use Rattle.rds_audit.specs.Listing.{spans};
 ghost use Rattle.rds_audit.specs.Reigns.{AlternateFlags, reigns};
 ghost use Rattle.rds_audit.specs.Rules.{LogPasses};
-ghost use Rattle.rds_audit.specs.Stored.{IsStored, audit_stored};
+ghost use Rattle.rds_audit.specs.Stored.{IsStoredAudit, audit_stored};
 ghost use Rattle.rds_safety.specs.Marks.{marks, name_mark, text_mark};
 
 use crate::audited::{Names, Texts};
@@ -45,7 +45,7 @@ pub enum AuditFault {
 /// Audits a log: the groups of a station, slot by slot. A log passes exactly if it has plans of texts and of names that
 /// are lawful and dense, with a spacing of M + K slots.
 ///
-/// It holds ages that stop at a limit, and no slot numbers, so a log may have any number of slots. `AuditStandsAt`
+/// It holds ages that stop at a limit, and no slot numbers, so a log may have any number of slots. `AuditAt`
 /// relates an audit to its log. A new audit stands at the empty log, and each `slot` adds its slot to the log. So does
 /// each `all_faults`, which goes on after a fault: then the audit follows the log (`FollowsLog`).
 #[derive(Drop)]
@@ -55,7 +55,7 @@ pub struct Audit {
 
 impl Model for Audit {
     ghost use Rattle.rds_audit.specs.AuditState.{AuditState, audit_code};
-    ghost use Rattle.rds_audit.specs.Stored.{IsStored, audit_stored};
+    ghost use Rattle.rds_audit.specs.Stored.{IsStoredAudit, audit_stored};
 
     ghost Value = { AuditState };
 
@@ -63,14 +63,14 @@ impl Model for Audit {
 
     ghost view = { λ a. audit_stored a.state };
 
-    ghost invariant = { λ a. IsStored a.state };
+    ghost invariant = { λ a. IsStoredAudit a.state };
 }
 
 impl Audit {
     /// Makes the audit of a complete log of this programme, before the first slot, for receivers of this dwell whose
     /// groups come at most so many slots late.
     pub fn new(pi: u16, dwell: Dwell, late: Late) -> Audit
-        ensures stands { AuditStandsAt pi (dwell + late) result [] }
+        ensures stands { AuditAt pi (dwell + late) result [] }
         ensures follows { FollowsLog pi (dwell + late) result [] }
         ensures passed { result.fault ≡ None }
         ensures start { result.start ≡ LogStart.Complete }
@@ -80,7 +80,7 @@ impl Audit {
 
     /// Does the same as [`new`](Self::new) for a log that begins so.
     pub fn starting(pi: u16, dwell: Dwell, late: Late, start: LogStart) -> Audit
-        ensures stands { AuditStandsAt pi (dwell + late) result [] }
+        ensures stands { AuditAt pi (dwell + late) result [] }
         ensures follows { FollowsLog pi (dwell + late) result [] }
         ensures passed { result.fault ≡ None }
         ensures start { result.start ≡ start }
@@ -101,7 +101,7 @@ impl Audit {
 
     /// Rebuilds a stored audit. Invalid numbers give an arbitrary valid audit of the stored programme.
     pub fn restore(stored: &StoredAudit) -> Audit
-        ensures same { IsStored stored.now → result ≡ audit_stored stored.now }
+        ensures same { IsStoredAudit stored.now → result ≡ audit_stored stored.now }
         ensures programme { result.programme ≡ stored.now.pi }
     {
         let mut state = *stored;
@@ -112,7 +112,7 @@ impl Audit {
     /// Stores the audit as plain numbers.
     pub fn store(&self) -> StoredAudit
         ensures same { audit_stored result ≡ self.now }
-        ensures good { IsStored result }
+        ensures good { IsStoredAudit result }
     {
         self.state
     }
@@ -123,7 +123,7 @@ impl Audit {
     ///
     /// The fault, if the slot breaks a rule. After a fault, each call returns that fault again and changes nothing.
     pub fn slot(&mut self, group: Option<Group>) -> Result<(), AuditFault>
-        ensures { TakesSlot self.old self.new group result }
+        ensures { AuditTakesSlot self.old self.new group result }
     {
         self.slot_blocks(Blocks::of_slot(group))
     }
@@ -131,7 +131,7 @@ impl Audit {
     /// Does the same as [`slot`](Self::slot) for a group as its blocks.
     #[inline(always)]
     pub fn slot_blocks(&mut self, group: Option<Blocks>) -> Result<(), AuditFault>
-        ensures { TakesSlot self.old self.new group result }
+        ensures { AuditTakesSlot self.old self.new group result }
     {
         self.state.slot(group)
     }
@@ -155,7 +155,7 @@ impl Audit {
         ensures plans { WhereTheAuditStands self.now (λ d heard. IsTrue result ↔ HasPlans d heard) }
         ensures safe { WhereTheAuditStands self.now (λ d heard. (m k : ℕ) → 0 < m → m + k ≡ d
             → IsTrue result → IsSafeLog m k heard) }
-        ensures recording { (pi m k : ℕ) (log : List (Option Group)) → (s : AuditStandsAt pi (m + k) self.now log)
+        ensures recording { (pi m k : ℕ) (log : List (Option Group)) → (s : AuditAt pi (m + k) self.now log)
             → self.now.start ≡ LogStart.Running → 0 < m → IsTrue result → IsSafeRecording m k s.heard }
     {
         self.state.passed()

@@ -1,6 +1,6 @@
 //! The content of a reign: its segments and tags.
 ghost use Rattle.std.specs.Prelude.{◌≡◌, ◌+◌, ◌<◌, ◌≤◌, ◌↔◌, IsOk, IsErr, IsTrue, IfOk, IfErr, None, Some};
-ghost use Rattle.rds_audit.specs.ReignsState.{HasRoom, HoldsNoOther, cell_at, no_content, tagged, taken};
+ghost use Rattle.rds_audit.specs.ReignsState.{HasCommonLength, HoldsNoOther, cell_at, no_content, tagged, taken};
 ghost use Rattle.rds_audit.specs.Lengths.{narrowed, pair_end, tag_end};
 ghost use Rattle.rds_audit.specs.Stored.{ages_stored, cell_stored, content_stored};
 
@@ -45,7 +45,7 @@ impl StoredReigns {
     /// Returns whether some value has the segments.
     pub(crate) fn put<S: Audited>(&mut self, address: u8, bytes: [u8; 4]) -> bool
         requires { address < S.gauge.segments }
-        ensures fits { IsTrue result ↔ HasRoom (S.gauge.allowed address bytes) (content_stored self.old).lengths }
+        ensures fits { IsTrue result ↔ HasCommonLength (S.gauge.allowed address bytes) (content_stored self.old).lengths }
         ensures taken { content_stored self.new
             ≡ taken (S.gauge.allowed address bytes) address bytes (content_stored self.old) }
         ensures ages { ages_stored self.new ≡ ages_stored self.old }

@@ -6,14 +6,14 @@ ghost use Rattle.rds_receiver.specs.Receipts.{Hears};
 ghost use Rattle.rds_audit.specs.declared.audit.AuditFault.{AuditFault};
 ghost use Rattle.rds_audit.specs.declared.log_start.LogStart.TheVariants as LogStart;
 ghost use Rattle.rds_audit.specs.AuditLaws.{IsSafeLog, IsSafeRecording};
-ghost use Rattle.rds_audit.specs.AuditStandsAt.{AuditStandsAt, EndsSlot, ListsMessage};
-ghost use Rattle.rds_audit.specs.AuditStandsAt.{TakesAll, TakesSlot, WhereTheAuditStands};
+ghost use Rattle.rds_audit.specs.AuditAt.{AuditAt, EndsSlot, ListsMessage};
+ghost use Rattle.rds_audit.specs.AuditAt.{TakesAll, AuditTakesSlot, WhereTheAuditStands};
 ghost use Rattle.rds_audit.specs.Dense.{HasPlans};
 ghost use Rattle.rds_audit.specs.FlagLaws.{NamesAreSafeByFlag, TextsAreSafeByFlag};
 ghost use Rattle.rds_audit.specs.Listing.{first_of};
 ghost use Rattle.rds_audit.specs.Reigns.{AlternateFlags, reigns};
 ghost use Rattle.rds_audit.specs.Rules.{LogPasses};
-ghost use Rattle.rds_audit.specs.Stored.{IsStored, KeepsLog, audit_stored};
+ghost use Rattle.rds_audit.specs.Stored.{IsStoredAudit, KeepsLog, audit_stored};
 ghost use Rattle.rds_safety.specs.Marks.{marks, name_mark, text_mark};
 
 use crate::audited::{Names, Texts};
@@ -34,10 +34,10 @@ impl StoredAudit {
     /// The fault, if the slot breaks a rule. After a fault, each call returns that fault again and changes nothing.
     #[inline(always)]
     pub fn slot(&mut self, group: Option<Blocks>) -> Result<(), AuditFault>
-        ensures takes { IsStored self.old
-            → TakesSlot (audit_stored self.old) (audit_stored self.new) group result }
+        ensures takes { IsStoredAudit self.old
+            → AuditTakesSlot (audit_stored self.old) (audit_stored self.new) group result }
         ensures start { (audit_stored self.new).start ≡ (audit_stored self.old).start }
-        ensures good { IsStored self.old ↔ IsStored self.new }
+        ensures good { IsStoredAudit self.old ↔ IsStoredAudit self.new }
     {
         if let Some(known) = AuditFault::of_code(self.fault) {
             // Prover: this call names the message that the log gets in this slot; its result is not used
@@ -54,13 +54,13 @@ impl StoredAudit {
     /// Takes the next slot, whatever the faults before it. Returns the faults that it adds to the list.
     #[inline(always)]
     pub fn all_faults(&mut self, group: Option<Blocks>) -> FaultSet
-        ensures takes { IsStored self.old
+        ensures takes { IsStoredAudit self.old
             → TakesAll (audit_stored self.old) (audit_stored self.new) group result }
         ensures first { (audit_stored self.old).fault ≡ None → (audit_stored self.new).fault ≡ first_of result }
         ensures again { (fault : AuditFault) → (audit_stored self.old).fault ≡ Some fault
             → (audit_stored self.new).fault ≡ Some fault }
         ensures start { (audit_stored self.new).start ≡ (audit_stored self.old).start }
-        ensures good { IsStored self.old ↔ IsStored self.new }
+        ensures good { IsStoredAudit self.old ↔ IsStoredAudit self.new }
     {
         let found = self.hear_group(group);
         if found.is_empty() {
@@ -80,7 +80,7 @@ impl StoredAudit {
         ensures safe { WhereTheAuditStands (audit_stored self.now) (λ d heard. (m k : ℕ) → 0 < m → m + k ≡ d
             → IsTrue result → IsSafeLog m k heard) }
         ensures recording { (pi m k : ℕ) (log : List (Option Group))
-            → (s : AuditStandsAt pi (m + k) (audit_stored self.now) log)
+            → (s : AuditAt pi (m + k) (audit_stored self.now) log)
             → (audit_stored self.now).start ≡ LogStart.Running → 0 < m → IsTrue result → IsSafeRecording m k s.heard }
     {
         // Prover: calls of laws, which give the clauses `plans`, `safe` and `recording` (docs/PROVER.md, "Idioms").
@@ -120,7 +120,7 @@ impl StoredAudit {
     #[inline(always)]
     fn hear_group(&mut self, group: Option<Blocks>) -> FaultSet
         ensures keeps { KeepsLog self.old self.new }
-        ensures lists { IsStored self.old → (message : Option Message)
+        ensures lists { IsStoredAudit self.old → (message : Option Message)
             × Hears self.old.pi group message
             × ListsMessage (audit_stored self.old) (audit_stored self.new) message result }
     {
@@ -135,7 +135,7 @@ impl StoredAudit {
     #[inline(always)]
     fn hear(&mut self, message: Message) -> FaultSet
         ensures keeps { KeepsLog self.old self.new }
-        ensures lists { IsStored self.old
+        ensures lists { IsStoredAudit self.old
             → ListsMessage (audit_stored self.old) (audit_stored self.new) (Some message) result }
     {
         let distance = self.distance;

@@ -1,7 +1,7 @@
 //! The spans of a service: what a list of faults judges.
 ghost use Rattle.std.specs.Prelude.{◌≡◌, ◌+◌, ◌≤◌, ◌<◌, ◌^◌, ℕ, List};
 ghost use Rattle.rds_audit.specs.Listing.{added};
-ghost use Rattle.rds_audit.specs.AuditStandsAt.{HoldsNewestSpans, HoldsSpans, WhereSpansHold};
+ghost use Rattle.rds_audit.specs.AuditAt.{HoldsNewestSpans, HoldsSpans, WhereSpansHold};
 ghost use Rattle.rds_audit.specs.AuditState.{aged_in, judged_ends, opened_in, put_in, repeated_in, tagged_in};
 ghost use Rattle.rds_audit.specs.Stored.{spans_stored};
 ghost use Rattle.rds_audit.specs.Recording.{silent_as};

@@ -5,7 +5,7 @@ use Rattle.std.proofs.lemmas.List.{length-take}
 use Rattle.rds_charset.proofs.Symbols.{IsReadAs-same, StopsAt-same, StopsAt-unread}
 use Rattle.rds_charset.specs.declared.reading.TextFault.{TextFault}
 use Rattle.rds_charset.specs.declared.reading.TextFault.TheVariants.{BadEscape, NoSuchCharacter, NoRoom}
-use Rattle.rds_charset.specs.Faults.{StopsBy}
+use Rattle.rds_charset.specs.Faults.{TextStopsBy}
 use Rattle.rds_charset.specs.ReadAs.{IsReadAs, HasBadEscape, HasNoRoom, HasUnknownCharacter}
 
 -- what a result means for the text
@@ -42,7 +42,7 @@ Outcome-read text room (Err (NoSuchCharacter at)) o bytes is fits = absurd (Stop
 Outcome-read text room (Err NoRoom) o bytes is fits = absurd (let same : length o.0 ≡ length bytes = ap length (IsReadAs-same text o.0 bytes o.1 is) in omega (arith, o.2))
 
 -- the three ways in which the code comes to a result
-pub Outcome-stopped : (text : List ℕ) (room : ℕ) (r : Result ℕ TextFault) (fault : TextFault) → r ≡ Err fault → StopsBy text fault → Outcome text room r
+pub Outcome-stopped : (text : List ℕ) (room : ℕ) (r : Result ℕ TextFault) (fault : TextFault) → r ≡ Err fault → TextStopsBy text fault → Outcome text room r
 Outcome-stopped text room r (BadEscape place) is stops = subst (Outcome text room) (sym is) stops
 Outcome-stopped text room r (NoSuchCharacter place) is stops = subst (Outcome text room) (sym is) stops
 Outcome-stopped text room r NoRoom is stops = absurd stops

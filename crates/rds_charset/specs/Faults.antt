@@ -5,7 +5,7 @@ use Rattle.rds_charset.specs.declared.reading.TextFault.TheVariants.{BadEscape, 
 use Rattle.rds_charset.specs.ReadAs.{HasBadEscape, HasUnknownCharacter}
 
 -- the text cannot be read whole and has this fault
-abbrev pub StopsBy : List ℕ → TextFault → Type 0
-StopsBy text (BadEscape place) = HasBadEscape text place
-StopsBy text (NoSuchCharacter place) = HasUnknownCharacter text place
-StopsBy text NoRoom = ⊥
+abbrev pub TextStopsBy : List ℕ → TextFault → Type 0
+TextStopsBy text (BadEscape place) = HasBadEscape text place
+TextStopsBy text (NoSuchCharacter place) = HasUnknownCharacter text place
+TextStopsBy text NoRoom = ⊥

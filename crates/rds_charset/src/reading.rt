@@ -3,7 +3,7 @@
 ghost use Rattle.std.specs.Prelude.{◌≡◌, ◌≤◌, ◌<◌, ◌+◌, ◌*◌, ◌++◌, ◌∷◌, ◌↔◌, [], ℕ, List};
 ghost use Rattle.std.specs.Prelude.{length, take, drop, encode_utf8};
 ghost use Rattle.std.specs.Prelude.{IfOk, IfErr, OnErr, IfSome, IfNone};
-ghost use Rattle.rds_charset.specs.Faults.{StopsBy};
+ghost use Rattle.rds_charset.specs.Faults.{TextStopsBy};
 ghost use Rattle.rds_charset.specs.ReadAs.{Begins, BeginsDigit, BeginsNoDigit, BeginsNoSymbol};
 ghost use Rattle.rds_charset.specs.ReadAs.{HasBadEscape, HasNoRoom, HasUnknownCharacter};
 ghost use Rattle.rds_charset.specs.ReadAs.{IsReadAs, StopsAt};
@@ -105,7 +105,7 @@ fn count_characters(text: &str) -> usize
 fn count_bytes(text: &str) -> Result<usize, TextFault>
     ensures ok { IfOk result
         (λ count. (bytes : List ℕ) × IsReadAs text.now bytes × (length bytes ≡ count)) }
-    ensures err { IfErr result (StopsBy text.now) }
+    ensures err { IfErr result (TextStopsBy text.now) }
 {
     let mut rest = text;
     let mut count = 0;
@@ -122,7 +122,7 @@ fn count_bytes(text: &str) -> Result<usize, TextFault>
 /// Returns the fault of a text that cannot be read further at this place.
 fn fault_at(text: &str, place: usize) -> TextFault
     requires { StopsAt text.now place }
-    ensures { StopsBy text.now result }
+    ensures { TextStopsBy text.now result }
 {
     if text.as_bytes()[place] == b'\\' {
         TextFault::BadEscape(place)

@@ -202,14 +202,14 @@ number_from_to least most text =
     if is_numeral digits && (nat_le least number && nat_le number most) then Some number else None
 
 -- the number of slots of an option
-abbrev pub slots_in : ℕ → ℕ → Text → List Row → Option ℕ
-slots_in least most name rows = option_and_then (number_from_to least most) (one_of name rows)
+abbrev pub option_slots : ℕ → ℕ → Text → List Row → Option ℕ
+option_slots least most name rows = option_and_then (number_from_to least most) (one_of name rows)
 
 abbrev pub dwell_in : List Row → Option ℕ
-dwell_in = slots_in 1 65535 (codes "m")
+dwell_in = option_slots 1 65535 (codes "m")
 
 abbrev pub late_in : List Row → Option ℕ
-late_in = slots_in 0 1024 (codes "k")
+late_in = option_slots 0 1024 (codes "k")
 
 abbrev pub pty_in : List Row → Option ℕ
 pty_in rows = option_and_then (number_from_to 0 31) (one_of (codes "pty") rows)
@@ -245,7 +245,7 @@ has_value name rows = is_some (first_of name rows)
 abbrev pub window_in : List Row → Option (Option ℕ)
 window_in rows =
     if has_value (codes "confirm") rows
-    then option_map Some (slots_in 2 255 (codes "confirm") rows)
+    then option_map Some (option_slots 2 255 (codes "confirm") rows)
     else Some None
 
 -- the argument of `--lose`, or nothing

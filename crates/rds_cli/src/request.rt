@@ -4,7 +4,7 @@ ghost use Rattle.clap.specs.Words.{FailsBy, fault_of, found_of, kind_of, rows_of
 ghost use Rattle.rds_cli.specs.Asks.{asked_by};
 ghost use Rattle.rds_cli.specs.CommandLine.{AreRefused, AskForHelp, IsPi, TakesWords, asked_in, asked_of};
 ghost use Rattle.rds_cli.specs.CommandLine.{flag_in, grain_in, has_value, is_shown, lose_in, pi_in};
-ghost use Rattle.rds_cli.specs.CommandLine.{programme_in, slots_in, task_in, whole_app, window_in, witness_in};
+ghost use Rattle.rds_cli.specs.CommandLine.{programme_in, option_slots, task_in, whole_app, window_in, witness_in};
 
 use crate::command_line::whole;
 use clap::error::ErrorKind;
@@ -230,7 +230,7 @@ fn slots_of<const LOW: u16, const HIGH: u16>(
     inner: &ArgMatches<'_>,
     name: &str,
 ) -> Option<Bounded<LOW, HIGH>>
-    ensures { result ≡ slots_in LOW HIGH name.now (rows_of (found_of inner.now)) }
+    ensures { result ≡ option_slots LOW HIGH name.now (rows_of (found_of inner.now)) }
 {
     Bounded::new(inner.get_one::<u16>(name)?)
 }

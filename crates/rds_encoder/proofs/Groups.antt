@@ -15,7 +15,7 @@ use Rattle.rds_encoder.specs.Entries.{Entry, Move, text_moves}
 use Rattle.rds_encoder.specs.Plan.{OnAir, bytes_of}
 use Rattle.rds_encoder.specs.Round.{turn_in}
 use Rattle.rds_encoder.specs.Sent.{IsSent, is_turn, name_segment, sent_at_turn, sent_in, text_segment, turn_of}
-use Rattle.rds_encoder.specs.StandsAt.{with_next}
+use Rattle.rds_encoder.specs.EncoderAt.{with_next}
 use Rattle.rds_encoder.specs.State.{TextState}
 use Rattle.rds_encoder.specs.Stored.{HoldsText, IsStoredText, state_stored, text_stored}
 

@@ -5,7 +5,7 @@ use Rattle.rds_encoder.specs.declared.reply.Refusal.{Refusal}
 use Rattle.rds_encoder.specs.declared.reply.Refusal.TheVariants.{Silent}
 use Rattle.rds_encoder.specs.Entries.{Entry, Restart, SetText, SetName, SetTags, Tick, Move, name_moves, restart_before, slot_of, text_moves}
 use Rattle.rds_encoder.specs.Reply.{Reply, held_for, held_reply, last_accepted, reply_to, unless_silent}
-use Rattle.rds_encoder.specs.StandsAt.{hold_left}
+use Rattle.rds_encoder.specs.EncoderAt.{hold_left}
 use Rattle.std.specs.Result.{IsErrAnd}
 use Rattle.rds_encoder.proofs.OnAir.{not_held_in_silence}
 

@@ -12,7 +12,7 @@ use Rattle.rds_encoder.specs.Entries.{Entry, Tick, Move, Begin, Set, End, name_m
 use Rattle.rds_encoder.specs.Plan.{OnAir, bytes_of, on_air}
 use Rattle.rds_encoder.specs.Round.{turn_in}
 use Rattle.rds_encoder.specs.Sent.{count_from, is_text_turn, is_turn, next_address, turn_of}
-use Rattle.rds_encoder.specs.StandsAt.{Follows, HoldsBack, StandsAt, silence_left, with_next}
+use Rattle.rds_encoder.specs.EncoderAt.{Follows, HoldsBack, EncoderAt, silence_left, with_next}
 use Rattle.rds_encoder.specs.State.{EncoderState, TextState, TrackState, advanced}
 use Rattle.rds_encoder.specs.Tags.{pair_on_air}
 
@@ -124,7 +124,7 @@ pub record AfterTurn (station : Head) (m : ℕ) (free : Bool) (entries : List En
   pub name : Follows m bytes_of e.name (name_moves entries)
   pub pair : e.pair ≡ pair_on_air m entries
 
-pub no_turn : (station : Head) (m : ℕ) (e : EncoderState) (free : Bool) (entries : List Entry) → StandsAt station m e entries → is_turn m free (text_moves entries) ≡ false → AfterTurn station m free entries e
+pub no_turn : (station : Head) (m : ℕ) (e : EncoderState) (free : Bool) (entries : List Entry) → EncoderAt station m e entries → is_turn m free (text_moves entries) ≡ false → AfterTurn station m free entries e
 no_turn station m e free entries st absent = record {
   head = st.head;
   distance = st.distance;
@@ -136,7 +136,7 @@ no_turn station m e free entries st absent = record {
   pair = st.pair;
 }
 
-pub turn_over : (station : Head) (m : ℕ) (old new : EncoderState) (free : Bool) (entries : List Entry) → StandsAt station m old entries → is_turn m free (text_moves entries) ≡ true
+pub turn_over : (station : Head) (m : ℕ) (old new : EncoderState) (free : Bool) (entries : List Entry) → EncoderAt station m old entries → is_turn m free (text_moves entries) ≡ true
     → (turn_in old.round ≡ Text → new ≡ record old { round = (old.round + 1) % 8; text = record old.text { on_air = option_map advanced old.text.on_air } })
     → (turn_in old.round ≢ Text → new ≡ record old { round = (old.round + 1) % 8 })
     → AfterTurn station m free entries new
@@ -172,7 +172,7 @@ pub slot_over : (station : Head) (m : ℕ) (e : EncoderState) (silence : ℕ) (t
     → AfterTurn station m free entries e → silence ≡ e.silence - 1
     → HoldsBack m text.hold (End free ∷ text_moves entries) → text.on_air ≡ e.text.on_air
     → HoldsBack m name.hold (End free ∷ name_moves entries) → name.on_air ≡ e.name.on_air
-    → StandsAt station m record { head = e.head; distance = e.distance; silence = silence; round = e.round; text = text; name = name; pair = e.pair } (Tick free ∷ entries)
+    → EncoderAt station m record { head = e.head; distance = e.distance; silence = silence; round = e.round; text = text; name = name; pair = e.pair } (Tick free ∷ entries)
 slot_over station m e silence text name free entries at less text_back text_on name_back name_on = record {
   head = at.head;
   distance = at.distance;

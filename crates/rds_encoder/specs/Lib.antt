@@ -7,7 +7,7 @@ pub mod Sent
 pub mod State
 pub mod Stored
 pub mod Codes
-pub mod StandsAt
+pub mod EncoderAt
 pub mod Spaced
 pub mod Laws
 pub mod Delivery

@@ -51,7 +51,7 @@ abbrev pub IsStoredName : StoredName → Type 0
 IsStoredName n = IsTrue (is_set n.is_on_air) → IsName n.bytes
 
 -- the numbers are valid
-pub record IsStored (e : StoredEncoder) : Type 0 where
+pub record IsStoredEncoder (e : StoredEncoder) : Type 0 where
   pub pty : e.pty < 32
   pub some : 0 < e.distance
   pub distance : e.distance ≤ 66559

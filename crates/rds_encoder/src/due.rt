@@ -5,9 +5,9 @@ ghost use Rattle.rds_encoder.specs.Entries.{Tick, name_moves, slot_of, text_move
 ghost use Rattle.rds_encoder.specs.Plan.{on_air};
 ghost use Rattle.rds_encoder.specs.Round.{turn_in};
 ghost use Rattle.rds_encoder.specs.Sent.{name_segment, sent_in, tags_due, text_segment};
-ghost use Rattle.rds_encoder.specs.StandsAt.{Takes, WhereItStands};
+ghost use Rattle.rds_encoder.specs.EncoderAt.{Takes, WhereEncoderStands};
 ghost use Rattle.rds_encoder.specs.State.{advanced};
-ghost use Rattle.rds_encoder.specs.Stored.{IsStored, encoder_stored, text_stored};
+ghost use Rattle.rds_encoder.specs.Stored.{IsStoredEncoder, encoder_stored, text_stored};
 ghost use Rattle.rds_encoder.specs.Tags.{pair_on_air};
 
 use crate::round::{Turn, place_after, turn_at};
@@ -19,8 +19,8 @@ use rds_fields::{Message, rtplus_announcement};
 impl StoredEncoder {
     /// Returns the message that is due in this slot. `None` if nothing is sent.
     pub(crate) fn due(&self, free: bool) -> Option<Message>
-        ensures sent { IsStored self.now
-            → WhereItStands (encoder_stored self.now) (λ _ m entries. result ≡ sent_in m free entries) }
+        ensures sent { IsStoredEncoder self.now
+            → WhereEncoderStands (encoder_stored self.now) (λ _ m entries. result ≡ sent_in m free entries) }
         ensures said { IfSome result (λ message. message ≢ Message.Other) }
     {
         if !self.has_turn(free) {
@@ -36,7 +36,7 @@ impl StoredEncoder {
 
     /// Returns the next segment of the text on air. `None` if no text is on air.
     fn text_segment(&self) -> Option<Message>
-        ensures sent { IsStored self.now → WhereItStands (encoder_stored self.now)
+        ensures sent { IsStoredEncoder self.now → WhereEncoderStands (encoder_stored self.now)
             (λ _ m entries. result
             ≡ text_segment m (text_moves entries) (on_air m (text_moves entries))) }
         ensures said { IfSome result (λ message. message ≢ Message.Other) }
@@ -52,7 +52,7 @@ impl StoredEncoder {
     /// Returns a segment of the name on air. `None` if no name is on air.
     fn name_segment(&self, address: u8) -> Option<Message>
         requires { address < 2 }
-        ensures sent { IsStored self.now → WhereItStands (encoder_stored self.now)
+        ensures sent { IsStoredEncoder self.now → WhereEncoderStands (encoder_stored self.now)
             (λ _ m entries. result ≡ name_segment address (on_air m (name_moves entries))) }
         ensures said { IfSome result (λ message. message ≢ Message.Other) }
     {
@@ -66,7 +66,7 @@ impl StoredEncoder {
 
     /// Returns the tags of the text on air. `None` if it has none, or has been on air for less than M + K slots.
     fn tags_due(&self) -> Option<Message>
-        ensures sent { IsStored self.now → WhereItStands (encoder_stored self.now)
+        ensures sent { IsStoredEncoder self.now → WhereEncoderStands (encoder_stored self.now)
             (λ _ m entries. result ≡ tags_due m (slot_of (text_moves entries))
             (on_air m (text_moves entries)) (pair_on_air m entries)) }
         ensures said { IfSome result (λ message. message ≢ Message.Other) }
@@ -81,7 +81,7 @@ impl StoredEncoder {
     /// Ends a slot.
     pub(crate) fn end_slot(&mut self, free: bool)
         ensures stands { Takes (encoder_stored self.old) (encoder_stored self.new) (Tick free) }
-        ensures good { IsStored self.old → IsStored self.new }
+        ensures good { IsStoredEncoder self.old → IsStoredEncoder self.new }
     {
         if self.has_turn(free) {
             self.end_turn();
@@ -100,7 +100,7 @@ impl StoredEncoder {
             } }
         ensures other { turn_in self.old.round ≢ Turn.Text
             → encoder_stored self.new ≡ record (encoder_stored self.old) { round = (self.old.round + 1) % 8 } }
-        ensures good { IsStored self.old → IsStored self.new }
+        ensures good { IsStoredEncoder self.old → IsStoredEncoder self.new }
     {
         if matches!(turn_at(self.round), Turn::Text) {
             self.text.advance();

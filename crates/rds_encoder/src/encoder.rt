@@ -6,8 +6,8 @@ ghost use Rattle.rds_encoder.specs.Entries.{Entry, Restart, SetText, SetName, Se
 ghost use Rattle.rds_encoder.specs.Plan.{bytes_of, on_air};
 ghost use Rattle.rds_encoder.specs.Reply.{IsSetReply, IsTagsReply, held_for, reply_to, silent_for};
 ghost use Rattle.rds_encoder.specs.Sent.{IsSent, sent_in};
-ghost use Rattle.rds_encoder.specs.StandsAt.{StandsAt, Takes, WhereItStands};
-ghost use Rattle.rds_encoder.specs.Stored.{IsStored, encoder_stored};
+ghost use Rattle.rds_encoder.specs.EncoderAt.{EncoderAt, Takes, WhereEncoderStands};
+ghost use Rattle.rds_encoder.specs.Stored.{IsStoredEncoder, encoder_stored};
 ghost use Rattle.rds_encoder.specs.Tags.{pair_on_air, tags_reply};
 
 use crate::stored::{StoredEncoder, StoredHold, StoredName, StoredText};
@@ -20,7 +20,7 @@ use std::marker::Model;
 /// Sends the text, the name and the tags of one station. It keeps counters that stop at their limits, and no slot
 /// number.
 ///
-/// `StandsAt` relates an encoder to the list of its entries: restarts, sets and ends of slots. A new encoder stands at
+/// `EncoderAt` relates an encoder to the list of its entries: restarts, sets and ends of slots. A new encoder stands at
 /// the empty list, and at each list whose newest entry is a restart. Each call adds its entry to the list.
 #[derive(Drop)]
 pub struct Encoder {
@@ -30,7 +30,7 @@ pub struct Encoder {
 impl Model for Encoder {
     ghost use Rattle.rds_encoder.specs.Codes.{encoder_code};
     ghost use Rattle.rds_encoder.specs.State.{EncoderState};
-    ghost use Rattle.rds_encoder.specs.Stored.{IsStored, encoder_stored};
+    ghost use Rattle.rds_encoder.specs.Stored.{IsStoredEncoder, encoder_stored};
 
     ghost Value = { EncoderState };
 
@@ -38,7 +38,7 @@ impl Model for Encoder {
 
     ghost view = { λ e. encoder_stored e.state };
 
-    ghost invariant = { λ e. IsStored e.state };
+    ghost invariant = { λ e. IsStoredEncoder e.state };
 }
 
 impl Encoder {
@@ -46,9 +46,9 @@ impl Encoder {
     /// The dwell is that of its receivers, and the lateness is how many slots late a group may reach them (this
     /// project's own rule).
     pub fn new(head: Head, dwell: Dwell, late: Late) -> Encoder
-        ensures first { StandsAt head (dwell + late) result [] }
+        ensures first { EncoderAt head (dwell + late) result [] }
         ensures again { (entries : List Entry)
-            → StandsAt head (dwell + late) result (Restart ∷ entries) }
+            → EncoderAt head (dwell + late) result (Restart ∷ entries) }
     {
         let distance = Distance::new(dwell, late).get();
         Encoder {
@@ -70,7 +70,7 @@ impl Encoder {
 
     /// Rebuilds a stored encoder. Invalid numbers give an arbitrary valid encoder.
     pub fn restore(stored: &StoredEncoder) -> Encoder
-        ensures { IsStored stored.now → result ≡ encoder_stored stored.now }
+        ensures { IsStoredEncoder stored.now → result ≡ encoder_stored stored.now }
     {
         let mut state = *stored;
         state.distance = Distance::restore(stored.distance).get();
@@ -85,7 +85,7 @@ impl Encoder {
     /// Stores the encoder as plain numbers.
     pub fn store(&self) -> StoredEncoder
         ensures same { encoder_stored result ≡ self.now }
-        ensures good { IsStored result }
+        ensures good { IsStoredEncoder result }
     {
         self.state
     }
@@ -98,7 +98,7 @@ impl Encoder {
     /// `Silent` for M + K slots from a restart on. Otherwise `Held` for 2 (M + K) slots from the text before on (this
     /// project's own rule). Both have the number of slots left. After an error nothing has changed.
     pub fn set_text(&mut self, text: Text) -> Result<(), Refusal>
-        ensures reply { WhereItStands self.old
+        ensures reply { WhereEncoderStands self.old
             (λ _ m entries. result ≡ reply_to m (text_moves entries)) }
         ensures kind { IsSetReply result }
         ensures text { IsText text }
@@ -116,7 +116,7 @@ impl Encoder {
     /// `Silent` for M + K slots from a restart on. Otherwise `Held` for 2 (M + K) slots from the name before on (this
     /// project's own rule). Both have the number of slots left. After an error nothing has changed.
     pub fn set_name(&mut self, name: Name) -> Result<(), Refusal>
-        ensures reply { WhereItStands self.old
+        ensures reply { WhereEncoderStands self.old
             (λ _ m entries. result ≡ reply_to m (name_moves entries)) }
         ensures kind { IsSetReply result }
         ensures name { IsName name }
@@ -135,7 +135,7 @@ impl Encoder {
     /// and otherwise `OutOfText` for the first tag that does not end in the text. The dummy, of class 0, ends in each
     /// text. After an error nothing has changed.
     pub fn set_tags(&mut self, pair: TagPair) -> Result<(), Refusal>
-        ensures reply { WhereItStands self.old (λ _ m entries. result ≡ tags_reply m pair entries) }
+        ensures reply { WhereEncoderStands self.old (λ _ m entries. result ≡ tags_reply m pair entries) }
         ensures kind { IsTagsReply result }
         ensures stands { Takes self.old self.new (SetTags pair) }
         ensures kept { OnErr result (self.new ≡ self.old) }
@@ -146,7 +146,7 @@ impl Encoder {
     /// Ends the slot and returns the group that is sent in it. `None` if nothing is sent. A slot that is not free
     /// belongs to other services. The sets of a slot come before its `tick`.
     pub fn tick(&mut self, free: bool) -> Option<Group>
-        ensures sent { WhereItStands self.old
+        ensures sent { WhereEncoderStands self.old
             (λ station m entries. IsSent station (sent_in m free entries) result) }
         ensures stands { Takes self.old self.new (Tick free) }
     {
@@ -155,7 +155,7 @@ impl Encoder {
 
     /// Returns the text on air, at most 64 bytes, borrowed from the encoder. `None` if no text is on air.
     pub fn text(&self) -> Option<&[u8]>
-        ensures on_air { WhereItStands self.now
+        ensures on_air { WhereEncoderStands self.now
             (λ _ m entries. option_copied result
             ≡ option_map bytes_of (on_air m (text_moves entries))) }
         ensures text { IfSome result (λ x. IsText x.now) }
@@ -166,7 +166,7 @@ impl Encoder {
     /// Returns the name on air, eight bytes, padded with spaces, borrowed from the encoder. `None` if no name is on
     /// air.
     pub fn name(&self) -> Option<&[u8]>
-        ensures on_air { WhereItStands self.now
+        ensures on_air { WhereEncoderStands self.now
             (λ _ m entries. option_copied result
             ≡ option_map bytes_of (on_air m (name_moves entries))) }
         ensures name { IfSome result (λ x. IsName x.now) }
@@ -176,18 +176,18 @@ impl Encoder {
 
     /// Returns the tags of the text on air, even if they have not been sent yet. `None` if it has none.
     pub fn tags(&self) -> Option<TagPair>
-        ensures { WhereItStands self.now (λ _ m entries. result ≡ pair_on_air m entries) }
+        ensures { WhereEncoderStands self.now (λ _ m entries. result ≡ pair_on_air m entries) }
     {
         self.state.tags()
     }
 
     /// Returns for how many more slots a set would be refused, this slot included.
     pub fn wait(&self) -> Wait
-        ensures silent { WhereItStands self.now
+        ensures silent { WhereEncoderStands self.now
             (λ _ m entries. result.silent ≡ silent_for (reply_to m (text_moves entries))) }
-        ensures text { WhereItStands self.now
+        ensures text { WhereEncoderStands self.now
             (λ _ m entries. result.text ≡ held_for (reply_to m (text_moves entries))) }
-        ensures name { WhereItStands self.now
+        ensures name { WhereEncoderStands self.now
             (λ _ m entries. result.name ≡ held_for (reply_to m (name_moves entries))) }
     {
         self.state.wait()

@@ -3,7 +3,7 @@ ghost use Rattle.std.specs.Prelude.{◌≡◌, ◌+◌, ℕ, Bool, List, [], ◌
 ghost use Rattle.rds_encoder.specs.Entries.{Move, Begin, Set, End, slot_of};
 ghost use Rattle.rds_encoder.specs.Plan.{OnAir, on_air};
 ghost use Rattle.rds_encoder.specs.Reply.{IsSetReply, held_reply, last_accepted, reply_to};
-ghost use Rattle.rds_encoder.specs.StandsAt.{HoldsBack};
+ghost use Rattle.rds_encoder.specs.EncoderAt.{HoldsBack};
 ghost use Rattle.rds_encoder.specs.Stored.{hold_stored};
 
 use crate::Refusal;

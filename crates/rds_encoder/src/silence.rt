@@ -2,7 +2,7 @@
 ghost use Rattle.std.specs.Prelude.{◌≡◌, ℕ, List, Ok};
 ghost use Rattle.rds_encoder.specs.Entries.{Move, restart_before, slot_of};
 ghost use Rattle.rds_encoder.specs.Reply.{IsSetReply, IsTagsReply, unless_silent};
-ghost use Rattle.rds_encoder.specs.StandsAt.{silence_left};
+ghost use Rattle.rds_encoder.specs.EncoderAt.{silence_left};
 
 use crate::Refusal;
 

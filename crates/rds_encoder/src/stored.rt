@@ -7,8 +7,8 @@ ghost use Rattle.rds_encoder.specs.Entries.{SetText, SetName, SetTags, Tick, nam
 ghost use Rattle.rds_encoder.specs.Plan.{bytes_of, on_air};
 ghost use Rattle.rds_encoder.specs.Reply.{IsSetReply, IsTagsReply, held_for, reply_to, silent_for};
 ghost use Rattle.rds_encoder.specs.Sent.{IsSent, is_turn, sent_in};
-ghost use Rattle.rds_encoder.specs.StandsAt.{Takes, WhereItStands};
-ghost use Rattle.rds_encoder.specs.Stored.{IsStored, encoder_stored, head_stored};
+ghost use Rattle.rds_encoder.specs.EncoderAt.{Takes, WhereEncoderStands};
+ghost use Rattle.rds_encoder.specs.Stored.{IsStoredEncoder, encoder_stored, head_stored};
 ghost use Rattle.rds_encoder.specs.Tags.{fitting_reply, pair_on_air, tags_reply};
 
 use crate::silence::check_silence;
@@ -67,12 +67,12 @@ pub struct StoredEncoder {
 impl StoredEncoder {
     /// Puts the text on air. After an error nothing has changed.
     pub fn set_text(&mut self, text: Text) -> Result<(), Refusal>
-        ensures reply { WhereItStands (encoder_stored self.old)
+        ensures reply { WhereEncoderStands (encoder_stored self.old)
             (λ _ m entries. result ≡ reply_to m (text_moves entries)) }
         ensures kind { IsSetReply result }
-        ensures stands { IsStored self.old
+        ensures stands { IsStoredEncoder self.old
             → Takes (encoder_stored self.old) (encoder_stored self.new) (SetText text) }
-        ensures good { IsStored self.old → IsStored self.new }
+        ensures good { IsStoredEncoder self.old → IsStoredEncoder self.new }
         ensures kept { OnErr result (self.new ≡ self.old) }
     {
         check_silence(self.silence)?;
@@ -84,12 +84,12 @@ impl StoredEncoder {
 
     /// Puts the name on air. After an error nothing has changed.
     pub fn set_name(&mut self, name: Name) -> Result<(), Refusal>
-        ensures reply { WhereItStands (encoder_stored self.old)
+        ensures reply { WhereEncoderStands (encoder_stored self.old)
             (λ _ m entries. result ≡ reply_to m (name_moves entries)) }
         ensures kind { IsSetReply result }
-        ensures stands { IsStored self.old
+        ensures stands { IsStoredEncoder self.old
             → Takes (encoder_stored self.old) (encoder_stored self.new) (SetName name) }
-        ensures good { IsStored self.old → IsStored self.new }
+        ensures good { IsStoredEncoder self.old → IsStoredEncoder self.new }
         ensures kept { OnErr result (self.new ≡ self.old) }
     {
         check_silence(self.silence)?;
@@ -100,11 +100,11 @@ impl StoredEncoder {
 
     /// Gives the text on air these tags. After an error nothing has changed.
     pub fn set_tags(&mut self, pair: TagPair) -> Result<(), Refusal>
-        ensures reply { WhereItStands (encoder_stored self.old)
+        ensures reply { WhereEncoderStands (encoder_stored self.old)
             (λ _ m entries. result ≡ tags_reply m pair entries) }
         ensures kind { IsTagsReply result }
         ensures stands { Takes (encoder_stored self.old) (encoder_stored self.new) (SetTags pair) }
-        ensures good { IsStored self.old → IsStored self.new }
+        ensures good { IsStoredEncoder self.old → IsStoredEncoder self.new }
         ensures kept { OnErr result (self.new ≡ self.old) }
     {
         check_silence(self.silence)?;
@@ -115,10 +115,10 @@ impl StoredEncoder {
 
     /// Ends the slot and returns the group that is sent in it.
     pub fn tick(&mut self, free: bool) -> Option<Group>
-        ensures sent { IsStored self.old → WhereItStands (encoder_stored self.old)
+        ensures sent { IsStoredEncoder self.old → WhereEncoderStands (encoder_stored self.old)
             (λ station m entries. IsSent station (sent_in m free entries) result) }
         ensures stands { Takes (encoder_stored self.old) (encoder_stored self.new) (Tick free) }
-        ensures good { IsStored self.old → IsStored self.new }
+        ensures good { IsStoredEncoder self.old → IsStoredEncoder self.new }
     {
         let message = self.due(free);
         self.end_slot(free);
@@ -127,10 +127,10 @@ impl StoredEncoder {
 
     /// Returns the text on air, borrowed from the numbers.
     pub fn text(&self) -> Option<&[u8]>
-        ensures on_air { WhereItStands (encoder_stored self.now)
+        ensures on_air { WhereEncoderStands (encoder_stored self.now)
             (λ _ m entries. option_copied result
             ≡ option_map bytes_of (on_air m (text_moves entries))) }
-        ensures text { IsStored self.now → IfSome result (λ x. IsText x.now) }
+        ensures text { IsStoredEncoder self.now → IfSome result (λ x. IsText x.now) }
         ensures short { IfSome result (λ x. length x.now ≤ 64) }
     {
         if self.text.is_on_air == 0 {
@@ -141,10 +141,10 @@ impl StoredEncoder {
 
     /// Returns the name on air, borrowed from the numbers.
     pub fn name(&self) -> Option<&[u8]>
-        ensures on_air { WhereItStands (encoder_stored self.now)
+        ensures on_air { WhereEncoderStands (encoder_stored self.now)
             (λ _ m entries. option_copied result
             ≡ option_map bytes_of (on_air m (name_moves entries))) }
-        ensures name { IsStored self.now → IfSome result (λ x. IsName x.now) }
+        ensures name { IsStoredEncoder self.now → IfSome result (λ x. IsName x.now) }
         ensures short { IfSome result (λ x. length x.now ≡ 8) }
     {
         if self.name.is_on_air == 0 {
@@ -155,19 +155,19 @@ impl StoredEncoder {
 
     /// Returns the tags of the text on air.
     pub fn tags(&self) -> Option<TagPair>
-        ensures { IsStored self.now
-            → WhereItStands (encoder_stored self.now) (λ _ m entries. result ≡ pair_on_air m entries) }
+        ensures { IsStoredEncoder self.now
+            → WhereEncoderStands (encoder_stored self.now) (λ _ m entries. result ≡ pair_on_air m entries) }
     {
         self.pair.pair()
     }
 
     /// Returns for how many more slots a set would be refused, this slot included.
     pub fn wait(&self) -> Wait
-        ensures silent { WhereItStands (encoder_stored self.now)
+        ensures silent { WhereEncoderStands (encoder_stored self.now)
             (λ _ m entries. result.silent ≡ silent_for (reply_to m (text_moves entries))) }
-        ensures text { WhereItStands (encoder_stored self.now)
+        ensures text { WhereEncoderStands (encoder_stored self.now)
             (λ _ m entries. result.text ≡ held_for (reply_to m (text_moves entries))) }
-        ensures name { WhereItStands (encoder_stored self.now)
+        ensures name { WhereEncoderStands (encoder_stored self.now)
             (λ _ m entries. result.name ≡ held_for (reply_to m (name_moves entries))) }
     {
         Wait {
@@ -192,7 +192,7 @@ impl StoredEncoder {
     /// Refuses tags if no text is on air, or if one does not end in the text on air.
     fn check_tags(&self, pair: TagPair) -> Result<(), Refusal>
         ensures kind { IsTagsReply result }
-        ensures reply { WhereItStands (encoder_stored self.now)
+        ensures reply { WhereEncoderStands (encoder_stored self.now)
             (λ _ m entries. result ≡ fitting_reply pair (on_air m (text_moves entries))) }
     {
         let Some(text) = self.text() else {
@@ -209,7 +209,7 @@ impl StoredEncoder {
 
     /// Returns whether the slot has a turn: it is free, and the silence is over.
     pub(crate) fn has_turn(&self, free: bool) -> bool
-        ensures { WhereItStands (encoder_stored self.now)
+        ensures { WhereEncoderStands (encoder_stored self.now)
             (λ _ m entries. result ≡ is_turn m free (text_moves entries)) }
     {
         free && self.silence == 0

@@ -4,24 +4,24 @@ use Rattle.rds_block.specs.declared.group.Group.{Group}
 use Rattle.rds_fields.specs.declared.message.Message.{Message}
 use Rattle.rds_receiver.specs.Receipts.{Hears}
 use Rattle.rds_audit.specs.declared.fault_set.FaultSet.{FaultSet}
-use Rattle.rds_audit.specs.AuditStandsAt.{AuditStandsAt, FollowsLog}
+use Rattle.rds_audit.specs.AuditAt.{AuditAt, FollowsLog}
 use Rattle.rds_audit.specs.Listing.{IsFaultOf, slot_adds}
 use Rattle.rds_audit.specs.Recording.{counted_as, judged_as}
 use Rattle.rds_audit.specs.Rules.{LogPasses}
 use Rattle.rds_audit.specs.declared.log_start.LogStart.{LogStart}
-use Rattle.rds_audit.specs.Stored.{IsStored, audit_stored}
+use Rattle.rds_audit.specs.Stored.{IsStoredAudit, audit_stored}
 use Rattle.rds_audit.specs.declared.audit.AuditFault.{AuditFault}
 use Rattle.rds_audit.specs.declared.stored.StoredAudit.{StoredAudit}
 use Rattle.rds_ffi.specs.Codes.{code_of}
 
 -- the memory holds the audit of programme pi and of d slots, which stands at the log
 pub record AuditInMemory (pi d : ℕ) (s : StoredAudit) (log : List (Option Group)) : Type 0 where
-  pub good : IsStored s
-  pub at : AuditStandsAt pi d (audit_stored s) log
+  pub good : IsStoredAudit s
+  pub at : AuditAt pi d (audit_stored s) log
 
 -- the memory holds an audit that follows all of the log, after a fault too
 pub record FollowsInMemory (pi d : ℕ) (s : StoredAudit) (log : List (Option Group)) : Type 0 where
-  pub good : IsStored s
+  pub good : IsStoredAudit s
   pub at : FollowsLog pi d (audit_stored s) log
 
 -- for each audit that the memory may hold: this holds of its programme, of its number of slots and of its log
@@ -39,8 +39,8 @@ WhereItHeard s Holds =
     → Holds d (judged_as (start_in s) d lies.at.heard)
 
 -- for each audit that follows its log: this holds of its programme, of its number of slots and of its log
-abbrev pub WhereItFollows : StoredAudit → (ℕ → ℕ → List (Option Group) → Type 0) → Type 0
-WhereItFollows s Holds = (pi d : ℕ) (log : List (Option Group)) → FollowsInMemory pi d s log → Holds pi d log
+abbrev pub WhereAuditFollows : StoredAudit → (ℕ → ℕ → List (Option Group) → Type 0) → Type 0
+WhereAuditFollows s Holds = (pi d : ℕ) (log : List (Option Group)) → FollowsInMemory pi d s log → Holds pi d log
 
 -- and this of its number of slots and of the messages of its log, as they are judged
 abbrev pub WhereItFollowed : StoredAudit → (ℕ → List (Option Message) → Type 0) → Type 0
@@ -67,5 +67,5 @@ Tells code d heard = (found : Option AuditFault) × (code ≡ code_of found)
     × MatchOption found (LogPasses d heard) (λ fault. IsFaultOf d heard fault)
 
 -- the code is that of a fault, or the code for no fault
-abbrev pub IsAnswer : ℕ → Type 0
-IsAnswer code = (found : Option AuditFault) × (code ≡ code_of found)
+abbrev pub IsFaultCode : ℕ → Type 0
+IsFaultCode code = (found : Option AuditFault) × (code ≡ code_of found)

@@ -18,8 +18,8 @@ pub record AreHeldIn (count m t : ℕ) (the_run : List Segment) (s : RdsrtSegmen
   pub age : HasAge m t the_run s.age
 
 -- these are the segments of the run at the end of what was heard, of what counts for this tuning
-abbrev pub AreSegmentsOf : ℕ → (Message → Option Fragment) → Tuning → List (Option Message) → RdsrtSegments → Type 0
-AreSegmentsOf count pick t heard =
+abbrev pub HoldsSegmentsOf : ℕ → (Message → Option Fragment) → Tuning → List (Option Message) → RdsrtSegments → Type 0
+HoldsSegmentsOf count pick t heard =
     AreHeldIn count t.dwell (newest_slot t.first heard)
     (run t.dwell (newest_slot t.first heard) (segments pick t.first (counted t heard)))
 
@@ -27,5 +27,5 @@ AreSegmentsOf count pick t heard =
 pub record IsHeld (t : Tuning) (input : List (Option Group)) (h : RdsrtHeld) : Type 0 where
   pub heard : List (Option Message)
   pub are : AreHeard t.programme input heard
-  pub text : AreSegmentsOf 16 text_fragment t heard h.text
-  pub name : AreSegmentsOf 2 name_fragment t heard h.name
+  pub text : HoldsSegmentsOf 16 text_fragment t heard h.text
+  pub name : HoldsSegmentsOf 2 name_fragment t heard h.name

@@ -98,6 +98,6 @@ IsTagOf which pair tag =
     tag.content_type ≢ 0 → (p : PairFields) × (pair ≡ Some p) × (tag ≡ tag_plain (tag_in which p))
 
 -- the tags that are shown are those of the pair
-pub record AreTagsOf (pair : Option PairFields) (v : RdsrtView) : Type 0 where
+pub record ShowsTagsOf (pair : Option PairFields) (v : RdsrtView) : Type 0 where
   pub one : IsTagOf One pair v.one
   pub two : IsTagOf Two pair v.two

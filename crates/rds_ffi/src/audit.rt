@@ -9,8 +9,8 @@ ghost use Rattle.rds_audit.specs.Reigns.{AlternateFlags, reigns};
 ghost use Rattle.rds_audit.specs.Rules.{LogPasses};
 ghost use Rattle.rds_audit.specs.Stored.{AreBits, faults_stored};
 ghost use Rattle.rds_audit.specs.declared.log_start.LogStart.TheVariants as LogStart;
-ghost use Rattle.rds_ffi.specs.AuditInMemory.{Adds, AuditInMemory, FollowsInMemory, IsAnswer, Tells, WhereItFollowed};
-ghost use Rattle.rds_ffi.specs.AuditInMemory.{WhereItFollows, WhereItHeard, WhereItIs, fault_in, start_in};
+ghost use Rattle.rds_ffi.specs.AuditInMemory.{Adds, AuditInMemory, FollowsInMemory, IsFaultCode, Tells, WhereItFollowed};
+ghost use Rattle.rds_ffi.specs.AuditInMemory.{WhereAuditFollows, WhereItHeard, WhereItIs, fault_in, start_in};
 ghost use Rattle.rds_ffi.specs.Codes.{RDSRT_BAD_ARGUMENT, RDSRT_OK, code_of};
 ghost use Rattle.rds_ffi.specs.Slots.{Bring, IsCount};
 ghost use Rattle.rds_safety.specs.Marks.{marks, name_mark, text_mark};
@@ -87,7 +87,7 @@ pub extern "C" fn rdsrt_audit_slot(audit: &mut StoredAudit, blocks: &[u16]) -> u
     ensures stands { result ≢ RDSRT_BAD_ARGUMENT → WhereItIs audit.old (λ pi d log.
         (slot : Option Group) × Bring blocks.now slot × AuditInMemory pi d audit.new (slot ∷ log)) }
     ensures which { result ≢ RDSRT_BAD_ARGUMENT → WhereItHeard audit.new (Tells result) }
-    ensures codes { result ≢ RDSRT_BAD_ARGUMENT → IsAnswer result }
+    ensures codes { result ≢ RDSRT_BAD_ARGUMENT → IsFaultCode result }
     ensures kept { result ≡ RDSRT_BAD_ARGUMENT → audit.new ≡ audit.old }
 {
     let Ok(slot) = slot_of(blocks) else {
@@ -113,7 +113,7 @@ pub extern "C" fn rdsrt_audit_all_faults(
     ensures start { result ≡ RDSRT_OK → start_in audit.new ≡ start_in audit.old }
     ensures stands { result ≡ RDSRT_OK → WhereItIs audit.old (λ pi d log.
         (slot : Option Group) × Bring blocks.now slot × AuditInMemory pi d audit.new (slot ∷ log)) }
-    ensures follows { result ≡ RDSRT_OK → WhereItFollows audit.old (λ pi d log.
+    ensures follows { result ≡ RDSRT_OK → WhereAuditFollows audit.old (λ pi d log.
         (slot : Option Group) × Bring blocks.now slot × FollowsInMemory pi d audit.new (slot ∷ log)) }
     ensures adds { result ≡ RDSRT_OK → (slot : Option Group) × Bring blocks.now slot
         × Adds audit.old slot (faults_stored faults.new) }

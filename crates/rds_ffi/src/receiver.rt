@@ -9,7 +9,7 @@ ghost use Rattle.rds_receiver.specs.Confirmed.{counted};
 ghost use Rattle.rds_ffi.specs.Codes.{RDSRT_BAD_ARGUMENT, RDSRT_CHANGED, RDSRT_OK};
 ghost use Rattle.rds_ffi.specs.ReceiverInMemory.{ReceiverInMemory, WhereItIs};
 ghost use Rattle.rds_ffi.specs.Slots.{Bring, IsCount};
-ghost use Rattle.rds_ffi.specs.Viewed.{AreTagsOf, IsPlainView, viewed};
+ghost use Rattle.rds_ffi.specs.Viewed.{ShowsTagsOf, IsPlainView, viewed};
 
 use crate::codes;
 use crate::slots::slot_of;
@@ -98,7 +98,7 @@ pub extern "C" fn rdsrt_receiver_slot(receiver: &mut StoredReceiver, blocks: &[u
 pub extern "C" fn rdsrt_receiver_view(receiver: &StoredReceiver, view: &mut RdsrtView)
     ensures shown { WhereItIs receiver.now (λ t input. IsView t input (viewed view.new)) }
     ensures tags { WhereItIs receiver.now (λ t input. (heard : List (Option Message))
-        → AreHeard t.programme input heard → AreTagsOf (pair_held t.dwell t.first (counted t heard)) view.new) }
+        → AreHeard t.programme input heard → ShowsTagsOf (pair_held t.dwell t.first (counted t heard)) view.new) }
     ensures plain { IsPlainView view.new }
 {
     *view = seen(receiver);

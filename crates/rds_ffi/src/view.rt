@@ -8,7 +8,7 @@ ghost use Rattle.rds_receiver.specs.Tags.{cut_by, pair_held, tag_of};
 ghost use Rattle.rds_receiver.specs.Confirmed.{counted};
 ghost use Rattle.rds_ffi.specs.ReceiverInMemory.{WhereItIs};
 ghost use Rattle.rds_ffi.specs.Viewed as specs;
-ghost use Rattle.rds_ffi.specs.Viewed.{AreTagsOf, IsPlainItem, IsPlainName, IsPlainText, IsPlainView, IsTagOf};
+ghost use Rattle.rds_ffi.specs.Viewed.{ShowsTagsOf, IsPlainItem, IsPlainName, IsPlainText, IsPlainView, IsTagOf};
 ghost use Rattle.rds_ffi.specs.Viewed.{count_of, item_viewed, name_viewed, tag_plain, tag_viewed, text_viewed, viewed};
 
 use rds_assembly::LONGEST_TEXT;
@@ -65,7 +65,7 @@ pub struct RdsrtView {
 pub(crate) fn seen(receiver: &StoredReceiver) -> RdsrtView
     ensures shown { WhereItIs receiver.now (λ t input. IsView t input (viewed result)) }
     ensures tags { WhereItIs receiver.now (λ t input. (heard : List (Option Message))
-        → AreHeard t.programme input heard → AreTagsOf (pair_held t.dwell t.first (counted t heard)) result) }
+        → AreHeard t.programme input heard → ShowsTagsOf (pair_held t.dwell t.first (counted t heard)) result) }
     ensures plain { IsPlainView result }
 {
     let text = receiver.text();

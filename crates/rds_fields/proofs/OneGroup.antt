@@ -7,7 +7,7 @@ use Rattle.rds_fields.specs.declared.head.Head.{Head}
 use Rattle.rds_fields.specs.declared.message.Message.{Message}
 use Rattle.rds_fields.specs.declared.message.Message.TheVariants.{Text, Name, Announce, Tags, Other}
 use Rattle.rds_fields.specs.Tag.{PairFields}
-use Rattle.rds_fields.specs.Bits.{Sent, bits_of, sent_of, SpellsPair}
+use Rattle.rds_fields.specs.Bits.{Sent, field_bits, sent_of, SpellsPair}
 use Rattle.rds_fields.specs.Spells.{IsOf, bits_in}
 use Rattle.rds_fields.specs.Canonical.{IsPlain, HasHead, IsWritten}
 
@@ -27,7 +27,7 @@ field_of_plain zero v s p q r = r refl ∙ sym (q refl)
 field_of_plain (suc k) v s p q r = sym (p (omega arith))
 
 -- a number with plain fields is the number written for its pair
-plain_bits : (n : ℕ) (p : PairFields) (s : Sent) → SpellsPair p n s → IsPlain s → n ≡ bits_of (sent_of p)
+plain_bits : (n : ℕ) (p : PairFields) (s : Sent) → SpellsPair p n s → IsPlain s → n ≡ field_bits (sent_of p)
 plain_bits n p s a b =
     let toggle : s.toggle ≡ from_bool p.toggle = sym a.toggle in
     let running : s.running ≡ from_bool p.running = sym a.running in

@@ -4,7 +4,7 @@ use Rattle.std.specs.Int.{from_bool}
 use Rattle.std.proofs.lemmas.Nat.{and_mask}
 use mathlib.Core.Bool.{not}
 use Rattle.rds_block.specs.SecondWord.{or_above}
-use Rattle.rds_fields.specs.Bits.{Sent, FitsBits, bits_of}
+use Rattle.rds_fields.specs.Bits.{Sent, FitsBits, field_bits}
 
 -- the eight fields of a number
 abbrev pub fields_of : ℕ → Sent
@@ -31,7 +31,7 @@ fields_of-fit n = record {
   extra_two = omega arith;
 }
 
-pub bits_of-fields_of : (n : ℕ) → n < 2 ^ 37 → n ≡ bits_of (fields_of n)
+pub bits_of-fields_of : (n : ℕ) → n < 2 ^ 37 → n ≡ field_bits (fields_of n)
 bits_of-fields_of n h = omega arith
 
 -- for a bit b: whether b is not 0, as a number, is b
@@ -47,7 +47,7 @@ low_bit n = rw (and_mask n 1) (from_bool-not_zero (n % 2) (omega arith))
 -- joining the eight fields gives their number
 pub fields_joined : (s : Sent) → FitsBits s →
     bit_or (bit_or (bit_or (bit_or (bit_or (bit_or (bit_or (s.toggle * 2 ^ 36 % 2 ^ 64) (s.running * 2 ^ 35 % 2 ^ 64)) (s.class_one * 2 ^ 29 % 2 ^ 64)) (s.start_one * 2 ^ 23 % 2 ^ 64)) (s.extra_one * 2 ^ 17 % 2 ^ 64)) (s.class_two * 2 ^ 11 % 2 ^ 64)) (s.start_two * 2 ^ 5 % 2 ^ 64)) s.extra_two
-    ≡ bits_of s
+    ≡ field_bits s
 fields_joined s h =
     let t : s.toggle * 2 ^ 36 % 2 ^ 64 ≡ s.toggle * 2 ^ 36 = omega arith in
     let r : s.running * 2 ^ 35 % 2 ^ 64 ≡ s.running * 2 ^ 35 = omega arith in

@@ -1,7 +1,7 @@
 -- Lemmas: the number written for a pair is read as that pair.
 use Rattle.std.proofs.Common.{◌≡◌, ℕ, refl}
 use Rattle.rds_fields.specs.Tag.{TagFields, PairFields, IsTag, IsPair}
-use Rattle.rds_fields.specs.Bits.{FitsBits, bits_of, sent_of, IsRead, SpellsPair}
+use Rattle.rds_fields.specs.Bits.{FitsBits, field_bits, sent_of, IsRead, SpellsPair}
 use Rattle.rds_block.specs.SecondWord.{from_bool-lt}
 
 pub sent_of-fit : (p : PairFields) → IsPair p → FitsBits (sent_of p)
@@ -25,7 +25,7 @@ IsRead-self t h = record {
   dummy_extra = h.dummy_extra;
 }
 
-pub SpellsPair-sent_of : (p : PairFields) (n : ℕ) → IsPair p → n ≡ bits_of (sent_of p) → SpellsPair p n (sent_of p)
+pub SpellsPair-sent_of : (p : PairFields) (n : ℕ) → IsPair p → n ≡ field_bits (sent_of p) → SpellsPair p n (sent_of p)
 SpellsPair-sent_of p n h e = record {
   fits = sent_of-fit p h;
   bits = e;

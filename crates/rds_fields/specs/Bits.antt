@@ -27,8 +27,8 @@ pub record FitsBits (s : Sent) : Type 0 where
   pub extra_two : s.extra_two < 32
 
 -- the eight fields joined as one number
-abbrev pub bits_of : Sent → ℕ
-bits_of s =
+abbrev pub field_bits : Sent → ℕ
+field_bits s =
     2 ^ 36 * s.toggle + 2 ^ 35 * s.running
     + 2 ^ 29 * s.class_one + 2 ^ 23 * s.start_one + 2 ^ 17 * s.extra_one
     + 2 ^ 11 * s.class_two + 2 ^ 5 * s.start_two + s.extra_two
@@ -58,7 +58,7 @@ pub record IsRead (k s e : ℕ) (t : TagFields) : Type 0 where
 -- n has the eight fields s, and they are read as the pair p
 pub record SpellsPair (p : PairFields) (n : ℕ) (s : Sent) : Type 0 where
   pub fits : FitsBits s
-  pub bits : n ≡ bits_of s
+  pub bits : n ≡ field_bits s
   pub toggle : from_bool p.toggle ≡ s.toggle
   pub running : from_bool p.running ≡ s.running
   pub one : IsRead s.class_one s.start_one s.extra_one p.one

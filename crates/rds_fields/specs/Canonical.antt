@@ -4,7 +4,7 @@ use Rattle.std.specs.Prelude.{◌≡◌, ◌/◌, ◌%◌}
 use Rattle.rds_block.specs.declared.group.Group.{Group}
 use Rattle.rds_fields.specs.declared.head.Head.{Head}
 use Rattle.rds_fields.specs.declared.message.Message.{Message}
-use Rattle.rds_fields.specs.Bits.{Sent, FitsBits, bits_of}
+use Rattle.rds_fields.specs.Bits.{Sent, FitsBits, field_bits}
 use Rattle.rds_fields.specs.Spells.{IsOf, bits_in, Spells}
 
 -- in a tag of class 0, the start and the length marker are 0
@@ -17,7 +17,7 @@ pub record IsPlain (s : Sent) : Type 0 where
 -- in a group 10A, bits 3 to 1 are 0; in a group 11A, the start and the length marker of a tag of class 0 are 0
 pub record IsCanonical (g : Group) : Type 0 where
   pub name : IsOf g 10 → g.low / 2 % 8 ≡ 0
-  pub tags : IsOf g 11 → (s : Sent) → FitsBits s → bits_in g ≡ bits_of s → IsPlain s
+  pub tags : IsOf g 11 → (s : Sent) → FitsBits s → bits_in g ≡ field_bits s → IsPlain s
 
 -- the group has the station's PI, TP and programme type
 pub record HasHead (h : Head) (g : Group) : Type 0 where

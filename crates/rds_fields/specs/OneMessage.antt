@@ -5,7 +5,7 @@ use Rattle.rds_block.specs.SecondWord.{four, from_bool-lt, same_bool}
 use Rattle.rds_fields.specs.declared.message.Message.{Message}
 use Rattle.rds_fields.specs.declared.message.Message.TheVariants.{Text, Name, Announce, Tags, Other}
 use Rattle.rds_fields.specs.Tag.{TagFields, PairFields}
-use Rattle.rds_fields.specs.Bits.{Sent, FitsBits, bits_of, IsRead, SpellsPair}
+use Rattle.rds_fields.specs.Bits.{Sent, FitsBits, field_bits, IsRead, SpellsPair}
 use Rattle.rds_fields.specs.Spells.{Carries, Spells}
 
 -- two words hold one list of bytes
@@ -41,7 +41,7 @@ same_tag (suc k) s e t u p q =
     λ i. record { class = class i; start = start i; extra = extra i }
 
 -- a number has one list of eight fields
-pub same_sent : (s t : Sent) → FitsBits s → FitsBits t → bits_of s ≡ bits_of t → s ≡ t
+pub same_sent : (s t : Sent) → FitsBits s → FitsBits t → field_bits s ≡ field_bits t → s ≡ t
 same_sent s t p q e =
     let e1 : s.toggle ≡ t.toggle = omega arith in
     let e2 : s.running ≡ t.running = omega arith in

@@ -9,7 +9,7 @@ use Rattle.rds_io.specs.Waits.{IsLost, Waits}
 use Rattle.rds_io.specs.declared.told.WriteFault.{WriteFault}
 use Rattle.rds_io.proofs.Waiting.{waits_more, wrote_all}
 use Rattle.rds_audit.specs.Judging.{judged_step}
-use Rattle.rds_audit.specs.AuditStandsAt.{AuditStandsAt, FollowsLog, HasJudged, HoldsLog, TakesAll}
+use Rattle.rds_audit.specs.AuditAt.{AuditAt, FollowsLog, HasJudged, HoldsLog, TakesAll}
 use Rattle.rds_audit.specs.AuditState.{AuditState}
 use Rattle.rds_audit.specs.Recording.{counted_as, judged_as}
 use Rattle.rds_audit.specs.Rules.{LogPasses}
@@ -40,7 +40,7 @@ use Rattle.rds_log.specs.declared.log_line.LogLine.TheVariants.{Skip, Slot}
 -- ---- the slots
 
 -- what an audit without a fault took passes
-pub slots_pass : (a : Auditing) (state : AuditState) (slots : List (Option Group)) → AuditStandsAt a.pi (spacing a) state slots → state.start ≡ a.start → state.fault ≡ None → SlotsPass a slots
+pub slots_pass : (a : Auditing) (state : AuditState) (slots : List (Option Group)) → AuditAt a.pi (spacing a) state slots → state.start ≡ a.start → state.fault ≡ None → SlotsPass a slots
 slots_pass a state slots s begins none = record {
   heard = s.heard;
   are = s.are;
@@ -54,8 +54,8 @@ slots_pass a state slots s begins none = record {
 
 -- slots that fail with the newest one
 pub fails_at : (a : Auditing) (state after : AuditState) (number : ℕ) (slots : List (Option Group)) (slot : Option Group) (fault : AuditFault)
-    → AuditStandsAt a.pi (spacing a) state slots → state.start ≡ a.start → state.fault ≡ None → number ≡ length slots
-    → (stands : AuditStandsAt a.pi (spacing a) after (slot ∷ slots)) → after.start ≡ a.start
+    → AuditAt a.pi (spacing a) state slots → state.start ≡ a.start → state.fault ≡ None → number ≡ length slots
+    → (stands : AuditAt a.pi (spacing a) after (slot ∷ slots)) → after.start ≡ a.start
     → IsFaultOf (spacing a) (judged_as after.start (spacing a) stands.heard) fault → SlotsFail a number fault (slot ∷ slots)
 fails_at a state after number slots slot fault s begins passed count stands start is = record {
   newest = slot;
@@ -244,7 +244,7 @@ takes_slot a l after w out now lines line slot found says taken goes_on takes ou
     wanted : a.stop ≡ FirstFault → l.audit.fault ≡ None
     wanted first = s.wants (not_true l.is_done goes_on) first
 
-    stands : AuditStandsAt a.pi (spacing a) after.audit (slot ∷ s.slots)
+    stands : AuditAt a.pi (spacing a) after.audit (slot ∷ s.slots)
     stands = takes.stands a.pi (spacing a) s.slots s.audit.at
 
     fails : (fault : AuditFault) → l.audit.fault ≡ None → after.audit.fault ≡ Some fault

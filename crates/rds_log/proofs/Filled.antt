@@ -20,7 +20,7 @@ use Rattle.rds_log.specs.LineSays.{LineSays, deciding}
 use Rattle.rds_log.specs.Outputs.{HasTaken, Pushed, RunsAll, RunsUpTo, WrotePart}
 use Rattle.rds_log.specs.Fill.{AddsNothing, AreFilled, FillsAll, HasLeftOut, IsLeftOut, IsOfAnother, LinesFill, SoFar, TimesAre}
 use Rattle.rds_log.specs.Fill.{gap_lines, lost_lines, more_lines, newest_time, shown, time_of}
-use Rattle.rds_log.specs.Inside.Filler.{HasFilled, KeepsPace, last_time, told_after}
+use Rattle.rds_log.specs.Inside.Filler.{HasFilled, KeepsTimes, last_time, told_after}
 use Rattle.rds_log.specs.Inside.Pace.{PaceStandsAt}
 use Rattle.rds_log.specs.declared.pace.Pace.{Pace}
 use Rattle.rds_log.specs.declared.filler.Filling.{Filling}
@@ -232,7 +232,7 @@ fails_at_slot how s v lines total line None stamp first says is timed own has lo
 -- the output of a line without a whole group was added
 pub time_done : (how : Filling) (s after : Filler) (v : Traffic) (out : List ℕ) (lines : List Line) (total : List ℕ) (line : Line) (slot : Option Group) (stamp : Stamp) (first : List ℕ)
     → LineSays line (Slot slot) → is_some slot ≡ false → first ≡ take deciding line → time_of first ≡ Some stamp → (IsOfAnother s.filling.pi first → ⊥) → (has : HasFilled how s lines total)
-    → KeepsPace s after → after.told ≡ told_after s.filling (last_time s) s.told stamp.time
+    → KeepsTimes s after → after.told ≡ told_after s.filling (last_time s) s.told stamp.time
     → Waits v out (has.so_far.written ++ gap_lines s.filling false (last_time s) s.told stamp.time) → HasTaken (HasFilled how after) v out (line ∷ lines)
 time_done how s after v out lines total line (Some group) stamp first says none is timed own has keeps told waits = absurd (cc)
 time_done how s after v out lines total line None stamp first says none is timed_at own has keeps told waits =

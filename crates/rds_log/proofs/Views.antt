@@ -5,7 +5,7 @@ use Rattle.rds_block.specs.declared.group.Group.{Group}
 use Rattle.rds_receiver.specs.NotShown.{whys_of}
 use Rattle.rds_receiver.specs.Receipts.{Tuning}
 use Rattle.rds_receiver.specs.Shown.{IsView, ShownView}
-use Rattle.rds_receiver.specs.StandsAt.{StandsAt}
+use Rattle.rds_receiver.specs.ReceiverAt.{ReceiverAt}
 use Rattle.rds_receiver.specs.declared.why.Whys.{Whys}
 use Rattle.rds_view_lines.specs.NoChange.{no_change, view_of_none}
 use Rattle.rds_view_lines.specs.Output.{Display, change, newest, slot_stamp}
@@ -16,7 +16,7 @@ use Rattle.rds_log.specs.declared.decoder.ViewLines.{ViewLines}
 
 -- a slot that was handled: its display, and the changes that it appends
 pub slot_given : (why : Bool) (t : Tuning) (v after : ViewLines) (slots : List (Option Group)) (written before now : List ℕ) (group : Option Group) (display : Display) (s : ViewsStandAt why t v slots written)
-    → StandsAt t after.receiver (group ∷ slots) → IsDisplay why t (group ∷ slots) display → after.says_why ≡ v.says_why → after.slot ≡ v.slot + 1 → view_kept after.shown ≡ display.view
+    → ReceiverAt t after.receiver (group ∷ slots) → IsDisplay why t (group ∷ slots) display → after.says_why ≡ v.says_why → after.slot ≡ v.slot + 1 → view_kept after.shown ≡ display.view
     → now ≡ before ++ change (slot_stamp v.slot) display.whys (view_kept v.shown) display.view
     → (added : List ℕ) × (now ≡ before ++ added) × ViewsStandAt why t after (group ∷ slots) (written ++ added)
 slot_given why t v after slots written before now group display s receiver is says slot shown gave =
@@ -51,7 +51,7 @@ some_whys true t input view (heard, are, shows) = (Some (whys_of t heard), (whys
 
 -- a slot that shows what the one before it showed
 pub slot_same : (why : Bool) (t : Tuning) (v after : ViewLines) (slots : List (Option Group)) (written before : List ℕ) (group : Option Group) (s : ViewsStandAt why t v slots written)
-    → StandsAt t after.receiver (group ∷ slots) → ((view : ShownView) → IsView t slots view → IsView t (group ∷ slots) view)
+    → ReceiverAt t after.receiver (group ∷ slots) → ((view : ShownView) → IsView t slots view → IsView t (group ∷ slots) view)
     → after.says_why ≡ v.says_why → after.slot ≡ v.slot + 1 → view_kept after.shown ≡ view_kept v.shown
     → (added : List ℕ) × (before ≡ before ++ added) × ViewsStandAt why t after (group ∷ slots) (written ++ added)
 slot_same why t v after slots written before group s receiver stays says slot kept =

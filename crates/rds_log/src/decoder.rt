@@ -3,7 +3,7 @@ ghost use Rattle.std.specs.Prelude.{◌≡◌, ◌≤◌, ◌<◌, ◌+◌, ◌-
 ghost use Rattle.std.proofs.Common.{rules};
 ghost use Rattle.rds_receiver.specs.Receipts.{Tuning};
 ghost use Rattle.rds_receiver.specs.Shown.{IsView};
-ghost use Rattle.rds_receiver.specs.StandsAt.{StandsAt, WhereItStands};
+ghost use Rattle.rds_receiver.specs.ReceiverAt.{ReceiverAt, WhereReceiverStands};
 ghost use Rattle.rds_view_lines.specs.KeptView.{view_kept};
 ghost use Rattle.rds_view_lines.specs.Output.{change};
 ghost use Rattle.rds_view_lines.specs.Part.{stamp_of};
@@ -36,7 +36,7 @@ impl ViewLines {
     /// Starts before the first slot, with nothing shown.
     pub(crate) fn new(receiver: Receiver, says_why: bool) -> ViewLines
         ensures count { result.slot ≡ 0 }
-        ensures stands { (t : Tuning) → StandsAt t receiver [] → ViewsStandAt says_why t result [] [] }
+        ensures stands { (t : Tuning) → ReceiverAt t receiver [] → ViewsStandAt says_why t result [] [] }
     {
         ViewLines {
             receiver,
@@ -71,7 +71,7 @@ impl ViewLines {
 
     /// Returns why a text and a name are not shown, if the lines say why.
     fn whys(&self) -> Option<Whys>
-        ensures { WhereItStands self.now.receiver (λ t input. SayWhys self.now.says_why t input result) }
+        ensures { WhereReceiverStands self.now.receiver (λ t input. SayWhys self.now.says_why t input result) }
     {
         if self.says_why {
             Some(self.receiver.whys())
@@ -94,7 +94,7 @@ fn show_slot<const N: usize>(
     requires { length lines.old + SLOT_ROOM ≤ N }
     ensures changes { lines.new
         ≡ lines.old ++ change (stamp_of (Stamp.Slot slot)) whys (view_kept shown.old) (view_kept shown.new) }
-    ensures shows { WhereItStands receiver.now (λ t input. IsView t input (view_kept shown.new)) }
+    ensures shows { WhereReceiverStands receiver.now (λ t input. IsView t input (view_kept shown.new)) }
     ensures room { length lines.new ≤ length lines.old + SLOT_ROOM }
 {
     show(Stamp::Slot(slot), whys, shown, receiver, lines);

@@ -140,7 +140,7 @@ impl TakesLines for Filler {
 }
 
 impl Filler {
-    ghost use Rattle.rds_log.specs.Inside.Filler.{HasFilled, KeepsPace, last_time, told_after};
+    ghost use Rattle.rds_log.specs.Inside.Filler.{HasFilled, KeepsTimes, last_time, told_after};
 
     /// Starts a log.
     pub(crate) fn new(filling: Filling) -> Filler
@@ -248,7 +248,7 @@ impl Filler {
         output: &mut Lines<OUTPUT_ROOM>,
         writer: &mut W,
     ) -> Result<(), WriteFault>
-        ensures keeps { KeepsPace self.old self.new }
+        ensures keeps { KeepsTimes self.old self.new }
         ensures told { self.new.told ≡ told_after self.old.filling (last_time self.old) self.old.told time }
         ensures pushed { (start : W) (total : List ℕ)
             → Waits (traffic W.contents W.failures start writer.old) output.old total
@@ -277,7 +277,7 @@ impl Filler {
         output: &mut Lines<OUTPUT_ROOM>,
         writer: &mut W,
     ) -> Result<(), WriteFault>
-        ensures keeps { KeepsPace self.old self.new }
+        ensures keeps { KeepsTimes self.old self.new }
         ensures told { self.new.told ≡ max self.old.told lost }
         ensures pushed { (start : W) (total : List ℕ)
             → Waits (traffic W.contents W.failures start writer.old) output.old total

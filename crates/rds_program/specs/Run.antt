@@ -122,7 +122,7 @@ times_status Coarse = 1
 times_status AllLeftOut = 1
 
 -- an engine ran, and its outcome gave the status; `mid` and `failures` are the writer's between the two
-pub record Runs {X : Type 0} (Engine : Traffic → Result X LogFault → Type 0) (status_of : X → ℕ) (task : Task)
+pub record EngineRuns {X : Type 0} (Engine : Traffic → Result X LogFault → Type 0) (status_of : X → ℕ) (task : Task)
     (w : Traffic) (status : ℕ) : Type 0 where
   pub outcome : Result X LogFault
   pub mid : Option (List ℕ)
@@ -146,8 +146,8 @@ kind_for false = WithDwell
 kind_for true = FlagAlone
 
 -- the station for receivers that are tuned so, for a programme and this premise, and the kind of its receivers
-abbrev pub station_of : Tuning → Programme → Premise → ReceiverKind → Config
-station_of t programme premise kind = record {
+abbrev pub tuned_station : Tuning → Programme → Premise → ReceiverKind → Config
+tuned_station t programme premise kind = record {
   head = record { pi = t.programme; tp = programme.tp; pty = programme.pty };
   dwell = t.dwell;
   premise = premise;
@@ -157,7 +157,7 @@ station_of t programme premise kind = record {
 -- the station of a simulation, which serves receivers with this window or none; with the flag, others listen to it
 abbrev pub simulated_station : Tuning → Programme → ℕ → Option ℕ → Bool → Option Config
 simulated_station t programme late window alone =
-    option_map (λ premise. station_of t programme premise (kind_for alone)) (premise_of late window)
+    option_map (λ premise. tuned_station t programme premise (kind_for alone)) (premise_of late window)
 
 -- how `decode` decodes a log: with this window or none, and with reasons or without
 abbrev pub decoding_of : Tuning → Option ℕ → Bool → Decoding
@@ -200,7 +200,7 @@ pub record RefusesWindow (task : Task) (w : Traffic) (status : ℕ) : Type 0 whe
 abbrev pub SimulationRuns : Bool → Option Config → Task → ReaderOver → Traffic → ℕ → Type 0
 SimulationRuns why None task r w status = RefusesWindow task w status × r.Untouched
 SimulationRuns why (Some station) task r w status =
-    Runs (Plays (with_form (Simulation why) station) (2 ^ 32) (script_in r)) done task w status
+    EngineRuns (Plays (with_form (Simulation why) station) (2 ^ 32) (script_in r)) done task w status
 
 -- the slots to lose were refused: they are no spans in ascending order
 pub record RefusesSpans (task : Task) (w : Traffic) (status : ℕ) : Type 0 where
@@ -218,25 +218,25 @@ abbrev pub LossRuns : Option (List Burst) → Bool → Tuning → ReaderOver →
 LossRuns None alone t r w status =
     (RefusesSpans (Lose alone) w status ⊎ NoMemoryFor (Lose alone) w status) × r.Untouched
 LossRuns (Some lost) alone t r w status =
-    Runs (Loses (lossy alone t) t.dwell lost r.traffic) witness_status (Lose alone) w status
+    EngineRuns (Loses (lossy alone t) t.dwell lost r.traffic) witness_status (Lose alone) w status
 
 -- the engine of the task ran, with receivers that are tuned so; the receiver of `decode` has the window of the task,
 -- and the text gives the slots that the receiver of `Lose` loses
 abbrev pub TaskRuns : Task → List ℕ → Tuning → ReaderOver → Traffic → ℕ → Type 0
 TaskRuns (Decode window why) lose t r w status =
-    Runs (Decodes (decoding_of t window why) (2 ^ 32) r.traffic) done (Decode window why) w status
+    EngineRuns (Decodes (decoding_of t window why) (2 ^ 32) r.traffic) done (Decode window why) w status
 TaskRuns (Encode programme late) lose t r w status =
-    Runs (Plays (with_form Log (station_of t programme (once late) WithDwell)) (2 ^ 32) (script_in r)) done
+    EngineRuns (Plays (with_form Log (tuned_station t programme (once late) WithDwell)) (2 ^ 32) (script_in r)) done
     (Encode programme late) w status
 TaskRuns (Simulate programme late window alone why) lose t r w status =
     SimulationRuns why (simulated_station t programme late window alone) (Simulate programme late window alone why) r w
     status
 TaskRuns (Audit late running all) lose t r w status =
-    Runs (Audits (auditing_of t late running all) (2 ^ 32) r.traffic) verdict_status (Audit late running all) w status
-TaskRuns Witness lose t r w status = Runs (Witnesses t r.traffic) witness_status Witness w status
+    EngineRuns (Audits (auditing_of t late running all) (2 ^ 32) r.traffic) verdict_status (Audit late running all) w status
+TaskRuns Witness lose t r w status = EngineRuns (Witnesses t r.traffic) witness_status Witness w status
 TaskRuns (Lose alone) lose t r w status = LossRuns (bursts_in lose) alone t r w status
 TaskRuns (Slots grain only) lose t r w status =
-    Runs (Fills (filling_of t (1000 * grain) only) r.traffic) times_status (Slots grain only) w status
+    EngineRuns (Fills (filling_of t (1000 * grain) only) r.traffic) times_status (Slots grain only) w status
 
 -- the programme identification is refused
 pub record RefusesPi (task : Task) (w : Traffic) (status : ℕ) : Type 0 where

@@ -16,8 +16,8 @@ use Rattle.rds_witness.specs.Spans.{bursts_in}
 use Rattle.rds_witness.specs.declared.burst.Burst.{Burst}
 use Rattle.rds_cli.specs.declared.request.Task.{Task}
 use Rattle.rds_cli.specs.declared.request.Task.TheVariants.{Audit, Decode, Encode, Lose, Simulate, Slots, Witness}
-use Rattle.rds_program.specs.Run.{LossRuns, NoMemory, Runs, RunsWords, SimulationRuns, TaskRuns}
-use Rattle.rds_program.specs.Run.{done, lossy, once, simulated_station, station_of}
+use Rattle.rds_program.specs.Run.{LossRuns, NoMemory, EngineRuns, RunsWords, SimulationRuns, TaskRuns}
+use Rattle.rds_program.specs.Run.{done, lossy, once, simulated_station, tuned_station}
 
 -- a run of engines that do more, with another statement for the case that no engine ran
 pub runs_by : {Rests Rested : Type 0} (words : List (List ℕ)) (Engine Weaker : Task → List ℕ → Tuning → Type 0)
@@ -51,8 +51,8 @@ runs_without_memory words Engine w status memory rests = record {
 -- the run of a script, with another statement about its reads
 script_by : {P Q : Type 0} → (P → Q) → (how : Playing) (task : Task) (known : Option (List ℕ))
     (w : Traffic) (status : ℕ)
-    → Runs (Plays how (2 ^ 32) record { known = known; Failed = P }) done task w status
-    → Runs (Plays how (2 ^ 32) record { known = known; Failed = Q }) done task w status
+    → EngineRuns (Plays how (2 ^ 32) record { known = known; Failed = P }) done task w status
+    → EngineRuns (Plays how (2 ^ 32) record { known = known; Failed = Q }) done task w status
 script_by says how task known w status ran = record {
   outcome = ran.outcome;
   mid = ran.mid;
@@ -91,7 +91,7 @@ task_by says rests (Lose alone) lose t r w status ran =
     loss_by _ _ rests (bursts_in lose) alone t r w status ran
 task_by says rests (Slots grain only) lose t r w status ran = ran
 task_by says rests (Encode programme late) lose t r w status ran =
-    script_by says (with_form Log (station_of t programme (once late) WithDwell)) (Encode programme late) r.before w
+    script_by says (with_form Log (tuned_station t programme (once late) WithDwell)) (Encode programme late) r.before w
     status ran
 task_by says rests (Simulate programme late window alone why) lose t r w status ran =
     simulation_by says rests why (simulated_station t programme late window alone)

@@ -2,5 +2,5 @@
 use Rattle.rds_program.specs.declared.times.Timing.{Timing}
 
 -- the reader inside
-abbrev pub inner_of : {R N : Type 0} → Timing R N → R
-inner_of timing = timing.reader
+abbrev pub timed_inner : {R N : Type 0} → Timing R N → R
+timed_inner timing = timing.reader

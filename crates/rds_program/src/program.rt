@@ -338,7 +338,7 @@ fn station_of(
     premise: Premise,
     kind: ReceiverKind,
 ) -> Config
-    ensures { result ≡ specs.station_of (tuned pi dwell) programme premise kind }
+    ensures { result ≡ specs.tuned_station (tuned pi dwell) programme premise kind }
 {
     Config {
         head: Head {

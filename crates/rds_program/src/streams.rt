@@ -4,7 +4,7 @@ ghost use Rattle.rds_io.specs.Told.{failures_of, inner_of as told, reads_of, tra
 ghost use Rattle.rds_io.specs.Wrapped.{prompting, reasoned};
 ghost use Rattle.rds_program.specs.Breaks.{writer_of};
 ghost use Rattle.rds_program.specs.Run.{IsUntouched, RunsWords, TaskRuns, reader_over};
-ghost use Rattle.rds_program.specs.Timing.{inner_of as timed};
+ghost use Rattle.rds_program.specs.Timing.{timed_inner as timed};
 
 use crate::breaks::Breaks;
 use crate::notes::RunNotes;

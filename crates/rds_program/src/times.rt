@@ -1,7 +1,7 @@
 //! A reader that finds out whether a log has times and lacks slots by them.
 
 ghost use Rattle.std.specs.Prelude.{◌≡◌, ◌<◌, IsTrue, length};
-ghost use Rattle.rds_program.specs.Timing.{inner_of};
+ghost use Rattle.rds_program.specs.Timing.{timed_inner};
 
 use crate::breaks::break_at;
 use crate::printing::{NoteForm, print_lack};
@@ -213,7 +213,7 @@ impl<R, N: TellingWrite> Timing<R, N> {
     /// Wraps the reader of a command with these arguments, with the writer for its note. Without a writer it only keeps
     /// the times.
     pub fn new(reader: R, screen: Option<N>, words: &[&str]) -> Self
-        ensures { inner_of result ≡ reader }
+        ensures { timed_inner result ≡ reader }
     {
         let times = if wants_times(words) {
             Some(LogTimes::new())
@@ -230,21 +230,21 @@ impl<R, N: TellingWrite> Timing<R, N> {
 
     /// Returns the reader, borrowed.
     pub fn inner(&self) -> &R
-        ensures { result.now ≡ inner_of self.now }
+        ensures { result.now ≡ timed_inner self.now }
     {
         &self.reader
     }
 
     /// Takes the times of the log out. `None` if the command does not want them, or they were noted.
     pub fn take_times(&mut self) -> Option<LogTimes>
-        ensures { inner_of self.new ≡ inner_of self.old }
+        ensures { timed_inner self.new ≡ timed_inner self.old }
     {
         self.times.take()
     }
 
     /// Takes the bytes of a read.
     fn take(&mut self, bytes: &[u8], is_last: bool)
-        ensures { inner_of self.new ≡ inner_of self.old }
+        ensures { timed_inner self.new ≡ timed_inner self.old }
     {
         let Some(times) = &mut self.times else {
             return;
@@ -263,7 +263,7 @@ impl<R, N: TellingWrite> Timing<R, N> {
 }
 
 impl<R: Read, N: TellingWrite> Read for Timing<R, N> {
-    ghost remaining = { λ timing. R.remaining (inner_of timing) };
+    ghost remaining = { λ timing. R.remaining (timed_inner timing) };
 
     fn read(&mut self, buf: &mut [u8]) -> io::Result<usize> {
         self.reader.read(buf)
@@ -271,9 +271,9 @@ impl<R: Read, N: TellingWrite> Read for Timing<R, N> {
 }
 
 impl<R: TellingRead, N: TellingWrite> TellingRead for Timing<R, N> {
-    ghost failures = { λ timing. R.failures (inner_of timing) };
+    ghost failures = { λ timing. R.failures (timed_inner timing) };
 
-    ghost reads = { λ timing. R.reads (inner_of timing) };
+    ghost reads = { λ timing. R.reads (timed_inner timing) };
 
     fn read_one(&mut self, buf: &mut [u8]) -> Option<usize> {
         let count = self.reader.read_one(buf)?;

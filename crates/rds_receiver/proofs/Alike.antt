@@ -9,7 +9,7 @@ use Rattle.rds_assembly.specs.Whole.{IsWholeName, IsWholeText}
 use Rattle.rds_receiver.specs.Receipts.{Tuning}
 use Rattle.rds_receiver.specs.Shown.{IsShown, IsView, ShownView, ShowsView}
 use Rattle.rds_receiver.specs.Holds.{HoldsAt, MakeAlike, ShowsAlike, newest_slot}
-use Rattle.rds_receiver.specs.StandsAt.{StandsAt}
+use Rattle.rds_receiver.specs.ReceiverAt.{ReceiverAt}
 use Rattle.rds_receiver.specs.State.{DisplayState, ReceiverState}
 use Rattle.rds_receiver.specs.Tags.{item_of, tag_of}
 use Rattle.rds_receiver.specs.Confirmed.{counted}
@@ -63,7 +63,7 @@ view_stays r after m first heard more view s u alike shown =
     }
 
 -- the view of a receiver stays if its display shows the same
-pub stays_shown : (t : Tuning) (r after : ReceiverState) (input more : List (Option Group)) (view : ShownView) → StandsAt t r input → StandsAt t after more
+pub stays_shown : (t : Tuning) (r after : ReceiverState) (input more : List (Option Group)) (view : ShownView) → ReceiverAt t r input → ReceiverAt t after more
     → ShowsAlike r.display after.display → IsView t input view → IsView t more view
 stays_shown t r after input more view s u alike (heard, are, shown) = (
   u.heard,

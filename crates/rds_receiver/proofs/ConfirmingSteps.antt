@@ -10,7 +10,7 @@ use Rattle.rds_fields.specs.Tag.{PairFields, TagFields}
 use Rattle.rds_receiver.specs.Receipts.{Fragment, Hears, Segment, Tuning, name_fragment, segments, text_fragment}
 use Rattle.rds_receiver.specs.Run.{begins_in, is_same, run, run_before}
 use Rattle.rds_receiver.specs.Holds.{HasFlag, HearsMore, HoldsAt, HoldsRun, newest_slot}
-use Rattle.rds_receiver.specs.StandsAt.{StandsAt}
+use Rattle.rds_receiver.specs.ReceiverAt.{ReceiverAt}
 use Rattle.rds_receiver.specs.State.{DisplayState, HeldSegments, ReceiverState}
 use Rattle.rds_receiver.specs.Confirmed.{confirmed, counted_in, if_confirmed, last_at, last_pair, pair_again, same_pair, same_tag, segment_again}
 use Rattle.rds_receiver.specs.ConfirmedLemmas.{confirmed_long, counted_long, newest_counted, one_flag, one_pair}
@@ -503,9 +503,9 @@ nothing_taken (Some w) m first heard s st = record {
 }
 
 -- a whole slot
-pub slot_stands : (t : Tuning) (s after : ReceiverState) (input : List (Option Group)) (slot : Option Group) (message : Option Message) (st : StandsAt t s input)
+pub slot_stands : (t : Tuning) (s after : ReceiverState) (input : List (Option Group)) (slot : Option Group) (message : Option Message) (st : ReceiverAt t s input)
     → Hears t.programme slot message → after.display.programme ≡ s.display.programme → HoldsBy t.window t.dwell (t.first + length st.heard) t.first after (message ∷ st.heard)
-    → StandsAt t after (slot ∷ input)
+    → ReceiverAt t after (slot ∷ input)
 slot_stands t s after input slot message st hears programme holds = record {
   tuned = programme ∙ st.tuned;
   heard = message ∷ st.heard;

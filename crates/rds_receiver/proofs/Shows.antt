@@ -9,7 +9,7 @@ use Rattle.rds_receiver.specs.OneView.{same_heard}
 use Rattle.rds_receiver.specs.Receipts.{Segment, Tuning, name_fragment, text_fragment}
 use Rattle.rds_receiver.specs.Run.{begins_in, cells_of, run_at}
 use Rattle.rds_receiver.specs.Shown.{IsNameShown, IsShown, IsTextShown}
-use Rattle.rds_receiver.specs.StandsAt.{StandsAt, WhatItHeard}
+use Rattle.rds_receiver.specs.ReceiverAt.{ReceiverAt, WhatItHeard}
 use Rattle.rds_receiver.specs.State.{DisplayState, ReceiverState}
 use Rattle.rds_receiver.specs.Tags.{pair_from, pair_held}
 use Rattle.rds_receiver.specs.Confirmed.{counted}
@@ -34,7 +34,7 @@ pub name_shown : (r : DisplayState) (shown : Option (List ℕ)) → IsShown IsWh
 name_shown r shown is m first heard s = subst (λ (cells : Cells). IsShown IsWholeName cells shown) (name_cells r m first heard s) is
 
 -- the display of a receiver that stands at an input follows from what counts of it
-pub shows_counted : (t : Tuning) (r : ReceiverState) (input : List (Option Group)) (s : StandsAt t r input) → HoldsAt t.dwell (newest_slot t.first (counted t s.heard)) t.first r.display (counted t s.heard)
+pub shows_counted : (t : Tuning) (r : ReceiverState) (input : List (Option Group)) (s : ReceiverAt t r input) → HoldsAt t.dwell (newest_slot t.first (counted t s.heard)) t.first r.display (counted t s.heard)
 shows_counted t r input s = subst (λ (n : ℕ). HoldsAt t.dwell n t.first r.display (counted t s.heard)) (sym (newest_counted t.window t.dwell t.first s.heard)) s.holds.display
 
 -- what holds of each list that the display may follow from holds of what counts of each list heard

@@ -8,7 +8,7 @@ pub mod State
 pub mod Holds
 pub mod NotShown
 pub mod Confirming
-pub mod StandsAt
+pub mod ReceiverAt
 pub mod Stored
 pub mod Older
 pub mod Codes

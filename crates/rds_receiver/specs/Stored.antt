@@ -51,6 +51,6 @@ pub record IsStoredDisplay (s : StoredDisplay) : Type 0 where
   pub pair : IsStoredPair s.pair
 
 -- the numbers of the display and of the last pair are valid
-pub record IsStored (s : StoredReceiver) : Type 0 where
+pub record IsStoredReceiver (s : StoredReceiver) : Type 0 where
   pub display : IsStoredDisplay s.display
   pub pair : IsStoredPair s.pair

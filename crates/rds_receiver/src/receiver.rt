@@ -6,8 +6,8 @@ ghost use Rattle.rds_fields.specs.declared.message.Message.{Message};
 ghost use Rattle.rds_receiver.specs.Borrowed.{borrowed_tag, view_of};
 ghost use Rattle.rds_receiver.specs.Receipts.{Hears};
 ghost use Rattle.rds_receiver.specs.Shown.{IsItemShown, IsNameShown, IsTagShown, IsTextShown, IsView};
-ghost use Rattle.rds_receiver.specs.StandsAt.{KeepsView, StandsAt, TakesSlot, WhatItHeard, WhereItStands};
-ghost use Rattle.rds_receiver.specs.Stored.{IsStored, receiver_stored};
+ghost use Rattle.rds_receiver.specs.ReceiverAt.{KeepsView, ReceiverAt, TakesSlot, WhatItHeard, WhereReceiverStands};
+ghost use Rattle.rds_receiver.specs.Stored.{IsStoredReceiver, receiver_stored};
 ghost use Rattle.rds_receiver.specs.Tags.{pair_held};
 ghost use Rattle.rds_receiver.specs.NotShown.{AreWhys};
 
@@ -50,7 +50,7 @@ impl Model for Receiver {
     // Prover: an `impl Model` with own `ghost use` lines does not read those at the top (docs/PROVER.md, "Idioms").
     ghost use Rattle.rds_receiver.specs.Codes.{receiver_code};
     ghost use Rattle.rds_receiver.specs.State.{ReceiverState};
-    ghost use Rattle.rds_receiver.specs.Stored.{IsStored, receiver_stored};
+    ghost use Rattle.rds_receiver.specs.Stored.{IsStoredReceiver, receiver_stored};
 
     ghost Value = { ReceiverState };
 
@@ -58,14 +58,14 @@ impl Model for Receiver {
 
     ghost view = { λ r. receiver_stored r.state };
 
-    ghost invariant = { λ r. IsStored r.state };
+    ghost invariant = { λ r. IsStoredReceiver r.state };
 }
 
 impl Receiver {
     /// Makes a receiver of this programme that has heard nothing yet. Each message counts at once.
     pub fn new(pi: u16, dwell: Dwell) -> Receiver
         ensures stands { (first : ℕ)
-            → StandsAt record { programme = pi; dwell = dwell; window = None; first = first } result [] }
+            → ReceiverAt record { programme = pi; dwell = dwell; window = None; first = first } result [] }
     {
         Receiver::tuned(pi, dwell, None)
     }
@@ -74,7 +74,7 @@ impl Receiver {
     /// within it, and may get wrong groups, for example groups with corrected bits.
     pub fn tuned(pi: u16, dwell: Dwell, window: Option<Window>) -> Receiver
         ensures stands { (first : ℕ)
-            → StandsAt record { programme = pi; dwell = dwell; window = window; first = first } result [] }
+            → ReceiverAt record { programme = pi; dwell = dwell; window = window; first = first } result [] }
     {
         let slots = dwell.get();
         Receiver {
@@ -98,7 +98,7 @@ impl Receiver {
 
     /// Rebuilds a stored receiver. Invalid numbers give an arbitrary valid receiver of the stored programme.
     pub fn restore(stored: &StoredReceiver) -> Receiver
-        ensures same { IsStored stored.now → result ≡ receiver_stored stored.now }
+        ensures same { IsStoredReceiver stored.now → result ≡ receiver_stored stored.now }
         ensures programme { result.display.programme ≡ stored.now.display.pi }
     {
         let mut state = *stored;
@@ -116,7 +116,7 @@ impl Receiver {
     /// Stores the receiver as plain numbers.
     pub fn store(&self) -> StoredReceiver
         ensures same { receiver_stored result ≡ self.now }
-        ensures good { IsStored result }
+        ensures good { IsStoredReceiver result }
     {
         self.state
     }
@@ -141,14 +141,14 @@ impl Receiver {
 
     /// Returns all that is shown, borrowed from the receiver.
     pub fn view(&self) -> View<'_>
-        ensures { WhereItStands self.now (λ t input. IsView t input (view_of result)) }
+        ensures { WhereReceiverStands self.now (λ t input. IsView t input (view_of result)) }
     {
         self.state.view()
     }
 
     /// Returns why a text and a name are not shown, if they are not.
     pub fn whys(&self) -> Whys
-        ensures { WhereItStands self.now (λ t input. AreWhys t input result) }
+        ensures { WhereReceiverStands self.now (λ t input. AreWhys t input result) }
     {
         self.state.display.whys()
     }

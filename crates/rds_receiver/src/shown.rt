@@ -3,8 +3,8 @@ ghost use Rattle.std.specs.Prelude.{◌≡◌, ◌<◌, ◌≤◌, IfSome, lengt
 ghost use Rattle.std.specs.Option.{option_copied};
 ghost use Rattle.rds_receiver.specs.Borrowed.{borrowed_tag, view_of};
 ghost use Rattle.rds_receiver.specs.Shown.{IsItemShown, IsNameShown, IsShortText, IsTextShown, IsView, view_with};
-ghost use Rattle.rds_receiver.specs.StandsAt.{WhatItHeard, WhereItStands};
-ghost use Rattle.rds_receiver.specs.Stored.{IsStored, receiver_stored};
+ghost use Rattle.rds_receiver.specs.ReceiverAt.{WhatItHeard, WhereReceiverStands};
+ghost use Rattle.rds_receiver.specs.Stored.{IsStoredReceiver, receiver_stored};
 ghost use Rattle.rds_receiver.specs.Tags.{item_of, pair_held, tag_of};
 
 use crate::View;
@@ -34,7 +34,7 @@ impl<'a> View<'a> {
 impl StoredReceiver {
     /// Returns all that is shown, borrowed from the numbers.
     pub fn view(&self) -> View<'_>
-        ensures { IsStored self.now → WhereItStands (receiver_stored self.now)
+        ensures { IsStoredReceiver self.now → WhereReceiverStands (receiver_stored self.now)
             (λ t input. IsView t input (view_of result)) }
     {
         View::of(self.text(), self.name(), self.pair())
@@ -60,7 +60,7 @@ impl StoredReceiver {
 
     /// Returns the item toggle bit and the item running bit. `None` if no text is shown or no pair of tags is held.
     pub fn item(&self) -> Option<(bool, bool)>
-        ensures { IsStored self.now → WhatItHeard (receiver_stored self.now)
+        ensures { IsStoredReceiver self.now → WhatItHeard (receiver_stored self.now)
             (λ m first heard. IsItemShown m first heard result) }
     {
         shown_item(self.text(), self.pair())
@@ -69,7 +69,7 @@ impl StoredReceiver {
     /// Returns the pair of tags that is held for the text being received. `None` if no pair is held, and if its numbers
     /// are invalid.
     pub fn pair(&self) -> Option<TagPair>
-        ensures { IsStored self.now → WhatItHeard (receiver_stored self.now)
+        ensures { IsStoredReceiver self.now → WhatItHeard (receiver_stored self.now)
             (λ m first heard. result ≡ pair_held m first heard) }
     {
         self.display.pair.pair()

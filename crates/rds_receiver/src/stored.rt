@@ -3,8 +3,8 @@ ghost use Rattle.std.specs.Prelude.{◌≡◌, ◌≢◌, ◌+◌, ◌<◌, ℕ,
 ghost use Rattle.rds_fields.specs.declared.message.Message.{Message};
 ghost use Rattle.rds_receiver.specs.Confirming.{ConfirmsIf, HearsSlot, HoldsLastsIn};
 ghost use Rattle.rds_receiver.specs.Holds.{HoldsAt, ShowsAlike, newest_slot};
-ghost use Rattle.rds_receiver.specs.StandsAt.{KeepsView, TakesSlot};
-ghost use Rattle.rds_receiver.specs.Stored.{IsStored, display_stored, receiver_stored};
+ghost use Rattle.rds_receiver.specs.ReceiverAt.{KeepsView, TakesSlot};
+ghost use Rattle.rds_receiver.specs.Stored.{IsStoredReceiver, display_stored, receiver_stored};
 ghost use Rattle.rds_receiver.specs.Confirmed.{counted_in};
 
 use crate::display::StoredDisplay;
@@ -34,9 +34,9 @@ impl StoredReceiver {
     /// false, the view did not change. Invalid numbers give arbitrary numbers.
     #[inline(always)]
     pub fn slot(&mut self, group: Option<Blocks>) -> bool
-        ensures stands { IsStored self.old → TakesSlot (receiver_stored self.old) (receiver_stored self.new) group }
-        ensures same { IsStored self.old → IsFalse result → KeepsView (receiver_stored self.old) group }
-        ensures good { IsStored self.old → IsStored self.new }
+        ensures stands { IsStoredReceiver self.old → TakesSlot (receiver_stored self.old) (receiver_stored self.new) group }
+        ensures same { IsStoredReceiver self.old → IsFalse result → KeepsView (receiver_stored self.old) group }
+        ensures good { IsStoredReceiver self.old → IsStoredReceiver self.new }
     {
         let aged = self.display.grow_older();
         let is_new = self.hear(group);
@@ -47,9 +47,9 @@ impl StoredReceiver {
     #[inline(always)]
     fn hear(&mut self, group: Option<Blocks>) -> bool
         ensures programme { self.new.display.pi ≡ self.old.display.pi }
-        ensures holds { IsStored self.old → HearsSlot (receiver_stored self.old) (receiver_stored self.new) group }
+        ensures holds { IsStoredReceiver self.old → HearsSlot (receiver_stored self.old) (receiver_stored self.new) group }
         ensures same { IsFalse result → ShowsAlike (display_stored self.old.display) (display_stored self.new.display) }
-        ensures good { IsStored self.old → IsStored self.new }
+        ensures good { IsStoredReceiver self.old → IsStoredReceiver self.new }
     {
         if self.window > 0 {
             return self.hear_if_confirmed(group);
@@ -66,9 +66,9 @@ impl StoredReceiver {
     fn hear_if_confirmed(&mut self, group: Option<Blocks>) -> bool
         requires { 0 < self.old.window }
         ensures programme { self.new.display.pi ≡ self.old.display.pi }
-        ensures holds { IsStored self.old → HearsSlot (receiver_stored self.old) (receiver_stored self.new) group }
+        ensures holds { IsStoredReceiver self.old → HearsSlot (receiver_stored self.old) (receiver_stored self.new) group }
         ensures same { IsFalse result → ShowsAlike (display_stored self.old.display) (display_stored self.new.display) }
-        ensures good { IsStored self.old → IsStored self.new }
+        ensures good { IsStoredReceiver self.old → IsStoredReceiver self.new }
     {
         self.age_lasts();
         let Some(message) = heard_blocks(self.display.pi, group) else {
@@ -85,12 +85,12 @@ impl StoredReceiver {
     /// Ages the last segments and the last pair by one slot, after the display.
     fn age_lasts(&mut self)
         ensures display { self.new.display ≡ self.old.display }
-        ensures lasts { IsStored self.old → (w m first : ℕ) (heard : List (Option Message))
+        ensures lasts { IsStoredReceiver self.old → (w m first : ℕ) (heard : List (Option Message))
             → HoldsAt m (first + length heard) first (display_stored self.old.display)
             (counted_in (Some w) m first heard)
             → HoldsLastsIn (Some w) m (newest_slot first heard) first (receiver_stored self.old) heard
             → HoldsLastsIn (Some w) m (first + length heard) first (receiver_stored self.new) heard }
-        ensures good { IsStored self.old → IsStored self.new }
+        ensures good { IsStoredReceiver self.old → IsStoredReceiver self.new }
     {
         self.segments.grow_older();
         self.pair_left = self.while_text_is_held(self.pair_left.saturating_sub(1));
@@ -99,9 +99,9 @@ impl StoredReceiver {
     /// Returns whether the message is confirmed, and keeps it as the last one heard.
     fn confirm(&mut self, message: Message) -> bool
         ensures display { self.new.display ≡ self.old.display }
-        ensures confirms { IsStored self.old
+        ensures confirms { IsStoredReceiver self.old
             → ConfirmsIf (receiver_stored self.old) (receiver_stored self.new) message result }
-        ensures good { IsStored self.old → IsStored self.new }
+        ensures good { IsStoredReceiver self.old → IsStoredReceiver self.new }
     {
         match message {
             Message::Text {
@@ -125,7 +125,7 @@ impl StoredReceiver {
         ensures display { self.new.display ≡ self.old.display }
         ensures confirms { ConfirmsIf (receiver_stored self.old) (receiver_stored self.new)
             (Message.Text flag address bytes) result }
-        ensures good { IsStored self.old → IsStored self.new }
+        ensures good { IsStoredReceiver self.old → IsStoredReceiver self.new }
     {
         let again = self.segments.take(address, flag, bytes, self.window);
         if again && !self.display.text.has_flag(flag) {
@@ -140,7 +140,7 @@ impl StoredReceiver {
         ensures display { self.new.display ≡ self.old.display }
         ensures confirms { ConfirmsIf (receiver_stored self.old) (receiver_stored self.new)
             (Message.Name flag address bytes) result }
-        ensures good { IsStored self.old → IsStored self.new }
+        ensures good { IsStoredReceiver self.old → IsStoredReceiver self.new }
     {
         self.segments
             .take(TEXT_CELLS + address, flag, bytes, self.window)
@@ -149,9 +149,9 @@ impl StoredReceiver {
     /// Does the same for a pair of tags. It confirms the same one only if segments of a text are held.
     fn confirm_tags(&mut self, pair: TagPair) -> bool
         ensures display { self.new.display ≡ self.old.display }
-        ensures confirms { IsStored self.old
+        ensures confirms { IsStoredReceiver self.old
             → ConfirmsIf (receiver_stored self.old) (receiver_stored self.new) (Message.Tags pair) result }
-        ensures good { IsStored self.old → IsStored self.new }
+        ensures good { IsStoredReceiver self.old → IsStoredReceiver self.new }
     {
         let again = self.pair_left > 0 && self.pair.pair() == Some(pair);
         self.pair = StoredPair::of(Some(pair));

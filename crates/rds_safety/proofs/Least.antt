@@ -29,7 +29,7 @@ use Rattle.rds_safety.specs.Laws.{ShowsAMix}
 use Rattle.rds_safety.specs.Marks.{IsMarkIn, Mark, Nothing, Sends, Tagged, marks, name_mark, text_mark}
 use Rattle.rds_safety.specs.OwnClock.{ListensByOwnClock, ListensBySlowClock}
 use Rattle.rds_safety.specs.Plans.{AreLawful}
-use Rattle.rds_safety.specs.Safe.{AreSafe, Listener, ListensTo, WasOnAir}
+use Rattle.rds_safety.specs.Safe.{AreSafeViews, Listener, ListensTo, RunWasOnAir}
 use Rattle.rds_safety.specs.Source.{text_run}
 use Rattle.rds_safety.proofs.Bytes.{get-put}
 use Rattle.rds_safety.proofs.OnTime.{input_of, nothing_heard, nothing_in_order, one_more, one_more_in_order}
@@ -326,9 +326,9 @@ of_none c k b p same = elim (which c k b p) [
   | inr q ↦ (let e : older_text ≡ mix = ap (λ (x : Broadcast). x.bytes) (sym q.1) ∙ same in omega (arith, fifth_byte 65 67 65 68 e))
 ]
 
-not_safe : (c d m t : ℕ) (sent : List (Option Message)) (r : Listener) → r.view.text ≡ Some mix → AreSafe d m t record { text = plan c; name = [] } sent (r ∷ []) → ⊥
+not_safe : (c d m t : ℕ) (sent : List (Option Message)) (r : Listener) → r.view.text ≡ Some mix → AreSafeViews d m t record { text = plan c; name = [] } sent (r ∷ []) → ⊥
 not_safe c d m t sent r shown safe =
-    let w = subst (λ (x : Option (List ℕ)). IfSome x (WasOnAir d t (plan c) r.input (text_run m r.input))) shown (safe.texts 0 r (omega arith)) in
+    let w = subst (λ (x : Option (List ℕ)). IfSome x (RunWasOnAir d t (plan c) r.input (text_run m r.input))) shown (safe.texts 0 r (omega arith)) in
     of_none c w.number w.broadcast w.source.planned w.bytes
 
 pub lawful : (j : ℕ) → AreLawful (j + 1) record { text = plan (j + 1); name = [] } (log j)

@@ -26,7 +26,7 @@ use Rattle.rds_safety.specs.Laws.{IsUnsafe, ShowsAMix}
 use Rattle.rds_safety.specs.Marks.{IsMarkIn, Mark, Nothing, Sends, Tagged, marks, name_mark, text_mark}
 use Rattle.rds_safety.specs.OwnClock.{ListensByOwnClock}
 use Rattle.rds_safety.specs.Plans.{AreLawful}
-use Rattle.rds_safety.specs.Safe.{Listener, WasOnAir}
+use Rattle.rds_safety.specs.Safe.{Listener, RunWasOnAir}
 use Rattle.rds_safety.specs.Source.{text_run}
 use Rattle.rds_safety.proofs.Bytes.{get-put}
 use Rattle.rds_safety.proofs.Entries.{marks_long}
@@ -270,7 +270,7 @@ once_unsafe b d m a j now some between since ahead out = record {
     shows = once_shows m some;
   };
   fails = λ safe.
-      let w : WasOnAir d now (once a ∷ []) (once_input a) (text_run m (once_input a)) three = safe.texts 0 (record { input = once_input a; view = once_view m }) (omega arith) in
+      let w : RunWasOnAir d now (once a ∷ []) (once_input a) (text_run m (once_input a)) three = safe.texts 0 (record { input = once_input a; view = once_view m }) (omega arith) in
       let is = (only_once a w.number w.broadcast w.source.planned).1 in
       let from : a ≤ w.slot = rw is at w.covers.from in
       let to : w.slot ≤ a = rw is at w.covers.to in

@@ -11,7 +11,7 @@ use Rattle.rds_safety.specs.Marks.{Sends, name_mark, text_mark}
 use Rattle.rds_safety.specs.Near.{ListensNear}
 use Rattle.rds_safety.specs.OwnClock.{ListensByOwnClock, ListensBySlowClock}
 use Rattle.rds_safety.specs.Plans.{AreLawful, Plans}
-use Rattle.rds_safety.specs.Safe.{AreNeighbours, AreSafe, Listener, ListensTo}
+use Rattle.rds_safety.specs.Safe.{AreNeighbours, AreSafeViews, Listener, ListensTo}
 use Rattle.rds_safety.specs.Source.{name_run, text_run}
 use Rattle.rds_safety.proofs.Bytes.{name_service, text_service}
 use Rattle.rds_safety.proofs.OneBroadcast.{PicksWhatIsMarked, RunLiesInOne, heard_run_lies}
@@ -54,7 +54,7 @@ module _ (laws : PlanLaws) (d m t : ℕ) (plans : Plans) (log : List (Option Mes
     names = near_sources laws d t names plans.name x.input (name_run m x.input) y.input (name_run m y.input) law.name.spaced (name_lies x h) (name_lies y i);
   }
 
-  pub are_safe : (receivers : List Listener) → All (ListensNear d m t log) receivers → AreSafe d m t plans log receivers
+  pub are_safe : (receivers : List Listener) → All (ListensNear d m t log) receivers → AreSafeViews d m t plans log receivers
   are_safe receivers all = record {
     texts = λ i o h.
         let r = slice_index_or receivers i o in
@@ -70,24 +70,24 @@ module _ (laws : PlanLaws) (d m t : ℕ) (plans : Plans) (log : List (Option Mes
 
 -- if fewer than m slots of each receiver's clock are fewer than d of the station
 pub are_safe_by_own_clocks : PlanLaws → (d m t : ℕ) (plans : Plans) (log : List (Option Message)) (receivers : List Listener)
-    → AreLawful d plans log → All (ListensByOwnClock d m t log) receivers → AreSafe d m t plans log receivers
+    → AreLawful d plans log → All (ListensByOwnClock d m t log) receivers → AreSafeViews d m t plans log receivers
 are_safe_by_own_clocks laws d m t plans log receivers law all =
     are_safe laws d m t plans log law receivers (λ i o h. own_listens d m t log (slice_index_or receivers i o) (all i o h))
 
 -- if all receivers show only what they heard twice, plans that are lawful for the lateness of two receipts are enough
 pub are_safe_confirmed : PlanLaws → (w k m t : ℕ) (plans : Plans) (log : List (Option Message)) (receivers : List Listener)
-    → AreLawful (m + lateness_of_two w k) plans log → All (ListensConfirmed w k m t log) receivers → AreSafe (m + lateness_of_two w k) m t plans log receivers
+    → AreLawful (m + lateness_of_two w k) plans log → All (ListensConfirmed w k m t log) receivers → AreSafeViews (m + lateness_of_two w k) m t plans log receivers
 are_safe_confirmed laws w k m t plans log receivers law all =
     are_safe laws (m + lateness_of_two w k) m t plans log law receivers (λ i o h. confirmed_listens w k m t log (slice_index_or receivers i o) (all i o h))
 
 -- if all clocks count at most k slots too few within m, plans that are lawful for m + k are enough
 pub are_safe_by_slow_clocks : PlanLaws → (m k t : ℕ) (plans : Plans) (log : List (Option Message)) (receivers : List Listener)
-    → AreLawful (m + k) plans log → All (ListensBySlowClock k m t log) receivers → AreSafe (m + k) m t plans log receivers
+    → AreLawful (m + k) plans log → All (ListensBySlowClock k m t log) receivers → AreSafeViews (m + k) m t plans log receivers
 are_safe_by_slow_clocks laws m k t plans log receivers law all =
     are_safe_by_own_clocks laws (m + k) m t plans log receivers law (λ i o h. slow_listens k m t log (slice_index_or receivers i o) (all i o h))
 
 -- the same if all inputs are at most k slots late
 pub are_safe_late : PlanLaws → (m k t : ℕ) (plans : Plans) (log : List (Option Message)) (receivers : List Listener)
-    → AreLawful (m + k) plans log → All (ListensTo k m t log) receivers → AreSafe (m + k) m t plans log receivers
+    → AreLawful (m + k) plans log → All (ListensTo k m t log) receivers → AreSafeViews (m + k) m t plans log receivers
 are_safe_late laws m k t plans log receivers law all =
     are_safe_by_slow_clocks laws m k t plans log receivers law (λ i o h. late_listens k m t log (slice_index_or receivers i o) (all i o h))

@@ -11,7 +11,7 @@ use Rattle.rds_receiver.specs.Shown.{IsShown}
 use Rattle.rds_safety.specs.Late.{Input}
 use Rattle.rds_safety.specs.Lawful.{Kind}
 use Rattle.rds_safety.specs.Laws.{PlanLaws}
-use Rattle.rds_safety.specs.Safe.{HaveNearSources, WasOnAir}
+use Rattle.rds_safety.specs.Safe.{HaveNearSources, RunWasOnAir}
 use Rattle.rds_safety.specs.Source.{IsSource, LastWasSentIn}
 use Rattle.rds_safety.proofs.Bytes.{HasValues, IsService, bytes_of_run}
 use Rattle.rds_safety.proofs.Entries.{one_origin}
@@ -25,7 +25,7 @@ source_of d t kind plan input g older l =
 
 was_on_air : (d t : ℕ) (kind : Kind) (IsWhole : Cells → List ℕ → Type 0) (plan : List Broadcast) (input : Input) (the_run : List Segment) (x : List ℕ)
     → IsService kind IsWhole → HasValues kind plan → RunLiesInOne d t kind plan input the_run → IsWhole (cells_of the_run) x
-    → WasOnAir d t plan input the_run x
+    → RunWasOnAir d t plan input the_run x
 was_on_air d t kind IsWhole plan input [] x service values l whole = absurd (service.none x whole)
 was_on_air d t kind IsWhole plan input (g ∷ older) x service values l whole =
     let last = l.all.0 in
@@ -43,7 +43,7 @@ was_on_air d t kind IsWhole plan input (g ∷ older) x service values l whole =
 -- what is shown was on air
 pub shown_on_air : (d t : ℕ) (kind : Kind) (IsWhole : Cells → List ℕ → Type 0) (plan : List Broadcast) (input : Input) (the_run : List Segment) (shown : Option (List ℕ))
     → IsService kind IsWhole → HasValues kind plan → RunLiesInOne d t kind plan input the_run → IsShown IsWhole (cells_of the_run) shown
-    → IfSome shown (WasOnAir d t plan input the_run)
+    → IfSome shown (RunWasOnAir d t plan input the_run)
 shown_on_air d t kind IsWhole plan input the_run None service values l is = tt
 shown_on_air d t kind IsWhole plan input the_run (Some x) service values l is = was_on_air d t kind IsWhole plan input the_run x service values l is
 

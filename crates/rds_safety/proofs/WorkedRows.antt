@@ -8,7 +8,7 @@ use Rattle.rds_encoder.specs.Sent.{sent_log}
 use Rattle.rds_receiver.specs.Receipts.{Segment, text_fragment}
 use Rattle.rds_safety.specs.FlagAlone.{IsNews, run_by_flag}
 use Rattle.rds_safety.specs.Late.{CameFrom, HasEntry, Input, IsHeardLate, IsHeardOnTime}
-use Rattle.rds_safety.specs.Safe.{NamesPiece, WasOnAir}
+use Rattle.rds_safety.specs.Safe.{NamesPiece, RunWasOnAir}
 use Rattle.rds_safety.specs.Source.{IsSource, text_run}
 use Rattle.rds_safety.proofs.Entries.{before_end}
 use Rattle.rds_safety.proofs.OnTime.{nothing_heard, one_more}
@@ -87,7 +87,7 @@ source_in_20 : IsSource (songs 20) heard_in_20 (text_run 4 heard_in_20) 2 (third
 source_in_20 = record { planned = inl (refl, refl); slot = 20; sent = inl (refl, refl); covers = record { from = omega arith; to = omega arith } }
 
 -- of the texts that it could show then, the third song was on air
-third_was_on_air : WasOnAir 4 20 (songs 20) heard_in_20 (text_run 4 heard_in_20) third_song
+third_was_on_air : RunWasOnAir 4 20 (songs 20) heard_in_20 (text_run 4 heard_in_20) third_song
 third_was_on_air = record {
   number = 2;
   broadcast = third_broadcast 20;
@@ -103,7 +103,7 @@ third_was_on_air = record {
 abbrev mixed_song : List ℕ
 mixed_song = 0x54 ∷ 0x48 ∷ 0x49 ∷ 0x52 ∷ 0x54 ∷ 0x20 ∷ 0x53 ∷ 0x4F ∷ 0x4E ∷ 0x47 ∷ []
 
-mix_was_not : WasOnAir 4 20 (songs 20) heard_in_20 (text_run 4 heard_in_20) mixed_song → ⊥
+mix_was_not : RunWasOnAir 4 20 (songs 20) heard_in_20 (text_run 4 heard_in_20) mixed_song → ⊥
 mix_was_not w = by w.source.slot w.source.sent w.broadcast w.source.planned w.source.covers w.bytes
   where
     by : (slot : ℕ) → CameFrom heard_in_20 20 slot → (b : Broadcast) → HasNumber (songs 20) w.number b → Covers b slot → b.bytes ≡ mixed_song → ⊥

@@ -9,7 +9,7 @@ use Rattle.rds_safety.specs.Late.{CameFrom, HasEntry, Input}
 use Rattle.rds_safety.specs.Laws.{ShowsAMix}
 use Rattle.rds_safety.specs.Near.{ListensNear}
 use Rattle.rds_safety.specs.Plans.{AreLawful, Plans}
-use Rattle.rds_safety.specs.Safe.{AreSafe, Listener}
+use Rattle.rds_safety.specs.Safe.{AreSafeViews, Listener}
 use Rattle.rds_safety.specs.Confirmed.{ListensConfirmed, ListensOnce}
 use Rattle.rds_safety.specs.Confirmed.{lateness_of_two}
 
@@ -25,7 +25,7 @@ abbrev pub LawfulPlansAreSafeConfirmed : Type 0
 LawfulPlansAreSafeConfirmed =
     (w k m t : ℕ) (plans : Plans) (log : List (Option Message)) (receivers : List Listener)
     → AreLawful (m + lateness_of_two w k) plans log → All (ListensConfirmed w k m t log) receivers
-    → AreSafe (m + lateness_of_two w k) m t plans log receivers
+    → AreSafeViews (m + lateness_of_two w k) m t plans log receivers
 
 -- plans that are lawful for one slot less are not enough
 abbrev pub OneSlotLessMixesConfirmed : Type 0

@@ -12,7 +12,7 @@ use Rattle.rds_safety.specs.Near.{ListensNear}
 use Rattle.rds_safety.specs.OwnClock.{IsHeardByOwnClock, IsTrueClock, ListensByOwnClock}
 use Rattle.rds_safety.specs.OwnClock.{ListensBySlowClock, LosesAtMost, next_slot}
 use Rattle.rds_safety.specs.Plans.{AreLawful, Plans}
-use Rattle.rds_safety.specs.Safe.{AreSafe, Listener, ListensTo}
+use Rattle.rds_safety.specs.Safe.{AreSafeViews, Listener, ListensTo}
 use Rattle.rds_safety.specs.Source.{IsSource}
 
 -- the laws about the broadcasts of all plans: a number names one broadcast and is below their count; spaced broadcasts
@@ -29,27 +29,27 @@ pub record PlanLaws : Type 0 where
 abbrev pub LawfulPlansAreSafeNear : Type 0
 LawfulPlansAreSafeNear =
     (d m now : ℕ) (plans : Plans) (log : List (Option Message)) (receivers : List Listener)
-    → AreLawful d plans log → All (ListensNear d m now log) receivers → AreSafe d m now plans log receivers
+    → AreLawful d plans log → All (ListensNear d m now log) receivers → AreSafeViews d m now plans log receivers
 
 -- if fewer than m slots of each receiver's own clock are fewer than d of the station, plans that are lawful for d make
 -- each slot safe for any number of receivers of dwell m
 abbrev pub LawfulPlansAreSafeByOwnClocks : Type 0
 LawfulPlansAreSafeByOwnClocks =
     (d m now : ℕ) (plans : Plans) (log : List (Option Message)) (receivers : List Listener)
-    → AreLawful d plans log → All (ListensByOwnClock d m now log) receivers → AreSafe d m now plans log receivers
+    → AreLawful d plans log → All (ListensByOwnClock d m now log) receivers → AreSafeViews d m now plans log receivers
 
 -- if each clock counts at most k slots too few within m, plans that are lawful for m + k make each slot safe
 abbrev pub LawfulPlansAreSafeForSlowClocks : Type 0
 LawfulPlansAreSafeForSlowClocks =
     (m k now : ℕ) (plans : Plans) (log : List (Option Message)) (receivers : List Listener)
     → AreLawful (m + k) plans log → All (ListensBySlowClock k m now log) receivers
-    → AreSafe (m + k) m now plans log receivers
+    → AreSafeViews (m + k) m now plans log receivers
 
 -- if no group comes more than k slots late, plans that are lawful for m + k make each slot safe
 abbrev pub LawfulPlansAreSafe : Type 0
 LawfulPlansAreSafe =
     (m k t : ℕ) (plans : Plans) (log : List (Option Message)) (receivers : List Listener)
-    → AreLawful (m + k) plans log → All (ListensTo k m t log) receivers → AreSafe (m + k) m t plans log receivers
+    → AreLawful (m + k) plans log → All (ListensTo k m t log) receivers → AreSafeViews (m + k) m t plans log receivers
 
 -- a run has at most one source
 abbrev pub ARunHasOneSource : Type 0
@@ -101,7 +101,7 @@ pub record ShowsAMix (slots m : ℕ) (Listens : ℕ → List (Option Message) �
   pub mix : List ℕ
   pub shown : receiver.view.text ≡ Some mix
   pub of_none : (k : ℕ) (b : Broadcast) → HasNumber plans.text k b → b.bytes ≡ mix → ⊥
-  pub fails : (d : ℕ) → AreSafe d m t plans log (receiver ∷ []) → ⊥
+  pub fails : (d : ℕ) → AreSafeViews d m t plans log (receiver ∷ []) → ⊥
 
 -- there are plans that are lawful for d slots, and a receiver of dwell m that listens in this way and whose view is not
 -- safe for d
@@ -112,7 +112,7 @@ pub record IsUnsafe (d m : ℕ) (Listens : ℕ → List (Option Message) → Lis
   pub t : ℕ
   pub receiver : Listener
   pub listens : Listens t log receiver
-  pub fails : AreSafe d m t plans log (receiver ∷ []) → ⊥
+  pub fails : AreSafeViews d m t plans log (receiver ∷ []) → ⊥
 
 -- plans that are lawful for m + k - 1 slots are not enough
 abbrev pub OneSlotLessMixes : Type 0

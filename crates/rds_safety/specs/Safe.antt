@@ -25,7 +25,7 @@ pub record ListensTo (k m t : ℕ) (log : List (Option Message)) (r : Listener) 
   pub shows : ShowsView m r.input.first r.input.heard r.view
 
 -- the run has a source; the bytes of this broadcast are the value, and it covers one of the d slots up to slot t
-pub record WasOnAir (d t : ℕ) (plan : List Broadcast) (input : Input) (the_run : List Segment)
+pub record RunWasOnAir (d t : ℕ) (plan : List Broadcast) (input : Input) (the_run : List Segment)
     (value : List ℕ) : Type 0 where
   pub number : ℕ
   pub broadcast : Broadcast
@@ -38,11 +38,11 @@ pub record WasOnAir (d t : ℕ) (plan : List Broadcast) (input : Input) (the_run
 
 -- the text shown, if any, was on air
 abbrev pub ShowsTextOnAir : ℕ → ℕ → ℕ → Plans → Listener → Type 0
-ShowsTextOnAir d m t plans r = IfSome r.view.text (WasOnAir d t plans.text r.input (text_run m r.input))
+ShowsTextOnAir d m t plans r = IfSome r.view.text (RunWasOnAir d t plans.text r.input (text_run m r.input))
 
 -- the name shown, if any, was on air
 abbrev pub ShowsNameOnAir : ℕ → ℕ → ℕ → Plans → Listener → Type 0
-ShowsNameOnAir d m t plans r = IfSome r.view.name (WasOnAir d t plans.name r.input (name_run m r.input))
+ShowsNameOnAir d m t plans r = IfSome r.view.name (RunWasOnAir d t plans.name r.input (name_run m r.input))
 
 -- the shown tag has the class of the tag and its piece of the text
 pub record NamesPiece (tag : TagFields) (text : List ℕ) (shown : ℕ × List ℕ) : Type 0 where
@@ -89,7 +89,7 @@ pub record AreNeighbours (m : ℕ) (plans : Plans) (x y : Listener) : Type 0 whe
   pub names : HaveNearSources plans.name x.input (name_run m x.input) y.input (name_run m y.input)
 
 -- the views of these receivers of dwell m at the end of slot t are safe
-pub record AreSafe (d m t : ℕ) (plans : Plans) (log : List (Option Message)) (receivers : List Listener) : Type 0 where
+pub record AreSafeViews (d m t : ℕ) (plans : Plans) (log : List (Option Message)) (receivers : List Listener) : Type 0 where
   pub texts : All (ShowsTextOnAir d m t plans) receivers
   pub names : All (ShowsNameOnAir d m t plans) receivers
   pub tags : All (ShowsTagsOfItsText d m plans log) receivers

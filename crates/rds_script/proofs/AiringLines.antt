@@ -6,7 +6,7 @@ use Rattle.rds_world.specs.Event.{Event}
 use Rattle.rds_world.specs.OnAir.{air_of}
 use Rattle.rds_world.specs.declared.world.Config.{Config}
 use Rattle.rds_world.specs.Slots.{input_of}
-use Rattle.rds_world.specs.StandsAt.{ShowsStill}
+use Rattle.rds_world.specs.WorldAt.{ShowsStill}
 use Rattle.rds_world.specs.State.{distance}
 use Rattle.rds_script.specs.Inside.Compared.{WereBefore, WereKept, airings_at}
 use Rattle.rds_script.specs.Inside.Watched.{AreKept}

@@ -2,15 +2,15 @@
 use Rattle.std.proofs.Common.{◌≡◌, ◌∙◌, ap}
 use Rattle.rds_receiver.specs.NotShown.{AreWhys, whys_of}
 use Rattle.rds_receiver.specs.OneView.{same_heard}
-use Rattle.rds_receiver.specs.StandsAt.{WhereItStands}
+use Rattle.rds_receiver.specs.ReceiverAt.{WhereReceiverStands}
 use Rattle.rds_receiver.specs.declared.why.Whys.{Whys}
 use Rattle.rds_safety.specs.Late.{Input}
-use Rattle.rds_world.specs.StandsAt.{HasHeard, tuned_to}
+use Rattle.rds_world.specs.WorldAt.{HasHeard, tuned_to}
 use Rattle.rds_receiver.specs.State.{ReceiverState}
 use Rattle.rds_world.specs.declared.world.Config.{Config}
 
 -- the reasons of a receiver are those of its input
-pub whys_heard : (config : Config) (input : Input) (r : ReceiverState) (whys : Whys) → HasHeard config input r → WhereItStands r (λ t groups. AreWhys t groups whys)
+pub whys_heard : (config : Config) (input : Input) (r : ReceiverState) (whys : Whys) → HasHeard config input r → WhereReceiverStands r (λ t groups. AreWhys t groups whys)
     → whys ≡ whys_of (tuned_to config input) input.heard
 whys_heard config input r whys has are =
     let (heard, same, is) = are (tuned_to config input) has.groups has.stands in

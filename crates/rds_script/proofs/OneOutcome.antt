@@ -16,7 +16,7 @@ use Rattle.rds_receiver.specs.Shown.{ShownView, ShowsView}
 use Rattle.rds_world.specs.Event.{Event}
 use Rattle.rds_safety.specs.Late.{Input}
 use Rattle.rds_world.specs.Slots.{commanded, entries, input_of, sent_at}
-use Rattle.rds_world.specs.StandsAt.{IsViewOfInput, tuned_to}
+use Rattle.rds_world.specs.WorldAt.{IsViewOfInput, tuned_to}
 use Rattle.rds_world.specs.State.{distance}
 use Rattle.rds_script.specs.Rows.{Record}
 use Rattle.rds_script.specs.declared.play.Playing.{Playing}

@@ -9,7 +9,7 @@ use Rattle.rds_script.proofs.Changes.{changes_same}
 use Rattle.rds_script.proofs.AiringLines.{compared_alike}
 use Rattle.rds_view_lines.specs.NoChange.{view_of_none}
 use Rattle.rds_world.specs.Slots.{entries, input_of}
-use Rattle.rds_world.specs.StandsAt.{IsViewOfInput, ShowsStill, tuned_to}
+use Rattle.rds_world.specs.WorldAt.{IsViewOfInput, ShowsStill, tuned_to}
 use Rattle.rds_script.specs.Outcomes.{AreOutcomes, IsOutcome, Outcome, answer_lines, compared_lines, lines_of, newest_views, receiver_changes, slot_lines, view_at, whys_at}
 use Rattle.rds_script.specs.Inside.Compared.{HasRoom}
 use Rattle.rds_script.specs.Inside.Player.{AppendsRow, HasWatched, IsBegun, Played, PlayerStandsAt}

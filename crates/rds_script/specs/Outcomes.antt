@@ -32,7 +32,7 @@ use Rattle.rds_world.specs.declared.reply.Reply.TheVariants as reply
 use Rattle.rds_world.specs.Event.{Event}
 use Rattle.rds_world.specs.Replies.{reply_at}
 use Rattle.rds_world.specs.Slots.{entries, input_of, sent_at}
-use Rattle.rds_world.specs.StandsAt.{IsViewOfInput, tuned_to}
+use Rattle.rds_world.specs.WorldAt.{IsViewOfInput, tuned_to}
 use Rattle.rds_io.specs.Digits.{word_digits}
 use Rattle.rds_view_lines.specs.Output.{air_stamp, change, line_of, nothing_shown}
 use Rattle.rds_view_lines.specs.Output.{receiver_stamp, slot_stamp, unless_same}

@@ -8,7 +8,7 @@ ghost use Rattle.rds_view_lines.specs.Output.{air_stamp, change};
 ghost use Rattle.rds_view_lines.specs.declared.change.TheConstants.{SLOT_ROOM};
 ghost use Rattle.rds_world.specs.Event.{Event};
 ghost use Rattle.rds_world.specs.OnAir.{air_of};
-ghost use Rattle.rds_world.specs.StandsAt.{WhereItStands};
+ghost use Rattle.rds_world.specs.WorldAt.{WhereWorldStands};
 ghost use Rattle.rds_world.specs.declared.world.Config.{Config};
 ghost use Rattle.rds_script.specs.OnAir.{airings, either, parts_among};
 ghost use Rattle.rds_script.specs.Inside.Compared.{AirsHaveRoom, AirsStand, WereBefore, airs_in, goes_on, newest_of};
@@ -85,9 +85,9 @@ impl Airs {
         requires room { AirsHaveRoom self.old }
         requires lines { length lines.old + SLOT_ROOM ≤ OUTPUT_ROOM }
         ensures spacing { self.new.spacing ≡ self.old.spacing }
-        ensures airs { WhereItStands world.now (λ config events.
+        ensures airs { WhereWorldStands world.now (λ config events.
             airs_in self.new.stretches.items ≡ air_of config events ∷ airs_in self.old.stretches.items) }
-        ensures lines { WhereItStands world.now (λ config events. lines.new ≡ lines.old ++ change (air_stamp slot) None
+        ensures lines { WhereWorldStands world.now (λ config events. lines.new ≡ lines.old ++ change (air_stamp slot) None
             (newest_of (airs_in self.old.stretches.items)) (air_of config events)) }
         ensures room { length lines.new ≤ length lines.old + SLOT_ROOM }
     {

@@ -5,7 +5,7 @@ ghost use Rattle.rds_view_lines.specs.KeptView.{view_kept};
 ghost use Rattle.rds_view_lines.specs.Output.{line_of, nothing_shown as none_shown, unless_same};
 ghost use Rattle.rds_view_lines.specs.Part.{stamp_of};
 ghost use Rattle.rds_view_lines.specs.declared.change.TheConstants.{SLOT_ROOM};
-ghost use Rattle.rds_world.specs.StandsAt.{WhereItStands};
+ghost use Rattle.rds_world.specs.WorldAt.{WhereWorldStands};
 ghost use Rattle.rds_world.specs.declared.event.TheConstants.{MOST_RECEIVERS};
 ghost use Rattle.rds_world.specs.Event.{Event};
 ghost use Rattle.rds_world.specs.declared.receiver_kind.ReceiverKind.TheVariants.{FlagAlone};
@@ -64,7 +64,7 @@ impl Compared {
         requires few { length shown.now ≤ MOST_RECEIVERS }
         requires memory { AirsHaveRoom self.old.airs }
         requires room { length lines.old + COMPARED_ROOM ≤ OUTPUT_ROOM }
-        ensures goes_on { WhereItStands world.now (λ config events. GoesOnCompared
+        ensures goes_on { WhereWorldStands world.now (λ config events. GoesOnCompared
             (record { config = config; slot = slot; shown = map view_kept shown.now }) events self.old self.new
             lines.old lines.new) }
     {
@@ -130,7 +130,7 @@ pub(crate) fn compare(
     requires few { length shown.now ≤ MOST_RECEIVERS }
     requires memory { HasRoom compared.old }
     requires room { length lines.old + COMPARED_ROOM ≤ OUTPUT_ROOM }
-    ensures { WhereItStands world.now (λ config events. Compares
+    ensures { WhereWorldStands world.now (λ config events. Compares
         (record { config = config; slot = slot; shown = map view_kept shown.now }) events compared.old compared.new
         lines.old lines.new) }
 {
@@ -165,7 +165,7 @@ fn push_airings(
     requires room { length lines.old + MOST_RECEIVERS * AIRINGS_ROOM ≤ OUTPUT_ROOM }
     ensures lines { length kept.old ≡ length shown.now → lines.new ≡ lines.old
         ++ airings_changes slot (length shown.now) (airings_at kept.old) (airings_at kept.new) }
-    ensures each { length kept.old ≡ length shown.now → WhereItStands world.now (λ config events.
+    ensures each { length kept.old ≡ length shown.now → WhereWorldStands world.now (λ config events.
         AirsStand config events airs.now
         → WereKept config (length shown.now) events kept.old (map view_kept shown.now)
         → (i : ℕ) → i < length shown.now

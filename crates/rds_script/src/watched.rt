@@ -8,7 +8,7 @@ ghost use Rattle.rds_world.specs.declared.world.Config.{Config};
 ghost use Rattle.rds_world.specs.State.{distance};
 ghost use Rattle.rds_world.specs.Slots.{entries, input_of};
 ghost use Rattle.rds_world.specs.Replies.{CanBeTaken, IsStepRefused, reply_at};
-ghost use Rattle.rds_world.specs.StandsAt.{HasHeard, IsViewOfInput, WhereItStands, tuned_to};
+ghost use Rattle.rds_world.specs.WorldAt.{HasHeard, IsViewOfInput, WhereWorldStands, tuned_to};
 ghost use Rattle.rds_world.specs.declared.receiver_kind.ReceiverKind.TheVariants.{FlagAlone};
 ghost use Rattle.rds_view_lines.specs.KeptView.{view_kept};
 ghost use Rattle.rds_script.specs.Inside.Compared.{HasRoom};
@@ -181,10 +181,10 @@ fn push_views(
     requires few { length shown.old ≤ MOST_RECEIVERS }
     requires room { length lines.old + MOST_RECEIVERS * SLOT_ROOM ≤ OUTPUT_ROOM }
     ensures lines { length shown.old ≡ length world.now.receivers
-        → WhereItStands world.now (λ config events. lines.new ≡ lines.old ++ receiver_changes slot (length shown.old)
+        → WhereWorldStands world.now (λ config events. lines.new ≡ lines.old ++ receiver_changes slot (length shown.old)
         (whys_at form config event.now.receptions events) (map view_kept shown.old) (map view_kept shown.new)) }
     ensures views { length shown.old ≡ length world.now.receivers
-        → WhereItStands world.now (λ config events.
+        → WhereWorldStands world.now (λ config events.
         WereShown config (length shown.old) events (map view_kept shown.old)
         → (i : ℕ) → i < length shown.old
         → IsViewOfInput config (input_of (distance config) i events) (view_at (map view_kept shown.new) i)) }

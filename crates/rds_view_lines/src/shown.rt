@@ -2,7 +2,7 @@
 ghost use Rattle.std.specs.Prelude.{◌≡◌, ◌≤◌, ◌+◌, ◌++◌, length};
 ghost use Rattle.rds_view_lines.specs.declared.change.TheConstants.{SLOT_ROOM};
 ghost use Rattle.rds_receiver.specs.Shown.{IsView};
-ghost use Rattle.rds_receiver.specs.StandsAt.{WhereItStands};
+ghost use Rattle.rds_receiver.specs.ReceiverAt.{WhereReceiverStands};
 ghost use Rattle.rds_view_lines.specs.KeptView.{view_kept};
 ghost use Rattle.rds_view_lines.specs.Output.{change};
 ghost use Rattle.rds_view_lines.specs.Part.{stamp_of};
@@ -26,7 +26,7 @@ pub fn show<const N: usize>(
     requires { length lines.old + SLOT_ROOM ≤ N }
     ensures changes { lines.new
         ≡ lines.old ++ change (stamp_of stamp) whys (view_kept shown.old) (view_kept shown.new) }
-    ensures shows { WhereItStands receiver.now (λ t input. IsView t input (view_kept shown.new)) }
+    ensures shows { WhereReceiverStands receiver.now (λ t input. IsView t input (view_kept shown.new)) }
     ensures room { length lines.new ≤ length lines.old + SLOT_ROOM }
 {
     let now = receiver.view();

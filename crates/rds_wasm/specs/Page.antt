@@ -16,8 +16,8 @@ writing printed failures =
 
 -- the output of the program over these arguments and this input, and its status: as `run` promises for a reader that
 -- never fails
-abbrev pub Prints : List (List ℕ) → List ℕ → Traffic → ℕ → Type 0
-Prints words input w status =
+abbrev pub PagePrints : List (List ℕ) → List ℕ → Traffic → ℕ → Type 0
+PagePrints words input w status =
     RunsWords words (RunsFrom record { bytes = Some input; failures = 0; ReadFailed = ⊥ } w status) (Unit {0}) w status
 
 -- arguments that are not UTF-8 are refused, and nothing is printed
@@ -41,7 +41,7 @@ pub record Ending : Type 0 where
 pub record RunsInPage (words input output notes : List ℕ) (ended : Ending) : Type 0 where
   pub printed : List ℕ
   pub begun : Begun printed output ended.length
-  pub prints : IsUtf8 words → Prints (words_in words) input (writing printed ended.failures) ended.status
+  pub prints : IsUtf8 words → PagePrints (words_in words) input (writing printed ended.failures) ended.status
   pub no_text : (IsUtf8 words → ⊥) → Refuses (writing printed ended.failures) ended.status
   pub lines : List ℕ
   pub notes_begun : Begun lines notes ended.noted

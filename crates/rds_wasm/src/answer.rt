@@ -2,7 +2,7 @@
 ghost use Rattle.std.specs.Prelude.{◌≡◌, IfOk, map};
 ghost use Rattle.std.specs.Str.{IsUtf8};
 ghost use Rattle.rds_io.specs.Told.{PutsNothing, traffic};
-ghost use Rattle.rds_wasm.specs.Page.{Prints, Refuses, words_in};
+ghost use Rattle.rds_wasm.specs.Page.{PagePrints, Refuses, words_in};
 
 use crate::slice_reader::SliceReader;
 use rds_io::{TellingWrite, Told};
@@ -17,7 +17,7 @@ pub fn answer<W: TellingWrite, N: TellingWrite>(
     writer: &mut W,
     screen: &mut N,
 ) -> u8
-    ensures text { IsUtf8 words.now → Prints (words_in words.now) input.now
+    ensures text { IsUtf8 words.now → PagePrints (words_in words.now) input.now
         (traffic W.contents W.failures writer.old writer.new) result }
     ensures no_text { (IsUtf8 words.now → ⊥)
         → Refuses (traffic W.contents W.failures writer.old writer.new) result }

@@ -4,11 +4,11 @@ use Rattle.std.proofs.Common.{length, length-append, refl, replicate}
 use Rattle.std.proofs.lemmas.List.{drop-append-le, length-replicate}
 use Rattle.rds_fields.specs.declared.message.Message.{Message}
 use Rattle.rds_audit.specs.Recording.{from_first_text, preceded}
-use Rattle.rds_wire.specs.Received.{first_of}
+use Rattle.rds_wire.specs.Received.{first_entries}
 
 -- the first slots of a log with slots in front
 pub preceded_first : (d n : ℕ) (log : List (Option Message))
-    → first_of (n + d) (preceded d log) ≡ preceded d (first_of n log)
+    → first_entries (n + d) (preceded d log) ≡ preceded d (first_entries n log)
 preceded_first d n log =
     let none : Option Message = None in
     let long : length (preceded d log) - (n + d) ≡ length log - n =
@@ -27,6 +27,6 @@ settled_drop (suc j) (x ∷ before) = settled_drop j before
 
 -- the first slots without the tags before the first text segment
 pub settled_first : (n : ℕ) (log : List (Option Message))
-    → first_of n (from_first_text log) ≡ from_first_text (first_of n log)
+    → first_entries n (from_first_text log) ≡ from_first_text (first_entries n log)
 settled_first n log =
     ap (λ (l : ℕ). drop (l - n) (from_first_text log)) (settled_long log) ∙ settled_drop (length log - n) log

@@ -11,7 +11,7 @@ use Rattle.rds_log.specs.OneLog.{same_log}
 use Rattle.rds_safety.specs.Late.{HasEntry, IsOfItsOrigin}
 use Rattle.rds_safety.specs.OwnClock.{IsHeardByOwnClock}
 use Rattle.rds_wire.specs.FromTimes.{WhatSlotsWritesIsReceived}
-use Rattle.rds_wire.specs.Received.{first_of, own_group}
+use Rattle.rds_wire.specs.Received.{first_entries, own_group}
 use Rattle.rds_wire.proofs.Firsts.{entry_below, first_all}
 
 -- ---- without the groups of other programmes
@@ -153,7 +153,7 @@ filled_is_received logs clocks a f spread log sent newest before lines s got wid
     let long : 0 < length got =
     subst (λ (l : List (Option Group)). 0 < length l) (sym same)
     (some_slots s.told (filled f.grain f.dwell (arrivals (newest ∷ before))) (omega arith)) in
-    let whole : first_of (length got - 1 + 1) got ≡ slots =
+    let whole : first_entries (length got - 1 + 1) got ≡ slots =
     first_all (length got - 1 + 1) got (omega (arith, long)) ∙ same in
     record {
       sent = sent;

@@ -3,7 +3,7 @@ use Rattle.std.proofs.Common.{◌≡◌, ◌⊎◌, ◌+◌, ◌==◌, ◌∷◌
 use Rattle.std.proofs.Common.{None, Some, ap, arith, inl, inr, length, map, refl, subst, sym}
 use Rattle.rds_block.specs.declared.group.Group.{Group}
 use Rattle.rds_safety.specs.Late.{HasEntry, IsHeardLate, IsOfItsOrigin, own_origins}
-use Rattle.rds_wire.specs.Received.{WhoLosesSlotsReceives, first_of, own_group}
+use Rattle.rds_wire.specs.Received.{WhoLosesSlotsReceives, first_entries, own_group}
 use Rattle.rds_wire.proofs.Firsts.{entry_below, entry_in_first}
 use Rattle.rds_wire.proofs.Receiving.{entry_left}
 
@@ -93,14 +93,14 @@ lost_is_received a log got t loses reached = record {
   log_has = loses.log_has;
   reached = reached;
   few = loses.few;
-  origins = own_origins 0 (map (own_group a.pi) (first_of (t + 1) got));
-  came = inl (on_time_is_late a.late loses.sent (map (own_group a.pi) (first_of (t + 1) got)) each, refl);
+  origins = own_origins 0 (map (own_group a.pi) (first_entries (t + 1) got));
+  came = inl (on_time_is_late a.late loses.sent (map (own_group a.pi) (first_entries (t + 1) got)) each, refl);
 }
   where
-    each : (u : ℕ) (entry : Option Group) → HasEntry 0 (map (own_group a.pi) (first_of (t + 1) got)) u entry
+    each : (u : ℕ) (entry : Option Group) → HasEntry 0 (map (own_group a.pi) (first_entries (t + 1) got)) u entry
         → (entry ≡ None) ⊎ HasEntry 0 loses.sent u entry
     each u entry at =
-        let x = entry_of_map (own_group a.pi) (first_of (t + 1) got) u entry at in
+        let x = entry_of_map (own_group a.pi) (first_entries (t + 1) got) u entry at in
         let kept = entry_left (λ (group slot : Option Group). (slot ≡ None) ⊎ (slot ≡ group)) loses.sent got u x.0
         loses.lost (entry_in_first (t + 1) got u x.0 x.1).0 in
         by x.0 kept.0 x.2 (own_or_none a.pi x.0) kept.2 kept.1

@@ -19,7 +19,7 @@ use Rattle.rds_wire.proofs.Reading.{text_stays}
 use Rattle.rds_wire.proofs.Views.{displays_long}
 use Rattle.rds_witness.specs.Lines.{content_of, part_of}
 use Rattle.rds_witness.specs.Lost.{got}
-use Rattle.rds_witness.specs.Mix.{Has, IsNew, Name, Shows, Tag, Text, Thing}
+use Rattle.rds_witness.specs.Mix.{Has, IsNew, Name, ViewHas, Tag, Text, Thing}
 use Rattle.rds_witness.specs.declared.burst.Burst.{Burst}
 
 -- the part of a view that has the thing has its content
@@ -31,11 +31,11 @@ content_is (Tag One class piece) whys view has = ap tag_content has
 content_is (Tag Two class piece) whys view has = ap tag_content has
 
 -- it is not the part of a view that does not show the thing
-is_new : (thing : Thing) (before now : ShownView) → (Shows before thing → ⊥) → Has now thing
+is_new : (thing : Thing) (before now : ShownView) → (ViewHas before thing → ⊥) → Has now thing
     → is_same_part (part_of thing) before now ≡ false
 is_new thing before now isnt has = by (is_same_part (part_of thing) before now) refl
   where
-    was : (thing : Thing) → Has now thing → is_same_part (part_of thing) before now ≡ true → Shows before thing
+    was : (thing : Thing) → Has now thing → is_same_part (part_of thing) before now ≡ true → ViewHas before thing
     was (Text x) has e = text_stays before.text now.text e ∙ has
     was (Name x) has e = text_stays before.name now.name e ∙ has
     was (Tag One class piece) has e = inl (tag_stays before.one now.one e ∙ has)
@@ -83,8 +83,8 @@ has_line why t log lost slot thing (suc n) (d ∷ older) new less are =
           same_view t (got lost log n) (newest older) new.before
           (newest_view why t (got lost log n) older are.1) was in
           let now : d.view ≡ new.after = same_view t (got lost log (suc n)) d.view new.after are.0.view is_next in
-          let isnt : Shows (newest older) thing → ⊥ =
-          subst (λ (v : ShownView). Shows v thing → ⊥) (sym old) new.not_shown in
+          let isnt : ViewHas (newest older) thing → ⊥ =
+          subst (λ (v : ShownView). ViewHas v thing → ⊥) (sym old) new.not_shown in
           let has : Has d.view thing = subst (λ (v : ShownView). Has v thing) (sym now) new.has in
           let place : length older ≡ slot = count ∙ sym here in
           subst (λ (k : ℕ). In (line_in k (part_of thing) (content_of thing)) (lines_of (d ∷ older))) place

@@ -12,7 +12,7 @@ use Rattle.rds_receiver.specs.Receipts.{AreHeard, Hears}
 use Rattle.rds_safety.specs.Late.{HasEntry, IsHeardInOrder, IsOfItsOrigin}
 use Rattle.rds_safety.specs.Laws.{ASlowClockIsAnOwnClock, LateIsBySlowClock}
 use Rattle.rds_safety.specs.OwnClock.{IsHeardByOwnClock}
-use Rattle.rds_wire.specs.Received.{Came, first_of, own_group}
+use Rattle.rds_wire.specs.Received.{Came, first_entries, own_group}
 use Rattle.rds_wire.proofs.Firsts.{entry_below, entry_of_first}
 
 -- ---- two lists side by side
@@ -82,7 +82,7 @@ module _ (pi now : ℕ) (sent got : List (Option Group)) (messages heard : List 
   -- what was heard in order as groups was so as messages, and from the log up to slot `now`
   in_order : IsHeardInOrder sent record { first = 0; heard = got; origins = origins }
       → ((t s : ℕ) → HasEntry 0 origins t (Some s) → s ≤ now)
-      → IsHeardInOrder (first_of (now + 1) messages) record { first = 0; heard = heard; origins = origins }
+      → IsHeardInOrder (first_entries (now + 1) messages) record { first = 0; heard = heard; origins = origins }
   in_order order past = record {
     beside = order.beside ∙ zip_long (Hears pi) got heard hear;
     each = each;
@@ -90,7 +90,7 @@ module _ (pi now : ℕ) (sent got : List (Option Group)) (messages heard : List 
   }
     where
       each : (t : ℕ) (origin : Option ℕ) (entry : Option Message) → HasEntry 0 origins t origin
-          → HasEntry 0 heard t entry → IsOfItsOrigin (first_of (now + 1) messages) origin entry
+          → HasEntry 0 heard t entry → IsOfItsOrigin (first_entries (now + 1) messages) origin entry
       each t None entry p q =
           let x = entry_left (Hears pi) got heard t entry hear q in
           subst (λ (o : Option Group). Hears pi o entry) (order.each t None x.0 p x.1) x.2
@@ -105,7 +105,7 @@ module _ (pi now : ℕ) (sent got : List (Option Group)) (messages heard : List 
   -- what came is heard by a clock of the receiver's own
   pub by_own_clock : ClockLaws → (a : Auditing) (t : ℕ) → length got ≡ t + 1
       → Came a t now sent record { first = 0; heard = got; origins = origins }
-      → IsHeardByOwnClock (spacing a) a.dwell now (first_of (now + 1) messages)
+      → IsHeardByOwnClock (spacing a) a.dwell now (first_entries (now + 1) messages)
       record { first = 0; heard = heard; origins = origins }
   by_own_clock laws a t reached (inl (late, same)) =
       let long = zip_long (Hears pi) got heard hear in
@@ -113,10 +113,10 @@ module _ (pi now : ℕ) (sent got : List (Option Group)) (messages heard : List 
       let past : (u s : ℕ) → HasEntry 0 origins u (Some s) → s ≤ now =
       λ u s p. omega (arith, late.past u s p, entry_below 0 origins u (Some s) p, beside, reached, same) in
       let order = in_order late.order past in
-      let slow = laws.late a.late a.dwell now (first_of (now + 1) messages)
+      let slow = laws.late a.late a.dwell now (first_entries (now + 1) messages)
       (record { first = 0; heard = heard; origins = origins })
       (record { order = order; past = late.past; late = late.late }) (omega (arith, long, reached, same)) in
-      laws.slow a.late a.dwell now (first_of (now + 1) messages)
+      laws.slow a.late a.dwell now (first_entries (now + 1) messages)
       (record { first = 0; heard = heard; origins = origins }) slow.0 slow.1
   by_own_clock laws a t reached (inr own) =
       let long = zip_long (Hears pi) got heard hear in

@@ -18,18 +18,18 @@ use Rattle.rds_safety.specs.Laws.{ARunHasOneSource}
 use Rattle.rds_safety.specs.Marks.{IsMarkIn, Mark, Tagged, marks, text_mark}
 use Rattle.rds_safety.specs.Safe.{AreNeighbours, HaveNearSources, Listener, NamesPiece, ShowsNameOnAir, ShowsNoTags}
 use Rattle.rds_safety.specs.Safe.{ShowsTagsOf, ShowsTagsOfItsText, ShowsTextOnAir}
-use Rattle.rds_safety.specs.Safe as safe
+use Rattle.rds_safety.specs.Safe.{AreSafeViews, RunWasOnAir}
 use Rattle.rds_view_lines.specs.Output.{item_content, none_content, quoted, tag_content, text_content, why_name}
 use Rattle.rds_view_lines.specs.Output.{why_text}
 use Rattle.rds_view_lines.specs.ViewParts.{IsNothing, Item, Name, Part, Tag1, Tag2, Text, part_content}
-use Rattle.rds_wire.specs.Safe.{AreSafe, IsOfPair, OnAir, WentWith, WereOnAir}
+use Rattle.rds_wire.specs.Safe.{AreSafe, IsOfPair, StationPlans, WentWith, WereOnAir}
 
 -- ---- texts and names
 
 -- texts or names that two receivers show were on air
 pub were : (d t : ℕ) (plan : List Broadcast) (i j : Input) (r q : List Segment) (o w : Option (List ℕ))
     (x y : List ℕ) (v u : Option WhyNone) → x ≡ text_content v o → y ≡ text_content u w
-    → IfSome o (safe.WasOnAir d t plan i r) → IfSome w (safe.WasOnAir d t plan j q) → HaveNearSources plan i r j q
+    → IfSome o (RunWasOnAir d t plan i r) → IfSome w (RunWasOnAir d t plan j q) → HaveNearSources plan i r j q
     → IsNothing x ⊎ IsNothing y ⊎ WereOnAir d t plan x y
 were d t plan i j r q None w x y v u ex ey one other near = inl (v, ex)
 were d t plan i j r q (Some a) None x y v u ex ey one other near = inr (inl (u, ey))
@@ -116,15 +116,15 @@ abbrev pub IsContentOf : Part → ShownView → List ℕ → Type 0
 IsContentOf part view content = (whys : Option Whys) × (content ≡ part_content part whys view)
 
 -- tags of the log are tags of the station, and were sent by now
-abbrev pub AreTagsUpTo : ℕ → OnAir → List Mark → Type 0
+abbrev pub AreTagsUpTo : ℕ → StationPlans → List Mark → Type 0
 AreTagsUpTo now air sent =
     (slot : ℕ) (pair : PairFields) → IsMarkIn sent slot (Tagged pair) → air.HasTags slot pair × (slot ≤ now)
 
-was_with : ARunHasOneSource → (d now : ℕ) (air : OnAir) (sent : List Mark) (i : Input) (r : List Segment) (m : ℕ)
+was_with : ARunHasOneSource → (d now : ℕ) (air : StationPlans) (sent : List Mark) (i : Input) (r : List Segment) (m : ℕ)
     (view : ShownView) (x : List ℕ) (contents : Part → List ℕ) → AreTagsUpTo now air sent → IsSpaced d air.plans.text
     → ShowsView m i.first i.heard view → IsContentOf Text view x
     → ((part : Part) → IsOfPair part → IsContentOf part view (contents part))
-    → IfSome view.text (safe.WasOnAir d now air.plans.text i r)
+    → IfSome view.text (RunWasOnAir d now air.plans.text i r)
     → ShowsNoTags view ⊎ ShowsTagsOf d air.plans.text sent i r view
     → ((part : Part) → IsOfPair part → IsNothing (contents part))
     ⊎ ((k : ℕ) × WentWith d now air x contents k)
@@ -132,7 +132,7 @@ was_with law d now air sent i r m view x contents upto spaced shows ex ey was (i
     inl (λ part of. (None, (ey part of).1 ∙ none_of_none part of (ey part of).0 view none))
 was_with law d now air sent i r m view x contents upto spaced shows ex ey was (inr tags) = by view.text refl was
   where
-    by : (o : Option (List ℕ)) → view.text ≡ o → IfSome o (safe.WasOnAir d now air.plans.text i r)
+    by : (o : Option (List ℕ)) → view.text ≡ o → IfSome o (RunWasOnAir d now air.plans.text i r)
         → ((part : Part) → IsOfPair part → IsNothing (contents part))
         ⊎ ((k : ℕ) × WentWith d now air x contents k)
     by None text w =
@@ -167,9 +167,9 @@ was_with law d now air sent i r m view x contents upto spaced shows ex ey was (i
         )
 
 -- two receivers whose views are safe show what is safe
-pub shown_safely : ARunHasOneSource → (d m now : ℕ) (air : OnAir) (messages : List (Option Message)) (r s : Listener)
+pub shown_safely : ARunHasOneSource → (d m now : ℕ) (air : StationPlans) (messages : List (Option Message)) (r s : Listener)
     (One Other : Part → List ℕ → Type 0) → AreTagsUpTo now air (marks text_mark messages) → IsSpaced d air.plans.text
-    → safe.AreSafe d m now air.plans messages (r ∷ s ∷ []) → ShowsView m r.input.first r.input.heard r.view
+    → AreSafeViews d m now air.plans messages (r ∷ s ∷ []) → ShowsView m r.input.first r.input.heard r.view
     → ((part : Part) (x : List ℕ) → One part x → IsContentOf part r.view x)
     → ((part : Part) (x : List ℕ) → Other part x → IsContentOf part s.view x)
     → AreSafe d now air One Other

@@ -26,7 +26,7 @@ use Rattle.rds_world.specs.Station.{SlotsOfAWorldAreSlots, TheEncoderIsLawful}
 use Rattle.rds_world.specs.declared.event.Command.{Command}
 use Rattle.rds_world.specs.declared.event.Command.TheVariants.{Quiet, Restart, SetText, SetName, SetTags}
 use Rattle.rds_world.specs.declared.world.Config.{Config}
-use Rattle.rds_wire.specs.Received.{first_of}
+use Rattle.rds_wire.specs.Received.{first_entries}
 use Rattle.rds_wire.proofs.Firsts.{first_all, first_more}
 use Rattle.rds_wire.proofs.Logs.{HasNoReceivers, groups_sent}
 use Rattle.rds_wire.proofs.Views.{marks_long}
@@ -130,7 +130,7 @@ log_long d (e ∷ before) = ap suc (log_long d before)
 -- tags that were sent were on air then
 pub tagged : TagsAreOfTheTextOnAir → (d : ℕ) (events : List Event) (slot : ℕ) (pair : PairFields)
     → IsMarkIn (marks text_mark (log d events)) slot (Tagged pair)
-    → (pair_on_air d (entries (first_of (slot + 1) events)) ≡ Some pair) × (slot < length events)
+    → (pair_on_air d (entries (first_entries (slot + 1) events)) ≡ Some pair) × (slot < length events)
 tagged law d [] slot pair is = absurd is
 tagged law d (e ∷ before) slot pair (inl here) =
     let at : slot ≡ length before = here.0 ∙ marks_long text_mark (log d before) ∙ log_long d before in

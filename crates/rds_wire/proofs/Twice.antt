@@ -20,8 +20,8 @@ use Rattle.rds_view_lines.specs.Output.{Display}
 use Rattle.rds_view_lines.specs.ViewParts.{Part}
 use Rattle.rds_log.specs.OneLog.{same_log}
 use Rattle.rds_wire.specs.Printed.{Prints, Shows}
-use Rattle.rds_wire.specs.Received.{first_of}
-use Rattle.rds_wire.specs.Safe.{OnAir}
+use Rattle.rds_wire.specs.Received.{first_entries}
+use Rattle.rds_wire.specs.Safe.{StationPlans}
 use Rattle.rds_wire.specs.Twice.{HasMessages, IsReceivedWithWrong, IsSafeIfHeardTwice, WhatIsEncodedIsSafeIfHeardTwice}
 use Rattle.rds_wire.specs.Wire.{aired}
 use Rattle.rds_wire.proofs.Firsts.{entry_below, entry_of_first, first_length}
@@ -65,10 +65,10 @@ module _ (pi m w k : ℕ) (log : List ℕ) (sent : List (Option Message)) (is : 
   long : length r.heard ≡ t + 1
   long =
       let reached = r.reached in
-      sym (zip_long (Hears pi) (first_of (t + 1) p.write.slots) r.heard r.hears)
+      sym (zip_long (Hears pi) (first_entries (t + 1) p.write.slots) r.heard r.hears)
       ∙ first_length (t + 1) p.write.slots (omega (arith, reached))
 
-  heard_first : IsHeardWithWrong k (first_of (t + 1) sent) raw
+  heard_first : IsHeardWithWrong k (first_entries (t + 1) sent) raw
   heard_first =
       let late = r.late in
       let same = same_messages pi log r.sent sent r.log_has is in
@@ -86,11 +86,11 @@ module _ (pi m w k : ℕ) (log : List ℕ) (sent : List (Option Message)) (is : 
         late = late.late;
       }
 
-  listens : ListensConfirmed w k m t (first_of (t + 1) sent) listener
+  listens : ListensConfirmed w k m t (first_entries (t + 1) sent) listener
   listens =
-      let view : IsView tuning (first_of (t + 1) p.write.slots) display.0.view =
+      let view : IsView tuning (first_entries (t + 1) p.write.slots) display.0.view =
       (view_in p.why tuning p.write.slots p.write.write.displays t display.0 p.write.write.are display.1).0 in
-      let heard = same_heard pi (first_of (t + 1) p.write.slots) view.0 r.heard view.1 r.hears in
+      let heard = same_heard pi (first_entries (t + 1) p.write.slots) view.0 r.heard view.1 r.hears in
       record {
         raw = raw;
         heard = heard_first;
@@ -108,7 +108,7 @@ module _ (pi m w k : ℕ) (log : List ℕ) (sent : List (Option Message)) (is : 
       (omega (arith, few, displays_long p.why tuning p.write.slots _ p.write.write.are)) display.1 sh
 
 -- a log with lawful plans is safe for such receivers
-lawful_is_safe_twice : TwiceLaws → (pi m w k : ℕ) (log : List ℕ) (sent : List (Option Message)) (air : OnAir)
+lawful_is_safe_twice : TwiceLaws → (pi m w k : ℕ) (log : List ℕ) (sent : List (Option Message)) (air : StationPlans)
     → HasMessages pi log sent → AreLawful (m + lateness_of_two w k) air.plans sent
     → ((slot : ℕ) (pair : PairFields) → IsMarkIn (marks text_mark sent) slot (Tagged pair) → air.HasTags slot pair)
     → IsSafeIfHeardTwice pi m w k log air
@@ -116,15 +116,15 @@ lawful_is_safe_twice laws pi m w k log sent air is lawful tags x p y q t one oth
     let d = m + lateness_of_two w k in
     let r = listener pi m w k log sent is x p t one ra in
     let s = listener pi m w k log sent is y q t other rb in
-    let Listens = ListensConfirmed w k m t (first_of (t + 1) sent) in
+    let Listens = ListensConfirmed w k m t (first_entries (t + 1) sent) in
     let lr : Listens r = listens pi m w k log sent is x p t one ra in
     let ls : Listens s = listens pi m w k log sent is y q t other rb in
-    shown_safely laws.source d m t air (first_of (t + 1) sent) r s (Shows p t) (Shows q t) upto lawful.text.spaced
-    (laws.safe w k m t air.plans (first_of (t + 1) sent) (r ∷ s ∷ []) (lawful_first d (t + 1) air.plans sent lawful)
+    shown_safely laws.source d m t air (first_entries (t + 1) sent) r s (Shows p t) (Shows q t) upto lawful.text.spaced
+    (laws.safe w k m t air.plans (first_entries (t + 1) sent) (r ∷ s ∷ []) (lawful_first d (t + 1) air.plans sent lawful)
     (All-cons Listens r (s ∷ []) lr (All-cons Listens s [] ls (All-nil Listens)))) lr.shows
     (shows pi m w k log sent is x p t one ra) (shows pi m w k log sent is y q t other rb)
   where
-    upto : AreTagsUpTo t air (marks text_mark (first_of (t + 1) sent))
+    upto : AreTagsUpTo t air (marks text_mark (first_entries (t + 1) sent))
     upto slot pair mark =
         let it = mark_in_first text_mark (t + 1) sent slot (Tagged pair) mark in
         (tags slot pair it.0, omega (arith, it.1))

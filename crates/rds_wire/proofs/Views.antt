@@ -13,7 +13,7 @@ use Rattle.rds_safety.specs.Plans.{AreLawful, Plans}
 use Rattle.rds_encoder.specs.Plan.{Broadcast}
 use Rattle.rds_view_lines.specs.Output.{Display}
 use Rattle.rds_log.specs.LogWrites.{AreDisplays}
-use Rattle.rds_wire.specs.Received.{first_of}
+use Rattle.rds_wire.specs.Received.{first_entries}
 use Rattle.rds_wire.proofs.Firsts.{first_all, first_more}
 
 -- ---- marks and plans
@@ -31,7 +31,7 @@ mark_below of (x ∷ before) slot mark (inr there) = omega (arith, mark_below of
 
 -- a mark of the first slots
 pub mark_in_first : (of : Option Message → Mark) (n : ℕ) (sent : List (Option Message)) (slot : ℕ) (mark : Mark)
-    → IsMarkIn (marks of (first_of n sent)) slot mark → IsMarkIn (marks of sent) slot mark × (slot < n)
+    → IsMarkIn (marks of (first_entries n sent)) slot mark → IsMarkIn (marks of sent) slot mark × (slot < n)
 mark_in_first of n [] slot mark is =
     absurd (subst (λ l. IsMarkIn (marks of l) slot mark) (first_all n [] (omega arith)) is)
 mark_in_first of n (x ∷ before) slot mark is = elim (cases_lt (length before) n) [
@@ -44,7 +44,7 @@ mark_in_first of n (x ∷ before) slot mark is = elim (cases_lt (length before) 
 
 -- plans that are lawful for a log are so for its first slots
 kind_first : (d n : ℕ) (kind : Kind) (plan : List Broadcast) (of : Option Message → Mark) (sent : List (Option Message))
-    → IsLawful d kind plan (marks of sent) → IsLawful d kind plan (marks of (first_of n sent))
+    → IsLawful d kind plan (marks of sent) → IsLawful d kind plan (marks of (first_entries n sent))
 kind_first d n kind plan of sent lawful = record {
   spaced = lawful.spaced;
   values = lawful.values;
@@ -54,7 +54,7 @@ kind_first d n kind plan of sent lawful = record {
 
 -- so are both plans
 pub lawful_first : (d n : ℕ) (plans : Plans) (sent : List (Option Message)) → AreLawful d plans sent
-    → AreLawful d plans (first_of n sent)
+    → AreLawful d plans (first_entries n sent)
 lawful_first d n plans sent lawful =
     record {
       text = kind_first d n _ plans.text text_mark sent lawful.text;
@@ -74,7 +74,7 @@ displays_long why t (slot ∷ before) (d ∷ older) are = ap suc (displays_long 
 -- the view in a slot is that of the slots up to it
 pub view_in : (why : Bool) (t : Tuning) (slots : List (Option Group)) (displays : List Display) (n : ℕ) (d : Display)
     → AreDisplays why t slots displays → HasEntry 0 displays n d
-    → IsView t (first_of (n + 1) slots) d.view × (n < length slots)
+    → IsView t (first_entries (n + 1) slots) d.view × (n < length slots)
 view_in why t [] [] n d are at = absurd at
 view_in why t [] (x ∷ older) n d are at = absurd are
 view_in why t (slot ∷ before) [] n d are at = absurd are

@@ -39,8 +39,8 @@ use Rattle.rds_log.specs.declared.audit_log.Stop.TheVariants.{FirstFault}
 use Rattle.rds_script.specs.Play.{with_form}
 use Rattle.rds_script.specs.declared.form.Form.TheVariants.{Log}
 use Rattle.rds_wire.specs.Printed.{Prints, Shows}
-use Rattle.rds_wire.specs.Received.{IsReceived, first_of, own_group}
-use Rattle.rds_wire.specs.Safe.{OnAir}
+use Rattle.rds_wire.specs.Received.{IsReceived, first_entries, own_group}
+use Rattle.rds_wire.specs.Safe.{StationPlans}
 use Rattle.rds_wire.specs.Wire.{Encodes, HasSafePlans, IsHead, IsSafeOnTheWire, WhatIsEncodedIsSafeOnTheWire}
 use Rattle.rds_wire.specs.Wire.{WhatPassesIsSafeOnTheWire, aired, station_of}
 use Rattle.rds_wire.proofs.Begun.{preceded_first, settled_first}
@@ -107,7 +107,7 @@ module _ (a : Auditing) (log : List ℕ) (sent : List (Option Group)) (messages 
         entry_at p.write.write.displays t
         (omega (arith, reached, displays_long p.why (tuned a.pi a.dwell) p.write.slots _ p.write.write.are))
 
-    view : IsView (tuned a.pi a.dwell) (first_of (t + 1) p.write.slots) display.0.view
+    view : IsView (tuned a.pi a.dwell) (first_entries (t + 1) p.write.slots) display.0.view
     view = (view_in p.why (tuned a.pi a.dwell) p.write.slots p.write.write.displays t display.0 p.write.write.are
         display.1).0
 
@@ -118,9 +118,9 @@ module _ (a : Auditing) (log : List ℕ) (sent : List (Option Group)) (messages 
       view = display.0.view;
     }
 
-    listens : ClockLaws → ListensByOwnClock (spacing a) a.dwell now (first_of (now + 1) messages) listener
+    listens : ClockLaws → ListensByOwnClock (spacing a) a.dwell now (first_entries (now + 1) messages) listener
     listens laws =
-        let got = first_of (t + 1) p.write.slots in
+        let got = first_entries (t + 1) p.write.slots in
         let reached = r.reached in
         let long = length-map got (own_group a.pi) ∙ first_length (t + 1) p.write.slots (omega (arith, reached)) in
         let same = same_log log r.sent sent r.log_has is in
@@ -142,7 +142,7 @@ module _ (a : Auditing) (log : List ℕ) (sent : List (Option Group)) (messages 
 
 -- a complete log with lawful plans is safe on the wire
 pub lawful_is_safe : LogLaws → (stop : Stop) (pi m k : ℕ) (log : List ℕ) (sent : List (Option Group))
-    (messages : List (Option Message)) (air : OnAir) → IsLogOf log sent → AreHeard pi sent messages
+    (messages : List (Option Message)) (air : StationPlans) → IsLogOf log sent → AreHeard pi sent messages
     → AreLawful (m + k) air.plans messages
     → ((slot : ℕ) (pair : PairFields) → IsMarkIn (marks text_mark messages) slot (Tagged pair) → air.HasTags slot pair)
     → IsSafeOnTheWire (record { pi = pi; dwell = m; late = k; start = Complete; stop = stop }) log air
@@ -150,24 +150,24 @@ lawful_is_safe laws stop pi m k log sent messages air is heard lawful tags x p y
     let a : Auditing = record { pi = pi; dwell = m; late = k; start = Complete; stop = stop } in
     let r = listener a log sent messages now is heard x p t one ra in
     let s = listener a log sent messages now is heard y q u other rb in
-    let Listens = ListensByOwnClock (m + k) m now (first_of (now + 1) messages) in
+    let Listens = ListensByOwnClock (m + k) m now (first_entries (now + 1) messages) in
     let lr : Listens r = listens a log sent messages now is heard x p t one ra laws.clocks in
     let ls : Listens s = listens a log sent messages now is heard y q u other rb laws.clocks in
-    shown_safely laws.source (m + k) m now air (first_of (now + 1) messages) r s (Shows p t) (Shows q u) upto
+    shown_safely laws.source (m + k) m now air (first_entries (now + 1) messages) r s (Shows p t) (Shows q u) upto
     lawful.text.spaced
-    (laws.safe (m + k) m now air.plans (first_of (now + 1) messages) (r ∷ s ∷ [])
+    (laws.safe (m + k) m now air.plans (first_entries (now + 1) messages) (r ∷ s ∷ [])
     (lawful_first (m + k) (now + 1) air.plans messages lawful)
     (All-cons Listens r (s ∷ []) lr (All-cons Listens s [] ls (All-nil Listens)))) lr.shows
     (shows a log sent messages now is heard x p t one ra) (shows a log sent messages now is heard y q u other rb)
   where
-    upto : AreTagsUpTo now air (marks text_mark (first_of (now + 1) messages))
+    upto : AreTagsUpTo now air (marks text_mark (first_entries (now + 1) messages))
     upto slot pair mark =
         let it = mark_in_first text_mark (now + 1) messages slot (Tagged pair) mark in
         (tags slot pair it.0, omega (arith, it.1))
 
 -- so is the log of a running station, by plans that count from m + k slots before it
 pub recording_is_safe : LogLaws → (stop : Stop) (pi m k : ℕ) (log : List ℕ) (sent : List (Option Group))
-    (messages : List (Option Message)) (air : OnAir) → IsLogOf log sent → AreHeard pi sent messages
+    (messages : List (Option Message)) (air : StationPlans) → IsLogOf log sent → AreHeard pi sent messages
     → AreLawful (m + k) air.plans (from_first_text (preceded (m + k) messages))
     → ((slot : ℕ) (pair : PairFields) → IsMarkIn (marks text_mark (preceded (m + k) messages)) slot (Tagged pair)
     → air.HasTags slot pair)
@@ -176,26 +176,26 @@ recording_is_safe laws stop pi m k log sent messages air is heard lawful tags x 
     let a : Auditing = record { pi = pi; dwell = m; late = k; start = Running; stop = stop } in
     let r = listener a log sent messages now is heard x p t one ra in
     let s = listener a log sent messages now is heard y q u other rb in
-    let Listens = ListensByOwnClock (m + k) m now (first_of (now + 1) messages) in
+    let Listens = ListensByOwnClock (m + k) m now (first_entries (now + 1) messages) in
     let lr : Listens r = listens a log sent messages now is heard x p t one ra laws.clocks in
     let ls : Listens s = listens a log sent messages now is heard y q u other rb laws.clocks in
-    shown_safely laws.source (m + k) m (now + (m + k)) air (preceded (m + k) (first_of (now + 1) messages))
+    shown_safely laws.source (m + k) m (now + (m + k)) air (preceded (m + k) (first_entries (now + 1) messages))
     (later (m + k) r) (later (m + k) s) (Shows p t) (Shows q u) upto lawful.text.spaced
-    (laws.recording (m + k) m now (m + k) air.plans (first_of (now + 1) messages) (r ∷ s ∷ []) cut
+    (laws.recording (m + k) m now (m + k) air.plans (first_entries (now + 1) messages) (r ∷ s ∷ []) cut
     (All-cons Listens r (s ∷ []) lr (All-cons Listens s [] ls (All-nil Listens)))) lr.shows
     (shows a log sent messages now is heard x p t one ra) (shows a log sent messages now is heard y q u other rb)
   where
     n : ℕ
     n = now + 1 + (m + k)
 
-    cut : AreLawful (m + k) air.plans (from_first_text (preceded (m + k) (first_of (now + 1) messages)))
+    cut : AreLawful (m + k) air.plans (from_first_text (preceded (m + k) (first_entries (now + 1) messages)))
     cut =
         subst (λ (l : List (Option Message)). AreLawful (m + k) air.plans (from_first_text l))
         (preceded_first (m + k) (now + 1) messages)
         (subst (AreLawful (m + k) air.plans) (settled_first n (preceded (m + k) messages))
         (lawful_first (m + k) n air.plans (from_first_text (preceded (m + k) messages)) lawful))
 
-    upto : AreTagsUpTo (now + (m + k)) air (marks text_mark (preceded (m + k) (first_of (now + 1) messages)))
+    upto : AreTagsUpTo (now + (m + k)) air (marks text_mark (preceded (m + k) (first_entries (now + 1) messages)))
     upto slot pair mark =
         let it = mark_in_first text_mark n (preceded (m + k) messages) slot (Tagged pair)
         (subst (λ (l : List (Option Message)). IsMarkIn (marks text_mark l) slot (Tagged pair))

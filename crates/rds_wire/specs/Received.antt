@@ -11,8 +11,8 @@ use Rattle.rds_safety.specs.Late.{InputOf, IsHeardLate}
 use Rattle.rds_safety.specs.OwnClock.{IsHeardByOwnClock}
 
 -- the first n entries of a list over time
-abbrev pub first_of : {X : Type 0} → ℕ → List X → List X
-first_of n all = drop (length all - n) all
+abbrev pub first_entries : {X : Type 0} → ℕ → List X → List X
+first_entries n all = drop (length all - n) all
 
 -- the group of a slot for a receiver of this programme: one of another programme is as nothing
 abbrev pub own_group : ℕ → Option Group → Option Group
@@ -35,7 +35,7 @@ pub record IsReceived (a : Auditing) (log : List ℕ) (got : List (Option Group)
   pub origins : List (Option ℕ)
   pub came : Came a t now sent record {
     first = 0;
-    heard = map (own_group a.pi) (first_of (t + 1) got);
+    heard = map (own_group a.pi) (first_entries (t + 1) got);
     origins = origins;
   }
 

@@ -9,7 +9,7 @@ use Rattle.rds_view_lines.specs.Output.{quoted}
 use Rattle.rds_view_lines.specs.ViewParts.{IsNothing, Item, Name, Part, Tag1, Tag2, Text, part_content}
 
 -- what a station has on air: its texts and names, and the pair of tags of each slot
-pub record OnAir : Type 1 where
+pub record StationPlans : Type 1 where
   pub plans : Plans
   pub HasTags : ℕ → PairFields → Type 0
 
@@ -41,7 +41,7 @@ IsOfPair Tag2 = Unit {0}
 
 -- the text is broadcast number k, and these contents of the item bits and the tags are those of a pair that was on air
 -- with this broadcast in a slot up to `now`, at least d slots after its start; a tag may show nothing
-pub record WentWith (d now : ℕ) (air : OnAir) (text : List ℕ) (contents : Part → List ℕ) (k : ℕ) : Type 0 where
+pub record WentWith (d now : ℕ) (air : StationPlans) (text : List ℕ) (contents : Part → List ℕ) (k : ℕ) : Type 0 where
   pub broadcast : Broadcast
   pub planned : HasNumber air.plans.text k broadcast
   pub says : text ≡ quoted broadcast.bytes
@@ -57,7 +57,7 @@ pub record WentWith (d now : ℕ) (air : OnAir) (text : List ℕ) (contents : Pa
 -- two receivers show these contents of their parts, and that is safe. Each text and name was on air in one of the d
 -- slots up to `now`. Both receivers show one broadcast, or two that follow each other. The item bits and the tags are
 -- those of one pair, which went with the text that is shown
-pub record AreSafe (d now : ℕ) (air : OnAir) (One Other : Part → List ℕ → Type 0) : Type 0 where
+pub record AreSafe (d now : ℕ) (air : StationPlans) (One Other : Part → List ℕ → Type 0) : Type 0 where
   pub texts : (x y : List ℕ) → One Text x → Other Text y
       → IsNothing x ⊎ IsNothing y ⊎ WereOnAir d now air.plans.text x y
   pub names : (x y : List ℕ) → One Name x → Other Name y

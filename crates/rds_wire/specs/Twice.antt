@@ -10,8 +10,8 @@ use Rattle.rds_log.specs.FilledLog.{IsLogOf}
 use Rattle.rds_script.specs.Play.{with_form}
 use Rattle.rds_script.specs.declared.form.Form.TheVariants.{Log}
 use Rattle.rds_wire.specs.Printed.{Prints, Shows}
-use Rattle.rds_wire.specs.Received.{first_of}
-use Rattle.rds_wire.specs.Safe.{AreSafe, OnAir}
+use Rattle.rds_wire.specs.Received.{first_entries}
+use Rattle.rds_wire.specs.Safe.{AreSafe, StationPlans}
 use Rattle.rds_wire.specs.Wire.{Encodes, IsHead, aired, station_of}
 
 -- receivers of this programme hear these messages in the slots of a log
@@ -28,13 +28,13 @@ pub record IsReceivedWithWrong (pi w k : ℕ) (log : List ℕ) (got : List (Opti
   pub reached : t < length got
   pub few : length got < 2 ^ 64
   pub heard : List (Option Message)
-  pub hears : AreHeard pi (first_of (t + 1) got) heard
+  pub hears : AreHeard pi (first_entries (t + 1) got) heard
   pub origins : List (Option ℕ)
   pub late : IsHeardWithWrong k sent record { first = 0; heard = heard; origins = origins }
   pub once : NoWrongConfirmed w record { first = 0; heard = heard; origins = origins }
 
 -- whatever two such receivers of the log print is safe
-abbrev pub IsSafeIfHeardTwice : ℕ → ℕ → ℕ → ℕ → List ℕ → OnAir → Type 0
+abbrev pub IsSafeIfHeardTwice : ℕ → ℕ → ℕ → ℕ → List ℕ → StationPlans → Type 0
 IsSafeIfHeardTwice pi m w k log air =
     (received printed other_received other_printed : List ℕ) (t : ℕ)
     → (one : Prints pi m (Some w) received printed) → (other : Prints pi m (Some w) other_received other_printed)

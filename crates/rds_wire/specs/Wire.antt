@@ -23,8 +23,8 @@ use Rattle.rds_script.specs.Rows.{Record}
 use Rattle.rds_script.specs.declared.form.Form.TheVariants.{Log}
 use Rattle.rds_script.specs.declared.play.Playing.{Playing}
 use Rattle.rds_wire.specs.Printed.{Prints, Shows}
-use Rattle.rds_wire.specs.Received.{IsReceived, first_of}
-use Rattle.rds_wire.specs.Safe.{AreSafe, OnAir}
+use Rattle.rds_wire.specs.Received.{IsReceived, first_entries}
+use Rattle.rds_wire.specs.Safe.{AreSafe, StationPlans}
 
 -- the slot of the station, as its plans count it: those of a running station count from d slots before the log
 abbrev pub slot_of_plans : LogStart → ℕ → ℕ → ℕ
@@ -32,7 +32,7 @@ slot_of_plans Complete d now = now
 slot_of_plans Running d now = now + d
 
 -- whatever two receivers of the log print is safe
-abbrev pub IsSafeOnTheWire : Auditing → List ℕ → OnAir → Type 0
+abbrev pub IsSafeOnTheWire : Auditing → List ℕ → StationPlans → Type 0
 IsSafeOnTheWire a log air =
     (received printed other_received other_printed : List ℕ) (t u now : ℕ)
     → (one : Prints a.pi a.dwell None received printed)
@@ -64,10 +64,10 @@ pub record IsHead (head : Head) : Type 0 where
 
 -- what the station of these events has on air: the texts and names that were accepted, and at the end of each slot the
 -- pair that was accepted for the text
-abbrev pub aired : ℕ → List Event → OnAir
+abbrev pub aired : ℕ → List Event → StationPlans
 aired d events = record {
   plans = plans_of d events;
-  HasTags = λ slot pair. pair_on_air d (entries (first_of (slot + 1) events)) ≡ Some pair;
+  HasTags = λ slot pair. pair_on_air d (entries (first_entries (slot + 1) events)) ≡ Some pair;
 }
 
 -- the log that `encode` writes for any script is safe on the wire: what receivers show was on air by the script

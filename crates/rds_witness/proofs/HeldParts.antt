@@ -15,7 +15,7 @@ use Rattle.rds_receiver.specs.OneView.{same_heard}
 use Rattle.rds_receiver.specs.Receipts.{AreHeard, Fragment, Segment, name_fragment, segments, text_fragment}
 use Rattle.rds_receiver.specs.Run.{cells_of, run, run_at}
 use Rattle.rds_receiver.specs.Holds.{HoldsRun, newest_slot}
-use Rattle.rds_receiver.specs.StandsAt.{StandsAt}
+use Rattle.rds_receiver.specs.ReceiverAt.{ReceiverAt}
 use Rattle.rds_receiver.specs.Stored.{age_stored, display_stored, receiver_stored, segments_stored}
 use Rattle.rds_receiver.specs.Tags.{pair_held}
 use Rattle.rds_receiver.specs.declared.stored.StoredReceiver.{StoredReceiver}
@@ -99,7 +99,7 @@ pub record HoldsPartOf (one other : StoredReceiver) : Type 0 where
 holds_itself : (s : StoredSegments) (age : ℕ) → HoldsPart s s age age
 holds_itself s age = record { cells = λ a b held. held; newer = inr (refl, omega arith) }
 
-module _ (pi m : ℕ) (one other : StoredReceiver) (part : HoldsPartOf one other) (input more : List (Option Group)) (mine : StandsAt (tuned pi m) (receiver_stored one) input) (theirs : StandsAt (tuned pi m) (receiver_stored other) more) (long : length input ≡ length more) where
+module _ (pi m : ℕ) (one other : StoredReceiver) (part : HoldsPartOf one other) (input more : List (Option Group)) (mine : ReceiverAt (tuned pi m) (receiver_stored one) input) (theirs : ReceiverAt (tuned pi m) (receiver_stored other) more) (long : length input ≡ length more) where
   tags_part : IsTagPart m 0 mine.heard theirs.heard
   tags_part = (by_pair part.pair, λ is. sym theirs.holds.display.known ∙ part.known (mine.holds.display.known ∙ is))
     where
@@ -125,7 +125,7 @@ module _ (pi m : ℕ) (one other : StoredReceiver) (part : HoldsPartOf one other
   }
 
 -- one receiver at two inputs
-pub same_part : (pi m : ℕ) (s : StoredReceiver) (input more : List (Option Group)) → StandsAt (tuned pi m) (receiver_stored s) input → StandsAt (tuned pi m) (receiver_stored s) more → length input ≡ length more
+pub same_part : (pi m : ℕ) (s : StoredReceiver) (input more : List (Option Group)) → ReceiverAt (tuned pi m) (receiver_stored s) input → ReceiverAt (tuned pi m) (receiver_stored s) more → length input ≡ length more
     → IsInputPart (tuned pi m) input more
 same_part pi m s input more mine theirs long =
     holds_part pi m s s record { text = holds_itself s.display.text (display_stored s.display).text.age; name = holds_itself s.display.name (display_stored s.display).name.age; pair = inr refl; known = λ is. is } input more mine theirs long

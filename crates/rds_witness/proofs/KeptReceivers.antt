@@ -8,12 +8,12 @@ use Rattle.rds_fields.specs.declared.message.Message.{Message}
 use Rattle.rds_receiver.specs.OneView.{same_heard, same_heard_in}
 use Rattle.rds_receiver.specs.Receipts.{AreHeard, Fragment, Tuning, name_fragment, text_fragment}
 use Rattle.rds_receiver.specs.Run.{run_at}
-use Rattle.rds_receiver.specs.StandsAt.{StandsAt, WhereItStands}
+use Rattle.rds_receiver.specs.ReceiverAt.{ReceiverAt, WhereReceiverStands}
 use Rattle.rds_receiver.specs.Tags.{pair_held}
 use Rattle.rds_receiver.specs.Confirmed.{counted}
-use Rattle.rds_receiver.specs.Stored.{IsStored, receiver_stored}
+use Rattle.rds_receiver.specs.Stored.{IsStoredReceiver, receiver_stored}
 use Rattle.rds_receiver.specs.State.{ReceiverState}
-use Rattle.rds_witness.specs.Covered.{Covers, IsAt, IsCovered, IsInputPart, IsRunPart, Keeps}
+use Rattle.rds_witness.specs.Covered.{CoversInput, IsAt, IsCovered, IsInputPart, IsRunPart, Keeps}
 use Rattle.rds_witness.specs.Part.{IsPairPart, IsTagPart}
 use Rattle.rds_witness.specs.declared.covering.Lossy.{Lossy}
 use Rattle.rds_witness.proofs.HeldParts.{heard_long}
@@ -31,7 +31,7 @@ tags_through m first one two three p q = (by_first p.0, λ is. q.1 (p.1 is))
     by_first (inl none) = inl none
     by_first (inr same) = by_second same q.0
 
-pub input_through : (t : Tuning) (r : ReceiverState) (one two three : List (Option Group)) → StandsAt t r two → IsInputPart t one two → IsInputPart t two three → IsInputPart t one three
+pub input_through : (t : Tuning) (r : ReceiverState) (one two three : List (Option Group)) → ReceiverAt t r two → IsInputPart t one two → IsInputPart t two three → IsInputPart t one three
 input_through t r one two three stands p q = record {
   long = p.long ∙ q.long;
   texts = λ h k heard others. part_through _ _ _ (p.texts h stands.heard heard stands.are) (q.texts stands.heard k stands.are others);
@@ -41,7 +41,7 @@ input_through t r one two three stands p q = record {
 
 -- one that is kept holds all that is offered
 pub keeps_part : (t : Tuning) (n : ℕ) (kept : List Lossy) (one by : Lossy) → Contains kept by
-    → ((input more : List (Option Group)) → StandsAt t (receiver_stored one.receiver) input → StandsAt t (receiver_stored by.receiver) more → length input ≡ length more → IsInputPart t input more)
+    → ((input more : List (Option Group)) → ReceiverAt t (receiver_stored one.receiver) input → ReceiverAt t (receiver_stored by.receiver) more → length input ≡ length more → IsInputPart t input more)
     → All (IsAt t n) kept → Keeps t n one kept kept
 keeps_part t n kept one by there part at = record {
   at = at;
@@ -70,8 +70,8 @@ keeps_more t n kept one at its = record {
 }
 
 -- one slot later
-pub at_next : (pi m n : ℕ) (s later : Lossy) (group : Option Group) → (IsStored s.receiver → WhereItStands (receiver_stored s.receiver) (λ t input. StandsAt t (receiver_stored later.receiver) (group ∷ input)))
-    → (IsStored s.receiver → IsStored later.receiver) → IsAt (tuned pi m) n s → IsAt (tuned pi m) (n + 1) later
+pub at_next : (pi m n : ℕ) (s later : Lossy) (group : Option Group) → (IsStoredReceiver s.receiver → WhereReceiverStands (receiver_stored s.receiver) (λ t input. ReceiverAt t (receiver_stored later.receiver) (group ∷ input)))
+    → (IsStoredReceiver s.receiver → IsStoredReceiver later.receiver) → IsAt (tuned pi m) n s → IsAt (tuned pi m) (n + 1) later
 at_next pi m n s later group stands good its = record {
   input = group ∷ its.input;
   long = let long = its.long in omega (arith, long);
@@ -104,8 +104,8 @@ input_next pi m group one other some part = record {
   tags = tags_next pi m group one other some part;
 }
 
-pub covers_next : (pi m : ℕ) (s later : Lossy) (group : Option Group) (input : List (Option Group)) → (IsStored s.receiver → WhereItStands (receiver_stored s.receiver) (λ t input. StandsAt t (receiver_stored later.receiver) (group ∷ input)))
-    → (IsStored s.receiver → IsStored later.receiver) → Covers (tuned pi m) input s → Covers (tuned pi m) (group ∷ input) later
+pub covers_next : (pi m : ℕ) (s later : Lossy) (group : Option Group) (input : List (Option Group)) → (IsStoredReceiver s.receiver → WhereReceiverStands (receiver_stored s.receiver) (λ t input. ReceiverAt t (receiver_stored later.receiver) (group ∷ input)))
+    → (IsStoredReceiver s.receiver → IsStoredReceiver later.receiver) → CoversInput (tuned pi m) input s → CoversInput (tuned pi m) (group ∷ input) later
 covers_next pi m s later group input stands good covers = record {
   other = group ∷ covers.other;
   stands = stands covers.stored (tuned pi m) covers.other covers.stands;
@@ -122,12 +122,12 @@ input_itself pi m input = record {
   tags = λ h k heard others. let same = same_heard pi input h k heard others in rw same (inr refl, λ is. is);
 }
 
-pub covers_itself : (pi m : ℕ) (input : List (Option Group)) (s : Lossy) → StandsAt (tuned pi m) (receiver_stored s.receiver) input → IsStored s.receiver → Covers (tuned pi m) input s
+pub covers_itself : (pi m : ℕ) (input : List (Option Group)) (s : Lossy) → ReceiverAt (tuned pi m) (receiver_stored s.receiver) input → IsStoredReceiver s.receiver → CoversInput (tuned pi m) input s
 covers_itself pi m input s stands stored = record { other = input; stands = stands; stored = stored; part = input_itself pi m input }
 
 -- ---- a list with one more in front
 
-pub covered_first : (t : Tuning) (one : Lossy) (set : List Lossy) (input : List (Option Group)) → Covers t input one → IsCovered t (one ∷ set) input
+pub covered_first : (t : Tuning) (one : Lossy) (set : List Lossy) (input : List (Option Group)) → CoversInput t input one → IsCovered t (one ∷ set) input
 covered_first t one set input covers = record { by = one; is_there = (0, omega arith, refl); covers = covers }
 
 pub contains_next : (one : Lossy) (set : List Lossy) (by : Lossy) → Contains set by → Contains (one ∷ set) by
@@ -138,9 +138,9 @@ at_first t n one set its at zero d less = its
 at_first t n one set its at (suc k) d less = at k d (omega (arith, less))
 
 -- what the first one does for the inputs that it covers, and the others for theirs, is done for all
-pub by_first : (t : Tuning) (one : Lossy) (set : List Lossy) (input : List (Option Group)) (Holds : Type 0) → IsCovered t (one ∷ set) input → (Covers t input one → Holds) → (IsCovered t set input → Holds) → Holds
+pub by_first : (t : Tuning) (one : Lossy) (set : List Lossy) (input : List (Option Group)) (Holds : Type 0) → IsCovered t (one ∷ set) input → (CoversInput t input one → Holds) → (IsCovered t set input → Holds) → Holds
 by_first t one set input Holds covered first others = by_place covered.is_there
   where
     by_place : Contains (one ∷ set) covered.by → Holds
-    by_place (zero, inside, is) = first (subst (Covers t input) (sym is) covered.covers)
+    by_place (zero, inside, is) = first (subst (CoversInput t input) (sym is) covered.covers)
     by_place (suc k, inside, is) = others record { by = covered.by; is_there = (k, omega (arith, inside), is); covers = covered.covers }

@@ -8,13 +8,13 @@ use Rattle.rds_receiver.specs.OneView.{same_view}
 use Rattle.rds_receiver.specs.Receipts.{Tuning}
 use Rattle.rds_receiver.specs.Shown.{IsView, ShownView}
 use Rattle.rds_witness.specs.Lines.{AreMixLines, mix_lines, shown_line}
-use Rattle.rds_witness.specs.LossLines.{AreLinesOfSlots, AreLossLines, joined}
+use Rattle.rds_witness.specs.LossLines.{AreLinesOfSlots, AreLossLines, joined_parts}
 use Rattle.rds_witness.specs.Lost.{got}
-use Rattle.rds_witness.specs.Mix.{Has, IsMix, IsNew, Name, Shows, Tag, Text, Thing, until}
+use Rattle.rds_witness.specs.Mix.{Has, IsMix, IsNew, Name, ViewHas, Tag, Text, Thing, until}
 use Rattle.rds_witness.specs.Search.{IsKnown}
 use Rattle.rds_witness.specs.declared.burst.Burst.{Burst}
 
-has_shows : (view : ShownView) (thing : Thing) → Has view thing → Shows view thing
+has_shows : (view : ShownView) (thing : Thing) → Has view thing → ViewHas view thing
 has_shows view (Text x) has = has
 has_shows view (Name x) has = has
 has_shows view (Tag One class piece) has = inl has
@@ -50,13 +50,13 @@ contains_none : (things : List Thing) (thing : Thing) → things ≡ [] → Cont
 contains_none things thing none (k, less, is) = (let long = ap length none in omega (arith, less, long))
 
 module _ (t : Tuning) (ahead : ℕ) (log : List (Option Group)) (lost : List Burst) where
-  no_mix_in : (slots : List (List ℕ)) → joined slots ≡ [] → AreLinesOfSlots t ahead log lost slots → (slot : ℕ) (thing : Thing) → slot < length slots → IsMix t ahead log lost slot thing → ⊥
+  no_mix_in : (slots : List (List ℕ)) → joined_parts slots ≡ [] → AreLinesOfSlots t ahead log lost slots → (slot : ℕ) (thing : Thing) → slot < length slots → IsMix t ahead log lost slot thing → ⊥
   no_mix_in [] none are slot thing less mix = absurd (omega (arith, less))
   no_mix_in (newest ∷ older) none are slot thing less mix = elim (cases_lt slot (length older)) [
-    | inl before ↦ no_mix_in older (begins_empty (joined older) newest none) are.1 slot thing before mix
+    | inl before ↦ no_mix_in older (begins_empty (joined_parts older) newest none) are.1 slot thing before mix
     | inr from ↦ (
         let here : slot ≡ length older = omega (arith, less, from) in
-        let nothing : newest ≡ [] = ends_empty (joined older) newest none in
+        let nothing : newest ≡ [] = ends_empty (joined_parts older) newest none in
         contains_none are.0.things thing (no_things (length older) are.0.things (sym are.0.are ∙ nothing))
         (are.0.all thing (subst (λ (k : ℕ). IsMix t ahead log lost k thing) here mix)))
   ]
@@ -95,5 +95,5 @@ module _ (t : Tuning) (ahead : ℕ) (log : List (Option Group)) (lost : List Bur
       new = mix.new
 
       by_known : IsKnown t log (until ahead log slot) before thing → ⊥
-      by_known (inl shown) = new.not_shown (subst (λ (v : ShownView). Shows v thing) (same_view t (got lost log slot) before new.before was new.was) shown)
+      by_known (inl shown) = new.not_shown (subst (λ (v : ShownView). ViewHas v thing) (same_view t (got lost log slot) before new.before was new.was) shown)
       by_known (inr seen) = mix.never seen.slot seen.view seen.before seen.is seen.shows

@@ -7,7 +7,7 @@ use Rattle.std.proofs.Math.ListN.{get_or}
 use Rattle.std.specs.Prelude.{take}
 use Rattle.std.proofs.lemmas.Bool.Decides.{nat_tests}
 use Rattle.rds_block.specs.declared.group.Group.{Group}
-use Rattle.rds_witness.specs.Lost.{got, got-more, got-none, has_slot, is_lost, received}
+use Rattle.rds_witness.specs.Lost.{got, got-more, got-none, has_slot, is_lost, group_left}
 use Rattle.rds_witness.specs.declared.burst.Burst.{Burst}
 
 pub not_lost_before : (burst : Burst) (n : ℕ) → n < burst.first → is_lost (burst ∷ []) n ≡ false
@@ -42,9 +42,9 @@ emptied burst n old new inside before behind = by (cases_lt n burst.first) (case
 
 -- one burst more is lost
 pub burst_more : (lost : List Burst) (k : ℕ) (d : Burst) (log old new : List (Option Group)) (n : ℕ) → k < length lost
-    → slice_index_or old n None ≡ received (take k lost) log n
+    → slice_index_or old n None ≡ group_left (take k lost) log n
     → slice_index_or new n None ≡ if has_slot (get_or lost k d) n then None else slice_index_or old n None
-    → slice_index_or new n None ≡ received (take (k + 1) lost) log n
+    → slice_index_or new n None ≡ group_left (take (k + 1) lost) log n
 burst_more lost k d log old new n inside was is =
     let test = list_any_more (λ (burst : Burst). has_slot burst n) lost k d inside in
     is ∙ ap (λ (o : Option Group). if has_slot (get_or lost k d) n then None else o) was
@@ -56,16 +56,16 @@ burst_more lost k d log old new n inside was is =
     nested true false group = refl
     nested false b group = refl
 
-received_alike : (one other : List Burst) (log : List (Option Group)) (n : ℕ) → is_lost one n ≡ is_lost other n → received one log n ≡ received other log n
+received_alike : (one other : List Burst) (log : List (Option Group)) (n : ℕ) → is_lost one n ≡ is_lost other n → group_left one log n ≡ group_left other log n
 received_alike one other log n same = rw same refl
 
 pub got_alike : (one other : List Burst) (log : List (Option Group)) (n : ℕ) → ((k : ℕ) → k < n → is_lost one k ≡ is_lost other k) → got one log n ≡ got other log n
 got_alike one other log zero alike = got-none one log ∙ sym (got-none other log)
 got_alike one other log (suc n) alike =
     let older : got one log n ≡ got other log n = got_alike one other log n (λ k less. alike k (omega (arith, less))) in
-    let newest : received one log n ≡ received other log n = received_alike one other log n (alike n (omega arith)) in
+    let newest : group_left one log n ≡ group_left other log n = received_alike one other log n (alike n (omega arith)) in
     let here : got one log n ≡ got other log n = older in
-    ap (got one log) (sym (add-one n)) ∙ got-more one log n ∙ ap (λ (g : Option Group). g ∷ got one log n) newest ∙ ap (λ (l : List (Option Group)). received other log n ∷ l) here
+    ap (got one log) (sym (add-one n)) ∙ got-more one log n ∙ ap (λ (g : Option Group). g ∷ got one log n) newest ∙ ap (λ (l : List (Option Group)). group_left other log n ∷ l) here
     ∙ sym (got-more other log n) ∙ ap (got other log) (add-one n)
 
 -- a burst that begins in slot n, up to it
@@ -85,18 +85,18 @@ got_together one other log n same one_more other_more = got_alike (one ∷ []) (
             lost_inside one k from (omega (arith, less, one_more)) ∙ sym (lost_inside other k (omega (arith, same, from)) (omega (arith, less, other_more)))
 
 -- the next slot, behind the burst and in it
-pub heard_next : (burst : Burst) (log : List (Option Group)) (n : ℕ) (group : Option Group) → burst.last < n → group ≡ received [] log n → group ∷ got (burst ∷ []) log n ≡ got (burst ∷ []) log (n + 1)
+pub heard_next : (burst : Burst) (log : List (Option Group)) (n : ℕ) (group : Option Group) → burst.last < n → group ≡ group_left [] log n → group ∷ got (burst ∷ []) log n ≡ got (burst ∷ []) log (n + 1)
 heard_next burst log n group behind is =
     ap (λ (g : Option Group). g ∷ got (burst ∷ []) log n) (is ∙ received_alike [] (burst ∷ []) log n (sym (not_lost_behind burst n behind))) ∙ sym (got-more (burst ∷ []) log n)
 
 pub lost_next : (burst : Burst) (log : List (Option Group)) (n : ℕ) → burst.first ≤ n → n ≤ burst.last → None ∷ got (burst ∷ []) log n ≡ got (burst ∷ []) log (n + 1)
 lost_next burst log n from to =
-    let nothing : None ≡ received (burst ∷ []) log n = rw (lost_inside burst n from to) refl in
+    let nothing : None ≡ group_left (burst ∷ []) log n = rw (lost_inside burst n from to) refl in
     ap (λ (g : Option Group). g ∷ got (burst ∷ []) log n) nothing ∙ sym (got-more (burst ∷ []) log n)
 
 pub got_long : (lost : List Burst) (log : List (Option Group)) (n : ℕ) → length (got lost log n) ≡ n
 got_long lost log zero = ap length (got-none lost log)
 got_long lost log (suc n) =
     let older = got_long lost log n in
-    let more : got lost log (suc n) ≡ received lost log n ∷ got lost log n = ap (got lost log) (sym (add-one n)) ∙ got-more lost log n in
+    let more : got lost log (suc n) ≡ group_left lost log n ∷ got lost log n = ap (got lost log) (sym (add-one n)) ∙ got-more lost log n in
     ap length more ∙ (omega (arith, older))

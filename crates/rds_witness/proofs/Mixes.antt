@@ -10,7 +10,7 @@ use Rattle.rds_receiver.specs.Receipts.{Tuning}
 use Rattle.rds_receiver.specs.Shown.{ShownView}
 use Rattle.rds_witness.specs.Lines.{AreMixLines, mix_line, shown_line}
 use Rattle.rds_witness.specs.Lost.{got}
-use Rattle.rds_witness.specs.Mix.{AreAround, Has, IsMix, Name, NeverShows, Shows, Tag, Text, Thing, until}
+use Rattle.rds_witness.specs.Mix.{AreAround, Has, IsMix, Name, NeverShows, ViewHas, Tag, Text, Thing, until}
 use Rattle.rds_witness.specs.SomeLines.{AreSomeMixLines, kind_of}
 use Rattle.rds_witness.specs.declared.burst.Burst.{Burst}
 
@@ -106,15 +106,15 @@ module _ (t : Tuning) (ahead : ℕ) (log : List (Option Group)) (lost : List Bur
     has_after : (thing : Thing) → IsMix t ahead log lost slot thing → Has after thing
     has_after thing is = subst (λ (v : ShownView). Has v thing) (same_view t (got lost log (slot + 1)) is.new.after after is.new.is around.is) is.new.has
 
-    not_before : (thing : Thing) → IsMix t ahead log lost slot thing → Shows before thing → ⊥
-    not_before thing is = subst (λ (v : ShownView). Shows v thing → ⊥) (same_view t (got lost log slot) is.new.before before is.new.was around.was) is.new.not_shown
+    not_before : (thing : Thing) → IsMix t ahead log lost slot thing → ViewHas before thing → ⊥
+    not_before thing is = subst (λ (v : ShownView). ViewHas v thing → ⊥) (same_view t (got lost log slot) is.new.before before is.new.was around.was) is.new.not_shown
 
     -- the view has no thing of the kind
     pub adds_nothing : (n : ℕ) (lines : List ℕ) → ((thing : Thing) → kind_of thing ≡ n → Has after thing → ⊥) → AreSomeMixLines n t ahead log lost words slot lines → AreSomeMixLines (n + 1) t ahead log lost words slot lines
     adds_nothing n lines none = adds_none n lines (λ thing kind is. none thing kind (has_after thing is))
 
     -- the thing of the kind is no mix
-    pub adds_no_mix : (thing : Thing) (lines : List ℕ) → Has after thing → Shows before thing ⊎ (NeverShows t log (until ahead log slot) thing → ⊥) → AreSomeMixLines (kind_of thing) t ahead log lost words slot lines → AreSomeMixLines (kind_of thing + 1) t ahead log lost words slot lines
+    pub adds_no_mix : (thing : Thing) (lines : List ℕ) → Has after thing → ViewHas before thing ⊎ (NeverShows t log (until ahead log slot) thing → ⊥) → AreSomeMixLines (kind_of thing) t ahead log lost words slot lines → AreSomeMixLines (kind_of thing + 1) t ahead log lost words slot lines
     adds_no_mix thing lines has isnt = adds_none (kind_of thing) lines (λ other kind is.
         not (subst (IsMix t ahead log lost slot) (one_thing after other thing kind (has_after other is) has) is))
       where

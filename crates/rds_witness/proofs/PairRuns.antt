@@ -9,10 +9,10 @@ use Rattle.rds_receiver.specs.OneView.{same_heard}
 use Rattle.rds_receiver.specs.Receipts.{AreHeard, Segment, segments, text_fragment}
 use Rattle.rds_receiver.specs.Run.{begins_in, run, run_at, run_before}
 use Rattle.rds_receiver.specs.Holds.{HasAge, HasFlag, HoldsRun, newest_slot}
-use Rattle.rds_receiver.specs.StandsAt.{StandsAt}
+use Rattle.rds_receiver.specs.ReceiverAt.{ReceiverAt}
 use Rattle.rds_receiver.specs.State.{HeldSegments, ReceiverState}
 use Rattle.rds_receiver.proofs.Runs.{run_over, run_recent}
-use Rattle.rds_witness.specs.Lost.{got, got-more, received}
+use Rattle.rds_witness.specs.Lost.{got, got-more, group_left}
 use Rattle.rds_witness.proofs.TagParts.{begins_on}
 
 -- held segments that are younger than the dwell are a run that the next slot still has
@@ -58,7 +58,7 @@ newest_flag m heard f a b held some holds =
     subst (λ (r : List Segment). HasFlag r held.flag) (run_recent m (0 + length heard) s (segments text_fragment 0 heard) (omega (arith, some))) holds.flag
 
 -- the run begins in the same slot before and after the next one
-pub same_run : (pi m : ℕ) (old new : ReceiverState) (group : Option Group) (input : List (Option Group)) → old.display.text.age + 1 < old.display.dwell → old.display.text.flag ≡ new.display.text.flag → StandsAt (tuned pi m) old input → StandsAt (tuned pi m) new (group ∷ input)
+pub same_run : (pi m : ℕ) (old new : ReceiverState) (group : Option Group) (input : List (Option Group)) → old.display.text.age + 1 < old.display.dwell → old.display.text.flag ≡ new.display.text.flag → ReceiverAt (tuned pi m) old input → ReceiverAt (tuned pi m) new (group ∷ input)
     → (h k : List (Option Message)) → AreHeard pi input h → AreHeard pi (group ∷ input) k → begins_in (run_at text_fragment m 0 h) ≡ begins_in (run_at text_fragment m 0 k)
 same_run pi m old new group input young flag was is h [] heard now = absurd now
 same_run pi m old new group input young flag was is h (x ∷ k) heard now =
@@ -75,7 +75,7 @@ same_run pi m old new group input young flag was is h (x ∷ k) heard now =
     ∙ ap (λ (l : List (Option Message)). begins_in (run_at text_fragment m 0 (x ∷ l))) (sym same_now)
 
 -- the same over the slots of a log
-pub same_run_of_log : (pi m n : ℕ) (log : List (Option Group)) (old new : ReceiverState) → old.display.text.age + 1 < old.display.dwell → old.display.text.flag ≡ new.display.text.flag → StandsAt (tuned pi m) old (got [] log n) → StandsAt (tuned pi m) new (got [] log (n + 1))
+pub same_run_of_log : (pi m n : ℕ) (log : List (Option Group)) (old new : ReceiverState) → old.display.text.age + 1 < old.display.dwell → old.display.text.flag ≡ new.display.text.flag → ReceiverAt (tuned pi m) old (got [] log n) → ReceiverAt (tuned pi m) new (got [] log (n + 1))
     → (h k : List (Option Message)) → AreHeard pi (got [] log n) h → AreHeard pi (got [] log (n + 1)) k → begins_in (run_at text_fragment m 0 h) ≡ begins_in (run_at text_fragment m 0 k)
 same_run_of_log pi m n log old new young flag was is h k heard now =
-    same_run pi m old new (received [] log n) (got [] log n) young flag was (subst (StandsAt (tuned pi m) new) (got-more [] log n) is) h k heard (subst (λ (l : List (Option Group)). AreHeard pi l k) (got-more [] log n) now)
+    same_run pi m old new (group_left [] log n) (got [] log n) young flag was (subst (ReceiverAt (tuned pi m) new) (got-more [] log n) is) h k heard (subst (λ (l : List (Option Group)). AreHeard pi l k) (got-more [] log n) now)

@@ -16,7 +16,7 @@ use Rattle.rds_receiver.specs.Stored.{receiver_stored}
 use Rattle.rds_fields.specs.Tag.{tag_in}
 use Rattle.rds_receiver.specs.Tags.{cut_by, pair_held, tag_of}
 use Rattle.rds_receiver.specs.Confirmed.{counted}
-use Rattle.rds_witness.specs.Covered.{Covers, IsCovered, IsInputPart}
+use Rattle.rds_witness.specs.Covered.{CoversInput, IsCovered, IsInputPart}
 use Rattle.rds_witness.specs.Lost.{got}
 use Rattle.rds_witness.specs.Mix.{Has, IsBurstMix, Name, Tag, Text, Thing, until}
 use Rattle.rds_witness.specs.Part.{IsPairPart}
@@ -127,14 +127,14 @@ seen_mix t log burst n (Name x) mix seen = mix.mix.never seen.slot seen.view see
 seen_mix t log burst n (Tag which class piece) mix seen = seen
 
 pub no_mix : (t : Tuning) (log : List (Option Group)) (n slots : ℕ) → slots ≡ until t.dwell log n → n < slots → HasViews t log (length log) → (whole : Lossy) (receivers : List Lossy)
-    → ((input : List (Option Group)) → length input ≡ n + 1 → Covers t input whole → IsInputPart t input (got [] log (n + 1)))
+    → ((input : List (Option Group)) → length input ≡ n + 1 → CoversInput t input whole → IsInputPart t input (got [] log (n + 1)))
     → ((burst : Burst) → burst.first ≤ burst.last → burst.last + 1 < n + 1 → IsCovered t (whole ∷ receivers) (got (burst ∷ []) log (n + 1)))
     → ShowOnlySeen t log slots receivers → (burst : Burst) (thing : Thing) → IsBurstMix t log burst n thing → IsReplaced t log (until t.dwell log n) thing
 no_mix t log n slots is soon views whole receivers same_whole hold show burst thing mix =
     seen_mix t log burst n thing mix (subst (λ (u : ℕ). IsSeenBefore t log u thing) is
     (by_first t whole receivers (got (burst ∷ []) log (n + 1)) (IsSeenBefore t log slots thing) (hold burst mix.place.order (let behind = mix.place.before in omega (arith, behind))) by_whole by_other))
   where
-    by_whole : Covers t (got (burst ∷ []) log (n + 1)) whole → IsSeenBefore t log slots thing
+    by_whole : CoversInput t (got (burst ∷ []) log (n + 1)) whole → IsSeenBefore t log slots thing
     by_whole covers =
         let (view, here) = views n mix.place.inside in
         own_things t log n slots view thing soon here (view_part t (got (burst ∷ []) log (n + 1)) (got [] log (n + 1)) (same_whole (got (burst ∷ []) log (n + 1)) (got_long (burst ∷ []) log (n + 1)) covers) mix.mix.new.after view mix.mix.new.is here thing mix.mix.new.has)

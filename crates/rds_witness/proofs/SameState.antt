@@ -5,22 +5,22 @@ use Rattle.std.proofs.lemmas.Bool.Decides.{nat_tests}
 use Rattle.rds_block.specs.declared.group.Group.{Group}
 use Rattle.rds_receiver.specs.Receipts.{Tuning}
 use Rattle.rds_receiver.specs.Shown.{IsView, ShownView}
-use Rattle.rds_receiver.specs.StandsAt.{StandsAt}
+use Rattle.rds_receiver.specs.ReceiverAt.{ReceiverAt}
 use Rattle.rds_receiver.specs.State.{ReceiverState}
 use Rattle.rds_receiver.proofs.Alike.{alike_itself, stays_shown}
 use Rattle.rds_witness.specs.Mix.{Name, Tag, Text, Thing, until}
 use Rattle.rds_witness.specs.Search.{HasOnlySeen, IsSeenBefore, ShowsOnlySeen}
 
 -- the view of a state at two inputs
-view_at : (t : Tuning) (r : ReceiverState) (one other : List (Option Group)) (v : ShownView) → StandsAt t r one → StandsAt t r other → IsView t one v → IsView t other v
+view_at : (t : Tuning) (r : ReceiverState) (one other : List (Option Group)) (v : ShownView) → ReceiverAt t r one → ReceiverAt t r other → IsView t one v → IsView t other v
 view_at t r one other v mine theirs = stays_shown t r r one other v mine theirs (alike_itself r.display)
 
-only_everywhere : (t : Tuning) (log : List (Option Group)) (n : ℕ) (r : ReceiverState) (input : List (Option Group)) → StandsAt t r input → HasOnlySeen t log n input → ShowsOnlySeen t log n r
+only_everywhere : (t : Tuning) (log : List (Option Group)) (n : ℕ) (r : ReceiverState) (input : List (Option Group)) → ReceiverAt t r input → HasOnlySeen t log n input → ShowsOnlySeen t log n r
 only_everywhere t log n r input stands only other there = record { view = only.view; is = view_at t r input other only.view stands there only.is; seen = only.seen }
 
 -- a view that stays
 pub only_stays : (t : Tuning) (log : List (Option Group)) (n : ℕ) (old new : ReceiverState) (group : Option Group) (input : List (Option Group)) → ((view : ShownView) → IsView t input view → IsView t (group ∷ input) view)
-    → StandsAt t old input → StandsAt t new (group ∷ input) → ShowsOnlySeen t log n old → ShowsOnlySeen t log n new
+    → ReceiverAt t old input → ReceiverAt t new (group ∷ input) → ShowsOnlySeen t log n old → ShowsOnlySeen t log n new
 only_stays t log n old new group input same stands now only =
     let was = only input stands in
     only_everywhere t log n new (group ∷ input) now record { view = was.view; is = same was.view was.is; seen = was.seen }

@@ -2,7 +2,7 @@
 use Rattle.std.proofs.Common.{◌≡◌, ◌≤◌, ◌<◌, ◌+◌, ◌∙◌, ◌⊎◌, ℕ, zero, suc, Bool, true, false, List, None, Some, add-one, ap, arith, inl, inr, subst, sym}
 use Rattle.std.specs.Prelude.{option_and_then, slice_index}
 use Rattle.std.proofs.lemmas.Bool.{cases_lt}
-use Rattle.rds_witness.specs.Spans.{IsReadAs, Reading, read, read-more, reading_of, with_byte}
+use Rattle.rds_witness.specs.Spans.{ReadsOn, SpanReading, read, read-more, reading_of, with_byte}
 use Rattle.rds_witness.specs.declared.spans.SpanReader.{SpanReader}
 
 -- a text that does not fit so far does not fit
@@ -15,10 +15,10 @@ none_on text n (suc k) less none = by_end (λ before. none_on text n k before no
     by_end older (inr before) = ap (read text) (sym (add-one k)) ∙ read-more text k ∙ ap (option_and_then (with_byte (slice_index text k))) (older before)
 
 -- one more byte
-pub read_good : (text : List ℕ) (n : ℕ) (r : Reading) (next : SpanReader) (good : Bool) → read text n ≡ Some r → IsReadAs (with_byte (slice_index text n) r) good next → good ≡ true → read text (n + 1) ≡ Some (reading_of next)
+pub read_good : (text : List ℕ) (n : ℕ) (r : SpanReading) (next : SpanReader) (good : Bool) → read text n ≡ Some r → ReadsOn (with_byte (slice_index text n) r) good next → good ≡ true → read text (n + 1) ≡ Some (reading_of next)
 read_good text n r next true was is good = read-more text n ∙ ap (option_and_then (with_byte (slice_index text n))) was ∙ is
 read_good text n r next false was is good = cc
 
-pub read_bad : (text : List ℕ) (n : ℕ) (r : Reading) (next : SpanReader) (good : Bool) → read text n ≡ Some r → IsReadAs (with_byte (slice_index text n) r) good next → good ≡ false → read text (n + 1) ≡ None
+pub read_bad : (text : List ℕ) (n : ℕ) (r : SpanReading) (next : SpanReader) (good : Bool) → read text n ≡ Some r → ReadsOn (with_byte (slice_index text n) r) good next → good ≡ false → read text (n + 1) ≡ None
 read_bad text n r next false was is bad = read-more text n ∙ ap (option_and_then (with_byte (slice_index text n))) was ∙ is
 read_bad text n r next true was is bad = cc

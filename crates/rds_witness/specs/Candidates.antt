@@ -3,7 +3,7 @@
 use Rattle.std.specs.Prelude.{◌+◌, ℕ, List}
 use Rattle.rds_log.specs.LogWrites.{tuned}
 use Rattle.rds_receiver.specs.Shown.{ShownView}
-use Rattle.rds_receiver.specs.StandsAt.{StandsAt}
+use Rattle.rds_receiver.specs.ReceiverAt.{ReceiverAt}
 use Rattle.rds_receiver.specs.State.{ReceiverState}
 use Rattle.rds_witness.specs.Lines.{AreMixLines}
 use Rattle.rds_witness.specs.LossLines.{AreLossLines}
@@ -35,7 +35,7 @@ AddsKindOfIt n c before after = AreSomeOfItsMixLines n c before → AreSomeOfIts
 
 -- a receiver that loses its slots stands before slot n of its log
 abbrev pub StandsBefore : ℕ → Candidate → ReceiverState → Type 0
-StandsBefore n c r = StandsAt (tuned c.pi c.dwell) r (got c.lost.now c.log.now n)
+StandsBefore n c r = ReceiverAt (tuned c.pi c.dwell) r (got c.lost.now c.log.now n)
 
 -- after the lines of all mixes before its slot, those of its slot are appended
 abbrev pub AddsSlotOfIt : Candidate → List ℕ → List ℕ → Type 0

@@ -6,8 +6,8 @@ use Rattle.rds_block.specs.declared.group.Group.{Group}
 use Rattle.rds_fields.specs.declared.message.Message.{Message}
 use Rattle.rds_receiver.specs.Receipts.{AreHeard, Fragment, Tuning, name_fragment, text_fragment}
 use Rattle.rds_receiver.specs.Run.{run_at}
-use Rattle.rds_receiver.specs.StandsAt.{StandsAt}
-use Rattle.rds_receiver.specs.Stored.{IsStored, receiver_stored}
+use Rattle.rds_receiver.specs.ReceiverAt.{ReceiverAt}
+use Rattle.rds_receiver.specs.Stored.{IsStoredReceiver, receiver_stored}
 use Rattle.rds_receiver.specs.Confirmed.{counted}
 use Rattle.rds_witness.specs.Part.{IsPart, IsTagPart}
 use Rattle.rds_witness.specs.declared.covering.Lossy.{Lossy}
@@ -30,28 +30,28 @@ pub record IsInputPart (t : Tuning) (one other : List (Option Group)) : Type 0 w
 pub record IsAt (t : Tuning) (n : ℕ) (s : Lossy) : Type 0 where
   pub input : List (Option Group)
   pub long : length input ≡ n
-  pub stands : StandsAt t (receiver_stored s.receiver) input
-  pub stored : IsStored s.receiver
+  pub stands : ReceiverAt t (receiver_stored s.receiver) input
+  pub stored : IsStoredReceiver s.receiver
 
 -- the stored receiver stands at the end of an input of which this one is a part
-pub record Covers (t : Tuning) (input : List (Option Group)) (s : Lossy) : Type 0 where
+pub record CoversInput (t : Tuning) (input : List (Option Group)) (s : Lossy) : Type 0 where
   pub other : List (Option Group)
-  pub stands : StandsAt t (receiver_stored s.receiver) other
-  pub stored : IsStored s.receiver
+  pub stands : ReceiverAt t (receiver_stored s.receiver) other
+  pub stored : IsStoredReceiver s.receiver
   pub part : IsInputPart t input other
 
 -- one of the stored receivers stands there
 pub record IsCovered (t : Tuning) (set : List Lossy) (input : List (Option Group)) : Type 0 where
   pub by : Lossy
   pub is_there : Contains set by
-  pub covers : Covers t input by
+  pub covers : CoversInput t input by
 
 -- after a receiver was offered: the kept receivers cover the inputs of n slots that it covers, and all that they
 -- covered before
 pub record Keeps (t : Tuning) (n : ℕ) (offered : Lossy) (old new : List Lossy) : Type 0 where
   pub at : All (IsAt t n) new
   pub stays : (input : List (Option Group)) → IsCovered t old input → IsCovered t new input
-  pub more : (input : List (Option Group)) → length input ≡ n → Covers t input offered → IsCovered t new input
+  pub more : (input : List (Option Group)) → length input ≡ n → CoversInput t input offered → IsCovered t new input
 
 -- the same after receivers took a slot and were offered
 pub record KeepsNext (t : Tuning) (n : ℕ) (group : Option Group) (offered old new : List Lossy) : Type 0 where

@@ -12,9 +12,9 @@ AreLinesOfSlots t ahead log lost [] = Unit {0}
 AreLinesOfSlots t ahead log lost (newest ∷ older) =
     AreMixLines t ahead log lost [] (length older) newest × AreLinesOfSlots t ahead log lost older
 
-abbrev pub joined : List (List ℕ) → List ℕ
-joined [] = []
-joined (newest ∷ older) = joined older ++ newest
+abbrev pub joined_parts : List (List ℕ) → List ℕ
+joined_parts [] = []
+joined_parts (newest ∷ older) = joined_parts older ++ newest
 
 -- the lines of all mixes of the first n slots, in the order of the slots
 pub record AreLossLines (t : Tuning) (ahead : ℕ) (log : List (Option Group)) (lost : List Burst) (n : ℕ)
@@ -22,7 +22,7 @@ pub record AreLossLines (t : Tuning) (ahead : ℕ) (log : List (Option Group)) (
   pub slots : List (List ℕ)
   pub long : length slots ≡ n
   pub each : AreLinesOfSlots t ahead log lost slots
-  pub are : lines ≡ joined slots
+  pub are : lines ≡ joined_parts slots
 
 abbrev pub no_mix : List ℕ
 no_mix = codes "no mix with these slots lost\n"

@@ -16,24 +16,24 @@ abbrev pub is_lost : List Burst → ℕ → Bool
 is_lost lost n = list_any (λ (burst : Burst). has_slot burst n) lost
 
 -- the group of slot n
-abbrev pub received : List Burst → List (Option Group) → ℕ → Option Group
-received lost log n = if is_lost lost n then None else slice_index_or log n None
+abbrev pub group_left : List Burst → List (Option Group) → ℕ → Option Group
+group_left lost log n = if is_lost lost n then None else slice_index_or log n None
 
 -- these are the groups of all slots
-pub record IsReceived (lost : List Burst) (log got : List (Option Group)) : Type 0 where
+pub record IsWhatIsLeft (lost : List Burst) (log got : List (Option Group)) : Type 0 where
   pub long : length got ≡ length log
-  pub each : (n : ℕ) → n < length log → slice_index_or got n None ≡ received lost log n
+  pub each : (n : ℕ) → n < length log → slice_index_or got n None ≡ group_left lost log n
 
 -- the input before slot n
 unfoldable pub got : List Burst → List (Option Group) → ℕ → List (Option Group)
 got lost log zero = []
-got lost log (suc n) = received lost log n ∷ got lost log n
+got lost log (suc n) = group_left lost log n ∷ got lost log n
 
 pub got-none : (lost : List Burst) (log : List (Option Group)) → got lost log 0 ≡ []
 unfolding got
 got-none lost log = refl
 
 pub got-more : (lost : List Burst) (log : List (Option Group)) (n : ℕ)
-    → got lost log (n + 1) ≡ received lost log n ∷ got lost log n
+    → got lost log (n + 1) ≡ group_left lost log n ∷ got lost log n
 unfolding got
 got-more lost log n = ap (got lost log) (add-one n)

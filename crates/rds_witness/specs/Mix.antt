@@ -17,10 +17,10 @@ pub data Thing : Type 0 where
   Tag : (which : Which) (class : ℕ) (piece : List ℕ) → Thing
 
 -- the view shows the thing, a tag in either place
-abbrev pub Shows : ShownView → Thing → Type 0
-Shows view (Text x) = view.text ≡ Some x
-Shows view (Name x) = view.name ≡ Some x
-Shows view (Tag which class piece) = (view.one ≡ Some (class, piece)) ⊎ (view.two ≡ Some (class, piece))
+abbrev pub ViewHas : ShownView → Thing → Type 0
+ViewHas view (Text x) = view.text ≡ Some x
+ViewHas view (Name x) = view.name ≡ Some x
+ViewHas view (Tag which class piece) = (view.one ≡ Some (class, piece)) ⊎ (view.two ≡ Some (class, piece))
 
 -- the view has the thing, a tag in its own place
 abbrev pub Has : ShownView → Thing → Type 0
@@ -36,13 +36,13 @@ pub record IsNew (t : Tuning) (log : List (Option Group)) (lost : List Burst) (s
   pub after : ShownView
   pub was : IsView t (got lost log slot) before
   pub is : IsView t (got lost log (slot + 1)) after
-  pub not_shown : Shows before thing → ⊥
+  pub not_shown : ViewHas before thing → ⊥
   pub has : Has after thing
 
 -- with nothing lost, no view of the first n slots shows the thing
 abbrev pub NeverShows : Tuning → List (Option Group) → ℕ → Thing → Type 0
 NeverShows t log n thing =
-    (slot : ℕ) (view : ShownView) → slot < n → IsView t (got [] log (slot + 1)) view → Shows view thing → ⊥
+    (slot : ℕ) (view : ShownView) → slot < n → IsView t (got [] log (slot + 1)) view → ViewHas view thing → ⊥
 
 -- the number of slots up to `ahead` after the slot, or the length of the log if that is less
 abbrev pub until : ℕ → List (Option Group) → ℕ → ℕ

@@ -7,15 +7,15 @@ use Rattle.rds_fields.specs.Tag.{PairFields}
 use Rattle.rds_receiver.specs.Receipts.{AreHeard, Tuning, text_fragment}
 use Rattle.rds_receiver.specs.Run.{begins_in, run_at}
 use Rattle.rds_receiver.specs.Shown.{IsView, ShownView}
-use Rattle.rds_receiver.specs.StandsAt.{StandsAt}
+use Rattle.rds_receiver.specs.ReceiverAt.{ReceiverAt}
 use Rattle.rds_receiver.specs.State.{ReceiverState}
-use Rattle.rds_receiver.specs.Stored.{IsStored, receiver_stored}
+use Rattle.rds_receiver.specs.Stored.{IsStoredReceiver, receiver_stored}
 use Rattle.rds_fields.specs.Tag.{tag_in}
 use Rattle.rds_receiver.specs.Tags.{cut_by, pair_held}
 use Rattle.rds_receiver.specs.Confirmed.{counted}
 use Rattle.rds_witness.specs.Covered.{IsAt, IsCovered}
 use Rattle.rds_witness.specs.Lost.{got}
-use Rattle.rds_witness.specs.Mix.{Has, IsBurstMix, Name, Shows, Tag, Text, Thing, until}
+use Rattle.rds_witness.specs.Mix.{Has, IsBurstMix, Name, ViewHas, Tag, Text, Thing, until}
 use Rattle.rds_witness.specs.declared.burst.Burst.{Burst}
 use Rattle.rds_witness.specs.declared.covering.Lossy.{Lossy}
 use Rattle.rds_witness.specs.declared.seen.AllSeen.{AllSeen}
@@ -70,8 +70,8 @@ NoMixes t log = NoMixesIn t log (length log)
 -- burst up to the newest slot; and receivers that with it hold all that any receiver holds that heard again after its
 -- burst
 pub record StandsAfter (t : Tuning) (log : List (Option Group)) (n : ℕ) (sweep : Sweep) : Type 0 where
-  pub whole : StandsAt t (receiver_stored sweep.whole.receiver) (got [] log n)
-  pub stored : IsStored sweep.whole.receiver
+  pub whole : ReceiverAt t (receiver_stored sweep.whole.receiver) (got [] log n)
+  pub stored : IsStoredReceiver sweep.whole.receiver
   pub losing_at : All (IsAt t n) sweep.losing.items
   pub hearing_at : All (IsAt t n) sweep.hearing.items
   pub lose : (burst : Burst) → burst.first ≤ burst.last → burst.last + 1 ≡ n
@@ -85,11 +85,11 @@ pub record IsShownBefore (t : Tuning) (log : List (Option Group)) (n : ℕ) (thi
   pub view : ShownView
   pub before : slot < n
   pub is : IsView t (got [] log (slot + 1)) view
-  pub shows : Shows view thing
+  pub shows : ViewHas view thing
 
 -- a view shows the thing, or a receiver that loses nothing shows it in one of the first n slots
 abbrev pub IsKnown : Tuning → List (Option Group) → ℕ → ShownView → Thing → Type 0
-IsKnown t log n view thing = Shows view thing ⊎ IsShownBefore t log n thing
+IsKnown t log n view thing = ViewHas view thing ⊎ IsShownBefore t log n thing
 
 -- a receiver that loses nothing shows the thing in one of the first n slots; and for a tag: it shows a text of which a
 -- pair of its run makes the tag
@@ -101,8 +101,8 @@ IsSeenBefore t log n (Tag which class piece) = IsTagOfRun t log n class piece
 -- the receiver that loses nothing has this state after the slot, and the pair is one of its run of texts
 pub record IsSeen (t : Tuning) (log : List (Option Group)) (seen : Seen) : Type 0 where
   pub inside : seen.slot < length log
-  pub stands : StandsAt t (receiver_stored seen.receiver) (got [] log (seen.slot + 1))
-  pub stored : IsStored seen.receiver
+  pub stands : ReceiverAt t (receiver_stored seen.receiver) (got [] log (seen.slot + 1))
+  pub stored : IsStoredReceiver seen.receiver
   pub pair : (pair : PairFields) → seen.pair ≡ Some pair → IsOfRun t log (seen.slot + 1) pair
 
 -- the receiver that loses nothing has a view in each of the first n slots
@@ -120,7 +120,7 @@ pub record HasOnlySeen (t : Tuning) (log : List (Option Group)) (n : ℕ) (input
 
 -- the receiver shows no other things, wherever it stands
 abbrev pub ShowsOnlySeen : Tuning → List (Option Group) → ℕ → ReceiverState → Type 0
-ShowsOnlySeen t log n r = (input : List (Option Group)) → StandsAt t r input → HasOnlySeen t log n input
+ShowsOnlySeen t log n r = (input : List (Option Group)) → ReceiverAt t r input → HasOnlySeen t log n input
 
 abbrev pub ShowOnlySeen : Tuning → List (Option Group) → ℕ → List Lossy → Type 0
 ShowOnlySeen t log n receivers = All (λ s. ShowsOnlySeen t log n (receiver_stored s.receiver)) receivers

@@ -21,7 +21,7 @@ pub record WroteAnswer (Is : Bool → List ℕ → Type 0) (found : Bool) (w : T
   pub calm : IsCalm w
 
 -- the writer failed: some first part of an answer was written
-pub record WrotePart (Is : Bool → List ℕ → Type 0) (w : Traffic) : Type 0 where
+pub record WrotePartOfAnswer (Is : Bool → List ℕ → Type 0) (w : Traffic) : Type 0 where
   pub found : Bool
   pub written : List ℕ
   pub answer : Is found written
@@ -31,13 +31,13 @@ pub record WrotePart (Is : Bool → List ℕ → Type 0) (w : Traffic) : Type 0 
 -- the output of an answer
 abbrev pub Answers : (Bool → List ℕ → Type 0) → Traffic → Result Bool WriteFault → Type 0
 Answers Is w (Ok found) = WroteAnswer Is found w
-Answers Is w (Err fault) = WrotePart Is w
+Answers Is w (Err fault) = WrotePartOfAnswer Is w
 
 -- the log was read to its end and answered, or a fault came, which has its cause
 abbrev pub AnswersLog : (List (Option Group) → Bool → List ℕ → Type 0) → Traffic → Traffic → Result Bool LogFault
     → Type 0
 AnswersLog Is r w (Ok found) = (log : List (Option Group)) × GathersAll r log × WroteAnswer (Is log) found w
-AnswersLog Is r w (Err Write) = (log : List (Option Group)) × GathersAll r log × WrotePart (Is log) w
+AnswersLog Is r w (Err Write) = (log : List (Option Group)) × GathersAll r log × WrotePartOfAnswer (Is log) w
 AnswersLog Is r w (Err Memory) = IsCalm r × PutsNothing w
 AnswersLog Is r w (Err (BadLine n)) = GathersNone (2 ^ 32) r (BadLine n) × PutsNothing w
 AnswersLog Is r w (Err Read) = GathersNone (2 ^ 32) r Read × PutsNothing w

@@ -1,6 +1,6 @@
 //! Bursts of lost slots, and the slots of a log without them.
 ghost use Rattle.std.specs.Prelude.{◌≡◌, ◌<◌, ℕ, IfOk, None, length, slice_index_or, if◌then◌else◌};
-ghost use Rattle.rds_witness.specs.Lost.{IsReceived, has_slot, is_lost, received};
+ghost use Rattle.rds_witness.specs.Lost.{IsWhatIsLeft, has_slot, is_lost, group_left};
 
 use rds_block::Blocks;
 use std::alloc::{AllocError, Global};
@@ -34,7 +34,7 @@ pub(crate) fn received_of(
     log: &[Option<Blocks>],
     lost: &[Burst],
 ) -> Result<Vec<Option<Blocks>>, AllocError>
-    ensures { IfOk result (λ got. IsReceived lost.now log.now got.items) }
+    ensures { IfOk result (λ got. IsWhatIsLeft lost.now log.now got.items) }
 {
     let mut got = Vec::new(alloc);
     got.extend_from_slice(log)?;
@@ -63,7 +63,7 @@ fn lose(log: &mut [Option<Blocks>], burst: Burst)
 /// Returns the group of a slot of the log, or nothing if the slot is lost.
 pub(crate) fn received(log: &[Option<Blocks>], lost: &[Burst], slot: usize) -> Option<Blocks>
     requires { slot < length log.now }
-    ensures { result ≡ received lost.now log.now slot }
+    ensures { result ≡ group_left lost.now log.now slot }
 {
     if is_lost(lost, slot) { None } else { log[slot] }
 }

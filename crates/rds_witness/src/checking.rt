@@ -1,7 +1,7 @@
 //! Checks whether a receiver shows a mix.
 ghost use Rattle.std.specs.Prelude.{◌≡◌, ◌<◌, ◌≤◌, ◌+◌, ◌↔◌, [], IsTrue, Option, Some, length};
 ghost use Rattle.rds_log.specs.LogWrites.{tuned};
-ghost use Rattle.rds_receiver.specs.StandsAt.{StandsAt};
+ghost use Rattle.rds_receiver.specs.ReceiverAt.{ReceiverAt};
 ghost use Rattle.rds_receiver.specs.Borrowed.{view_of};
 ghost use Rattle.rds_witness.specs.Borrowed.{thing_of};
 ghost use Rattle.rds_witness.specs.Lost.{got};
@@ -22,7 +22,7 @@ pub(crate) fn receiver_before(
     slot: usize,
 ) -> Receiver
     requires { slot ≤ length log.now }
-    ensures { StandsAt (tuned pi dwell) result (got lost.now log.now slot) }
+    ensures { ReceiverAt (tuned pi dwell) result (got lost.now log.now slot) }
 {
     let mut receiver = Receiver::new(pi, dwell);
     for n in 0..slot {

@@ -7,9 +7,9 @@ ghost use Rattle.rds_assembly.specs.Held.{held_cells};
 ghost use Rattle.rds_fields.specs.Stored.{is_set, pair_stored, tag_stored};
 ghost use Rattle.rds_receiver.specs.Shown.{IsView, ShownView};
 ghost use Rattle.rds_block.specs.declared.group.Group.{Group};
-ghost use Rattle.rds_receiver.specs.StandsAt.{StandsAt, WhereItStands};
+ghost use Rattle.rds_receiver.specs.ReceiverAt.{ReceiverAt, WhereReceiverStands};
 ghost use Rattle.rds_receiver.specs.declared.stored.StoredReceiver.{StoredReceiver};
-ghost use Rattle.rds_receiver.specs.Stored.{IsStored, receiver_stored};
+ghost use Rattle.rds_receiver.specs.Stored.{IsStoredReceiver, receiver_stored};
 ghost use Rattle.rds_log.specs.LogWrites.{tuned};
 ghost use Rattle.rds_witness.specs.Covered.{IsAt, IsInputPart, Keeps, KeepsNext};
 ghost use Rattle.rds_receiver.specs.Receipts.{Tuning};
@@ -124,8 +124,8 @@ fn is_known_part(one: &StoredReceiver, other: &StoredReceiver) -> bool
 /// Returns whether the first receiver holds a part of what the second one holds, if both heard as many slots.
 pub(crate) fn is_receiver_part(one: &StoredReceiver, other: &StoredReceiver) -> bool
     ensures { IsTrue result → (pi m : ℕ) (input more : List (Option Group))
-        → StandsAt (tuned pi m) (receiver_stored one.now) input
-        → StandsAt (tuned pi m) (receiver_stored other.now) more → length input ≡ length more
+        → ReceiverAt (tuned pi m) (receiver_stored one.now) input
+        → ReceiverAt (tuned pi m) (receiver_stored other.now) more → length input ≡ length more
         → IsInputPart (tuned pi m) input more }
 {
     if !is_known_part(one, other) {
@@ -141,11 +141,11 @@ pub(crate) fn is_receiver_part(one: &StoredReceiver, other: &StoredReceiver) -> 
 
 /// Lets the receiver handle a slot. `lost` is the number of the slot if the receiver lost it.
 pub(crate) fn take_slot(one: &mut Lossy, group: Option<Blocks>, lost: Option<usize>)
-    ensures stands { IsStored one.old.receiver → WhereItStands (receiver_stored one.old.receiver)
-        (λ t input. StandsAt t (receiver_stored one.new.receiver) (group ∷ input)) }
-    ensures good { IsStored one.old.receiver → IsStored one.new.receiver }
-    ensures same { IsStored one.old.receiver → (t : Tuning) (log : List (Option Group)) (k : ℕ)
-        (input : List (Option Group)) → StandsAt t (receiver_stored one.old.receiver) input
+    ensures stands { IsStoredReceiver one.old.receiver → WhereReceiverStands (receiver_stored one.old.receiver)
+        (λ t input. ReceiverAt t (receiver_stored one.new.receiver) (group ∷ input)) }
+    ensures good { IsStoredReceiver one.old.receiver → IsStoredReceiver one.new.receiver }
+    ensures same { IsStoredReceiver one.old.receiver → (t : Tuning) (log : List (Option Group)) (k : ℕ)
+        (input : List (Option Group)) → ReceiverAt t (receiver_stored one.old.receiver) input
         → ShowsOnlySeen t log k (receiver_stored one.old.receiver) → IsChecked t log k one.new }
 {
     one.changed = one.receiver.slot(group);
@@ -156,9 +156,9 @@ pub(crate) fn take_slot(one: &mut Lossy, group: Option<Blocks>, lost: Option<usi
 
 /// Lets the receiver without a loss lose this slot.
 pub(crate) fn lose_first(whole: &mut Lossy, slot: usize)
-    ensures stands { IsStored whole.old.receiver → WhereItStands (receiver_stored whole.old.receiver)
-        (λ t input. StandsAt t (receiver_stored whole.new.receiver) (None ∷ input)) }
-    ensures good { IsStored whole.old.receiver → IsStored whole.new.receiver }
+    ensures stands { IsStoredReceiver whole.old.receiver → WhereReceiverStands (receiver_stored whole.old.receiver)
+        (λ t input. ReceiverAt t (receiver_stored whole.new.receiver) (None ∷ input)) }
+    ensures good { IsStoredReceiver whole.old.receiver → IsStoredReceiver whole.new.receiver }
     ensures changed { IsTrue whole.new.changed }
 {
     take_slot(whole, None, None);

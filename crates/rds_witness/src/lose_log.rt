@@ -5,10 +5,10 @@ ghost use Rattle.rds_io.specs.Told.{traffic};
 ghost use Rattle.rds_log.specs.LogWrites.{tuned};
 ghost use Rattle.rds_log.specs.Reads.{MadeReads};
 ghost use Rattle.rds_receiver.specs.Receipts.{Tuning};
-ghost use Rattle.rds_receiver.specs.Stored.{IsStored, receiver_stored};
+ghost use Rattle.rds_receiver.specs.Stored.{IsStoredReceiver, receiver_stored};
 ghost use Rattle.rds_witness.specs.Candidates.{AddsSlotOfIt, StandsBefore};
 ghost use Rattle.rds_witness.specs.LossLines.{AreLossLines, IsLossAnswer};
-ghost use Rattle.rds_witness.specs.Lost.{received};
+ghost use Rattle.rds_witness.specs.Lost.{group_left};
 ghost use Rattle.rds_witness.specs.Search.{AreSeen};
 ghost use Rattle.rds_witness.specs.Witness.{Answers, Loses};
 ghost use Rattle.rds_witness.specs.declared.burst.Burst.{Burst};
@@ -126,11 +126,11 @@ fn play_slot(
 ) -> Result<(), AllocError>
     requires inside { candidate.now.slot < length candidate.now.log.now }
     requires words { candidate.now.words.now ≡ [] }
-    requires got { group ≡ received candidate.now.lost.now candidate.now.log.now candidate.now.slot }
+    requires got { group ≡ group_left candidate.now.lost.now candidate.now.log.now candidate.now.slot }
     requires seen { AreSeen (tuned candidate.now.pi candidate.now.dwell) candidate.now.log.now all.now }
-    requires stored { IsStored receiver.old }
+    requires stored { IsStoredReceiver receiver.old }
     requires stands { StandsBefore candidate.now.slot candidate.now (receiver_stored receiver.old) }
-    ensures stored { IsStored receiver.new }
+    ensures stored { IsStoredReceiver receiver.new }
     ensures stands { StandsBefore (candidate.now.slot + 1) candidate.now (receiver_stored receiver.new) }
     ensures lines { OnOk result (AddsSlotOfIt candidate.now lines.old.items lines.new.items) }
 {

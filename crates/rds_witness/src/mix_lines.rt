@@ -5,7 +5,7 @@ ghost use Rattle.rds_receiver.specs.Borrowed.{view_of};
 ghost use Rattle.rds_witness.specs.Borrowed.{IsShortThing, thing_of};
 ghost use Rattle.rds_witness.specs.Candidates.{AddsKindOfIt, AreAroundIt, AreItsMixLines, IsNeverShown};
 ghost use Rattle.rds_witness.specs.Lines.{AreMixLines, burst_text, lose_words, shown_line, tag_name};
-ghost use Rattle.rds_witness.specs.Mix.{Has, IsPlace, Shows};
+ghost use Rattle.rds_witness.specs.Mix.{Has, IsPlace, ViewHas};
 ghost use Rattle.rds_witness.specs.SomeLines.{kind_of};
 
 use crate::burst::Burst;
@@ -90,9 +90,9 @@ fn tag_name(which: Which) -> &'static [u8]
 /// that loses nothing shows it in none of the slots to look at.
 fn is_mix(candidate: &Candidate<'_>, before: View<'_>, thing: Thing<'_>) -> bool
     requires { candidate.now.slot < length candidate.now.log.now }
-    ensures new { IsTrue result → Shows (view_of before.entry) (thing_of thing.entry) → ⊥ }
+    ensures new { IsTrue result → ViewHas (view_of before.entry) (thing_of thing.entry) → ⊥ }
     ensures never { IsTrue result → IsNeverShown candidate.now (thing_of thing.entry) }
-    ensures no { result ≡ false → Shows (view_of before.entry) (thing_of thing.entry)
+    ensures no { result ≡ false → ViewHas (view_of before.entry) (thing_of thing.entry)
         ⊎ (IsNeverShown candidate.now (thing_of thing.entry) → ⊥) }
 {
     if shows(before, thing) {

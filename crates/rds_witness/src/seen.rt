@@ -10,8 +10,8 @@ ghost use Rattle.rds_log.specs.LogWrites.{tuned};
 ghost use Rattle.rds_receiver.specs.Borrowed.{borrowed_tag, view_of};
 ghost use Rattle.rds_receiver.specs.Receipts.{Tuning};
 ghost use Rattle.rds_receiver.specs.Shown.{IsView, ShownView};
-ghost use Rattle.rds_receiver.specs.StandsAt.{StandsAt};
-ghost use Rattle.rds_receiver.specs.Stored.{IsStored, display_stored, receiver_stored};
+ghost use Rattle.rds_receiver.specs.ReceiverAt.{ReceiverAt};
+ghost use Rattle.rds_receiver.specs.Stored.{IsStoredReceiver, display_stored, receiver_stored};
 ghost use Rattle.rds_fields.specs.Tag.{tag_in};
 ghost use Rattle.rds_receiver.specs.Tags.{cut_by};
 ghost use Rattle.rds_witness.specs.Borrowed.{thing_of};
@@ -167,8 +167,8 @@ impl AllSeen {
     fn drop_pairs(&mut self, old: &StoredReceiver, new: &StoredReceiver)
         ensures seen { self.new.seen ≡ self.old.seen }
         ensures pairs { (pi m n : ℕ) (log : List (Option Group))
-            → StandsAt (tuned pi m) (receiver_stored old.now) (got [] log n)
-            → StandsAt (tuned pi m) (receiver_stored new.now) (got [] log (n + 1))
+            → ReceiverAt (tuned pi m) (receiver_stored old.now) (got [] log n)
+            → ReceiverAt (tuned pi m) (receiver_stored new.now) (got [] log (n + 1))
             → All (IsOfRun (tuned pi m) log n) self.old.pairs.items
             → All (IsOfRun (tuned pi m) log (n + 1)) self.new.pairs.items }
     {
@@ -179,8 +179,8 @@ impl AllSeen {
 
     /// Notes the parts that the receiver shows for the first time in this slot.
     fn note(&mut self, whole: &StoredReceiver, slot: usize) -> Result<(), AllocError>
-        ensures { OnOk result ((t : Tuning) (log : List (Option Group)) → slot < length log → IsStored whole.now
-            → StandsAt t (receiver_stored whole.now) (got [] log (slot + 1))
+        ensures { OnOk result ((t : Tuning) (log : List (Option Group)) → slot < length log → IsStoredReceiver whole.now
+            → ReceiverAt t (receiver_stored whole.now) (got [] log (slot + 1))
             → All (IsSeen t log) self.old.seen.items → All (IsOfRun t log (slot + 1)) self.old.pairs.items
             → All (IsSeen t log) self.new.seen.items × All (IsOfRun t log (slot + 1)) self.new.pairs.items
             × ((view : ShownView) × IsView t (got [] log (slot + 1)) view)) }
@@ -214,8 +214,8 @@ impl AllSeen {
         view: View<'_>,
         slot: usize,
     ) -> Result<(), AllocError>
-        ensures { OnOk result ((t : Tuning) (log : List (Option Group)) → slot < length log → IsStored whole.now
-            → StandsAt t (receiver_stored whole.now) (got [] log (slot + 1))
+        ensures { OnOk result ((t : Tuning) (log : List (Option Group)) → slot < length log → IsStoredReceiver whole.now
+            → ReceiverAt t (receiver_stored whole.now) (got [] log (slot + 1))
             → All (IsSeen t log) self.old.seen.items → All (IsOfRun t log (slot + 1)) self.old.pairs.items
             → All (IsSeen t log) self.new.seen.items × All (IsOfRun t log (slot + 1)) self.new.pairs.items) }
     {
@@ -235,8 +235,8 @@ impl AllSeen {
         pair: Option<TagPair>,
     ) -> Result<(), AllocError>
         ensures pairs { self.new.pairs ≡ self.old.pairs }
-        ensures seen { OnOk result ((t : Tuning) (log : List (Option Group)) → slot < length log → IsStored whole.now
-            → StandsAt t (receiver_stored whole.now) (got [] log (slot + 1))
+        ensures seen { OnOk result ((t : Tuning) (log : List (Option Group)) → slot < length log → IsStoredReceiver whole.now
+            → ReceiverAt t (receiver_stored whole.now) (got [] log (slot + 1))
             → ((held : PairFields) → pair ≡ Some held → IsOfRun t log (slot + 1) held)
             → All (IsSeen t log) self.old.seen.items → All (IsSeen t log) self.new.seen.items) }
     {
@@ -343,7 +343,7 @@ impl AllSeen {
     /// Returns whether a receiver that loses nothing shows all parts of this one in some of the first slots. If the
     /// view did not change, it does.
     pub(crate) fn has_all(&self, slots: usize, one: &Lossy) -> bool
-        ensures { IsTrue result → IsStored one.now.receiver → (t : Tuning) (log : List (Option Group))
+        ensures { IsTrue result → IsStoredReceiver one.now.receiver → (t : Tuning) (log : List (Option Group))
             → AreSeen t log self.now → IsChecked t log slots one.now
             → ShowsOnlySeen t log slots (receiver_stored one.now.receiver) }
     {

@@ -1,7 +1,7 @@
 //! Reads the slots to lose from a command line.
 ghost use Rattle.std.specs.Prelude.{◌≡◌, [], IfOk, None, option_map};
 ghost use Rattle.rds_witness.specs.Spans as spans;
-ghost use Rattle.rds_witness.specs.Spans.{IsReadAs, begun, bursts_in, reading_of, with_byte, with_digit};
+ghost use Rattle.rds_witness.specs.Spans.{ReadsOn, begun, bursts_in, reading_of, with_byte, with_digit};
 ghost use Rattle.rds_witness.specs.Spans.{with_first};
 
 use crate::burst::Burst;
@@ -37,7 +37,7 @@ impl SpanReader {
 
     /// Takes a byte, and returns whether it fits.
     fn byte(&mut self, byte: u8) -> Result<bool, AllocError>
-        ensures { IfOk result (λ good. IsReadAs (with_byte byte (reading_of self.old)) good self.new) }
+        ensures { IfOk result (λ good. ReadsOn (with_byte byte (reading_of self.old)) good self.new) }
     {
         if b'0' <= byte && byte <= b'9' {
             Ok(self.digit(byte - b'0'))
@@ -51,7 +51,7 @@ impl SpanReader {
     }
 
     fn digit(&mut self, digit: u8) -> bool
-        ensures { IsReadAs (with_digit digit (reading_of self.old)) result self.new }
+        ensures { ReadsOn (with_digit digit (reading_of self.old)) result self.new }
     {
         let number = 10 * u64::from(self.number.unwrap_or(0)) + u64::from(digit);
         if number > MOST_SLOT {
@@ -62,7 +62,7 @@ impl SpanReader {
     }
 
     fn dash(&mut self) -> bool
-        ensures { IsReadAs (with_first self.old.first self.old.number (reading_of self.old)) result self.new }
+        ensures { ReadsOn (with_first self.old.first self.old.number (reading_of self.old)) result self.new }
     {
         if self.first.is_some() {
             return false;
@@ -77,7 +77,7 @@ impl SpanReader {
 
     /// Ends a span, and returns whether it has a slot and begins after the one before.
     fn end(&mut self) -> Result<bool, AllocError>
-        ensures { IfOk result (λ good. IsReadAs (spans.ended (reading_of self.old)) good self.new) }
+        ensures { IfOk result (λ good. ReadsOn (spans.span_ended (reading_of self.old)) good self.new) }
     {
         let Some(last) = self.number else {
             return Ok(false);

@@ -2,7 +2,7 @@
 ghost use Rattle.std.specs.Prelude.{◌≡◌, ◌+◌, [], ℕ, All, List, None, OnOk, Option};
 ghost use Rattle.rds_block.specs.declared.group.Group.{Group};
 ghost use Rattle.rds_log.specs.LogWrites.{tuned};
-ghost use Rattle.rds_witness.specs.Lost.{received};
+ghost use Rattle.rds_witness.specs.Lost.{group_left};
 ghost use Rattle.rds_witness.specs.Search.{IsChecked, ShowOnlySeen, StandsAfter};
 
 use crate::burst::Burst;
@@ -51,7 +51,7 @@ impl Sweep {
         group: &Option<Blocks>,
         slot: usize,
     ) -> Result<(), AllocError>
-        ensures stands { OnOk result ((pi m n : ℕ) (log : List (Option Group)) → group.now ≡ received [] log n
+        ensures stands { OnOk result ((pi m n : ℕ) (log : List (Option Group)) → group.now ≡ group_left [] log n
             → StandsAfter (tuned pi m) log n self.old → StandsAfter (tuned pi m) log (n + 1) self.new) }
         ensures checked { OnOk result ((pi m n k : ℕ) (log : List (Option Group))
             → StandsAfter (tuned pi m) log n self.old

@@ -3,7 +3,7 @@ ghost use Rattle.std.specs.Prelude.{◌≡◌, ◌↔◌, IsTrue, Some};
 ghost use Rattle.std.specs.Option.{option_copied};
 ghost use Rattle.rds_receiver.specs.Borrowed.{borrowed_tag, view_of};
 ghost use Rattle.rds_witness.specs.Borrowed.{thing_of};
-ghost use Rattle.rds_witness.specs.Mix.{Shows};
+ghost use Rattle.rds_witness.specs.Mix.{ViewHas};
 
 use rds_fields::Which;
 use rds_receiver::View;
@@ -19,7 +19,7 @@ pub(crate) enum Thing<'a> {
 
 /// Returns whether a view shows the thing. A tag may be in either place.
 pub(crate) fn shows(view: View<'_>, thing: Thing<'_>) -> bool
-    ensures { IsTrue result ↔ Shows (view_of view.entry) (thing_of thing.entry) }
+    ensures { IsTrue result ↔ ViewHas (view_of view.entry) (thing_of thing.entry) }
 {
     match thing {
         Thing::Text(text) => is_text(view.text, text),

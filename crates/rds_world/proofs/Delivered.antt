@@ -22,9 +22,9 @@ use Rattle.rds_world.specs.declared.receiver_kind.ReceiverKind.TheVariants.{With
 use Rattle.rds_world.specs.Delivery.{ANameIsDelivered, AStationDeliversAName, AStationDeliversAText, AStationDeliversAnyText, ATextIsDelivered, AnyTextIsDelivered, GetsEachFree, GetsIfFree, GotOfStation, GotRecently, LieIn, LieInBroadcast, free_slots}
 use Rattle.rds_world.specs.Event.{Event}
 use Rattle.rds_world.specs.Slots.{commanded, entries, input_of, log, plans_of, received}
-use Rattle.rds_world.specs.StandsAt.{StandsAt}
+use Rattle.rds_world.specs.WorldAt.{WorldAt}
 use Rattle.rds_world.specs.State.{distance}
-use Rattle.rds_world.specs.Station.{AreSlots, IsFreeIn, slots_in, station_plans}
+use Rattle.rds_world.specs.Station.{AreEndedSlots, IsFreeIn, slots_in, station_plans}
 use Rattle.rds_world.specs.declared.world.Config.{Config}
 use Rattle.rds_world.proofs.LawfulStation.{free_before}
 use Rattle.rds_world.proofs.SafeWorld.{listens}
@@ -140,7 +140,7 @@ module _ (head : Head) (m k : ℕ) (e : Event) (recent before : List Event) (vie
   told : HasRecent (e ∷ recent) before
   told = has_recent (e ∷ recent) before
 
-  due : StandsAt config gets.world events
+  due : WorldAt config gets.world events
   due = gets.stands
 
   listening : ListensTo k m (slots_in (entries events) - 1) (sent_log d (entries events)) receiver
@@ -153,7 +153,7 @@ module _ (head : Head) (m k : ℕ) (e : Event) (recent before : List Event) (vie
 
   got_of_station : GotOfStation k m told.later (entries before) receiver
   got_of_station = record {
-    slots = subst AreSlots told.is (slots_of_a_world d events due.values).slots;
+    slots = subst AreEndedSlots told.is (slots_of_a_world d events due.values).slots;
     listens = subst (λ (es : List Entry). ListensTo k m (slots_in es - 1) (sent_log d es) receiver) told.is listening;
     within = subst (λ (es : List Entry). slots_in es ≤ slots_in (entries before) + m) told.is within;
     got = λ s since free. came_in_own d gets.number (e ∷ recent) before gets.got s (omega (arith, since, slots_are before))

@@ -11,7 +11,7 @@ use Rattle.rds_world.specs.declared.event.Reception.TheVariants.{Got, Lost, Wron
 use Rattle.rds_world.specs.Due.{IsDue, IsDueTo, last_named, named, reach_of}
 use Rattle.rds_world.specs.Event.{Event}
 use Rattle.rds_world.specs.Slots.{sent_back}
-use Rattle.rds_world.specs.StandsAt.{AreLastSent}
+use Rattle.rds_world.specs.WorldAt.{AreLastSent}
 use Rattle.rds_world.specs.declared.world.Config.{Config}
 use Rattle.rds_world.proofs.Received.{hears_sent}
 

@@ -15,7 +15,7 @@ use Rattle.rds_encoder.specs.Spaced.{IsSpaced, RestartsComeFirst}
 use Rattle.rds_receiver.specs.Receipts.{Fragment}
 use Rattle.rds_safety.specs.Lawful.{HasOne, HasFragment, HasTags, IsLawful, Kind, names, texts}
 use Rattle.rds_safety.specs.Marks.{IsMarkIn, Mark, Sends, Tagged, marks, name_mark, text_mark}
-use Rattle.rds_world.specs.Station.{AreSlots, EndsASlot, IsFreeIn, IsValid, TheEncoderIsLawful, slots_in, station_plans}
+use Rattle.rds_world.specs.Station.{AreEndedSlots, EndsASlot, IsFreeIn, IsValid, TheEncoderIsLawful, slots_in, station_plans}
 
 -- the laws about each encoder
 pub record EncoderLaws : Type 0 where
@@ -249,7 +249,7 @@ no_tags_of_names (Some (Announce code bits aid)) pair e = cc
 no_tags_of_names (Some (Tags q)) pair e = cc
 no_tags_of_names (Some Other) pair e = cc
 
-texts_lawful : EncoderLaws → (d : ℕ) (told : List Entry) → 0 < d → AreSlots told → IsLawful d texts (station_plans d told).text (marks text_mark (sent_log d told))
+texts_lawful : EncoderLaws → (d : ℕ) (told : List Entry) → 0 < d → AreEndedSlots told → IsLawful d texts (station_plans d told).text (marks text_mark (sent_log d told))
 texts_lawful laws d told some slots = record {
   spaced = plan_spaced IsText text_mark text_moves text_service laws d told some slots.texts slots.ended;
   values = plan_values IsText text_mark text_moves text_service laws d told slots.valid;
@@ -272,7 +272,7 @@ texts_lawful laws d told some slots = record {
         has_tags d slot pair (station_plans d told).text air.0 (omega (arith, air.3, w.reached)) (subst (λ (x : OnAir). BothEndIn (length x.bytes) pair) same own.2)
         (planned_then IsText text_mark text_moves text_service laws d told slot (Tagged pair) w air.0 air.1)
 
-names_lawful : EncoderLaws → (d : ℕ) (told : List Entry) → 0 < d → AreSlots told → IsLawful d names (station_plans d told).name (marks name_mark (sent_log d told))
+names_lawful : EncoderLaws → (d : ℕ) (told : List Entry) → 0 < d → AreEndedSlots told → IsLawful d names (station_plans d told).name (marks name_mark (sent_log d told))
 names_lawful laws d told some slots = record {
   spaced = plan_spaced IsName name_mark name_moves name_service laws d told some slots.names slots.ended;
   values = plan_values IsName name_mark name_moves name_service laws d told slots.valid;

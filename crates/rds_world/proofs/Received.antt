@@ -8,12 +8,12 @@ use Rattle.rds_encoder.specs.Sent.{IsSent}
 use Rattle.rds_receiver.specs.Receipts.{Hears}
 use Rattle.rds_receiver.specs.OneView.{same_heard}
 use Rattle.rds_receiver.specs.Shown.{IsView, ShowsView}
-use Rattle.rds_receiver.specs.StandsAt.{KeepsView, TakesSlot}
+use Rattle.rds_receiver.specs.ReceiverAt.{KeepsView, TakesSlot}
 use Rattle.rds_receiver.specs.Confirmed.{counted}
 use Rattle.rds_safety.specs.Late.{Input}
 use Rattle.rds_world.specs.ReceiverKind.{dwell_of}
 use Rattle.rds_receiver.specs.State.{ReceiverState}
-use Rattle.rds_world.specs.StandsAt.{HasHeard, IsNew, StaysShown, tuned_to}
+use Rattle.rds_world.specs.WorldAt.{HasHeard, HeardNothing, StaysShown, tuned_to}
 use Rattle.rds_world.specs.declared.world.Config.{Config}
 
 -- receivers hear the messages of the station
@@ -50,7 +50,7 @@ stays_shown config input old group heard origin hears stays has view shown =
       is = stays view (tuned_to config input) has.groups has.stands by_own;
     }
 
-pub heard_nothing : (config : Config) (first : ℕ) (r : ReceiverState) → IsNew config r
+pub heard_nothing : (config : Config) (first : ℕ) (r : ReceiverState) → HeardNothing config r
     → HasHeard config (input_from first [] []) r
 heard_nothing config first r begins = record { groups = []; spelled = tt; stands = begins first }
 

@@ -18,12 +18,12 @@ use Rattle.rds_safety.specs.Late.{Input}
 use Rattle.rds_safety.specs.Laws.{LawfulPlansAreSafe}
 use Rattle.rds_safety.specs.OwnClock.{next_slot}
 use Rattle.rds_safety.specs.Plans.{AreLawful, Plans}
-use Rattle.rds_safety.specs.Safe.{AreSafe, Listener, ListensTo}
+use Rattle.rds_safety.specs.Safe.{AreSafeViews, Listener, ListensTo}
 use Rattle.rds_safety.specs.Confirmed.{IsHeardWithWrong, ListensConfirmed}
 use Rattle.rds_safety.specs.ConfirmedLaws.{LawfulPlansAreSafeConfirmed}
 use Rattle.rds_world.specs.SafeSlots.{OnlyWhatWasOnAirIsShown, input_that_counts, listeners}
 use Rattle.rds_world.specs.Slots.{input_of, log, plans_of}
-use Rattle.rds_world.specs.StandsAt.{HasHeard, Shows, StandsAt, tuned_to}
+use Rattle.rds_world.specs.WorldAt.{HasHeard, ReceiverShows, WorldAt, tuned_to}
 use Rattle.rds_world.specs.State.{WorldState, distance}
 use Rattle.rds_world.specs.declared.world.Config.{Config}
 use Rattle.rds_world.specs.Station.{TheEncoderIsLawful}
@@ -43,7 +43,7 @@ tuned_alike config input kind = λ i. record {
 }
 
 -- the view of a receiver is that of what counts of its input
-pub shows_view : (config : Config) (input : Input) (r : ReceiverState) (view : ShownView) → config.kind ≡ WithDwell → HasHeard config input r → Shows r view
+pub shows_view : (config : Config) (input : Input) (r : ReceiverState) (view : ShownView) → config.kind ≡ WithDwell → HasHeard config input r → ReceiverShows r view
     → ShowsView config.dwell input.first (counted_in config.premise.window config.dwell input.first input.heard) view
 shows_view config input r view kind has shows =
     let v = subst (λ (t : Tuning). IsView t has.groups view) (tuned_alike config input kind) (shows (tuned_to config input) has.groups has.stands) in
@@ -69,7 +69,7 @@ listens_in (Some w) k m t log input view heard keeps now shows = record {
 }
 
 pub listens : (config : Config) (e : Event) (before : List Event) (i : ℕ) (r : ReceiverState) (view : ShownView)
-    → config.kind ≡ WithDwell → AreDue config.premise.late (e ∷ before) → AreFit config.premise.window (e ∷ before) → HasHeard config (input_of (distance config) i (e ∷ before)) r → Shows r view
+    → config.kind ≡ WithDwell → AreDue config.premise.late (e ∷ before) → AreFit config.premise.window (e ∷ before) → HasHeard config (input_of (distance config) i (e ∷ before)) r → ReceiverShows r view
     → ListensIn config.premise.window config.premise.late config.dwell (length before) (log (distance config) (e ∷ before)) record { input = input_that_counts config i (e ∷ before); view = view }
 listens config e before i r view kind due fit has shows =
     let input = input_of (distance config) i (e ∷ before) in
@@ -78,7 +78,7 @@ listens config e before i r view kind due fit has shows =
 
 all_listen : (config : Config) (e : Event) (before : List Event) (i : ℕ) (receivers : List ReceiverState) (views : List ShownView) → config.kind ≡ WithDwell → AreDue config.premise.late (e ∷ before)
     → AreFit config.premise.window (e ∷ before)
-    → ((n : ℕ) (r : ReceiverState) → slice_get receivers n ≡ Some r → HasHeard config (input_of (distance config) (i + n) (e ∷ before)) r) → AllZip Shows receivers views
+    → ((n : ℕ) (r : ReceiverState) → slice_get receivers n ≡ Some r → HasHeard config (input_of (distance config) (i + n) (e ∷ before)) r) → AllZip ReceiverShows receivers views
     → AllByRecursion (ListensIn config.premise.window config.premise.late config.dwell (length before) (log (distance config) (e ∷ before))) (listeners config (e ∷ before) i views)
 all_listen config e before i [] [] kind due fit has shows = tt
 all_listen config e before i [] (view ∷ views) kind due fit has shows = absurd shows
@@ -95,11 +95,11 @@ all_listen config e before i (r ∷ receivers) (view ∷ views) kind due fit has
 
 -- lawful plans make each slot safe, with or without a window
 safe_in : LawfulPlansAreSafe → LawfulPlansAreSafeConfirmed → (window : Option ℕ) (k m t : ℕ) (plans : Plans) (log : List (Option Message)) (receivers : List Listener)
-    → AreLawful (m + lateness_in window k) plans log → All (ListensIn window k m t log) receivers → AreSafe (m + lateness_in window k) m t plans log receivers
+    → AreLawful (m + lateness_in window k) plans log → All (ListensIn window k m t log) receivers → AreSafeViews (m + lateness_in window k) m t plans log receivers
 safe_in safe twice None k m t plans log receivers lawful all = safe m k t plans log receivers lawful all
 safe_in safe twice (Some w) k m t plans log receivers lawful all = twice w k m t plans log receivers lawful all
 
-pub safe_world : TheEncoderIsLawful → LawfulPlansAreSafe → LawfulPlansAreSafeConfirmed → (config : Config) (w : WorldState) (events : List Event) → StandsAt config w events → OnlyWhatWasOnAirIsShown config events w.receivers
+pub safe_world : TheEncoderIsLawful → LawfulPlansAreSafe → LawfulPlansAreSafeConfirmed → (config : Config) (w : WorldState) (events : List Event) → WorldAt config w events → OnlyWhatWasOnAirIsShown config events w.receivers
 safe_world lawful safe twice config w [] st = tt
 safe_world lawful safe twice config w (e ∷ before) st = λ kind views shows.
     let events = e ∷ before in

@@ -27,7 +27,7 @@ use Rattle.rds_safety.proofs.FlagSlots.{came_as_sent}
 use Rattle.rds_safety.proofs.HeldWhole.{CameSince, came_in, in_segments, shown_whole}
 use Rattle.rds_safety.proofs.Safety.{name_fragments_marked, text_fragments_marked}
 use Rattle.rds_world.specs.Delivery.{AStationDeliversAName, AStationDeliversAText, AStationDeliversAnyText, GotOfStation, LieInBroadcast}
-use Rattle.rds_world.specs.Station.{AreSlots, EndsASlot, IsFreeIn, TheEncoderIsLawful, slots_in, station_plans}
+use Rattle.rds_world.specs.Station.{AreEndedSlots, EndsASlot, IsFreeIn, TheEncoderIsLawful, slots_in, station_plans}
 use Rattle.rds_world.proofs.LawfulStation.{logged_names, logged_texts}
 
 -- the laws about each encoder
@@ -289,7 +289,7 @@ split : (k m : ℕ) (newer older earlier : List Entry) (r : Listener) → GotOfS
 split k m newer older earlier r gets =
     let e = parts newer older earlier in
     record {
-      slots = subst AreSlots e gets.slots;
+      slots = subst AreEndedSlots e gets.slots;
       listens = subst (λ (es : List Entry). ListensTo k m (slots_in es - 1) (sent_log (m + k) es) r) e gets.listens;
       within = (let within = subst (λ (es : List Entry). slots_in es ≤ slots_in earlier + m) e gets.within in omega (arith, within, slots_rise older earlier));
       got = λ s since free. gets.got s (omega (arith, since, slots_rise older earlier)) (subst (λ (es : List Entry). IsFreeIn es s) (sym e) free);

@@ -6,14 +6,14 @@ use Rattle.std.proofs.lemmas.Bool.{ltb-true}
 use Rattle.std.proofs.lemmas.List.{length-take-le}
 use Rattle.std.proofs.Math.Seq.{take-append_seam}
 use Rattle.std.proofs.lemmas.Option.{slice_get_read}
-use Rattle.rds_encoder.specs.StandsAt as encoder
+use Rattle.rds_encoder.specs.EncoderAt.{EncoderAt}
 use Rattle.rds_receiver.specs.Shown.{ShownView}
 use Rattle.rds_receiver.specs.State.{ReceiverState}
 use Rattle.rds_world.specs.declared.event.Reception.TheVariants.{Lost}
 use Rattle.rds_world.specs.Due.{IsDueToAll}
 use Rattle.rds_world.specs.Event.{Event}
 use Rattle.rds_world.specs.Slots.{SetsAValue, entries, input_of, log, received}
-use Rattle.rds_world.specs.StandsAt.{AllHaveHeard, AreLastSent, HavePasts, HaveReaches, IsViewOfInput, Shows, ShowsStill, StandsAt, tuned_to}
+use Rattle.rds_world.specs.WorldAt.{AllHaveHeard, AreLastSent, HavePasts, HaveReaches, IsViewOfInput, ReceiverShows, ShowsStill, WorldAt, tuned_to}
 use Rattle.rds_world.specs.State.{WorldState, distance}
 use Rattle.rds_world.specs.Wrong.{IsFitToAll}
 use Rattle.rds_world.specs.declared.world.Config.{Config}
@@ -25,20 +25,20 @@ front_is {X} new old n long few eight =
     subst (λ (k : ℕ). new ≡ take k (new ++ drop n old)) same (sym (take-append_seam new (drop n old)))
 
 -- a world stands at its slots with its own configuration
-pub by_own : (config : Config) (w : WorldState) (events : List Event) → StandsAt config w events → StandsAt w.config w events
-by_own config w events st = subst (λ (c : Config). StandsAt c w events) (sym st.is_set) st
+pub by_own : (config : Config) (w : WorldState) (events : List Event) → WorldAt config w events → WorldAt w.config w events
+by_own config w events st = subst (λ (c : Config). WorldAt c w events) (sym st.is_set) st
 
 -- the encoder and the receivers took the slot
-pub stepped : (config : Config) (old new : WorldState) (events : List Event) (e : Event) → StandsAt config old events → new.config ≡ old.config
+pub stepped : (config : Config) (old new : WorldState) (events : List Event) (e : Event) → WorldAt config old events → new.config ≡ old.config
     → SetsAValue e.command → IsDueToAll old.config.premise.late e events → IsFitToAll old.config.premise.window e events
-    → encoder.StandsAt old.config.head (distance old.config) new.encoder (entries (e ∷ events))
+    → EncoderAt old.config.head (distance old.config) new.encoder (entries (e ∷ events))
     → AllHaveHeard old.config (λ i. received (slice_index_or e.receptions i Lost) (length events) (log (distance old.config) (e ∷ events)) (input_of (distance old.config) i events)) new.receivers
     → HaveReaches old.config.premise.late (e ∷ events) new.reaches → HavePasts old.config.premise.window (e ∷ events) new.pasts → AreLastSent old.config (log (distance old.config) (e ∷ events)) new.sent
     → ((i : ℕ) → slice_index_or new.stays i false ≡ true → ShowsStill old.config i (e ∷ events))
-    → StandsAt config new (e ∷ events)
+    → WorldAt config new (e ∷ events)
 stepped config old new events e st same value due fit told heard reaches pasts sent stay =
     let own = by_own config old events st in
-    subst (λ (c : Config). StandsAt c new (e ∷ events)) st.is_set record {
+    subst (λ (c : Config). WorldAt c new (e ∷ events)) st.is_set record {
       is_set = same;
       lasts = own.lasts;
       values = (value, own.values);
@@ -53,9 +53,9 @@ stepped config old new events e st same value due fit told heard reaches pasts s
     }
 
 -- the view of a borrowed receiver is that of its input
-pub shows_what_it_heard : (config : Config) (w : WorldState) (i : ℕ) (events : List Event) → StandsAt config w events
+pub shows_what_it_heard : (config : Config) (w : WorldState) (i : ℕ) (events : List Event) → WorldAt config w events
     → (o : Option (Bor ReceiverState)) → is_some o ≡ nat_lt i (length w.receivers) → IfSome o (λ r. r.now ≡ slice_index_or w.receivers i r.now)
-    → IfSome o (λ r. (view : ShownView) → Shows r.now view → IsViewOfInput config (input_of (distance config) i events) view)
+    → IfSome o (λ r. (view : ShownView) → ReceiverShows r.now view → IsViewOfInput config (input_of (distance config) i events) view)
 shows_what_it_heard config w i events st None there is = tt
 shows_what_it_heard config w i events st (Some r) there is = λ view shows.
     let at : slice_get w.receivers i ≡ Some r.now = slice_get_read w.receivers (length w.receivers) i r.now refl (ltb-true i (length w.receivers) (sym there)) is in

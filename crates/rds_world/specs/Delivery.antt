@@ -18,9 +18,9 @@ use Rattle.rds_world.specs.declared.event.Reception.{Reception}
 use Rattle.rds_world.specs.declared.event.Reception.TheVariants.{Got, Lost, Wrong, Restart}
 use Rattle.rds_world.specs.Event.{Event}
 use Rattle.rds_world.specs.Slots.{plans_of}
-use Rattle.rds_world.specs.StandsAt.{Shows, StandsAt}
+use Rattle.rds_world.specs.WorldAt.{ReceiverShows, WorldAt}
 use Rattle.rds_world.specs.State.{WorldState, distance}
-use Rattle.rds_world.specs.Station.{AreSlots, IsFreeIn, slots_in, station_plans}
+use Rattle.rds_world.specs.Station.{AreEndedSlots, IsFreeIn, slots_in, station_plans}
 use Rattle.rds_world.specs.declared.world.Config.{Config}
 
 -- the number of free slots among these
@@ -57,13 +57,13 @@ pub record GotRecently (config : Config) (recent before : List Event) (view : Sh
   pub once : config.premise.window ≡ None
   pub kind : config.kind ≡ WithDwell
   pub world : WorldState
-  pub stands : StandsAt config world (recent ++ before)
+  pub stands : WorldAt config world (recent ++ before)
   pub within : length recent ≤ config.dwell
   pub number : ℕ
   pub receiver : ReceiverState
   pub there : slice_get world.receivers number ≡ Some receiver
   pub got : GetsEachFree number recent
-  pub shows : Shows receiver view
+  pub shows : ReceiverShows receiver view
 
 -- a text of n segments is shown after 2 n free slots of its broadcast
 abbrev pub ATextIsDelivered : Type 0
@@ -92,7 +92,7 @@ ANameIsDelivered =
 -- a receiver of dwell m that listens to a station, at most k slots late: of the later entries, which have at most m
 -- slots, it got each free slot on time
 pub record GotOfStation (k m : ℕ) (later earlier : List Entry) (r : Listener) : Type 0 where
-  pub slots : AreSlots (later ++ earlier)
+  pub slots : AreEndedSlots (later ++ earlier)
   pub listens : ListensTo k m (slots_in (later ++ earlier) - 1) (sent_log (m + k) (later ++ earlier)) r
   pub within : slots_in (later ++ earlier) ≤ slots_in earlier + m
   pub got : (s : ℕ) → slots_in earlier ≤ s → IsFreeIn (later ++ earlier) s → CameFrom r.input s s

@@ -16,7 +16,7 @@ use Rattle.rds_safety.specs.OwnClock.{IsTrueClock}
 use Rattle.rds_safety.specs.Safe.{Listener, ShowsNoTags}
 use Rattle.rds_world.specs.Event.{Event}
 use Rattle.rds_world.specs.Slots.{SetValues, log, plans_of}
-use Rattle.rds_world.specs.Station.{AreSlots, IsFreeIn, station_plans}
+use Rattle.rds_world.specs.Station.{AreEndedSlots, IsFreeIn, station_plans}
 
 -- nothing was planned before, or x is empty
 abbrev pub IsEmptyAfter : List Broadcast → List ℕ → Type 0
@@ -92,7 +92,7 @@ TheStationKeepsEach =
 -- source, in which the last segment was sent
 abbrev pub TextsOfAStationAreOfTheirSource : Type 0
 TextsOfAStationAreOfTheirSource =
-    (d now : ℕ) (told : List Entry) (r : Listener) → 0 < d → AreSlots told
+    (d now : ℕ) (told : List Entry) (r : Listener) → 0 < d → AreEndedSlots told
     → IsFirstAfterRestart (IsSafeAfter d) d (text_moves told) → ListensByFlag now (sent_log d told) r
     → HearsOneIn (2 * d) text_fragment (station_plans d told).text now r.input
     → IfSome r.view.text (IsOfItsSource (station_plans d told).text r.input (run_by_flag text_fragment r.input))
@@ -101,7 +101,7 @@ TextsOfAStationAreOfTheirSource =
 -- lasted for 2d slots
 abbrev pub NamesOfAStationAreOfTheirSource : Type 0
 NamesOfAStationAreOfTheirSource =
-    (d now : ℕ) (told : List Entry) (r : Listener) → 0 < d → AreSlots told
+    (d now : ℕ) (told : List Entry) (r : Listener) → 0 < d → AreEndedSlots told
     → IsFirstAfterRestart (IsSafeAfter d) d (name_moves told) → ListensByFlag now (sent_log d told) r
     → HearsOneIn (2 * d) name_fragment (station_plans d told).name now r.input
     → IfSome r.view.name (IsOfItsSource (station_plans d told).name r.input (run_by_flag name_fragment r.input))
@@ -109,7 +109,7 @@ NamesOfAStationAreOfTheirSource =
 -- if it hears a segment in each d slots in a row of a text, the tags shown are those of the text shown
 abbrev pub TagsOfAStationAreOfTheirText : Type 0
 TagsOfAStationAreOfTheirText =
-    (d now : ℕ) (told : List Entry) (r : Listener) → 0 < d → AreSlots told
+    (d now : ℕ) (told : List Entry) (r : Listener) → 0 < d → AreEndedSlots told
     → IsFirstAfterRestart (IsSafeAfter d) d (text_moves told) → ListensByFlag now (sent_log d told) r
     → HearsOneIn d text_fragment (station_plans d told).text now r.input
     → ShowsNoTags r.view ⊎ ShowsEmptyText r.view
@@ -120,7 +120,7 @@ TagsOfAStationAreOfTheirText =
 -- one comes first, each news that began by slot `now` is at most the next one.
 abbrev pub TextsOfAStationAreNew : Type 0
 TextsOfAStationAreNew =
-    (d now : ℕ) (told : List Entry) (r : Listener) → 0 < d → AreSlots told → ListensByFlag now (sent_log d told) r
+    (d now : ℕ) (told : List Entry) (r : Listener) → 0 < d → AreEndedSlots told → ListensByFlag now (sent_log d told) r
     → HearsOneIn (2 * d) text_fragment (station_plans d told).text now r.input
     → (IsFirstAfterRestart IsEmptyAfter d (text_moves told)
     → HasNewSource IsFilled (station_plans d told).text now r.input (run_by_flag text_fragment r.input))
@@ -130,7 +130,7 @@ TextsOfAStationAreNew =
 -- the same for names
 abbrev pub NamesOfAStationAreNew : Type 0
 NamesOfAStationAreNew =
-    (d now : ℕ) (told : List Entry) (r : Listener) → 0 < d → AreSlots told → ListensByFlag now (sent_log d told) r
+    (d now : ℕ) (told : List Entry) (r : Listener) → 0 < d → AreEndedSlots told → ListensByFlag now (sent_log d told) r
     → HearsOneIn (2 * d) name_fragment (station_plans d told).name now r.input
     → (IsFirstAfterRestart IsEmptyAfter d (name_moves told)
     → HasNewSource IsFilled (station_plans d told).name now r.input (run_by_flag name_fragment r.input))
@@ -161,7 +161,7 @@ TheStationSendsOneIn =
 -- then it is enough that a receiver gets r slots in a row of each 2d, whatever is sent in them
 abbrev pub WhoGetsSomeShowsTextsOfTheirSource : Type 0
 WhoGetsSomeShowsTextsOfTheirSource =
-    (d r now : ℕ) (told : List Entry) (l : Listener) → 0 < d → AreSlots told
+    (d r now : ℕ) (told : List Entry) (l : Listener) → 0 < d → AreEndedSlots told
     → IsFirstAfterRestart (IsSafeAfter d) d (text_moves told) → ListensByFlag now (sent_log d told) l
     → LendsTwoIn r (station_plans d told).text told
     → GetsSome r (2 * d) text_fragment (station_plans d told).text now l.input
@@ -170,7 +170,7 @@ WhoGetsSomeShowsTextsOfTheirSource =
 -- it is enough that it loses at most 2d - 2r + 1 slots in a row, and gets r slots in a row after each loss
 abbrev pub WhoLosesFewShowsTextsOfTheirSource : Type 0
 WhoLosesFewShowsTextsOfTheirSource =
-    (d r most now : ℕ) (told : List Entry) (l : Listener) (got : ℕ → Bool) → 0 < d → AreSlots told
+    (d r most now : ℕ) (told : List Entry) (l : Listener) (got : ℕ → Bool) → 0 < d → AreEndedSlots told
     → IsFirstAfterRestart (IsSafeAfter d) d (text_moves told) → ListensByFlag now (sent_log d told) l
     → LendsTwoIn r (station_plans d told).text told → most + 2 * r ≤ 2 * d + 1
     → LosesInARow most r text_fragment now l.input got

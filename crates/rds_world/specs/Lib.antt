@@ -9,7 +9,7 @@ pub mod Wrong
 pub mod Slots
 pub mod State
 pub mod Replies
-pub mod StandsAt
+pub mod WorldAt
 pub mod Station
 pub mod ConfirmedStation
 pub mod OnAir

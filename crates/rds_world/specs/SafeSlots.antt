@@ -7,9 +7,9 @@ use Rattle.rds_world.specs.Premise.{counted_input}
 use Rattle.rds_receiver.specs.State.{ReceiverState}
 use Rattle.rds_world.specs.declared.receiver_kind.ReceiverKind.TheVariants.{WithDwell}
 use Rattle.rds_safety.specs.Late.{Input}
-use Rattle.rds_safety.specs.Safe.{AreSafe, Listener}
+use Rattle.rds_safety.specs.Safe.{AreSafeViews, Listener}
 use Rattle.rds_world.specs.Slots.{input_of, log, plans_of}
-use Rattle.rds_world.specs.StandsAt.{Shows, StandsAt}
+use Rattle.rds_world.specs.WorldAt.{ReceiverShows, WorldAt}
 use Rattle.rds_world.specs.State.{WorldState, distance}
 use Rattle.rds_world.specs.declared.world.Config.{Config}
 
@@ -33,12 +33,12 @@ listeners config events i (view ∷ views) =
 abbrev pub OnlyWhatWasOnAirIsShown : Config → List Event → List ReceiverState → Type 0
 OnlyWhatWasOnAirIsShown config [] receivers = Unit {0}
 OnlyWhatWasOnAirIsShown config (newest ∷ before) receivers =
-    config.kind ≡ WithDwell → (views : List ShownView) → AllZip Shows receivers views
-    → AreSafe (distance config) config.dwell (length before) (plans_of (distance config) (newest ∷ before))
+    config.kind ≡ WithDwell → (views : List ShownView) → AllZip ReceiverShows receivers views
+    → AreSafeViews (distance config) config.dwell (length before) (plans_of (distance config) (newest ∷ before))
     (log (distance config) (newest ∷ before)) (listeners config (newest ∷ before) 0 views)
 
 -- this holds in each world, for each list of slots that it stands at
 abbrev pub EveryWorldShowsOnlyWhatWasOnAir : Type 0
 EveryWorldShowsOnlyWhatWasOnAir =
-    (config : Config) (w : WorldState) (events : List Event) → StandsAt config w events
+    (config : Config) (w : WorldState) (events : List Event) → WorldAt config w events
     → OnlyWhatWasOnAirIsShown config events w.receivers

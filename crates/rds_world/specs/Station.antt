@@ -9,7 +9,7 @@ use Rattle.rds_encoder.specs.Plan.{plan_of}
 use Rattle.rds_encoder.specs.Sent.{sent_log}
 use Rattle.rds_encoder.specs.Spaced.{RestartsComeFirst}
 use Rattle.rds_safety.specs.Plans.{AreLawful, Plans}
-use Rattle.rds_safety.specs.Safe.{AreSafe, Listener, ListensTo}
+use Rattle.rds_safety.specs.Safe.{AreSafeViews, Listener, ListensTo}
 use Rattle.rds_world.specs.Event.{Event}
 use Rattle.rds_world.specs.Slots.{SetValues, entries, log, plans_of}
 
@@ -51,7 +51,7 @@ EndsASlot (SetTags pair ∷ before) = ⊥
 EndsASlot (Tick free ∷ before) = Unit {0}
 
 -- the entries are slots that ended: each text and name is valid, and each restart comes before the sets of its slot
-pub record AreSlots (told : List Entry) : Type 0 where
+pub record AreEndedSlots (told : List Entry) : Type 0 where
   pub valid : AllByRecursion IsValid told
   pub ended : EndsASlot told
   pub texts : RestartsComeFirst (text_moves told)
@@ -60,11 +60,11 @@ pub record AreSlots (told : List Entry) : Type 0 where
 -- the messages of an encoder with a spacing of d slots are lawful for its plans of texts and of names
 abbrev pub TheEncoderIsLawful : Type 0
 TheEncoderIsLawful =
-    (d : ℕ) (told : List Entry) → 0 < d → AreSlots told → AreLawful d (station_plans d told) (sent_log d told)
+    (d : ℕ) (told : List Entry) → 0 < d → AreEndedSlots told → AreLawful d (station_plans d told) (sent_log d told)
 
 -- the slots of a world are such slots, with the same log and the same plans
 pub record AreSlotsToo (d : ℕ) (events : List Event) : Type 0 where
-  pub slots : AreSlots (entries events)
+  pub slots : AreEndedSlots (entries events)
   pub log : sent_log d (entries events) ≡ log d events
   pub plans : station_plans d (entries events) ≡ plans_of d events
 
@@ -75,6 +75,6 @@ SlotsOfAWorldAreSlots = (d : ℕ) (events : List Event) → SetValues events →
 -- slots before, in the order of sending, or nothing, their views at the end of slot t are safe.
 abbrev pub WhoHearsAStationIsSafe : Type 0
 WhoHearsAStationIsSafe =
-    (k m t : ℕ) (told : List Entry) (receivers : List Listener) → 0 < m → AreSlots told
+    (k m t : ℕ) (told : List Entry) (receivers : List Listener) → 0 < m → AreEndedSlots told
     → All (ListensTo k m t (sent_log (m + k) told)) receivers
-    → AreSafe (m + k) m t (station_plans (m + k) told) (sent_log (m + k) told) receivers
+    → AreSafeViews (m + k) m t (station_plans (m + k) told) (sent_log (m + k) told) receivers

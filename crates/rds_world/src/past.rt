@@ -6,7 +6,7 @@ ghost use Rattle.rds_fields.specs.declared.message.Message.{Message};
 ghost use Rattle.rds_receiver.specs.Confirmed.{needs_two};
 ghost use Rattle.rds_world.specs.Event.{Event};
 ghost use Rattle.rds_world.specs.Replies.{IsUnfit};
-ghost use Rattle.rds_world.specs.StandsAt.{HavePasts};
+ghost use Rattle.rds_world.specs.WorldAt.{HavePasts};
 ghost use Rattle.rds_world.specs.Wrong.{IsFirstWrong, IsFit, IsFitToAll, slots_back, with_wrong};
 
 use crate::{Reception, SlotEvent, StepRefused};

@@ -3,7 +3,7 @@ ghost use Rattle.std.specs.Prelude.{◌≡◌, ◌<◌, ◌≤◌, ◌+◌, ◌�
 ghost use Rattle.std.specs.Prelude.{ℕ, List, Option, IsSome, IfOk, IfSome, MatchResult, length, take};
 ghost use Rattle.rds_world.specs.Due.{IsDue, IsDueToAll, IsFirstLate, named, reach_of};
 ghost use Rattle.rds_world.specs.Event.{Event};
-ghost use Rattle.rds_world.specs.StandsAt.{HaveReaches};
+ghost use Rattle.rds_world.specs.WorldAt.{HaveReaches};
 ghost use Rattle.rds_world.specs.declared.event.TheConstants.{MOST_RECEIVERS};
 
 use crate::{MOST_RECEIVERS, Reception, SlotEvent};

@@ -9,8 +9,8 @@ ghost use Rattle.rds_world.specs.Due.{IsDue};
 ghost use Rattle.rds_safety.specs.Late.{Input};
 ghost use Rattle.rds_receiver.specs.Receipts.{Hears};
 ghost use Rattle.rds_world.specs.Slots.{received};
-ghost use Rattle.rds_world.specs.StandsAt.{AllHaveHeard, AreLastSent, HasHeard, IsNew};
-ghost use Rattle.rds_world.specs.StandsAt.{StaysShown, WhereTheyListen, all_received};
+ghost use Rattle.rds_world.specs.WorldAt.{AllHaveHeard, AreLastSent, HasHeard, HeardNothing};
+ghost use Rattle.rds_world.specs.WorldAt.{StaysShown, WhereTheyListen, all_received};
 
 use crate::recent::Recent;
 use crate::{Config, MOST_RECEIVERS, Reception};
@@ -21,7 +21,7 @@ use rds_receiver::Receiver;
 /// Makes eight receivers that have heard nothing yet.
 // Prover: all eight are written out, without `array::from_fn` (docs/PROVER.md, "Workarounds").
 pub(crate) fn eight_receivers(config: &Config) -> [Receiver; MOST_RECEIVERS]
-    ensures new { AllByRecursion (IsNew config.now) result }
+    ensures new { AllByRecursion (HeardNothing config.now) result }
     ensures some { 0 < config.now.dwell }
 {
     [
@@ -38,7 +38,7 @@ pub(crate) fn eight_receivers(config: &Config) -> [Receiver; MOST_RECEIVERS]
 
 /// Makes a receiver that has heard nothing yet.
 fn new_receiver(config: &Config) -> Receiver
-    ensures new { IsNew config.now result }
+    ensures new { HeardNothing config.now result }
     ensures some { 0 < config.now.dwell }
 {
     let kind = config.kind;

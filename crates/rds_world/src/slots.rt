@@ -2,7 +2,7 @@
 ghost use Rattle.std.specs.Prelude.{◌≡◌, IfErr, IfOk, IsOk, length, reverse};
 ghost use Rattle.rds_world.specs.Replies.{CanBePlayed, IsPlayRefused};
 ghost use Rattle.rds_world.specs.SafeSlots.{OnlyWhatWasOnAirIsShown};
-ghost use Rattle.rds_world.specs.StandsAt.{StandsAt};
+ghost use Rattle.rds_world.specs.WorldAt.{WorldAt};
 
 use crate::{Config, SlotEvent, StepRefused, World, WorldRefused};
 use std::alloc::Global;
@@ -47,7 +47,7 @@ pub fn play(
     events: &[SlotEvent],
 ) -> Result<World, PlayRefused>
     ensures stands { IfOk result (λ w.
-        StandsAt config w (reverse events.now)) }
+        WorldAt config w (reverse events.now)) }
     ensures count { IfOk result (λ w. length w.receivers ≡ receivers) }
     ensures safe { IfOk result (λ w.
         OnlyWhatWasOnAirIsShown config (reverse events.now) w.receivers) }

@@ -1,7 +1,7 @@
 //! The encoder's part of a slot: the command.
 ghost use Rattle.std.specs.Prelude.{◌≡◌, [], ◌∷◌, List};
 ghost use Rattle.rds_encoder.specs.Entries.{Entry, Restart};
-ghost use Rattle.rds_encoder.specs.StandsAt.{StandsAt};
+ghost use Rattle.rds_encoder.specs.EncoderAt.{EncoderAt};
 ghost use Rattle.rds_world.specs.Replies.{answered, reply_at};
 ghost use Rattle.rds_world.specs.Slots.{SetsAValue, commanded};
 ghost use Rattle.rds_world.specs.State.{distance};
@@ -11,9 +11,9 @@ use rds_encoder::{Encoder, Refusal};
 
 /// Makes the encoder at a restart: its spacing is the dwell plus the lateness of what counts.
 pub(crate) fn new_encoder(config: &Config) -> Encoder
-    ensures first { StandsAt config.now.head (distance config.now) result [] }
+    ensures first { EncoderAt config.now.head (distance config.now) result [] }
     ensures again { (entries : List Entry)
-        → StandsAt config.now.head (distance config.now) result (Restart ∷ entries) }
+        → EncoderAt config.now.head (distance config.now) result (Restart ∷ entries) }
 {
     Encoder::new(config.head, config.dwell, config.premise.lateness())
 }
@@ -22,11 +22,11 @@ pub(crate) fn new_encoder(config: &Config) -> Encoder
 pub(crate) fn obey(encoder: &mut Encoder, config: &Config, command: &Command) -> Reply
     ensures value { SetsAValue command.now }
     ensures reply { (entries : List Entry)
-        → StandsAt config.now.head (distance config.now) encoder.old entries
+        → EncoderAt config.now.head (distance config.now) encoder.old entries
         → result ≡ reply_at (distance config.now) command.now entries }
     ensures stands { (entries : List Entry)
-        → StandsAt config.now.head (distance config.now) encoder.old entries
-        → StandsAt config.now.head (distance config.now) encoder.new (commanded command.now entries) }
+        → EncoderAt config.now.head (distance config.now) encoder.old entries
+        → EncoderAt config.now.head (distance config.now) encoder.new (commanded command.now entries) }
 {
     match *command {
         Command::Quiet => Reply::Quiet,

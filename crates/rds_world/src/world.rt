@@ -11,7 +11,7 @@ ghost use Rattle.rds_world.specs.Replies.{CanBeTaken, IsStepRefused, reply_at};
 ghost use Rattle.rds_world.specs.SafeSlots.{OnlyWhatWasOnAirIsShown};
 ghost use Rattle.rds_world.specs.Slots.{entries, input_of, sent_at};
 ghost use Rattle.rds_world.specs.State.{distance};
-ghost use Rattle.rds_world.specs.StandsAt.{HasHeard, IsViewOfInput, Shows, ShowsStill, StandsAt, WhereItStands};
+ghost use Rattle.rds_world.specs.WorldAt.{HasHeard, IsViewOfInput, ReceiverShows, ShowsStill, WorldAt, WhereWorldStands};
 ghost use Rattle.rds_world.specs.declared.event.TheConstants.{MOST_RECEIVERS};
 
 use crate::past::{Past, check_wrong, new_pasts, note_wrong};
@@ -42,7 +42,7 @@ pub struct Config {
 
 /// One encoder and up to eight receivers of its programme.
 ///
-/// `StandsAt` relates a world to the list of its slots. A new world stands at the empty list, and each accepted `step`
+/// `WorldAt` relates a world to the list of its slots. A new world stands at the empty list, and each accepted `step`
 /// adds its slot to the list.
 #[derive(Drop)]
 pub struct World {
@@ -92,7 +92,7 @@ impl World {
         ensures few { IsOk result → receivers ≤ MOST_RECEIVERS }
         ensures count { IfOk result (λ w. length w.receivers ≡ receivers) }
         ensures stands { IfOk result (λ w.
-            StandsAt config w []) }
+            WorldAt config w []) }
     {
         if receivers > MOST_RECEIVERS {
             return Err(WorldRefused::TooManyReceivers);
@@ -124,18 +124,18 @@ impl World {
     pub fn step(&mut self, event: &SlotEvent) -> Result<Answer, StepRefused>
         ensures counted { IsErrOf result StepRefused.ReceiverCount
             ↔ (length event.now.receptions ≢ length self.old.receivers) }
-        ensures refused { WhereItStands self.old (λ config events. MatchResult result
+        ensures refused { WhereWorldStands self.old (λ config events. MatchResult result
             (λ _. CanBeTaken config.premise (length self.old.receivers) event.now events)
             (IsStepRefused config.premise (length self.old.receivers) event.now events)) }
         ensures kept { OnErr result (self.new ≡ self.old) }
         ensures count { length self.new.receivers ≡ length self.old.receivers }
-        ensures reply { WhereItStands self.old (λ config events. IfOk result (λ answer.
+        ensures reply { WhereWorldStands self.old (λ config events. IfOk result (λ answer.
             answer.reply ≡ reply_at (distance config) event.now.command (entries events))) }
-        ensures sent { WhereItStands self.old (λ config events. IfOk result (λ answer.
+        ensures sent { WhereWorldStands self.old (λ config events. IfOk result (λ answer.
             IsSent config.head (sent_at (distance config) event.now events) answer.sent)) }
-        ensures stands { WhereItStands self.old (λ config events.
-            OnOk result (StandsAt config self.new (event.now ∷ events))) }
-        ensures safe { WhereItStands self.old (λ config events.
+        ensures stands { WhereWorldStands self.old (λ config events.
+            OnOk result (WorldAt config self.new (event.now ∷ events))) }
+        ensures safe { WhereWorldStands self.old (λ config events.
             OnOk result (OnlyWhatWasOnAirIsShown config (event.now ∷ events) self.new.receivers)) }
     {
         // Prover: a call of a law, which gives the clause `safe` (docs/PROVER.md, "Idioms").
@@ -176,7 +176,7 @@ impl World {
     /// Returns what is on air, borrowed from the encoder: the text, the name, and the tags of the text, even if they
     /// have not been sent yet.
     pub fn on_air(&self) -> View<'_>
-        ensures { WhereItStands self.now (λ config events. view_of result ≡ air_of config events) }
+        ensures { WhereWorldStands self.now (λ config events. view_of result ≡ air_of config events) }
     {
         View::of(
             self.encoder.text(),
@@ -189,10 +189,10 @@ impl World {
     pub fn receiver(&self, i: usize) -> Option<&Receiver>
         ensures there { IsSome result ↔ (i < length self.now.receivers) }
         ensures same { option_copied result ≡ slice_get self.now.receivers i }
-        ensures heard { WhereItStands self.now (λ config events.
+        ensures heard { WhereWorldStands self.now (λ config events.
             IfSome result (λ r. HasHeard config (input_of (distance config) i events) r.now)) }
-        ensures shows { WhereItStands self.now (λ config events.
-            IfSome result (λ r. (view : ShownView) → Shows r.now view
+        ensures shows { WhereWorldStands self.now (λ config events.
+            IfSome result (λ r. (view : ShownView) → ReceiverShows r.now view
             → IsViewOfInput config (input_of (distance config) i events) view)) }
     {
         self.receivers[..self.count].get(i)
@@ -200,7 +200,7 @@ impl World {
 
     /// Returns true only if receiver i shows what it showed before the last slot.
     pub fn stays(&self, i: usize) -> bool
-        ensures { IsTrue result → WhereItStands self.now
+        ensures { IsTrue result → WhereWorldStands self.now
             (λ config events. ShowsStill config i events) }
     {
         match self.stays.each.get(i) {
@@ -211,7 +211,7 @@ impl World {
 
     /// Returns true only if each receiver shows what it showed before the last slot.
     pub fn all_stay(&self) -> bool
-        ensures { IsTrue result → WhereItStands self.now (λ config events.
+        ensures { IsTrue result → WhereWorldStands self.now (λ config events.
             (i : ℕ) → i < length self.now.receivers → ShowsStill config i events) }
     {
         self.stays.all

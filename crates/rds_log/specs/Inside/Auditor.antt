@@ -2,7 +2,7 @@
 use Rattle.std.specs.Prelude.{◌≡◌, ◌≢◌, [], ℕ, Bool, List, MatchOption, None, Option, false, length, refl, true}
 use Rattle.std.proofs.Common.{subst}
 use Rattle.rds_block.specs.declared.group.Group.{Group}
-use Rattle.rds_audit.specs.AuditStandsAt.{FollowsLog}
+use Rattle.rds_audit.specs.AuditAt.{FollowsLog}
 use Rattle.rds_log.specs.Audit.{SlotsPass, spacing}
 use Rattle.rds_log.specs.FaultList.{LinesAnswer, LinesGoOn, SaysNo, SlotsList}
 use Rattle.rds_log.specs.LogLines.{Line}

@@ -42,7 +42,7 @@ pub filled_part : (how : Filling) (f : Filler) (lines : List Line) (total : List
 filled_part how f lines total has some = output_of how f lines total has
 
 -- the same settings, and the same times
-pub record KeepsPace (before after : Filler) : Type 0 where
+pub record KeepsTimes (before after : Filler) : Type 0 where
   pub filling : after.filling ≡ before.filling
   pub pace : after.pace ≡ before.pace
   pub left_out : after.has_left_out ≡ before.has_left_out

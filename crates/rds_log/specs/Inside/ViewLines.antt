@@ -2,7 +2,7 @@
 use Rattle.std.specs.Prelude.{◌≡◌, ◌++◌, ◌∷◌, ℕ, Bool, List, Option, length}
 use Rattle.rds_block.specs.declared.group.Group.{Group}
 use Rattle.rds_receiver.specs.Receipts.{Tuning}
-use Rattle.rds_receiver.specs.StandsAt.{StandsAt}
+use Rattle.rds_receiver.specs.ReceiverAt.{ReceiverAt}
 use Rattle.rds_view_lines.specs.Output.{Display, changes_of, newest}
 use Rattle.rds_log.specs.LogWrites.{AreDisplays}
 use Rattle.rds_view_lines.specs.KeptView.{view_kept}
@@ -11,7 +11,7 @@ use Rattle.rds_log.specs.declared.decoder.ViewLines.{ViewLines}
 -- the receiver handled these slots, and their output is the changes of their displays
 pub record ViewsStandAt (why : Bool) (t : Tuning) (v : ViewLines) (slots : List (Option Group))
     (written : List ℕ) : Type 0 where
-  pub receiver : StandsAt t v.receiver slots
+  pub receiver : ReceiverAt t v.receiver slots
   pub says_why : v.says_why ≡ why
   pub displays : List Display
   pub are : AreDisplays why t slots displays

@@ -8,7 +8,7 @@ use Rattle.rds_view_lines.specs.Output.{is_same_text, nothing_shown}
 use Rattle.rds_view_lines.specs.declared.parts.Parts.{Parts}
 use Rattle.rds_world.specs.Event.{Event}
 use Rattle.rds_world.specs.Slots.{input_of}
-use Rattle.rds_world.specs.StandsAt.{IsViewOfInput}
+use Rattle.rds_world.specs.WorldAt.{IsViewOfInput}
 use Rattle.rds_world.specs.State.{distance}
 use Rattle.rds_world.specs.declared.receiver_kind.ReceiverKind.TheVariants.{FlagAlone, WithDwell}
 use Rattle.rds_world.specs.declared.world.Config.{Config}

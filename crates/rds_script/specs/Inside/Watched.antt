@@ -2,7 +2,7 @@
 use Rattle.std.specs.Prelude.{◌≡◌, ◌∷◌, ℕ, [], List, length, map}
 use Rattle.rds_world.specs.declared.world.Config.{Config}
 use Rattle.rds_world.specs.Event.{Event}
-use Rattle.rds_world.specs.StandsAt as station
+use Rattle.rds_world.specs.WorldAt.{WorldAt}
 use Rattle.rds_receiver.specs.Shown.{ShownView}
 use Rattle.rds_view_lines.specs.KeptView.{view_kept}
 use Rattle.rds_script.specs.Inside.Compared.{AreShown, IsCompared}
@@ -24,7 +24,7 @@ views_kept w = map view_kept w.shown.items
 
 -- the world after these slots, with this number of receivers, and the view of each of them after the last
 pub record WatchedStandsAt (config : Config) (receivers : ℕ) (w : Watched) (events : List Event) : Type 0 where
-  pub world : station.StandsAt config w.world events
+  pub world : WorldAt config w.world events
   pub count : length w.world.receivers ≡ receivers
   pub kept : length w.shown.items ≡ receivers
   pub shown : AreShown config receivers events (views_kept w)

@@ -6,7 +6,7 @@ use Rattle.rds_receiver.specs.Shown.{ShownView}
 use Rattle.rds_view_lines.specs.KeptView.{view_kept}
 use Rattle.rds_view_lines.specs.Output.{nothing_shown, receiver_stamp}
 use Rattle.rds_world.specs.Event.{Event}
-use Rattle.rds_world.specs.StandsAt.{StandsAt}
+use Rattle.rds_world.specs.WorldAt.{WorldAt}
 use Rattle.rds_world.specs.declared.world.Config.{Config}
 use Rattle.rds_script.specs.declared.airing.Airings.{Airings}
 use Rattle.rds_script.specs.Inside.Compared.{AirsStand, WereBefore, WereKept, airings_at, all_on_air}
@@ -37,7 +37,7 @@ loop-i-preserved c =
     let here : airings_at new i ≡ now = get_or-set_at old i i now all_on_air refl within in
     let view = c.view.ensures ∙ ap view_kept c.index-shown-i.is ∙ sym (get_or-map view_kept c.args.shown.now i c.index-shown-i.result nothing_shown (omega (arith, c.loop-i-test.true))) in
     let was : airings_at old i ≡ airings_at c.args.kept.now i = c.loop-i.invariant.later i (omega arith) in
-    let kept_before : (config : Config) (events : List Event) → StandsAt config c.args.world.now events → WereKept config (length c.args.shown.now) events c.args.kept.now (map view_kept c.args.shown.now)
+    let kept_before : (config : Config) (events : List Event) → WorldAt config c.args.world.now events → WereKept config (length c.args.shown.now) events c.args.kept.now (map view_kept c.args.shown.now)
     → WereBefore config events (view_of c.view.result) c.if-stays.before =
     λ config events st were. elim c.if-stays.branch [
       | then-stays w ↦ (
@@ -48,7 +48,7 @@ loop-i-preserved c =
           )
       | else-stays w ↦ subst (λ (o : Option Airings). WereBefore config events (view_of c.view.result) o) (sym w.before-is) (none_before config events (view_of c.view.result))
     ] in
-    let shown : (config : Config) (events : List Event) → StandsAt config c.args.world.now events → AirsStand config events c.args.airs.now
+    let shown : (config : Config) (events : List Event) → WorldAt config c.args.world.now events → AirsStand config events c.args.airs.now
     → WereKept config (length c.args.shown.now) events c.args.kept.now (map view_kept c.args.shown.now) → now ≡ airings config events (view_at (map view_kept c.args.shown.now) i) =
     λ config events st stand were. c.airings_of-now.ensures config events stand (kept_before config events st were) ∙ ap (λ (v : ShownView). airings config events v) view in
     record {

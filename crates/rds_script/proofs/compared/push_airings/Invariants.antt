@@ -1,6 +1,6 @@
 use Rattle.std.proofs.Common.{◌≡◌, ◌≤◌, ◌<◌, ◌+◌, ◌*◌, ◌++◌, ℕ, length, map}
 use Rattle.rds_view_lines.specs.KeptView.{view_kept}
-use Rattle.rds_world.specs.StandsAt.{WhereItStands}
+use Rattle.rds_world.specs.WorldAt.{WhereWorldStands}
 use Rattle.rds_script.specs.Inside.Compared.{AirsStand, WereKept, airings_at}
 use Rattle.rds_script.specs.OnAir.{airings}
 use Rattle.rds_script.specs.Outcomes.{airings_changes, view_at}
@@ -11,6 +11,6 @@ invariant-loop-i l = record {
   count : length l.kept ≡ length l.initial.kept;
   room : length l.lines ≤ length l.initial.lines + l.i * 240;
   lines : l.lines ≡ l.initial.lines ++ airings_changes l.slot l.i (airings_at l.initial.kept) (airings_at l.kept);
-  each : WhereItStands l.world (λ config events. AirsStand config events l.airs → WereKept config (length l.shown) events l.initial.kept (map view_kept l.shown) → (i : ℕ) → i < l.i → airings_at l.kept i ≡ airings config events (view_at (map view_kept l.shown) i));
+  each : WhereWorldStands l.world (λ config events. AirsStand config events l.airs → WereKept config (length l.shown) events l.initial.kept (map view_kept l.shown) → (i : ℕ) → i < l.i → airings_at l.kept i ≡ airings config events (view_at (map view_kept l.shown) i));
   later : (i : ℕ) → l.i ≤ i → airings_at l.kept i ≡ airings_at l.initial.kept i;
 }

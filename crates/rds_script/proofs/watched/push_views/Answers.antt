@@ -1,7 +1,7 @@
 use Rattle.std.proofs.Common.{◌≡◌, ◌<◌, ◌∙◌, ℕ, arith, inl, inr, length, map, refl, set, subst, sym}
 use Rattle.std.proofs.lemmas.Grind.{common_steps}
 use Rattle.rds_world.specs.Slots.{input_of}
-use Rattle.rds_world.specs.StandsAt.{IsViewOfInput}
+use Rattle.rds_world.specs.WorldAt.{IsViewOfInput}
 use Rattle.rds_world.specs.State.{distance}
 use Rattle.rds_view_lines.specs.KeptView.{view_kept}
 use Rattle.rds_script.specs.Outcomes.{view_at, whys_at}

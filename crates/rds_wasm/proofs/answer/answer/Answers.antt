@@ -1,6 +1,6 @@
 use Rattle.std.proofs.Common.{◌≡◌, Some, map, refl, rules}
 use Rattle.rds_io.specs.Told.{traffic}
-use Rattle.rds_program.specs.Timing.{inner_of}
+use Rattle.rds_program.specs.Timing.{timed_inner}
 use Rattle.rds_program.specs.RunsBy.{never_fails, none_failed, runs_by, runs_without_memory, task_by}
 use Rattle.rds_wasm.specs.Page.{words_in}
 use Rattle.rds_wasm.specs.declared.slice_reader.SliceReader.{SliceReader}
@@ -15,7 +15,7 @@ returns-clause-text g c text =
     let words : map (λ w. w.now) c.as_slice-words.result.now ≡ words_in c.args.words.now = search rules in
     rw (← words) (runs_by _ _ _ _ c.run_with_notes-status.result
     (λ task lose t ran. record {
-      r = traffic (λ given. Some (inner_of {R = SliceReader} given).rest.now) (λ given. 0) c.new-given.result c.run_with_notes-status.new.reader;
+      r = traffic (λ given. Some (timed_inner {R = SliceReader} given).rest.now) (λ given. 0) c.new-given.result c.run_with_notes-status.new.reader;
       starts = record { bytes_are = search rules; failures_are = refl };
       fails = never_fails;
       ran = task_by none_failed (λ rests. (rests.bytes_are, rests.failures_are)) task lose t _ _ c.run_with_notes-status.result ran;

@@ -4,7 +4,7 @@ use Rattle.std.proofs.lemmas.List.{with_items_is}
 use Rattle.std.specs.Prelude.{List, None, Option, length, slice_index_or, take}
 use Rattle.std.specs.Vec.{with_items}
 use Rattle.rds_block.specs.declared.group.Group.{Group}
-use Rattle.rds_witness.specs.Lost.{IsReceived}
+use Rattle.rds_witness.specs.Lost.{IsWhatIsLeft}
 use Rattle.rds_witness.specs.declared.burst.Burst.{Burst}
 use Rattle.rds_witness.proofs.Losses.{burst_more}
 use Rattle.rds_witness.proofs.burst.received_of.Goals as goal
@@ -36,4 +36,4 @@ returns c =
     let lost = c.args.lost.now in
     let all : c.loop-place.place ≡ length lost = grind arith in
     let whole : take c.loop-place.place lost ≡ lost = ap (λ n. take n lost) all ∙ take-length lost in
-    subst (λ (l : List Burst). IsReceived l c.args.log.now c.loop-place.got.items) whole c.loop-place.invariant
+    subst (λ (l : List Burst). IsWhatIsLeft l c.args.log.now c.loop-place.got.items) whole c.loop-place.invariant

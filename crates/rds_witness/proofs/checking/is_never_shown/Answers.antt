@@ -1,10 +1,10 @@
 use Rattle.std.proofs.Common.{IsTrue, [], arith, refl, subst, sym}
 use Rattle.rds_log.specs.LogWrites.{tuned}
 use Rattle.rds_receiver.specs.Borrowed.{view_of}
-use Rattle.rds_receiver.specs.StandsAt.{StandsAt}
+use Rattle.rds_receiver.specs.ReceiverAt.{ReceiverAt}
 use Rattle.rds_witness.specs.Borrowed.{thing_of}
 use Rattle.rds_witness.specs.Lost.{got-none}
-use Rattle.rds_witness.specs.Mix.{Shows}
+use Rattle.rds_witness.specs.Mix.{ViewHas}
 use Rattle.rds_witness.proofs.Slots.{never_more, never_none, stands_more}
 use Rattle.rds_witness.proofs.checking.is_never_shown.Goals as goal
 
@@ -12,7 +12,7 @@ pub loop-n-init : goal.loop-n-init
 loop-n-init c =
     let t = tuned c.args.pi c.args.dwell in
     record {
-      stands = subst (StandsAt t c.new-receiver.result) (sym (got-none [] c.args.log.now)) (c.new-receiver.ensures.stands 0);
+      stands = subst (ReceiverAt t c.new-receiver.result) (sym (got-none [] c.args.log.now)) (c.new-receiver.ensures.stands 0);
       never = never_none t c.args.log.now (thing_of c.args.thing);
     }
 
@@ -24,7 +24,7 @@ loop-n-preserved c =
     record {
       stands = stands;
       never = never_more t c.args.log.now c.loop-n.n (thing_of c.args.thing) (view_of c.view.result) c.loop-n.invariant.never
-          (c.view.ensures t _ stands) (λ (shown : Shows (view_of c.view.result) (thing_of c.args.thing)). let yes : IsTrue c.shows.result = c.shows.ensures.1 shown in cc);
+          (c.view.ensures t _ stands) (λ (shown : ViewHas (view_of c.view.result) (thing_of c.args.thing)). let yes : IsTrue c.shows.result = c.shows.ensures.1 shown in cc);
     }
 
 pub returns-then-shows : goal.returns-then-shows

@@ -1,7 +1,7 @@
 use Rattle.rds_log.specs.LogWrites.{tuned}
-use Rattle.rds_receiver.specs.StandsAt.{StandsAt}
+use Rattle.rds_receiver.specs.ReceiverAt.{ReceiverAt}
 use Rattle.rds_witness.specs.Lost.{got}
 use Rattle.rds_witness.proofs.checking.receiver_before.Given as goal
 
 abbrev pub invariant-loop-n : goal.invariant-loop-n
-invariant-loop-n l = StandsAt (tuned l.fn.pi l.fn.dwell) l.receiver (got l.lost l.log l.n)
+invariant-loop-n l = ReceiverAt (tuned l.fn.pi l.fn.dwell) l.receiver (got l.lost l.log l.n)

@@ -2,7 +2,7 @@ use Rattle.std.proofs.Common.{◌≡◌, ◌+◌, ◌∷◌, ℕ, arith, get_or,
 use Rattle.std.proofs.lemmas.Bool.{cases_lt}
 use Rattle.rds_log.specs.LogWrites.{tuned}
 use Rattle.rds_receiver.specs.Stored.{receiver_stored}
-use Rattle.rds_witness.specs.Covered.{Covers, IsAt}
+use Rattle.rds_witness.specs.Covered.{CoversInput, IsAt}
 use Rattle.rds_witness.specs.Search.{ShowsOnlySeen}
 use Rattle.rds_witness.specs.declared.covering.Lossy.{Lossy}
 use Rattle.rds_witness.proofs.KeptReceivers.{at_next, covers_next}
@@ -36,8 +36,8 @@ loop-place-preserved c =
               | inl before ↦ keeps.stays (c.args.group.now ∷ input) (so_far.more place d input before long covers)
               | inr from ↦ (
                   let here : place ≡ now = omega (arith, less, from) in
-                  let covers_here : Covers (tuned pi m) input one =
-                  subst (Covers (tuned pi m) input) (c.receiver_at.ensures d) (subst (λ (p : ℕ). Covers (tuned pi m) input (get_or c.args.receivers.now p d)) here covers) in
+                  let covers_here : CoversInput (tuned pi m) input one =
+                  subst (CoversInput (tuned pi m) input) (c.receiver_at.ensures d) (subst (λ (p : ℕ). CoversInput (tuned pi m) input (get_or c.args.receivers.now p d)) here covers) in
                   keeps.more (c.args.group.now ∷ input) (omega (arith, long)) (covers_next pi m one later c.args.group.now input step.stands step.good covers_here))
             ];
           };
@@ -55,5 +55,5 @@ returns-clause-covers c pi m n at kept_at =
       stays = all.stays;
       more = λ input long covered.
           let there = covered.is_there in
-          all.more there.0 covered.by input (omega (arith, there.1, c.loop-place-test.false)) long (subst (Covers (tuned pi m) input) (sym there.2) covered.covers);
+          all.more there.0 covered.by input (omega (arith, there.1, c.loop-place-test.false)) long (subst (CoversInput (tuned pi m) input) (sym there.2) covered.covers);
     }

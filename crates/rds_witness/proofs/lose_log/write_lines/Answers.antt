@@ -2,10 +2,10 @@ use Rattle.std.proofs.Common.{Bool, Err, List, Ok, Result, ℕ}
 use Rattle.std.specs.Prelude.{IsErr}
 use Rattle.rds_io.specs.Told.{Traffic}
 use Rattle.rds_io.specs.declared.told.WriteFault.{WriteFault}
-use Rattle.rds_witness.specs.Witness.{Answers, WrotePart}
+use Rattle.rds_witness.specs.Witness.{Answers, WrotePartOfAnswer}
 use Rattle.rds_witness.proofs.lose_log.write_lines.Goals as goal
 
-part_of : (Is : Bool → List ℕ → Type 0) (w : Traffic) (r : Result Bool WriteFault) → IsErr r → WrotePart Is w → Answers Is w r
+part_of : (Is : Bool → List ℕ → Type 0) (w : Traffic) (r : Result Bool WriteFault) → IsErr r → WrotePartOfAnswer Is w → Answers Is w r
 part_of Is w (Ok found) fails part = cc
 part_of Is w (Err fault) fails part = part
 

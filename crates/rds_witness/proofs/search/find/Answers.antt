@@ -3,7 +3,7 @@ use Rattle.std.proofs.lemmas.Bool.{cases_lt}
 use Rattle.rds_block.specs.declared.group.Group.{Group}
 use Rattle.rds_log.specs.LogWrites.{tuned}
 use Rattle.rds_receiver.specs.Stored.{receiver_stored}
-use Rattle.rds_witness.specs.Covered.{Covers, IsInputPart}
+use Rattle.rds_witness.specs.Covered.{CoversInput, IsInputPart}
 use Rattle.rds_witness.specs.Lost.{got}
 use Rattle.rds_witness.specs.Mix.{IsBurstMix, until}
 use Rattle.rds_witness.specs.Search.{IsReplaced, ShowOnlySeen, ShowsOnlySeen}
@@ -48,7 +48,7 @@ loop-slot-preserved c =
     let show = c.doubt_of.ensures c.in_default.is t (n + 1) log stands c.in_ok-all.ensures checked.0 checked.1 in
     let later : (items : List Lossy) → ShowOnlySeen t log slots items → ShowOnlySeen t log (until m log (n + 1)) items =
     λ items only k d less. only_later t log slots (until m log (n + 1)) _ (let more = until_later m log n in omega (arith, is, more)) (only k d less) in
-    let same_whole : (input : List (Option Group)) → length input ≡ n + 1 → Covers t input whole → IsInputPart t input (got [] log (n + 1)) =
+    let same_whole : (input : List (Option Group)) → length input ≡ n + 1 → CoversInput t input whole → IsInputPart t input (got [] log (n + 1)) =
     λ input long covers. input_through t (receiver_stored whole.receiver) input covers.other (got [] log (n + 1)) covers.stands covers.part
     (same_part pi m whole.receiver covers.other (got [] log (n + 1)) covers.stands stands.whole (sym covers.part.long ∙ long ∙ sym (got_long [] log (n + 1)))) in
     record {

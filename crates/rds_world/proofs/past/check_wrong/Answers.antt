@@ -4,7 +4,7 @@ use Rattle.std.proofs.lemmas.Bool.{cases_lt}
 use Rattle.std.proofs.lemmas.Option.{slice_get_read}
 use Rattle.rds_world.specs.declared.event.Reception.{Reception}
 use Rattle.rds_world.specs.Event.{Event}
-use Rattle.rds_world.specs.StandsAt.{HavePasts}
+use Rattle.rds_world.specs.WorldAt.{HavePasts}
 use Rattle.rds_world.specs.Wrong.{IsFirstWrong, IsFit, IsFitTo, wrong_of}
 use Rattle.rds_world.proofs.DueSteps.{same_reception}
 use Rattle.rds_world.proofs.Pasts.{breaks_by, fit_past}

@@ -1,6 +1,6 @@
 use Rattle.std.proofs.Common.{◌<◌, ℕ, List}
 use Rattle.rds_world.specs.Event.{Event}
-use Rattle.rds_world.specs.StandsAt.{HavePasts}
+use Rattle.rds_world.specs.WorldAt.{HavePasts}
 use Rattle.rds_world.specs.Wrong.{IsFitTo}
 use Rattle.rds_world.proofs.past.check_wrong.Given as goal
 

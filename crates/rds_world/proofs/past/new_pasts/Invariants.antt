@@ -1,5 +1,5 @@
 use Rattle.std.proofs.Common.{◌≡◌, [], length}
-use Rattle.rds_world.specs.StandsAt.{HavePasts}
+use Rattle.rds_world.specs.WorldAt.{HavePasts}
 use Rattle.rds_world.proofs.past.new_pasts.Given as goal
 
 abbrev pub invariant-loop : goal.invariant-loop

@@ -4,7 +4,7 @@ use Rattle.circular_buffer.specs.Buffer.{Buffer, buffer}
 use Rattle.rds_fields.specs.declared.message.Message.{Message}
 use Rattle.rds_world.specs.declared.event.Reception.TheVariants.{Lost}
 use Rattle.rds_world.specs.Event.{Event}
-use Rattle.rds_world.specs.StandsAt.{HavePasts}
+use Rattle.rds_world.specs.WorldAt.{HavePasts}
 use Rattle.rds_world.specs.Wrong.{slots_back, with_wrong, wrong_of}
 use Rattle.rds_world.proofs.past.note_wrong.Given as goal
 

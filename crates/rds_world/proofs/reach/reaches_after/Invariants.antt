@@ -3,7 +3,7 @@ use Rattle.std.specs.Prelude.{slice_get, slice_index_or}
 use Rattle.rds_world.specs.declared.event.Reception.TheVariants.{Lost}
 use Rattle.rds_world.specs.Due.{IsDueTo, last_named, named, reach_of}
 use Rattle.rds_world.specs.Event.{Event}
-use Rattle.rds_world.specs.StandsAt.{HaveReaches}
+use Rattle.rds_world.specs.WorldAt.{HaveReaches}
 use Rattle.rds_world.proofs.reach.reaches_after.Given as goal
 
 abbrev pub invariant-loop-i : goal.invariant-loop-i

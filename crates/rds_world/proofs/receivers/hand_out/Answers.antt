@@ -8,7 +8,7 @@ use Rattle.rds_world.specs.declared.event.Reception.TheVariants.{Lost}
 use Rattle.rds_world.specs.declared.event.Reception.{Reception}
 use Rattle.rds_world.specs.Due.{IsDue}
 use Rattle.rds_world.specs.Slots.{received}
-use Rattle.rds_world.specs.StandsAt.{HasHeard, StaysShown}
+use Rattle.rds_world.specs.WorldAt.{HasHeard, StaysShown}
 use Rattle.rds_world.proofs.Received.{both_hold, marked, other_kept, other_marked, written}
 use Rattle.rds_world.proofs.receivers.hand_out.Goals as goal
 

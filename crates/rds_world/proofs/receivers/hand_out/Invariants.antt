@@ -6,7 +6,7 @@ use Rattle.rds_world.specs.declared.event.Reception.TheVariants.{Lost}
 use Rattle.rds_world.specs.Due.{IsDue}
 use Rattle.rds_safety.specs.Late.{Input}
 use Rattle.rds_world.specs.Slots.{received}
-use Rattle.rds_world.specs.StandsAt.{AllHaveHeard, AreLastSent, HasHeard, StaysShown}
+use Rattle.rds_world.specs.WorldAt.{AllHaveHeard, AreLastSent, HasHeard, StaysShown}
 use Rattle.rds_world.proofs.receivers.hand_out.Given as goal
 
 abbrev pub invariant-loop-i : goal.invariant-loop-i

@@ -6,7 +6,7 @@ use Rattle.rds_world.specs.Event.{Event}
 use Rattle.rds_world.specs.Premise.{Premise}
 use Rattle.rds_world.specs.Replies.{CanBeTaken, IsFirstRefused, IsStepRefused, IsTaken}
 use Rattle.rds_world.specs.SafeSlots.{OnlyWhatWasOnAirIsShown}
-use Rattle.rds_world.specs.StandsAt.{StandsAt}
+use Rattle.rds_world.specs.WorldAt.{WorldAt}
 use Rattle.rds_world.specs.declared.reply.StepRefused.{StepRefused}
 use Rattle.rds_world.proofs.slots.play.Goals as goal
 
@@ -34,7 +34,7 @@ loop-i-preserved c =
     subst (λ (n : ℕ). CanBeTaken config.premise n e before) c.loop-i.invariant.count (step.refused config before c.loop-i.invariant.stands) in
     let at : slice_get events i ≡ Some e = slice_get_read events (length events) i e refl c.loop-i-test.true c.index-events-i.is in
     record {
-      stands = subst (λ (xs : List Event). StandsAt config c.step.new.self xs) later (step.stands config before c.loop-i.invariant.stands);
+      stands = subst (λ (xs : List Event). WorldAt config c.step.new.self xs) later (step.stands config before c.loop-i.invariant.stands);
       safe = subst (λ (xs : List Event). OnlyWhatWasOnAirIsShown config xs c.step.new.self.receivers) later (step.safe config before c.loop-i.invariant.stands);
       count = step.count ∙ c.loop-i.invariant.count;
       few = c.loop-i.invariant.few;

@@ -1,5 +1,5 @@
 use Rattle.std.proofs.Common.{◌∙◌, ◌+◌, refl, subst, sym, arith}
-use Rattle.rds_audit.specs.AuditStandsAt.{HoldsSpans}
+use Rattle.rds_audit.specs.AuditAt.{HoldsSpans}
 use Rattle.rds_audit.specs.Lengths.{name_gauge, text_gauge}
 use Rattle.rds_audit.specs.Recording.{silent_as}
 use Rattle.rds_audit.specs.Stored.{spans_stored}

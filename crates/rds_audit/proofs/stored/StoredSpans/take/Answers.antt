@@ -2,7 +2,7 @@ use Rattle.std.proofs.Common.{sym, ap, ◌∙◌, subst, rules}
 use Rattle.rds_receiver.specs.Receipts.{Fragment}
 use Rattle.rds_audit.specs.Lengths.{IsFormed}
 use Rattle.rds_audit.specs.Listing.{spans}
-use Rattle.rds_audit.specs.AuditStandsAt.{HoldsNewestSpans}
+use Rattle.rds_audit.specs.AuditAt.{HoldsNewestSpans}
 use Rattle.rds_audit.specs.AuditState.{SpansState}
 use Rattle.rds_audit.specs.declared.stored.StoredReigns.{StoredReigns}
 use Rattle.rds_audit.specs.Stored.{spans_stored}

@@ -4,7 +4,7 @@ use Rattle.rds_audit.specs.Ages.{Joins}
 use Rattle.rds_audit.specs.ReignsState.{HoldsNoOther}
 use Rattle.rds_audit.specs.Lengths.{IsFormed}
 use Rattle.rds_audit.specs.Listing.{spans}
-use Rattle.rds_audit.specs.AuditStandsAt.{HoldsNewestSpans}
+use Rattle.rds_audit.specs.AuditAt.{HoldsNewestSpans}
 use Rattle.rds_audit.specs.AuditState.{SpansState}
 use Rattle.rds_audit.specs.Stored.{ages_stored, content_stored, spans_stored}
 use Rattle.rds_safety.specs.Marks.{Sends}

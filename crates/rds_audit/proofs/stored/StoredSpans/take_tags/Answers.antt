@@ -1,6 +1,6 @@
 use Rattle.std.proofs.Common.{sym, ap, ◌∙◌, subst}
 use Rattle.rds_audit.specs.Listing.{spans}
-use Rattle.rds_audit.specs.AuditStandsAt.{HoldsNewestSpans}
+use Rattle.rds_audit.specs.AuditAt.{HoldsNewestSpans}
 use Rattle.rds_audit.specs.AuditState.{SpansState}
 use Rattle.rds_audit.specs.Stored.{spans_stored}
 use Rattle.rds_safety.specs.Marks.{Tagged}

@@ -1,7 +1,7 @@
 use Rattle.std.proofs.Common.{◌≡◌, Some, sym, ap, ◌∙◌, option_map}
 use Rattle.rds_encoder.specs.Entries.{slot_of}
 use Rattle.rds_encoder.specs.Reply.{last_accepted}
-use Rattle.rds_encoder.specs.StandsAt.{hold_left}
+use Rattle.rds_encoder.specs.EncoderAt.{hold_left}
 use Rattle.rds_encoder.proofs.OnAir.{lasts_alike, start_of, start_on_air}
 use Rattle.rds_encoder.proofs.stored.StoredHold.has_lasted.Goals as goal
 

@@ -1,6 +1,6 @@
 use Rattle.std.proofs.Common.{subst}
 use Rattle.rds_receiver.specs.Shown.{IsItemShown}
-use Rattle.rds_receiver.specs.StandsAt.{WhatItHeard}
+use Rattle.rds_receiver.specs.ReceiverAt.{WhatItHeard}
 use Rattle.rds_receiver.specs.State.{ReceiverState}
 use Rattle.rds_receiver.proofs.receiver.Receiver.item.Goals as goal
 

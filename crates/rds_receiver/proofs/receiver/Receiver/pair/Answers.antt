@@ -1,5 +1,5 @@
 use Rattle.std.proofs.Common.{◌≡◌, subst}
-use Rattle.rds_receiver.specs.StandsAt.{WhatItHeard}
+use Rattle.rds_receiver.specs.ReceiverAt.{WhatItHeard}
 use Rattle.rds_receiver.specs.State.{ReceiverState}
 use Rattle.rds_receiver.specs.Tags.{pair_held}
 use Rattle.rds_receiver.proofs.receiver.Receiver.pair.Goals as goal

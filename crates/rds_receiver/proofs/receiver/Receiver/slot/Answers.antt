@@ -1,4 +1,4 @@
-use Rattle.rds_receiver.specs.StandsAt.{KeepsView}
+use Rattle.rds_receiver.specs.ReceiverAt.{KeepsView}
 use Rattle.rds_receiver.proofs.receiver.Receiver.slot.Goals as goal
 
 pub returns-clause-same : goal.returns-clause-same

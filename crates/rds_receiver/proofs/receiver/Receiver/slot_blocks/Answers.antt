@@ -1,8 +1,8 @@
 use Rattle.std.proofs.Common.{subst, sym}
-use Rattle.rds_receiver.specs.StandsAt.{StandsAt}
+use Rattle.rds_receiver.specs.ReceiverAt.{ReceiverAt}
 use Rattle.rds_receiver.specs.State.{ReceiverState}
 use Rattle.rds_receiver.proofs.receiver.Receiver.slot_blocks.Goals as goal
 
 pub returns-clause-same : goal.returns-clause-same
 returns-clause-same c calm view t input st shown =
-    c.slot.ensures.same c.self.invariant calm view t input (subst (λ (r : ReceiverState). StandsAt t r input) (sym c.self.view_is) st) shown
+    c.slot.ensures.same c.self.invariant calm view t input (subst (λ (r : ReceiverState). ReceiverAt t r input) (sym c.self.view_is) st) shown

@@ -1,7 +1,7 @@
 use Rattle.std.proofs.Common.{subst}
 use Rattle.std.specs.Option.{option_copied}
 use Rattle.rds_receiver.specs.Shown.{IsTextShown}
-use Rattle.rds_receiver.specs.StandsAt.{WhatItHeard}
+use Rattle.rds_receiver.specs.ReceiverAt.{WhatItHeard}
 use Rattle.rds_receiver.specs.State.{ReceiverState}
 use Rattle.rds_receiver.proofs.receiver.Receiver.text.Goals as goal
 

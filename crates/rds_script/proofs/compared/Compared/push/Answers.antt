@@ -6,7 +6,7 @@ use Rattle.rds_view_lines.specs.KeptView.{view_kept}
 use Rattle.rds_view_lines.specs.Output.{air_stamp, change}
 use Rattle.rds_world.specs.Event.{Event}
 use Rattle.rds_world.specs.OnAir.{air_of}
-use Rattle.rds_world.specs.StandsAt.{StandsAt}
+use Rattle.rds_world.specs.WorldAt.{WorldAt}
 use Rattle.rds_world.specs.declared.world.Config.{Config}
 use Rattle.rds_script.specs.Inside.Compared.{AirsStand, GoesOnCompared, airings_at, newest_of}
 use Rattle.rds_script.specs.OnAir.{airings}
@@ -19,7 +19,7 @@ use Rattle.rds_script.proofs.compared.Compared.push.Goals as goal
 pub returns : goal.returns
 returns c = record { goes_on = by }
   where
-    by : (config : Config) (events : List Event) → StandsAt config c.args.world.now events
+    by : (config : Config) (events : List Event) → WorldAt config c.args.world.now events
         → GoesOnCompared (record { config = config; slot = c.args.slot; shown = map view_kept c.args.shown.now }) events c.args.self.now
         record { airs = c.step.new.self; airings = with_items c.args.self.now.airings c.push_airings.new.kept } c.args.lines.now c.push_airings.new.lines
     by config [] st = tt

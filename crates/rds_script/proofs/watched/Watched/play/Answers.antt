@@ -2,7 +2,7 @@ use Rattle.std.proofs.Common.{◌≡◌, ◌<◌, ◌∙◌, ◌∷◌, ◌++◌
 use Rattle.std.proofs.lemmas.List.{length-map, take_at}
 use Rattle.rds_world.specs.Event.{Event}
 use Rattle.rds_world.specs.Slots.{input_of}
-use Rattle.rds_world.specs.StandsAt.{IsViewOfInput}
+use Rattle.rds_world.specs.WorldAt.{IsViewOfInput}
 use Rattle.rds_world.specs.State.{distance}
 use Rattle.rds_world.specs.declared.world.Config.{Config}
 use Rattle.rds_view_lines.specs.KeptView.{view_kept}

@@ -4,7 +4,7 @@ use Rattle.std.proofs.lemmas.List.Elements.{All-nil}
 use Rattle.rds_block.specs.declared.group.Group.{Group}
 use Rattle.rds_log.specs.LogWrites.{tuned}
 use Rattle.rds_receiver.specs.Shown.{IsView, ShownView}
-use Rattle.rds_receiver.specs.StandsAt.{StandsAt}
+use Rattle.rds_receiver.specs.ReceiverAt.{ReceiverAt}
 use Rattle.rds_receiver.specs.State.{ReceiverState}
 use Rattle.rds_receiver.specs.Stored.{receiver_stored}
 use Rattle.rds_view_lines.specs.NoChange.{view_of_none}
@@ -17,9 +17,9 @@ pub loop-slot-init : goal.loop-slot-init
 loop-slot-init c =
     let t = tuned c.args.pi c.args.dwell in
     let log = c.args.log.now in
-    let begins : StandsAt t c.new-4.result (got [] log 0) = subst (StandsAt t c.new-4.result) (sym (got-none [] log)) (c.new-4.ensures.stands 0) in
+    let begins : ReceiverAt t c.new-4.result (got [] log 0) = subst (ReceiverAt t c.new-4.result) (sym (got-none [] log)) (c.new-4.ensures.stands 0) in
     record {
-      stands = subst (λ (r : ReceiverState). StandsAt t r (got [] log 0)) (sym c.store-whole.ensures.same) begins;
+      stands = subst (λ (r : ReceiverState). ReceiverAt t r (got [] log 0)) (sym c.store-whole.ensures.same) begins;
       stored = c.store-whole.ensures.good;
       view = subst (λ (l : List (Option Group)). (view : ShownView) × IsView t l view) (sym (got-none [] log)) (_, view_of_none t);
       views = λ slot less. absurd (omega (arith, less));
@@ -35,8 +35,8 @@ loop-slot-preserved c =
     let group = c.received.result in
     let before = c.loop-slot.invariant in
     let is : got [] log (n + 1) ≡ group ∷ got [] log n = got-more [] log n ∙ ap (λ (g : Option Group). g ∷ got [] log n) (sym c.received.ensures) in
-    let stands : StandsAt t (receiver_stored c.slot-changed.new.self) (got [] log (n + 1)) =
-    subst (StandsAt t (receiver_stored c.slot-changed.new.self)) (sym is) (c.slot-changed.ensures.stands before.stored t (got [] log n) before.stands) in
+    let stands : ReceiverAt t (receiver_stored c.slot-changed.new.self) (got [] log (n + 1)) =
+    subst (ReceiverAt t (receiver_stored c.slot-changed.new.self)) (sym is) (c.slot-changed.ensures.stands before.stored t (got [] log n) before.stands) in
     let stored = c.slot-changed.ensures.good before.stored in
     let pairs = c.drop_pairs.ensures.pairs c.args.pi c.args.dwell n log before.stands stands before.pairs in
     let seen = subst (λ v. All (IsSeen t log) v.items) (sym c.drop_pairs.ensures.seen) before.seen in

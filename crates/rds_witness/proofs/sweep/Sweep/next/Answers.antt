@@ -3,9 +3,9 @@ use Rattle.std.proofs.lemmas.Bool.{cases_lt}
 use Rattle.std.proofs.lemmas.List.Elements.{All-nil}
 use Rattle.rds_block.specs.declared.group.Group.{Group}
 use Rattle.rds_log.specs.LogWrites.{tuned}
-use Rattle.rds_receiver.specs.StandsAt.{StandsAt}
+use Rattle.rds_receiver.specs.ReceiverAt.{ReceiverAt}
 use Rattle.rds_receiver.specs.Stored.{receiver_stored}
-use Rattle.rds_witness.specs.Covered.{Covers, IsAt, IsCovered}
+use Rattle.rds_witness.specs.Covered.{CoversInput, IsAt, IsCovered}
 use Rattle.rds_witness.specs.Lost.{got, got-more}
 use Rattle.rds_witness.specs.Search.{IsChecked, ShowOnlySeen}
 use Rattle.rds_witness.specs.declared.burst.Burst.{Burst}
@@ -24,7 +24,7 @@ returns-clause-stands c pi m n log is old =
     let begins = c.lose_first.new.whole in
     let loses = c.lose_first.ensures in
     let more : got [] log (n + 1) ≡ group ∷ got [] log n = got-more [] log n ∙ ap (λ (g : Option Group). g ∷ got [] log n) (sym is) in
-    let after : StandsAt t (receiver_stored whole.receiver) (got [] log (n + 1)) = subst (StandsAt t (receiver_stored whole.receiver)) (sym more) (step.stands old.stored t (got [] log n) old.whole) in
+    let after : ReceiverAt t (receiver_stored whole.receiver) (got [] log (n + 1)) = subst (ReceiverAt t (receiver_stored whole.receiver)) (sym more) (step.stands old.stored t (got [] log n) old.whole) in
     let its : IsAt t (n + 1) whole = record { input = got [] log (n + 1); long = got_long [] log (n + 1); stands = after; stored = step.good old.stored } in
     let was_at : IsAt t n was = record { input = got [] log n; long = got_long [] log n; stands = old.whole; stored = old.stored } in
     let none : (items : List Lossy) → items ≡ [] → All (IsAt t (n + 1)) items = λ items nothing. subst (All (IsAt t (n + 1))) (sym nothing) (All-nil (IsAt t (n + 1))) in
@@ -40,7 +40,7 @@ returns-clause-stands c pi m n log is old =
     let losing = c.keep_after_slot-3.new.kept.items in
     let end_hearing : c.replace-losing.new.dest.items ≡ hearing = ap (λ v. v.items) c.replace-losing.ensures.after in
     let end_losing : c.replace.new.dest.items ≡ losing = ap (λ v. v.items) c.replace.ensures.after in
-    let lost_first : (input : List (Option Group)) → length input ≡ n → Covers t input was → IsCovered t (whole ∷ losing) (None ∷ input) =
+    let lost_first : (input : List (Option Group)) → length input ≡ n → CoversInput t input was → IsCovered t (whole ∷ losing) (None ∷ input) =
     λ input long covers. lose_more.stays (None ∷ input) (one_more.more (None ∷ input) (omega (arith, long)) (covers_next pi m was begins None input loses.stands loses.good covers)) in
     let lost : (input : List (Option Group)) (burst : Burst) → input ≡ got (burst ∷ []) log n → burst.first ≤ n → n ≤ burst.last → IsCovered t (was ∷ old_losing) input
     → IsCovered t (whole ∷ c.replace.new.dest.items) (got (burst ∷ []) log (n + 1)) =

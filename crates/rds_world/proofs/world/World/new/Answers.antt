@@ -1,7 +1,7 @@
 use Rattle.std.proofs.Common.{rules, ◌≡◌, ◌∙◌, ℕ, [], Option, refl, subst, sym}
 use Rattle.circular_buffer.specs.Buffer.{Buffer}
 use Rattle.rds_block.specs.declared.group.Group.{Group}
-use Rattle.rds_world.specs.StandsAt.{AreLastSent, HavePasts, IsNew}
+use Rattle.rds_world.specs.WorldAt.{AreLastSent, HavePasts, HeardNothing}
 use Rattle.rds_world.proofs.DueSteps.{at_first}
 use Rattle.rds_world.proofs.Received.{heard_nothing, one_of_first}
 use Rattle.rds_world.proofs.world.World.new.Goals as goal
@@ -21,7 +21,7 @@ returns-clause-stands c =
       encoder = c.new_encoder.ensures.first;
       receivers = record {
         each = λ i r e. heard_nothing config 0 r
-            (one_of_first (IsNew config) c.args.receivers made i r c.eight_receivers.ensures.new e);
+            (one_of_first (HeardNothing config) c.args.receivers made i r c.eight_receivers.ensures.new e);
       };
       reaches = record {
         each = λ i reach e. one_of_first (λ n. n ≡ 1) c.args.receivers _ i reach (one, (one, (one, (one, (one, (one, (one, (one, tt)))))))) e ∙ at_first config.premise.late;

@@ -11,7 +11,7 @@ use Rattle.rds_world.specs.Due.{IsDue, IsDueToAll, last_named}
 use Rattle.rds_world.specs.Event.{Event}
 use Rattle.rds_safety.specs.Late.{Input}
 use Rattle.rds_world.specs.Slots.{commanded, entries, input_of, log, received, sent_at}
-use Rattle.rds_world.specs.StandsAt.{AllHaveHeard, AreLastSent, HavePasts, HaveReaches, StandsAt}
+use Rattle.rds_world.specs.WorldAt.{AllHaveHeard, AreLastSent, HavePasts, HaveReaches, WorldAt}
 use Rattle.rds_world.specs.State.{WorldState, distance}
 use Rattle.rds_world.specs.Wrong.{IsFitToAll}
 use Rattle.rds_world.proofs.DueSteps.{one_more_sent}
@@ -81,7 +81,7 @@ returns-clause-stands c config events st =
     (subst (λ (n : ℕ). HaveReaches late (e ∷ events) (take n c.in-Ok.reaches)) many
     (subst (λ (n : ℕ). HaveReaches n (e ∷ events) (take (length (take world.count world.reaches)) c.in-Ok.reaches)) c.late.ensures (c.in-Ok.ensures.reaches events had))) in
     let stay = rw c.as_slice-receptions.ensures.value at (c.hand_out-self-inside.ensures.stays (length events) all_sent (λ i. input_of apart i events) (λ i. last_named i events) kept due_told own.receivers) in
-    subst (λ (x : Event). StandsAt config new (x ∷ events)) same
+    subst (λ (x : Event). WorldAt config new (x ∷ events)) same
     (stepped config old new events now at refl c.obey-reply.ensures.value due_now fit ticked all reaches pasts kept stay)
 
 pub returns-clause-safe : goal.returns-clause-safe

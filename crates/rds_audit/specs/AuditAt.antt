@@ -13,7 +13,7 @@ use Rattle.rds_audit.specs.AuditState.{AuditState, SpansState}
 use Rattle.rds_audit.specs.ReignsState.{ContentState, cell_at}
 use Rattle.rds_audit.specs.Recording.{counted_as, judged_as}
 use Rattle.rds_audit.specs.Reigns.{Reign, SentTags}
-use Rattle.rds_audit.specs.Stored.{IsStored, audit_stored}
+use Rattle.rds_audit.specs.Stored.{IsStoredAudit, audit_stored}
 use Rattle.rds_audit.specs.declared.stored.StoredAudit.{StoredAudit}
 use Rattle.rds_audit.specs.Rules.{LogPasses}
 use Rattle.rds_safety.specs.Marks.{Mark, marks, name_mark, text_mark}
@@ -91,7 +91,7 @@ abbrev pub HasJudged : ℕ → AuditState → List (Option Message) → Type 0
 HasJudged d a judged = MatchOption a.fault (LogPasses d judged × HoldsLog d judged a) (IsFaultOf d judged)
 
 -- the audit has this PI and a spacing of d slots, and judged the log as that is to be judged
-pub record AuditStandsAt (pi d : ℕ) (a : AuditState) (log : List (Option Group)) : Type 0 where
+pub record AuditAt (pi d : ℕ) (a : AuditState) (log : List (Option Group)) : Type 0 where
   pub programme : a.programme ≡ pi
   pub distance : a.distance ≡ d
   pub lasts : 0 < d
@@ -102,11 +102,11 @@ pub record AuditStandsAt (pi d : ℕ) (a : AuditState) (log : List (Option Group
 -- this holds of the spacing of each log that the audit stands at, and of its messages as they are judged
 abbrev pub WhereTheAuditStands : AuditState → (ℕ → List (Option Message) → Type 0) → Type 0
 WhereTheAuditStands a Holds =
-    (pi d : ℕ) (log : List (Option Group)) (s : AuditStandsAt pi d a log) → Holds d (judged_as a.start d s.heard)
+    (pi d : ℕ) (log : List (Option Group)) (s : AuditAt pi d a log) → Holds d (judged_as a.start d s.heard)
 
 -- the audit stands at the log, and its state follows from all of the log, after a fault too
 pub record FollowsLog (pi d : ℕ) (a : AuditState) (log : List (Option Group)) : Type 0 where
-  pub at : AuditStandsAt pi d a log
+  pub at : AuditAt pi d a log
   pub holds : HoldsLog d (judged_as a.start d at.heard) a
 
 -- this holds of the spacing of each log that the audit follows, and of its messages as they are judged
@@ -116,10 +116,10 @@ WhereItFollows a Holds =
 
 -- the audit took the next slot, with this group or with none: it stands at the log with that slot; the result is its
 -- fault, which is that of the log; after a fault the result is that fault, and nothing changes
-pub record TakesSlot (a after : AuditState) (group : Option Group)
+pub record AuditTakesSlot (a after : AuditState) (group : Option Group)
     (result : Result (Unit {0}) AuditFault) : Type 0 where
-  pub stands : (pi d : ℕ) (log : List (Option Group)) → AuditStandsAt pi d a log
-      → AuditStandsAt pi d after (group ∷ log)
+  pub stands : (pi d : ℕ) (log : List (Option Group)) → AuditAt pi d a log
+      → AuditAt pi d after (group ∷ log)
   pub fault : MatchResult result (λ _. after.fault ≡ None) (λ fault. after.fault ≡ Some fault)
   pub start : after.start ≡ a.start
   pub which : WhereTheAuditStands after
@@ -130,8 +130,8 @@ pub record TakesSlot (a after : AuditState) (group : Option Group)
 -- and follows it if it followed the log; the result is what the slot adds to the list of the log; the fault is the first
 -- one that was added
 pub record TakesAll (a after : AuditState) (group : Option Group) (result : FaultSet) : Type 0 where
-  pub stands : (pi d : ℕ) (log : List (Option Group)) → AuditStandsAt pi d a log
-      → AuditStandsAt pi d after (group ∷ log)
+  pub stands : (pi d : ℕ) (log : List (Option Group)) → AuditAt pi d a log
+      → AuditAt pi d after (group ∷ log)
   pub follows : (pi d : ℕ) (log : List (Option Group)) → FollowsLog pi d a log
       → FollowsLog pi d after (group ∷ log)
   pub adds : (pi d : ℕ) (log : List (Option Group)) (s : FollowsLog pi d a log) (message : Option Message)
@@ -162,5 +162,5 @@ pub record ListsGroup (a after : AuditState) (group : Option Group) (result : Fa
 -- the slot is over: the state follows from the log with its newest slot
 abbrev pub EndsSlot : StoredAudit → StoredAudit → Type 0
 EndsSlot old new =
-    IsStored old → (judged : List (Option Message)) (newest : Option Message)
+    IsStoredAudit old → (judged : List (Option Message)) (newest : Option Message)
     → HoldsSlot old.distance newest judged (audit_stored old) → HoldsLog old.distance (newest ∷ judged) (audit_stored new)

@@ -10,27 +10,27 @@ use Rattle.rds_receiver.specs.State.{ReceiverState}
 use Rattle.rds_receiver.specs.Confirmed.{counted}
 
 -- the receiver has this tuning, and its state follows from what it heard of the input
-pub record StandsAt (t : Tuning) (r : ReceiverState) (input : List (Option Group)) : Type 0 where
+pub record ReceiverAt (t : Tuning) (r : ReceiverState) (input : List (Option Group)) : Type 0 where
   pub tuned : r.display.programme ≡ t.programme
   pub heard : List (Option Message)
   pub are : AreHeard t.programme input heard
   pub holds : HoldsBy t.window t.dwell (newest_slot t.first heard) t.first r heard
 
 -- this holds of each tuning and input that the receiver stands at
-abbrev pub WhereItStands : ReceiverState → (Tuning → List (Option Group) → Type 0) → Type 0
-WhereItStands r Holds = (t : Tuning) (input : List (Option Group)) → StandsAt t r input → Holds t input
+abbrev pub WhereReceiverStands : ReceiverState → (Tuning → List (Option Group) → Type 0) → Type 0
+WhereReceiverStands r Holds = (t : Tuning) (input : List (Option Group)) → ReceiverAt t r input → Holds t input
 
 -- the receiver took one more slot with this group, or with none: wherever it stood, it stands with that slot now
 abbrev pub TakesSlot : ReceiverState → ReceiverState → Option Group → Type 0
-TakesSlot r after group = WhereItStands r (λ t input. StandsAt t after (group ∷ input))
+TakesSlot r after group = WhereReceiverStands r (λ t input. ReceiverAt t after (group ∷ input))
 
 -- one more slot with this group, or with none, changes no view: wherever the receiver stands, each view stays the view
 abbrev pub KeepsView : ReceiverState → Option Group → Type 0
 KeepsView r group =
-    (view : ShownView) → WhereItStands r (λ t input. IsView t input view → IsView t (group ∷ input) view)
+    (view : ShownView) → WhereReceiverStands r (λ t input. IsView t input view → IsView t (group ∷ input) view)
 
 -- this holds of the dwell, the first slot and what counts of what was heard, for each tuning and input that the
 -- receiver stands at
 abbrev pub WhatItHeard : ReceiverState → (ℕ → ℕ → List (Option Message) → Type 0) → Type 0
-WhatItHeard r Holds = WhereItStands r (λ t input.
+WhatItHeard r Holds = WhereReceiverStands r (λ t input.
     (heard : List (Option Message)) → AreHeard t.programme input heard → Holds t.dwell t.first (counted t heard))

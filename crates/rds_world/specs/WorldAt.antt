@@ -4,10 +4,10 @@ use Rattle.std.specs.Prelude.{ℕ, List, Option, Some, None, false, length, slic
 use Rattle.circular_buffer.specs.Buffer.{Buffer, buffer}
 use Rattle.rds_block.specs.declared.group.Group.{Group}
 use Rattle.rds_fields.specs.declared.message.Message.{Message}
-use Rattle.rds_encoder.specs.StandsAt as encoder
+use Rattle.rds_encoder.specs.EncoderAt.{EncoderAt}
 use Rattle.rds_receiver.specs.Receipts.{AreHeard, Hears, Tuning}
 use Rattle.rds_receiver.specs.Shown.{IsView, ShownView}
-use Rattle.rds_receiver.specs.StandsAt as receiver
+use Rattle.rds_receiver.specs.ReceiverAt.{ReceiverAt, WhereReceiverStands}
 use Rattle.rds_world.specs.declared.event.Reception.{Reception}
 use Rattle.rds_world.specs.declared.event.Reception.TheVariants.{Lost}
 use Rattle.rds_world.specs.ReceiverKind.{dwell_of, window_of}
@@ -34,13 +34,13 @@ tuned_to config input = record {
 pub record HasHeard (config : Config) (input : Input) (r : ReceiverState) : Type 0 where
   pub groups : List (Option Group)
   pub spelled : AreHeard config.head.pi groups input.heard
-  pub stands : receiver.StandsAt (tuned_to config input) r groups
+  pub stands : ReceiverAt (tuned_to config input) r groups
 
 -- the receiver has heard nothing yet, in whichever slot its input begins
-abbrev pub IsNew : Config → ReceiverState → Type 0
-IsNew config r =
+abbrev pub HeardNothing : Config → ReceiverState → Type 0
+HeardNothing config r =
     (first : ℕ)
-    → receiver.StandsAt (tuned_to config record { first = first; heard = []; origins = [] }) r []
+    → ReceiverAt (tuned_to config record { first = first; heard = []; origins = [] }) r []
 
 -- each receiver has heard the input with its number
 pub record AllHaveHeard (config : Config) (inputs : ℕ → Input) (receivers : List ReceiverState) : Type 0 where
@@ -93,13 +93,13 @@ ShowsStill config i (e ∷ before) =
     StaysShown config (input_of (distance config) i before) (input_of (distance config) i (e ∷ before))
 
 -- the world has this configuration, and its state follows from these slots
-pub record StandsAt (config : Config) (w : WorldState) (events : List Event) : Type 0 where
+pub record WorldAt (config : Config) (w : WorldState) (events : List Event) : Type 0 where
   pub is_set : w.config ≡ config
   pub lasts : 0 < config.dwell
   pub values : SetValues events
   pub due : AreDue config.premise.late events
   pub fit : AreFit config.premise.window events
-  pub encoder : encoder.StandsAt config.head (distance config) w.encoder (entries events)
+  pub encoder : EncoderAt config.head (distance config) w.encoder (entries events)
   pub receivers : AllHaveHeard config (λ i. input_of (distance config) i events) w.receivers
   pub reaches : HaveReaches config.premise.late events w.reaches
   pub pasts : HavePasts config.premise.window events w.pasts
@@ -107,9 +107,9 @@ pub record StandsAt (config : Config) (w : WorldState) (events : List Event) : T
   pub stay : (i : ℕ) → slice_index_or w.stays i false ≡ true → ShowsStill config i events
 
 -- this holds of each configuration and list of slots that the world stands at
-abbrev pub WhereItStands : WorldState → (Config → List Event → Type 0) → Type 0
-WhereItStands w Holds = (config : Config) (events : List Event) → StandsAt config w events → Holds config events
+abbrev pub WhereWorldStands : WorldState → (Config → List Event → Type 0) → Type 0
+WhereWorldStands w Holds = (config : Config) (events : List Event) → WorldAt config w events → Holds config events
 
 -- the receiver shows this view: the view follows from every input that can lead to this state
-abbrev pub Shows : ReceiverState → ShownView → Type 0
-Shows r view = receiver.WhereItStands r (λ t input. IsView t input view)
+abbrev pub ReceiverShows : ReceiverState → ShownView → Type 0
+ReceiverShows r view = WhereReceiverStands r (λ t input. IsView t input view)

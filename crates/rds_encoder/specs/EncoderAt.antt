@@ -32,7 +32,7 @@ abbrev pub with_next : ℕ → List Move → OnAir → TextState
 with_next m moves air = record { bytes = air.bytes; next = next_address m moves air }
 
 -- the encoder has this head and a spacing of m slots, and its state follows from these entries
-pub record StandsAt (station : Head) (m : ℕ) (e : EncoderState) (entries : List Entry) : Type 0 where
+pub record EncoderAt (station : Head) (m : ℕ) (e : EncoderState) (entries : List Entry) : Type 0 where
   pub head : e.head ≡ station
   pub distance : e.distance ≡ m
   pub silence : e.silence ≡ silence_left m (text_moves entries)
@@ -42,9 +42,9 @@ pub record StandsAt (station : Head) (m : ℕ) (e : EncoderState) (entries : Lis
   pub pair : e.pair ≡ pair_on_air m entries
 
 -- this holds of each head, spacing and list of entries that the encoder stands at
-abbrev pub WhereItStands : EncoderState → (Head → ℕ → List Entry → Type 0) → Type 0
-WhereItStands e P = (station : Head) (m : ℕ) (entries : List Entry) → StandsAt station m e entries → P station m entries
+abbrev pub WhereEncoderStands : EncoderState → (Head → ℕ → List Entry → Type 0) → Type 0
+WhereEncoderStands e P = (station : Head) (m : ℕ) (entries : List Entry) → EncoderAt station m e entries → P station m entries
 
 -- the encoder took the entry: it stands at its entries before with this one added
 abbrev pub Takes : EncoderState → EncoderState → Entry → Type 0
-Takes old new entry = WhereItStands old (λ station m entries. StandsAt station m new (entry ∷ entries))
+Takes old new entry = WhereEncoderStands old (λ station m entries. EncoderAt station m new (entry ∷ entries))
