@@ -46,14 +46,14 @@ class Speed(ProgramCase):
                          for spans in ("0", ",".join(str(3 * it) for it in range(count))))
         self.check(f"{many} instructions beside {one}", many <= 1.5 * one, True)
 
-    def test_a_list_takes_at_most_1_4_times_the_instructions_of_an_audit(self):
-        """Of a log that passes, where both judge each slot."""
+    def test_all_faults_take_the_instructions_of_the_first_one(self):
+        """Of a log that passes, where both judge each slot: one engine serves both."""
         with tempfile.TemporaryDirectory() as folder:
             call = tasks.ours(PROGRAM, "audit", 0)
             few, many = (tasks.made_input(folder, PROGRAM, "audit", 0, 0, slots) for slots in (SLOTS, 2 * SLOTS))
             counts = [tasks.instructions(words, many) - tasks.instructions(words, few)
                       for words in (call, [*call, "--all"])]
-            self.check(f"{counts[1]} instructions beside {counts[0]}", counts[0] < counts[1] <= 1.4 * counts[0], True)
+            self.check(f"{counts[1]} instructions beside {counts[0]}", counts[1] <= 1.01 * counts[0], True)
 
 
 if __name__ == "__main__":
