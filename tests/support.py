@@ -20,8 +20,6 @@ import traceback
 import unittest
 
 ROOT = os.path.dirname(os.path.dirname(os.path.abspath(__file__)))
-# no test takes a record in place of a proof
-os.environ.pop("RDSRT_CHECKED", None)
 # the tests import crates and targets from there
 sys.path.insert(1, os.path.join(ROOT, "tools"))
 TARGET = os.environ.get("RDSRT_TARGET")

@@ -68,7 +68,6 @@ RUN_BY = [
     (r"page/build$", "test_page_build"),
     (r"tools/shipped.py$", "test_shipped"),
     (r"tools/static_library ", "test_c_library.Archive"),
-    (r"tools/checked.py$", "test_checked.Records"),
     (r"\./rdsrt (?:decode|audit|witness|encode|sim) .* < examples/[\w.]+$", "test_examples"),
     (r"rdsrt slots$|rdsrt \.\. \| head$", "test_pipes"),
     (r"rdsrt audit spy.log$", "test_notes"),

@@ -147,22 +147,21 @@ def is_stale(made, name, uses):
 
 
 def is_left(name, uses):
-    """Returns whether `rt ci`, a build for a target or tools/checked.py left the library of the crate, which has no stamp
-    then, and no source is newer. The time of its folder counts, since `rt ci` keeps the times of the files in it."""
+    """Returns whether `rt ci` or a build for a target left the library of the crate, which has no stamp then, and no source
+    is newer. The time of its folder counts, since `rt ci` keeps the times of the files in it."""
     made = rlib(name)
     stamp = os.path.join(os.path.dirname(made), "stamp")
     return os.path.exists(made) and os.path.getmtime(made) >= newest_source(name, uses) and not os.path.exists(stamp)
 
 
-def compile_words(name, uses, jobs, *more, verb="build", rlib_of=rlib):
+def compile_words(name, uses, jobs, *more, verb="build"):
     """Returns the call of the kit's compiler, in the crate's folder, that proves and builds the crate. The verb `check`
-    only proves it. With 0 jobs the call proves nothing: a word of `more` names a record of the proof. `rlib_of` gives the
-    folder of each library."""
+    only proves it."""
     source = next(it for it in ("src/main.rt", "src/lib.rt") if os.path.exists(os.path.join(folder(name), it)))
-    made = [(it, rlib_of(it) if it in uses else f"{KIT}/rlibs/{it}.rlib") for it in ("std", *uses[name])]
-    folders = [f"{KIT}/rlibs", *(os.path.dirname(rlib_of(it)) for it in below(name, uses))]
+    made = [(it, rlib(it) if it in uses else f"{KIT}/rlibs/{it}.rlib") for it in ("std", *uses[name])]
+    folders = [f"{KIT}/rlibs", *(os.path.dirname(rlib(it)) for it in below(name, uses))]
     return [f"{KIT}/bin/rattle", verb, "--crate-name", name, source, "--links", f"{name}=",
-            *(["--jobs", str(jobs), "--logic-built", f"{KIT}/logic_built"] if jobs else []),
+            "--jobs", str(jobs), "--logic-built", f"{KIT}/logic_built",
             "--antt-project", f"{KIT}/rattle/logic/antt-project.json",
             *(it for crate, at in made for it in ("--extern", f"{crate}={at}")),
             *(it for at in dict.fromkeys(folders) for it in ("-L", f"dependency={at}")), *more]

@@ -19,11 +19,10 @@ sys.dont_write_bytecode = True
 HERE = os.path.dirname(os.path.abspath(__file__))
 ROOT = os.path.dirname(os.path.dirname(HERE))
 sys.path.insert(0, os.path.join(ROOT, "tools"))
-import checked
-from crates import KIT
+from crates import KIT, folder
 
 CLANG, OUT = f"{KIT}/toolchain/bin/clang", os.path.join(HERE, "out")
-HEADER, MODULE = os.path.join(ROOT, "include/rdsrt.h"), checked.place("rds_ffi", "rds_ffi.bc")
+HEADER, MODULE = os.path.join(ROOT, "include/rdsrt.h"), os.path.join(folder("rds_ffi"), "out/rds_ffi.bc")
 # the start of the names of the C tools, and their words for the processor
 TARGETS = {"cortex-m4": ("arm-none-eabi", ["-mthumb", "-mcpu=cortex-m4", "-mfloat-abi=soft"]),
            "cortex-m0plus": ("arm-none-eabi", ["-mthumb", "-mcpu=cortex-m0plus", "-mfloat-abi=soft"]),
