@@ -17,7 +17,7 @@ HELP = ["tests/shown/help.txt",
 PAGES = sorted(os.path.relpath(it, ROOT) for at in ("", "docs", "crates", "examples", "python", "experiments/*")
                for it in glob.glob(os.path.join(ROOT, at, "*.md")))
 # programs of examples/ that say at their start how they are called
-EXAMPLES = sorted(os.path.relpath(it, ROOT) for at in ("station", "json", "monitor", "v4l2", "fm/*", "c/*.c")
+EXAMPLES = sorted(os.path.relpath(it, ROOT) for at in ("station", "send", "json", "monitor", "v4l2", "fm/*", "c/*.c")
                   for it in glob.glob(os.path.join(ROOT, "examples", at)))
 # programs that a command in a sentence begins with, beside the scripts of the repository
 PROGRAMS = ("rt", "rdsrt", "pip", "cc", "man", "parallel", "python3", "apt-get")
@@ -33,6 +33,8 @@ FAULTY = [HI, YO, HA, YO, *[LOST] * 200, HI, HA, *[LOST] * 200, YO, HI, YO.repla
 # the first words of a command in a page, the files and programs of the reader, its output, and a file that it writes
 RUN = [
     ("./rdsrt slots < spy.log > station.log", {"spy.log": SPY}, {}, "", ("station.log", SLOTS)),
+    ("./rdsrt audit --running --pi C201 < spy.log", {"spy.log": SPY.replace(".176", ".088")}, {},
+     "yes 2\nrdsrt: judged in 2 slots: 2 texts, 0 names, 0 pairs of tags\n", None),
     ("capture | redsea ", {}, {"capture": "true", "redsea": f"printf '{SPY}'"}, "", ("station.log", SLOTS)),
     ("sed -E 's/^([0-9A-Fa-f]{4} [Bb]", {"station.log": OTHER}, {},
      "yes 5\nrdsrt: judged in 5 slots, 3 without a group: 1 text, 0 names, 0 pairs of tags\n", None),
@@ -51,8 +53,10 @@ RUN = [
 RUN_BY = [
     (r"ls logs/\*\.log \| xargs ", "test_guide.Guide.test_the_line_of_xargs"),
     (r"parallel -k --tag ", "test_guide.Guide.test_the_lines_of_parallel"),
-    (r"examples/station --m 128 now.txt \\|", "test_guide.Guide.test_the_pipe_to_another_encoder"),
+    (r"(?:examples/)?station --m 128 now.txt .*send HOST:PORT$", "test_send.Send.test_the_line_of_the_page"),
     (r"(?:examples/)?station --m 128 ", "test_guide.Guide.test_the_pipe_of_a_station"),
+    (r"\./rdsrt audit --all --running --pi C201 < station.log$|rdsrt: 447 of 449 texts: ",
+     "test_guide.Guide.test_the_counts_of_a_station_with_short_texts"),
     (r"split -n l/2 stations|feed \| monitor ", "test_monitor"),
     (r"rdsrt encode --pi C201 < script \| transmit ", "test_fm"),
     (r"\./rdsrt encode --pi C201 < script \| examples/fm/transmit ", "test_fm.EndToEnd"),

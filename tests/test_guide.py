@@ -142,7 +142,8 @@ class Guide(Case):
 
     def test_the_pipe_to_another_encoder(self):
         """The texts that the pipe of docs/AIR.md lets through, without the sender behind it, are far enough apart."""
-        call = re.search(r"^    (examples/station .*decode --pi C201) \| send$", text_of("docs/AIR.md"), re.M)[1]
+        call = re.search(r"^    (examples/station .*decode --pi C201) \| examples/send HOST:PORT$", text_of("docs/AIR.md"),
+                         re.M)[1]
         lines = ran(call.replace("now.txt", "--at-once --slots 1300 <(yes HI | head -1)")).splitlines()
         self.check("texts", [it.split(" ", 1)[1] for it in lines[:2]], ['text ""', 'text "HI"'])
         slots = [int(it.split(" ")[0]) for it in lines]
@@ -183,7 +184,7 @@ class Guide(Case):
 
     def test_each_example_program_has_help(self):
         """test_fm asks the programs of examples/fm."""
-        for name in ("json", "monitor", "station", "v4l2"):
+        for name in ("json", "monitor", "send", "station", "v4l2"):
             done = subprocess.run([os.path.join(ROOT, "examples", name), "--help"], capture_output=True,
                                   timeout=SECONDS)
             self.check(f"{name} --help", (done.returncode, name.encode() in done.stdout, done.stderr), (0, True, b""))
