@@ -57,6 +57,7 @@ RUN_BY = [
     (r"(?:examples/)?station --m 128 ", "test_guide.Guide.test_the_pipe_of_a_station"),
     (r"\./rdsrt audit --all --running --pi C201 < station.log$|rdsrt: 447 of 449 texts: ",
      "test_guide.Guide.test_the_counts_of_a_station_with_short_texts"),
+    (r"awk ", "test_guide.Guide.test_each_fault_has_the_time_of_its_line"),
     (r"split -n l/2 stations|feed \| monitor ", "test_monitor"),
     (r"rdsrt encode --pi C201 < script \| transmit ", "test_fm"),
     (r"\./rdsrt encode --pi C201 < script \| examples/fm/transmit ", "test_fm.EndToEnd"),

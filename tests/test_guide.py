@@ -131,6 +131,19 @@ class Guide(Case):
         self.check("notes of audit --all", [line for line in notes if f"    {line}\n" not in page], [])
         self.check("number of notes", len(notes), 3)
 
+    def test_each_fault_has_the_time_of_its_line(self):
+        """In a log with comments, empty lines and two programmes, whose lines end in a line feed or in CR LF."""
+        audit, pick = re.search(r"^    (\./rdsrt audit --all .* > faults\.txt)$.*?^    (awk .*? station\.log)$", self.text,
+                                re.M | re.S).groups()
+        log = ["# two programmes", f"{HI} @12.00", "", f"{HI.replace('C201', 'D201')} @12.09", f"{YO} @12.18", "<mark>",
+               f"{HA} @12.26", "% the text changes", f"{HI}", f"{TWO} @12.44"]
+        for end in ("\n", "\r\n"):
+            folder = temporary_folder(self)
+            with open(os.path.join(folder, "station.log"), "w", encoding="ascii", newline="") as file:
+                file.write("".join(it + end for it in log))
+            self.check(f"lines that end in {end!r}", done(f"{audit}; {pick}", at=folder).stdout.decode(),
+                       "line 7 EarlyFlag @12.26\nline 9 Changed EarlyFlag \nline 10 EarlyTag @12.44\n")
+
     def test_the_pipe_of_a_station(self):
         """The log of the guide's pipe, for some slots, without the modulator behind it."""
         call = re.search(r"^    (examples/station .*) \| modulator$", self.text, re.M)[1]
