@@ -7,6 +7,7 @@ tests can fail.
 import itertools
 import math
 import os
+import re
 import select
 import shlex
 import subprocess
@@ -14,7 +15,8 @@ import time
 import unittest
 
 from tests import radio
-from tests.support import Case, temporary_folder
+from tests.support import Case, temporary_folder, text_of
+from tests.test_commands import ran
 
 BUFFER = 16_384                                              # samples
 DROPPED = {50, *range(80, 87)}
@@ -201,3 +203,23 @@ class Live(Case):
         self.check("too few", [it for it in steps["--live",] if it[0] < it[1]], [])
         self.check("groups on both sides", sum(sent for _, sent in steps["--live",]) > 60, True)
         self.check("too few without the clock", any(counted < sent for counted, sent in steps[()]), True)
+
+
+@unittest.skipUnless(radio.is_there(), "no numpy here (apt-get install python3-numpy)")
+class Pages(Case):
+    """The lines of docs/AIR.md."""
+
+    def test_the_trial_without_hardware(self):
+        text = text_of("docs/AIR.md").split("## Without hardware\n")[1].split("\n## ")[0]
+        call, shown = re.search(r"^    (\./rdsrt .*?)\n\nIt prints:\n\n```text\n(.*?)```", text, re.M | re.S).groups()
+        self.check("the trial", ran(call), shown)
+
+    def test_the_pi_that_is_heard_is_passed_on(self):
+        """With a computed station in place of the dongle, whose samples come at once: without --live."""
+        call = re.search(r"^    (rtl_fm .* --live \|\n.*)$", text_of("docs/AIR.md"), re.M)[1]
+        dongle, _, rest = call.partition("|")
+        station = f"rdsrt encode --pi C201 --pty 10 --m 8 < examples/chanson.csv | {radio.TRANSMIT} --pi C201"
+        self.check("the dongle", dongle.startswith("rtl_fm "), True)
+        lines = ran(f"{station} | {rest.replace(' --live', '')}").splitlines()
+        self.check("its texts", [it.split(" ", 1)[1] for it in lines if " text " in it or it.startswith("receive")],
+                   ["hears C201, and takes its groups", 'text "Édith Piaf, Milord"'])
