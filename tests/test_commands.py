@@ -83,6 +83,7 @@ RUN_BY = [
 NOT_HERE = [
     (r"\./test$|python3 -m tests|python3 -m unittest ", "the tests themselves"),
     (r"\(cd crates/rdsrt && rt try ", "it compiles the program anew, for minutes on a busy machine"),
+    (r"\(cd crates/rds_encoder && rt check\)", "it proves a crate with a wrong line; test_trust has the line"),
     (r"rt ", "a command of the kit: the gate runs `rt ci`, and that takes minutes"),
     (r"\./install PREFIX --target (?:aarch64|armv7)$", "it builds for another target; tests/release runs it"),
     (r"tools/(?:release|build)$|tools/release OUT$|tests/release$", "makes or tries all packages, by hand: 30 minutes"),

@@ -26,6 +26,19 @@ def listed():
 
 
 class Trust(Case):
+    def test_the_line_to_break_is_in_the_source(self):
+        """The page names the function by its line, and the clause that is refused."""
+        text = text_of("docs/TRUST.md").split("### Break it yourself\n")[1].split("\n### ")[0]
+        path, = re.findall(r"(crates/\S+\.rt) is the line\n", text)
+        line, = re.findall(r"is the line\n\n```text\n(.*)\n```", text)
+        number, column, clause = re.search(r":(\d+):(\d+): it is not proved .*\(`returns-clause-(\w+)`\)", text).groups()
+        source = text_of(path).splitlines()
+        self.check("lines like it", source.count(line), 1)
+        self.check("the function", source[int(number) - 1][int(column) - 1:].startswith("pub(crate) fn set("), True)
+        body = source.index(line)
+        self.check("the clause", [it for it in source[int(number):body] if f"ensures {clause} " in it] != [], True)
+        self.check("it is in that function", [it for it in source[int(number):body] if " fn " in it], [])
+
     def test_the_first_list_has_the_definitions_of_the_headline(self):
         rows, definitions, lines = reading.by_file(reading.closure(reading.WIRE, reading.PROMISED))
         text = section()
