@@ -1,10 +1,11 @@
 """Help and refusals: the texts in tests/shown, and calls that end without reading."""
 import os
+import shutil
 import subprocess
 import tempfile
 
 from tests.calls import ALL_OPTIONS, COMMANDS, DECODE, OF_A_STATION
-from tests.support import PROGRAM, PROMPT, SECONDS, ProgramCase, bytes_of, ran
+from tests.support import PROGRAM, PROMPT, SECONDS, Case, ProgramCase, bytes_of, path, ran, temporary_folder, text_of
 from tests.worked_rows import HI
 
 # a file of tests/shown, the arguments that print it, and the status
@@ -92,3 +93,31 @@ class DecidedByArguments(ProgramCase):
                 done = subprocess.run([PROGRAM, *words], stdin=file, stdout=subprocess.PIPE, stderr=subprocess.DEVNULL,
                                       timeout=SECONDS)
                 self.check(f"{words[:20]}", (done.returncode, file.seek(0, os.SEEK_CUR)), (wanted, 0))
+
+
+class Scripts(Case):
+    """The scripts answer for help at once: they need no kit and build nothing."""
+
+    def asked(self, script, *words):
+        """Returns the status, the output and the errors of a script, where there is no `rt` and no python3."""
+        done = subprocess.run([path(script), *words], capture_output=True, timeout=PROMPT, text=True,
+                              env={"PATH": self.programs, "LC_ALL": "C.UTF-8"})
+        return done.returncode, done.stdout, done.stderr
+
+    def setUp(self):
+        self.programs = temporary_folder(self)
+        for name in ("bash", "cat", "dirname", "env", "sed"):
+            os.symlink(shutil.which(name), os.path.join(self.programs, name))
+
+    def test_rdsrt_prints_the_help_of_the_program(self):
+        asked = [it for it in SHOWN if it[1] in (["-h"], ["--help"]) or it[1][1:] in (["-h"], ["--help"])]
+        self.check("texts", len(asked), 14)
+        for name, words, status in asked:
+            self.check(f"./rdsrt {words}", self.asked("rdsrt", *words), (status, text_of(f"tests/shown/{name}.txt"), ""))
+
+    def test_other_scripts_print_how_they_are_called(self):
+        scripts = {"test": "usage: ./test", "install": "./install PREFIX", "tools/release": "usage: tools/release OUT"}
+        for script, call in scripts.items():
+            for word in ("-h", "--help"):
+                status, printed, errors = self.asked(script, word)
+                self.check(f"{script} {word}", (status, call in printed, "set -eu" in printed, errors), (0, True, False, ""))
