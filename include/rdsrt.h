@@ -53,6 +53,12 @@
  * RDSRT_ABI and one byte order. No call allocates, waits, prints, keeps a pointer or has a state of its own. Threads may
  * call at the same time on different structs.
  *
+ * AFTER A LOSS OF POWER. A saved receiver does not know how long the pause was. End as many slots without a group as the
+ * pause had, or more. If you do not know, call _init. A receiver that leaves out the pause can show a mix. For an encoder
+ * call _init: the guarantee holds for restarts. To go on without the silence, save the struct after each accepted text and
+ * name, and before the next rdsrt_encoder_tick: first save, then send. This is tested, and not proved. Do so only if you
+ * set no tags: after a pause of M + K slots saved tags can come too early.
+ *
  * LINK with -lrdsrt. pkg-config knows the library as rdsrt. CMake finds it by find_package(rdsrt), as rdsrt::rdsrt and
  * rdsrt::static. It needs memcpy, memset, memmove and memcmp at most.
  *
