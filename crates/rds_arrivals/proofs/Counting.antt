@@ -14,14 +14,20 @@ are_lost grain apart =
     let low = d.0 in
     let high = d.1 in
     record {
-      passed = elim (cases_lt 0 (lost_within grain apart)) [ inl some ↦ inr (omega (arith, low, some)) | inr none ↦ inl (omega (arith, none)) ];
+      passed = elim (cases_lt 0 (lost_within grain apart)) [
+        | inl some ↦ inr (omega (arith, low, some))
+        | inr none ↦ inl
+            (omega (arith, none))
+      ];
       no_more = omega (arith, high);
     }
 
 pub one_count : (grain apart n k : ℕ) → AreLost grain apart n → AreLost grain apart k → n ≡ k
 one_count grain apart n k p q = omega (arith, p.passed, p.no_more, q.passed, q.no_more)
 
-pub break_cases : (earlier later : ℕ) → ((is_break earlier later ≡ true) × IsBreak earlier later) ⊎ ((is_break earlier later ≡ false) × (earlier ≤ later) × (later ≤ earlier + day))
+pub break_cases : (earlier later : ℕ)
+    → ((is_break earlier later ≡ true) × IsBreak earlier later) ⊎ ((is_break earlier later ≡ false) × (earlier ≤ later)
+    × (later ≤ earlier + day))
 break_cases earlier later = grind (arith, nat_tests)
 
 -- the two cases of the rule

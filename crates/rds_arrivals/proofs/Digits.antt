@@ -1,5 +1,6 @@
 -- Lemmas about digits at the beginning of a text, and about their number.
-use Rattle.std.proofs.Common.{◌≡◌, ◌<◌, ◌≤◌, ◌^◌, ℕ, zero, suc, Bool, true, false, List, [], ◌∷◌, IsTrue, slice_index, refl, arith, cond}
+use Rattle.std.proofs.Common.{◌≡◌, ◌<◌, ◌≤◌, ◌^◌, ℕ, zero, suc, Bool, true, false, List, [], ◌∷◌, IsTrue, slice_index}
+use Rattle.std.proofs.Common.{refl, arith, cond}
 use Rattle.std.proofs.Math.Nat.{pow-le-pow_right}
 use Rattle.rds_arrivals.specs.Stamps.{is_digit, leading_digits}
 
@@ -8,7 +9,8 @@ pub all_lead : (text : List ℕ) (k : ℕ) → k < leading_digits text → IsTru
 all_lead [] k h = absurd (omega (arith, h))
 all_lead (b ∷ rest) k h = by (is_digit b) refl k h (all_lead rest)
   where
-    by : (t : Bool) → is_digit b ≡ t → (k : ℕ) → k < cond t (suc (leading_digits rest)) 0 → ((k : ℕ) → k < leading_digits rest → IsTrue (is_digit (slice_index rest k)))
+    by : (t : Bool) → is_digit b ≡ t → (k : ℕ) → k < cond t (suc (leading_digits rest)) 0
+        → ((k : ℕ) → k < leading_digits rest → IsTrue (is_digit (slice_index rest k)))
         → IsTrue (is_digit (slice_index (b ∷ rest) k))
     by true e zero h more = e
     by true e (suc k) h more = more k (omega (arith, h))

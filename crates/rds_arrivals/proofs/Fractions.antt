@@ -1,5 +1,6 @@
 -- Lemmas: a fraction with one digit more.
-use Rattle.std.proofs.Common.{◌≡◌, ◌≢◌, ◌+◌, ◌-◌, ◌*◌, ◌/◌, ◌<◌, ◌≤◌, ◌∙◌, ℕ, zero, suc, Bool, true, false, List, [], ◌∷◌, Option, Some, None, ap, arith, cond, drop, inl, inr, length, nat_lt, refl}
+use Rattle.std.proofs.Common.{◌≡◌, ◌≢◌, ◌+◌, ◌-◌, ◌*◌, ◌/◌, ◌<◌, ◌≤◌, ◌∙◌, ℕ, zero, suc, Bool, true, false, List, []}
+use Rattle.std.proofs.Common.{◌∷◌, Option, Some, None, ap, arith, cond, drop, inl, inr, length, nat_lt, refl}
 use Rattle.std.specs.Option.{option_map_or}
 use Rattle.std.proofs.lemmas.Bool.{cases_lt}
 use Rattle.std.proofs.lemmas.Bool.Decides.{nat_tests}
@@ -23,19 +24,23 @@ has_one m = grind (arith, nat_tests)
 same_test : (n m : ℕ) → nat_lt (suc n) (suc m) ≡ nat_lt n m
 same_test n m = grind (arith, nat_tests)
 
-leads : (text : List ℕ) (n : ℕ) → leading_digits (drop n text) ≡ option_map_or (λ _. suc (leading_digits (drop (suc n) text))) (digit_at text n) 0
+leads : (text : List ℕ) (n : ℕ)
+    → leading_digits (drop n text) ≡ option_map_or (λ _. suc (leading_digits (drop (suc n) text))) (digit_at text n) 0
 leads [] zero = refl
 leads [] (suc n) = rw (not_empty n) refl
 leads (b ∷ rest) zero = rw (has_one (length rest)) (at_front (is_digit b) (b - 48) (leading_digits rest))
 leads (b ∷ rest) (suc n) = rw (same_test n (length rest)) (leads rest n)
 
-pub digit_leads : (text : List ℕ) (n digit : ℕ) → digit_at text n ≡ Some digit → leading_digits (drop n text) ≡ suc (leading_digits (drop (n + 1) text))
+pub digit_leads : (text : List ℕ) (n digit : ℕ) → digit_at text n ≡ Some digit
+    → leading_digits (drop n text) ≡ suc (leading_digits (drop (n + 1) text))
 digit_leads text n digit is =
     let next : suc n ≡ n + 1 = omega arith in
-    leads text n ∙ ap (λ (o : Option ℕ). option_map_or (λ _. suc (leading_digits (drop (suc n) text))) o 0) is ∙ ap (λ (k : ℕ). suc (leading_digits (drop k text))) next
+    leads text n ∙ ap (λ (o : Option ℕ). option_map_or (λ _. suc (leading_digits (drop (suc n) text))) o 0) is
+    ∙ ap (λ (k : ℕ). suc (leading_digits (drop k text))) next
 
 pub none_leads : (text : List ℕ) (n : ℕ) → digit_at text n ≡ None → leading_digits (drop n text) ≡ 0
-none_leads text n is = leads text n ∙ ap (λ (o : Option ℕ). option_map_or (λ _. suc (leading_digits (drop (suc n) text))) o 0) is
+none_leads text n is = leads text n ∙ ap (λ (o : Option ℕ). option_map_or
+    (λ _. suc (leading_digits (drop (suc n) text))) o 0) is
 
 -- ---- the weight of digit i, in microseconds
 
@@ -110,7 +115,8 @@ one_digit text p first i k digit here is = elim (cases_lt k i) [
     | inr less ↦ (
         let same : k ≡ i = omega (arith, more, less) in
         let place : p ≡ first + i = omega (arith, here, same) in
-        let new = before text p (first + suc i) (omega (arith, here, same)) ∙ ap (λ (n : ℕ). value (digit_at text n)) place ∙ ap value is in
+        let new = before text p (first + suc i) (omega (arith, here, same)) ∙ ap (λ (n : ℕ). value (digit_at text n))
+        place ∙ ap value is in
         let old = behind text p (first + i) (omega (arith, here, same)) in
         let own : at k i digit ≡ digit = ap (λ (n : ℕ). at n i digit) same ∙ at_own i digit in
         omega (arith, new, old, own)
@@ -129,7 +135,8 @@ more_fraction text first i digit is = by i
     (one_digit text (first + 2) first i 2 digit refl is) (one_digit text (first + 3) first i 3 digit refl is)
     (one_digit text (first + 4) first i 4 digit refl is) (one_digit text (first + 5) first i 5 digit refl is)
   where
-    by : (i : ℕ) → More text first first 0 digit i → More text first (first + 1) 1 digit i → More text first (first + 2) 2 digit i → More text first (first + 3) 3 digit i
+    by : (i : ℕ) → More text first first 0 digit i → More text first (first + 1) 1 digit i
+        → More text first (first + 2) 2 digit i → More text first (first + 3) 3 digit i
         → More text first (first + 4) 4 digit i → More text first (first + 5) 5 digit i
         → fraction text first (first + suc i) ≡ fraction text first (first + i) + weight i * digit
     by zero a b c d e f = omega (arith, a, b, c, d, e, f)

@@ -1,5 +1,6 @@
 -- Lemmas: a minute depends on its sixteen bytes alone.
-use Rattle.std.proofs.Common.{◌≡◌, ◌+◌, ◌*◌, ◌%◌, ◌^◌, ◌<◌, ◌≤◌, ◌∙◌, ℕ, zero, suc, Bool, true, false, List, [], ◌∷◌, refl, sym, ap, arith, cond, length, map, nat_eq, nat_lt, slice_index, take, drop, w8}
+use Rattle.std.proofs.Common.{◌≡◌, ◌+◌, ◌*◌, ◌%◌, ◌^◌, ◌<◌, ◌≤◌, ◌∙◌, ℕ, zero, suc, Bool, true, false, List, [], ◌∷◌}
+use Rattle.std.proofs.Common.{refl, sym, ap, arith, cond, length, map, nat_eq, nat_lt, slice_index, take, drop, w8}
 use Rattle.std.proofs.lemmas.Bool.Decides.{nat_tests}
 use Rattle.std.proofs.lemmas.Simd.{mask_l-mod, tops_compared}
 use Rattle.std.proofs.lemmas.List.{get_or-drop, get_or-take, length-drop, length-take-le}
@@ -29,7 +30,8 @@ two_same : (t : List ℕ) (p i k : ℕ) → i ≡ p + k → k + 1 < 16 → p + 1
 two_same t p i k at h long =
     rw (digit_same t p i k at (omega (arith, h)) long, digit_same t p (i + 1) (k + 1) (omega (arith, at)) h long) refl
 
-has_same : (t : List ℕ) (p i k byte : ℕ) → i ≡ p + k → k < 16 → p + 16 ≤ length t → has t i byte ≡ has (sixteen t p) k byte
+has_same : (t : List ℕ) (p i k byte : ℕ) → i ≡ p + k → k < 16 → p + 16 ≤ length t
+    → has t i byte ≡ has (sixteen t p) k byte
 has_same t p i k byte at h long =
     let one = here t i (omega (arith, at, h, long)) in
     let other = here (sixteen t p) k (let all = sixteen_long t p long in omega (arith, all, h)) in
@@ -74,7 +76,8 @@ equal : (a b : ℕ) → nat_eq a b ≡ true → a ≡ b
 equal a b e = grind (arith, nat_tests)
 
 -- if all lanes are equal, the other list begins with these bytes
-begins_with : (n : ℕ) (xs ys : List ℕ) → length xs ≡ n → mask_l (zip2 nat_eq xs ys) ≡ ones n → (take n ys ≡ xs) × (n ≤ length ys)
+begins_with : (n : ℕ) (xs ys : List ℕ) → length xs ≡ n → mask_l (zip2 nat_eq xs ys) ≡ ones n
+    → (take n ys ≡ xs) × (n ≤ length ys)
 begins_with zero [] ys long e = (refl, omega arith)
 begins_with (suc n) (x ∷ xs) [] long e = absurd (omega (arith, e))
 begins_with (suc n) (x ∷ xs) (y ∷ ys) long e =
@@ -91,10 +94,12 @@ no_longer (x ∷ xs) (y ∷ ys) = (let rest = no_longer xs ys in omega (arith, r
 
 -- a text that has the kept bytes at this place has the same minute there
 pub minute_of_same : (t : List ℕ) (p : ℕ) (kept : List ℕ) → p + 16 ≤ length t
-    → mask_l (map (top 7) (zip2 (λ a b. cond (nat_eq a b) 255 0) (sixteen t p) kept)) % 2 ^ 64 ≡ 65535 → minute_at t p ≡ minute_at kept 0
+    → mask_l (map (top 7) (zip2 (λ a b. cond (nat_eq a b) 255 0) (sixteen t p) kept)) % 2 ^ 64 ≡ 65535
+    → minute_at t p ≡ minute_at kept 0
 minute_of_same t p kept room e =
     let lanes = tops_compared w8 nat_eq (sixteen t p) kept in
-    let few : length (zip2 nat_eq (sixteen t p) kept) ≤ 64 = (let all = sixteen_long t p room in let rest = no_longer (sixteen t p) kept in omega (arith, all, rest)) in
+    let few : length (zip2 nat_eq (sixteen t p) kept) ≤ 64 = (let all = sixteen_long t p room in let rest = no_longer
+    (sixteen t p) kept in omega (arith, all, rest)) in
     let set = sym (ap (λ m. mask_l m % 2 ^ 64) lanes ∙ mask_l-mod (zip2 nat_eq (sixteen t p) kept) 64 few) ∙ e in
     let (same, long) = begins_with 16 (sixteen t p) kept (sixteen_long t p room) set in
     minute_same t p room ∙ ap (λ (b : List ℕ). minute_at b 0) (sym same) ∙ sym (minute_same kept 0 long)

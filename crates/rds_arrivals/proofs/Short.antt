@@ -1,5 +1,6 @@
 -- Lemmas: a text that ends before a date and a time of day has none.
-use Rattle.std.proofs.Common.{◌≡◌, ◌+◌, ◌<◌, ◌≤◌, ℕ, Bool, true, false, List, Option, Some, None, refl, arith, length, nat_lt, option_and_then, if◌then◌else◌}
+use Rattle.std.proofs.Common.{◌≡◌, ◌+◌, ◌<◌, ◌≤◌, ℕ, Bool, true, false, List, Option, Some, None, refl, arith, length}
+use Rattle.std.proofs.Common.{nat_lt, option_and_then, if◌then◌else◌}
 use Rattle.std.proofs.lemmas.Bool.Decides.{nat_tests}
 use Rattle.rds_arrivals.specs.Stamps.{dated, digit_at, has, minute_at, second_at, two_at}
 
@@ -8,7 +9,8 @@ nothing f None each = refl
 nothing f (Some a) each = each a
 
 no_digit : (text : List ℕ) (place : ℕ) → length text ≤ place → digit_at text place ≡ None
-no_digit text place short = (let beyond : nat_lt place (length text) ≡ false = grind (arith, nat_tests) in rw beyond refl)
+no_digit text place short = (let beyond : nat_lt place (length text) ≡ false = grind (arith, nat_tests)
+    in rw beyond refl)
 
 no_two : (text : List ℕ) (place : ℕ) → length text ≤ place + 1 → two_at text place ≡ None
 no_two text place short = nothing _ (digit_at text place) (λ tens. rw (no_digit text (place + 1) short) refl)

@@ -49,11 +49,13 @@ abbrev at : ℕ → ℕ → Arrival ℕ
 at x time = record { entry = x; time = time; told = 0 }
 
 -- three groups, each 0.15 s after the one before it, of a receiver of dwell 2; then the time goes back
-three : filled 20000 2 (at 4 1000 ∷ at 3 300000 ∷ at 2 150000 ∷ at 1 0 ∷ []) ≡ Some 4 ∷ None ∷ None ∷ Some 3 ∷ None ∷ Some 2 ∷ None ∷ Some 1 ∷ []
+three : filled 20000 2 (at 4 1000 ∷ at 3 300000 ∷ at 2 150000 ∷ at 1 0 ∷ []) ≡ Some 4 ∷ None ∷ None ∷ Some 3 ∷ None
+    ∷ Some 2 ∷ None ∷ Some 1 ∷ []
 three = refl
 
 -- three lost slots were known before the second group came; by its own time it is one
-known_before : filled 20000 2 (record { entry = 2; time = 150000; told = 3 } ∷ at 1 0 ∷ []) ≡ Some 2 ∷ None ∷ None ∷ None ∷ Some 1 ∷ []
+known_before : filled 20000 2 (record { entry = 2; time = 150000; told = 3 } ∷ at 1 0 ∷ []) ≡ Some 2 ∷ None ∷ None
+    ∷ None ∷ Some 1 ∷ []
 known_before = refl
 
 -- ---- coarse times

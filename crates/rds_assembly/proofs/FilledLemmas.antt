@@ -1,5 +1,6 @@
 -- Lemmas: a buffer of zeros with a text written over its front.
-use Rattle.std.proofs.Common.{◌≡◌, ℕ, ◌+◌, ◌-◌, ◌≤◌, List, ◌++◌, length, take, drop, ap, subst, ◌∙◌, sym, arith, length-append}
+use Rattle.std.proofs.Common.{◌≡◌, ℕ, ◌+◌, ◌-◌, ◌≤◌, List, ◌++◌, length, take, drop, ap, subst, ◌∙◌, sym, arith}
+use Rattle.std.proofs.Common.{length-append}
 use Rattle.std.specs.Prelude.{replicate}
 use Rattle.std.proofs.lemmas.Simd.{length-replicate}
 use Rattle.std.proofs.lemmas.List.{drop-replicate}
@@ -19,7 +20,8 @@ written n x e t =
     record {
       full = length-append x (drop n (replicate 64 0)) ∙ joined (length x) _ n 64 e (rest_long n 64) within;
       within = within;
-      zeros = ap (λ k. drop k (x ++ drop n (replicate 64 0))) (sym e) ∙ drop-append_seam x (drop n (replicate 64 0)) ∙ drop-replicate n 64 0;
+      zeros = ap (λ k. drop k (x ++ drop n (replicate 64 0))) (sym e) ∙ drop-append_seam x (drop n (replicate 64 0))
+          ∙ drop-replicate n 64 0;
       text = subst IsText (sym (front n x _ e)) t;
     }
   where

@@ -1,5 +1,7 @@
 -- Lemmas: which cells the bytes and their mask hold.
-use Rattle.std.proofs.Common.{◌≡◌, ◌≢◌, ℕ, zero, suc, ◌+◌, ◌-◌, ◌*◌, ◌/◌, ◌%◌, ◌<◌, ◌≤◌, List, Bool, true, false, cond, nat_eq, length, slice_index, get_or, take, drop, Option, Some, None, refl, sym, ap, ◌∙◌, ◌⊎◌, inl, inr, arith, lit<}
+use Rattle.std.proofs.Common.{◌≡◌, ◌≢◌, ℕ, zero, suc, ◌+◌, ◌-◌, ◌*◌, ◌/◌, ◌%◌, ◌<◌, ◌≤◌, List, Bool, true, false, cond}
+use Rattle.std.proofs.Common.{nat_eq, length, slice_index, get_or, take, drop, Option, Some, None, refl, sym, ap, ◌∙◌}
+use Rattle.std.proofs.Common.{◌⊎◌, inl, inr, arith, lit<}
 use Rattle.std.specs.Prelude.{◌==◌, is_some}
 use Rattle.std.specs.Int.{bit_at}
 use Rattle.std.specs.FinMap.{get, insert, empty, contains_key, get-insert, get-empty, same_map, nat_cmp-IsAntisymmetric}
@@ -24,10 +26,12 @@ get-put m k v q = get-insert nat_cmp_total m k v q ∙ ap (λ b. cond b (Some v)
 abbrev pub cell_in : ℕ → List ℕ → ℕ → Option (List ℕ)
 cell_in mask bytes a = cond (bit_at mask a == 1) (Some (segment_of bytes a)) None
 
-one_more : (a mask : ℕ) (bytes : List ℕ) (q : ℕ) → q ≢ a → get (cells_below (suc a) mask bytes) q ≡ get (cells_below a mask bytes) q
+one_more : (a mask : ℕ) (bytes : List ℕ) (q : ℕ) → q ≢ a
+    → get (cells_below (suc a) mask bytes) q ≡ get (cells_below a mask bytes) q
 one_more a mask bytes q apart = by_bit (bit_at mask a == 1) refl
   where
-    by_bit : (b : Bool) → (bit_at mask a == 1) ≡ b → get (cells_below (suc a) mask bytes) q ≡ get (cells_below a mask bytes) q
+    by_bit : (b : Bool) → (bit_at mask a == 1) ≡ b
+        → get (cells_below (suc a) mask bytes) q ≡ get (cells_below a mask bytes) q
     by_bit true e =
         let other : nat_eq q a ≡ false = grind (arith, nat_tests) in
         rw e (get-put (cells_below a mask bytes) a (segment_of bytes a) q ∙ rw other refl)
@@ -65,7 +69,8 @@ past_all : (mask : ℕ) (bytes : List ℕ) (a : ℕ) → 16 ≤ a → get (held_
 unfolding held_cells
 past_all mask bytes a h = above 16 mask bytes a h
 
-pub get-set : (mask : ℕ) (bytes : List ℕ) (a : ℕ) → a < 16 → bit_at mask a ≡ 1 → get (held_cells mask bytes) a ≡ Some (segment_of bytes a)
+pub get-set : (mask : ℕ) (bytes : List ℕ) (a : ℕ) → a < 16 → bit_at mask a ≡ 1
+    → get (held_cells mask bytes) a ≡ Some (segment_of bytes a)
 get-set mask bytes a h on =
     let on' : (bit_at mask a == 1) ≡ true = rw on refl in
     get-held mask bytes a h ∙ ap (λ b. cond b (Some (segment_of bytes a)) None) on'
@@ -76,7 +81,8 @@ get-unset mask bytes a h off =
     get-held mask bytes a h ∙ ap (λ b. cond b (Some (segment_of bytes a)) None) off'
 
 -- a place of a segment that is held has its byte
-pub byte_in : (mask : ℕ) (bytes : List ℕ) (i : ℕ) → i < 64 → bit_at mask (i / 4) ≡ 1 → HasByte (held_cells mask bytes) i (slice_index bytes i)
+pub byte_in : (mask : ℕ) (bytes : List ℕ) (i : ℕ) → i < 64 → bit_at mask (i / 4) ≡ 1
+    → HasByte (held_cells mask bytes) i (slice_index bytes i)
 byte_in mask bytes i h on =
     let place : 4 * (i / 4) + i % 4 ≡ i = omega arith in
     record {
@@ -89,10 +95,14 @@ byte_in mask bytes i h on =
 abbrev pub AreSetBelow : ℕ → ℕ → Type 0
 AreSetBelow mask n = (i : ℕ) → i < n → bit_at mask (i / 4) ≡ 1
 
-pub spelled : (mask : ℕ) (bytes : List ℕ) (n : ℕ) → n ≤ 64 → length bytes ≡ 64 → AreSetBelow mask n → IsSpelled (held_cells mask bytes) (take n bytes)
+pub spelled : (mask : ℕ) (bytes : List ℕ) (n : ℕ) → n ≤ 64 → length bytes ≡ 64 → AreSetBelow mask n
+    → IsSpelled (held_cells mask bytes) (take n bytes)
 spelled mask bytes n h long on =
     let cut : length (take n bytes) ≡ n = length-take-le n bytes (omega arith) in
-    record { bytes = λ i l. let e : get_or (take n bytes) i 0 ≡ get_or bytes i 0 = get_or-take n bytes i 0 (omega arith) in rw e (byte_in mask bytes i (omega arith) (on i (omega arith))) }
+    record {
+      bytes = λ i l. let e : get_or (take n bytes) i 0 ≡ get_or bytes i 0 = get_or-take n bytes i 0 (omega arith)
+          in rw e (byte_in mask bytes i (omega arith) (on i (omega arith)));
+    }
 
 -- without a bit there is no cell
 none_set : (n : ℕ) (bytes : List ℕ) → cells_below n 0 bytes ≡ empty
@@ -105,7 +115,8 @@ nothing_held bytes = none_set 16 bytes
 
 -- without a cell there is no bit
 pub no_bit : (mask : ℕ) (bytes : List ℕ) → mask < 65536 → held_cells mask bytes ≡ empty → mask ≡ 0
-no_bit mask bytes fits none = same_from_bits_below 16 mask 0 fits (lit< tt) (λ a h. by_bit a h (bit_at mask a) refl ∙ sym (bit_at-zero a))
+no_bit mask bytes fits none = same_from_bits_below 16 mask 0 fits (lit< tt) (λ a h. by_bit a h (bit_at mask a) refl
+    ∙ sym (bit_at-zero a))
   where
     by_bit : (a : ℕ) → a < 16 → (b : ℕ) → bit_at mask a ≡ b → bit_at mask a ≡ 0
     by_bit a h zero e = e
@@ -117,11 +128,13 @@ no_bit mask bytes fits none = same_from_bits_below 16 mask 0 fits (lit< tt) (λ 
         absurd (cc)
 
 -- a segment is put and its bit set, and the others do not change
-pub put_held : (mask after a : ℕ) (bytes written segment : List ℕ) → a < 16 → bit_at after a ≡ 1 → ((q : ℕ) → q ≢ a → bit_at after q ≡ bit_at mask q)
+pub put_held : (mask after a : ℕ) (bytes written segment : List ℕ) → a < 16 → bit_at after a ≡ 1
+    → ((q : ℕ) → q ≢ a → bit_at after q ≡ bit_at mask q)
     → segment_of written a ≡ segment → ((q : ℕ) → q ≢ a → segment_of written q ≡ segment_of bytes q)
     → held_cells after written ≡ insert (held_cells mask bytes) a segment
 put_held mask after a bytes written segment h set kept here others =
-    same_map nat_cmp_total nat_cmp-IsAntisymmetric _ _ (λ q. by_address q (nat_eq q a) refl ∙ sym (get-put (held_cells mask bytes) a segment q))
+    same_map nat_cmp_total nat_cmp-IsAntisymmetric _ _ (λ q. by_address q (nat_eq q a) refl
+    ∙ sym (get-put (held_cells mask bytes) a segment q))
   where
     other : (q : ℕ) → q ≢ a → (q < 16) ⊎ (16 ≤ q) → get (held_cells after written) q ≡ get (held_cells mask bytes) q
     other q apart (inl l) =
@@ -129,7 +142,8 @@ put_held mask after a bytes written segment h set kept here others =
         ∙ ap (λ s. cond (bit_at mask q == 1) (Some s) None) (others q apart) ∙ sym (get-held mask bytes q l)
     other q apart (inr l) = past_all after written q l ∙ sym (past_all mask bytes q l)
 
-    by_address : (q : ℕ) (b : Bool) → nat_eq q a ≡ b → get (held_cells after written) q ≡ cond (nat_eq q a) (Some segment) (get (held_cells mask bytes) q)
+    by_address : (q : ℕ) (b : Bool) → nat_eq q a ≡ b
+        → get (held_cells after written) q ≡ cond (nat_eq q a) (Some segment) (get (held_cells mask bytes) q)
     by_address q true e =
         let same : q ≡ a = grind (arith, nat_tests) in
         rw e (rw same (get-set after written a h set ∙ ap Some here))
@@ -138,14 +152,18 @@ put_held mask after a bytes written segment h set kept here others =
         rw e (other q apart (cases_lt q 16))
 
 -- writing four bytes keeps the other segments and puts this one
-pub others_stay : (a k : ℕ) (bytes segment : List ℕ) → k ≡ 4 → length segment ≡ 4 → 4 * a + 4 ≤ length bytes → (q : ℕ) → q ≢ a →
+pub others_stay : (a k : ℕ) (bytes segment : List ℕ) → k ≡ 4 → length segment ≡ 4 → 4 * a + 4 ≤ length bytes → (q : ℕ)
+    → q ≢ a →
     segment_of (put_mid (4 * a) k bytes segment) q ≡ segment_of bytes q
 others_stay a k bytes segment e long room q apart =
     elim (cases_order q a) [
       | inl same ↦ absurd (apart same)
       | inr u ↦ elim u [
-        | inl less ↦ sym (drop-take (4 * q) 4 (put_mid (4 * a) k bytes segment)) ∙ ap (drop (4 * q)) (take-put_mid_below (4 * a) k bytes segment (4 * q + 4) (omega arith) (omega arith)) ∙ drop-take (4 * q) 4 bytes
-        | inr more ↦ ap (take 4) (drop-put_mid (4 * a) k bytes segment (4 * q) (omega arith) (omega arith) (omega arith))
+        | inl less ↦ sym (drop-take (4 * q) 4 (put_mid (4 * a) k bytes segment))
+            ∙ ap (drop (4 * q)) (take-put_mid_below (4 * a) k bytes segment (4 * q + 4) (omega arith) (omega arith))
+            ∙ drop-take (4 * q) 4 bytes
+        | inr more ↦ ap (take 4) (drop-put_mid (4 * a) k bytes segment (4 * q) (omega arith) (omega arith)
+            (omega arith))
       ]
     ]
 
@@ -156,23 +174,28 @@ segment_stands a k bytes segment e long room =
     rw n at (between-put_mid (4 * a) k bytes segment (4 * a + 4) (omega arith) (omega arith))
 
 -- a cell is held exactly if its bit is set
-pub contains-held : (mask : ℕ) (bytes : List ℕ) (a : ℕ) → a < 16 → contains_key (held_cells mask bytes) a ≡ (bit_at mask a == 1)
+pub contains-held : (mask : ℕ) (bytes : List ℕ) (a : ℕ) → a < 16
+    → contains_key (held_cells mask bytes) a ≡ (bit_at mask a == 1)
 contains-held mask bytes a h = ap is_some (get-held mask bytes a h) ∙ as_bit (bit_at mask a == 1)
   where
     as_bit : (b : Bool) → is_some (cond b (Some (segment_of bytes a)) None) ≡ b
     as_bit true = refl
     as_bit false = refl
 
-pub contained_set : (mask : ℕ) (bytes : List ℕ) (a : ℕ) → a < 16 → contains_key (held_cells mask bytes) a ≡ true → bit_at mask a ≡ 1
+pub contained_set : (mask : ℕ) (bytes : List ℕ) (a : ℕ) → a < 16 → contains_key (held_cells mask bytes) a ≡ true
+    → bit_at mask a ≡ 1
 contained_set mask bytes a h there =
     let set : (bit_at mask a == 1) ≡ true = sym (contains-held mask bytes a h) ∙ there in
     grind (arith, nat_tests)
 
-pub byte_set : (mask : ℕ) (bytes : List ℕ) (i b : ℕ) → i < 64 → HasByte (held_cells mask bytes) i b → bit_at mask (i / 4) ≡ 1
+pub byte_set : (mask : ℕ) (bytes : List ℕ) (i b : ℕ) → i < 64 → HasByte (held_cells mask bytes) i b
+    → bit_at mask (i / 4) ≡ 1
 byte_set mask bytes i b h byte = contained_set mask bytes (i / 4) (omega arith) (ap is_some byte.held)
 
 -- holding again a segment that is held changes nothing
-pub held_again : (mask a : ℕ) (bytes segment : List ℕ) → a < 16 → contains_key (held_cells mask bytes) a ≡ true → segment_of bytes a ≡ segment
+pub held_again : (mask a : ℕ) (bytes segment : List ℕ) → a < 16 → contains_key (held_cells mask bytes) a ≡ true
+    → segment_of bytes a ≡ segment
     → held_cells mask bytes ≡ insert (held_cells mask bytes) a segment
 held_again mask a bytes segment h there here =
-    put_held mask mask a bytes bytes segment h (contained_set mask bytes a h there) (λ q apart. refl) here (λ q apart. refl)
+    put_held mask mask a bytes bytes segment h (contained_set mask bytes a h there) (λ q apart. refl) here
+    (λ q apart. refl)

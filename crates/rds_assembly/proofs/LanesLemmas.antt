@@ -1,12 +1,15 @@
 -- Lemmas about one bit of a mask of lanes, and of one that is spread over four places each.
-use Rattle.std.proofs.Common.{◌≡◌, ℕ, zero, suc, ◌+◌, ◌-◌, ◌*◌, ◌/◌, ◌%◌, ◌^◌, ◌<◌, ◌≤◌, List, Bool, true, false, cond, map, eqb, nat_eq, nat_lt, ◌&&◌, get_or, refl, sym, ap, ◌∙◌, inl, inr, bit_and, bit_or, arith}
+use Rattle.std.proofs.Common.{◌≡◌, ℕ, zero, suc, ◌+◌, ◌-◌, ◌*◌, ◌/◌, ◌%◌, ◌^◌, ◌<◌, ◌≤◌, List, Bool, true, false, cond}
+use Rattle.std.proofs.Common.{map, eqb, nat_eq, nat_lt, ◌&&◌, get_or, refl, sym, ap, ◌∙◌, inl, inr, bit_and, bit_or}
+use Rattle.std.proofs.Common.{arith}
 use Rattle.std.specs.Int.{bit_at, from_bool}
 use Rattle.std.proofs.Math.ListN.{get_or-map}
 use Rattle.std.proofs.Math.Nat.{pow-suc}
 use Rattle.std.proofs.lemmas.Bool.{cases_lt}
 use Rattle.std.proofs.lemmas.Bool.Decides.{nat_tests}
 use Rattle.std.proofs.lemmas.Nat.{or_mod, or_shifted, pow_pos}
-use Rattle.std.proofs.lemmas.Nat.Bits.{bit_at-zero, bit_at_above, bit_at_and, bit_at_cat_high, bit_at_cat_low, bit_at_or, same_from_bits}
+use Rattle.std.proofs.lemmas.Nat.Bits.{bit_at-zero, bit_at_above, bit_at_and, bit_at_cat_high, bit_at_cat_low}
+use Rattle.std.proofs.lemmas.Nat.Bits.{bit_at_or, same_from_bits}
 use Rattle.std.proofs.lemmas.Simd.{bit_mask_l}
 use lib.Lanes.{mask_l}
 
@@ -14,7 +17,8 @@ one_or_zero : (b : Bool) → cond b 1 0 ≡ from_bool b
 one_or_zero true = refl
 one_or_zero false = refl
 
-pub bit_at-mask : (bytes : List ℕ) (i : ℕ) → bit_at (mask_l (map (λ b. eqb b 13) bytes)) i ≡ from_bool (eqb (get_or bytes i 0) 13)
+pub bit_at-mask : (bytes : List ℕ) (i : ℕ)
+    → bit_at (mask_l (map (λ b. eqb b 13) bytes)) i ≡ from_bool (eqb (get_or bytes i 0) 13)
 bit_at-mask bytes i =
     bit_mask_l (map (λ b. eqb b 13) bytes) i ∙ one_or_zero _ ∙ ap from_bool (get_or-map (λ b. eqb b 13) bytes i 0)
 
@@ -45,16 +49,20 @@ wide mask = filled (ones (twos (fours (eights mask))))
 
 -- the step works on each bit alone
 shift_low : (x s i : ℕ) → i < s → bit_at (x * 2 ^ s) i ≡ 0
-shift_low x s i h = (let z : x * 2 ^ s ≡ x * 2 ^ s + 0 = omega arith in ap (λ n. bit_at n i) z ∙ bit_at_cat_low x s 0 i h ∙ bit_at-zero i)
+shift_low x s i h = (let z : x * 2 ^ s ≡ x * 2 ^ s + 0 = omega arith in ap (λ n. bit_at n i) z ∙ bit_at_cat_low x s 0 i
+    h ∙ bit_at-zero i)
 
 shift_high : (x s i : ℕ) → s ≤ i → bit_at (x * 2 ^ s) i ≡ bit_at x (i - s)
-shift_high x s i h = (let z : x * 2 ^ s ≡ x * 2 ^ s + 0 = omega arith in ap (λ n. bit_at n i) z ∙ bit_at_cat_high x s 0 i (pow_pos s) h)
+shift_high x s i h = (let z : x * 2 ^ s ≡ x * 2 ^ s + 0 = omega arith in ap (λ n. bit_at n i) z ∙ bit_at_cat_high x s 0
+    i (pow_pos s) h)
 
 shift-or : (a b s : ℕ) → bit_or a b * 2 ^ s ≡ bit_or (a * 2 ^ s) (b * 2 ^ s)
 shift-or a b s =
     same_from_bits _ _ (λ i. elim (cases_lt i s) [
-      | inl l ↦ shift_low (bit_or a b) s i l ∙ sym (bit_at_or (a * 2 ^ s) (b * 2 ^ s) i ∙ rw (shift_low a s i l, shift_low b s i l) refl)
-      | inr h ↦ shift_high (bit_or a b) s i h ∙ bit_at_or a b (i - s) ∙ sym (bit_at_or (a * 2 ^ s) (b * 2 ^ s) i ∙ rw (shift_high a s i h, shift_high b s i h) refl)
+      | inl l ↦ shift_low (bit_or a b) s i l ∙ sym (bit_at_or (a * 2 ^ s) (b * 2 ^ s) i
+          ∙ rw (shift_low a s i l, shift_low b s i l) refl)
+      | inr h ↦ shift_high (bit_or a b) s i h ∙ bit_at_or a b (i - s) ∙ sym (bit_at_or (a * 2 ^ s) (b * 2 ^ s) i
+          ∙ rw (shift_high a s i h, shift_high b s i h) refl)
     ])
 
 or_crossed : (a b c d : ℕ) → bit_or (bit_or a b) (bit_or c d) ≡ bit_or (bit_or a c) (bit_or b d)
@@ -65,7 +73,8 @@ or_crossed a b c d =
 
 twice-or : (a b s : ℕ) → twice (bit_or a b) s ≡ bit_or (twice a s) (twice b s)
 twice-or a b s =
-    let moved : bit_or a b * 2 ^ s % 2 ^ 64 ≡ bit_or (a * 2 ^ s % 2 ^ 64) (b * 2 ^ s % 2 ^ 64) = ap (λ n. n % 2 ^ 64) (shift-or a b s) ∙ or_mod (a * 2 ^ s) (b * 2 ^ s) 64 in
+    let moved : bit_or a b * 2 ^ s % 2 ^ 64 ≡ bit_or (a * 2 ^ s % 2 ^ 64) (b * 2 ^ s % 2 ^ 64) = ap (λ n. n % 2 ^ 64)
+    (shift-or a b s) ∙ or_mod (a * 2 ^ s) (b * 2 ^ s) 64 in
     ap (bit_or (bit_or a b)) moved ∙ or_crossed a b (a * 2 ^ s % 2 ^ 64) (b * 2 ^ s % 2 ^ 64)
 
 and-or : (a b c : ℕ) → bit_and (bit_or a b) c ≡ bit_or (bit_and a c) (bit_and b c)
@@ -91,7 +100,8 @@ abbrev IsWide : ℕ → Type 0
 IsWide mask = (i : ℕ) → bit_at (wide mask) i ≡ bit_at mask (i / 4)
 
 wide_both : (a b : ℕ) → IsWide a → IsWide b → IsWide (bit_or a b)
-wide_both a b p q i = ap (λ n. bit_at n i) (wide-or a b) ∙ bit_at_or (wide a) (wide b) i ∙ rw (p i, q i) (sym (bit_at_or a b (i / 4)))
+wide_both a b p q i = ap (λ n. bit_at n i) (wide-or a b) ∙ bit_at_or (wide a) (wide b) i
+    ∙ rw (p i, q i) (sym (bit_at_or a b (i / 4)))
 
 -- masks of one bit, tried one by one
 same_number : (a b : ℕ) → nat_eq a b ≡ true → a ≡ b
@@ -133,7 +143,8 @@ tried mask spread t i =
     let others = both (nat_lt spread 18446744073709551616) (agree mask spread 64) tests.1 in
     elim (cases_lt i 64) [
       | inl l ↦ agree_at mask spread 64 others.1 i l
-      | inr h ↦ bit_at_above spread 64 i (smaller _ _ others.0) h ∙ sym (bit_at_above mask 16 (i / 4) (smaller _ _ tests.0) (omega arith))
+      | inr h ↦ bit_at_above spread 64 i (smaller _ _ others.0) h
+          ∙ sym (bit_at_above mask 16 (i / 4) (smaller _ _ tests.0) (omega arith))
     ]
 
 wide_alone : (a n : ℕ) → are_wide n ≡ true → a < n → IsWide (2 ^ a)
@@ -147,7 +158,8 @@ wide_alone a (suc n) t h =
 
 -- any mask of sixteen bits is one bit and a shorter mask, or none
 wide_below : (n mask : ℕ) → n ≤ 16 → mask < 2 ^ n → IsWide mask
-wide_below zero mask h l = (let none : mask ≡ 0 = omega arith in rw none (λ i. bit_at-zero i ∙ sym (bit_at-zero (i / 4))))
+wide_below zero mask h l = (let none : mask ≡ 0 = omega arith in rw none (λ i. bit_at-zero i
+    ∙ sym (bit_at-zero (i / 4))))
 wide_below (suc n) mask h l =
     elim (cases_lt mask (2 ^ n)) [
       | inl less ↦ wide_below n mask (omega arith) less
@@ -156,8 +168,10 @@ wide_below (suc n) mask h l =
           let rest : mask - 2 ^ n < 2 ^ n = omega arith in
           let sum : mask ≡ 1 * 2 ^ n + (mask - 2 ^ n) = omega arith in
           let one : 1 * 2 ^ n ≡ 2 ^ n = omega arith in
-          let split : mask ≡ bit_or (2 ^ n) (mask - 2 ^ n) = sum ∙ sym (or_shifted 1 n (mask - 2 ^ n) rest) ∙ ap (λ b. bit_or b (mask - 2 ^ n)) one in
-          rw split (wide_both (2 ^ n) (mask - 2 ^ n) (wide_alone n 16 sixteen_are_wide (omega arith)) (wide_below n (mask - 2 ^ n) (omega arith) rest)))
+          let split : mask ≡ bit_or (2 ^ n) (mask - 2 ^ n) = sum ∙ sym (or_shifted 1 n (mask - 2 ^ n) rest)
+          ∙ ap (λ b. bit_or b (mask - 2 ^ n)) one in
+          rw split (wide_both (2 ^ n) (mask - 2 ^ n) (wide_alone n 16 sixteen_are_wide (omega arith))
+          (wide_below n (mask - 2 ^ n) (omega arith) rest)))
     ]
 
 pub spread_all : (mask : ℕ) → mask < 65536 → (i : ℕ) → bit_at (wide mask) i ≡ bit_at mask (i / 4)

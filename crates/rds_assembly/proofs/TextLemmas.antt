@@ -1,5 +1,6 @@
 -- Lemmas: which text the search for carriage returns among the held segments finds.
-use Rattle.std.proofs.Common.{◌≡◌, ◌≢◌, ℕ, ◌+◌, ◌-◌, ◌/◌, ◌^◌, ◌<◌, ◌≤◌, List, length, slice_index, get_or, take, None, bit_and, refl, sym, subst, ◌∙◌, ◌⊎◌, inl, inr, arith, w64}
+use Rattle.std.proofs.Common.{◌≡◌, ◌≢◌, ℕ, ◌+◌, ◌-◌, ◌/◌, ◌^◌, ◌<◌, ◌≤◌, List, length, slice_index, get_or, take, None}
+use Rattle.std.proofs.Common.{bit_and, refl, sym, subst, ◌∙◌, ◌⊎◌, inl, inr, arith, w64}
 use Rattle.std.specs.Prelude.{◌==◌}
 use Rattle.std.specs.Int.{bit_at, from_bool, trailing_ones, trailing_zeros}
 use Rattle.std.specs.Int.Count.{trailing_of_zero}
@@ -8,7 +9,8 @@ use Rattle.std.proofs.lemmas.Bool.{cases_lt, cases_order}
 use Rattle.std.proofs.lemmas.Bool.Decides.{nat_tests}
 use Rattle.std.proofs.lemmas.List.{get_or-take, length-take-le}
 use Rattle.std.proofs.lemmas.Nat.{and_le_r}
-use Rattle.std.proofs.lemmas.Nat.Bits.{bit_at-lt, bit_at-zero, bit_at_and, bit_at_ones, bit_at-trailing_ones, bit_at-trailing_zeros}
+use Rattle.std.proofs.lemmas.Nat.Bits.{bit_at-lt, bit_at-zero, bit_at_and, bit_at_ones, bit_at-trailing_ones}
+use Rattle.std.proofs.lemmas.Nat.Bits.{bit_at-trailing_zeros}
 use Rattle.rds_assembly.specs.Cells.{Cells, HasByte}
 use Rattle.rds_assembly.specs.Held.{held_cells}
 use Rattle.rds_assembly.specs.Lanes.{AreReturns, IsSpread}
@@ -28,9 +30,17 @@ not_both m i b h n =
 missing : (m : Cells) (n : ℕ) → Passed m n → n < 64 → get m (n / 4) ≡ None → (x : List ℕ) → IsWholeText m x → ⊥
 missing m n p h none x w =
     elim (cases_order (length x) n) [
-      | inl e ↦ elim w.ends [ inl f ↦ omega arith | inr f ↦ not_both m n 13 (subst (λ (k : ℕ). HasByte m k 13) e f.1) none ]
+      | inl e ↦ elim w.ends [
+        | inl f ↦ omega arith
+        | inr f ↦ not_both m n 13 (subst (λ (k : ℕ). HasByte m k 13) e f.1)
+            none
+      ]
       | inr o ↦ elim o [
-        | inl less ↦ elim w.ends [ inl f ↦ omega arith | inr f ↦ (p (length x) less).2 (one_byte m (length x) _ _ (p (length x) less).1 f.1) ]
+        | inl less ↦ elim w.ends [
+          | inl f ↦ omega arith
+          | inr f ↦ (p (length x) less).2
+              (one_byte m (length x) _ _ (p (length x) less).1 f.1)
+        ]
         | inr more ↦ not_both m n _ (w.spelled.bytes n more) none
       ]
     ]
@@ -42,14 +52,16 @@ pub record AreLanes (mask : ℕ) (bytes : List ℕ) (held returns : ℕ) : Type 
   pub bits : IsSpread mask held
   pub marks : AreReturns bytes returns
 
-other_byte : (mask : ℕ) (bytes : List ℕ) (held returns i : ℕ) → AreLanes mask bytes held returns → bit_at (bit_and returns held) i ≡ 0 → bit_at held i ≡ 1 → slice_index bytes i ≢ 13
+other_byte : (mask : ℕ) (bytes : List ℕ) (held returns i : ℕ) → AreLanes mask bytes held returns
+    → bit_at (bit_and returns held) i ≡ 0 → bit_at held i ≡ 1 → slice_index bytes i ≢ 13
 other_byte mask bytes held returns i lanes off on is =
     let joined = bit_at_and returns held i in
     let return = lanes.marks i in
     let one : from_bool (slice_index bytes i == 13) ≡ 1 = rw is refl in
     omega arith
 
-return_byte : (mask : ℕ) (bytes : List ℕ) (held returns i : ℕ) → AreLanes mask bytes held returns → bit_at (bit_and returns held) i ≡ 1 → (bit_at held i ≡ 1) × (slice_index bytes i ≡ 13)
+return_byte : (mask : ℕ) (bytes : List ℕ) (held returns i : ℕ) → AreLanes mask bytes held returns
+    → bit_at (bit_and returns held) i ≡ 1 → (bit_at held i ≡ 1) × (slice_index bytes i ≡ 13)
 return_byte mask bytes held returns i lanes on =
     let joined = bit_at_and returns held i in
     let return = lanes.marks i in
@@ -68,7 +80,8 @@ first : (found : ℕ) → found < 2 ^ 64 → IsFirst found (trailing_zeros w64 f
 first found fits =
     elim (cases_lt 0 found) [
       | inl some ↦ (let t = bit_at-trailing_zeros w64 found some fits in record { at = inr (t.0, t.1); below = t.2 })
-      | inr none ↦ (let nothing : found ≡ 0 = omega arith in rw nothing (record { at = inl (trailing_of_zero 64); below = λ i h. bit_at-zero i }))
+      | inr none ↦ (let nothing : found ≡ 0 = omega arith
+          in rw nothing (record { at = inl (trailing_of_zero 64); below = λ i h. bit_at-zero i }))
     ]
 
 -- all bytes below place p are held, and the one at p is not, or p is 64
@@ -85,37 +98,52 @@ gap held fits =
           record { at = inl end; below = λ i h. rw all (bit_at_ones 64 i (omega arith)) })
     ]
 
-upto : (mask : ℕ) (bytes : List ℕ) (held returns p t : ℕ) → AreLanes mask bytes held returns → IsFirst (bit_and returns held) p → IsGap held t → p ≤ t → IsWholeText (held_cells mask bytes) (take p bytes)
+upto : (mask : ℕ) (bytes : List ℕ) (held returns p t : ℕ) → AreLanes mask bytes held returns
+    → IsFirst (bit_and returns held) p → IsGap held t → p ≤ t → IsWholeText (held_cells mask bytes) (take p bytes)
 upto mask bytes held returns p t lanes a g h =
     let within : p ≤ 64 = elim a.at [ inl e ↦ omega arith | inr e ↦ omega (arith, e.0) ] in
     let long = lanes.long in
     let cut : length (take p bytes) ≡ p = length-take-le p bytes (omega arith) in
     record {
-      plain = λ i l. let e : get_or (take p bytes) i 0 ≡ get_or bytes i 0 = get_or-take p bytes i 0 (omega arith) in rw e (other_byte mask bytes held returns i lanes (a.below i (omega arith)) (g.below i (omega arith)));
+      plain = λ i l. let e : get_or (take p bytes) i 0 ≡ get_or bytes i 0 = get_or-take p bytes i 0 (omega arith)
+          in rw e (other_byte mask bytes held returns i lanes (a.below i (omega arith)) (g.below i (omega arith)));
       spelled = spelled mask bytes p within long (λ i l. sym (lanes.bits i) ∙ g.below i (omega arith));
       ends = elim a.at [
         | inl e ↦ inl (cut ∙ e)
-        | inr e ↦ (let r = return_byte mask bytes held returns p lanes e.1 in inr (rw cut (e.0, subst (λ (b : ℕ). HasByte (held_cells mask bytes) p b) r.1 (byte_in mask bytes p e.0 (sym (lanes.bits p) ∙ r.0)))))
+        | inr e ↦ (let r = return_byte mask bytes held returns p lanes e.1
+            in inr (rw cut (
+              e.0,
+              subst (λ (b : ℕ). HasByte (held_cells mask bytes) p b) r.1
+                  (byte_in mask bytes p e.0 (sym (lanes.bits p) ∙ r.0)),
+            )))
       ];
     }
 
-beyond : (mask : ℕ) (bytes : List ℕ) (held returns p t : ℕ) → AreLanes mask bytes held returns → IsFirst (bit_and returns held) p → IsGap held t → t < p → (x : List ℕ) → IsWholeText (held_cells mask bytes) x → ⊥
+beyond : (mask : ℕ) (bytes : List ℕ) (held returns p t : ℕ) → AreLanes mask bytes held returns
+    → IsFirst (bit_and returns held) p → IsGap held t → t < p → (x : List ℕ) → IsWholeText (held_cells mask bytes) x → ⊥
 beyond mask bytes held returns p t lanes a g h =
     let within : p ≤ 64 = elim a.at [ inl e ↦ omega arith | inr e ↦ omega (arith, e.0) ] in
     let off : bit_at held t ≡ 0 = elim g.at [ inl e ↦ absurd (omega arith) | inr e ↦ e.1 ] in
     missing (held_cells mask bytes) t
-    (λ k l. (slice_index bytes k, byte_in mask bytes k (omega arith) (sym (lanes.bits k) ∙ g.below k l), other_byte mask bytes held returns k lanes (a.below k (omega arith)) (g.below k l)))
+    (λ k l. (
+      slice_index bytes k,
+      byte_in mask bytes k (omega arith) (sym (lanes.bits k) ∙ g.below k l),
+      other_byte mask
+          bytes held returns k lanes (a.below k (omega arith)) (g.below k l),
+    ))
     (omega arith) (get-unset mask bytes (t / 4) (omega arith) (sym (lanes.bits t) ∙ off))
 
 -- the comparison in the code
-pub found_whole : (mask : ℕ) (bytes : List ℕ) (held returns : ℕ) → AreLanes mask bytes held returns → trailing_zeros w64 (bit_and returns held) ≤ trailing_ones w64 held
+pub found_whole : (mask : ℕ) (bytes : List ℕ) (held returns : ℕ) → AreLanes mask bytes held returns
+    → trailing_zeros w64 (bit_and returns held) ≤ trailing_ones w64 held
     → IsWholeText (held_cells mask bytes) (take (trailing_zeros w64 (bit_and returns held)) bytes)
 found_whole mask bytes held returns lanes h =
     let wide = lanes.wide in
     let least = and_le_r returns held in
     upto mask bytes held returns _ _ lanes (first (bit_and returns held) (omega arith)) (gap held wide) h
 
-pub found_none : (mask : ℕ) (bytes : List ℕ) (held returns : ℕ) → AreLanes mask bytes held returns → trailing_ones w64 held < trailing_zeros w64 (bit_and returns held)
+pub found_none : (mask : ℕ) (bytes : List ℕ) (held returns : ℕ) → AreLanes mask bytes held returns
+    → trailing_ones w64 held < trailing_zeros w64 (bit_and returns held)
     → (x : List ℕ) → IsWholeText (held_cells mask bytes) x → ⊥
 found_none mask bytes held returns lanes h =
     let wide = lanes.wide in

@@ -1,5 +1,6 @@
 -- Lemmas: how the ages change with the reigns.
-use Rattle.std.proofs.Common.{◌≡◌, ◌≢◌, ◌+◌, ◌-◌, ◌<◌, ◌≤◌, min, not, ◌&&◌, ◌↔◌, ℕ, Bool, IsTrue, true, false, List, [], ◌∷◌, refl, sym, ◌∙◌, arith}
+use Rattle.std.proofs.Common.{◌≡◌, ◌≢◌, ◌+◌, ◌-◌, ◌<◌, ◌≤◌, min, not, ◌&&◌, ◌↔◌, ℕ, Bool, IsTrue, true, false, List, []}
+use Rattle.std.proofs.Common.{◌∷◌, refl, sym, ◌∙◌, arith}
 use Rattle.std.specs.List.{AllByRecursion}
 use Rattle.rds_receiver.specs.Receipts.{Fragment}
 use Rattle.rds_receiver.specs.Run.{is_same}
@@ -12,20 +13,32 @@ abbrev pub AreOver : ℕ → List Reign → Type 0
 AreOver now rs = AllByRecursion (λ (r : Reign). (r.start ≤ r.last) × (r.last < now)) rs
 
 -- more of the newest reign was sent now
-pub ages_renewed : (d now opened : ℕ) (fragments : List Fragment) (tags : List SentTags) (r : Reign) (older : List Reign) (a : Ages) → HoldsAges d now (r ∷ older) a
-    → HoldsAges d now (record { start = r.start; opened = opened; last = now; flag = r.flag; fragments = fragments; tags = tags } ∷ older) record a { since_last = 0 }
-ages_renewed d now opened fragments tags r older a h = record { newest = omega arith; second = h.second; current = h.current; turns = renewed older h.turns }
+pub ages_renewed : (d now opened : ℕ) (fragments : List Fragment) (tags : List SentTags) (r : Reign)
+    (older : List Reign) (a : Ages) → HoldsAges d now (r ∷ older) a
+    → HoldsAges d now (record {
+      start = r.start;
+      opened = opened;
+      last = now;
+      flag = r.flag;
+      fragments = fragments;
+      tags = tags;
+    } ∷ older) record a { since_last = 0 }
+ages_renewed d now opened fragments tags r older a h = record
+    { newest = omega arith; second = h.second; current = h.current; turns = renewed older h.turns }
   where
     renewed : (rs : List Reign) → IsTrue a.turns ↔ AlternateFlags (r ∷ rs)
-        → IsTrue a.turns ↔ AlternateFlags (record { start = r.start; opened = opened; last = now; flag = r.flag; fragments = fragments; tags = tags } ∷ rs)
+        → IsTrue a.turns ↔ AlternateFlags (record
+        { start = r.start; opened = opened; last = now; flag = r.flag; fragments = fragments; tags = tags } ∷ rs)
     renewed [] h = h
     renewed (q ∷ rs) h = h
 
 -- a fragment of this flag joins the newest reign
-pub joins_near : (d now : ℕ) (flag : Bool) (r : Reign) (older : List Reign) (a : Ages) → HoldsAges d now (r ∷ older) a → Joins d flag a → (r.flag ≡ flag) × (now < r.last + d)
+pub joins_near : (d now : ℕ) (flag : Bool) (r : Reign) (older : List Reign) (a : Ages) → HoldsAges d now (r ∷ older) a
+    → Joins d flag a → (r.flag ≡ flag) × (now < r.last + d)
 joins_near d now flag r older a h g = (sym h.current.1 ∙ sym g.0, omega (arith, h.newest, g.1))
 
-pub near_joins : (d now : ℕ) (flag : Bool) (r : Reign) (older : List Reign) (a : Ages) → 0 < d → HoldsAges d now (r ∷ older) a → r.flag ≡ flag → now < r.last + d → Joins d flag a
+pub near_joins : (d now : ℕ) (flag : Bool) (r : Reign) (older : List Reign) (a : Ages) → 0 < d
+    → HoldsAges d now (r ∷ older) a → r.flag ≡ flag → now < r.last + d → Joins d flag a
 near_joins d now flag r older a pos h e near = (sym e ∙ sym h.current.1, omega (arith, h.newest))
 
 -- before the first reign none joins
@@ -34,16 +47,22 @@ none_joins d now flag a h g = omega (arith, h.newest, g.1)
 
 -- the flag turned to a reign that is opened exactly if it is the first one, or has another flag than the newest
 and_not : (x y : Bool) → ((x && not y) ≡ true) ↔ ((x ≡ true) × (y ≡ false))
-and_not true true = ((λ e. absurd (let bad : false ≡ true = e in cc)), (λ p. absurd (let bad : true ≡ false = p.1 in cc)))
+and_not true true = (
+  (λ e. absurd (let bad : false ≡ true = e in cc)),
+  (λ p. absurd (let bad : true ≡ false = p.1
+      in cc)),
+)
 and_not true false = ((λ e. (refl, refl)), (λ p. refl))
 and_not false y = ((λ e. absurd (let bad : false ≡ true = e in cc)), (λ p. absurd (let bad : false ≡ true = p.0 in cc)))
 
-opened_turns : (d now : ℕ) (q : Reign) (rs : List Reign) (a : Ages) → HoldsAges d now rs a → IsTrue (a.turns && not (a.is_open && is_same q.flag a.flag)) ↔ AlternateFlags (q ∷ rs)
+opened_turns : (d now : ℕ) (q : Reign) (rs : List Reign) (a : Ages) → HoldsAges d now rs a
+    → IsTrue (a.turns && not (a.is_open && is_same q.flag a.flag)) ↔ AlternateFlags (q ∷ rs)
 opened_turns d now q [] a h =
     let had : a.turns ≡ true = h.turns.1 tt in
     ((λ _. tt), (λ _. (and_not a.turns (a.is_open && is_same q.flag a.flag)).1 (had, rw h.current refl)))
 opened_turns d now q (r ∷ older) a h =
-    let test : ((a.turns && not (a.is_open && is_same q.flag a.flag)) ≡ true) ↔ ((a.turns ≡ true) × ((a.is_open && is_same q.flag a.flag) ≡ false)) =
+    let test : ((a.turns && not (a.is_open && is_same q.flag a.flag)) ≡ true)
+    ↔ ((a.turns ≡ true) × ((a.is_open && is_same q.flag a.flag) ≡ false)) =
     and_not a.turns (a.is_open && is_same q.flag a.flag) in
     ((λ e. (other (test.0 e).1, h.turns.0 (test.0 e).0)), (λ g. test.1 (h.turns.1 g.1, differs g.0)))
   where
@@ -57,12 +76,25 @@ opened_turns d now q (r ∷ older) a h =
     differs ne = rw (h.current.0, is_other_flag q.flag a.flag (λ e. ne (sym h.current.1 ∙ sym e))) refl
 
 -- the ages once a reign was opened that started n slots ago
-pub ages_begun : (d now n : ℕ) (q : Reign) (rs : List Reign) (a : Ages) → q.last ≡ now → n ≡ min (now - q.start) d → HoldsAges d now rs a → HoldsAges d now (q ∷ rs) record (restarted n q.flag a) { since_last = 0 }
-ages_begun d now n q rs a last start h = record { newest = omega (arith, last); second = h.newest; current = (refl, refl, start); turns = opened_turns d now q rs a h }
+pub ages_begun : (d now n : ℕ) (q : Reign) (rs : List Reign) (a : Ages) → q.last ≡ now → n ≡ min (now - q.start) d
+    → HoldsAges d now rs a → HoldsAges d now (q ∷ rs) record (restarted n q.flag a) { since_last = 0 }
+ages_begun d now n q rs a last start h = record {
+  newest = omega (arith, last);
+  second = h.newest;
+  current = (refl, refl, start);
+  turns = opened_turns d now q rs a
+      h;
+}
 
 -- one slot older
-pub ages_later : (d now : ℕ) (rs : List Reign) (a : Ages) → AreOver (now + 1) rs → HoldsAges d now rs a → HoldsAges d (now + 1) rs (aged d a)
-ages_later d now [] a over h = record { newest = omega (arith, h.newest); second = omega (arith, h.second); current = h.current; turns = h.turns }
+pub ages_later : (d now : ℕ) (rs : List Reign) (a : Ages) → AreOver (now + 1) rs → HoldsAges d now rs a
+    → HoldsAges d (now + 1) rs (aged d a)
+ages_later d now [] a over h = record {
+  newest = omega (arith, h.newest);
+  second = omega (arith, h.second);
+  current = h.current;
+  turns = h.turns;
+}
 ages_later d now (r ∷ []) a over h = record {
   newest = omega (arith, h.newest, over.0.1);
   second = omega (arith, h.second);

@@ -14,7 +14,8 @@ use Rattle.rds_audit.proofs.Matching.{are_reigns_of}
 use Rattle.rds_audit.proofs.Planning.{HoldsFragment, fragment_held}
 
 module _ (laws : PlanLaws) (d : ℕ) (kind : Kind) (plan : List Broadcast) (spaced : IsSpaced d plan) where
-  has_reign : (n k t : ℕ) (b : Broadcast) (p : Fragment) (rs : List Reign) → AreReignsOf d kind plan n rs → HasNumber plan k b → Covers b t → SomeReign (HoldsFragment t p) rs
+  has_reign : (n k t : ℕ) (b : Broadcast) (p : Fragment) (rs : List Reign) → AreReignsOf d kind plan n rs
+      → HasNumber plan k b → Covers b t → SomeReign (HoldsFragment t p) rs
       → SomeReign (IsReignOf d kind b) rs
   has_reign n k t b p [] a q c h = absurd h
   has_reign n k t b p (r ∷ older) a q c (inr h) = inr (has_reign a.0 k t b p older a.5 q c h)
@@ -29,8 +30,10 @@ module _ (laws : PlanLaws) (d : ℕ) (kind : Kind) (plan : List Broadcast) (spac
         ]
       ]
 
-pub the_reigns : PlanLaws → (d : ℕ) (kind : Kind) (plan : List Broadcast) (sent : List Mark) → IsLawful d kind plan sent → IsDense d plan sent → AreTheReigns d kind plan sent
+pub the_reigns : PlanLaws → (d : ℕ) (kind : Kind) (plan : List Broadcast) (sent : List Mark) → IsLawful d kind plan sent
+    → IsDense d plan sent → AreTheReigns d kind plan sent
 the_reigns laws d kind plan sent law dense = record {
   each = are_reigns_of laws d kind plan sent law dense;
-  all = λ k b t p q has s. has_reign laws d kind plan law.spaced (length plan) k t b p (reigns d sent) (are_reigns_of laws d kind plan sent law dense) q has.covers (fragment_held d sent t p s);
+  all = λ k b t p q has s. has_reign laws d kind plan law.spaced (length plan) k t b p (reigns d sent)
+      (are_reigns_of laws d kind plan sent law dense) q has.covers (fragment_held d sent t p s);
 }

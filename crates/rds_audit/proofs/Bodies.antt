@@ -1,16 +1,19 @@
 -- Lemmas: the bytes of a text's body.
-use Rattle.std.proofs.Common.{◌≡◌, ◌+◌, ◌-◌, ◌*◌, ◌/◌, ◌%◌, ◌<◌, ◌≤◌, ℕ, zero, suc, Bool, true, false, nat_eq, List, ◌∷◌, length, get_or, slice_index, refl, ap, ◌∙◌, arith, length-append}
+use Rattle.std.proofs.Common.{◌≡◌, ◌+◌, ◌-◌, ◌*◌, ◌/◌, ◌%◌, ◌<◌, ◌≤◌, ℕ, zero, suc, Bool, true, false, nat_eq, List}
+use Rattle.std.proofs.Common.{◌∷◌, length, get_or, slice_index, refl, ap, ◌∙◌, arith, length-append}
 use Rattle.std.specs.Prelude.{replicate, drop, min}
 use Rattle.std.proofs.lemmas.Bool.Decides.{nat_tests}
 use Rattle.std.proofs.lemmas.Simd.{get_or-chunk}
-use Rattle.std.proofs.lemmas.List.{get_or-append_right, get_or-replicate, get_or_append_left, length-drop, length-replicate, length-take}
+use Rattle.std.proofs.lemmas.List.{get_or-append_right, get_or-replicate, get_or_append_left, length-drop}
+use Rattle.std.proofs.lemmas.List.{length-replicate, length-take}
 use Rattle.rds_assembly.specs.Body.{segment_count, segment_of, text_body}
 
 pub segment_byte : (body : List ℕ) (a k : ℕ) → k < 4 → slice_index (segment_of body a) k ≡ slice_index body (4 * a + k)
 segment_byte body a k h = get_or-chunk (4 * a) 4 body k 0 h
 
 pub segment_long : (body : List ℕ) (a : ℕ) → a < segment_count body → length (segment_of body a) ≡ 4
-segment_long body a h = length-take 4 (drop (4 * a) body) ∙ ap (λ n. min 4 n) (length-drop (4 * a) body) ∙ four (length body) h
+segment_long body a h = length-take 4 (drop (4 * a) body) ∙ ap (λ n. min 4 n) (length-drop (4 * a) body)
+    ∙ four (length body) h
   where
     four : (n : ℕ) → a < n / 4 → min 4 (n - 4 * a) ≡ 4
     four n h = omega arith
@@ -26,12 +29,18 @@ pub text_end : (x : List ℕ) → length x < 64 → slice_index (text_body x) (l
 text_end x h =
     let e : nat_eq (length x) 64 ≡ false = grind (arith, nat_tests) in
     let z : length x - length x ≡ 0 = omega arith in
-    rw e (get_or-append_right x (13 ∷ replicate (3 - length x % 4) 32) (length x) (length x) 0 refl (omega arith) ∙ ap (λ k. get_or (13 ∷ replicate (3 - length x % 4) 32) k 0) z)
+    rw e (get_or-append_right x (13 ∷ replicate (3 - length x % 4) 32) (length x) (length x) 0 refl (omega arith)
+    ∙ ap (λ k. get_or (13 ∷ replicate (3 - length x % 4) 32) k 0) z)
 
 pub text_long : (x : List ℕ) → length x < 64 → length (text_body x) ≡ 4 * (length x / 4) + 4
 text_long x h =
     let e : nat_eq (length x) 64 ≡ false = grind (arith, nat_tests) in
-    rw e (omega (arith, length-append x (13 ∷ replicate (3 - length x % 4) 32), length-replicate {A = ℕ} (3 - length x % 4) 32))
+    rw e (omega (
+      arith,
+      length-append x (13 ∷ replicate (3 - length x % 4) 32),
+      length-replicate {A = ℕ}
+          (3 - length x % 4) 32,
+    ))
 
 pub text_full : (x : List ℕ) → length x ≡ 64 → text_body x ≡ x
 text_full x h =
@@ -44,7 +53,8 @@ past_return n zero pos h = absurd (omega arith)
 past_return n (suc k) pos h = get_or-replicate n k 32 0 (omega arith)
 
 -- after the carriage return of a body come spaces
-pub text_past : (x : List ℕ) (i : ℕ) → length x < 64 → length x < i → i < length (text_body x) → slice_index (text_body x) i ≡ 32
+pub text_past : (x : List ℕ) (i : ℕ) → length x < 64 → length x < i → i < length (text_body x)
+    → slice_index (text_body x) i ≡ 32
 text_past x i h past within =
     let e : nat_eq (length x) 64 ≡ false = grind (arith, nat_tests) in
     let rest = past_return (3 - length x % 4) (i - length x) (omega arith) (omega (arith, text_long x h)) in

@@ -1,5 +1,6 @@
 -- Lemmas: the content of a reign as fragments and tags are sent.
-use Rattle.std.proofs.Common.{◌≡◌, ◌≢◌, ◌<◌, ◌≤◌, max, ℕ, Bool, true, false, nat_eq, List, [], ◌∷◌, get_or, set, Option, Some, None, cond, refl, ap, ◌∙◌, arith}
+use Rattle.std.proofs.Common.{◌≡◌, ◌≢◌, ◌<◌, ◌≤◌, max, ℕ, Bool, true, false, nat_eq, List, [], ◌∷◌, get_or, set, Option}
+use Rattle.std.proofs.Common.{Some, None, cond, refl, ap, ◌∙◌, arith}
 use Rattle.std.proofs.lemmas.Bool.{eqb-true}
 use Rattle.std.proofs.lemmas.Bool.Decides.{nat_tests}
 use Rattle.std.proofs.lemmas.List.{get_or-replicate, get_or-set_other, get_or-set_same, length-set}
@@ -14,12 +15,18 @@ use Rattle.rds_audit.specs.Rules.{HaveOneValue}
 
 -- the content without fragments and tags
 pub empty_content : (g : Gauge) → HoldsContent g [] [] (no_content g.longest)
-empty_content g = record { long = refl; cells = λ a h. get_or-replicate {A = Option (List ℕ)} 16 a None None h; lengths = refl; ends = refl }
+empty_content g = record {
+  long = refl;
+  cells = λ a h. get_or-replicate {A = Option (List ℕ)} 16 a None None h;
+  lengths = refl;
+  ends = refl;
+}
 
 pub empty_one : (g : Gauge) → IsExact g → HaveOneValue g.kind [] []
 empty_one g exact = exact.one [] [] tt record { unchanged = tt; each = tt; room = omega arith; ends = omega arith }
 
-module _ (g : Gauge) (few : g.segments ≤ 16) (p : Fragment) (fragments : List Fragment) (tags : List SentTags) (c : ContentState) (h : HoldsContent g fragments tags c) (formed : IsFormed g.segments p) where
+module _ (g : Gauge) (few : g.segments ≤ 16) (p : Fragment) (fragments : List Fragment) (tags : List SentTags)
+    (c : ContentState) (h : HoldsContent g fragments tags c) (formed : IsFormed g.segments p) where
   pub taken_content : HoldsContent g (p ∷ fragments) tags (taken (g.allowed p.address p.bytes) p.address p.bytes c)
   taken_content = record {
     long = length-set c.cells p.address (Some p.bytes) ∙ h.long;
@@ -28,14 +35,20 @@ module _ (g : Gauge) (few : g.segments ≤ 16) (p : Fragment) (fragments : List 
     ends = h.ends;
   }
     where
-      at : (a : ℕ) → a < 16 → (v : Bool) → nat_eq a p.address ≡ v → get_or (set c.cells p.address (Some p.bytes)) a None ≡ cond (nat_eq a p.address) (Some p.bytes) (sent_last a fragments)
+      at : (a : ℕ) → a < 16 → (v : Bool) → nat_eq a p.address ≡ v
+          → get_or (set c.cells p.address (Some p.bytes)) a None ≡ cond (nat_eq a p.address) (Some p.bytes)
+          (sent_last a fragments)
       at a less true e =
           let same : a ≡ p.address = eqb-true a p.address e in
           let address = formed.address in
-          rw e (ap (λ k. get_or (set c.cells p.address (Some p.bytes)) k None) same ∙ get_or-set_same c.cells p.address (Some p.bytes) None (omega (arith, h.long)))
+          rw e (ap (λ k. get_or (set c.cells p.address (Some p.bytes)) k None) same ∙ get_or-set_same c.cells p.address
+          (Some p.bytes) None (omega (arith, h.long)))
       at a less false e =
           let other : a ≢ p.address = grind (arith, nat_tests) in
           rw e (get_or-set_other c.cells p.address a (Some p.bytes) None other ∙ h.cells a less)
 
-pub tagged_content : (g : Gauge) (now : ℕ) (pair : PairFields) (fragments : List Fragment) (tags : List SentTags) (c : ContentState) → HoldsContent g fragments tags c → HoldsContent g fragments (record { slot = now; pair = pair } ∷ tags) (tagged pair c)
-tagged_content g now pair fragments tags c h = record { long = h.long; cells = h.cells; lengths = h.lengths; ends = ap (λ n. max n (pair_end pair)) h.ends }
+pub tagged_content : (g : Gauge) (now : ℕ) (pair : PairFields) (fragments : List Fragment) (tags : List SentTags)
+    (c : ContentState) → HoldsContent g fragments tags c
+    → HoldsContent g fragments (record { slot = now; pair = pair } ∷ tags) (tagged pair c)
+tagged_content g now pair fragments tags c h = record
+    { long = h.long; cells = h.cells; lengths = h.lengths; ends = ap (λ n. max n (pair_end pair)) h.ends }

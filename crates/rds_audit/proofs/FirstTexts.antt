@@ -1,5 +1,6 @@
 -- Lemmas: a recording from its first text segment on, with slots in front in which nothing was sent.
-use Rattle.std.proofs.Common.{◌≡◌, ◌+◌, ◌<◌, ◌≤◌, ◌&&◌, ◌||◌, ℕ, suc, Bool, true, false, List, [], ◌∷◌, Option, Some, None, length, refl, sym, ap, ◌∙◌, subst, inl, inr, arith}
+use Rattle.std.proofs.Common.{◌≡◌, ◌+◌, ◌<◌, ◌≤◌, ◌&&◌, ◌||◌, ℕ, suc, Bool, true, false, List, [], ◌∷◌, Option, Some}
+use Rattle.std.proofs.Common.{None, length, refl, sym, ap, ◌∙◌, subst, inl, inr, arith}
 use Rattle.std.specs.Prelude.{nat_lt, replicate, if◌then◌else◌}
 use Rattle.std.proofs.lemmas.Bool.{cond_both, le-ltb, lt-ltb}
 use Rattle.std.proofs.lemmas.List.{length-append, length-replicate}
@@ -14,10 +15,16 @@ use Rattle.rds_audit.specs.Recording.{counted_after, from_first_text, has_text, 
 -- ---- the slots in front
 
 length_preceded : (n : ℕ) (log : List (Option Message)) → length (preceded n log) ≡ length log + n
-length_preceded n log = omega (arith, length-append log (replicate n None), length-replicate n (let none : Option Message = None in none))
+length_preceded n log = omega (
+  arith,
+  length-append log (replicate n None),
+  length-replicate n
+      (let none : Option Message = None in none),
+)
 
 -- what was sent is sent n slots later
-pub sent_later : (n : ℕ) (log : List (Option Message)) (s : ℕ) (entry : Option Message) → SentIn log s entry → SentIn (preceded n log) (s + n) entry
+pub sent_later : (n : ℕ) (log : List (Option Message)) (s : ℕ) (entry : Option Message) → SentIn log s entry
+    → SentIn (preceded n log) (s + n) entry
 sent_later n [] s entry h = absurd h
 sent_later n (newest ∷ before) s entry (inl h) = inl (omega (arith, h.0, length_preceded n before), h.1)
 sent_later n (newest ∷ before) s entry (inr h) = inr (sent_later n before s entry h)
@@ -64,24 +71,32 @@ false_or true false z e = refl
 false_or false y z e = refl
 
 -- the newest entry is not before its own slot
-newest_not : (newest : Option Message) (before : List (Option Message)) (s : ℕ) → s ≤ length before → text_before (newest ∷ before) s ≡ text_before before s
-newest_not newest before s h = false_or (is_text newest) (nat_lt (length before) s) (text_before before s) (le-ltb (length before) s h)
+newest_not : (newest : Option Message) (before : List (Option Message)) (s : ℕ) → s ≤ length before
+    → text_before (newest ∷ before) s ≡ text_before before s
+newest_not newest before s h = false_or (is_text newest) (nat_lt (length before) s) (text_before before s)
+    (le-ltb (length before) s h)
 
 -- after a text segment that was sent
-pub after_text : (log : List (Option Message)) (s : ℕ) (f : Bool) (a : ℕ) (b : List ℕ) (v : ℕ) → SentIn log s (Some (Text f a b)) → s < v → text_before log v ≡ true
+pub after_text : (log : List (Option Message)) (s : ℕ) (f : Bool) (a : ℕ) (b : List ℕ) (v : ℕ)
+    → SentIn log s (Some (Text f a b)) → s < v → text_before log v ≡ true
 after_text [] s f a b v h later = absurd h
-after_text (newest ∷ before) s f a b v (inl h) later = true_or _ (text_before before v) (and_true (is_text newest) (nat_lt (length before) v) (ap is_text (sym h.1)) (lt-ltb (length before) v (omega (arith, h.0, later))))
-after_text (newest ∷ before) s f a b v (inr h) later = or_true (is_text newest && nat_lt (length before) v) (text_before before v) (after_text before s f a b v h later)
+after_text (newest ∷ before) s f a b v (inl h) later = true_or _ (text_before before v)
+    (and_true (is_text newest) (nat_lt (length before) v) (ap is_text (sym h.1))
+    (lt-ltb (length before) v (omega (arith, h.0, later))))
+after_text (newest ∷ before) s f a b v (inr h) later = or_true (is_text newest && nat_lt (length before) v)
+    (text_before before v) (after_text before s f a b v h later)
 
 -- at the end of a log
 all_before : (log : List (Option Message)) (s : ℕ) → length log ≤ s → text_before log s ≡ has_text (from_first_text log)
 all_before [] s h = refl
 all_before (None ∷ before) s h = all_before before s (omega arith)
-all_before (Some (Text f a b) ∷ before) s h = true_or (nat_lt (length before) s) (text_before before s) (lt-ltb (length before) s (omega arith))
+all_before (Some (Text f a b) ∷ before) s h = true_or (nat_lt (length before) s) (text_before before s)
+    (lt-ltb (length before) s (omega arith))
 all_before (Some (Name f a b) ∷ before) s h = all_before before s (omega arith)
 all_before (Some (Announce code bits aid) ∷ before) s h = all_before before s (omega arith)
 all_before (Some (Tags pair) ∷ before) s h =
-    cond_both (has_text (from_first_text before)) (Some (Tags pair)) None (λ (x : Option Message). text_before before s ≡ has_text (x ∷ from_first_text before))
+    cond_both (has_text (from_first_text before)) (Some (Tags pair)) None (λ (x : Option Message). text_before before s
+    ≡ has_text (x ∷ from_first_text before))
     (λ _. all_before before s (omega arith)) (λ _. all_before before s (omega arith))
 all_before (Some Other ∷ before) s h = all_before before s (omega arith)
 
@@ -89,7 +104,8 @@ same_length : (log : List (Option Message)) → length (from_first_text log) ≡
 same_length [] = refl
 same_length (newest ∷ before) = ap suc (same_length before)
 
-settled_is_counted : (judged : List (Option Message)) (message : Option Message) → settled (has_text judged) message ≡ counted_after judged message
+settled_is_counted : (judged : List (Option Message)) (message : Option Message)
+    → settled (has_text judged) message ≡ counted_after judged message
 settled_is_counted judged None = refl
 settled_is_counted judged (Some (Text f a b)) = refl
 settled_is_counted judged (Some (Name f a b)) = refl
@@ -98,31 +114,44 @@ settled_is_counted judged (Some (Tags pair)) = refl
 settled_is_counted judged (Some Other) = refl
 
 -- what was sent is still sent from the first text segment on, except tags before it
-pub sent_from_first_text : (log : List (Option Message)) (s : ℕ) (entry : Option Message) → SentIn log s entry → SentIn (from_first_text log) s (settled (text_before log s) entry)
+pub sent_from_first_text : (log : List (Option Message)) (s : ℕ) (entry : Option Message) → SentIn log s entry
+    → SentIn (from_first_text log) s (settled (text_before log s) entry)
 sent_from_first_text [] s entry h = absurd h
 sent_from_first_text (newest ∷ before) s entry (inl h) =
-    let counts : text_before (newest ∷ before) s ≡ has_text (from_first_text before) = newest_not newest before s (omega (arith, h.0)) ∙ all_before before s (omega (arith, h.0)) in
-    inl (omega (arith, h.0, same_length before), ap (λ (is : Bool). settled is entry) counts ∙ ap (settled (has_text (from_first_text before))) h.1 ∙ settled_is_counted (from_first_text before) newest)
+    let counts : text_before (newest ∷ before) s ≡ has_text (from_first_text before) = newest_not newest before s
+    (omega (arith, h.0)) ∙ all_before before s (omega (arith, h.0)) in
+    inl (
+      omega (arith, h.0, same_length before),
+      ap (λ (is : Bool). settled is entry) counts
+          ∙ ap (settled (has_text (from_first_text before))) h.1 ∙ settled_is_counted (from_first_text before) newest,
+    )
 sent_from_first_text (newest ∷ before) s entry (inr h) =
-    let counts : text_before (newest ∷ before) s ≡ text_before before s = newest_not newest before s (omega (arith, before_end 0 before s entry h)) in
-    inr (subst (λ (is : Bool). SentIn (from_first_text before) s (settled is entry)) (sym counts) (sent_from_first_text before s entry h))
+    let counts : text_before (newest ∷ before) s ≡ text_before before s = newest_not newest before s
+    (omega (arith, before_end 0 before s entry h)) in
+    inr (subst (λ (is : Bool). SentIn (from_first_text before) s (settled is entry)) (sym counts)
+    (sent_from_first_text before s entry h))
 
 -- ---- marks
 
 -- tags that count are tags of the log
-pub tags_are_of_the_log : (log : List (Option Message)) (s : ℕ) (pair : PairFields) → IsMarkIn (marks text_mark (from_first_text log)) s (Tagged pair) → IsMarkIn (marks text_mark log) s (Tagged pair)
+pub tags_are_of_the_log : (log : List (Option Message)) (s : ℕ) (pair : PairFields)
+    → IsMarkIn (marks text_mark (from_first_text log)) s (Tagged pair) → IsMarkIn (marks text_mark log) s (Tagged pair)
 tags_are_of_the_log [] s pair h = h
 tags_are_of_the_log (newest ∷ before) s pair (inr h) = inr (tags_are_of_the_log before s pair h)
 tags_are_of_the_log (newest ∷ before) s pair (inl h) = inl (h.0 ∙ marked_length before, by newest h.1)
   where
-    marked_length : (log : List (Option Message)) → length (marks text_mark (from_first_text log)) ≡ length (marks text_mark log)
+    marked_length : (log : List (Option Message))
+        → length (marks text_mark (from_first_text log)) ≡ length (marks text_mark log)
     marked_length [] = refl
     marked_length (x ∷ older) = ap suc (marked_length older)
 
-    by : (message : Option Message) → Tagged pair ≡ text_mark (counted_after (from_first_text before) message) → Tagged pair ≡ text_mark message
+    by : (message : Option Message) → Tagged pair ≡ text_mark (counted_after (from_first_text before) message)
+        → Tagged pair ≡ text_mark message
     by None e = e
     by (Some (Text f a b)) e = e
     by (Some (Name f a b)) e = e
     by (Some (Announce code bits aid)) e = e
-    by (Some (Tags q)) e = cond_both (has_text (from_first_text before)) (Some (Tags q)) None (λ (x : Option Message). Tagged pair ≡ text_mark x → Tagged pair ≡ Tagged q) (λ _ same. same) (λ _ none. absurd (cc)) e
+    by (Some (Tags q)) e = cond_both (has_text (from_first_text before)) (Some (Tags q)) None
+        (λ (x : Option Message). Tagged pair ≡ text_mark x → Tagged pair ≡ Tagged q) (λ _ same. same)
+        (λ _ none. absurd (cc)) e
     by (Some Other) e = e

@@ -1,6 +1,7 @@
 -- Lemmas: a log that passes, and whose flag turns from each reign to the next one, is safe for receivers with the flag
 -- bit alone that hear a segment of each reign.
-use Rattle.std.proofs.Common.{◌≡◌, ◌≢◌, ◌⊎◌, ◌+◌, ◌<◌, ◌≤◌, ◌&&◌, ℕ, Bool, true, false, nat_lt, List, [], ◌∷◌, length, Option, refl, sym, ◌∙◌, subst, inl, inr, arith}
+use Rattle.std.proofs.Common.{◌≡◌, ◌≢◌, ◌⊎◌, ◌+◌, ◌<◌, ◌≤◌, ◌&&◌, ℕ, Bool, true, false, nat_lt, List, [], ◌∷◌, length}
+use Rattle.std.proofs.Common.{Option, refl, sym, ◌∙◌, subst, inl, inr, arith}
 use Rattle.std.specs.List.{AllByRecursion}
 use Rattle.std.proofs.lemmas.Bool.{cond_both, lt-ltb}
 use Rattle.rds_fields.specs.declared.message.Message.{Message}
@@ -10,7 +11,8 @@ use Rattle.rds_encoder.specs.Plan.{Broadcast, HasNumber}
 use Rattle.rds_receiver.specs.Receipts.{Fragment, name_fragment, text_fragment}
 use Rattle.rds_receiver.specs.Run.{is_same}
 use Rattle.rds_safety.specs.FlagAlone.{HearsEach, HearsOneBetween, IsHeardFrom, IsNews, TurnsTheFlag}
-use Rattle.rds_safety.specs.FlagLaws.{NamesByFlagAreOfTheirSource, TagsByFlagAreOfTheirText, TextsByFlagAreOfTheirSource}
+use Rattle.rds_safety.specs.FlagLaws.{NamesByFlagAreOfTheirSource, TagsByFlagAreOfTheirText}
+use Rattle.rds_safety.specs.FlagLaws.{TextsByFlagAreOfTheirSource}
 use Rattle.rds_safety.specs.Flags.{other_flag}
 use Rattle.rds_safety.specs.Late.{Input}
 use Rattle.rds_safety.specs.Lawful.{Kind, names, texts}
@@ -26,61 +28,84 @@ abbrev broadcast_of : Reign → List ℕ → Broadcast
 broadcast_of r value = record { start = r.start; end = r.last; flag = r.flag; bytes = value }
 
 -- a property of each two reigns is one of each two broadcasts of their plan
-of_each_two : (P : Broadcast → Broadcast → Type 0) → ANumberIsBelowTheLength → (d : ℕ) (kind : Kind) (rs : List Reign) (a : AllByRecursion (CanBeBroadcast d kind) rs)
+of_each_two : (P : Broadcast → Broadcast → Type 0) → ANumberIsBelowTheLength
+    → (d : ℕ) (kind : Kind) (rs : List Reign) (a : AllByRecursion (CanBeBroadcast d kind) rs)
     → IsOfEachTwo (λ r next. (x y : List ℕ) → P (broadcast_of r x) (broadcast_of next y)) rs
-    → (k : ℕ) (b c : Broadcast) → HasNumber (plan_from d kind rs a) k b → HasNumber (plan_from d kind rs a) (k + 1) c → P b c
+    → (k : ℕ) (b c : Broadcast) → HasNumber (plan_from d kind rs a) k b → HasNumber (plan_from d kind rs a) (k + 1) c
+    → P b c
 of_each_two P below d kind [] a all k b c p q = absurd p
 of_each_two P below d kind (r ∷ []) a all k b c (inl p) (inl q) = absurd (omega (arith, p.0, q.0))
 of_each_two P below d kind (r ∷ []) a all k b c (inl p) (inr q) = absurd q
 of_each_two P below d kind (r ∷ []) a all k b c (inr p) q = absurd p
 of_each_two P below d kind (r ∷ e ∷ older) a all k b c (inl p) (inl q) = absurd (omega (arith, p.0, q.0))
-of_each_two P below d kind (r ∷ e ∷ older) a all k b c (inl p) (inr q) = absurd (omega (arith, p.0, below (plan_from d kind (e ∷ older) a.1) (k + 1) c q))
-of_each_two P below d kind (r ∷ e ∷ older) a all k b c (inr p) (inr q) = of_each_two P below d kind (e ∷ older) a.1 all.1 k b c p q
-of_each_two P below d kind (r ∷ e ∷ older) a all k b c (inr (inr p)) (inl q) = absurd (omega (arith, q.0, below (plan_from d kind older a.1.1) k b p))
+of_each_two P below d kind (r ∷ e ∷ older) a all k b c (inl p) (inr q) = absurd
+    (omega (arith, p.0, below (plan_from d kind (e ∷ older) a.1) (k + 1) c q))
+of_each_two P below d kind (r ∷ e ∷ older) a all k b c (inr p) (inr q) = of_each_two P below d kind (e ∷ older) a.1
+    all.1 k b c p q
+of_each_two P below d kind (r ∷ e ∷ older) a all k b c (inr (inr p)) (inl q) = absurd
+    (omega (arith, q.0, below (plan_from d kind older a.1.1) k b p))
 of_each_two P below d kind (r ∷ e ∷ older) a all k b c (inr (inl p)) (inl q) =
-    subst (λ (x : Broadcast). P x c) (sym p.1) (subst (P (broadcast_of e a.1.0.one.value)) (sym q.1) (all.0 a.1.0.one.value a.0.one.value))
+    subst (λ (x : Broadcast). P x c) (sym p.1) (subst (P (broadcast_of e a.1.0.one.value)) (sym q.1)
+    (all.0 a.1.0.one.value a.0.one.value))
 
 -- one property follows from another
-of_each_two_too : (P Q : Reign → Reign → Type 0) → ((r next : Reign) → P r next → Q r next) → (rs : List Reign) → IsOfEachTwo P rs → IsOfEachTwo Q rs
+of_each_two_too : (P Q : Reign → Reign → Type 0) → ((r next : Reign) → P r next → Q r next) → (rs : List Reign)
+    → IsOfEachTwo P rs → IsOfEachTwo Q rs
 of_each_two_too P Q so [] all = tt
 of_each_two_too P Q so (r ∷ []) all = tt
 of_each_two_too P Q so (r ∷ e ∷ older) all = (so e r all.0, of_each_two_too P Q so (e ∷ older) all.1)
 
-turns : ANumberIsBelowTheLength → (d : ℕ) (kind : Kind) (rs : List Reign) (a : AllByRecursion (CanBeBroadcast d kind) rs) → AlternateFlags rs → TurnsTheFlag (plan_from d kind rs a)
+turns : ANumberIsBelowTheLength
+    → (d : ℕ) (kind : Kind) (rs : List Reign) (a : AllByRecursion (CanBeBroadcast d kind) rs) → AlternateFlags rs
+    → TurnsTheFlag (plan_from d kind rs a)
 turns below d kind rs a alternate =
     of_each_two (λ b c. (b.flag ≢ c.flag) ⊎ ((b.bytes ≡ c.bytes) ⊎ (c.bytes ≡ []))) below d kind rs a
-    (of_each_two_too (λ r next. r.flag ≢ next.flag) (λ r next. (x y : List ℕ) → (r.flag ≢ next.flag) ⊎ ((x ≡ y) ⊎ (y ≡ []))) (λ r next differ x y. inl differ) rs alternate)
+    (of_each_two_too (λ r next. r.flag ≢ next.flag) (λ r next. (x y : List ℕ) → (r.flag ≢ next.flag)
+    ⊎ ((x ≡ y) ⊎ (y ≡ []))) (λ r next differ x y. inl differ) rs alternate)
 
-hears_each : ANumberIsBelowTheLength → (d now : ℕ) (kind : Kind) (pick : Message → Option Fragment) (input : Input) (rs : List Reign) (a : AllByRecursion (CanBeBroadcast d kind) rs)
+hears_each : ANumberIsBelowTheLength
+    → (d now : ℕ) (kind : Kind) (pick : Message → Option Fragment) (input : Input) (rs : List Reign)
+    (a : AllByRecursion (CanBeBroadcast d kind) rs)
     → HearsEachReign pick now input rs → HearsEach IsNews pick (plan_from d kind rs a) now input
 hears_each below d now kind pick input rs a each k b next t s p q news heard before begun =
-    (of_each_two (λ b c. (t s : ℕ) → IsHeardFrom pick input t s → s < b.start → c.start ≤ now → HearsOneBetween pick input b.start (b.end + 1)) below d kind rs a
-    (of_each_two_too (λ r next. (t s : ℕ) → IsHeardFrom pick input t s → s < r.start → next.start ≤ now → HearsOneBetween pick input r.start (r.last + 1))
-    (λ r next. (x y : List ℕ) → (t s : ℕ) → IsHeardFrom pick input t s → s < r.start → next.start ≤ now → HearsOneBetween pick input r.start (r.last + 1))
+    (of_each_two (λ b c. (t s : ℕ) → IsHeardFrom pick input t s → s < b.start → c.start ≤ now
+    → HearsOneBetween pick input b.start (b.end + 1)) below d kind rs a
+    (of_each_two_too (λ r next. (t s : ℕ) → IsHeardFrom pick input t s → s < r.start → next.start ≤ now
+    → HearsOneBetween pick input r.start (r.last + 1))
+    (λ r next. (x y : List ℕ) → (t s : ℕ) → IsHeardFrom pick input t s → s < r.start → next.start ≤ now
+    → HearsOneBetween pick input r.start (r.last + 1))
     (λ r next so x y. so) rs each)
     k b next p q) t s heard before begun
 
-pub safe_by_flag : PlanLaws → TextsByFlagAreOfTheirSource → NamesByFlagAreOfTheirSource → TagsByFlagAreOfTheirText → (d : ℕ) (log : List (Option Message)) → 0 < d → LogPasses d log → IsSafeByFlag d log
+pub safe_by_flag : PlanLaws → TextsByFlagAreOfTheirSource → NamesByFlagAreOfTheirSource → TagsByFlagAreOfTheirText
+    → (d : ℕ) (log : List (Option Message)) → 0 < d → LogPasses d log → IsSafeByFlag d log
 safe_by_flag laws safe_texts safe_names safe_tags d log some passes =
     let text = has_plan_of_reigns laws.below d texts (marks text_mark log) some passes.text in
     let name = has_plan_of_reigns laws.below d names (marks name_mark log) some passes.name in
     let text_turns : AlternateFlags (reigns d (marks text_mark log)) → TurnsTheFlag text.0.plan =
-    λ alternate. subst (λ (plan : List Broadcast). TurnsTheFlag plan) (sym text.1) (turns laws.below d texts (reigns d (marks text_mark log)) passes.text.reigns alternate) in
+    λ alternate. subst (λ (plan : List Broadcast). TurnsTheFlag plan) (sym text.1)
+    (turns laws.below d texts (reigns d (marks text_mark log)) passes.text.reigns alternate) in
     let name_turns : AlternateFlags (reigns d (marks name_mark log)) → TurnsTheFlag name.0.plan =
-    λ alternate. subst (λ (plan : List Broadcast). TurnsTheFlag plan) (sym name.1) (turns laws.below d names (reigns d (marks name_mark log)) passes.name.reigns alternate) in
-    let text_each : (now : ℕ) (input : Input) → HearsEachReign text_fragment now input (reigns d (marks text_mark log)) → HearsEach IsNews text_fragment text.0.plan now input =
+    λ alternate. subst (λ (plan : List Broadcast). TurnsTheFlag plan) (sym name.1)
+    (turns laws.below d names (reigns d (marks name_mark log)) passes.name.reigns alternate) in
+    let text_each : (now : ℕ) (input : Input) → HearsEachReign text_fragment now input (reigns d (marks text_mark log))
+    → HearsEach IsNews text_fragment text.0.plan now input =
     λ now input each. subst (λ (plan : List Broadcast). HearsEach IsNews text_fragment plan now input) (sym text.1)
     (hears_each laws.below d now texts text_fragment input (reigns d (marks text_mark log)) passes.text.reigns each) in
-    let name_each : (now : ℕ) (input : Input) → HearsEachReign name_fragment now input (reigns d (marks name_mark log)) → HearsEach IsNews name_fragment name.0.plan now input =
+    let name_each : (now : ℕ) (input : Input) → HearsEachReign name_fragment now input (reigns d (marks name_mark log))
+    → HearsEach IsNews name_fragment name.0.plan now input =
     λ now input each. subst (λ (plan : List Broadcast). HearsEach IsNews name_fragment plan now input) (sym name.1)
     (hears_each laws.below d now names name_fragment input (reigns d (marks name_mark log)) passes.name.reigns each) in
     record {
       plans = record { text = text.0.plan; name = name.0.plan };
       lawful = record { text = text.0.lawful; name = name.0.lawful };
       dense = record { text = text.0.dense; name = name.0.dense };
-      texts = λ alternate now r listens each. safe_texts d now text.0.plan log r text.0.lawful (text_turns alternate) listens (text_each now r.input each);
-      names = λ alternate now r listens each. safe_names d now name.0.plan log r name.0.lawful (name_turns alternate) listens (name_each now r.input each);
-      tags = λ alternate now r listens each before. safe_tags d now text.0.plan log r text.0.lawful (text_turns alternate) listens (text_each now r.input each) before;
+      texts = λ alternate now r listens each. safe_texts d now text.0.plan log r text.0.lawful (text_turns alternate)
+          listens (text_each now r.input each);
+      names = λ alternate now r listens each. safe_names d now name.0.plan log r name.0.lawful (name_turns alternate)
+          listens (name_each now r.input each);
+      tags = λ alternate now r listens each before. safe_tags d now text.0.plan log r text.0.lawful
+          (text_turns alternate) listens (text_each now r.input each) before;
     }
 
 -- ---- without a pause the flag turns from each reign to the next one
@@ -90,11 +115,13 @@ first_fails : (a b : Bool) → (a && b) ≡ false → b ≡ true → a ≡ false
 first_fails true b both holds = absurd (cc)
 first_fails false b both holds = refl
 
-still_alternate : (r s : Reign) (older : List Reign) → s.flag ≡ r.flag → AlternateFlags (r ∷ older) → AlternateFlags (s ∷ older)
+still_alternate : (r s : Reign) (older : List Reign) → s.flag ≡ r.flag → AlternateFlags (r ∷ older)
+    → AlternateFlags (s ∷ older)
 still_alternate r s [] same all = tt
 still_alternate r s (e ∷ older) same all = (λ equal. all.0 (equal ∙ same), all.1)
 
-after_fragment_alternate : (d slot : ℕ) (p : Fragment) (rs : List Reign) → IsSoonAfter d slot rs → AlternateFlags rs → AlternateFlags (after_fragment d slot p rs)
+after_fragment_alternate : (d slot : ℕ) (p : Fragment) (rs : List Reign) → IsSoonAfter d slot rs → AlternateFlags rs
+    → AlternateFlags (after_fragment d slot p rs)
 after_fragment_alternate d slot p [] soon all = tt
 after_fragment_alternate d slot p (r ∷ older) soon all =
     cond_both (joins d slot p.flag r) _ _ AlternateFlags (λ _. still_alternate r record {
@@ -105,9 +132,14 @@ after_fragment_alternate d slot p (r ∷ older) soon all =
       fragments = p ∷ r.fragments;
       tags = r.tags;
     } older refl all)
-    (λ apart. (other_flag r.flag p.flag (first_fails (is_same r.flag p.flag) (nat_lt slot (r.last + d)) apart (lt-ltb slot (r.last + d) soon)), all))
+    (λ apart. (
+      other_flag r.flag p.flag (first_fails (is_same r.flag p.flag) (nat_lt slot (r.last + d)) apart
+          (lt-ltb slot (r.last + d) soon)),
+      all,
+    ))
 
-after_tags_alternate : (slot : ℕ) (pair : PairFields) (rs : List Reign) → AlternateFlags rs → AlternateFlags (after_tags slot pair rs)
+after_tags_alternate : (slot : ℕ) (pair : PairFields) (rs : List Reign) → AlternateFlags rs
+    → AlternateFlags (after_tags slot pair rs)
 after_tags_alternate slot pair [] all = tt
 after_tags_alternate slot pair (r ∷ []) all = tt
 after_tags_alternate slot pair (r ∷ e ∷ older) all = all
@@ -115,5 +147,7 @@ after_tags_alternate slot pair (r ∷ e ∷ older) all = all
 pub alternate : (d : ℕ) (sent : List Mark) → HasNoPause d sent → AlternateFlags (reigns d sent)
 alternate d [] no_pause = tt
 alternate d (Nothing ∷ before) no_pause = alternate d before no_pause
-alternate d (Sends p ∷ before) no_pause = after_fragment_alternate d (length before) p (reigns d before) no_pause.0 (alternate d before no_pause.1)
-alternate d (Tagged pair ∷ before) no_pause = after_tags_alternate (length before) pair (reigns d before) (alternate d before no_pause)
+alternate d (Sends p ∷ before) no_pause = after_fragment_alternate d (length before) p (reigns d before) no_pause.0
+    (alternate d before no_pause.1)
+alternate d (Tagged pair ∷ before) no_pause = after_tags_alternate (length before) pair (reigns d before)
+    (alternate d before no_pause)

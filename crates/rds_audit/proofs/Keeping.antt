@@ -7,7 +7,8 @@ use Rattle.rds_receiver.specs.Run.{is_same}
 use Rattle.rds_audit.specs.Dense.{IsBridged, IsMarked}
 use Rattle.rds_safety.specs.Marks.{IsMarkIn, Mark, Nothing, Sends, Tagged}
 use Rattle.rds_audit.specs.Reigns.{Reign, after_fragment, after_tags, joins, opened_by, reigns, with_fragment}
-use Rattle.rds_audit.proofs.Sending.{bridged_later, early, marked_before, marked_early, marked_later, fragment_is_marked, sent_before}
+use Rattle.rds_audit.proofs.Sending.{bridged_later, early, marked_before, marked_early, marked_later}
+use Rattle.rds_audit.proofs.Sending.{fragment_is_marked, sent_before}
 
 -- the slot is not after the newest of these reigns; without a reign, no fragment was sent in it
 abbrev pub IsBehind : List Mark → List Reign → ℕ → Type 0
@@ -20,7 +21,8 @@ pub record IsKept (d : ℕ) (sent : List Mark) (r : Reign) : Type 0 where
   pub opened : IsMarkIn sent r.opened (Sends first)
   pub ends : IsMarked sent r.last
   pub until : r.opened ≤ r.last
-  pub dense : (u t : ℕ) (q p : Fragment) → IsMarkIn sent u (Sends q) → IsMarkIn sent t (Sends p) → r.opened ≤ u → u < t → t ≤ r.last → IsBridged d sent u t
+  pub dense : (u t : ℕ) (q p : Fragment) → IsMarkIn sent u (Sends q) → IsMarkIn sent t (Sends p) → r.opened ≤ u → u < t
+      → t ≤ r.last → IsBridged d sent u t
 
 abbrev pub AllBehind : List Mark → List Reign → Type 0
 AllBehind sent rs = (u : ℕ) → IsMarked sent u → IsBehind sent rs u
@@ -28,9 +30,11 @@ AllBehind sent rs = (u : ℕ) → IsMarked sent u → IsBehind sent rs u
 -- each reign is kept, and each mark before it opened is behind the reigns before it (`IsBehind`)
 abbrev pub AreKept : ℕ → List Mark → List Reign → Type 0
 AreKept d sent [] = Unit {0}
-AreKept d sent (r ∷ older) = IsKept d sent r × ((u : ℕ) → IsMarked sent u → u < r.opened → IsBehind sent older u) × AreKept d sent older
+AreKept d sent (r ∷ older) = IsKept d sent r × ((u : ℕ) → IsMarked sent u → u < r.opened → IsBehind sent older u)
+    × AreKept d sent older
 
-behind_later : (x : Mark) (sent : List Mark) (rs : List Reign) (u : ℕ) → u < length sent → IsBehind sent rs u → IsBehind (x ∷ sent) rs u
+behind_later : (x : Mark) (sent : List Mark) (rs : List Reign) (u : ℕ) → u < length sent → IsBehind sent rs u
+    → IsBehind (x ∷ sent) rs u
 behind_later x sent [] u h b = λ p s. b p (sent_before x sent u (Sends p) h s)
 behind_later x sent (r ∷ older) u h b = b
 
@@ -43,10 +47,12 @@ kept_later d x sent r k =
       ends = marked_later x sent r.last k.ends;
       until = k.until;
       dense = λ u t q p su st from lt to.
-          bridged_later d x sent u t (k.dense u t q p (sent_before x sent u (Sends q) (omega arith) su) (sent_before x sent t (Sends p) (omega arith) st) from lt to);
+          bridged_later d x sent u t (k.dense u t q p (sent_before x sent u (Sends q) (omega arith) su)
+          (sent_before x sent t (Sends p) (omega arith) st) from lt to);
     }
 
-pub are_kept_later : (d : ℕ) (x : Mark) (sent : List Mark) (rs : List Reign) → AreKept d sent rs → AreKept d (x ∷ sent) rs
+pub are_kept_later : (d : ℕ) (x : Mark) (sent : List Mark) (rs : List Reign) → AreKept d sent rs
+    → AreKept d (x ∷ sent) rs
 are_kept_later d x sent [] k = tt
 are_kept_later d x sent (r ∷ older) k =
     let now = early sent r.opened (Sends k.0.first) k.0.opened in (
@@ -61,10 +67,12 @@ nothing_behind sent rs h u m = by m.mark m.some m.is_sent
   where
     by : (x : Mark) → (x ≡ Nothing → ⊥) → IsMarkIn (Nothing ∷ sent) u x → IsBehind (Nothing ∷ sent) rs u
     by x some (inl s) = absurd (some s.1)
-    by x some (inr s) = behind_later Nothing sent rs u (early sent u x s) (h u record { mark = x; some = some; is_sent = s })
+    by x some (inr s) = behind_later Nothing sent rs u (early sent u x s)
+        (h u record { mark = x; some = some; is_sent = s })
 
 -- tags
-tags_behind : (sent : List Mark) (pair : PairFields) (rs : List Reign) → AllBehind sent rs → AllBehind (Tagged pair ∷ sent) (after_tags (length sent) pair rs)
+tags_behind : (sent : List Mark) (pair : PairFields) (rs : List Reign) → AllBehind sent rs
+    → AllBehind (Tagged pair ∷ sent) (after_tags (length sent) pair rs)
 tags_behind sent pair [] h u m = none
   where
     none : (p : Fragment) → IsMarkIn (Tagged pair ∷ sent) u (Sends p) → ⊥
@@ -72,7 +80,8 @@ tags_behind sent pair [] h u m = none
     none p (inr q) = h u (fragment_is_marked sent u p q) p q
 tags_behind sent pair (r ∷ older) h u m = omega (arith, marked_early (Tagged pair ∷ sent) u m)
 
-tags_kept : (d : ℕ) (sent : List Mark) (pair : PairFields) (rs : List Reign) → AllBehind sent rs → AreKept d sent rs → AreKept d (Tagged pair ∷ sent) (after_tags (length sent) pair rs)
+tags_kept : (d : ℕ) (sent : List Mark) (pair : PairFields) (rs : List Reign) → AllBehind sent rs → AreKept d sent rs
+    → AreKept d (Tagged pair ∷ sent) (after_tags (length sent) pair rs)
 tags_kept d sent pair [] h k = tt
 tags_kept d sent pair (r ∷ older) h k =
     let rest = are_kept_later d (Tagged pair) sent (r ∷ older) k in
@@ -88,14 +97,17 @@ tags_kept d sent pair (r ∷ older) h k =
       rest.2,
     )
   where
-    dense : (u t : ℕ) (q p : Fragment) → IsMarkIn (Tagged pair ∷ sent) u (Sends q) → IsMarkIn (Tagged pair ∷ sent) t (Sends p) → r.opened ≤ u → u < t → IsBridged d (Tagged pair ∷ sent) u t
+    dense : (u t : ℕ) (q p : Fragment) → IsMarkIn (Tagged pair ∷ sent) u (Sends q)
+        → IsMarkIn (Tagged pair ∷ sent) t (Sends p) → r.opened ≤ u → u < t → IsBridged d (Tagged pair ∷ sent) u t
     dense u t q p su (inl st) from lt = (let e : Sends p ≡ Tagged pair = st.1 in absurd (cc))
     dense u t q p su (inr st) from lt =
         let now = early sent t (Sends p) st in
-        bridged_later d (Tagged pair) sent u t (k.0.dense u t q p (sent_before (Tagged pair) sent u (Sends q) (omega arith) su) st from lt (h t (fragment_is_marked sent t p st)))
+        bridged_later d (Tagged pair) sent u t (k.0.dense u t q p (sent_before (Tagged pair) sent u (Sends q)
+        (omega arith) su) st from lt (h t (fragment_is_marked sent t p st)))
 
 -- a fragment that opens a reign
-opened_kept : (d : ℕ) (sent : List Mark) (p : Fragment) (rs : List Reign) → AllBehind sent rs → AreKept d sent rs → AreKept d (Sends p ∷ sent) (opened_by d (length sent) p rs ∷ rs)
+opened_kept : (d : ℕ) (sent : List Mark) (p : Fragment) (rs : List Reign) → AllBehind sent rs → AreKept d sent rs
+    → AreKept d (Sends p ∷ sent) (opened_by d (length sent) p rs ∷ rs)
 opened_kept d sent p rs h k = (
   record {
     first = p;
@@ -109,7 +121,8 @@ opened_kept d sent p rs h k = (
 )
 
 -- a fragment that joins a reign
-joined_kept : (d : ℕ) (sent : List Mark) (p : Fragment) (r : Reign) (older : List Reign) → length sent < r.last + d → AllBehind sent (r ∷ older) → AreKept d sent (r ∷ older)
+joined_kept : (d : ℕ) (sent : List Mark) (p : Fragment) (r : Reign) (older : List Reign) → length sent < r.last + d
+    → AllBehind sent (r ∷ older) → AreKept d sent (r ∷ older)
     → AreKept d (Sends p ∷ sent) (with_fragment (length sent) p r ∷ older)
 joined_kept d sent p r older near h k =
     let rest = are_kept_later d (Sends p) sent (r ∷ older) k in
@@ -125,7 +138,8 @@ joined_kept d sent p r older near h k =
       rest.2,
     )
   where
-    dense : (u t : ℕ) (q g : Fragment) → IsMarkIn (Sends p ∷ sent) u (Sends q) → IsMarkIn (Sends p ∷ sent) t (Sends g) → r.opened ≤ u → u < t → IsBridged d (Sends p ∷ sent) u t
+    dense : (u t : ℕ) (q g : Fragment) → IsMarkIn (Sends p ∷ sent) u (Sends q) → IsMarkIn (Sends p ∷ sent) t (Sends g)
+        → r.opened ≤ u → u < t → IsBridged d (Sends p ∷ sent) u t
     dense u t q g su (inl st) from lt =
         let before = sent_before (Sends p) sent u (Sends q) (omega arith) su in
         record {
@@ -137,25 +151,45 @@ joined_kept d sent p r older near h k =
         }
     dense u t q g su (inr st) from lt =
         let now = early sent t (Sends g) st in
-        bridged_later d (Sends p) sent u t (k.0.dense u t q g (sent_before (Sends p) sent u (Sends q) (omega arith) su) st from lt (h t (fragment_is_marked sent t g st)))
+        bridged_later d (Sends p) sent u t (k.0.dense u t q g (sent_before (Sends p) sent u (Sends q) (omega arith) su)
+        st from lt (h t (fragment_is_marked sent t g st)))
 
 -- the reigns are kept, and all marks are behind them
 abbrev pub Keeps : ℕ → List Mark → List Reign → Type 0
 Keeps d sent rs = AreKept d sent rs × AllBehind sent rs
 
-now_behind : (sent : List Mark) (p : Fragment) (r : Reign) (older : List Reign) → r.last ≡ length sent → AllBehind (Sends p ∷ sent) (r ∷ older)
+now_behind : (sent : List Mark) (p : Fragment) (r : Reign) (older : List Reign) → r.last ≡ length sent
+    → AllBehind (Sends p ∷ sent) (r ∷ older)
 now_behind sent p r older e u m = omega (arith, marked_early (Sends p ∷ sent) u m)
 
-fragment_keeps : (d : ℕ) (sent : List Mark) (p : Fragment) (rs : List Reign) → Keeps d sent rs → Keeps d (Sends p ∷ sent) (after_fragment d (length sent) p rs)
-fragment_keeps d sent p [] k = (opened_kept d sent p [] k.1 k.0, now_behind sent p (opened_by d (length sent) p []) [] refl)
+fragment_keeps : (d : ℕ) (sent : List Mark) (p : Fragment) (rs : List Reign) → Keeps d sent rs
+    → Keeps d (Sends p ∷ sent) (after_fragment d (length sent) p rs)
+fragment_keeps d sent p [] k = (
+  opened_kept d sent p [] k.1 k.0,
+  now_behind sent p (opened_by d (length sent) p []) []
+      refl,
+)
 fragment_keeps d sent p (r ∷ older) k =
     cond_both (joins d (length sent) p.flag r) _ _ (Keeps d (Sends p ∷ sent))
-    (λ t. let near : length sent < r.last + d = ltb-true _ _ (and_parts (is_same r.flag p.flag) (nat_lt (length sent) (r.last + d)) t).1 in
+    (λ t. let near : length sent < r.last + d = ltb-true _ _ (and_parts (is_same r.flag p.flag)
+    (nat_lt (length sent) (r.last + d)) t).1 in
     (joined_kept d sent p r older near k.1 k.0, now_behind sent p (with_fragment (length sent) p r) older refl))
-    (λ _. (opened_kept d sent p (r ∷ older) k.1 k.0, now_behind sent p (opened_by d (length sent) p (r ∷ older)) (r ∷ older) refl))
+    (λ _. (
+      opened_kept d sent p (r ∷ older) k.1 k.0,
+      now_behind sent p (opened_by d (length sent) p (r ∷ older))
+          (r ∷ older) refl,
+    ))
 
 pub keeps : (d : ℕ) (sent : List Mark) → Keeps d sent (reigns d sent)
 keeps d [] = (tt, λ u m. absurd m.is_sent)
-keeps d (Nothing ∷ sent) = (let k = keeps d sent in (are_kept_later d Nothing sent (reigns d sent) k.0, nothing_behind sent (reigns d sent) k.1))
+keeps d (Nothing ∷ sent) = (let k = keeps d sent in (
+  are_kept_later d Nothing sent (reigns d sent) k.0,
+  nothing_behind
+      sent (reigns d sent) k.1,
+))
 keeps d (Sends p ∷ sent) = fragment_keeps d sent p (reigns d sent) (keeps d sent)
-keeps d (Tagged pair ∷ sent) = (let k = keeps d sent in (tags_kept d sent pair (reigns d sent) k.1 k.0, tags_behind sent pair (reigns d sent) k.1))
+keeps d (Tagged pair ∷ sent) = (let k = keeps d sent in (
+  tags_kept d sent pair (reigns d sent) k.1 k.0,
+  tags_behind sent
+      pair (reigns d sent) k.1,
+))

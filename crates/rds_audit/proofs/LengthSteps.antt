@@ -1,5 +1,6 @@
 -- Lemmas: the lengths that a fragment allows, byte by byte.
-use Rattle.std.proofs.Common.{◌≡◌, ◌≢◌, ◌+◌, ◌<◌, ◌≤◌, ◌↔◌, ℕ, zero, suc, Bool, true, false, nat_eq, List, [], ◌∷◌, length, drop, drop-cons, slice_index, Some, None, cond, refl, sym, ap, ◌∙◌, arith}
+use Rattle.std.proofs.Common.{◌≡◌, ◌≢◌, ◌+◌, ◌<◌, ◌≤◌, ◌↔◌, ℕ, zero, suc, Bool, true, false, nat_eq, List, [], ◌∷◌}
+use Rattle.std.proofs.Common.{length, drop, drop-cons, slice_index, Some, None, cond, refl, sym, ap, ◌∙◌, arith}
 use Rattle.std.specs.Prelude.{EachIndex, IsTrue}
 use Rattle.std.specs.Bool.{then_some}
 use Rattle.std.proofs.lemmas.Bool.{and_parts, eq-eqb, eqb-true}
@@ -17,14 +18,22 @@ on_place i k = omega arith
 next : (k : ℕ) → suc k ≡ k + 1
 next k = omega arith
 
-pub on : (i k : ℕ) (bs : List ℕ) → k < length bs → slice_index bs k ≢ 13 → is_text_byte (slice_index bs k) ≡ true → lengths_from (i + k) (drop k bs) ≡ lengths_from (i + (k + 1)) (drop (k + 1) bs)
-on i k bs h ne good = ap (lengths_from (i + k)) (drop-cons bs k 0 h) ∙ rw (other (slice_index bs k) ne, good) (ap (λ j. lengths_from j (drop (suc k) bs)) (on_place i k) ∙ ap (λ n. lengths_from (i + (k + 1)) (drop n bs)) (next k))
+pub on : (i k : ℕ) (bs : List ℕ) → k < length bs → slice_index bs k ≢ 13 → is_text_byte (slice_index bs k) ≡ true
+    → lengths_from (i + k) (drop k bs) ≡ lengths_from (i + (k + 1)) (drop (k + 1) bs)
+on i k bs h ne good = ap (lengths_from (i + k)) (drop-cons bs k 0 h) ∙ rw (other (slice_index bs k) ne, good)
+    (ap (λ j. lengths_from j (drop (suc k) bs)) (on_place i k) ∙ ap (λ n. lengths_from (i + (k + 1)) (drop n bs))
+    (next k))
 
-pub bad : (i k : ℕ) (bs : List ℕ) → k < length bs → slice_index bs k ≢ 13 → is_text_byte (slice_index bs k) ≡ false → lengths_from (i + k) (drop k bs) ≡ None
-bad i k bs h ne no_good = ap (lengths_from (i + k)) (drop-cons bs k 0 h) ∙ rw (other (slice_index bs k) ne, no_good) refl
+pub bad : (i k : ℕ) (bs : List ℕ) → k < length bs → slice_index bs k ≢ 13 → is_text_byte (slice_index bs k) ≡ false
+    → lengths_from (i + k) (drop k bs) ≡ None
+bad i k bs h ne no_good = ap (lengths_from (i + k)) (drop-cons bs k 0 h) ∙ rw (other (slice_index bs k) ne, no_good)
+    refl
 
-pub ended : (i k : ℕ) (bs : List ℕ) → k < length bs → slice_index bs k ≡ 13 → lengths_from (i + k) (drop k bs) ≡ cond (are_spaces (drop (k + 1) bs)) (Some record { least = i + k; most = i + k }) None
-ended i k bs h e = ap (lengths_from (i + k)) (drop-cons bs k 0 h) ∙ rw e (ap (λ n. cond (are_spaces (drop n bs)) (Some record { least = i + k; most = i + k }) None) (next k))
+pub ended : (i k : ℕ) (bs : List ℕ) → k < length bs → slice_index bs k ≡ 13
+    → lengths_from (i + k) (drop k bs) ≡ cond (are_spaces (drop (k + 1) bs))
+    (Some record { least = i + k; most = i + k }) None
+ended i k bs h e = ap (lengths_from (i + k)) (drop-cons bs k 0 h)
+    ∙ rw e (ap (λ n. cond (are_spaces (drop n bs)) (Some record { least = i + k; most = i + k }) None) (next k))
 
 pub spaces_true : (bs : List ℕ) → EachIndex bs (λ k. slice_index bs k ≡ 32) → are_spaces bs ≡ true
 spaces_true [] h = refl
@@ -35,7 +44,8 @@ true_spaces [] h k l = absurd (omega arith)
 true_spaces (b ∷ bs) h zero l = eqb-true b 32 (and_parts (nat_eq b 32) (are_spaces bs) h).0
 true_spaces (b ∷ bs) h (suc k) l = true_spaces bs (and_parts (nat_eq b 32) (are_spaces bs) h).1 k (omega arith)
 
-pub spaces_are : (bs : List ℕ) (answer : Bool) → IsTrue answer ↔ EachIndex bs (λ k. slice_index bs k ≡ 32) → answer ≡ are_spaces bs
+pub spaces_are : (bs : List ℕ) (answer : Bool) → IsTrue answer ↔ EachIndex bs (λ k. slice_index bs k ≡ 32)
+    → answer ≡ are_spaces bs
 spaces_are bs answer h = by answer (are_spaces bs) refl refl
   where
     by : (a s : Bool) → answer ≡ a → are_spaces bs ≡ s → answer ≡ are_spaces bs
@@ -59,7 +69,8 @@ true_names [] h k l = absurd (omega arith)
 true_names (b ∷ bs) h zero l = byte_name b (and_parts (is_name_byte b) (are_name_bytes bs) h).0
 true_names (b ∷ bs) h (suc k) l = true_names bs (and_parts (is_name_byte b) (are_name_bytes bs) h).1 k (omega arith)
 
-pub names_are : (bs : List ℕ) (answer : Bool) → IsTrue answer ↔ EachIndex bs (λ k. 32 ≤ slice_index bs k) → are_name_bytes bs ≡ answer
+pub names_are : (bs : List ℕ) (answer : Bool) → IsTrue answer ↔ EachIndex bs (λ k. 32 ≤ slice_index bs k)
+    → are_name_bytes bs ≡ answer
 names_are bs answer h = by answer (are_name_bytes bs) refl refl
   where
     by : (a s : Bool) → answer ≡ a → are_name_bytes bs ≡ s → are_name_bytes bs ≡ answer

@@ -1,6 +1,7 @@
 -- Lemmas: what a slot adds to the list of a log, and how the state of the list changes with the log.
 use Rattle.std.specs.Prelude.{Err}
-use Rattle.std.proofs.Common.{◌≡◌, ◌⊎◌, ◌↔◌, ◌+◌, ◌<◌, ◌||◌, ℕ, Bool, true, false, nat_lt, List, [], ◌∷◌, Option, Some, None, refl, sym, ap, ◌∙◌, subst, inl, inr, arith}
+use Rattle.std.proofs.Common.{◌≡◌, ◌⊎◌, ◌↔◌, ◌+◌, ◌<◌, ◌||◌, ℕ, Bool, true, false, nat_lt, List, [], ◌∷◌, Option, Some}
+use Rattle.std.proofs.Common.{None, refl, sym, ap, ◌∙◌, subst, inl, inr, arith}
 use Rattle.std.specs.Prelude.{MatchOption}
 use Rattle.std.proofs.lemmas.Bool.{cond_both}
 use Rattle.rds_block.specs.declared.group.Group.{Group}
@@ -20,10 +21,13 @@ use Rattle.rds_audit.specs.declared.log_start.LogStart.TheVariants.{Complete, Ru
 use Rattle.rds_audit.specs.Ages.{Ages, HasCurrent}
 use Rattle.rds_audit.specs.Judging.{judged_step}
 use Rattle.rds_audit.specs.Lengths.{Gauge, name_gauge, text_gauge}
-use Rattle.rds_audit.specs.Listing.{IsFaultOf, SentFragment, Span, added, both, broken_newest, first_fault, first_of, joined, newest_at, none_broken, or_else, same_bytes, slot_adds, spans, spans_after, spans_tagged}
+use Rattle.rds_audit.specs.Listing.{IsFaultOf, SentFragment, Span, added, both, broken_newest, first_fault, first_of}
+use Rattle.rds_audit.specs.Listing.{joined, newest_at, none_broken, or_else, same_bytes, slot_adds, spans, spans_after}
+use Rattle.rds_audit.specs.Listing.{spans_tagged}
 use Rattle.std.specs.List.{AllByRecursion}
 use Rattle.rds_audit.specs.ListingLaws.{IsFormedMessage}
-use Rattle.rds_audit.specs.AuditAt.{AuditAt, EndsSlot, FollowsLog, HasJudged, HoldsLog, HoldsNewestSpans, HoldsSlot, HoldsSpans, ListsGroup, ListsMessage, TakesAll, AuditTakesSlot, reigns_of}
+use Rattle.rds_audit.specs.AuditAt.{AuditAt, EndsSlot, FollowsLog, HasJudged, HoldsLog, HoldsNewestSpans, HoldsSlot}
+use Rattle.rds_audit.specs.AuditAt.{HoldsSpans, ListsGroup, ListsMessage, TakesAll, AuditTakesSlot, reigns_of}
 use Rattle.rds_audit.specs.Stored.{IsStoredAudit, audit_stored}
 use Rattle.rds_audit.specs.declared.stored.StoredAudit.{StoredAudit}
 use Rattle.rds_audit.specs.AuditState.{AuditState, aged_in}
@@ -37,7 +41,13 @@ use Rattle.rds_audit.proofs.SpanSteps.{added_more, none_new, nothing_follows, se
 -- ---- both services
 
 with_none : (f : FaultSet) → f ≡ both f none_broken
-with_none f = λ i. record { changed = or_false f.changed i; early_flag = or_false f.early_flag i; not_one_text = or_false f.not_one_text i; early_tag = or_false f.early_tag i; tag_outside = or_false f.tag_outside i }
+with_none f = λ i. record {
+  changed = or_false f.changed i;
+  early_flag = or_false f.early_flag i;
+  not_one_text = or_false f.not_one_text i;
+  early_tag = or_false f.early_tag i;
+  tag_outside = or_false f.tag_outside i;
+}
   where
     or_false : (b : Bool) → b ≡ (b || false)
     or_false true = refl
@@ -46,63 +56,81 @@ with_none f = λ i. record { changed = or_false f.changed i; early_flag = or_fal
 -- nothing adds nothing
 nothing_adds : (g : Gauge) (d : ℕ) (before : List Mark) → added g d Nothing before ≡ none_broken
 nothing_adds g d before =
-    sym (added_more g d Nothing before (broken_newest g d before (spans d before)) (broken_newest g d before (spans d before)) refl refl (same (spans d before)))
+    sym (added_more g d Nothing before (broken_newest g d before (spans d before))
+    (broken_newest g d before (spans d before)) refl refl (same (spans d before)))
     ∙ sym (none_new (broken_newest g d before (spans d before)))
   where
     same : (rs : List Span) → broken_newest g d before rs ≡ broken_newest g d (Nothing ∷ before) rs
     same [] = refl
     same (r ∷ older) = refl
 
-texts_add : (d : ℕ) (newest : Option Message) (before : List (Option Message)) → name_mark newest ≡ Nothing → slot_adds d newest before ≡ added text_gauge d (text_mark newest) (marks text_mark before)
+texts_add : (d : ℕ) (newest : Option Message) (before : List (Option Message)) → name_mark newest ≡ Nothing
+    → slot_adds d newest before ≡ added text_gauge d (text_mark newest) (marks text_mark before)
 texts_add d newest before silent =
-    ap (λ (m : Mark). both (added text_gauge d (text_mark newest) (marks text_mark before)) (added name_gauge d m (marks name_mark before))) silent
-    ∙ ap (both (added text_gauge d (text_mark newest) (marks text_mark before))) (nothing_adds name_gauge d (marks name_mark before))
+    ap (λ (m : Mark). both (added text_gauge d (text_mark newest) (marks text_mark before))
+    (added name_gauge d m (marks name_mark before))) silent
+    ∙ ap (both (added text_gauge d (text_mark newest) (marks text_mark before)))
+    (nothing_adds name_gauge d (marks name_mark before))
     ∙ sym (with_none (added text_gauge d (text_mark newest) (marks text_mark before)))
 
-names_add : (d : ℕ) (newest : Option Message) (before : List (Option Message)) → text_mark newest ≡ Nothing → slot_adds d newest before ≡ added name_gauge d (name_mark newest) (marks name_mark before)
+names_add : (d : ℕ) (newest : Option Message) (before : List (Option Message)) → text_mark newest ≡ Nothing
+    → slot_adds d newest before ≡ added name_gauge d (name_mark newest) (marks name_mark before)
 names_add d newest before silent =
-    ap (λ (m : Mark). both (added text_gauge d m (marks text_mark before)) (added name_gauge d (name_mark newest) (marks name_mark before))) silent
-    ∙ ap (λ (f : FaultSet). both f (added name_gauge d (name_mark newest) (marks name_mark before))) (nothing_adds text_gauge d (marks text_mark before))
+    ap (λ (m : Mark). both (added text_gauge d m (marks text_mark before)) (added name_gauge d (name_mark newest)
+    (marks name_mark before))) silent
+    ∙ ap (λ (f : FaultSet). both f (added name_gauge d (name_mark newest) (marks name_mark before)))
+    (nothing_adds text_gauge d (marks text_mark before))
 
 -- ---- up to the first fault of a log
 
-pub log_passed_before : (d : ℕ) (newest : Option Message) (before : List (Option Message)) → LogPasses d (newest ∷ before) → LogPasses d before
+pub log_passed_before : (d : ℕ) (newest : Option Message) (before : List (Option Message))
+    → LogPasses d (newest ∷ before) → LogPasses d before
 log_passed_before d newest before h = record {
   text = service_passed_before d texts (text_mark newest) (marks text_mark before) h.text;
   name = service_passed_before d names (name_mark newest) (marks name_mark before) h.name;
 }
 
 -- a slot that breaks no rule adds nothing
-pub passing_adds : (d : ℕ) (newest : Option Message) (before : List (Option Message)) → LogPasses d (newest ∷ before) → none_broken ≡ slot_adds d newest before
+pub passing_adds : (d : ℕ) (newest : Option Message) (before : List (Option Message)) → LogPasses d (newest ∷ before)
+    → none_broken ≡ slot_adds d newest before
 passing_adds d newest before passes =
-    ap (both none_broken) (sym (adds_none name_gauge name_gauge_is_exact d (name_mark newest) (marks name_mark before) passes.name))
-    ∙ ap (λ (f : FaultSet). both f (added name_gauge d (name_mark newest) (marks name_mark before))) (sym (adds_none text_gauge text_gauge_is_exact d (text_mark newest) (marks text_mark before) passes.text))
+    ap (both none_broken) (sym (adds_none name_gauge name_gauge_is_exact d (name_mark newest) (marks name_mark before)
+    passes.name))
+    ∙ ap (λ (f : FaultSet). both f (added name_gauge d (name_mark newest) (marks name_mark before)))
+    (sym (adds_none text_gauge text_gauge_is_exact d (text_mark newest) (marks text_mark before) passes.text))
 
 -- the messages that are heard have the form that is sent
-formed_heard : (pi : ℕ) (slot : Option Group) (message : Option Message) → Hears pi slot message → IsFormedMessage message
+formed_heard : (pi : ℕ) (slot : Option Group) (message : Option Message) → Hears pi slot message
+    → IsFormedMessage message
 formed_heard pi slot None h = record { text = tt; name = tt }
 formed_heard pi None (Some m) h = absurd (cc)
 formed_heard pi (Some g) (Some m) (inr (other, none)) = absurd (cc)
-formed_heard pi (Some g) (Some (Text f a b)) (inl (same, s)) = record { text = record { address = s.address; four = s.bytes.four; fits = s.bytes.fits }; name = tt }
-formed_heard pi (Some g) (Some (Name f a b)) (inl (same, (between, s))) = record { text = tt; name = record { address = s.address; four = s.bytes.four; fits = s.bytes.fits } }
+formed_heard pi (Some g) (Some (Text f a b)) (inl (same, s)) = record
+    { text = record { address = s.address; four = s.bytes.four; fits = s.bytes.fits }; name = tt }
+formed_heard pi (Some g) (Some (Name f a b)) (inl (same, (between, s))) = record
+    { text = tt; name = record { address = s.address; four = s.bytes.four; fits = s.bytes.fits } }
 formed_heard pi (Some g) (Some (Announce code bits aid)) (inl s) = record { text = tt; name = tt }
 formed_heard pi (Some g) (Some (Tags pair)) (inl s) = record { text = tt; name = tt }
 formed_heard pi (Some g) (Some Other) (inl s) = record { text = tt; name = tt }
 
-formed_counted : (start : LogStart) (judged : List (Option Message)) (message : Option Message) → IsFormedMessage message → IsFormedMessage (counted_as start judged message)
+formed_counted : (start : LogStart) (judged : List (Option Message)) (message : Option Message)
+    → IsFormedMessage message → IsFormedMessage (counted_as start judged message)
 formed_counted Complete judged message h = h
 formed_counted Running judged None h = h
 formed_counted Running judged (Some (Text f a b)) h = h
 formed_counted Running judged (Some (Name f a b)) h = h
 formed_counted Running judged (Some (Announce code bits aid)) h = h
-formed_counted Running judged (Some (Tags pair)) h = cond_both (has_text judged) _ _ IsFormedMessage (λ _. record { text = tt; name = tt }) (λ _. record { text = tt; name = tt })
+formed_counted Running judged (Some (Tags pair)) h = cond_both (has_text judged) _ _ IsFormedMessage
+    (λ _. record { text = tt; name = tt }) (λ _. record { text = tt; name = tt })
 formed_counted Running judged (Some Other) h = h
 
 -- a log that passes has no fault
 passes_quietly : (d : ℕ) (log : List (Option Message)) → LogPasses d log → first_fault d log ≡ None
 passes_quietly d [] passes = refl
 passes_quietly d (newest ∷ before) passes =
-    ap (λ (o : Option AuditFault). or_else o (first_of (slot_adds d newest before))) (passes_quietly d before (log_passed_before d newest before passes)) ∙ ap first_of (sym (passing_adds d newest before passes))
+    ap (λ (o : Option AuditFault). or_else o (first_of (slot_adds d newest before)))
+    (passes_quietly d before (log_passed_before d newest before passes))
+    ∙ ap first_of (sym (passing_adds d newest before passes))
 
 pub no_fault : (d : ℕ) (log : List (Option Message)) (fault : AuditFault) → IsFaultOf d log fault → LogPasses d log → ⊥
 no_fault d log fault f passes = (let bad : None ≡ Some fault = sym (passes_quietly d log passes) ∙ f in cc)
@@ -111,8 +139,10 @@ no_fault d log fault f passes = (let bad : None ≡ Some fault = sym (passes_qui
 first_some : (f : FaultSet) → (f ≡ none_broken) ⊎ ((fault : AuditFault) × (first_of f ≡ Some fault))
 first_some f = by f.changed f.early_flag f.not_one_text f.early_tag f.tag_outside
   where
-    by : (c e n g o : Bool) → (record { changed = c; early_flag = e; not_one_text = n; early_tag = g; tag_outside = o } ≡ none_broken)
-        ⊎ ((fault : AuditFault) × (first_of record { changed = c; early_flag = e; not_one_text = n; early_tag = g; tag_outside = o } ≡ Some fault))
+    by : (c e n g o : Bool) → (record { changed = c; early_flag = e; not_one_text = n; early_tag = g; tag_outside = o }
+        ≡ none_broken)
+        ⊎ ((fault : AuditFault) × (first_of record
+        { changed = c; early_flag = e; not_one_text = n; early_tag = g; tag_outside = o } ≡ Some fault))
     by true e n g o = inr (Changed, refl)
     by false true n g o = inr (EarlyFlag, refl)
     by false false true g o = inr (NotOneText, refl)
@@ -126,50 +156,77 @@ none_of_both f g e =
     let early_flag = neither f.early_flag g.early_flag (ap (λ (x : FaultSet). x.early_flag) e) in
     let not_one_text = neither f.not_one_text g.not_one_text (ap (λ (x : FaultSet). x.not_one_text) e) in
     let early_tag = neither f.early_tag g.early_tag (ap (λ (x : FaultSet). x.early_tag) e) in
-    let tag_outside = neither f.tag_outside g.tag_outside (ap (λ (x : FaultSet). x.tag_outside) e) in
-    (sets_are f none_broken changed.0 early_flag.0 not_one_text.0 early_tag.0 tag_outside.0, sets_are g none_broken changed.1 early_flag.1 not_one_text.1 early_tag.1 tag_outside.1)
+    let tag_outside = neither f.tag_outside g.tag_outside (ap (λ (x : FaultSet). x.tag_outside) e) in (
+      sets_are f none_broken changed.0 early_flag.0 not_one_text.0 early_tag.0 tag_outside.0,
+      sets_are g none_broken
+          changed.1 early_flag.1 not_one_text.1 early_tag.1 tag_outside.1,
+    )
   where
     neither : (x y : Bool) → (x || y) ≡ false → (x ≡ false) × (y ≡ false)
     neither true y e = absurd (let bad : true ≡ false = e in cc)
     neither false y e = (refl, e)
 
 -- a slot after a log that passes: the log passes with it too, or it adds a first fault
-log_judged : (d : ℕ) (newest : Option Message) (before : List (Option Message)) → IsFormedMessage newest → LogPasses d before → LogPasses d (newest ∷ before) ⊎ ((fault : AuditFault) × (first_of (slot_adds d newest before) ≡ Some fault))
+log_judged : (d : ℕ) (newest : Option Message) (before : List (Option Message)) → IsFormedMessage newest
+    → LogPasses d before
+    → LogPasses d (newest ∷ before) ⊎ ((fault : AuditFault) × (first_of (slot_adds d newest before) ≡ Some fault))
 log_judged d newest before formed passes = elim (first_some (slot_adds d newest before)) [
   | inr some ↦ inr some
   | inl quiet ↦
-      let none = none_of_both (added text_gauge d (text_mark newest) (marks text_mark before)) (added name_gauge d (name_mark newest) (marks name_mark before)) quiet in
+      let none = none_of_both (added text_gauge d (text_mark newest) (marks text_mark before))
+      (added name_gauge d (name_mark newest) (marks name_mark before)) quiet in
       inl record {
-        text = quiet_passes text_gauge text_gauge_is_exact d (text_mark newest) (marks text_mark before) formed.text passes.text none.0;
-        name = quiet_passes name_gauge name_gauge_is_exact d (name_mark newest) (marks name_mark before) formed.name passes.name none.1;
+        text = quiet_passes text_gauge text_gauge_is_exact d (text_mark newest) (marks text_mark before) formed.text
+            passes.text none.0;
+        name = quiet_passes name_gauge name_gauge_is_exact d (name_mark newest) (marks name_mark before) formed.name
+            passes.name none.1;
       }
 ]
 
 -- a log without a fault passes
-pub passes_without : (d : ℕ) (log : List (Option Message)) → AllByRecursion IsFormedMessage log → first_fault d log ≡ None → LogPasses d log
-passes_without d [] formed none = record { text = record { reigns = tt; tagged = λ t pair s. absurd s }; name = record { reigns = tt; tagged = λ t pair s. absurd s } }
+pub passes_without : (d : ℕ) (log : List (Option Message)) → AllByRecursion IsFormedMessage log
+    → first_fault d log ≡ None → LogPasses d log
+passes_without d [] formed none = record {
+  text = record { reigns = tt; tagged = λ t pair s. absurd s };
+  name = record
+      { reigns = tt; tagged = λ t pair s. absurd s };
+}
 passes_without d (newest ∷ before) formed none = by (passes_without d before formed.1) (first_fault d before) refl
   where
-    by : (first_fault d before ≡ None → LogPasses d before) → (o : Option AuditFault) → first_fault d before ≡ o → LogPasses d (newest ∷ before)
-    by passes (Some fault) e = absurd (let bad : Some fault ≡ None = sym (ap (λ (o : Option AuditFault). or_else o (first_of (slot_adds d newest before))) e) ∙ none in cc)
+    by : (first_fault d before ≡ None → LogPasses d before) → (o : Option AuditFault) → first_fault d before ≡ o
+        → LogPasses d (newest ∷ before)
+    by passes (Some fault) e = absurd (let bad : Some fault
+        ≡ None = sym (ap (λ (o : Option AuditFault). or_else o (first_of (slot_adds d newest before))) e) ∙ none in cc)
     by passes None e = elim (log_judged d newest before formed.0 (passes e)) [
       | inl next ↦ next
-      | inr (fault, b) ↦ absurd (let bad : Some fault ≡ None = sym b ∙ sym (ap (λ (o : Option AuditFault). or_else o (first_of (slot_adds d newest before))) e) ∙ none in cc)
+      | inr (fault, b) ↦ absurd (let bad : Some fault ≡ None = sym b
+          ∙ sym (ap (λ (o : Option AuditFault). or_else o (first_of (slot_adds d newest before))) e) ∙ none in cc)
     ]
 
 -- the fault of a log with one more slot
-judged_next : (d : ℕ) (newest : Option Message) (judged : List (Option Message)) (a after : AuditState) → IsFormedMessage newest → (HoldsLog d judged a → HoldsLog d (newest ∷ judged) after)
-    → (HoldsLog d judged a → a.fault ≡ None → after.fault ≡ first_of (slot_adds d newest judged)) → ((fault : AuditFault) → a.fault ≡ Some fault → after.fault ≡ Some fault) → HasJudged d a judged → HasJudged d after (newest ∷ judged)
+judged_next : (d : ℕ) (newest : Option Message) (judged : List (Option Message)) (a after : AuditState)
+    → IsFormedMessage newest → (HoldsLog d judged a → HoldsLog d (newest ∷ judged) after)
+    → (HoldsLog d judged a → a.fault ≡ None → after.fault ≡ first_of (slot_adds d newest judged))
+    → ((fault : AuditFault) → a.fault ≡ Some fault → after.fault ≡ Some fault) → HasJudged d a judged
+    → HasJudged d after (newest ∷ judged)
 judged_next d newest judged a after formed holds first again has = by a.fault refl has
   where
-    told : (o : Option AuditFault) → after.fault ≡ o → MatchOption o (LogPasses d (newest ∷ judged) × HoldsLog d (newest ∷ judged) after) (IsFaultOf d (newest ∷ judged)) → HasJudged d after (newest ∷ judged)
-    told o e m = subst (λ (x : Option AuditFault). MatchOption x (LogPasses d (newest ∷ judged) × HoldsLog d (newest ∷ judged) after) (IsFaultOf d (newest ∷ judged))) (sym e) m
+    told : (o : Option AuditFault) → after.fault ≡ o
+        → MatchOption o (LogPasses d (newest ∷ judged) × HoldsLog d (newest ∷ judged) after)
+        (IsFaultOf d (newest ∷ judged)) → HasJudged d after (newest ∷ judged)
+    told o e m = subst (λ (x : Option AuditFault). MatchOption x (LogPasses d (newest ∷ judged)
+        × HoldsLog d (newest ∷ judged) after) (IsFaultOf d (newest ∷ judged))) (sym e) m
 
-    by : (was : Option AuditFault) → a.fault ≡ was → MatchOption was (LogPasses d judged × HoldsLog d judged a) (IsFaultOf d judged) → HasJudged d after (newest ∷ judged)
-    by (Some fault) e f = told (Some fault) (again fault e) (ap (λ (o : Option AuditFault). or_else o (first_of (slot_adds d newest judged))) f)
+    by : (was : Option AuditFault) → a.fault ≡ was
+        → MatchOption was (LogPasses d judged × HoldsLog d judged a) (IsFaultOf d judged)
+        → HasJudged d after (newest ∷ judged)
+    by (Some fault) e f = told (Some fault) (again fault e)
+        (ap (λ (o : Option AuditFault). or_else o (first_of (slot_adds d newest judged))) f)
     by None e (passes, h) = elim (log_judged d newest judged formed passes) [
       | inl next ↦ told None (first h e ∙ ap first_of (sym (passing_adds d newest judged next))) (next, holds h)
-      | inr (fault, b) ↦ told (Some fault) (first h e ∙ b) (ap (λ (o : Option AuditFault). or_else o (first_of (slot_adds d newest judged))) (passes_quietly d judged passes) ∙ b)
+      | inr (fault, b) ↦ told (Some fault) (first h e ∙ b)
+          (ap (λ (o : Option AuditFault). or_else o (first_of (slot_adds d newest judged)))
+          (passes_quietly d judged passes) ∙ b)
     ]
 
 -- ---- from slot to slot
@@ -179,15 +236,18 @@ abbrev is_begun : List Span → Bool
 is_begun [] = false
 is_begun (r ∷ older) = true
 
-begun_by_joining : (d slot : ℕ) (p : Fragment) (o : Option SentFragment) (r : Span) (older : List Span) → is_begun (joined d slot p o r older) ≡ true
+begun_by_joining : (d slot : ℕ) (p : Fragment) (o : Option SentFragment) (r : Span) (older : List Span)
+    → is_begun (joined d slot p o r older) ≡ true
 begun_by_joining d slot p None r older = refl
-begun_by_joining d slot p (Some s) r older = cond_both (same_bytes p.bytes s.fragment.bytes) _ _ (λ (rs : List Span). is_begun rs ≡ true) (λ _. refl) (λ _. refl)
+begun_by_joining d slot p (Some s) r older = cond_both (same_bytes p.bytes s.fragment.bytes) _ _
+    (λ (rs : List Span). is_begun rs ≡ true) (λ _. refl) (λ _. refl)
 
 begun_by_fragment : (d slot : ℕ) (p : Fragment) (rs : List Span) → is_begun (spans_after d slot p rs) ≡ true
 begun_by_fragment d slot p [] = refl
 begun_by_fragment d slot p (r ∷ older) =
     cond_both (is_same r.flag p.flag) _ _ (λ (rs : List Span). is_begun rs ≡ true)
-    (λ _. cond_both (nat_lt slot (r.last + d)) _ _ (λ (rs : List Span). is_begun rs ≡ true) (λ _. begun_by_joining d slot p (newest_at p.address r.fragments) r older) (λ _. refl))
+    (λ _. cond_both (nat_lt slot (r.last + d)) _ _ (λ (rs : List Span). is_begun rs ≡ true)
+    (λ _. begun_by_joining d slot p (newest_at p.address r.fragments) r older) (λ _. refl))
     (λ _. refl)
 
 begun_by_tags : (slot : ℕ) (pair : PairFields) (rs : List Span) → is_begun (spans_tagged slot pair rs) ≡ is_begun rs
@@ -197,7 +257,8 @@ begun_by_tags slot pair (r ∷ older) = refl
 begun_if : (d : ℕ) (judged : List (Option Message)) → is_begun (spans d (marks text_mark judged)) ≡ has_text judged
 begun_if d [] = refl
 begun_if d (None ∷ before) = begun_if d before
-begun_if d (Some (Text f a b) ∷ before) = begun_by_fragment d _ record { flag = f; address = a; bytes = b } (spans d (marks text_mark before))
+begun_if d (Some (Text f a b) ∷ before) = begun_by_fragment d _ record { flag = f; address = a; bytes = b }
+    (spans d (marks text_mark before))
 begun_if d (Some (Name f a b) ∷ before) = begun_if d before
 begun_if d (Some (Announce code bits aid) ∷ before) = begun_if d before
 begun_if d (Some (Tags pair) ∷ before) = begun_by_tags _ pair (spans d (marks text_mark before)) ∙ begun_if d before
@@ -208,48 +269,67 @@ open_begun d slot [] a h = h
 open_begun d slot (r ∷ older) a h = h.0
 
 -- there is a span of texts exactly if a text segment was judged
-pub text_open : (d : ℕ) (judged : List (Option Message)) (l : AuditState) → HoldsLog d judged l → l.text.reigns.ages.is_open ≡ has_text judged
-text_open d judged l h = open_begun d _ (spans d (marks text_mark judged)) l.text.reigns.ages h.text.ages.current ∙ begun_if d judged
+pub text_open : (d : ℕ) (judged : List (Option Message)) (l : AuditState) → HoldsLog d judged l
+    → l.text.reigns.ages.is_open ≡ has_text judged
+text_open d judged l h = open_begun d _ (spans d (marks text_mark judged)) l.text.reigns.ages h.text.ages.current
+    ∙ begun_if d judged
 
 -- a message of texts alone, that is judged as it is
-pub texts_listed : (l after : AuditState) (message : Option Message) (result : FaultSet) → 0 < l.distance → name_mark message ≡ Nothing → after.name ≡ l.name
+pub texts_listed : (l after : AuditState) (message : Option Message) (result : FaultSet) → 0 < l.distance
+    → name_mark message ≡ Nothing → after.name ≡ l.name
     → ((judged : List (Option Message)) → HoldsLog l.distance judged l → counted_as l.start judged message ≡ message)
-    → ((sent : List Mark) → HoldsSpans text_gauge l.distance sent l.text → HoldsNewestSpans text_gauge l.distance (text_mark message) sent after.text)
-    → ((sent : List Mark) → HoldsSpans text_gauge l.distance sent l.text → result ≡ added text_gauge l.distance (text_mark message) sent) → ListsMessage l after message result
+    → ((sent : List Mark) → HoldsSpans text_gauge l.distance sent l.text
+    → HoldsNewestSpans text_gauge l.distance (text_mark message) sent after.text)
+    → ((sent : List Mark) → HoldsSpans text_gauge l.distance sent l.text
+    → result ≡ added text_gauge l.distance (text_mark message) sent) → ListsMessage l after message result
 texts_listed l after message result pos silent name counts holds adds = record {
-  holds = λ judged h. subst (λ (x : Option Message). HoldsSlot l.distance x judged after) (sym (counts judged h)) record {
+  holds = λ judged h. subst (λ x. HoldsSlot l.distance x judged after) (sym (counts judged h)) record {
     text = holds (marks text_mark judged) h.text;
-    name = rw (silent, name) (nothing_follows name_gauge (omega arith) l.distance pos (marks name_mark judged) (spans l.distance (marks name_mark judged)) l.name h.name);
+    name = rw (silent, name) (nothing_follows name_gauge (omega arith) l.distance pos (marks name_mark judged)
+        (spans l.distance (marks name_mark judged)) l.name h.name);
   };
-  added = λ judged h. subst (λ (x : Option Message). result ≡ slot_adds l.distance x judged) (sym (counts judged h)) (adds (marks text_mark judged) h.text ∙ sym (texts_add l.distance message judged silent));
+  added = λ judged h. subst (λ (x : Option Message). result ≡ slot_adds l.distance x judged) (sym (counts judged h))
+      (adds (marks text_mark judged) h.text ∙ sym (texts_add l.distance message judged silent));
 }
 
 -- and one of names alone
-pub names_listed : (l after : AuditState) (message : Option Message) (result : FaultSet) → 0 < l.distance → text_mark message ≡ Nothing → after.text ≡ l.text
+pub names_listed : (l after : AuditState) (message : Option Message) (result : FaultSet) → 0 < l.distance
+    → text_mark message ≡ Nothing → after.text ≡ l.text
     → ((judged : List (Option Message)) → HoldsLog l.distance judged l → counted_as l.start judged message ≡ message)
-    → ((sent : List Mark) → HoldsSpans name_gauge l.distance sent l.name → HoldsNewestSpans name_gauge l.distance (name_mark message) sent after.name)
-    → ((sent : List Mark) → HoldsSpans name_gauge l.distance sent l.name → result ≡ added name_gauge l.distance (name_mark message) sent) → ListsMessage l after message result
+    → ((sent : List Mark) → HoldsSpans name_gauge l.distance sent l.name
+    → HoldsNewestSpans name_gauge l.distance (name_mark message) sent after.name)
+    → ((sent : List Mark) → HoldsSpans name_gauge l.distance sent l.name
+    → result ≡ added name_gauge l.distance (name_mark message) sent) → ListsMessage l after message result
 names_listed l after message result pos silent text counts holds adds = record {
-  holds = λ judged h. subst (λ (x : Option Message). HoldsSlot l.distance x judged after) (sym (counts judged h)) record {
-    text = rw (silent, text) (nothing_follows text_gauge (omega arith) l.distance pos (marks text_mark judged) (spans l.distance (marks text_mark judged)) l.text h.text);
+  holds = λ judged h. subst (λ x. HoldsSlot l.distance x judged after) (sym (counts judged h)) record {
+    text = rw (silent, text) (nothing_follows text_gauge (omega arith) l.distance pos (marks text_mark judged)
+        (spans l.distance (marks text_mark judged)) l.text h.text);
     name = holds (marks name_mark judged) h.name;
   };
-  added = λ judged h. subst (λ (x : Option Message). result ≡ slot_adds l.distance x judged) (sym (counts judged h)) (adds (marks name_mark judged) h.name ∙ sym (names_add l.distance message judged silent));
+  added = λ judged h. subst (λ (x : Option Message). result ≡ slot_adds l.distance x judged) (sym (counts judged h))
+      (adds (marks name_mark judged) h.name ∙ sym (names_add l.distance message judged silent));
 }
 
 -- a message with nothing for either service
-pub nothing_listed : (l : AuditState) (message : Option Message) (result : FaultSet) → 0 < l.distance → result ≡ none_broken → ((judged : List (Option Message)) → HoldsLog l.distance judged l → IsSilent (counted_as l.start judged message)) → ListsMessage l l message result
+pub nothing_listed : (l : AuditState) (message : Option Message) (result : FaultSet) → 0 < l.distance
+    → result ≡ none_broken → ((judged : List (Option Message)) → HoldsLog l.distance judged l
+    → IsSilent (counted_as l.start judged message)) → ListsMessage l l message result
 nothing_listed l message result pos none silent = record {
   holds = λ judged h. record {
-    text = rw (silent judged h).0 (nothing_follows text_gauge (omega arith) l.distance pos (marks text_mark judged) (spans l.distance (marks text_mark judged)) l.text h.text);
-    name = rw (silent judged h).1 (nothing_follows name_gauge (omega arith) l.distance pos (marks name_mark judged) (spans l.distance (marks name_mark judged)) l.name h.name);
+    text = rw (silent judged h).0 (nothing_follows text_gauge (omega arith) l.distance pos (marks text_mark judged)
+        (spans l.distance (marks text_mark judged)) l.text h.text);
+    name = rw (silent judged h).1 (nothing_follows name_gauge (omega arith) l.distance pos (marks name_mark judged)
+        (spans l.distance (marks name_mark judged)) l.name h.name);
   };
   added = λ judged h. none ∙ sym (texts_add l.distance (counted_as l.start judged message) judged (silent judged h).1
-      ∙ ap (λ (m : Mark). added text_gauge l.distance m (marks text_mark judged)) (silent judged h).0 ∙ nothing_adds text_gauge l.distance (marks text_mark judged));
+      ∙ ap (λ (m : Mark). added text_gauge l.distance m (marks text_mark judged)) (silent judged h).0
+      ∙ nothing_adds text_gauge l.distance (marks text_mark judged));
 }
 
 -- at the end of a slot
-pub slot_listed : (d : ℕ) (newest : Option Message) (judged : List (Option Message)) (l after : AuditState) → 0 < d → after.text ≡ aged_in d l.text → after.name ≡ aged_in d l.name → HoldsSlot d newest judged l → HoldsLog d (newest ∷ judged) after
+pub slot_listed : (d : ℕ) (newest : Option Message) (judged : List (Option Message)) (l after : AuditState) → 0 < d
+    → after.text ≡ aged_in d l.text → after.name ≡ aged_in d l.name → HoldsSlot d newest judged l
+    → HoldsLog d (newest ∷ judged) after
 slot_listed d newest judged l after pos text name h = record {
   text = rw text (spans_later text_gauge d (text_mark newest) (marks text_mark judged) l.text pos h.text);
   name = rw name (spans_later name_gauge d (name_mark newest) (marks name_mark judged) l.name pos h.name);
@@ -259,15 +339,21 @@ slot_listed d newest judged l after pos text name h = record {
 
 -- an audit goes on with a slot
 abbrev pub HearsNext : ℕ → AuditState → AuditState → Option Group → Option Message → Type 0
-HearsNext pi a after slot message = Hears pi slot message × (after.programme ≡ a.programme) × (after.distance ≡ a.distance) × (after.start ≡ a.start)
+HearsNext pi a after slot message = Hears pi slot message × (after.programme ≡ a.programme)
+    × (after.distance ≡ a.distance) × (after.start ≡ a.start)
 
 -- what is judged with one more slot
-next_judged : (begins start : LogStart) (d : ℕ) (message : Option Message) (heard : List (Option Message)) → start ≡ begins
-    → judged_as start d (message ∷ heard) ≡ counted_as begins (judged_as begins d heard) message ∷ judged_as begins d heard
-next_judged begins start d message heard same = ap (λ st. judged_as st d (message ∷ heard)) same ∙ judged_step begins d message heard
+next_judged : (begins start : LogStart) (d : ℕ) (message : Option Message) (heard : List (Option Message))
+    → start ≡ begins
+    → judged_as start d (message ∷ heard) ≡ counted_as begins (judged_as begins d heard) message ∷ judged_as begins d
+    heard
+next_judged begins start d message heard same = ap (λ st. judged_as st d (message ∷ heard)) same ∙ judged_step begins d
+    message heard
 
-goes_on : (pi d : ℕ) (a after : AuditState) (log : List (Option Group)) (s : AuditAt pi d a log) (slot : Option Group) (message : Option Message) → HearsNext pi a after slot message
-    → HasJudged d after (counted_as a.start (judged_as a.start d s.heard) message ∷ judged_as a.start d s.heard) → AuditAt pi d after (slot ∷ log)
+goes_on : (pi d : ℕ) (a after : AuditState) (log : List (Option Group)) (s : AuditAt pi d a log) (slot : Option Group)
+    (message : Option Message) → HearsNext pi a after slot message
+    → HasJudged d after (counted_as a.start (judged_as a.start d s.heard) message ∷ judged_as a.start d s.heard)
+    → AuditAt pi d after (slot ∷ log)
 goes_on pi d a after log s slot message (hears, programme, distance, start) has = record {
   programme = programme ∙ s.programme;
   distance = distance ∙ s.distance;
@@ -279,44 +365,64 @@ goes_on pi d a after log s slot message (hears, programme, distance, start) has 
 
 -- the audit took a slot, whatever its fault
 module _ (a next : AuditState) (slot : Option Group) (found : FaultSet) (took : ListsGroup a next slot found)
-    (programme : next.programme ≡ a.programme) (distance : next.distance ≡ a.distance) (start : next.start ≡ a.start) (first : a.fault ≡ None → next.fault ≡ first_of found) (again : (fault : AuditFault) → a.fault ≡ Some fault → next.fault ≡ Some fault)
+    (programme : next.programme ≡ a.programme) (distance : next.distance ≡ a.distance) (start : next.start ≡ a.start)
+    (first : a.fault ≡ None → next.fault ≡ first_of found) (again : (fault : AuditFault) → a.fault ≡ Some fault
+    → next.fault ≡ Some fault)
     (pi d : ℕ) (log : List (Option Group)) where
   hears_here : AuditAt pi d a log → Hears pi slot took.message
   hears_here s = subst (λ n. Hears n slot took.message) s.programme took.hears
 
   -- what was found is what the slot adds
-  adds_here : (s : AuditAt pi d a log) (judged : List (Option Message)) → HoldsLog d judged a → found ≡ slot_adds d (counted_as a.start judged took.message) judged
-  adds_here s judged h = took.added judged (subst (λ n. HoldsLog n judged a) (sym s.distance) h) ∙ ap (λ n. slot_adds n (counted_as a.start judged took.message) judged) s.distance
+  adds_here : (s : AuditAt pi d a log) (judged : List (Option Message)) → HoldsLog d judged a
+      → found ≡ slot_adds d (counted_as a.start judged took.message) judged
+  adds_here s judged h = took.added judged (subst (λ n. HoldsLog n judged a) (sym s.distance) h)
+      ∙ ap (λ n. slot_adds n (counted_as a.start judged took.message) judged) s.distance
 
-  holds_here : (s : AuditAt pi d a log) (judged : List (Option Message)) → HoldsLog d judged a → HoldsLog d (counted_as a.start judged took.message ∷ judged) next
-  holds_here s judged h = subst (λ n. HoldsLog n (counted_as a.start judged took.message ∷ judged) next) s.distance (took.holds judged (subst (λ n. HoldsLog n judged a) (sym s.distance) h))
+  holds_here : (s : AuditAt pi d a log) (judged : List (Option Message)) → HoldsLog d judged a
+      → HoldsLog d (counted_as a.start judged took.message ∷ judged) next
+  holds_here s judged h = subst (λ n. HoldsLog n (counted_as a.start judged took.message ∷ judged) next) s.distance
+      (took.holds judged (subst (λ n. HoldsLog n judged a) (sym s.distance) h))
 
   stands_next : AuditAt pi d a log → AuditAt pi d next (slot ∷ log)
   stands_next s =
       goes_on pi d a next log s slot took.message (hears_here s, programme, distance, start)
-      (judged_next d (counted_as a.start (judged_as a.start d s.heard) took.message) (judged_as a.start d s.heard) a next (formed_counted a.start (judged_as a.start d s.heard) took.message (formed_heard pi slot took.message (hears_here s)))
-      (holds_here s (judged_as a.start d s.heard)) (λ h none. first none ∙ ap first_of (adds_here s (judged_as a.start d s.heard) h)) again s.holds)
+      (judged_next d (counted_as a.start (judged_as a.start d s.heard) took.message) (judged_as a.start d s.heard) a
+      next (formed_counted a.start (judged_as a.start d s.heard) took.message (formed_heard pi slot took.message
+      (hears_here s)))
+      (holds_here s (judged_as a.start d s.heard)) (λ h none. first none
+      ∙ ap first_of (adds_here s (judged_as a.start d s.heard) h)) again s.holds)
 
   follows_next : FollowsLog pi d a log → FollowsLog pi d next (slot ∷ log)
   unfolding stands_next goes_on
   follows_next s = record {
     at = stands_next s.at;
-    holds = subst (λ (x : List (Option Message)). HoldsLog d x next) (sym (next_judged a.start next.start d took.message s.at.heard start)) (holds_here s.at (judged_as a.start d s.at.heard) s.holds);
+    holds = subst (λ (x : List (Option Message)). HoldsLog d x next)
+        (sym (next_judged a.start next.start d took.message s.at.heard start))
+        (holds_here s.at (judged_as a.start d s.at.heard) s.holds);
   }
 
-  found_adds : (s : FollowsLog pi d a log) (message : Option Message) → Hears pi slot message → found ≡ slot_adds d (counted_as a.start (judged_as a.start d s.at.heard) message) (judged_as a.start d s.at.heard)
+  found_adds : (s : FollowsLog pi d a log) (message : Option Message) → Hears pi slot message
+      → found ≡ slot_adds d (counted_as a.start (judged_as a.start d s.at.heard) message)
+      (judged_as a.start d s.at.heard)
   found_adds s message hears =
-      adds_here s.at (judged_as a.start d s.at.heard) s.holds ∙ ap (λ (m : Option Message). slot_adds d (counted_as a.start (judged_as a.start d s.at.heard) m) (judged_as a.start d s.at.heard)) (same_heard_in pi slot took.message message (hears_here s.at) hears)
+      adds_here s.at (judged_as a.start d s.at.heard) s.holds
+      ∙ ap (λ (m : Option Message). slot_adds d (counted_as a.start (judged_as a.start d s.at.heard) m)
+      (judged_as a.start d s.at.heard)) (same_heard_in pi slot took.message message (hears_here s.at) hears)
 
 -- the group of a slot was taken, and the slot is over
-pub group_listed : (old heard new : StoredAudit) (group : Option Group) (found result : FaultSet) → IsStoredAudit old → heard.distance ≡ old.distance
-    → (message : Option Message) × Hears old.pi group message × ListsMessage (audit_stored old) (audit_stored heard) message found → EndsSlot heard new → result ≡ found
+pub group_listed : (old heard new : StoredAudit) (group : Option Group) (found result : FaultSet) → IsStoredAudit old
+    → heard.distance ≡ old.distance
+    → (message : Option Message) × Hears old.pi group message × ListsMessage (audit_stored old) (audit_stored heard)
+    message found → EndsSlot heard new → result ≡ found
     → ListsGroup (audit_stored old) (audit_stored new) group result
 group_listed old heard new group found result stored same (message, hears, lists) ends is = record {
   message = message;
   hears = hears;
-  holds = λ judged h. subst (λ n. HoldsLog n (counted_as (audit_stored old).start judged message ∷ judged) (audit_stored new)) same
-      (ends good judged (counted_as (audit_stored old).start judged message) (subst (λ n. HoldsSlot n (counted_as (audit_stored old).start judged message) judged (audit_stored heard)) (sym same) (lists.holds judged h)));
+  holds = λ judged h. subst (λ n. HoldsLog n (counted_as (audit_stored old).start judged message ∷ judged)
+      (audit_stored new)) same
+      (ends good judged (counted_as (audit_stored old).start judged message)
+      (subst (λ n. HoldsSlot n (counted_as (audit_stored old).start judged message) judged (audit_stored heard))
+      (sym same) (lists.holds judged h)));
   added = λ judged h. is ∙ lists.added judged h;
 }
   where
@@ -325,7 +431,8 @@ group_listed old heard new group found result stored same (message, hears, lists
 
 pub takes_all : (a next : AuditState) (slot : Option Group) (found : FaultSet) → ListsGroup a next slot found
     → next.programme ≡ a.programme → next.distance ≡ a.distance → next.start ≡ a.start
-    → (a.fault ≡ None → next.fault ≡ first_of found) → ((fault : AuditFault) → a.fault ≡ Some fault → next.fault ≡ Some fault) → TakesAll a next slot found
+    → (a.fault ≡ None → next.fault ≡ first_of found)
+    → ((fault : AuditFault) → a.fault ≡ Some fault → next.fault ≡ Some fault) → TakesAll a next slot found
 takes_all a next slot found took programme distance start first again = record {
   stands = stands_next a next slot found took programme distance start first again;
   follows = follows_next a next slot found took programme distance start first again;
@@ -336,30 +443,41 @@ takes_all a next slot found took programme distance start first again = record {
 }
 
 -- the log of an audit without a fault passes
-pub log_passes : (d : ℕ) (a : AuditState) (judged : List (Option Message)) → a.fault ≡ None → HasJudged d a judged → LogPasses d judged × HoldsLog d judged a
-log_passes d a judged none has = subst (λ (o : Option AuditFault). MatchOption o (LogPasses d judged × HoldsLog d judged a) (IsFaultOf d judged)) none has
+pub log_passes : (d : ℕ) (a : AuditState) (judged : List (Option Message)) → a.fault ≡ None → HasJudged d a judged
+    → LogPasses d judged × HoldsLog d judged a
+log_passes d a judged none has = subst (λ (o : Option AuditFault). MatchOption o (LogPasses d judged
+    × HoldsLog d judged a) (IsFaultOf d judged)) none has
 
 -- and a fault is that of the log
-pub fault_is : (d : ℕ) (a : AuditState) (judged : List (Option Message)) (fault : AuditFault) → a.fault ≡ Some fault → HasJudged d a judged → IsFaultOf d judged fault
-fault_is d a judged fault some has = subst (λ (o : Option AuditFault). MatchOption o (LogPasses d judged × HoldsLog d judged a) (IsFaultOf d judged)) some has
+pub fault_is : (d : ℕ) (a : AuditState) (judged : List (Option Message)) (fault : AuditFault) → a.fault ≡ Some fault
+    → HasJudged d a judged → IsFaultOf d judged fault
+fault_is d a judged fault some has = subst (λ (o : Option AuditFault). MatchOption o (LogPasses d judged
+    × HoldsLog d judged a) (IsFaultOf d judged)) some has
 
 -- after a fault an audit stays as it is
-pub takes_again : (a : AuditState) (slot : Option Group) (message : Option Message) (fault : AuditFault) → a.fault ≡ Some fault → Hears a.programme slot message → AuditTakesSlot a a slot (Err fault)
+pub takes_again : (a : AuditState) (slot : Option Group) (message : Option Message) (fault : AuditFault)
+    → a.fault ≡ Some fault → Hears a.programme slot message → AuditTakesSlot a a slot (Err fault)
 takes_again a slot message fault some hears = record {
   stands = λ pi d log s.
-      goes_on pi d a a log s slot message (subst (λ n. Hears n slot message) s.programme hears, refl, refl, refl) (still d (counted_as a.start (judged_as a.start d s.heard) message) (judged_as a.start d s.heard) (fault_is d a (judged_as a.start d s.heard) fault some s.holds));
+      goes_on pi d a a log s slot message (subst (λ n. Hears n slot message) s.programme hears, refl, refl, refl)
+      (still d (counted_as a.start (judged_as a.start d s.heard) message) (judged_as a.start d s.heard)
+      (fault_is d a (judged_as a.start d s.heard) fault some s.holds));
   fault = some;
   start = refl;
   which = λ pi d log s. fault_is d a (judged_as a.start d s.heard) fault some s.holds;
   again = λ other same. (ap Err (let e : fault ≡ other = cc in e), refl);
 }
   where
-    still : (d : ℕ) (newest : Option Message) (judged : List (Option Message)) → IsFaultOf d judged fault → HasJudged d a (newest ∷ judged)
-    still d newest judged f = subst (λ (o : Option AuditFault). MatchOption o (LogPasses d (newest ∷ judged) × HoldsLog d (newest ∷ judged) a) (IsFaultOf d (newest ∷ judged))) (sym some) (ap (λ (o : Option AuditFault). or_else o (first_of (slot_adds d newest judged))) f)
+    still : (d : ℕ) (newest : Option Message) (judged : List (Option Message)) → IsFaultOf d judged fault
+        → HasJudged d a (newest ∷ judged)
+    still d newest judged f = subst (λ (o : Option AuditFault). MatchOption o (LogPasses d (newest ∷ judged)
+        × HoldsLog d (newest ∷ judged) a) (IsFaultOf d (newest ∷ judged))) (sym some)
+        (ap (λ (o : Option AuditFault). or_else o (first_of (slot_adds d newest judged))) f)
 
 -- before the first slot
 pub audit_starts : (pi d : ℕ) (a : AuditState) → a.programme ≡ pi → a.distance ≡ d → 0 < d → a.fault ≡ None
-    → HoldsSpans text_gauge d (silent_as a.start d) a.text → HoldsSpans name_gauge d (silent_as a.start d) a.name → FollowsLog pi d a []
+    → HoldsSpans text_gauge d (silent_as a.start d) a.text → HoldsSpans name_gauge d (silent_as a.start d) a.name
+    → FollowsLog pi d a []
 audit_starts pi d a programme distance lasts clean texts_hold names_hold = record {
   at = record {
     programme = programme;
@@ -367,13 +485,14 @@ audit_starts pi d a programme distance lasts clean texts_hold names_hold = recor
     lasts = lasts;
     heard = [];
     are = tt;
-    holds = subst (λ (o : Option AuditFault). MatchOption o (LogPasses d (judged_as a.start d []) × HoldsLog d (judged_as a.start d []) a) (IsFaultOf d (judged_as a.start d []))) (sym clean) (
-      record {
-        text = rw (texts_begin a.start d) (silent_passes texts a.start d);
-        name = rw (names_begin a.start d) (silent_passes names a.start d);
-      },
-      holds,
-    );
+    holds = subst (λ (o : Option AuditFault). MatchOption o (LogPasses d (judged_as a.start d [])
+        × HoldsLog d (judged_as a.start d []) a) (IsFaultOf d (judged_as a.start d []))) (sym clean) (
+          record {
+            text = rw (texts_begin a.start d) (silent_passes texts a.start d);
+            name = rw (names_begin a.start d) (silent_passes names a.start d);
+          },
+          holds,
+        );
   };
   holds = holds;
 }
@@ -382,7 +501,8 @@ audit_starts pi d a programme distance lasts clean texts_hold names_hold = recor
     holds = record { text = rw (texts_begin a.start d) texts_hold; name = rw (names_begin a.start d) names_hold }
 
 -- the log passes exactly if there is no fault
-pub passes_exactly : (d : ℕ) (a : AuditState) (judged : List (Option Message)) → HasJudged d a judged → (a.fault ≡ None) ↔ LogPasses d judged
+pub passes_exactly : (d : ℕ) (a : AuditState) (judged : List (Option Message)) → HasJudged d a judged
+    → (a.fault ≡ None) ↔ LogPasses d judged
 passes_exactly d a judged has = ((λ none. (log_passes d a judged none has).0), by a.fault refl)
   where
     by : (o : Option AuditFault) → a.fault ≡ o → LogPasses d judged → a.fault ≡ None

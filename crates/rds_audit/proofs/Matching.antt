@@ -1,5 +1,6 @@
 -- Lemmas: the reigns of a log are of broadcasts of any lawful and dense plan, in order.
-use Rattle.std.proofs.Common.{◌≡◌, ◌+◌, ◌<◌, ◌≤◌, max, ℕ, Bool, true, nat_lt, List, [], ◌∷◌, length, refl, sym, ◌∙◌, subst, inl, inr, arith}
+use Rattle.std.proofs.Common.{◌≡◌, ◌+◌, ◌<◌, ◌≤◌, max, ℕ, Bool, true, nat_lt, List, [], ◌∷◌, length, refl, sym, ◌∙◌}
+use Rattle.std.proofs.Common.{subst, inl, inr, arith}
 use Rattle.std.specs.List.{AllByRecursion}
 use Rattle.std.proofs.lemmas.Bool.{and_parts, cases_order, cond_both, lt-ltb, ltb-true}
 use Rattle.rds_fields.specs.Tag.{BothEndIn, PairFields}
@@ -12,26 +13,49 @@ use Rattle.rds_audit.specs.Dense.{HasPlan, IsDense}
 use Rattle.rds_safety.specs.Lawful.{HasFragment, HasTags, IsLawful, Kind}
 use Rattle.rds_safety.specs.Laws.{PlanLaws}
 use Rattle.rds_safety.specs.Marks.{Mark, Nothing, Sends, Tagged}
-use Rattle.rds_audit.specs.Reigns.{Reign, SentTags, after_fragment, after_tags, joins, opened_by, past_newest, reigns, start_after, with_fragment, with_tags}
+use Rattle.rds_audit.specs.Reigns.{Reign, SentTags, after_fragment, after_tags, joins, opened_by, past_newest, reigns}
+use Rattle.rds_audit.specs.Reigns.{start_after, with_fragment, with_tags}
 use Rattle.rds_audit.specs.Rules.{CanBeBroadcast, Passes}
 use Rattle.rds_safety.specs.Flags.{is_same_flag, same_flag}
 use Rattle.rds_audit.proofs.Keeping.{Keeps, keeps}
 use Rattle.rds_audit.proofs.Sending.{dense_before, early, lawful_before, marked_before, fragment_is_marked, sent_before}
 
-opened_of : (d now : ℕ) (kind : Kind) (b : Broadcast) (p : Fragment) (rs : List Reign) → start_after d p.flag rs ≤ b.start → HasFragment kind now p b → IsReignOf d kind b (opened_by d now p rs)
-opened_of d now kind b p rs le has = record { start = le; from = has.covers.from; to = has.covers.to; flag = has.flag; fragments = (has.fragment, tt); tags = tt }
+opened_of : (d now : ℕ) (kind : Kind) (b : Broadcast) (p : Fragment) (rs : List Reign)
+    → start_after d p.flag rs ≤ b.start → HasFragment kind now p b → IsReignOf d kind b (opened_by d now p rs)
+opened_of d now kind b p rs le has = record {
+  start = le;
+  from = has.covers.from;
+  to = has.covers.to;
+  flag = has.flag;
+  fragments = (has.fragment, tt);
+  tags = tt;
+}
 
-joined_of : (d now : ℕ) (kind : Kind) (b : Broadcast) (p : Fragment) (r : Reign) → HasFragment kind now p b → IsReignOf d kind b r → IsReignOf d kind b (with_fragment now p r)
-joined_of d now kind b p r has of = record { start = of.start; from = of.from; to = has.covers.to; flag = of.flag; fragments = (has.fragment, of.fragments); tags = of.tags }
+joined_of : (d now : ℕ) (kind : Kind) (b : Broadcast) (p : Fragment) (r : Reign) → HasFragment kind now p b
+    → IsReignOf d kind b r → IsReignOf d kind b (with_fragment now p r)
+joined_of d now kind b p r has of = record {
+  start = of.start;
+  from = of.from;
+  to = has.covers.to;
+  flag = of.flag;
+  fragments = (has.fragment, of.fragments);
+  tags = of.tags;
+}
 
 module _ (laws : PlanLaws) (d : ℕ) (kind : Kind) (plan : List Broadcast) (spaced : IsSpaced d plan) where
-  past_newest_before : (k l : ℕ) (b : Broadcast) (rs : List Reign) → HasNumber plan l b → k < l → AreReignsOf d kind plan k rs → past_newest d rs ≤ b.start
+  past_newest_before : (k l : ℕ) (b : Broadcast) (rs : List Reign) → HasNumber plan l b → k < l
+      → AreReignsOf d kind plan k rs → past_newest d rs ≤ b.start
   past_newest_before k l b [] q lt a = omega arith
-  past_newest_before k l b (r ∷ rs) q lt a = omega (arith, laws.far d plan a.0 l a.1 b spaced a.3 q (omega arith), a.4.to)
+  past_newest_before k l b (r ∷ rs) q lt a = omega (
+    arith,
+    laws.far d plan a.0 l a.1 b spaced a.3 q (omega arith),
+    a.4.to,
+  )
 
   -- a reign that is opened in a later broadcast starts no later than this broadcast
   start_before : (k l : ℕ) (c b : Broadcast) (flag : Bool) (r : Reign) (older : List Reign)
-      → HasNumber plan k c → HasNumber plan l b → k < l → flag ≡ b.flag → IsReignOf d kind c r → AreReignsOf d kind plan k older → start_after d flag (r ∷ older) ≤ b.start
+      → HasNumber plan k c → HasNumber plan l b → k < l → flag ≡ b.flag → IsReignOf d kind c r
+      → AreReignsOf d kind plan k older → start_after d flag (r ∷ older) ≤ b.start
   start_before k l c b flag r older p q lt e of a =
       cond_both (is_same r.flag flag) (r.last + d) (max (r.last + 1) (past_newest d older)) (λ n. n ≤ b.start)
       (λ t. omega (arith, laws.one_flag d plan k l c b spaced p q lt (sym of.flag ∙ same_flag _ _ t ∙ e), of.to))
@@ -39,20 +63,46 @@ module _ (laws : PlanLaws) (d : ℕ) (kind : Kind) (plan : List Broadcast) (spac
 
   -- a fragment that is sent in the broadcast of the newest reign joins that reign
   fragment_joins : (now n k : ℕ) (b : Broadcast) (p : Fragment) (r : Reign) (older : List Reign)
-      → HasNumber plan k b → k < n → HasFragment kind now p b → IsReignOf d kind b r → now < r.last + d → AreReignsOf d kind plan k older → AreReignsOf d kind plan n (after_fragment d now p (r ∷ older))
+      → HasNumber plan k b → k < n → HasFragment kind now p b → IsReignOf d kind b r → now < r.last + d
+      → AreReignsOf d kind plan k older → AreReignsOf d kind plan n (after_fragment d now p (r ∷ older))
   fragment_joins now n k b p r older q lt has of near a =
       let same : is_same r.flag p.flag ≡ true = is_same_flag r.flag p.flag (of.flag ∙ sym has.flag) in
-      let both : after_fragment d now p (r ∷ older) ≡ with_fragment now p r ∷ older = rw (same, lt-ltb now (r.last + d) near) refl in
-      subst (λ (rs : List Reign). AreReignsOf d kind plan n rs) (sym both) (k, b, lt, q, joined_of d now kind b p r has of, a)
+      let both : after_fragment d now p (r ∷ older) ≡ with_fragment now p r
+      ∷ older = rw (same, lt-ltb now (r.last + d) near) refl in
+      subst (λ (rs : List Reign). AreReignsOf d kind plan n rs) (sym both) (
+        k,
+        b,
+        lt,
+        q,
+        joined_of d now kind b p r has
+            of,
+        a,
+      )
 
   -- a fragment that is sent in a later broadcast opens a reign
   fragment_opens : (now n k l : ℕ) (c b : Broadcast) (p : Fragment) (r : Reign) (older : List Reign)
-      → HasNumber plan k c → HasNumber plan l b → k < l → l < n → HasFragment kind now p b → IsReignOf d kind c r → AreReignsOf d kind plan k older → AreReignsOf d kind plan n (after_fragment d now p (r ∷ older))
+      → HasNumber plan k c → HasNumber plan l b → k < l → l < n → HasFragment kind now p b → IsReignOf d kind c r
+      → AreReignsOf d kind plan k older → AreReignsOf d kind plan n (after_fragment d now p (r ∷ older))
   fragment_opens now n k l c b p r older pc pb lt ln has of a =
       cond_both (joins d now p.flag r) _ _ (AreReignsOf d kind plan n)
       (λ t. let parts = and_parts (is_same r.flag p.flag) (nat_lt now (r.last + d)) t in
-      absurd (omega (arith, ltb-true _ _ parts.1, laws.one_flag d plan k l c b spaced pc pb lt (sym of.flag ∙ same_flag _ _ parts.0 ∙ has.flag), of.to, has.covers.from)))
-      (λ _. (l, b, ln, pb, opened_of d now kind b p (r ∷ older) (start_before k l c b p.flag r older pc pb lt has.flag of a) has, (k, c, lt, pc, of, a)))
+      absurd (omega (
+        arith,
+        ltb-true _ _ parts.1,
+        laws.one_flag d plan k l c b spaced pc pb lt (sym of.flag
+            ∙ same_flag _ _ parts.0 ∙ has.flag),
+        of.to,
+        has.covers.from,
+      )))
+      (λ _. (
+        l,
+        b,
+        ln,
+        pb,
+        opened_of d now kind b p (r ∷ older) (start_before k l c b p.flag r older pc pb lt has.flag
+            of a) has,
+        (k, c, lt, pc, of, a),
+      ))
 
   -- broadcasts with one number are equal
   same_broadcast : (k l : ℕ) (a b : Broadcast) → HasNumber plan k a → HasNumber plan l b → k ≡ l → a ≡ b
@@ -60,9 +110,18 @@ module _ (laws : PlanLaws) (d : ℕ) (kind : Kind) (plan : List Broadcast) (spac
 
   -- the number of the newest reign's broadcast is at most that of one that has a fragment after it
   fragment_of : (n l : ℕ) (sent : List Mark) (b : Broadcast) (p : Fragment) (rs : List Reign)
-      → IsDense d plan (Sends p ∷ sent) → HasNumber plan l b → l < n → HasFragment kind (length sent) p b → Keeps d sent rs → AreReignsOf d kind plan n rs
+      → IsDense d plan (Sends p ∷ sent) → HasNumber plan l b → l < n → HasFragment kind (length sent) p b
+      → Keeps d sent rs → AreReignsOf d kind plan n rs
       → AreReignsOf d kind plan n (after_fragment d (length sent) p rs)
-  fragment_of n l sent b p [] dense q lt has k a = (l, b, lt, q, opened_of d (length sent) kind b p [] (omega arith) has, tt)
+  fragment_of n l sent b p [] dense q lt has k a = (
+    l,
+    b,
+    lt,
+    q,
+    opened_of d (length sent) kind b p [] (omega arith)
+        has,
+    tt,
+  )
   fragment_of n l sent b p (r ∷ older) dense q lt has keep a =
       elim (cases_order a.0 l) [
         | inl same ↦
@@ -71,17 +130,27 @@ module _ (laws : PlanLaws) (d : ℕ) (kind : Kind) (plan : List Broadcast) (spac
             let opened = keep.0.0.opened in
             let first = early sent r.opened (Sends keep.0.0.first) opened in
             let opened_b : Covers b r.opened = record { from = of.from; to = omega (arith, has.covers.to) } in
-            let w = dense.fragments l b r.opened (length sent) keep.0.0.first p q opened_b has.covers (inr opened) (inl (refl, refl)) first in
-            let near : length sent < r.last + d = omega (arith, w.near, keep.1 w.slot (marked_before (Sends p) sent w.slot w.before w.marked)) in
-            fragment_joins (length sent) n l b p r older q lt has of near (subst (λ (i : ℕ). AreReignsOf d kind plan i older) {x = a.0} same a.5)
+            let w = dense.fragments l b r.opened (length sent) keep.0.0.first p q opened_b has.covers (inr opened)
+            (inl (refl, refl)) first in
+            let near : length sent < r.last + d = omega
+            (arith, w.near, keep.1 w.slot (marked_before (Sends p) sent w.slot w.before w.marked)) in
+            fragment_joins (length sent) n l b p r older q lt has of near
+            (subst (λ (i : ℕ). AreReignsOf d kind plan i older) {x = a.0} same a.5)
         | inr other ↦ elim other [
           | inl less ↦ fragment_opens (length sent) n a.0 l a.1 b p r older a.3 q less lt has a.4 a.5
-          | inr more ↦ absurd (omega (arith, laws.order d plan l a.0 b a.1 spaced q a.3 more, a.4.from, has.covers.to, early sent r.opened (Sends keep.0.0.first) keep.0.0.opened))
+          | inr more ↦ absurd (omega (
+            arith,
+            laws.order d plan l a.0 b a.1 spaced q a.3 more,
+            a.4.from,
+            has.covers.to,
+            early sent r.opened (Sends keep.0.0.first) keep.0.0.opened,
+          ))
         ]
       ]
 
   tags_of : (n l : ℕ) (sent : List Mark) (b : Broadcast) (pair : PairFields) (rs : List Reign)
-      → IsDense d plan (Tagged pair ∷ sent) → HasNumber plan l b → HasTags d (length sent) pair b → Keeps d sent rs → AreReignsOf d kind plan n rs
+      → IsDense d plan (Tagged pair ∷ sent) → HasNumber plan l b → HasTags d (length sent) pair b → Keeps d sent rs
+      → AreReignsOf d kind plan n rs
       → AreReignsOf d kind plan n (after_tags (length sent) pair rs)
   tags_of n l sent b pair [] dense q has keep a = tt
   tags_of n l sent b pair (r ∷ older) dense q has keep a =
@@ -93,36 +162,66 @@ module _ (laws : PlanLaws) (d : ℕ) (kind : Kind) (plan : List Broadcast) (spac
         | inl same ↦
             let one : a.1 ≡ b = same_broadcast a.0 l a.1 b a.3 q same in
             let of : IsReignOf d kind b r = subst (λ (x : Broadcast). IsReignOf d kind x r) {x = a.1} one a.4 in
-            let its : AreTagsOf d b record { slot = length sent; pair = pair } = record { lasted = has.lasted; ends = has.ends } in
-            let now : IsReignOf d kind b (with_tags (length sent) pair r) = record { start = of.start; from = of.from; to = has.to; flag = of.flag; fragments = of.fragments; tags = (its, of.tags) } in
+            let its : AreTagsOf d b record { slot = length sent; pair = pair } = record
+            { lasted = has.lasted; ends = has.ends } in
+            let now : IsReignOf d kind b (with_tags (length sent) pair r) = record {
+              start = of.start;
+              from = of.from;
+              to = has.to;
+              flag = of.flag;
+              fragments = of.fragments;
+              tags = (its, of.tags);
+            } in
             (a.0, b, a.2, subst (λ (x : Broadcast). HasNumber plan a.0 x) {x = a.1} one a.3, now, a.5)
         | inr other ↦ elim other [
-          | inl less ↦ absurd (omega (arith, laws.order d plan a.0 l a.1 b spaced a.3 q less, a.4.to, w.covers.from, until))
-          | inr more ↦ absurd (omega (arith, laws.order d plan l a.0 b a.1 spaced q a.3 more, a.4.from, has.to, early sent r.opened (Sends keep.0.0.first) keep.0.0.opened))
+          | inl less ↦ absurd (omega (
+            arith,
+            laws.order d plan a.0 l a.1 b spaced a.3 q less,
+            a.4.to,
+            w.covers.from,
+            until,
+          ))
+          | inr more ↦ absurd (omega (
+            arith,
+            laws.order d plan l a.0 b a.1 spaced q a.3 more,
+            a.4.from,
+            has.to,
+            early
+                sent r.opened (Sends keep.0.0.first) keep.0.0.opened,
+          ))
         ]
       ]
 
-pub are_reigns_of : PlanLaws → (d : ℕ) (kind : Kind) (plan : List Broadcast) (sent : List Mark) → IsLawful d kind plan sent → IsDense d plan sent → AreReignsOf d kind plan (length plan) (reigns d sent)
+pub are_reigns_of : PlanLaws → (d : ℕ) (kind : Kind) (plan : List Broadcast) (sent : List Mark)
+    → IsLawful d kind plan sent → IsDense d plan sent → AreReignsOf d kind plan (length plan) (reigns d sent)
 are_reigns_of laws d kind plan [] law dense = tt
-are_reigns_of laws d kind plan (Nothing ∷ sent) law dense = are_reigns_of laws d kind plan sent (lawful_before d kind plan Nothing sent law) (dense_before d plan Nothing sent dense)
+are_reigns_of laws d kind plan (Nothing ∷ sent) law dense = are_reigns_of laws d kind plan sent
+    (lawful_before d kind plan Nothing sent law) (dense_before d plan Nothing sent dense)
 are_reigns_of laws d kind plan (Sends p ∷ sent) law dense =
-    let before = are_reigns_of laws d kind plan sent (lawful_before d kind plan (Sends p) sent law) (dense_before d plan (Sends p) sent dense) in
+    let before = are_reigns_of laws d kind plan sent (lawful_before d kind plan (Sends p) sent law)
+    (dense_before d plan (Sends p) sent dense) in
     let w = law.fragments (length sent) p (inl (refl, refl)) in
-    fragment_of laws d kind plan law.spaced (length plan) w.number sent w.broadcast p (reigns d sent) dense w.planned (laws.below plan w.number w.broadcast w.planned) w.is (keeps d sent) before
+    fragment_of laws d kind plan law.spaced (length plan) w.number sent w.broadcast p (reigns d sent) dense w.planned
+    (laws.below plan w.number w.broadcast w.planned) w.is (keeps d sent) before
 are_reigns_of laws d kind plan (Tagged pair ∷ sent) law dense =
-    let before = are_reigns_of laws d kind plan sent (lawful_before d kind plan (Tagged pair) sent law) (dense_before d plan (Tagged pair) sent dense) in
+    let before = are_reigns_of laws d kind plan sent (lawful_before d kind plan (Tagged pair) sent law)
+    (dense_before d plan (Tagged pair) sent dense) in
     let w = law.tags (length sent) pair (inl (refl, refl)) in
-    tags_of laws d kind plan law.spaced (length plan) w.number sent w.broadcast pair (reigns d sent) dense w.planned w.is (keeps d sent) before
+    tags_of laws d kind plan law.spaced (length plan) w.number sent w.broadcast pair (reigns d sent) dense w.planned
+    w.is (keeps d sent) before
 
-all_lasted : (d start : ℕ) (b : Broadcast) (tags : List SentTags) → start ≤ b.start → AllByRecursion (AreTagsOf d b) tags → AllByRecursion (λ (s : SentTags). start + d ≤ s.slot) tags
+all_lasted : (d start : ℕ) (b : Broadcast) (tags : List SentTags) → start ≤ b.start
+    → AllByRecursion (AreTagsOf d b) tags → AllByRecursion (λ (s : SentTags). start + d ≤ s.slot) tags
 all_lasted d start b [] le f = tt
 all_lasted d start b (s ∷ tags) le f = (omega (arith, f.0.lasted), all_lasted d start b tags le f.1)
 
-all_end : (d : ℕ) (b : Broadcast) (tags : List SentTags) → AllByRecursion (AreTagsOf d b) tags → AllByRecursion (λ (s : SentTags). BothEndIn (length b.bytes) s.pair) tags
+all_end : (d : ℕ) (b : Broadcast) (tags : List SentTags) → AllByRecursion (AreTagsOf d b) tags
+    → AllByRecursion (λ (s : SentTags). BothEndIn (length b.bytes) s.pair) tags
 all_end d b [] f = tt
 all_end d b (s ∷ tags) f = (f.0.ends, all_end d b tags f.1)
 
-can_be_broadcasts : (d n : ℕ) (kind : Kind) (plan : List Broadcast) (rs : List Reign) → ((k : ℕ) (b : Broadcast) → HasNumber plan k b → kind.IsValue b.bytes) → AreReignsOf d kind plan n rs
+can_be_broadcasts : (d n : ℕ) (kind : Kind) (plan : List Broadcast) (rs : List Reign)
+    → ((k : ℕ) (b : Broadcast) → HasNumber plan k b → kind.IsValue b.bytes) → AreReignsOf d kind plan n rs
     → AllByRecursion (CanBeBroadcast d kind) rs
 can_be_broadcasts d n kind plan [] values a = tt
 can_be_broadcasts d n kind plan (r ∷ older) values a =
@@ -130,7 +229,13 @@ can_be_broadcasts d n kind plan (r ∷ older) values a =
       record {
         begun = omega (arith, of.start, of.from);
         lasted = all_lasted d r.start a.1 r.tags of.start of.tags;
-        one = record { value = a.1.bytes; valid = values a.0 a.1 a.3; has = of.fragments; ends = all_end d a.1 r.tags of.tags };
+        one = record {
+          value = a.1.bytes;
+          valid = values a.0 a.1 a.3;
+          has = of.fragments;
+          ends = all_end d a.1 r.tags
+              of.tags;
+        };
       },
       can_be_broadcasts d a.0 kind plan older values a.5,
     )
@@ -138,9 +243,11 @@ can_be_broadcasts d n kind plan (r ∷ older) values a =
 -- so a log with such a plan passes
 pub passes : PlanLaws → (d : ℕ) (kind : Kind) (sent : List Mark) → HasPlan d kind sent → Passes d kind sent
 passes laws d kind sent h = record {
-  reigns = can_be_broadcasts d (length h.plan) kind h.plan (reigns d sent) h.lawful.values (are_reigns_of laws d kind h.plan sent h.lawful h.dense);
+  reigns = can_be_broadcasts d (length h.plan) kind h.plan (reigns d sent) h.lawful.values
+      (are_reigns_of laws d kind h.plan sent h.lawful h.dense);
   tagged = λ t pair s.
       let w = h.lawful.tags t pair s in
-      let v = h.dense.tags w.number w.broadcast t pair w.planned record { from = omega (arith, w.is.lasted); to = w.is.to } s in
+      let v = h.dense.tags w.number w.broadcast t pair w.planned record
+      { from = omega (arith, w.is.lasted); to = w.is.to } s in
       record { slot = v.slot; fragment = v.fragment; is_sent = v.is_sent; before = v.before };
 }

@@ -1,6 +1,8 @@
 -- Lemmas: some value has fragments and tags exactly if no address changed, each fragment allows a length, and one
 -- length is allowed by all and reaches the ends of the tags.
-use Rattle.std.proofs.Common.{◌≡◌, ◌⊎◌, ◌+◌, ◌-◌, ◌*◌, ◌/◌, ◌%◌, ◌<◌, ◌≤◌, ◌++◌, max, ℕ, zero, suc, Bool, true, false, nat_eq, nat_le, List, [], ◌∷◌, length, slice_index, Option, Some, None, cond, refl, sym, ap, ◌∙◌, subst, inl, inr, arith}
+use Rattle.std.proofs.Common.{◌≡◌, ◌⊎◌, ◌+◌, ◌-◌, ◌*◌, ◌/◌, ◌%◌, ◌<◌, ◌≤◌, ◌++◌, max, ℕ, zero, suc, Bool, true, false}
+use Rattle.std.proofs.Common.{nat_eq, nat_le, List, [], ◌∷◌, length, slice_index, Option, Some, None, cond, refl, sym}
+use Rattle.std.proofs.Common.{ap, ◌∙◌, subst, inl, inr, arith}
 use Rattle.std.specs.Prelude.{◌||◌, is_some, replicate}
 use Rattle.std.specs.List.{AllByRecursion}
 use Rattle.std.proofs.lemmas.Bool.{and_parts, cases_lt, cases_order}
@@ -15,11 +17,13 @@ use Rattle.rds_safety.specs.Lawful.{IsFragmentOf, names, texts}
 use Rattle.rds_audit.specs.Rules.{AreUnchanged, HaveOneValue}
 use Rattle.rds_audit.specs.Reigns.{SentTags}
 use Rattle.rds_audit.specs.declared.audited.Lengths.{Lengths}
-use Rattle.rds_audit.specs.Lengths.{AreMeasured, IsFormed, are_name_bytes, lengths_of, name_lengths, sent_last, tag_end, tags_end, text_lengths}
+use Rattle.rds_audit.specs.Lengths.{AreMeasured, IsFormed, are_name_bytes, lengths_of, name_lengths, sent_last, tag_end}
+use Rattle.rds_audit.specs.Lengths.{tags_end, text_lengths}
 use Rattle.rds_audit.proofs.Bodies.{segment_byte, segment_long, text_below, text_end, text_full, text_long, text_past}
 use Rattle.rds_audit.proofs.Allowed.{Agrees, Allows, Stands, allowed_agree, body_allows}
 use Rattle.rds_audit.proofs.Members.{IsIn, all_in}
-use Rattle.rds_audit.proofs.SentCells.{EachAllows, all_allow, allowed_by_all, are_unchanged, cell_from, cell_of, longest_at_most}
+use Rattle.rds_audit.proofs.SentCells.{EachAllows, all_allow, allowed_by_all, are_unchanged, cell_from, cell_of}
+use Rattle.rds_audit.proofs.SentCells.{longest_at_most}
 
 -- tags that end in n characters
 ends_below : (n : ℕ) (tag : TagFields) → ends_in n tag ≡ true → tag_end tag ≤ n
@@ -36,13 +40,28 @@ below_ends n tag h = by (nat_eq tag.class 0) h
     by true h = refl
     by false h = grind (arith, nat_tests)
 
-pub ends_most : (n : ℕ) (tags : List SentTags) → AllByRecursion (λ (s : SentTags). BothEndIn n s.pair) tags → tags_end tags ≤ n
+pub ends_most : (n : ℕ) (tags : List SentTags) → AllByRecursion (λ (s : SentTags). BothEndIn n s.pair) tags
+    → tags_end tags ≤ n
 ends_most n [] all = omega arith
-ends_most n (s ∷ tags) all = omega (arith, ends_most n tags all.1, ends_below n s.pair.one all.0.one, ends_below n s.pair.two all.0.two)
+ends_most n (s ∷ tags) all = omega (
+  arith,
+  ends_most n tags all.1,
+  ends_below n s.pair.one all.0.one,
+  ends_below n
+      s.pair.two all.0.two,
+)
 
-pub most_ends : (n : ℕ) (tags : List SentTags) → tags_end tags ≤ n → AllByRecursion (λ (s : SentTags). BothEndIn n s.pair) tags
+pub most_ends : (n : ℕ) (tags : List SentTags) → tags_end tags ≤ n
+    → AllByRecursion (λ (s : SentTags). BothEndIn n s.pair) tags
 most_ends n [] h = tt
-most_ends n (s ∷ tags) h = (record { one = below_ends n s.pair.one (omega arith); two = below_ends n s.pair.two (omega arith) }, most_ends n tags (omega arith))
+most_ends n (s ∷ tags) h = (
+  record {
+    one = below_ends n s.pair.one (omega arith);
+    two = below_ends n s.pair.two
+        (omega arith);
+  },
+  most_ends n tags (omega arith),
+)
 
 -- the bytes that fragments have, with spaces between
 abbrev byte_in : Option (List ℕ) → ℕ → ℕ
@@ -60,24 +79,30 @@ fill_long : (fragments : List Fragment) (i n : ℕ) → length (fill fragments i
 fill_long fragments i zero = refl
 fill_long fragments i (suc n) = ap suc (fill_long fragments (i + 1) n)
 
-fill_byte : (fragments : List Fragment) (i n k : ℕ) → k < n → slice_index (fill fragments i n) k ≡ byte_at fragments (i + k)
+fill_byte : (fragments : List Fragment) (i n k : ℕ) → k < n
+    → slice_index (fill fragments i n) k ≡ byte_at fragments (i + k)
 fill_byte fragments i zero k h = absurd (omega arith)
 fill_byte fragments i (suc n) zero h = ap (byte_at fragments) (omega arith)
-fill_byte fragments i (suc n) (suc k) h = fill_byte fragments (i + 1) n k (omega arith) ∙ ap (byte_at fragments) (omega arith)
+fill_byte fragments i (suc n) (suc k) h = fill_byte fragments (i + 1) n k (omega arith) ∙ ap (byte_at fragments)
+    (omega arith)
 
 filled_byte : (fragments : List Fragment) (n k : ℕ) → k < n → slice_index (fill fragments 0 n) k ≡ byte_at fragments k
 filled_byte fragments n k h = fill_byte fragments 0 n k h ∙ ap (byte_at fragments) (omega arith)
 
 -- a property of each fragment's byte at a place, and of a space, is one of the bytes filled in
-byte_is : (P : ℕ → Type 0) (fragments : List Fragment) (i : ℕ) → P 32 → ((p : Fragment) → IsIn p fragments → p.address ≡ i / 4 → P (slice_index p.bytes (i % 4))) → P (byte_at fragments i)
+byte_is : (P : ℕ → Type 0) (fragments : List Fragment) (i : ℕ) → P 32
+    → ((p : Fragment) → IsIn p fragments → p.address ≡ i / 4 → P (slice_index p.bytes (i % 4)))
+    → P (byte_at fragments i)
 byte_is P fragments i space each = by (sent_last (i / 4) fragments) refl
   where
     by : (o : Option (List ℕ)) → sent_last (i / 4) fragments ≡ o → P (byte_in o (i % 4))
     by None e = space
-    by (Some s) e = (let w = cell_from fragments (i / 4) s e in subst (λ (bs : List ℕ). P (slice_index bs (i % 4))) w.3 (each w.0 w.1 w.2))
+    by (Some s) e = (let w = cell_from fragments (i / 4) s e in subst (λ (bs : List ℕ). P (slice_index bs (i % 4))) w.3
+        (each w.0 w.1 w.2))
 
 -- a fragment's own byte is filled in
-own_byte : (fragments : List Fragment) (p : Fragment) (k : ℕ) → AreUnchanged fragments → IsIn p fragments → k < 4 → byte_at fragments (4 * p.address + k) ≡ slice_index p.bytes k
+own_byte : (fragments : List Fragment) (p : Fragment) (k : ℕ) → AreUnchanged fragments → IsIn p fragments → k < 4
+    → byte_at fragments (4 * p.address + k) ≡ slice_index p.bytes k
 own_byte fragments p k u i h =
     let at : (4 * p.address + k) / 4 ≡ p.address = omega arith in
     let rest : (4 * p.address + k) % 4 ≡ k = omega arith in
@@ -99,15 +124,22 @@ fragment_stands body p is =
       bytes = λ j h. ap (λ (bs : List ℕ). slice_index bs j) is.bytes ∙ segment_byte body p.address j (omega arith);
     }
 
-each_allows : (x : List ℕ) (fragments : List Fragment) → IsText x → AllByRecursion (IsFragmentOf (text_body x)) fragments → AllByRecursion (λ (p : Fragment). Allows (length x) (text_lengths p.address p.bytes)) fragments
+each_allows : (x : List ℕ) (fragments : List Fragment) → IsText x
+    → AllByRecursion (IsFragmentOf (text_body x)) fragments
+    → AllByRecursion (λ (p : Fragment). Allows (length x) (text_lengths p.address p.bytes)) fragments
 each_allows x [] t all = tt
-each_allows x (p ∷ older) t all =
-    (body_allows x (4 * p.address) p.bytes t (address_within x p.address t.at_most all.0.within) (fragment_stands (text_body x) p all.0), each_allows x older t all.1)
+each_allows x (p ∷ older) t all = (
+  body_allows x (4 * p.address) p.bytes t (address_within x p.address t.at_most all.0.within)
+      (fragment_stands (text_body x) p all.0),
+  each_allows x older t all.1,
+)
 
-pub text_fragments : (fragments : List Fragment) (tags : List SentTags) → HaveOneValue texts fragments tags → AreMeasured text_lengths 64 fragments tags
+pub text_fragments : (fragments : List Fragment) (tags : List SentTags) → HaveOneValue texts fragments tags
+    → AreMeasured text_lengths 64 fragments tags
 text_fragments fragments tags h =
     let x = h.value in
-    let w = allowed_by_all text_lengths 64 (length x) fragments h.valid.at_most (each_allows x fragments h.valid h.has) in
+    let w = allowed_by_all text_lengths 64 (length x) fragments h.valid.at_most (each_allows x fragments h.valid h.has)
+    in
     record {
       unchanged = are_unchanged (text_body x) fragments h.has;
       each = w.2;
@@ -123,14 +155,17 @@ segment_there x a long h l =
     ]
 
 -- the value that is filled in has the fragment
-text_has : (fragments : List Fragment) (n : ℕ) (p : Fragment) → n ≤ 64 → AreUnchanged fragments → IsIn p fragments → IsFormed 16 p → Allows n (text_lengths p.address p.bytes) → IsFragmentOf (text_body (fill fragments 0 n)) p
+text_has : (fragments : List Fragment) (n : ℕ) (p : Fragment) → n ≤ 64 → AreUnchanged fragments → IsIn p fragments
+    → IsFormed 16 p → Allows n (text_lengths p.address p.bytes) → IsFragmentOf (text_body (fill fragments 0 n)) p
 text_has fragments n p long u i well a =
     let agree = allowed_agree n (4 * p.address) p.bytes a in
     let within = segment_there x p.address (omega (arith, size)) (omega (arith, agree.0, size)) well.address in
     record {
       within = within;
-      bytes = same_number_lists p.bytes (segment_of (text_body x) p.address) (well.four ∙ sym (segment_long (text_body x) p.address within))
-          (λ k h. at k (omega (arith, well.four)) within (agree.1 k h) (cases_order (4 * p.address + k) n) ∙ sym (segment_byte (text_body x) p.address k (omega (arith, well.four))));
+      bytes = same_number_lists p.bytes (segment_of (text_body x) p.address) (well.four
+          ∙ sym (segment_long (text_body x) p.address within))
+          (λ k h. at k (omega (arith, well.four)) within (agree.1 k h) (cases_order (4 * p.address + k) n)
+          ∙ sym (segment_byte (text_body x) p.address k (omega (arith, well.four))));
     }
   where
     x : List ℕ
@@ -139,41 +174,57 @@ text_has fragments n p long u i well a =
     size : length (fill fragments 0 n) ≡ n
     size = fill_long fragments 0 n
 
-    at : (k : ℕ) → k < 4 → p.address < segment_count (text_body x) → Agrees n (4 * p.address + k) (slice_index p.bytes k) → (4 * p.address + k ≡ n) ⊎ ((4 * p.address + k < n) ⊎ (n < 4 * p.address + k))
+    at : (k : ℕ) → k < 4 → p.address < segment_count (text_body x)
+        → Agrees n (4 * p.address + k) (slice_index p.bytes k)
+        → (4 * p.address + k ≡ n) ⊎ ((4 * p.address + k < n) ⊎ (n < 4 * p.address + k))
         → slice_index p.bytes k ≡ slice_index (text_body x) (4 * p.address + k)
     at k h w agree (inl same) =
         let address = well.address in
         let e : 4 * p.address + k ≡ length x = same ∙ sym size in
         agree.end same ∙ sym (ap (λ j. slice_index (text_body x) j) e ∙ text_end x (omega (arith, size)))
     at k h w agree (inr (inl less)) =
-        sym (text_below x (4 * p.address + k) (omega (arith, size)) ∙ filled_byte fragments n (4 * p.address + k) less ∙ own_byte fragments p k u i h)
+        sym (text_below x (4 * p.address + k) (omega (arith, size)) ∙ filled_byte fragments n (4 * p.address + k) less
+        ∙ own_byte fragments p k u i h)
     at k h w agree (inr (inr more)) =
         let address = well.address in
-        agree.past more ∙ sym (text_past x (4 * p.address + k) (omega (arith, size)) (omega (arith, size)) (omega arith))
+        agree.past more ∙ sym (text_past x (4 * p.address + k) (omega (arith, size)) (omega (arith, size))
+        (omega arith))
 
-all_have : (whole fragments : List Fragment) (n : ℕ) → n ≤ 64 → AreUnchanged whole → ((p : Fragment) → IsIn p fragments → IsIn p whole) → AllByRecursion (IsFormed 16) fragments → AllByRecursion (λ (p : Fragment). Allows n (text_lengths p.address p.bytes)) fragments
+all_have : (whole fragments : List Fragment) (n : ℕ) → n ≤ 64 → AreUnchanged whole
+    → ((p : Fragment) → IsIn p fragments → IsIn p whole) → AllByRecursion (IsFormed 16) fragments
+    → AllByRecursion (λ (p : Fragment). Allows n (text_lengths p.address p.bytes)) fragments
     → AllByRecursion (IsFragmentOf (text_body (fill whole 0 n))) fragments
 all_have whole [] n long u sub well all = tt
-all_have whole (p ∷ older) n long u sub well all =
-    (text_has whole n p long u (sub p (inl refl)) well.0 all.0, all_have whole older n long u (λ q i. sub q (inr i)) well.1 all.1)
+all_have whole (p ∷ older) n long u sub well all = (
+  text_has whole n p long u (sub p (inl refl)) well.0 all.0,
+  all_have whole older n long u (λ q i. sub q (inr i))
+      well.1 all.1,
+)
 
-fill_is_text : (fragments : List Fragment) (n : ℕ) → n ≤ 64 → AllByRecursion (IsFormed 16) fragments → AllByRecursion (λ (p : Fragment). Allows n (text_lengths p.address p.bytes)) fragments → IsText (fill fragments 0 n)
+fill_is_text : (fragments : List Fragment) (n : ℕ) → n ≤ 64 → AllByRecursion (IsFormed 16) fragments
+    → AllByRecursion (λ (p : Fragment). Allows n (text_lengths p.address p.bytes)) fragments
+    → IsText (fill fragments 0 n)
 fill_is_text fragments n long well all = record {
   at_most = omega (arith, size);
-  bytes = λ i h. subst (λ b. b < 256) (sym (filled_byte fragments n i (omega (arith, size)))) (byte_is (λ b. b < 256) fragments i (omega arith) (λ p i e. (all_in (IsFormed 16) p fragments well i).fits _));
+  bytes = λ i h. subst (λ b. b < 256) (sym (filled_byte fragments n i (omega (arith, size))))
+      (byte_is (λ b. b < 256) fragments i (omega arith) (λ p i e. (all_in (IsFormed 16) p fragments well i).fits _));
   allowed = λ i h. subst (λ b. is_text_byte b ≡ true) (sym (filled_byte fragments n i (omega (arith, size))))
-      (byte_is (λ b. is_text_byte b ≡ true) fragments i refl (λ p j e. good i p (omega (arith, size)) e (all_in (IsFormed 16) p fragments well j) (all_in (λ (p : Fragment). Allows n (text_lengths p.address p.bytes)) p fragments all j)));
+      (byte_is (λ b. is_text_byte b ≡ true) fragments i refl (λ p j e. good i p (omega (arith, size)) e
+      (all_in (IsFormed 16) p fragments well j)
+      (all_in (λ (p : Fragment). Allows n (text_lengths p.address p.bytes)) p fragments all j)));
 }
   where
     size : length (fill fragments 0 n) ≡ n
     size = fill_long fragments 0 n
 
-    good : (i : ℕ) (p : Fragment) → i < n → p.address ≡ i / 4 → IsFormed 16 p → Allows n (text_lengths p.address p.bytes) → is_text_byte (slice_index p.bytes (i % 4)) ≡ true
+    good : (i : ℕ) (p : Fragment) → i < n → p.address ≡ i / 4 → IsFormed 16 p
+        → Allows n (text_lengths p.address p.bytes) → is_text_byte (slice_index p.bytes (i % 4)) ≡ true
     good i p h e well a =
         let four = well.four in
         ((allowed_agree n (4 * p.address) p.bytes a).1 (i % 4) (omega arith)).below (omega arith)
 
-pub one_text : (fragments : List Fragment) (tags : List SentTags) → AllByRecursion (IsFormed 16) fragments → AreMeasured text_lengths 64 fragments tags → HaveOneValue texts fragments tags
+pub one_text : (fragments : List Fragment) (tags : List SentTags) → AllByRecursion (IsFormed 16) fragments
+    → AreMeasured text_lengths 64 fragments tags → HaveOneValue texts fragments tags
 one_text fragments tags well h =
     let n = max (lengths_of text_lengths 64 fragments).least (tags_end tags) in
     let most : n ≤ (lengths_of text_lengths 64 fragments).most = omega (arith, h.room, h.ends) in
@@ -191,7 +242,8 @@ one_text fragments tags well h =
 pub name_alone : (x : List ℕ) → length x ≡ 8 → name_body x ≡ x
 name_alone x e = ap (λ k. x ++ replicate (8 - k) 32) e ∙ append-nil x
 
-are_named : (bs : List ℕ) → ((k : ℕ) → k < length bs → is_name_byte (slice_index bs k) ≡ true) → are_name_bytes bs ≡ true
+are_named : (bs : List ℕ) → ((k : ℕ) → k < length bs → is_name_byte (slice_index bs k) ≡ true)
+    → are_name_bytes bs ≡ true
 are_named [] h = refl
 are_named (b ∷ bs) h = rw (h 0 (omega arith), are_named bs (λ k l. h (suc k) (omega arith))) refl
 
@@ -200,20 +252,25 @@ named_are [] h k l = absurd (omega arith)
 named_are (b ∷ bs) h zero l = (and_parts (is_name_byte b) (are_name_bytes bs) h).0
 named_are (b ∷ bs) h (suc k) l = named_are bs (and_parts (is_name_byte b) (are_name_bytes bs) h).1 k (omega arith)
 
-name_allows : (x : List ℕ) (p : Fragment) → IsName x → IsFragmentOf (name_body x) p → Allows 8 (name_lengths p.address p.bytes)
+name_allows : (x : List ℕ) (p : Fragment) → IsName x → IsFragmentOf (name_body x) p
+    → Allows 8 (name_lengths p.address p.bytes)
 name_allows x p n is =
     let s = fragment_stands (name_body x) p is in
     let body : name_body x ≡ x = name_alone x n.0 in
     let good : are_name_bytes p.bytes ≡ true = are_named p.bytes (λ k l.
-    let e : slice_index p.bytes k ≡ slice_index x (4 * p.address + k) = s.bytes k l ∙ ap (λ (b : List ℕ). slice_index b (4 * p.address + k)) body in
+    let e : slice_index p.bytes k ≡ slice_index x (4 * p.address + k) = s.bytes k l
+    ∙ ap (λ (b : List ℕ). slice_index b (4 * p.address + k)) body in
     ap is_name_byte e ∙ n.1.allowed (4 * p.address + k) (omega (arith, s.within, ap length body))) in
     rw good (omega arith, omega arith)
 
-each_name_allows : (x : List ℕ) (fragments : List Fragment) → IsName x → AllByRecursion (IsFragmentOf (name_body x)) fragments → AllByRecursion (λ (p : Fragment). Allows 8 (name_lengths p.address p.bytes)) fragments
+each_name_allows : (x : List ℕ) (fragments : List Fragment) → IsName x
+    → AllByRecursion (IsFragmentOf (name_body x)) fragments
+    → AllByRecursion (λ (p : Fragment). Allows 8 (name_lengths p.address p.bytes)) fragments
 each_name_allows x [] n all = tt
 each_name_allows x (p ∷ older) n all = (name_allows x p n all.0, each_name_allows x older n all.1)
 
-pub name_fragments : (fragments : List Fragment) (tags : List SentTags) → HaveOneValue names fragments tags → AreMeasured name_lengths 8 fragments tags
+pub name_fragments : (fragments : List Fragment) (tags : List SentTags) → HaveOneValue names fragments tags
+    → AreMeasured name_lengths 8 fragments tags
 name_fragments fragments tags h =
     let x = h.value in
     let size : length x ≡ 8 = h.valid.0 in
@@ -225,31 +282,47 @@ name_fragments fragments tags h =
       ends = omega (arith, w.1, ends_most (length x) tags h.ends);
     }
 
-name_has : (fragments : List Fragment) (p : Fragment) → AreUnchanged fragments → IsIn p fragments → IsFormed 2 p → IsFragmentOf (name_body (fill fragments 0 8)) p
+name_has : (fragments : List Fragment) (p : Fragment) → AreUnchanged fragments → IsIn p fragments → IsFormed 2 p
+    → IsFragmentOf (name_body (fill fragments 0 8)) p
 name_has fragments p u i well =
     let x = fill fragments 0 8 in
     let size : length x ≡ 8 = fill_long fragments 0 8 in
     let body : name_body x ≡ x = name_alone x size in
-    let within : p.address < segment_count (name_body x) = (let address = well.address in omega (arith, ap length body)) in
+    let within : p.address < segment_count (name_body x) = (let address = well.address in omega (arith, ap length body))
+    in
     record {
       within = within;
-      bytes = same_number_lists p.bytes (segment_of (name_body x) p.address) (well.four ∙ sym (segment_long (name_body x) p.address within))
-          (λ k h. let address = well.address in sym (segment_byte (name_body x) p.address k (omega (arith, well.four)) ∙ ap (λ (b : List ℕ). slice_index b (4 * p.address + k)) body
-          ∙ filled_byte fragments 8 (4 * p.address + k) (omega (arith, well.four)) ∙ own_byte fragments p k u i (omega (arith, well.four))));
+      bytes = same_number_lists p.bytes (segment_of (name_body x) p.address) (well.four
+          ∙ sym (segment_long (name_body x) p.address within))
+          (λ k h. let address = well.address in sym (segment_byte (name_body x) p.address k (omega (arith, well.four))
+          ∙ ap (λ (b : List ℕ). slice_index b (4 * p.address + k)) body
+          ∙ filled_byte fragments 8 (4 * p.address + k) (omega (arith, well.four)) ∙ own_byte fragments p k u i
+          (omega (arith, well.four))));
     }
 
-all_names_have : (whole fragments : List Fragment) → AreUnchanged whole → ((p : Fragment) → IsIn p fragments → IsIn p whole) → AllByRecursion (IsFormed 2) fragments → AllByRecursion (IsFragmentOf (name_body (fill whole 0 8))) fragments
+all_names_have : (whole fragments : List Fragment) → AreUnchanged whole
+    → ((p : Fragment) → IsIn p fragments → IsIn p whole) → AllByRecursion (IsFormed 2) fragments
+    → AllByRecursion (IsFragmentOf (name_body (fill whole 0 8))) fragments
 all_names_have whole [] u sub well = tt
-all_names_have whole (p ∷ older) u sub well = (name_has whole p u (sub p (inl refl)) well.0, all_names_have whole older u (λ q i. sub q (inr i)) well.1)
+all_names_have whole (p ∷ older) u sub well = (
+  name_has whole p u (sub p (inl refl)) well.0,
+  all_names_have whole older
+      u (λ q i. sub q (inr i)) well.1,
+)
 
-some_name : (n : ℕ) (fragments : List Fragment) → EachAllows name_lengths fragments → (p : Fragment) → IsIn p fragments → are_name_bytes p.bytes ≡ true
-some_name n fragments each p i = by (are_name_bytes p.bytes) refl (all_in (λ (p : Fragment). is_some (name_lengths p.address p.bytes) ≡ true) p fragments each i)
+some_name : (n : ℕ) (fragments : List Fragment) → EachAllows name_lengths fragments → (p : Fragment) → IsIn p fragments
+    → are_name_bytes p.bytes ≡ true
+some_name n fragments each p i = by (are_name_bytes p.bytes) refl
+    (all_in (λ (p : Fragment). is_some (name_lengths p.address p.bytes) ≡ true) p fragments each i)
   where
-    by : (v : Bool) → are_name_bytes p.bytes ≡ v → is_some {T = Lengths} (cond v (Some record { least = 8; most = 8 }) None) ≡ true → are_name_bytes p.bytes ≡ true
+    by : (v : Bool) → are_name_bytes p.bytes ≡ v
+        → is_some {T = Lengths} (cond v (Some record { least = 8; most = 8 }) None) ≡ true
+        → are_name_bytes p.bytes ≡ true
     by true e s = e
     by false e s = absurd (cc)
 
-pub one_name : (fragments : List Fragment) (tags : List SentTags) → AllByRecursion (IsFormed 2) fragments → AreMeasured name_lengths 8 fragments tags → HaveOneValue names fragments tags
+pub one_name : (fragments : List Fragment) (tags : List SentTags) → AllByRecursion (IsFormed 2) fragments
+    → AreMeasured name_lengths 8 fragments tags → HaveOneValue names fragments tags
 one_name fragments tags well h =
     let size : length (fill fragments 0 8) ≡ 8 = fill_long fragments 0 8 in
     record {
@@ -258,11 +331,16 @@ one_name fragments tags well h =
         size,
         record {
           at_most = omega (arith, size);
-          bytes = λ i l. subst (λ b. b < 256) (sym (filled_byte fragments 8 i (omega (arith, size)))) (byte_is (λ b. b < 256) fragments i (omega arith) (λ p i e. (all_in (IsFormed 2) p fragments well i).fits _));
+          bytes = λ i l. subst (λ b. b < 256) (sym (filled_byte fragments 8 i (omega (arith, size))))
+              (byte_is (λ b. b < 256) fragments i (omega arith) (λ p i e. (all_in (IsFormed 2) p fragments well i).fits
+              _));
           allowed = λ i l. subst (λ b. is_name_byte b ≡ true) (sym (filled_byte fragments 8 i (omega (arith, size))))
-              (byte_is (λ b. is_name_byte b ≡ true) fragments i refl (λ p j e. named_are p.bytes (some_name 8 fragments h.each p j) (i % 4) (let four = (all_in (IsFormed 2) p fragments well j).four in omega arith)));
+              (byte_is (λ b. is_name_byte b ≡ true) fragments i refl
+              (λ p j e. named_are p.bytes (some_name 8 fragments h.each p j) (i % 4)
+              (let four = (all_in (IsFormed 2) p fragments well j).four in omega arith)));
         },
       );
       has = all_names_have fragments fragments h.unchanged (λ p i. i) well;
-      ends = most_ends (length (fill fragments 0 8)) tags (omega (arith, size, h.ends, longest_at_most name_lengths 8 fragments));
+      ends = most_ends (length (fill fragments 0 8)) tags
+          (omega (arith, size, h.ends, longest_at_most name_lengths 8 fragments));
     }

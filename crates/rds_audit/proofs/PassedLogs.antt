@@ -24,15 +24,18 @@ module _ (laws : PlanLaws) (d : ℕ) (log : List (Option Message)) where
 
   plans_pass : HasPlans d log → LogPasses d log
   plans_pass h = record {
-    text = passes laws d texts (marks text_mark log) record { plan = h.plans.text; lawful = h.lawful.text; dense = h.dense.text };
-    name = passes laws d names (marks name_mark log) record { plan = h.plans.name; lawful = h.lawful.name; dense = h.dense.name };
+    text = passes laws d texts (marks text_mark log) record
+        { plan = h.plans.text; lawful = h.lawful.text; dense = h.dense.text };
+    name = passes laws d names (marks name_mark log) record
+        { plan = h.plans.name; lawful = h.lawful.name; dense = h.dense.name };
   }
 
 pub passes_by_plans : PlanLaws → PassesExactlyByPlans
 passes_by_plans laws d log pos = (log_has_plans laws d log pos, plans_pass laws d log)
 
 -- a log that passes also passed before its newest slot: its plans are plans of the earlier slots
-pub passed_before : PassesExactlyByPlans → (d : ℕ) (newest : Option Message) (before : List (Option Message)) → 0 < d → LogPasses d (newest ∷ before) → LogPasses d before
+pub passed_before : PassesExactlyByPlans → (d : ℕ) (newest : Option Message) (before : List (Option Message)) → 0 < d
+    → LogPasses d (newest ∷ before) → LogPasses d before
 passed_before law d newest before pos h =
     let w = (law d (newest ∷ before) pos).0 h in
     (law d before pos).1 record {
@@ -47,7 +50,8 @@ passed_before law d newest before pos h =
       };
     }
 
-pub safe_log : PassesExactlyByPlans → LawfulPlansAreSafe → LawfulPlansAreSafeByOwnClocks → (m k : ℕ) (log : List (Option Message)) → 0 < m → LogPasses (m + k) log → IsSafeLog m k log
+pub safe_log : PassesExactlyByPlans → LawfulPlansAreSafe → LawfulPlansAreSafeByOwnClocks
+    → (m k : ℕ) (log : List (Option Message)) → 0 < m → LogPasses (m + k) log → IsSafeLog m k log
 safe_log law safe own m k log pos p =
     let w = (law (m + k) log (omega arith)).0 p in
     record {

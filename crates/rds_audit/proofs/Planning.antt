@@ -1,5 +1,6 @@
 -- Lemmas: the reigns of a log that passes are a lawful and dense plan.
-use Rattle.std.proofs.Common.{◌≡◌, ◌≢◌, ◌⊎◌, ◌+◌, ◌<◌, ◌≤◌, max, ℕ, Bool, nat_lt, List, [], ◌∷◌, length, refl, sym, ap, ◌∙◌, subst, inl, inr, arith}
+use Rattle.std.proofs.Common.{◌≡◌, ◌≢◌, ◌⊎◌, ◌+◌, ◌<◌, ◌≤◌, max, ℕ, Bool, nat_lt, List, [], ◌∷◌, length, refl, sym, ap}
+use Rattle.std.proofs.Common.{◌∙◌, subst, inl, inr, arith}
 use Rattle.std.specs.List.{AllByRecursion}
 use Rattle.std.proofs.lemmas.Bool.{and_parts, cases_lt, cases_order, cond_both}
 use Rattle.rds_fields.specs.Tag.{BothEndIn, PairFields}
@@ -12,7 +13,8 @@ use Rattle.rds_audit.specs.Dense.{HasFragmentBefore, HasPlan, IsBridged, IsMarke
 use Rattle.rds_safety.specs.Lawful.{HasOne, HasFragment, HasTags, IsFragmentOf, Kind}
 use Rattle.rds_safety.specs.Marks.{IsMarkIn, Mark, Nothing, Sends, Tagged}
 use Rattle.rds_audit.proofs.Members.{IsIn, all_in}
-use Rattle.rds_audit.specs.Reigns.{Reign, SentTags, after_fragment, after_tags, joins, past_newest, reigns, start_after, with_fragment}
+use Rattle.rds_audit.specs.Reigns.{Reign, SentTags, after_fragment, after_tags, joins, past_newest, reigns, start_after}
+use Rattle.rds_audit.specs.Reigns.{with_fragment}
 use Rattle.rds_audit.specs.Rules.{CanBeBroadcast, Passes}
 use Rattle.rds_safety.specs.Flags.{other_flag, same_flag}
 use Rattle.rds_audit.proofs.Keeping.{AreKept, IsBehind, Keeps, keeps}
@@ -23,7 +25,8 @@ abbrev pub IsChained : ℕ → List Reign → Type 0
 IsChained d [] = Unit {0}
 IsChained d (r ∷ older) = (r.start ≡ start_after d r.flag older) × IsChained d older
 
-chained_fragment : (d now : ℕ) (p : Fragment) (rs : List Reign) → IsChained d rs → IsChained d (after_fragment d now p rs)
+chained_fragment : (d now : ℕ) (p : Fragment) (rs : List Reign) → IsChained d rs
+    → IsChained d (after_fragment d now p rs)
 chained_fragment d now p [] c = (refl, tt)
 chained_fragment d now p (r ∷ older) c = cond_both (joins d now p.flag r) _ _ (IsChained d) (λ _. c) (λ _. (refl, c))
 
@@ -49,7 +52,8 @@ pub record HoldsTags (t : ℕ) (pair : PairFields) (r : Reign) : Type 0 where
   pub listed : IsIn record { slot = t; pair = pair } r.tags
 
 -- one more slot keeps the marks that the reigns hold
-fragment_stays : (d now t : ℕ) (p q : Fragment) (rs : List Reign) → t ≤ now → SomeReign (HoldsFragment t p) rs → SomeReign (HoldsFragment t p) (after_fragment d now q rs)
+fragment_stays : (d now t : ℕ) (p q : Fragment) (rs : List Reign) → t ≤ now → SomeReign (HoldsFragment t p) rs
+    → SomeReign (HoldsFragment t p) (after_fragment d now q rs)
 fragment_stays d now t p q [] le h = absurd h
 fragment_stays d now t p q (r ∷ older) le h =
     cond_both (joins d now q.flag r) _ _ (SomeReign (HoldsFragment t p)) (λ _. joined h) (λ _. inr h)
@@ -58,12 +62,15 @@ fragment_stays d now t p q (r ∷ older) le h =
     joined (inl i) = inl record { from = i.from; to = le; flag = i.flag; listed = inr i.listed }
     joined (inr i) = inr i
 
-fragment_stays_tagged : (now t : ℕ) (p : Fragment) (pair : PairFields) (rs : List Reign) → t ≤ now → SomeReign (HoldsFragment t p) rs → SomeReign (HoldsFragment t p) (after_tags now pair rs)
+fragment_stays_tagged : (now t : ℕ) (p : Fragment) (pair : PairFields) (rs : List Reign) → t ≤ now
+    → SomeReign (HoldsFragment t p) rs → SomeReign (HoldsFragment t p) (after_tags now pair rs)
 fragment_stays_tagged now t p pair [] le h = absurd h
-fragment_stays_tagged now t p pair (r ∷ older) le (inl i) = inl record { from = i.from; to = le; flag = i.flag; listed = i.listed }
+fragment_stays_tagged now t p pair (r ∷ older) le (inl i) = inl record
+    { from = i.from; to = le; flag = i.flag; listed = i.listed }
 fragment_stays_tagged now t p pair (r ∷ older) le (inr i) = inr i
 
-tags_stay : (d now t : ℕ) (pair : PairFields) (q : Fragment) (rs : List Reign) → t ≤ now → SomeReign (HoldsTags t pair) rs → SomeReign (HoldsTags t pair) (after_fragment d now q rs)
+tags_stay : (d now t : ℕ) (pair : PairFields) (q : Fragment) (rs : List Reign) → t ≤ now
+    → SomeReign (HoldsTags t pair) rs → SomeReign (HoldsTags t pair) (after_fragment d now q rs)
 tags_stay d now t pair q [] le h = absurd h
 tags_stay d now t pair q (r ∷ older) le h =
     cond_both (joins d now q.flag r) _ _ (SomeReign (HoldsTags t pair)) (λ _. joined h) (λ _. inr h)
@@ -72,13 +79,15 @@ tags_stay d now t pair q (r ∷ older) le h =
     joined (inl i) = inl record { to = le; listed = i.listed }
     joined (inr i) = inr i
 
-tags_stay_tagged : (now t : ℕ) (pair other : PairFields) (rs : List Reign) → t ≤ now → SomeReign (HoldsTags t pair) rs → SomeReign (HoldsTags t pair) (after_tags now other rs)
+tags_stay_tagged : (now t : ℕ) (pair other : PairFields) (rs : List Reign) → t ≤ now → SomeReign (HoldsTags t pair) rs
+    → SomeReign (HoldsTags t pair) (after_tags now other rs)
 tags_stay_tagged now t pair other [] le h = absurd h
 tags_stay_tagged now t pair other (r ∷ older) le (inl i) = inl record { to = le; listed = inr i.listed }
 tags_stay_tagged now t pair other (r ∷ older) le (inr i) = inr i
 
 -- the newest reign holds a new fragment
-new_fragment : (d now : ℕ) (p : Fragment) (sent : List Mark) (rs : List Reign) → now ≡ length sent → Keeps d sent rs → SomeReign (HoldsFragment now p) (after_fragment d now p rs)
+new_fragment : (d now : ℕ) (p : Fragment) (sent : List Mark) (rs : List Reign) → now ≡ length sent → Keeps d sent rs
+    → SomeReign (HoldsFragment now p) (after_fragment d now p rs)
 new_fragment d now p sent [] e k = inl record { from = omega arith; to = omega arith; flag = refl; listed = inl refl }
 new_fragment d now p sent (r ∷ older) e k =
     cond_both (joins d now p.flag r) _ _ (SomeReign (HoldsFragment now p))
@@ -90,101 +99,138 @@ new_fragment d now p sent (r ∷ older) e k =
     })
     (λ _. inl record { from = omega arith; to = omega arith; flag = refl; listed = inl refl })
 
-pub fragment_held : (d : ℕ) (sent : List Mark) (t : ℕ) (p : Fragment) → IsMarkIn sent t (Sends p) → SomeReign (HoldsFragment t p) (reigns d sent)
+pub fragment_held : (d : ℕ) (sent : List Mark) (t : ℕ) (p : Fragment) → IsMarkIn sent t (Sends p)
+    → SomeReign (HoldsFragment t p) (reigns d sent)
 fragment_held d [] t p s = absurd s
 fragment_held d (Nothing ∷ sent) t p (inl s) = (let e : Sends p ≡ Nothing = s.1 in absurd (cc))
 fragment_held d (Nothing ∷ sent) t p (inr s) = fragment_held d sent t p s
 fragment_held d (Tagged pair ∷ sent) t p (inl s) = (let e : Sends p ≡ Tagged pair = s.1 in absurd (cc))
-fragment_held d (Tagged pair ∷ sent) t p (inr s) = (let n = early sent t (Sends p) s in fragment_stays_tagged (length sent) t p pair (reigns d sent) (omega arith) (fragment_held d sent t p s))
-fragment_held d (Sends q ∷ sent) t p (inr s) = (let n = early sent t (Sends p) s in fragment_stays d (length sent) t p q (reigns d sent) (omega arith) (fragment_held d sent t p s))
+fragment_held d (Tagged pair ∷ sent) t p (inr s) = (let n = early sent t (Sends p) s in fragment_stays_tagged
+    (length sent) t p pair (reigns d sent) (omega arith) (fragment_held d sent t p s))
+fragment_held d (Sends q ∷ sent) t p (inr s) = (let n = early sent t (Sends p) s in fragment_stays d (length sent) t p q
+    (reigns d sent) (omega arith) (fragment_held d sent t p s))
 fragment_held d (Sends q ∷ sent) t p (inl s) =
     let e : Sends p ≡ Sends q = s.1 in
     let same : p ≡ q = cc in
-    subst (λ (g : Fragment). SomeReign (HoldsFragment t g) (after_fragment d (length sent) q (reigns d sent))) (sym same)
-    (subst (λ (n : ℕ). SomeReign (HoldsFragment n q) (after_fragment d (length sent) q (reigns d sent))) (sym s.0) (new_fragment d (length sent) q sent (reigns d sent) refl (keeps d sent)))
+    subst (λ (g : Fragment). SomeReign (HoldsFragment t g) (after_fragment d (length sent) q (reigns d sent)))
+    (sym same)
+    (subst (λ (n : ℕ). SomeReign (HoldsFragment n q) (after_fragment d (length sent) q (reigns d sent))) (sym s.0)
+    (new_fragment d (length sent) q sent (reigns d sent) refl (keeps d sent)))
 
 after_before : (x : Mark) (sent : List Mark) → TagsAreAfter (x ∷ sent) → TagsAreAfter sent
 after_before x sent h t pair s =
     let w = h t pair (inr s) in
     let now = early sent t (Tagged pair) s in
-    record { slot = w.slot; fragment = w.fragment; is_sent = sent_before x sent w.slot (Sends w.fragment) (omega (arith, w.before)) w.is_sent; before = w.before }
+    record {
+      slot = w.slot;
+      fragment = w.fragment;
+      is_sent = sent_before x sent w.slot (Sends w.fragment)
+          (omega (arith, w.before)) w.is_sent;
+      before = w.before;
+    }
 
-new_tags : (d : ℕ) (pair : PairFields) (sent : List Mark) (rs : List Reign) → (u : ℕ) (p : Fragment) → IsMarkIn (Tagged pair ∷ sent) u (Sends p) → u < length sent → Keeps d sent rs
+new_tags : (d : ℕ) (pair : PairFields) (sent : List Mark) (rs : List Reign) → (u : ℕ) (p : Fragment)
+    → IsMarkIn (Tagged pair ∷ sent) u (Sends p) → u < length sent → Keeps d sent rs
     → SomeReign (HoldsTags (length sent) pair) (after_tags (length sent) pair rs)
 new_tags d pair sent [] u p (inl s) lt k = absurd (omega arith)
 new_tags d pair sent [] u p (inr s) lt k = absurd (k.1 u (fragment_is_marked sent u p s) p s)
 new_tags d pair sent (r ∷ older) u p s lt k = inl record { to = omega arith; listed = inl refl }
 
-pub tags_held : (d : ℕ) (sent : List Mark) → TagsAreAfter sent → (t : ℕ) (pair : PairFields) → IsMarkIn sent t (Tagged pair) → SomeReign (HoldsTags t pair) (reigns d sent)
+pub tags_held : (d : ℕ) (sent : List Mark) → TagsAreAfter sent → (t : ℕ) (pair : PairFields)
+    → IsMarkIn sent t (Tagged pair) → SomeReign (HoldsTags t pair) (reigns d sent)
 tags_held d [] h t pair s = absurd s
 tags_held d (Nothing ∷ sent) h t pair (inl s) = (let e : Tagged pair ≡ Nothing = s.1 in absurd (cc))
 tags_held d (Nothing ∷ sent) h t pair (inr s) = tags_held d sent (after_before Nothing sent h) t pair s
 tags_held d (Sends q ∷ sent) h t pair (inl s) = (let e : Tagged pair ≡ Sends q = s.1 in absurd (cc))
-tags_held d (Sends q ∷ sent) h t pair (inr s) = (let n = early sent t (Tagged pair) s in tags_stay d (length sent) t pair q (reigns d sent) (omega arith) (tags_held d sent (after_before (Sends q) sent h) t pair s))
-tags_held d (Tagged other ∷ sent) h t pair (inr s) = (let n = early sent t (Tagged pair) s in tags_stay_tagged (length sent) t pair other (reigns d sent) (omega arith) (tags_held d sent (after_before (Tagged other) sent h) t pair s))
+tags_held d (Sends q ∷ sent) h t pair (inr s) = (let n = early sent t (Tagged pair) s in tags_stay d (length sent) t
+    pair q (reigns d sent) (omega arith) (tags_held d sent (after_before (Sends q) sent h) t pair s))
+tags_held d (Tagged other ∷ sent) h t pair (inr s) = (let n = early sent t (Tagged pair) s
+    in tags_stay_tagged (length sent) t pair other (reigns d sent) (omega arith)
+    (tags_held d sent (after_before (Tagged other) sent h) t pair s))
 tags_held d (Tagged other ∷ sent) h t pair (inl s) =
     let e : Tagged pair ≡ Tagged other = s.1 in
     let same : pair ≡ other = cc in
     let w = h (length sent) other (inl (refl, refl)) in
     subst (λ (g : PairFields). SomeReign (HoldsTags t g) (after_tags (length sent) other (reigns d sent))) (sym same)
-    (subst (λ (n : ℕ). SomeReign (HoldsTags n other) (after_tags (length sent) other (reigns d sent))) (sym s.0) (new_tags d other sent (reigns d sent) w.slot w.fragment w.is_sent w.before (keeps d sent)))
+    (subst (λ (n : ℕ). SomeReign (HoldsTags n other) (after_tags (length sent) other (reigns d sent))) (sym s.0)
+    (new_tags d other sent (reigns d sent) w.slot w.fragment w.is_sent w.before (keeps d sent)))
 
 -- a broadcast for each reign
-abbrev pub plan_from : (d : ℕ) (kind : Kind) (rs : List Reign) → AllByRecursion (CanBeBroadcast d kind) rs → List Broadcast
+abbrev pub plan_from : (d : ℕ) (kind : Kind) (rs : List Reign) → AllByRecursion (CanBeBroadcast d kind) rs
+    → List Broadcast
 plan_from d kind [] a = []
-plan_from d kind (r ∷ older) a = record { start = r.start; end = r.last; flag = r.flag; bytes = a.0.one.value } ∷ plan_from d kind older a.1
+plan_from d kind (r ∷ older) a = record { start = r.start; end = r.last; flag = r.flag; bytes = a.0.one.value }
+    ∷ plan_from d kind older a.1
 
-lasting : (d : ℕ) (kind : Kind) (sent : List Mark) (rs : List Reign) (a : AllByRecursion (CanBeBroadcast d kind) rs) → AreKept d sent rs → (k : ℕ) (b : Broadcast) → HasNumber (plan_from d kind rs a) k b → b.start ≤ b.end
+lasting : (d : ℕ) (kind : Kind) (sent : List Mark) (rs : List Reign) (a : AllByRecursion (CanBeBroadcast d kind) rs)
+    → AreKept d sent rs → (k : ℕ) (b : Broadcast) → HasNumber (plan_from d kind rs a) k b → b.start ≤ b.end
 lasting d kind sent [] a keep k b n = absurd n
 lasting d kind sent (r ∷ older) a keep k b (inr n) = lasting d kind sent older a.1 keep.2 k b n
 lasting d kind sent (r ∷ older) a keep k b (inl n) =
     subst (λ (x : Broadcast). x.start ≤ x.end) (sym n.1) (omega (arith, a.0.begun, keep.0.until))
 
 starts_after : (d : ℕ) (flag : Bool) (r : Reign) (older : List Reign) → 0 < d → r.last < start_after d flag (r ∷ older)
-starts_after d flag r older pos = cond_both (is_same r.flag flag) (r.last + d) (max (r.last + 1) (past_newest d older)) (λ n. r.last < n) (λ _. omega arith) (λ _. omega arith)
+starts_after d flag r older pos = cond_both (is_same r.flag flag) (r.last + d) (max (r.last + 1) (past_newest d older))
+    (λ n. r.last < n) (λ _. omega arith) (λ _. omega arith)
 
-starts_apart : (d : ℕ) (flag : Bool) (r : Reign) (older : List Reign) → (r.flag ≢ flag) ⊎ (r.last + d ≤ start_after d flag (r ∷ older))
+starts_apart : (d : ℕ) (flag : Bool) (r : Reign) (older : List Reign)
+    → (r.flag ≢ flag) ⊎ (r.last + d ≤ start_after d flag (r ∷ older))
 starts_apart d flag r older =
-    cond_both (is_same r.flag flag) (r.last + d) (max (r.last + 1) (past_newest d older)) (λ n. (r.flag ≢ flag) ⊎ (r.last + d ≤ n)) (λ _. inr (omega arith)) (λ t. inl (other_flag r.flag flag t))
+    cond_both (is_same r.flag flag) (r.last + d) (max (r.last + 1) (past_newest d older)) (λ n. (r.flag ≢ flag)
+    ⊎ (r.last + d ≤ n)) (λ _. inr (omega arith)) (λ t. inl (other_flag r.flag flag t))
 
-starts_far : (d : ℕ) (flag : Bool) (r q : Reign) (older : List Reign) → q.last ≤ r.last → q.last + d ≤ start_after d flag (r ∷ q ∷ older)
-starts_far d flag r q older le = cond_both (is_same r.flag flag) (r.last + d) (max (r.last + 1) (q.last + d)) (λ n. q.last + d ≤ n) (λ _. omega arith) (λ _. omega arith)
+starts_far : (d : ℕ) (flag : Bool) (r q : Reign) (older : List Reign) → q.last ≤ r.last
+    → q.last + d ≤ start_after d flag (r ∷ q ∷ older)
+starts_far d flag r q older le = cond_both (is_same r.flag flag) (r.last + d) (max (r.last + 1) (q.last + d))
+    (λ n. q.last + d ≤ n) (λ _. omega arith) (λ _. omega arith)
 
-ordering : ANumberIsBelowTheLength → (d : ℕ) (kind : Kind) (rs : List Reign) (a : AllByRecursion (CanBeBroadcast d kind) rs) → 0 < d → IsChained d rs → (k : ℕ) (x y : Broadcast)
-    → HasNumber (plan_from d kind rs a) k x → HasNumber (plan_from d kind rs a) (k + 1) y → (x.end < y.start) × ((x.flag ≢ y.flag) ⊎ (x.end + d ≤ y.start))
+ordering : ANumberIsBelowTheLength
+    → (d : ℕ) (kind : Kind) (rs : List Reign) (a : AllByRecursion (CanBeBroadcast d kind) rs) → 0 < d → IsChained d rs
+    → (k : ℕ) (x y : Broadcast)
+    → HasNumber (plan_from d kind rs a) k x → HasNumber (plan_from d kind rs a) (k + 1) y
+    → (x.end < y.start) × ((x.flag ≢ y.flag) ⊎ (x.end + d ≤ y.start))
 ordering below d kind [] a pos c k x y p q = absurd p
 ordering below d kind (r ∷ older) a pos c k x y (inl p) (inl q) = absurd (omega (arith, p.0, q.0))
-ordering below d kind (r ∷ older) a pos c k x y (inl p) (inr q) = absurd (omega (arith, p.0, below (plan_from d kind older a.1) (k + 1) y q))
+ordering below d kind (r ∷ older) a pos c k x y (inl p) (inr q) = absurd
+    (omega (arith, p.0, below (plan_from d kind older a.1) (k + 1) y q))
 ordering below d kind (r ∷ older) a pos c k x y (inr p) (inr q) = ordering below d kind older a.1 pos c.1 k x y p q
 ordering below d kind (r ∷ []) a pos c k x y (inr p) (inl q) = absurd p
-ordering below d kind (r ∷ e ∷ older) a pos c k x y (inr (inr p)) (inl q) = absurd (omega (arith, q.0, below (plan_from d kind older a.1.1) k x p))
+ordering below d kind (r ∷ e ∷ older) a pos c k x y (inr (inr p)) (inl q) = absurd
+    (omega (arith, q.0, below (plan_from d kind older a.1.1) k x p))
 ordering below d kind (r ∷ e ∷ older) a pos c k x y (inr (inl p)) (inl q) =
     let start : y.start ≡ start_after d r.flag (e ∷ older) = ap (λ (b : Broadcast). b.start) q.1 ∙ c.0 in
     let end : x.end ≡ e.last = ap (λ (b : Broadcast). b.end) p.1 in (
       omega (arith, starts_after d r.flag e older pos),
       elim (starts_apart d r.flag e older) [
-        | inl ne ↦ inl (λ same. ne (ap (λ (b : Broadcast). b.flag) (sym p.1) ∙ same ∙ ap (λ (b : Broadcast). b.flag) q.1))
+        | inl ne ↦ inl (λ same. ne (ap (λ (b : Broadcast). b.flag) (sym p.1) ∙ same ∙ ap (λ (b : Broadcast). b.flag)
+            q.1))
         | inr far ↦ inr (omega arith)
       ],
     )
 
-distance : ANumberIsBelowTheLength → (d : ℕ) (kind : Kind) (sent : List Mark) (rs : List Reign) (a : AllByRecursion (CanBeBroadcast d kind) rs) → 0 < d → IsChained d rs → AreKept d sent rs → (k : ℕ) (x y : Broadcast)
+distance : ANumberIsBelowTheLength
+    → (d : ℕ) (kind : Kind) (sent : List Mark) (rs : List Reign) (a : AllByRecursion (CanBeBroadcast d kind) rs) → 0 < d
+    → IsChained d rs → AreKept d sent rs → (k : ℕ) (x y : Broadcast)
     → HasNumber (plan_from d kind rs a) k x → HasNumber (plan_from d kind rs a) (k + 2) y → x.end + d ≤ y.start
 distance below d kind sent [] a pos c keep k x y p q = absurd p
 distance below d kind sent (r ∷ older) a pos c keep k x y (inl p) (inl q) = absurd (omega (arith, p.0, q.0))
-distance below d kind sent (r ∷ older) a pos c keep k x y (inl p) (inr q) = absurd (omega (arith, p.0, below (plan_from d kind older a.1) (k + 2) y q))
-distance below d kind sent (r ∷ older) a pos c keep k x y (inr p) (inr q) = distance below d kind sent older a.1 pos c.1 keep.2 k x y p q
+distance below d kind sent (r ∷ older) a pos c keep k x y (inl p) (inr q) = absurd
+    (omega (arith, p.0, below (plan_from d kind older a.1) (k + 2) y q))
+distance below d kind sent (r ∷ older) a pos c keep k x y (inr p) (inr q) = distance below d kind sent older a.1 pos c.1
+    keep.2 k x y p q
 distance below d kind sent (r ∷ []) a pos c keep k x y (inr p) (inl q) = absurd p
 distance below d kind sent (r ∷ e ∷ older) a pos c keep k x y (inr (inl p)) (inl q) = absurd (omega (arith, p.0, q.0))
 distance below d kind sent (r ∷ e ∷ []) a pos c keep k x y (inr (inr p)) (inl q) = absurd p
-distance below d kind sent (r ∷ e ∷ f ∷ older) a pos c keep k x y (inr (inr (inr p))) (inl q) = absurd (omega (arith, q.0, below (plan_from d kind older a.1.1.1) k x p))
+distance below d kind sent (r ∷ e ∷ f ∷ older) a pos c keep k x y (inr (inr (inr p))) (inl q) = absurd
+    (omega (arith, q.0, below (plan_from d kind older a.1.1.1) k x p))
 distance below d kind sent (r ∷ e ∷ f ∷ older) a pos c keep k x y (inr (inr (inl p))) (inl q) =
     let start : y.start ≡ start_after d r.flag (e ∷ f ∷ older) = ap (λ (b : Broadcast). b.start) q.1 ∙ c.0 in
     let end : x.end ≡ f.last = ap (λ (b : Broadcast). b.end) p.1 in
     let f_before : f.last < e.start = subst (λ (n : ℕ). f.last < n) (sym c.1.0) (starts_after d e.flag f older pos) in
     omega (arith, starts_far d r.flag e f older (omega (arith, a.1.0.begun, keep.2.0.until)))
 
-valued : (d : ℕ) (kind : Kind) (rs : List Reign) (a : AllByRecursion (CanBeBroadcast d kind) rs) → (k : ℕ) (b : Broadcast) → HasNumber (plan_from d kind rs a) k b → kind.IsValue b.bytes
+valued : (d : ℕ) (kind : Kind) (rs : List Reign) (a : AllByRecursion (CanBeBroadcast d kind) rs)
+    → (k : ℕ) (b : Broadcast) → HasNumber (plan_from d kind rs a) k b → kind.IsValue b.bytes
 valued d kind [] a k b n = absurd n
 valued d kind (r ∷ older) a k b (inl n) = subst (λ (x : Broadcast). kind.IsValue x.bytes) (sym n.1) a.0.one.valid
 valued d kind (r ∷ older) a k b (inr n) = valued d kind older a.1 k b n
@@ -192,9 +238,12 @@ valued d kind (r ∷ older) a k b (inr n) = valued d kind older a.1 k b n
 wider : (c : Broadcast) (older : List Broadcast) (Is : Broadcast → Type 0) → HasOne older Is → HasOne (c ∷ older) Is
 wider c older Is h = record { number = h.number; broadcast = h.broadcast; planned = inr h.planned; is = h.is }
 
-fragment_planned : (d : ℕ) (kind : Kind) (t : ℕ) (p : Fragment) (rs : List Reign) (a : AllByRecursion (CanBeBroadcast d kind) rs) → SomeReign (HoldsFragment t p) rs → HasOne (plan_from d kind rs a) (HasFragment kind t p)
+fragment_planned : (d : ℕ) (kind : Kind) (t : ℕ) (p : Fragment) (rs : List Reign)
+    (a : AllByRecursion (CanBeBroadcast d kind) rs) → SomeReign (HoldsFragment t p) rs
+    → HasOne (plan_from d kind rs a) (HasFragment kind t p)
 fragment_planned d kind t p [] a h = absurd h
-fragment_planned d kind t p (r ∷ older) a (inr h) = wider _ (plan_from d kind older a.1) (HasFragment kind t p) (fragment_planned d kind t p older a.1 h)
+fragment_planned d kind t p (r ∷ older) a (inr h) = wider _ (plan_from d kind older a.1) (HasFragment kind t p)
+    (fragment_planned d kind t p older a.1 h)
 fragment_planned d kind t p (r ∷ older) a (inl h) = record {
   number = length (plan_from d kind older a.1);
   broadcast = record { start = r.start; end = r.last; flag = r.flag; bytes = a.0.one.value };
@@ -206,49 +255,71 @@ fragment_planned d kind t p (r ∷ older) a (inl h) = record {
   };
 }
 
-tags_planned : (d : ℕ) (kind : Kind) (t : ℕ) (pair : PairFields) (rs : List Reign) (a : AllByRecursion (CanBeBroadcast d kind) rs) → SomeReign (HoldsTags t pair) rs → HasOne (plan_from d kind rs a) (HasTags d t pair)
+tags_planned : (d : ℕ) (kind : Kind) (t : ℕ) (pair : PairFields) (rs : List Reign)
+    (a : AllByRecursion (CanBeBroadcast d kind) rs) → SomeReign (HoldsTags t pair) rs
+    → HasOne (plan_from d kind rs a) (HasTags d t pair)
 tags_planned d kind t pair [] a h = absurd h
-tags_planned d kind t pair (r ∷ older) a (inr h) = wider _ (plan_from d kind older a.1) (HasTags d t pair) (tags_planned d kind t pair older a.1 h)
+tags_planned d kind t pair (r ∷ older) a (inr h) = wider _ (plan_from d kind older a.1) (HasTags d t pair)
+    (tags_planned d kind t pair older a.1 h)
 tags_planned d kind t pair (r ∷ older) a (inl h) = record {
   number = length (plan_from d kind older a.1);
   broadcast = record { start = r.start; end = r.last; flag = r.flag; bytes = a.0.one.value };
   planned = inl (refl, refl);
   is = record {
-    lasted = all_in (λ (s : SentTags). r.start + d ≤ s.slot) record { slot = t; pair = pair } r.tags a.0.lasted h.listed;
+    lasted = all_in (λ (s : SentTags). r.start + d ≤ s.slot) record { slot = t; pair = pair } r.tags a.0.lasted
+        h.listed;
     to = h.to;
-    ends = all_in (λ (s : SentTags). BothEndIn (length a.0.one.value) s.pair) record { slot = t; pair = pair } r.tags a.0.one.ends h.listed;
+    ends = all_in (λ (s : SentTags). BothEndIn (length a.0.one.value) s.pair) record { slot = t; pair = pair } r.tags
+        a.0.one.ends h.listed;
   };
 }
 
 -- a mark in a reign's broadcast was sent after the reign was opened
-since_opened : (d : ℕ) (sent : List Mark) (r : Reign) (older : List Reign) (u : ℕ) → 0 < d → r.start ≡ start_after d r.flag older → r.start ≤ u → IsBehind sent older u → (q : Fragment) → IsMarkIn sent u (Sends q) → ⊥
+since_opened : (d : ℕ) (sent : List Mark) (r : Reign) (older : List Reign) (u : ℕ) → 0 < d
+    → r.start ≡ start_after d r.flag older → r.start ≤ u → IsBehind sent older u → (q : Fragment)
+    → IsMarkIn sent u (Sends q) → ⊥
 since_opened d sent r [] u pos c from b q s = b q s
 since_opened d sent r (e ∷ older) u pos c from b q s = omega (arith, starts_after d r.flag e older pos)
 
-dense_fragments : (d : ℕ) (kind : Kind) (sent : List Mark) (rs : List Reign) (a : AllByRecursion (CanBeBroadcast d kind) rs) → 0 < d → IsChained d rs → AreKept d sent rs
-    → (k : ℕ) (b : Broadcast) (u t : ℕ) (q p : Fragment) → HasNumber (plan_from d kind rs a) k b → Covers b u → Covers b t → IsMarkIn sent u (Sends q) → IsMarkIn sent t (Sends p) → u < t
+dense_fragments : (d : ℕ) (kind : Kind) (sent : List Mark) (rs : List Reign) (a : AllByRecursion (CanBeBroadcast d kind)
+    rs) → 0 < d → IsChained d rs → AreKept d sent rs
+    → (k : ℕ) (b : Broadcast) (u t : ℕ) (q p : Fragment) → HasNumber (plan_from d kind rs a) k b → Covers b u
+    → Covers b t → IsMarkIn sent u (Sends q) → IsMarkIn sent t (Sends p) → u < t
     → IsBridged d sent u t
 dense_fragments d kind sent [] a pos c keep k b u t q p n cu ct su st lt = absurd n
-dense_fragments d kind sent (r ∷ older) a pos c keep k b u t q p (inr n) cu ct su st lt = dense_fragments d kind sent older a.1 pos c.1 keep.2 k b u t q p n cu ct su st lt
+dense_fragments d kind sent (r ∷ older) a pos c keep k b u t q p (inr n) cu ct su st lt = dense_fragments d kind sent
+    older a.1 pos c.1 keep.2 k b u t q p n cu ct su st lt
 dense_fragments d kind sent (r ∷ older) a pos c keep k b u t q p (inl n) cu ct su st lt =
     let start : b.start ≡ r.start = ap (λ (x : Broadcast). x.start) n.1 in
     let end : b.end ≡ r.last = ap (λ (x : Broadcast). x.end) n.1 in
     elim (cases_lt u r.opened) [
-      | inl less ↦ absurd (since_opened d sent r older u pos c.0 (omega (arith, cu.from)) (keep.1 u (fragment_is_marked sent u q su) less) q su)
+      | inl less ↦ absurd (since_opened d sent r older u pos c.0 (omega (arith, cu.from))
+          (keep.1 u (fragment_is_marked sent u q su) less) q su)
       | inr from ↦ keep.0.dense u t q p su st from lt (omega (arith, ct.to))
     ]
 
 -- tags sent in a reign's broadcast come after the reign's first fragment
-opened_before : (d : ℕ) (sent : List Mark) (r : Reign) (older : List Reign) (t : ℕ) (pair : PairFields) → 0 < d → TagsAreAfter sent → r.start ≡ start_after d r.flag older → r.start ≤ t
-    → ((u : ℕ) → IsMarked sent u → u < r.opened → IsBehind sent older u) → IsMarkIn sent t (Tagged pair) → t < r.opened → ⊥
-opened_before d sent r [] t pair pos h c from gap s lt = (let w = h t pair s in gap w.slot (fragment_is_marked sent w.slot w.fragment w.is_sent) (omega (arith, w.before)) w.fragment w.is_sent)
-opened_before d sent r (e ∷ older) t pair pos h c from gap s lt = omega (arith, starts_after d r.flag e older pos, gap t (tags_are_marked sent t pair s) lt)
+opened_before : (d : ℕ) (sent : List Mark) (r : Reign) (older : List Reign) (t : ℕ) (pair : PairFields) → 0 < d
+    → TagsAreAfter sent → r.start ≡ start_after d r.flag older → r.start ≤ t
+    → ((u : ℕ) → IsMarked sent u → u < r.opened → IsBehind sent older u) → IsMarkIn sent t (Tagged pair) → t < r.opened
+    → ⊥
+opened_before d sent r [] t pair pos h c from gap s lt = (let w = h t pair s
+    in gap w.slot (fragment_is_marked sent w.slot w.fragment w.is_sent) (omega (arith, w.before)) w.fragment w.is_sent)
+opened_before d sent r (e ∷ older) t pair pos h c from gap s lt = omega (
+  arith,
+  starts_after d r.flag e older pos,
+  gap t
+      (tags_are_marked sent t pair s) lt,
+)
 
-dense_tags : (d : ℕ) (kind : Kind) (sent : List Mark) (rs : List Reign) (a : AllByRecursion (CanBeBroadcast d kind) rs) → 0 < d → TagsAreAfter sent → IsChained d rs → AreKept d sent rs
-    → (k : ℕ) (b : Broadcast) (t : ℕ) (pair : PairFields) → HasNumber (plan_from d kind rs a) k b → Covers b t → IsMarkIn sent t (Tagged pair)
+dense_tags : (d : ℕ) (kind : Kind) (sent : List Mark) (rs : List Reign) (a : AllByRecursion (CanBeBroadcast d kind) rs)
+    → 0 < d → TagsAreAfter sent → IsChained d rs → AreKept d sent rs
+    → (k : ℕ) (b : Broadcast) (t : ℕ) (pair : PairFields) → HasNumber (plan_from d kind rs a) k b → Covers b t
+    → IsMarkIn sent t (Tagged pair)
     → HasFragmentBefore sent b t
 dense_tags d kind sent [] a pos h c keep k b t pair n ct st = absurd n
-dense_tags d kind sent (r ∷ older) a pos h c keep k b t pair (inr n) ct st = dense_tags d kind sent older a.1 pos h c.1 keep.2 k b t pair n ct st
+dense_tags d kind sent (r ∷ older) a pos h c keep k b t pair (inr n) ct st = dense_tags d kind sent older a.1 pos h c.1
+    keep.2 k b t pair n ct st
 dense_tags d kind sent (r ∷ older) a pos h c keep k b t pair (inl n) ct st =
     let start : b.start ≡ r.start = ap (λ (x : Broadcast). x.start) n.1 in
     let end : b.end ≡ r.last = ap (λ (x : Broadcast). x.end) n.1 in
@@ -259,15 +330,22 @@ dense_tags d kind sent (r ∷ older) a pos h c keep k b t pair (inl n) ct st =
       covers = record { from = omega (arith, a.0.begun); to = omega (arith, keep.0.until) };
       before = elim (cases_order r.opened t) [
         | inl same ↦
-            let tags : IsMarkIn sent r.opened (Tagged pair) = subst (λ (n : ℕ). IsMarkIn sent n (Tagged pair)) (sym same) st in
-            let e : Sends keep.0.first ≡ Tagged pair = one_mark sent r.opened (Sends keep.0.first) (Tagged pair) keep.0.opened tags in
+            let tags : IsMarkIn sent r.opened (Tagged pair) = subst (λ (n : ℕ). IsMarkIn sent n (Tagged pair))
+            (sym same) st in
+            let e : Sends keep.0.first ≡ Tagged pair = one_mark sent r.opened (Sends keep.0.first) (Tagged pair)
+            keep.0.opened tags in
             absurd (cc)
-        | inr other ↦ elim other [ inl less ↦ less | inr more ↦ absurd (opened_before d sent r older t pair pos h c.0 (omega (arith, ct.from)) keep.1 st more) ]
+        | inr other ↦ elim other [
+          | inl less ↦ less
+          | inr more ↦ absurd (opened_before d sent r older t pair pos h c.0
+              (omega (arith, ct.from)) keep.1 st more)
+        ]
       ];
     }
 
 -- a service that passes has the plan of its reigns
-pub has_plan_of_reigns : ANumberIsBelowTheLength → (d : ℕ) (kind : Kind) (sent : List Mark) → 0 < d → (h : Passes d kind sent)
+pub has_plan_of_reigns : ANumberIsBelowTheLength → (d : ℕ) (kind : Kind) (sent : List Mark) → 0 < d
+    → (h : Passes d kind sent)
     → (w : HasPlan d kind sent) × (w.plan ≡ plan_from d kind (reigns d sent) h.reigns)
 has_plan_of_reigns below d kind sent pos h = (
   record {
@@ -291,5 +369,6 @@ has_plan_of_reigns below d kind sent pos h = (
   refl,
 )
 
-pub has_plan : ANumberIsBelowTheLength → (d : ℕ) (kind : Kind) (sent : List Mark) → 0 < d → Passes d kind sent → HasPlan d kind sent
+pub has_plan : ANumberIsBelowTheLength → (d : ℕ) (kind : Kind) (sent : List Mark) → 0 < d → Passes d kind sent
+    → HasPlan d kind sent
 has_plan below d kind sent pos h = (has_plan_of_reigns below d kind sent pos h).0

@@ -1,5 +1,6 @@
 -- Lemmas: logs that begin in the middle.
-use Rattle.std.proofs.Common.{◌≡◌, ℕ, zero, suc, Bool, true, false, List, [], ◌∷◌, Option, Some, None, length, refl, ap, ◌∙◌, inl, inr, arith}
+use Rattle.std.proofs.Common.{◌≡◌, ℕ, zero, suc, Bool, true, false, List, [], ◌∷◌, Option, Some, None, length, refl, ap}
+use Rattle.std.proofs.Common.{◌∙◌, inl, inr, arith}
 use Rattle.std.specs.Prelude.{replicate}
 use Rattle.rds_fields.specs.declared.message.Message.{Message}
 use Rattle.rds_fields.specs.declared.message.Message.TheVariants.{Text, Name, Announce, Tags, Other}
@@ -60,22 +61,27 @@ silent_passes kind Running d = silence kind d d
 -- ---- from slot to slot
 
 -- tags count after a text segment, and not before
-pub tags_count : (start : LogStart) (judged : List (Option Message)) (pair : PairFields) → has_text judged ≡ true → counted_as start judged (Some (Tags pair)) ≡ Some (Tags pair)
+pub tags_count : (start : LogStart) (judged : List (Option Message)) (pair : PairFields) → has_text judged ≡ true
+    → counted_as start judged (Some (Tags pair)) ≡ Some (Tags pair)
 tags_count Complete judged pair e = refl
 tags_count Running judged pair e = rw e refl
 
-tags_wait : (start : LogStart) (judged : List (Option Message)) (pair : PairFields) → start ≡ Running → has_text judged ≡ false → counted_as start judged (Some (Tags pair)) ≡ None
+tags_wait : (start : LogStart) (judged : List (Option Message)) (pair : PairFields) → start ≡ Running
+    → has_text judged ≡ false → counted_as start judged (Some (Tags pair)) ≡ None
 tags_wait start judged pair is e = rw (is, e) refl
 
-pub tags_complete : (start : LogStart) (judged : List (Option Message)) (pair : PairFields) → start ≡ Complete → counted_as start judged (Some (Tags pair)) ≡ Some (Tags pair)
+pub tags_complete : (start : LogStart) (judged : List (Option Message)) (pair : PairFields) → start ≡ Complete
+    → counted_as start judged (Some (Tags pair)) ≡ Some (Tags pair)
 tags_complete start judged pair is = rw is refl
 
 -- all others count as they are
-pub text_counts : (start : LogStart) (judged : List (Option Message)) (f : Bool) (a : ℕ) (b : List ℕ) → counted_as start judged (Some (Text f a b)) ≡ Some (Text f a b)
+pub text_counts : (start : LogStart) (judged : List (Option Message)) (f : Bool) (a : ℕ) (b : List ℕ)
+    → counted_as start judged (Some (Text f a b)) ≡ Some (Text f a b)
 text_counts Complete judged f a b = refl
 text_counts Running judged f a b = refl
 
-pub name_counts : (start : LogStart) (judged : List (Option Message)) (f : Bool) (a : ℕ) (b : List ℕ) → counted_as start judged (Some (Name f a b)) ≡ Some (Name f a b)
+pub name_counts : (start : LogStart) (judged : List (Option Message)) (f : Bool) (a : ℕ) (b : List ℕ)
+    → counted_as start judged (Some (Name f a b)) ≡ Some (Name f a b)
 name_counts Complete judged f a b = refl
 name_counts Running judged f a b = refl
 
@@ -87,10 +93,12 @@ pub nothing_counts : (start : LogStart) (judged : List (Option Message)) → IsS
 nothing_counts Complete judged = (refl, refl)
 nothing_counts Running judged = (refl, refl)
 
-pub tags_silent : (start : LogStart) (judged : List (Option Message)) (pair : PairFields) → start ≡ Running → has_text judged ≡ false → IsSilent (counted_as start judged (Some (Tags pair)))
+pub tags_silent : (start : LogStart) (judged : List (Option Message)) (pair : PairFields) → start ≡ Running
+    → has_text judged ≡ false → IsSilent (counted_as start judged (Some (Tags pair)))
 tags_silent start judged pair is e = rw (tags_wait start judged pair is e) (refl, refl)
 
-pub announcement_counts : (start : LogStart) (judged : List (Option Message)) (code bits aid : ℕ) → IsSilent (counted_as start judged (Some (Announce code bits aid)))
+pub announcement_counts : (start : LogStart) (judged : List (Option Message)) (code bits aid : ℕ)
+    → IsSilent (counted_as start judged (Some (Announce code bits aid)))
 announcement_counts Complete judged code bits aid = (refl, refl)
 announcement_counts Running judged code bits aid = (refl, refl)
 
@@ -99,7 +107,8 @@ other_counts Complete judged = (refl, refl)
 other_counts Running judged = (refl, refl)
 
 -- a state by its two parts
-pub state_is : (after : ReignsState) (ages : Ages) (content : ContentState) → after.ages ≡ ages → after.content ≡ content → after ≡ record { ages = ages; content = content }
+pub state_is : (after : ReignsState) (ages : Ages) (content : ContentState) → after.ages ≡ ages
+    → after.content ≡ content → after ≡ record { ages = ages; content = content }
 state_is after ages content e f = ap (λ (x : Ages). both x after.content) e ∙ ap (λ (x : ContentState). both ages x) f
   where
     both : Ages → ContentState → ReignsState

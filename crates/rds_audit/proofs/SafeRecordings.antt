@@ -1,6 +1,7 @@
 -- Lemmas: a recording that passes is safe for the receivers of the log as it is. The view of each of them is that of a
 -- receiver of what was judged.
-use Rattle.std.proofs.Common.{◌≡◌, ◌+◌, ◌<◌, ℕ, true, List, [], ◌∷◌, Option, Some, None, length, map, option_map, refl, sym, ap, ◌∙◌, subst, inl, inr, arith}
+use Rattle.std.proofs.Common.{◌≡◌, ◌+◌, ◌<◌, ℕ, true, List, [], ◌∷◌, Option, Some, None, length, map, option_map, refl}
+use Rattle.std.proofs.Common.{sym, ap, ◌∙◌, subst, inl, inr, arith}
 use Rattle.std.specs.List.{All}
 use Rattle.std.specs.Prelude.{IfSome}
 use Rattle.std.proofs.lemmas.List.{length-map}
@@ -18,16 +19,20 @@ use Rattle.rds_safety.specs.Late.{HasEntry, IsHeardInOrder, IsOfItsOrigin}
 use Rattle.rds_safety.specs.Laws.{ASlowClockIsAnOwnClock, LateIsBySlowClock, LawfulPlansAreSafeByOwnClocks}
 use Rattle.rds_safety.specs.OwnClock.{ListensByOwnClock}
 use Rattle.rds_safety.specs.Plans.{AreLawful, Plans}
-use Rattle.rds_safety.specs.Safe.{AreNeighbours, AreSafeViews, Listener, ListensTo, ShowsNameOnAir, ShowsTagsOfItsText, ShowsTextOnAir, RunWasOnAir}
+use Rattle.rds_safety.specs.Safe.{AreNeighbours, AreSafeViews, Listener, ListensTo, ShowsNameOnAir, ShowsTagsOfItsText}
+use Rattle.rds_safety.specs.Safe.{ShowsTextOnAir, RunWasOnAir}
 use Rattle.rds_safety.specs.Source.{IsSource, LastWasSentIn, name_run, text_run}
 use Rattle.rds_safety.proofs.Entries.{entry_beside}
-use Rattle.rds_audit.specs.AuditLaws.{IsSafeRecording, PassesExactlyByPlans, PlansOfARecordingAreSafe, WhatPassesAsARecordingIsSafe, later}
+use Rattle.rds_audit.specs.AuditLaws.{IsSafeRecording, PassesExactlyByPlans, PlansOfARecordingAreSafe}
+use Rattle.rds_audit.specs.AuditLaws.{WhatPassesAsARecordingIsSafe, later}
 use Rattle.rds_audit.specs.Recording.{from_first_text, judged_as, preceded}
 use Rattle.rds_audit.specs.declared.log_start.LogStart.{LogStart}
 use Rattle.rds_audit.specs.declared.log_start.LogStart.TheVariants.{Running}
 use Rattle.rds_audit.specs.Rules.{LogPasses}
-use Rattle.rds_audit.proofs.FirstTexts.{after_text, sent_from_first_text, sent_later, settled, tags_are_of_the_log, text_before}
-use Rattle.rds_audit.proofs.Settled.{HeardText, TagsCount, counts, held_same, names_same, settle, settle_long, texts_same, was_heard_as}
+use Rattle.rds_audit.proofs.FirstTexts.{after_text, sent_from_first_text, sent_later, settled, tags_are_of_the_log}
+use Rattle.rds_audit.proofs.FirstTexts.{text_before}
+use Rattle.rds_audit.proofs.Settled.{HeardText, TagsCount, counts, held_same, names_same, settle, settle_long}
+use Rattle.rds_audit.proofs.Settled.{texts_same, was_heard_as}
 
 -- ---- origins n slots later
 
@@ -39,20 +44,28 @@ record WasOrigin (n first : ℕ) (origins : List (Option ℕ)) (t : ℕ) (origin
   came : HasEntry first origins t was
   is : origin ≡ option_map (λ (s : ℕ). s + n) was
 
-was_origin : (n first : ℕ) (origins : List (Option ℕ)) (t : ℕ) (origin : Option ℕ) → HasEntry first (origins_later n origins) t origin → WasOrigin n first origins t origin
+was_origin : (n first : ℕ) (origins : List (Option ℕ)) (t : ℕ) (origin : Option ℕ)
+    → HasEntry first (origins_later n origins) t origin → WasOrigin n first origins t origin
 was_origin n first [] t origin h = absurd h
-was_origin n first (o ∷ origins) t origin (inl h) = record { was = o; came = inl (h.0 ∙ ap (λ (i : ℕ). first + i) (length-map origins (option_map (λ (s : ℕ). s + n))), refl); is = h.1 }
-was_origin n first (o ∷ origins) t origin (inr h) = (let w = was_origin n first origins t origin h in record { was = w.was; came = inr w.came; is = w.is })
+was_origin n first (o ∷ origins) t origin (inl h) = record {
+  was = o;
+  came = inl (h.0 ∙ ap (λ (i : ℕ). first + i) (length-map origins (option_map (λ (s : ℕ). s + n))), refl);
+  is = h.1;
+}
+was_origin n first (o ∷ origins) t origin (inr h) = (let w = was_origin n first origins t origin h
+    in record { was = w.was; came = inr w.came; is = w.is })
 
 record WasSent (n first : ℕ) (origins : List (Option ℕ)) (t s : ℕ) : Type 0 where
   slot : ℕ
   from : HasEntry first origins t (Some slot)
   is : s ≡ slot + n
 
-was_sent : (n first : ℕ) (origins : List (Option ℕ)) (t s : ℕ) → HasEntry first (origins_later n origins) t (Some s) → WasSent n first origins t s
+was_sent : (n first : ℕ) (origins : List (Option ℕ)) (t s : ℕ) → HasEntry first (origins_later n origins) t (Some s)
+    → WasSent n first origins t s
 was_sent n first origins t s h = (let w = was_origin n first origins t (Some s) h in by w.was w.came w.is)
   where
-    by : (o : Option ℕ) → HasEntry first origins t o → Some s ≡ option_map (λ (s : ℕ). s + n) o → WasSent n first origins t s
+    by : (o : Option ℕ) → HasEntry first origins t o → Some s ≡ option_map (λ (s : ℕ). s + n) o
+        → WasSent n first origins t s
     by None a e = absurd (cc)
     by (Some r) a e = record { slot = r; from = a; is = (let same : s ≡ r + n = cc in same) }
 
@@ -73,18 +86,25 @@ module _ (n : ℕ) (log : List (Option Message)) (r : Listener) (order : IsHeard
   beside : length (origins_later n r.input.origins) ≡ length r.input.heard
   beside = length-map r.input.origins (option_map (λ (s : ℕ). s + n)) ∙ order.beside
 
-  entry_sent : (t : ℕ) (was : Option ℕ) (heard : Option Message) → HasEntry r.input.first r.input.origins t was → HasEntry r.input.first r.input.heard t heard
-      → IsOfItsOrigin (from_first_text (preceded n log)) (option_map (λ (s : ℕ). s + n) was) (settled (counts (preceded n log) (option_map (λ (s : ℕ). s + n) was)) heard)
+  entry_sent : (t : ℕ) (was : Option ℕ) (heard : Option Message) → HasEntry r.input.first r.input.origins t was
+      → HasEntry r.input.first r.input.heard t heard
+      → IsOfItsOrigin (from_first_text (preceded n log)) (option_map (λ (s : ℕ). s + n) was)
+      (settled (counts (preceded n log) (option_map (λ (s : ℕ). s + n) was)) heard)
   entry_sent t None heard a b = ap (settled true) (order.each t None heard a b)
-  entry_sent t (Some s) heard a b = sent_from_first_text (preceded n log) (s + n) heard (sent_later n log s heard (order.each t (Some s) heard a b))
+  entry_sent t (Some s) heard a b = sent_from_first_text (preceded n log) (s + n) heard
+      (sent_later n log s heard (order.each t (Some s) heard a b))
 
-  each_sent : (t : ℕ) (origin : Option ℕ) (entry : Option Message) → HasEntry r.input.first (origins_later n r.input.origins) t origin
-      → HasEntry r.input.first (settle (preceded n log) r.input.heard (origins_later n r.input.origins)) t entry → IsOfItsOrigin (from_first_text (preceded n log)) origin entry
+  each_sent : (t : ℕ) (origin : Option ℕ) (entry : Option Message)
+      → HasEntry r.input.first (origins_later n r.input.origins) t origin
+      → HasEntry r.input.first (settle (preceded n log) r.input.heard (origins_later n r.input.origins)) t entry
+      → IsOfItsOrigin (from_first_text (preceded n log)) origin entry
   each_sent t origin entry a b =
       let w = was_origin n r.input.first r.input.origins t origin a in
-      let h = was_heard_as (preceded n log) r.input.first r.input.heard (origins_later n r.input.origins) t origin entry beside a b in
+      let h = was_heard_as (preceded n log) r.input.first r.input.heard (origins_later n r.input.origins) t origin entry
+      beside a b in
       subst (IsOfItsOrigin (from_first_text (preceded n log)) origin) (sym h.is)
-      (subst (λ (o : Option ℕ). IsOfItsOrigin (from_first_text (preceded n log)) o (settled (counts (preceded n log) o) h.was)) (sym w.is) (entry_sent t w.was h.was w.came h.came))
+      (subst (λ (o : Option ℕ). IsOfItsOrigin (from_first_text (preceded n log)) o (settled (counts (preceded n log) o)
+      h.was)) (sym w.is) (entry_sent t w.was h.was w.came h.came))
 
   in_order : IsHeardInOrder (from_first_text (preceded n log)) (judging n log r).input
   in_order = record {
@@ -97,28 +117,38 @@ module _ (n : ℕ) (log : List (Option Message)) (r : Listener) (order : IsHeard
   }
 
   -- tags that came later than a text segment count
-  tags_count : (since : ℕ) → HeardText r.input.first r.input.heard since → TagsCount (preceded n log) r.input.first since r.input.heard (origins_later n r.input.origins)
-  tags_count since text v s pair late came from = by (entry_beside r.input.first r.input.heard r.input.origins since (Some (Text text.flag text.address text.bytes)) order.beside text.came)
+  tags_count : (since : ℕ) → HeardText r.input.first r.input.heard since
+      → TagsCount (preceded n log) r.input.first since r.input.heard (origins_later n r.input.origins)
+  tags_count since text v s pair late came from = by (entry_beside r.input.first r.input.heard r.input.origins since
+      (Some (Text text.flag text.address text.bytes)) order.beside text.came)
     where
       by : (o : Option ℕ) × HasEntry r.input.first r.input.origins since o → text_before (preceded n log) s ≡ true
-      by (None, a) = absurd (let none = order.each since None (Some (Text text.flag text.address text.bytes)) a text.came in cc)
+      by (None, a) = absurd (let none = order.each since None (Some (Text text.flag text.address text.bytes)) a
+          text.came in cc)
       by (Some u, a) =
           let tags = was_sent n r.input.first r.input.origins v s from in
-          let sent = sent_later n log u (Some (Text text.flag text.address text.bytes)) (order.each since (Some u) (Some (Text text.flag text.address text.bytes)) a text.came) in
-          after_text (preceded n log) (u + n) text.flag text.address text.bytes s sent (omega (arith, tags.is, order.rising since v u tags.slot a tags.from late))
+          let sent = sent_later n log u (Some (Text text.flag text.address text.bytes))
+          (order.each since (Some u) (Some (Text text.flag text.address text.bytes)) a text.came) in
+          after_text (preceded n log) (u + n) text.flag text.address text.bytes s sent
+          (omega (arith, tags.is, order.rising since v u tags.slot a tags.from late))
 
-  shows : (m : ℕ) → ShowsView m r.input.first r.input.heard r.view → ShowsView m r.input.first (settle (preceded n log) r.input.heard (origins_later n r.input.origins)) r.view
+  shows : (m : ℕ) → ShowsView m r.input.first r.input.heard r.view
+      → ShowsView m r.input.first (settle (preceded n log) r.input.heard (origins_later n r.input.origins)) r.view
   shows m is =
-      let held = held_same (preceded n log) m r.input.first r.input.heard (origins_later n r.input.origins) beside tags_count in
+      let held = held_same (preceded n log) m r.input.first r.input.heard (origins_later n r.input.origins) beside
+      tags_count in
       record {
-        text = subst (λ (gs : List Segment). IsShown IsWholeText (cells_of gs) r.view.text) (sym (texts_same (preceded n log) m r.input.first r.input.heard (origins_later n r.input.origins))) is.text;
-        name = subst (λ (gs : List Segment). IsShown IsWholeName (cells_of gs) r.view.name) (sym (names_same (preceded n log) m r.input.first r.input.heard (origins_later n r.input.origins))) is.name;
+        text = subst (λ (gs : List Segment). IsShown IsWholeText (cells_of gs) r.view.text)
+            (sym (texts_same (preceded n log) m r.input.first r.input.heard (origins_later n r.input.origins))) is.text;
+        name = subst (λ (gs : List Segment). IsShown IsWholeName (cells_of gs) r.view.name)
+            (sym (names_same (preceded n log) m r.input.first r.input.heard (origins_later n r.input.origins))) is.name;
         item = is.item ∙ ap (item_of r.view.text) (sym held);
         one = is.one ∙ ap (tag_of One r.view.text) (sym held);
         two = is.two ∙ ap (tag_of Two r.view.text) (sym held);
       }
 
-listens_judging : (d m now n : ℕ) (log : List (Option Message)) (r : Listener) → ListensByOwnClock d m now log r → ListensByOwnClock d m (now + n) (from_first_text (preceded n log)) (judging n log r)
+listens_judging : (d m now n : ℕ) (log : List (Option Message)) (r : Listener) → ListensByOwnClock d m now log r
+    → ListensByOwnClock d m (now + n) (from_first_text (preceded n log)) (judging n log r)
 listens_judging d m now n log r listens = record {
   heard = record {
     order = in_order n log r listens.heard.order;
@@ -128,24 +158,46 @@ listens_judging d m now n log r listens = record {
         omega (arith, x.is, y.is, listens.heard.between t u x.slot y.slot x.from y.from near);
     since = λ t s p near.
         let x = was_sent n r.input.first r.input.origins t s p in
-        omega (arith, x.is, listens.heard.since t x.slot x.from (omega (arith, near, settle_long (preceded n log) r.input.heard (origins_later n r.input.origins))));
-    past = λ t s p. (let x = was_sent n r.input.first r.input.origins t s p in omega (arith, x.is, listens.heard.past t x.slot x.from));
+        omega (
+          arith,
+          x.is,
+          listens.heard.since t x.slot x.from
+              (omega (arith, near, settle_long (preceded n log) r.input.heard (origins_later n r.input.origins))),
+        );
+    past = λ t s p. (let x = was_sent n r.input.first r.input.origins t s p
+        in omega (arith, x.is, listens.heard.past t x.slot x.from));
   };
   shows = shows n log r listens.heard.order m listens.shows;
 }
 
 -- ---- from it to the receiver of the log
 
-source_from : (n : ℕ) (log : List (Option Message)) (r : Listener) (plan : List Broadcast) (gs hs : List Segment) (k : ℕ) (b : Broadcast) → gs ≡ hs
+source_from : (n : ℕ) (log : List (Option Message)) (r : Listener) (plan : List Broadcast) (gs hs : List Segment)
+    (k : ℕ) (b : Broadcast) → gs ≡ hs
     → IsSource plan (judging n log r).input gs k b → IsSource plan (later n r).input hs k b
-source_from n log r plan gs hs k b e h = record { planned = h.planned; slot = h.slot; sent = subst (λ (x : List Segment). LastWasSentIn (later n r).input x h.slot) e h.sent; covers = h.covers }
+source_from n log r plan gs hs k b e h = record {
+  planned = h.planned;
+  slot = h.slot;
+  sent = subst (λ (x : List Segment). LastWasSentIn (later n r).input x h.slot)
+      e h.sent;
+  covers = h.covers;
+}
 
-source_to : (n : ℕ) (log : List (Option Message)) (r : Listener) (plan : List Broadcast) (gs hs : List Segment) (k : ℕ) (b : Broadcast) → gs ≡ hs
+source_to : (n : ℕ) (log : List (Option Message)) (r : Listener) (plan : List Broadcast) (gs hs : List Segment) (k : ℕ)
+    (b : Broadcast) → gs ≡ hs
     → IsSource plan (later n r).input hs k b → IsSource plan (judging n log r).input gs k b
-source_to n log r plan gs hs k b e h = record { planned = h.planned; slot = h.slot; sent = subst (λ (x : List Segment). LastWasSentIn (judging n log r).input x h.slot) (sym e) h.sent; covers = h.covers }
+source_to n log r plan gs hs k b e h = record {
+  planned = h.planned;
+  slot = h.slot;
+  sent = subst
+      (λ (x : List Segment). LastWasSentIn (judging n log r).input x h.slot) (sym e) h.sent;
+  covers = h.covers;
+}
 
-on_air : (n : ℕ) (log : List (Option Message)) (r : Listener) (d t : ℕ) (plan : List Broadcast) (gs hs : List Segment) (shown : Option (List ℕ)) → gs ≡ hs
-    → IfSome shown (RunWasOnAir d t plan (judging n log r).input gs) → IfSome shown (RunWasOnAir d t plan (later n r).input hs)
+on_air : (n : ℕ) (log : List (Option Message)) (r : Listener) (d t : ℕ) (plan : List Broadcast) (gs hs : List Segment)
+    (shown : Option (List ℕ)) → gs ≡ hs
+    → IfSome shown (RunWasOnAir d t plan (judging n log r).input gs)
+    → IfSome shown (RunWasOnAir d t plan (later n r).input hs)
 on_air n log r d t plan gs hs None e h = tt
 on_air n log r d t plan gs hs (Some x) e h = record {
   number = h.number;
@@ -166,17 +218,21 @@ module _ (n d m t : ℕ) (plans : Plans) (log : List (Option Message)) where
   name_runs r = names_same (preceded n log) m r.input.first r.input.heard (origins_later n r.input.origins)
 
   shows_text : (r : Listener) → ShowsTextOnAir d m t plans (judging n log r) → ShowsTextOnAir d m t plans (later n r)
-  shows_text r h = on_air n log r d t plans.text (text_run m (judging n log r).input) (text_run m (later n r).input) r.view.text (text_runs r) h
+  shows_text r h = on_air n log r d t plans.text (text_run m (judging n log r).input) (text_run m (later n r).input)
+      r.view.text (text_runs r) h
 
   shows_name : (r : Listener) → ShowsNameOnAir d m t plans (judging n log r) → ShowsNameOnAir d m t plans (later n r)
-  shows_name r h = on_air n log r d t plans.name (name_run m (judging n log r).input) (name_run m (later n r).input) r.view.name (name_runs r) h
+  shows_name r h = on_air n log r d t plans.name (name_run m (judging n log r).input) (name_run m (later n r).input)
+      r.view.name (name_runs r) h
 
-  shows_tags : (r : Listener) → ShowsTagsOfItsText d m plans (from_first_text (preceded n log)) (judging n log r) → ShowsTagsOfItsText d m plans (preceded n log) (later n r)
+  shows_tags : (r : Listener) → ShowsTagsOfItsText d m plans (from_first_text (preceded n log)) (judging n log r)
+      → ShowsTagsOfItsText d m plans (preceded n log) (later n r)
   shows_tags r (inl h) = inl h
   shows_tags r (inr h) = inr record {
     number = h.number;
     broadcast = h.broadcast;
-    source = source_from n log r plans.text (text_run m (judging n log r).input) (text_run m (later n r).input) h.number h.broadcast (text_runs r) h.source;
+    source = source_from n log r plans.text (text_run m (judging n log r).input) (text_run m (later n r).input) h.number
+        h.broadcast (text_runs r) h.source;
     pair = h.pair;
     slot = h.slot;
     tagged = tags_are_of_the_log (preceded n log) h.slot h.pair h.tagged;
@@ -187,28 +243,45 @@ module _ (n d m t : ℕ) (plans : Plans) (log : List (Option Message)) where
     two = h.two;
   }
 
-  near : (x y : Listener) → AreNeighbours m plans (judging n log x) (judging n log y) → AreNeighbours m plans (later n x) (later n y)
+  near : (x y : Listener) → AreNeighbours m plans (judging n log x) (judging n log y)
+      → AreNeighbours m plans (later n x) (later n y)
   near x y h = record {
-    texts = λ k l a b p q. h.texts k l a b (source_to n log x plans.text (text_run m (judging n log x).input) (text_run m (later n x).input) k a (text_runs x) p) (source_to n log y plans.text (text_run m (judging n log y).input) (text_run m (later n y).input) l b (text_runs y) q);
-    names = λ k l a b p q. h.names k l a b (source_to n log x plans.name (name_run m (judging n log x).input) (name_run m (later n x).input) k a (name_runs x) p) (source_to n log y plans.name (name_run m (judging n log y).input) (name_run m (later n y).input) l b (name_runs y) q);
+    texts = λ k l a b p q. h.texts k l a b (source_to n log x plans.text (text_run m (judging n log x).input)
+        (text_run m (later n x).input) k a (text_runs x) p)
+        (source_to n log y plans.text (text_run m (judging n log y).input) (text_run m (later n y).input) l b
+        (text_runs y) q);
+    names = λ k l a b p q. h.names k l a b (source_to n log x plans.name (name_run m (judging n log x).input)
+        (name_run m (later n x).input) k a (name_runs x) p)
+        (source_to n log y plans.name (name_run m (judging n log y).input) (name_run m (later n y).input) l b
+        (name_runs y) q);
   }
 
-all_of : (P : Listener → Type 0) (f : Listener → Listener) (xs : List Listener) → All P (map f xs) → All (λ x. P (f x)) xs
+all_of : (P : Listener → Type 0) (f : Listener → Listener) (xs : List Listener) → All P (map f xs)
+    → All (λ x. P (f x)) xs
 all_of P f [] h = All-nil (λ x. P (f x))
-all_of P f (x ∷ xs) h = All-cons (λ x. P (f x)) x xs (All-head P (f x) (map f xs) h) (all_of P f xs (All-tail P (f x) (map f xs) h))
+all_of P f (x ∷ xs) h = All-cons (λ x. P (f x)) x xs (All-head P (f x) (map f xs) h)
+    (all_of P f xs (All-tail P (f x) (map f xs) h))
 
 -- what holds of the ones holds of the others
-of_others : (P Q : Listener → Type 0) (f g : Listener → Listener) → ((x : Listener) → P (f x) → Q (g x)) → (xs : List Listener) → All P (map f xs) → All Q (map g xs)
+of_others : (P Q : Listener → Type 0) (f g : Listener → Listener) → ((x : Listener) → P (f x) → Q (g x))
+    → (xs : List Listener) → All P (map f xs) → All Q (map g xs)
 of_others P Q f g step xs h = All-map Q g xs (All-weaker (λ x. P (f x)) (λ x. Q (g x)) step xs (all_of P f xs h))
 
 safe_for_the_log : (n d m t : ℕ) (plans : Plans) (log : List (Option Message)) (receivers : List Listener)
-    → AreSafeViews d m t plans (from_first_text (preceded n log)) (map (judging n log) receivers) → AreSafeViews d m t plans (preceded n log) (map (later n) receivers)
+    → AreSafeViews d m t plans (from_first_text (preceded n log)) (map (judging n log) receivers)
+    → AreSafeViews d m t plans (preceded n log) (map (later n) receivers)
 safe_for_the_log n d m t plans log receivers h = record {
-  texts = of_others (ShowsTextOnAir d m t plans) (ShowsTextOnAir d m t plans) (judging n log) (later n) (shows_text n d m t plans log) receivers h.texts;
-  names = of_others (ShowsNameOnAir d m t plans) (ShowsNameOnAir d m t plans) (judging n log) (later n) (shows_name n d m t plans log) receivers h.names;
-  tags = of_others (ShowsTagsOfItsText d m plans (from_first_text (preceded n log))) (ShowsTagsOfItsText d m plans (preceded n log)) (judging n log) (later n) (shows_tags n d m t plans log) receivers h.tags;
-  neighbours = of_others (λ x. All (AreNeighbours m plans x) (map (judging n log) receivers)) (λ x. All (AreNeighbours m plans x) (map (later n) receivers)) (judging n log) (later n)
-      (λ x all. of_others (AreNeighbours m plans (judging n log x)) (AreNeighbours m plans (later n x)) (judging n log) (later n) (near n d m t plans log x) receivers all) receivers h.neighbours;
+  texts = of_others (ShowsTextOnAir d m t plans) (ShowsTextOnAir d m t plans) (judging n log) (later n)
+      (shows_text n d m t plans log) receivers h.texts;
+  names = of_others (ShowsNameOnAir d m t plans) (ShowsNameOnAir d m t plans) (judging n log) (later n)
+      (shows_name n d m t plans log) receivers h.names;
+  tags = of_others (ShowsTagsOfItsText d m plans (from_first_text (preceded n log)))
+      (ShowsTagsOfItsText d m plans (preceded n log)) (judging n log) (later n) (shows_tags n d m t plans log) receivers
+      h.tags;
+  neighbours = of_others (λ x. All (AreNeighbours m plans x) (map (judging n log) receivers))
+      (λ x. All (AreNeighbours m plans x) (map (later n) receivers)) (judging n log) (later n)
+      (λ x all. of_others (AreNeighbours m plans (judging n log x)) (AreNeighbours m plans (later n x)) (judging n log)
+      (later n) (near n d m t plans log x) receivers all) receivers h.neighbours;
 }
 
 -- ---- the law
@@ -218,14 +291,17 @@ safe_by_own_clocks own d m now n plans log receivers lawful all =
     safe_for_the_log n d m (now + n) plans log receivers
     (own d m (now + n) plans (from_first_text (preceded n log)) (map (judging n log) receivers) lawful
     (All-map (ListensByOwnClock d m (now + n) (from_first_text (preceded n log))) (judging n log) receivers
-    (All-weaker (ListensByOwnClock d m now log) (λ r. ListensByOwnClock d m (now + n) (from_first_text (preceded n log)) (judging n log r)) (listens_judging d m now n log) receivers all)))
+    (All-weaker (ListensByOwnClock d m now log) (λ r. ListensByOwnClock d m (now + n) (from_first_text (preceded n log))
+    (judging n log r)) (listens_judging d m now n log) receivers all)))
 
-late_is_own : LateIsBySlowClock → ASlowClockIsAnOwnClock → (m k t : ℕ) (log : List (Option Message)) (r : Listener) → ListensTo k m t log r → ListensByOwnClock (m + k) m t log r
+late_is_own : LateIsBySlowClock → ASlowClockIsAnOwnClock → (m k t : ℕ) (log : List (Option Message)) (r : Listener)
+    → ListensTo k m t log r → ListensByOwnClock (m + k) m t log r
 late_is_own late slow m k t log r listens =
     let by = late k m t log r.input listens.late listens.now in
     record { heard = slow k m t log r.input by.0 by.1; shows = listens.shows }
 
-pub safe_recording : PassesExactlyByPlans → PlansOfARecordingAreSafe → LateIsBySlowClock → ASlowClockIsAnOwnClock → WhatPassesAsARecordingIsSafe
+pub safe_recording : PassesExactlyByPlans → PlansOfARecordingAreSafe → LateIsBySlowClock → ASlowClockIsAnOwnClock
+    → WhatPassesAsARecordingIsSafe
 safe_recording law own late slow m k log pos p =
     let w = (law (m + k) (from_first_text (preceded (m + k) log)) (omega arith)).0 p in
     record {
@@ -233,10 +309,13 @@ safe_recording law own late slow m k log pos p =
       lawful = w.lawful;
       dense = w.dense;
       safe = λ t receivers all. own (m + k) m t (m + k) w.plans log receivers w.lawful
-          (All-weaker (ListensTo k m t log) (ListensByOwnClock (m + k) m t log) (late_is_own late slow m k t log) receivers all);
+          (All-weaker (ListensTo k m t log) (ListensByOwnClock (m + k) m t log) (late_is_own late slow m k t log)
+          receivers all);
       own_clocks = λ now receivers all. own (m + k) m now (m + k) w.plans log receivers w.lawful all;
     }
 
 -- the audit of a running station judged the log with m + k slots in front
-pub safe_as_it_is : WhatPassesAsARecordingIsSafe → (m k : ℕ) (start : LogStart) (heard : List (Option Message)) → start ≡ Running → 0 < m → LogPasses (m + k) (judged_as start (m + k) heard) → IsSafeRecording m k heard
-safe_as_it_is law m k start heard running pos passes = law m k heard pos (subst (λ (x : LogStart). LogPasses (m + k) (judged_as x (m + k) heard)) running passes)
+pub safe_as_it_is : WhatPassesAsARecordingIsSafe → (m k : ℕ) (start : LogStart) (heard : List (Option Message))
+    → start ≡ Running → 0 < m → LogPasses (m + k) (judged_as start (m + k) heard) → IsSafeRecording m k heard
+safe_as_it_is law m k start heard running pos passes = law m k heard pos
+    (subst (λ (x : LogStart). LogPasses (m + k) (judged_as x (m + k) heard)) running passes)

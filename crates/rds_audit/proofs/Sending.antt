@@ -24,18 +24,32 @@ one_mark (x ∷ before) t m n (inr p) (inl q) = absurd (omega (arith, early befo
 one_mark (x ∷ before) t m n (inr p) (inr q) = one_mark before t m n p q
 
 -- a mark of an earlier slot than the newest
-pub sent_before : (x : Mark) (before : List Mark) (t : ℕ) (m : Mark) → t < length before → IsMarkIn (x ∷ before) t m → IsMarkIn before t m
+pub sent_before : (x : Mark) (before : List Mark) (t : ℕ) (m : Mark) → t < length before → IsMarkIn (x ∷ before) t m
+    → IsMarkIn before t m
 sent_before x before t m h (inl s) = absurd (omega arith)
 sent_before x before t m h (inr s) = s
 
-pub marked_before : (x : Mark) (before : List Mark) (t : ℕ) → t < length before → IsMarked (x ∷ before) t → IsMarked before t
-marked_before x before t h m = record { mark = m.mark; some = m.some; is_sent = sent_before x before t m.mark h m.is_sent }
+pub marked_before : (x : Mark) (before : List Mark) (t : ℕ) → t < length before → IsMarked (x ∷ before) t
+    → IsMarked before t
+marked_before x before t h m = record {
+  mark = m.mark;
+  some = m.some;
+  is_sent = sent_before x before t m.mark h
+      m.is_sent;
+}
 
 pub marked_later : (x : Mark) (before : List Mark) (t : ℕ) → IsMarked before t → IsMarked (x ∷ before) t
 marked_later x before t m = record { mark = m.mark; some = m.some; is_sent = inr m.is_sent }
 
-pub bridged_later : (d : ℕ) (x : Mark) (before : List Mark) (u t : ℕ) → IsBridged d before u t → IsBridged d (x ∷ before) u t
-bridged_later d x before u t b = record { slot = b.slot; marked = marked_later x before b.slot b.marked; from = b.from; before = b.before; near = b.near }
+pub bridged_later : (d : ℕ) (x : Mark) (before : List Mark) (u t : ℕ) → IsBridged d before u t
+    → IsBridged d (x ∷ before) u t
+bridged_later d x before u t b = record {
+  slot = b.slot;
+  marked = marked_later x before b.slot b.marked;
+  from = b.from;
+  before = b.before;
+  near = b.near;
+}
 
 pub fragment_is_marked : (sent : List Mark) (t : ℕ) (p : Fragment) → IsMarkIn sent t (Sends p) → IsMarked sent t
 fragment_is_marked sent t p s = record { mark = Sends p; some = λ e. (cc); is_sent = s }
@@ -51,7 +65,8 @@ pub after_later : (x : Mark) (sent : List Mark) (t : ℕ) → IsAfterFragment se
 after_later x sent t w = record { slot = w.slot; fragment = w.fragment; is_sent = inr w.is_sent; before = w.before }
 
 -- a plan that is lawful and dense for a log is so for its earlier slots
-pub lawful_before : (d : ℕ) (kind : Kind) (plan : List Broadcast) (x : Mark) (before : List Mark) → IsLawful d kind plan (x ∷ before) → IsLawful d kind plan before
+pub lawful_before : (d : ℕ) (kind : Kind) (plan : List Broadcast) (x : Mark) (before : List Mark)
+    → IsLawful d kind plan (x ∷ before) → IsLawful d kind plan before
 lawful_before d kind plan x before h = record {
   spaced = h.spaced;
   values = h.values;
@@ -59,14 +74,28 @@ lawful_before d kind plan x before h = record {
   tags = λ t pair s. h.tags t pair (inr s);
 }
 
-pub dense_before : (d : ℕ) (plan : List Broadcast) (x : Mark) (before : List Mark) → IsDense d plan (x ∷ before) → IsDense d plan before
+pub dense_before : (d : ℕ) (plan : List Broadcast) (x : Mark) (before : List Mark) → IsDense d plan (x ∷ before)
+    → IsDense d plan before
 dense_before d plan x before h = record {
   fragments = λ k b u t q p n cu ct su st lt.
       let w = h.fragments k b u t q p n cu ct (inr su) (inr st) lt in
       let now = early before t (Sends p) st in
-      record { slot = w.slot; marked = marked_before x before w.slot (omega (arith, w.before)) w.marked; from = w.from; before = w.before; near = w.near };
+      record {
+        slot = w.slot;
+        marked = marked_before x before w.slot (omega (arith, w.before)) w.marked;
+        from = w.from;
+        before = w.before;
+        near = w.near;
+      };
   tags = λ k b t pair n ct st.
       let w = h.tags k b t pair n ct (inr st) in
       let now = early before t (Tagged pair) st in
-      record { slot = w.slot; fragment = w.fragment; is_sent = sent_before x before w.slot (Sends w.fragment) (omega (arith, w.before)) w.is_sent; covers = w.covers; before = w.before };
+      record {
+        slot = w.slot;
+        fragment = w.fragment;
+        is_sent = sent_before x before w.slot (Sends w.fragment)
+            (omega (arith, w.before)) w.is_sent;
+        covers = w.covers;
+        before = w.before;
+      };
 }

@@ -1,5 +1,6 @@
 -- Lemmas: the bytes that fragments have at an address, and the lengths that they allow together.
-use Rattle.std.proofs.Common.{◌≡◌, ◌⊎◌, ◌≤◌, ℕ, Bool, true, false, nat_eq, List, [], ◌∷◌, Option, Some, None, cond, refl, sym, ap, ◌∙◌, inl, inr, arith}
+use Rattle.std.proofs.Common.{◌≡◌, ◌⊎◌, ◌≤◌, ℕ, Bool, true, false, nat_eq, List, [], ◌∷◌, Option, Some, None, cond}
+use Rattle.std.proofs.Common.{refl, sym, ap, ◌∙◌, inl, inr, arith}
 use Rattle.std.specs.Prelude.{is_some}
 use Rattle.std.specs.List.{AllByRecursion}
 use Rattle.std.proofs.lemmas.Bool.{eqb-true}
@@ -16,7 +17,8 @@ pub same_number : (n : ℕ) → nat_eq n n ≡ true
 same_number n = grind arith
 
 -- the bytes at an address are those of one of the fragments
-pub cell_from : (fragments : List Fragment) (a : ℕ) (s : List ℕ) → sent_last a fragments ≡ Some s → (p : Fragment) × IsIn p fragments × (p.address ≡ a) × (p.bytes ≡ s)
+pub cell_from : (fragments : List Fragment) (a : ℕ) (s : List ℕ) → sent_last a fragments ≡ Some s
+    → (p : Fragment) × IsIn p fragments × (p.address ≡ a) × (p.bytes ≡ s)
 cell_from [] a s e = absurd (cc)
 cell_from (q ∷ older) a s e = by (nat_eq a q.address) refl e (cell_from older a s)
   where
@@ -27,48 +29,61 @@ cell_from (q ∷ older) a s e = by (nat_eq a q.address) refl e (cell_from older 
     by false t e rest = (let w = rest e in (w.0, inr w.1, w.2, w.3))
 
 -- if no address changed, each fragment is at its address
-pub cell_of : (fragments : List Fragment) (p : Fragment) → AreUnchanged fragments → IsIn p fragments → sent_last p.address fragments ≡ Some p.bytes
+pub cell_of : (fragments : List Fragment) (p : Fragment) → AreUnchanged fragments → IsIn p fragments
+    → sent_last p.address fragments ≡ Some p.bytes
 cell_of [] p u i = absurd i
 cell_of (q ∷ older) p u (inl e) =
     let same : nat_eq p.address q.address ≡ true = rw e (same_number q.address) in
     rw same (ap (λ (x : Fragment). Some x.bytes) (sym e))
 cell_of (q ∷ older) p u (inr i) = by (nat_eq p.address q.address) refl (cell_of older p u.1 i)
   where
-    by : (v : Bool) → nat_eq p.address q.address ≡ v → sent_last p.address older ≡ Some p.bytes → cond v (Some q.bytes) (sent_last p.address older) ≡ Some p.bytes
+    by : (v : Bool) → nat_eq p.address q.address ≡ v → sent_last p.address older ≡ Some p.bytes
+        → cond v (Some q.bytes) (sent_last p.address older) ≡ Some p.bytes
     by false t e = e
-    by true t e = ap Some (sym (all_in (λ (x : Fragment). x.address ≡ q.address → x.bytes ≡ q.bytes) p older u.0 i (eqb-true p.address q.address t)))
+    by true t e = ap Some (sym (all_in (λ (x : Fragment). x.address ≡ q.address → x.bytes ≡ q.bytes) p older u.0 i
+        (eqb-true p.address q.address t)))
 
 -- the newest fragment keeps the addresses unchanged exactly if its own holds nothing or its bytes
-pub unchanged_by : (p : Fragment) (older : List Fragment) → AreUnchanged older → (sent_last p.address older ≡ None) ⊎ (sent_last p.address older ≡ Some p.bytes) → AreUnchanged (p ∷ older)
+pub unchanged_by : (p : Fragment) (older : List Fragment) → AreUnchanged older
+    → (sent_last p.address older ≡ None) ⊎ (sent_last p.address older ≡ Some p.bytes) → AreUnchanged (p ∷ older)
 unchanged_by p older u h = (each older (λ q i. i), u)
   where
-    same : (q : Fragment) → IsIn q older → q.address ≡ p.address → (sent_last p.address older ≡ None) ⊎ (sent_last p.address older ≡ Some p.bytes) → q.bytes ≡ p.bytes
+    same : (q : Fragment) → IsIn q older → q.address ≡ p.address
+        → (sent_last p.address older ≡ None) ⊎ (sent_last p.address older ≡ Some p.bytes) → q.bytes ≡ p.bytes
     same q i e (inl none) =
-        let some : sent_last p.address older ≡ Some q.bytes = ap (λ a. sent_last a older) (sym e) ∙ cell_of older q u i in
+        let some : sent_last p.address older ≡ Some q.bytes = ap (λ a. sent_last a older) (sym e) ∙ cell_of older q u i
+        in
         absurd (cc)
     same q i e (inr some) =
-        let mine : sent_last p.address older ≡ Some q.bytes = ap (λ a. sent_last a older) (sym e) ∙ cell_of older q u i in
+        let mine : sent_last p.address older ≡ Some q.bytes = ap (λ a. sent_last a older) (sym e) ∙ cell_of older q u i
+        in
         cc
 
-    each : (rest : List Fragment) → ((q : Fragment) → IsIn q rest → IsIn q older) → AllByRecursion (λ (q : Fragment). q.address ≡ p.address → q.bytes ≡ p.bytes) rest
+    each : (rest : List Fragment) → ((q : Fragment) → IsIn q rest → IsIn q older)
+        → AllByRecursion (λ (q : Fragment). q.address ≡ p.address → q.bytes ≡ p.bytes) rest
     each [] sub = tt
     each (q ∷ rest) sub = ((λ e. same q (sub q (inl refl)) e h), each rest (λ r i. sub r (inr i)))
 
-pub holds_unchanged : (p : Fragment) (older : List Fragment) → AreUnchanged (p ∷ older) → (sent_last p.address older ≡ None) ⊎ (sent_last p.address older ≡ Some p.bytes)
+pub holds_unchanged : (p : Fragment) (older : List Fragment) → AreUnchanged (p ∷ older)
+    → (sent_last p.address older ≡ None) ⊎ (sent_last p.address older ≡ Some p.bytes)
 holds_unchanged p older u = by (sent_last p.address older) refl
   where
-    by : (o : Option (List ℕ)) → sent_last p.address older ≡ o → (sent_last p.address older ≡ None) ⊎ (sent_last p.address older ≡ Some p.bytes)
+    by : (o : Option (List ℕ)) → sent_last p.address older ≡ o
+        → (sent_last p.address older ≡ None) ⊎ (sent_last p.address older ≡ Some p.bytes)
     by None e = inl e
     by (Some s) e =
         let w = cell_from older p.address s e in
-        inr (e ∙ ap Some (sym w.3 ∙ all_in (λ (q : Fragment). q.address ≡ p.address → q.bytes ≡ p.bytes) w.0 older u.0 w.1 w.2))
+        inr (e ∙ ap Some (sym w.3 ∙ all_in (λ (q : Fragment). q.address ≡ p.address → q.bytes ≡ p.bytes) w.0 older u.0
+        w.1 w.2))
 
 -- fragments of one body leave the addresses unchanged
-pub are_unchanged : (body : List ℕ) (fragments : List Fragment) → AllByRecursion (IsFragmentOf body) fragments → AreUnchanged fragments
+pub are_unchanged : (body : List ℕ) (fragments : List Fragment) → AllByRecursion (IsFragmentOf body) fragments
+    → AreUnchanged fragments
 are_unchanged body [] all = tt
 are_unchanged body (p ∷ older) all = (each older all.1, are_unchanged body older all.1)
   where
-    each : (rest : List Fragment) → AllByRecursion (IsFragmentOf body) rest → AllByRecursion (λ (q : Fragment). q.address ≡ p.address → q.bytes ≡ p.bytes) rest
+    each : (rest : List Fragment) → AllByRecursion (IsFragmentOf body) rest
+        → AllByRecursion (λ (q : Fragment). q.address ≡ p.address → q.bytes ≡ p.bytes) rest
     each [] h = tt
     each (q ∷ rest) h = ((λ e. h.0.bytes ∙ ap (segment_of body) e ∙ sym all.0.bytes), each rest h.1)
 
@@ -77,32 +92,50 @@ abbrev pub EachAllows : (ℕ → List ℕ → Option Lengths) → List Fragment 
 EachAllows allowed fragments = AllByRecursion (λ (p : Fragment). is_some (allowed p.address p.bytes) ≡ true) fragments
 
 -- a length that all allow
-pub allowed_by_all : (allowed : ℕ → List ℕ → Option Lengths) (longest n : ℕ) (fragments : List Fragment) → n ≤ longest → AllByRecursion (λ (p : Fragment). Allows n (allowed p.address p.bytes)) fragments
-    → ((lengths_of allowed longest fragments).least ≤ n) × (n ≤ (lengths_of allowed longest fragments).most) × EachAllows allowed fragments
+pub allowed_by_all : (allowed : ℕ → List ℕ → Option Lengths) (longest n : ℕ) (fragments : List Fragment) → n ≤ longest
+    → AllByRecursion (λ (p : Fragment). Allows n (allowed p.address p.bytes)) fragments
+    → ((lengths_of allowed longest fragments).least ≤ n) × (n ≤ (lengths_of allowed longest fragments).most)
+    × EachAllows allowed fragments
 allowed_by_all allowed longest n [] h all = (omega arith, h, tt)
-allowed_by_all allowed longest n (p ∷ older) h all = by (allowed p.address p.bytes) refl all.0 (allowed_by_all allowed longest n older h all.1)
+allowed_by_all allowed longest n (p ∷ older) h all = by (allowed p.address p.bytes) refl all.0
+    (allowed_by_all allowed longest n older h all.1)
   where
     by : (o : Option Lengths) → allowed p.address p.bytes ≡ o → Allows n o
-        → ((lengths_of allowed longest older).least ≤ n) × (n ≤ (lengths_of allowed longest older).most) × EachAllows allowed older
-        → ((narrowed (allowed p.address p.bytes) (lengths_of allowed longest older)).least ≤ n) × (n ≤ (narrowed (allowed p.address p.bytes) (lengths_of allowed longest older)).most) × EachAllows allowed (p ∷ older)
+        → ((lengths_of allowed longest older).least ≤ n) × (n ≤ (lengths_of allowed longest older).most)
+        × EachAllows allowed older
+        → ((narrowed (allowed p.address p.bytes) (lengths_of allowed longest older)).least ≤ n)
+        × (n ≤ (narrowed (allowed p.address p.bytes) (lengths_of allowed longest older)).most) × EachAllows allowed
+        (p ∷ older)
     by None e a rest = absurd a
     by (Some l) e a rest = rw e (omega (arith, a.0, rest.0), omega (arith, a.1, rest.1), (refl, rest.2))
 
-pub all_allow : (allowed : ℕ → List ℕ → Option Lengths) (longest n : ℕ) (fragments : List Fragment) → (lengths_of allowed longest fragments).least ≤ n → n ≤ (lengths_of allowed longest fragments).most → EachAllows allowed fragments
+pub all_allow : (allowed : ℕ → List ℕ → Option Lengths) (longest n : ℕ) (fragments : List Fragment)
+    → (lengths_of allowed longest fragments).least ≤ n → n ≤ (lengths_of allowed longest fragments).most
+    → EachAllows allowed fragments
     → AllByRecursion (λ (p : Fragment). Allows n (allowed p.address p.bytes)) fragments
 all_allow allowed longest n [] lo hi each = tt
-all_allow allowed longest n (p ∷ older) lo hi each = by (allowed p.address p.bytes) refl lo hi each.0 (λ lo hi. all_allow allowed longest n older lo hi each.1)
+all_allow allowed longest n (p ∷ older) lo hi each = by (allowed p.address p.bytes) refl lo hi each.0
+    (λ lo hi. all_allow allowed longest n older lo hi each.1)
   where
-    by : (o : Option Lengths) → allowed p.address p.bytes ≡ o → (narrowed o (lengths_of allowed longest older)).least ≤ n → n ≤ (narrowed o (lengths_of allowed longest older)).most → is_some (allowed p.address p.bytes) ≡ true
-        → ((lengths_of allowed longest older).least ≤ n → n ≤ (lengths_of allowed longest older).most → AllByRecursion (λ (p : Fragment). Allows n (allowed p.address p.bytes)) older)
+    by : (o : Option Lengths) → allowed p.address p.bytes ≡ o
+        → (narrowed o (lengths_of allowed longest older)).least ≤ n
+        → n ≤ (narrowed o (lengths_of allowed longest older)).most → is_some (allowed p.address p.bytes) ≡ true
+        → ((lengths_of allowed longest older).least ≤ n → n ≤ (lengths_of allowed longest older).most
+        → AllByRecursion (λ (p : Fragment). Allows n (allowed p.address p.bytes)) older)
         → AllByRecursion (λ (p : Fragment). Allows n (allowed p.address p.bytes)) (p ∷ older)
     by None e lo hi some rest = (let bad : false ≡ true = ap is_some (sym e) ∙ some in absurd (cc))
-    by (Some l) e lo hi some rest = rw e ((omega (arith, lo), omega (arith, hi)), rest (omega (arith, lo)) (omega (arith, hi)))
+    by (Some l) e lo hi some rest = rw e (
+      (omega (arith, lo), omega (arith, hi)),
+      rest (omega (arith, lo))
+          (omega (arith, hi)),
+    )
 
-pub longest_at_most : (allowed : ℕ → List ℕ → Option Lengths) (longest : ℕ) (fragments : List Fragment) → (lengths_of allowed longest fragments).most ≤ longest
+pub longest_at_most : (allowed : ℕ → List ℕ → Option Lengths) (longest : ℕ) (fragments : List Fragment)
+    → (lengths_of allowed longest fragments).most ≤ longest
 longest_at_most allowed longest [] = omega arith
 longest_at_most allowed longest (p ∷ older) = by (allowed p.address p.bytes) (longest_at_most allowed longest older)
   where
-    by : (o : Option Lengths) → (lengths_of allowed longest older).most ≤ longest → (narrowed o (lengths_of allowed longest older)).most ≤ longest
+    by : (o : Option Lengths) → (lengths_of allowed longest older).most ≤ longest
+        → (narrowed o (lengths_of allowed longest older)).most ≤ longest
     by None h = h
     by (Some l) h = omega (arith, h)

@@ -1,9 +1,13 @@
--- Lemmas: up to the first fault of a service, its spans are its reigns and break no rule; marks that add nothing to its list
+-- Lemmas: up to the first fault of a service, its spans are its reigns and break no rule; marks that add nothing to its
+-- list
 -- pass.
-use Rattle.std.proofs.Common.{◌≡◌, ◌≢◌, ◌⊎◌, ◌+◌, ◌<◌, ◌≤◌, ◌&&◌, ◌||◌, not, max, ℕ, Bool, true, false, nat_eq, nat_lt, List, [], ◌∷◌, Option, Some, None, length, cond, refl, sym, ap, ◌∙◌, subst, inl, inr, arith}
+use Rattle.std.proofs.Common.{◌≡◌, ◌≢◌, ◌⊎◌, ◌+◌, ◌<◌, ◌≤◌, ◌&&◌, ◌||◌, not, max, ℕ, Bool, true, false, nat_eq, nat_lt}
+use Rattle.std.proofs.Common.{List, [], ◌∷◌, Option, Some, None, length, cond, refl, sym, ap, ◌∙◌, subst, inl, inr}
+use Rattle.std.proofs.Common.{arith}
 use Rattle.std.specs.Prelude.{is_some}
 use Rattle.std.specs.List.{AllByRecursion, list_all, list_any}
-use Rattle.std.proofs.lemmas.Bool.{and_from, and_parts, cases_lt, cond_both, leb-true, le-leb, le-ltb, lt-ltb, ltb-false, or_from}
+use Rattle.std.proofs.lemmas.Bool.{and_from, and_parts, cases_lt, cond_both, leb-true, le-leb, le-ltb, lt-ltb}
+use Rattle.std.proofs.lemmas.Bool.{ltb-false, or_from}
 use Rattle.rds_fields.specs.Tag.{PairFields}
 use Rattle.rds_receiver.specs.Receipts.{Fragment}
 use Rattle.rds_safety.specs.Flags.{is_other_flag, is_same_flag, same_or_other}
@@ -11,10 +15,13 @@ use Rattle.rds_safety.specs.Lawful.{Kind}
 use Rattle.rds_safety.specs.Marks.{Mark, Nothing, Sends, Tagged}
 use Rattle.rds_audit.specs.declared.fault_set.FaultSet.{FaultSet}
 use Rattle.rds_audit.specs.Lengths.{Gauge, IsExact, IsFormed, lengths_of, sent_last, tags_end}
-use Rattle.rds_audit.specs.Listing.{SentFragment, Span, added, broken_by, broken_newest, first_of_span, fits, fragments_in, joined, newest_at, none_broken, not_before, past_span, same_bytes, span_with, spans, spans_after, spans_tagged, turned}
+use Rattle.rds_audit.specs.Listing.{SentFragment, Span, added, broken_by, broken_newest, first_of_span, fits}
+use Rattle.rds_audit.specs.Listing.{fragments_in, joined, newest_at, none_broken, not_before, past_span, same_bytes}
+use Rattle.rds_audit.specs.Listing.{span_with, spans, spans_after, spans_tagged, turned}
 use Rattle.rds_audit.specs.ListingLaws.{IsFormedMark}
 use Rattle.rds_audit.specs.AuditAt.{first_slot, reign_of, reigns_of}
-use Rattle.rds_audit.specs.Reigns.{Reign, SentTags, after_fragment, after_tags, joins, past_newest, reigns, with_fragment, opened_by}
+use Rattle.rds_audit.specs.Reigns.{Reign, SentTags, after_fragment, after_tags, joins, past_newest, reigns}
+use Rattle.rds_audit.specs.Reigns.{with_fragment, opened_by}
 use Rattle.rds_audit.specs.Rules.{AreUnchanged, CanBeBroadcast, HaveOneValue, IsAfterFragment, Passes}
 use Rattle.rds_audit.proofs.Keeping.{AreKept, Keeps, keeps}
 use Rattle.rds_audit.proofs.Sending.{TagsAreAfter, after_later, early, fragment_is_marked, sent_before}
@@ -24,11 +31,14 @@ use Rattle.rds_audit.proofs.SpanSteps.{sets_are}
 
 -- ---- a service that passes passed before its newest mark
 
-fragment_before : (d slot : ℕ) (kind : Kind) (p : Fragment) (rs : List Reign) → AllByRecursion (CanBeBroadcast d kind) (after_fragment d slot p rs) → AllByRecursion (CanBeBroadcast d kind) rs
+fragment_before : (d slot : ℕ) (kind : Kind) (p : Fragment) (rs : List Reign)
+    → AllByRecursion (CanBeBroadcast d kind) (after_fragment d slot p rs) → AllByRecursion (CanBeBroadcast d kind) rs
 fragment_before d slot kind p [] all = tt
 fragment_before d slot kind p (r ∷ older) all = by (joins d slot p.flag r) all
   where
-    by : (v : Bool) → AllByRecursion (CanBeBroadcast d kind) (cond v (with_fragment slot p r ∷ older) (opened_by d slot p (r ∷ older) ∷ r ∷ older)) → AllByRecursion (CanBeBroadcast d kind) (r ∷ older)
+    by : (v : Bool)
+        → AllByRecursion (CanBeBroadcast d kind) (cond v (with_fragment slot p r ∷ older)
+        (opened_by d slot p (r ∷ older) ∷ r ∷ older)) → AllByRecursion (CanBeBroadcast d kind) (r ∷ older)
     by true all = (
       record {
         begun = all.0.begun;
@@ -39,7 +49,8 @@ fragment_before d slot kind p (r ∷ older) all = by (joins d slot p.flag r) all
     )
     by false all = all.1
 
-tags_before : (d slot : ℕ) (kind : Kind) (pair : PairFields) (rs : List Reign) → AllByRecursion (CanBeBroadcast d kind) (after_tags slot pair rs) → AllByRecursion (CanBeBroadcast d kind) rs
+tags_before : (d slot : ℕ) (kind : Kind) (pair : PairFields) (rs : List Reign)
+    → AllByRecursion (CanBeBroadcast d kind) (after_tags slot pair rs) → AllByRecursion (CanBeBroadcast d kind) rs
 tags_before d slot kind pair [] all = tt
 tags_before d slot kind pair (r ∷ older) all = (
   record {
@@ -50,35 +61,54 @@ tags_before d slot kind pair (r ∷ older) all = (
   all.1,
 )
 
-reigns_before : (d : ℕ) (kind : Kind) (mark : Mark) (before : List Mark) → AllByRecursion (CanBeBroadcast d kind) (reigns d (mark ∷ before)) → AllByRecursion (CanBeBroadcast d kind) (reigns d before)
+reigns_before : (d : ℕ) (kind : Kind) (mark : Mark) (before : List Mark)
+    → AllByRecursion (CanBeBroadcast d kind) (reigns d (mark ∷ before))
+    → AllByRecursion (CanBeBroadcast d kind) (reigns d before)
 reigns_before d kind Nothing before all = all
 reigns_before d kind (Sends p) before all = fragment_before d (length before) kind p (reigns d before) all
 reigns_before d kind (Tagged pair) before all = tags_before d (length before) kind pair (reigns d before) all
 
-pub service_passed_before : (d : ℕ) (kind : Kind) (mark : Mark) (before : List Mark) → Passes d kind (mark ∷ before) → Passes d kind before
+pub service_passed_before : (d : ℕ) (kind : Kind) (mark : Mark) (before : List Mark) → Passes d kind (mark ∷ before)
+    → Passes d kind before
 service_passed_before d kind mark before h = record {
   reigns = reigns_before d kind mark before h.reigns;
   tagged = λ t pair is.
       let w = h.tagged t pair (inr is) in
       let less = early before t (Tagged pair) is in
-      record { slot = w.slot; fragment = w.fragment; is_sent = sent_before mark before w.slot (Sends w.fragment) (omega (arith, w.before, less)) w.is_sent; before = w.before };
+      record {
+        slot = w.slot;
+        fragment = w.fragment;
+        is_sent = sent_before mark before w.slot (Sends w.fragment)
+            (omega (arith, w.before, less)) w.is_sent;
+        before = w.before;
+      };
 }
 
 -- tags come after a fragment with a mark that is no tags, and with tags after a fragment
-tags_after : (x : Mark) (sent : List Mark) → ((pair : PairFields) → Tagged pair ≡ x → ⊥) → TagsAreAfter sent → TagsAreAfter (x ∷ sent)
+tags_after : (x : Mark) (sent : List Mark) → ((pair : PairFields) → Tagged pair ≡ x → ⊥) → TagsAreAfter sent
+    → TagsAreAfter (x ∷ sent)
 tags_after x sent none h t pair (inl s) = absurd (none pair s.1)
 tags_after x sent none h t pair (inr s) = after_later x sent t (h t pair s)
 
-tagged_after : (pair : PairFields) (sent : List Mark) → IsAfterFragment sent (length sent) → TagsAreAfter sent → TagsAreAfter (Tagged pair ∷ sent)
-tagged_after pair sent w h t other (inl s) = after_later (Tagged pair) sent t (subst (λ (n : ℕ). IsAfterFragment sent n) (sym s.0) w)
+tagged_after : (pair : PairFields) (sent : List Mark) → IsAfterFragment sent (length sent) → TagsAreAfter sent
+    → TagsAreAfter (Tagged pair ∷ sent)
+tagged_after pair sent w h t other (inl s) = after_later (Tagged pair) sent t (subst (λ (n : ℕ). IsAfterFragment sent n)
+    (sym s.0) w)
 tagged_after pair sent w h t other (inr s) = after_later (Tagged pair) sent t (h t other s)
 
-after_some : (d : ℕ) (sent : List Mark) (rs : List Reign) → AreKept d sent rs → (rs ≡ [] → ⊥) → IsAfterFragment sent (length sent)
+after_some : (d : ℕ) (sent : List Mark) (rs : List Reign) → AreKept d sent rs → (rs ≡ [] → ⊥)
+    → IsAfterFragment sent (length sent)
 after_some d sent [] k some = absurd (some refl)
-after_some d sent (r ∷ older) k some = record { slot = r.opened; fragment = k.0.first; is_sent = k.0.opened; before = early sent r.opened (Sends k.0.first) k.0.opened }
+after_some d sent (r ∷ older) k some = record {
+  slot = r.opened;
+  fragment = k.0.first;
+  is_sent = k.0.opened;
+  before = early sent r.opened (Sends k.0.first) k.0.opened;
+}
 
 -- what passes with tags has a reign for them
-tagged_some : (d : ℕ) (kind : Kind) (pair : PairFields) (before : List Mark) (rs : List Reign) → Keeps d before rs → Passes d kind (Tagged pair ∷ before) → rs ≡ [] → ⊥
+tagged_some : (d : ℕ) (kind : Kind) (pair : PairFields) (before : List Mark) (rs : List Reign) → Keeps d before rs
+    → Passes d kind (Tagged pair ∷ before) → rs ≡ [] → ⊥
 tagged_some d kind pair before [] k passes e =
     let w = passes.tagged (length before) pair (inl (refl, refl)) in
     let sent = sent_before (Tagged pair) before w.slot (Sends w.fragment) w.before w.is_sent in
@@ -87,15 +117,21 @@ tagged_some d kind pair before (r ∷ older) k passes e = (cc)
 
 -- ---- the rules that a span breaks
 
-each_fits : (g : Gauge) (sent : List SentFragment) → AllByRecursion (λ (p : Fragment). is_some (g.allowed p.address p.bytes) ≡ true) (fragments_in sent) → list_all (λ (s : SentFragment). is_some (g.allowed s.fragment.address s.fragment.bytes)) sent ≡ true
+each_fits : (g : Gauge) (sent : List SentFragment)
+    → AllByRecursion (λ (p : Fragment). is_some (g.allowed p.address p.bytes) ≡ true) (fragments_in sent)
+    → list_all (λ (s : SentFragment). is_some (g.allowed s.fragment.address s.fragment.bytes)) sent ≡ true
 each_fits g [] all = refl
 each_fits g (s ∷ older) all = and_from _ _ all.0 (each_fits g older all.1)
 
-fits_each : (g : Gauge) (sent : List SentFragment) → list_all (λ (s : SentFragment). is_some (g.allowed s.fragment.address s.fragment.bytes)) sent ≡ true → AllByRecursion (λ (p : Fragment). is_some (g.allowed p.address p.bytes) ≡ true) (fragments_in sent)
+fits_each : (g : Gauge) (sent : List SentFragment)
+    → list_all (λ (s : SentFragment). is_some (g.allowed s.fragment.address s.fragment.bytes)) sent ≡ true
+    → AllByRecursion (λ (p : Fragment). is_some (g.allowed p.address p.bytes) ≡ true) (fragments_in sent)
 fits_each g [] e = tt
-fits_each g (s ∷ older) e = (let parts = and_parts (is_some (g.allowed s.fragment.address s.fragment.bytes)) _ e in (parts.0, fits_each g older parts.1))
+fits_each g (s ∷ older) e = (let parts = and_parts (is_some (g.allowed s.fragment.address s.fragment.bytes)) _ e
+    in (parts.0, fits_each g older parts.1))
 
-none_early : (d start : ℕ) (tags : List SentTags) → AllByRecursion (λ (s : SentTags). start + d ≤ s.slot) tags → list_any (λ (s : SentTags). nat_lt s.slot (start + d)) tags ≡ false
+none_early : (d start : ℕ) (tags : List SentTags) → AllByRecursion (λ (s : SentTags). start + d ≤ s.slot) tags
+    → list_any (λ (s : SentTags). nat_lt s.slot (start + d)) tags ≡ false
 none_early d start [] all = refl
 none_early d start (s ∷ older) all = or_from _ _ (le-ltb s.slot (start + d) all.0) (none_early d start older all.1)
 
@@ -106,21 +142,30 @@ module _ (g : Gauge) (exact : IsExact g) (d : ℕ) where
       let m = exact.measured (fragments_in r.fragments) tags one in
       and_from _ _ (each_fits g r.fragments m.each) (le-leb _ _ m.room)
 
-  fits_one : (r : Span) (tags : List SentTags) → AllByRecursion (IsFormed g.segments) (fragments_in r.fragments) → AreUnchanged (fragments_in r.fragments) → fits g r ≡ true
-      → tags_end tags ≤ (lengths_of g.allowed g.longest (fragments_in r.fragments)).most → HaveOneValue g.kind (fragments_in r.fragments) tags
+  fits_one : (r : Span) (tags : List SentTags) → AllByRecursion (IsFormed g.segments) (fragments_in r.fragments)
+      → AreUnchanged (fragments_in r.fragments) → fits g r ≡ true
+      → tags_end tags ≤ (lengths_of g.allowed g.longest (fragments_in r.fragments)).most
+      → HaveOneValue g.kind (fragments_in r.fragments) tags
   fits_one r tags formed unchanged fit ends =
-      let parts = and_parts (list_all (λ (s : SentFragment). is_some (g.allowed s.fragment.address s.fragment.bytes)) r.fragments) _ fit in
-      exact.one (fragments_in r.fragments) tags formed record { unchanged = unchanged; each = fits_each g r.fragments parts.0; room = leb-true _ _ parts.1; ends = ends }
+      let parts = and_parts (list_all (λ (s : SentFragment). is_some (g.allowed s.fragment.address s.fragment.bytes))
+      r.fragments) _ fit in
+      exact.one (fragments_in r.fragments) tags formed record
+      { unchanged = unchanged; each = fits_each g r.fragments parts.0; room = leb-true _ _ parts.1; ends = ends }
 
   -- a span that can be a broadcast breaks no rule
-  breaks_none : (r : Span) → CanBeBroadcast d g.kind (reign_of r) → r.is_changed ≡ false → r.is_early ≡ false → broken_by g d r ≡ none_broken
+  breaks_none : (r : Span) → CanBeBroadcast d g.kind (reign_of r) → r.is_changed ≡ false → r.is_early ≡ false
+      → broken_by g d r ≡ none_broken
   breaks_none r can changed early =
       sets_are _ _ changed early (ap not (one_fits r r.tags can.one)) (none_early d r.start r.tags can.lasted)
       (le-ltb _ _ (exact.measured (fragments_in r.fragments) r.tags can.one).ends)
 
   -- a span that breaks no rule has one value
-  quiet_one : (r : Span) → AllByRecursion (IsFormed g.segments) (fragments_in r.fragments) → AreUnchanged (fragments_in r.fragments) → broken_by g d r ≡ none_broken → HaveOneValue g.kind (fragments_in r.fragments) r.tags
-  quiet_one r formed unchanged none = fits_one r r.tags formed unchanged (holds (fits g r) (ap (λ (f : FaultSet). f.not_one_text) none)) (ltb-false _ _ (ap (λ (f : FaultSet). f.tag_outside) none))
+  quiet_one : (r : Span) → AllByRecursion (IsFormed g.segments) (fragments_in r.fragments)
+      → AreUnchanged (fragments_in r.fragments) → broken_by g d r ≡ none_broken
+      → HaveOneValue g.kind (fragments_in r.fragments) r.tags
+  quiet_one r formed unchanged none = fits_one r r.tags formed unchanged
+      (holds (fits g r) (ap (λ (f : FaultSet). f.not_one_text) none))
+      (ltb-false _ _ (ap (λ (f : FaultSet). f.tag_outside) none))
     where
       holds : (b : Bool) → not b ≡ false → b ≡ true
       holds true e = refl
@@ -133,30 +178,52 @@ abbrev pub HasFragments : List SentFragment → Type 0
 HasFragments [] = ⊥
 HasFragments (s ∷ older) = Unit {0}
 
-first_stays : (s : SentFragment) (older : List SentFragment) → HasFragments older → first_slot older ≡ first_slot (s ∷ older)
+first_stays : (s : SentFragment) (older : List SentFragment) → HasFragments older
+    → first_slot older ≡ first_slot (s ∷ older)
 first_stays s [] h = absurd h
 first_stays s (t ∷ older) h = refl
 
-with_reign : (slot : ℕ) (p : Fragment) (r : Span) → HasFragments r.fragments → with_fragment slot p (reign_of r) ≡ reign_of (span_with slot p r)
-with_reign slot p r h = ap (λ (n : ℕ). record { start = r.start; opened = n; last = slot; flag = r.flag; fragments = p ∷ fragments_in r.fragments; tags = r.tags }) (first_stays record { slot = slot; fragment = p } r.fragments h)
+with_reign : (slot : ℕ) (p : Fragment) (r : Span) → HasFragments r.fragments
+    → with_fragment slot p (reign_of r) ≡ reign_of (span_with slot p r)
+with_reign slot p r h = ap (λ (n : ℕ). record {
+  start = r.start;
+  opened = n;
+  last = slot;
+  flag = r.flag;
+  fragments = p
+      ∷ fragments_in r.fragments;
+  tags = r.tags;
+}) (first_stays record { slot = slot; fragment = p } r.fragments h)
 
 past_same : (d : ℕ) (older : List Span) → past_newest d (reigns_of older) ≡ past_span d older
 past_same d [] = refl
 past_same d (q ∷ rest) = refl
 
--- what a fragment makes of spans, beside what it makes of their reigns: it joins; or it joins the reign, which it changes;
+-- what a fragment makes of spans, beside what it makes of their reigns: it joins; or it joins the reign, which it
+-- changes;
 -- or it opens one in time; or it opens one too early
 module _ (Q : List Span → List Reign → Type 0) (d slot : ℕ) (p : Fragment) (r : Span) (older : List Span)
-    (joins_it : AreUnchanged (p ∷ fragments_in r.fragments) → Q (span_with slot p r ∷ older) (with_fragment slot p (reign_of r) ∷ reigns_of older))
-    (changes_it : (AreUnchanged (p ∷ fragments_in r.fragments) → ⊥) → Q (turned d slot p true r older) (with_fragment slot p (reign_of r) ∷ reigns_of older))
-    (opens_late : (start : ℕ) → start ≤ slot → Q (first_of_span slot p start false false ∷ r ∷ older) (reigns_of (first_of_span slot p start false false ∷ r ∷ older)))
-    (opens_early : (start late : ℕ) → slot < late → Q (first_of_span slot p start false true ∷ r ∷ older) (reign_of (first_of_span slot p late false true) ∷ reigns_of (r ∷ older))) where
-  by_address : AreUnchanged (fragments_in r.fragments) → (o : Option SentFragment) → newest_at p.address r.fragments ≡ o → Q (joined d slot p o r older) (with_fragment slot p (reign_of r) ∷ reigns_of older)
-  by_address u None e = joins_it (unchanged_by p (fragments_in r.fragments) u (inl (bytes_at p.address r.fragments ∙ ap bytes_of e)))
+    (joins_it : AreUnchanged (p ∷ fragments_in r.fragments)
+    → Q (span_with slot p r ∷ older) (with_fragment slot p (reign_of r) ∷ reigns_of older))
+    (changes_it : (AreUnchanged (p ∷ fragments_in r.fragments) → ⊥)
+    → Q (turned d slot p true r older) (with_fragment slot p (reign_of r) ∷ reigns_of older))
+    (opens_late : (start : ℕ) → start ≤ slot
+    → Q (first_of_span slot p start false false ∷ r ∷ older) (reigns_of (first_of_span slot p start false false ∷ r
+    ∷ older)))
+    (opens_early : (start late : ℕ) → slot < late
+    → Q (first_of_span slot p start false true ∷ r ∷ older) (reign_of (first_of_span slot p late false true)
+    ∷ reigns_of (r ∷ older))) where
+  by_address : AreUnchanged (fragments_in r.fragments) → (o : Option SentFragment) → newest_at p.address r.fragments ≡ o
+      → Q (joined d slot p o r older) (with_fragment slot p (reign_of r) ∷ reigns_of older)
+  by_address u None e = joins_it (unchanged_by p (fragments_in r.fragments) u
+      (inl (bytes_at p.address r.fragments ∙ ap bytes_of e)))
   by_address u (Some t) e =
-      let sent : sent_last p.address (fragments_in r.fragments) ≡ Some t.fragment.bytes = bytes_at p.address r.fragments ∙ ap bytes_of e in
-      cond_both (same_bytes p.bytes t.fragment.bytes) _ _ (λ (rs : List Span). Q rs (with_fragment slot p (reign_of r) ∷ reigns_of older))
-      (λ same. joins_it (unchanged_by p (fragments_in r.fragments) u (inr (sent ∙ ap Some (sym (same_bytes_are _ _ same))))))
+      let sent : sent_last p.address (fragments_in r.fragments) ≡ Some t.fragment.bytes = bytes_at p.address r.fragments
+      ∙ ap bytes_of e in
+      cond_both (same_bytes p.bytes t.fragment.bytes) _ _ (λ (rs : List Span). Q rs (with_fragment slot p (reign_of r)
+      ∷ reigns_of older))
+      (λ same. joins_it (unchanged_by p (fragments_in r.fragments) u
+      (inr (sent ∙ ap Some (sym (same_bytes_are _ _ same))))))
       (λ other. changes_it (λ u. elim (holds_unchanged p (fragments_in r.fragments) u) [
         | inl none ↦ (let none = none in absurd (cc))
         | inr some ↦
@@ -165,19 +232,33 @@ module _ (Q : List Span → List Reign → Type 0) (d slot : ℕ) (p : Fragment)
             absurd (cc)
       ]))
 
-  pub by_fragment : AreUnchanged (fragments_in r.fragments) → Q (spans_after d slot p (r ∷ older)) (after_fragment d slot p (reigns_of (r ∷ older)))
+  pub by_fragment : AreUnchanged (fragments_in r.fragments)
+      → Q (spans_after d slot p (r ∷ older)) (after_fragment d slot p (reigns_of (r ∷ older)))
   by_fragment u = by (same_or_other r.flag p.flag)
     where
-      by : (r.flag ≡ p.flag) ⊎ (r.flag ≢ p.flag) → Q (spans_after d slot p (r ∷ older)) (after_fragment d slot p (reigns_of (r ∷ older)))
+      by : (r.flag ≡ p.flag) ⊎ (r.flag ≢ p.flag)
+          → Q (spans_after d slot p (r ∷ older)) (after_fragment d slot p (reigns_of (r ∷ older)))
       by (inl e) =
           elim (cases_lt slot (r.last + d)) [
-            | inl near ↦ rw (is_same_flag r.flag p.flag e, lt-ltb slot (r.last + d) near) (by_address u (newest_at p.address r.fragments) refl)
+            | inl near ↦ rw (is_same_flag r.flag p.flag e, lt-ltb slot (r.last + d) near)
+                (by_address u (newest_at p.address r.fragments) refl)
             | inr far ↦ rw (is_same_flag r.flag p.flag e, le-ltb slot (r.last + d) far) (opens_late (r.last + d) far)
           ]
       by (inr ne) =
           elim (cases_lt slot (max (r.last + 1) (past_span d older))) [
-            | inl early ↦ rw (is_other_flag r.flag p.flag ne, past_same d older, lt-ltb slot (max (r.last + 1) (past_span d older)) early) (opens_early (r.last + 1) (max (r.last + 1) (past_span d older)) early)
-            | inr late ↦ rw (is_other_flag r.flag p.flag ne, past_same d older, le-ltb slot (max (r.last + 1) (past_span d older)) late) (opens_late (max (r.last + 1) (past_span d older)) late)
+            | inl early ↦ rw (
+              is_other_flag r.flag p.flag ne,
+              past_same d older,
+              lt-ltb slot
+                  (max (r.last + 1) (past_span d older)) early,
+            )
+                (opens_early (r.last + 1) (max (r.last + 1) (past_span d older)) early)
+            | inr late ↦ rw (
+              is_other_flag r.flag p.flag ne,
+              past_same d older,
+              le-ltb slot
+                  (max (r.last + 1) (past_span d older)) late,
+            ) (opens_late (max (r.last + 1) (past_span d older)) late)
           ]
 
 -- ---- up to the first fault
@@ -192,96 +273,167 @@ module _ (g : Gauge) (exact : IsExact g) (d : ℕ) where
   can_be_unchanged : (q : Reign) → CanBeBroadcast d g.kind q → AreUnchanged q.fragments
   can_be_unchanged q can = are_unchanged (g.kind.body can.one.value) q.fragments can.one.has
 
-  fragment_reigns : (p : Fragment) (before : List Mark) (rs : List Span) → AllByRecursion (CanBeBroadcast d g.kind) (reigns_of rs) → AllByRecursion (CanBeBroadcast d g.kind) (after_fragment d (length before) p (reigns_of rs)) → AreReigns g d before rs (reigns_of rs)
-      → AreReigns g d (Sends p ∷ before) (spans_after d (length before) p rs) (after_fragment d (length before) p (reigns_of rs))
-  fragment_reigns p before [] was all h = record { same = refl; some = (tt, tt); none = breaks_none g exact d (first_of_span (length before) p 0 false false) all.0 refl refl }
+  fragment_reigns : (p : Fragment) (before : List Mark) (rs : List Span)
+      → AllByRecursion (CanBeBroadcast d g.kind) (reigns_of rs)
+      → AllByRecursion (CanBeBroadcast d g.kind) (after_fragment d (length before) p (reigns_of rs))
+      → AreReigns g d before rs (reigns_of rs)
+      → AreReigns g d (Sends p ∷ before) (spans_after d (length before) p rs) (after_fragment d (length before) p
+      (reigns_of rs))
+  fragment_reigns p before [] was all h = record {
+    same = refl;
+    some = (tt, tt);
+    none = breaks_none g exact d (first_of_span (length before) p 0 false false) all.0
+        refl refl;
+  }
   fragment_reigns p before (r ∷ older) was all h =
-      by_fragment (λ (rs : List Span) (regs : List Reign). AllByRecursion (CanBeBroadcast d g.kind) regs → AreReigns g d (Sends p ∷ before) rs regs) d (length before) p r older
+      by_fragment (λ (rs : List Span) (regs : List Reign). AllByRecursion (CanBeBroadcast d g.kind) regs
+      → AreReigns g d (Sends p ∷ before) rs regs) d (length before) p r older
       (λ u all. record {
         same = ap (λ (q : Reign). q ∷ reigns_of older) (sym (with_reign (length before) p r h.some.0));
         some = (tt, h.some.1);
-        none = breaks_none g exact d (span_with (length before) p r) (subst (CanBeBroadcast d g.kind) (with_reign (length before) p r h.some.0) all.0) (ap (λ (f : FaultSet). f.changed) h.none) (ap (λ (f : FaultSet). f.early_flag) h.none);
+        none = breaks_none g exact d (span_with (length before) p r) (subst (CanBeBroadcast d g.kind)
+            (with_reign (length before) p r h.some.0) all.0) (ap (λ (f : FaultSet). f.changed) h.none)
+            (ap (λ (f : FaultSet). f.early_flag) h.none);
       })
       (λ other all. absurd (other (can_be_unchanged (with_fragment (length before) p (reign_of r)) all.0)))
-      (λ start late all. record { same = refl; some = (tt, h.some); none = breaks_none g exact d (first_of_span (length before) p start false false) all.0 refl refl })
+      (λ start late all. record {
+        same = refl;
+        some = (tt, h.some);
+        none = breaks_none g exact d
+            (first_of_span (length before) p start false false) all.0 refl refl;
+      })
       (λ start late less all. absurd (omega (arith, all.0.begun, less)))
       (can_be_unchanged (reign_of r) was.0) all
 
-  tags_reigns : (pair : PairFields) (before : List Mark) (rs : List Span) → (reigns_of rs ≡ [] → ⊥) → AllByRecursion (CanBeBroadcast d g.kind) (after_tags (length before) pair (reigns_of rs)) → AreReigns g d before rs (reigns_of rs)
-      → AreReigns g d (Tagged pair ∷ before) (spans_tagged (length before) pair rs) (after_tags (length before) pair (reigns_of rs))
+  tags_reigns : (pair : PairFields) (before : List Mark) (rs : List Span) → (reigns_of rs ≡ [] → ⊥)
+      → AllByRecursion (CanBeBroadcast d g.kind) (after_tags (length before) pair (reigns_of rs))
+      → AreReigns g d before rs (reigns_of rs)
+      → AreReigns g d (Tagged pair ∷ before) (spans_tagged (length before) pair rs) (after_tags (length before) pair
+      (reigns_of rs))
   tags_reigns pair before [] some all h = absurd (some refl)
   tags_reigns pair before (r ∷ older) some all h = record {
     same = refl;
     some = h.some;
-    none = breaks_none g exact d (record r { last = length before; tags = record { slot = length before; pair = pair } ∷ r.tags }) all.0 (ap (λ (f : FaultSet). f.changed) h.none) (ap (λ (f : FaultSet). f.early_flag) h.none);
+    none = breaks_none g exact d (record r {
+      last = length before;
+      tags = record { slot = length before; pair = pair }
+          ∷ r.tags;
+    }) all.0 (ap (λ (f : FaultSet). f.changed) h.none) (ap (λ (f : FaultSet). f.early_flag) h.none);
   }
 
-  nothing_reigns : (before : List Mark) (rs : List Span) (regs : List Reign) → AreReigns g d before rs regs → AreReigns g d (Nothing ∷ before) rs regs
+  nothing_reigns : (before : List Mark) (rs : List Span) (regs : List Reign) → AreReigns g d before rs regs
+      → AreReigns g d (Nothing ∷ before) rs regs
   nothing_reigns before [] regs h = record { same = h.same; some = h.some; none = h.none }
   nothing_reigns before (r ∷ older) regs h = record { same = h.same; some = h.some; none = h.none }
 
   pub are_reigns : (sent : List Mark) → Passes d g.kind sent → AreReigns g d sent (spans d sent) (reigns d sent)
   are_reigns [] passes = record { same = refl; some = tt; none = refl }
-  are_reigns (Nothing ∷ before) passes = nothing_reigns before (spans d before) (reigns d before) (are_reigns before (service_passed_before d g.kind Nothing before passes))
+  are_reigns (Nothing ∷ before) passes = nothing_reigns before (spans d before) (reigns d before)
+      (are_reigns before (service_passed_before d g.kind Nothing before passes))
   are_reigns (Sends p ∷ before) passes =
       let passed = service_passed_before d g.kind (Sends p) before passes in
       let h = are_reigns before passed in
-      subst (λ (regs : List Reign). AreReigns g d (Sends p ∷ before) (spans_after d (length before) p (spans d before)) (after_fragment d (length before) p regs)) h.same
-      (fragment_reigns p before (spans d before) (subst (AllByRecursion (CanBeBroadcast d g.kind)) (sym h.same) passed.reigns)
-      (subst (λ (regs : List Reign). AllByRecursion (CanBeBroadcast d g.kind) (after_fragment d (length before) p regs)) (sym h.same) passes.reigns) record { same = refl; some = h.some; none = h.none })
+      subst (λ (regs : List Reign). AreReigns g d (Sends p ∷ before) (spans_after d (length before) p (spans d before))
+      (after_fragment d (length before) p regs)) h.same
+      (fragment_reigns p before (spans d before) (subst (AllByRecursion (CanBeBroadcast d g.kind)) (sym h.same)
+      passed.reigns)
+      (subst (λ (regs : List Reign). AllByRecursion (CanBeBroadcast d g.kind) (after_fragment d (length before) p regs))
+      (sym h.same) passes.reigns) record { same = refl; some = h.some; none = h.none })
   are_reigns (Tagged pair ∷ before) passes =
       let passed = service_passed_before d g.kind (Tagged pair) before passes in
       let h = are_reigns before passed in
-      let some : reigns_of (spans d before) ≡ [] → ⊥ = λ e. tagged_some d g.kind pair before (reigns d before) (keeps d before) passes (sym h.same ∙ e) in
-      subst (λ (regs : List Reign). AreReigns g d (Tagged pair ∷ before) (spans_tagged (length before) pair (spans d before)) (after_tags (length before) pair regs)) h.same
+      let some : reigns_of (spans d before) ≡ []
+      → ⊥ = λ e. tagged_some d g.kind pair before (reigns d before) (keeps d before) passes (sym h.same ∙ e) in
+      subst (λ (regs : List Reign). AreReigns g d (Tagged pair ∷ before) (spans_tagged (length before) pair
+      (spans d before)) (after_tags (length before) pair regs)) h.same
       (tags_reigns pair before (spans d before) some
-      (subst (λ (regs : List Reign). AllByRecursion (CanBeBroadcast d g.kind) (after_tags (length before) pair regs)) (sym h.same) passes.reigns) record { same = refl; some = h.some; none = h.none })
+      (subst (λ (regs : List Reign). AllByRecursion (CanBeBroadcast d g.kind) (after_tags (length before) pair regs))
+      (sym h.same) passes.reigns) record { same = refl; some = h.some; none = h.none })
 
   -- ---- at the first fault
 
   -- without a fault before, a slot adds what the newest span breaks
-  adds_all : (mark : Mark) (before : List Mark) → broken_newest g d before (spans d before) ≡ none_broken → added g d mark before ≡ broken_newest g d (mark ∷ before) (spans d (mark ∷ before))
+  adds_all : (mark : Mark) (before : List Mark) → broken_newest g d before (spans d before) ≡ none_broken
+      → added g d mark before ≡ broken_newest g d (mark ∷ before) (spans d (mark ∷ before))
   adds_all mark before none =
-      cond_both (nat_eq (length (spans d (mark ∷ before))) (length (spans d before))) _ _ (λ (f : FaultSet). f ≡ broken_newest g d (mark ∷ before) (spans d (mark ∷ before)))
-      (λ _. ap (λ (f : FaultSet). not_before f (broken_newest g d (mark ∷ before) (spans d (mark ∷ before)))) none ∙ all_new (broken_newest g d (mark ∷ before) (spans d (mark ∷ before)))) (λ _. refl)
+      cond_both (nat_eq (length (spans d (mark ∷ before))) (length (spans d before))) _ _ (λ (f : FaultSet). f
+      ≡ broken_newest g d (mark ∷ before) (spans d (mark ∷ before)))
+      (λ _. ap (λ (f : FaultSet). not_before f (broken_newest g d (mark ∷ before) (spans d (mark ∷ before)))) none
+      ∙ all_new (broken_newest g d (mark ∷ before) (spans d (mark ∷ before)))) (λ _. refl)
     where
       and_true : (b : Bool) → (b && true) ≡ b
       and_true true = refl
       and_true false = refl
 
       all_new : (f : FaultSet) → not_before none_broken f ≡ f
-      all_new f = sets_are _ _ (and_true f.changed) (and_true f.early_flag) (and_true f.not_one_text) (and_true f.early_tag) (and_true f.tag_outside)
+      all_new f = sets_are _ _ (and_true f.changed) (and_true f.early_flag) (and_true f.not_one_text)
+          (and_true f.early_tag) (and_true f.tag_outside)
 
   -- a mark that breaks no rule adds nothing
-  pub adds_none : (mark : Mark) (before : List Mark) → Passes d g.kind (mark ∷ before) → added g d mark before ≡ none_broken
-  adds_none mark before passes = adds_all mark before (are_reigns before (service_passed_before d g.kind mark before passes)).none ∙ (are_reigns (mark ∷ before) passes).none
+  pub adds_none : (mark : Mark) (before : List Mark) → Passes d g.kind (mark ∷ before)
+      → added g d mark before ≡ none_broken
+  adds_none mark before passes = adds_all mark before (are_reigns before (service_passed_before d g.kind mark before
+      passes)).none ∙ (are_reigns (mark ∷ before) passes).none
 
   -- ---- the next mark
 
-  can_be_after : (p : Fragment) (before : List Mark) (rs : List Span) → IsFormed g.segments p → AllByRecursion (CanBeBroadcast d g.kind) (reigns_of rs) → broken_newest g d (Sends p ∷ before) (spans_after d (length before) p rs) ≡ none_broken
+  can_be_after : (p : Fragment) (before : List Mark) (rs : List Span) → IsFormed g.segments p
+      → AllByRecursion (CanBeBroadcast d g.kind) (reigns_of rs)
+      → broken_newest g d (Sends p ∷ before) (spans_after d (length before) p rs) ≡ none_broken
       → AllByRecursion (CanBeBroadcast d g.kind) (after_fragment d (length before) p (reigns_of rs))
-  can_be_after p before [] formed was none = (record { begun = omega arith; lasted = tt; one = quiet_one g exact d (first_of_span (length before) p 0 false false) (formed, tt) (tt, tt) none }, tt)
+  can_be_after p before [] formed was none = (
+    record {
+      begun = omega arith;
+      lasted = tt;
+      one = quiet_one g exact d (first_of_span (length before) p 0 false false)
+          (formed, tt) (tt, tt) none;
+    },
+    tt,
+  )
   can_be_after p before (r ∷ older) formed was none =
-      by_fragment (λ (rs : List Span) (regs : List Reign). broken_newest g d (Sends p ∷ before) rs ≡ none_broken → AllByRecursion (CanBeBroadcast d g.kind) regs) d (length before) p r older
+      by_fragment (λ (rs : List Span) (regs : List Reign). broken_newest g d (Sends p ∷ before) rs ≡ none_broken
+      → AllByRecursion (CanBeBroadcast d g.kind) regs) d (length before) p r older
       (λ u none. (
-        record { begun = was.0.begun; lasted = was.0.lasted; one = quiet_one g exact d (span_with (length before) p r) (formed, exact.formed (fragments_in r.fragments) r.tags was.0.one) u none },
+        record {
+          begun = was.0.begun;
+          lasted = was.0.lasted;
+          one = quiet_one g exact d (span_with (length before) p r)
+              (formed, exact.formed (fragments_in r.fragments) r.tags was.0.one) u none;
+        },
         was.1,
       ))
       (λ other none. absurd (let bad : true ≡ false = ap (λ (f : FaultSet). f.changed) none in cc))
-      (λ start late none. (record { begun = late; lasted = tt; one = quiet_one g exact d (first_of_span (length before) p start false false) (formed, tt) (tt, tt) none }, was))
+      (λ start late none. (
+        record {
+          begun = late;
+          lasted = tt;
+          one = quiet_one g exact d (first_of_span (length before)
+              p start false false) (formed, tt) (tt, tt) none;
+        },
+        was,
+      ))
       (λ start late less none. absurd (let bad : true ≡ false = ap (λ (f : FaultSet). f.early_flag) none in cc))
       (can_be_unchanged (reign_of r) was.0) none
 
-  can_be_tagged : (pair : PairFields) (before : List Mark) (rs : List Span) → AllByRecursion (CanBeBroadcast d g.kind) (reigns_of rs) → broken_newest g d (Tagged pair ∷ before) (spans_tagged (length before) pair rs) ≡ none_broken
-      → (reigns_of rs ≡ [] → ⊥) × AllByRecursion (CanBeBroadcast d g.kind) (after_tags (length before) pair (reigns_of rs))
-  can_be_tagged pair before [] was none = absurd (let bad : true ≡ false = ap (λ (f : FaultSet). f.early_tag) none in cc)
+  can_be_tagged : (pair : PairFields) (before : List Mark) (rs : List Span)
+      → AllByRecursion (CanBeBroadcast d g.kind) (reigns_of rs)
+      → broken_newest g d (Tagged pair ∷ before) (spans_tagged (length before) pair rs) ≡ none_broken
+      → (reigns_of rs ≡ [] → ⊥) × AllByRecursion (CanBeBroadcast d g.kind) (after_tags (length before) pair
+      (reigns_of rs))
+  can_be_tagged pair before [] was none = absurd (let bad : true ≡ false = ap (λ (f : FaultSet). f.early_tag) none
+      in cc)
   can_be_tagged pair before (r ∷ older) was none = (
     (λ e. (cc)),
     (
       record {
         begun = was.0.begun;
         lasted = (late, was.0.lasted);
-        one = quiet_one g exact d record r { last = length before; tags = record { slot = length before; pair = pair } ∷ r.tags } (exact.formed (fragments_in r.fragments) r.tags was.0.one) (can_be_unchanged (reign_of r) was.0) none;
+        one = quiet_one g exact d record r {
+          last = length before;
+          tags = record { slot = length before; pair = pair }
+              ∷ r.tags;
+        } (exact.formed (fragments_in r.fragments) r.tags was.0.one) (can_be_unchanged (reign_of r) was.0)
+            none;
       },
       was.1,
     ),
@@ -292,23 +444,31 @@ module _ (g : Gauge) (exact : IsExact g) (d : ℕ) where
       not_first false y e = refl
 
       late : r.start + d ≤ length before
-      late = ltb-false _ _ (not_first (nat_lt (length before) (r.start + d)) _ (ap (λ (f : FaultSet). f.early_tag) none))
+      late = ltb-false _ _ (not_first (nat_lt (length before) (r.start + d)) _ (ap (λ (f : FaultSet). f.early_tag)
+          none))
 
   -- a mark that adds nothing to marks that pass: they pass with it too
-  pub quiet_passes : (mark : Mark) (before : List Mark) → IsFormedMark g mark → Passes d g.kind before → added g d mark before ≡ none_broken → Passes d g.kind (mark ∷ before)
-  quiet_passes Nothing before formed passes none = record { reigns = passes.reigns; tagged = tags_after Nothing before (λ pair e. (cc)) passes.tagged }
+  pub quiet_passes : (mark : Mark) (before : List Mark) → IsFormedMark g mark → Passes d g.kind before
+      → added g d mark before ≡ none_broken → Passes d g.kind (mark ∷ before)
+  quiet_passes Nothing before formed passes none = record
+      { reigns = passes.reigns; tagged = tags_after Nothing before (λ pair e. (cc)) passes.tagged }
   quiet_passes (Sends p) before formed passes none =
       let h = are_reigns before passes in
       record {
         reigns =
-            subst (λ (regs : List Reign). AllByRecursion (CanBeBroadcast d g.kind) (after_fragment d (length before) p regs)) h.same
-            (can_be_after p before (spans d before) formed (subst (AllByRecursion (CanBeBroadcast d g.kind)) (sym h.same) passes.reigns) (sym (adds_all (Sends p) before h.none) ∙ none));
+            subst (λ (regs : List Reign). AllByRecursion (CanBeBroadcast d g.kind) (after_fragment d (length before) p
+            regs)) h.same
+            (can_be_after p before (spans d before) formed (subst (AllByRecursion (CanBeBroadcast d g.kind))
+            (sym h.same) passes.reigns) (sym (adds_all (Sends p) before h.none) ∙ none));
         tagged = tags_after (Sends p) before (λ pair e. (cc)) passes.tagged;
       }
   quiet_passes (Tagged pair) before formed passes none =
       let h = are_reigns before passes in
-      let can = can_be_tagged pair before (spans d before) (subst (AllByRecursion (CanBeBroadcast d g.kind)) (sym h.same) passes.reigns) (sym (adds_all (Tagged pair) before h.none) ∙ none) in
+      let can = can_be_tagged pair before (spans d before) (subst (AllByRecursion (CanBeBroadcast d g.kind))
+      (sym h.same) passes.reigns) (sym (adds_all (Tagged pair) before h.none) ∙ none) in
       record {
-        reigns = subst (λ (regs : List Reign). AllByRecursion (CanBeBroadcast d g.kind) (after_tags (length before) pair regs)) h.same can.1;
-        tagged = tagged_after pair before (after_some d before (reigns d before) (keeps d before).0 (λ e. can.0 (h.same ∙ e))) passes.tagged;
+        reigns = subst (λ (regs : List Reign). AllByRecursion (CanBeBroadcast d g.kind) (after_tags (length before) pair
+            regs)) h.same can.1;
+        tagged = tagged_after pair before (after_some d before (reigns d before) (keeps d before).0
+            (λ e. can.0 (h.same ∙ e))) passes.tagged;
       }

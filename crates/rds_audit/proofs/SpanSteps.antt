@@ -1,8 +1,11 @@
 -- Lemmas: the state of a service from slot to slot, as a list of faults keeps it.
-use Rattle.std.proofs.Common.{◌≡◌, ◌≢◌, ◌⊎◌, ◌+◌, ◌*◌, ◌-◌, ◌^◌, ◌<◌, ◌≤◌, ◌&&◌, ◌||◌, not, max, min, ℕ, zero, suc, Bool, true, false, nat_eq, nat_lt, List, [], ◌∷◌, Option, Some, None, length, set, cond, refl, sym, ap, ◌∙◌, subst, inl, inr, arith}
+use Rattle.std.proofs.Common.{◌≡◌, ◌≢◌, ◌⊎◌, ◌+◌, ◌*◌, ◌-◌, ◌^◌, ◌<◌, ◌≤◌, ◌&&◌, ◌||◌, not, max, min, ℕ, zero, suc}
+use Rattle.std.proofs.Common.{Bool, true, false, nat_eq, nat_lt, List, [], ◌∷◌, Option, Some, None, length, set, cond}
+use Rattle.std.proofs.Common.{refl, sym, ap, ◌∙◌, subst, inl, inr, arith}
 use Rattle.std.specs.Prelude.{is_some, nat_le, replicate}
 use Rattle.std.specs.List.{list_all, list_any}
-use Rattle.std.proofs.lemmas.Bool.{and_parts, and_right, cases_lt, cond_both, eqb-true, false_from_ne_true, lt-leb, eq-eqb, ne_eqb, leb-true, le-leb, lt-ltb, le-ltb, ltb-true}
+use Rattle.std.proofs.lemmas.Bool.{and_parts, and_right, cases_lt, cond_both, eqb-true, false_from_ne_true, lt-leb}
+use Rattle.std.proofs.lemmas.Bool.{eq-eqb, ne_eqb, leb-true, le-leb, lt-ltb, le-ltb, ltb-true}
 use Rattle.rds_fields.specs.Tag.{PairFields}
 use Rattle.rds_receiver.specs.Receipts.{Fragment}
 use Rattle.rds_receiver.specs.Run.{is_same}
@@ -13,11 +16,15 @@ use Rattle.rds_audit.specs.declared.log_start.LogStart.{LogStart}
 use Rattle.rds_audit.specs.declared.log_start.LogStart.TheVariants.{Complete, Running}
 use Rattle.rds_audit.specs.declared.fault_set.FaultSet.{FaultSet}
 use Rattle.rds_audit.specs.Ages.{Ages, HoldsAges, Joins, age_at, age_of_newest, aged, ages_at}
-use Rattle.rds_audit.specs.AuditAt.{FollowsFrom, HoldsContent, HoldsNewestSpans, HoldsSpans, first_slot, reign_of, reigns_of}
+use Rattle.rds_audit.specs.AuditAt.{FollowsFrom, HoldsContent, HoldsNewestSpans, HoldsSpans, first_slot, reign_of}
+use Rattle.rds_audit.specs.AuditAt.{reigns_of}
 use Rattle.rds_audit.specs.ReignsState.{ContentState, HoldsNoOther, ReignsState, cell_at, no_content}
 use Rattle.rds_audit.specs.Lengths.{Gauge, IsFormed, lengths_of, narrowed, pair_end, tags_end}
-use Rattle.rds_audit.specs.Listing.{SentFragment, Span, added, broken_by, broken_newest, first_of_span, fragments_in, has_early_tags, is_tagged, joined, newest_at, none_broken, not_before, past_span, same_bytes, span_with, spans, spans_after, spans_tagged, turned}
-use Rattle.rds_audit.specs.AuditState.{SpansState, are_early, began_before, comes_early, is_turned, judged_ends, judged_fragment, opened_in, put_in, repeated_in, tagged_in}
+use Rattle.rds_audit.specs.Listing.{SentFragment, Span, added, broken_by, broken_newest, first_of_span, fragments_in}
+use Rattle.rds_audit.specs.Listing.{has_early_tags, is_tagged, joined, newest_at, none_broken, not_before, past_span}
+use Rattle.rds_audit.specs.Listing.{same_bytes, span_with, spans, spans_after, spans_tagged, turned}
+use Rattle.rds_audit.specs.AuditState.{SpansState, are_early, began_before, comes_early, is_turned, judged_ends}
+use Rattle.rds_audit.specs.AuditState.{judged_fragment, opened_in, put_in, repeated_in, tagged_in}
 use Rattle.rds_audit.specs.Recording.{silent_as}
 use Rattle.rds_audit.proofs.AgeSteps.{AreOver, ages_begun, ages_later, ages_renewed, joins_near, near_joins, none_joins}
 use Rattle.rds_audit.proofs.ContentSteps.{empty_content, taken_content, tagged_content}
@@ -27,15 +34,24 @@ use Rattle.rds_audit.proofs.SpanOrder.{AreInOrder, bytes_at, bytes_of, bytes_sam
 
 -- ---- the rules that a span breaks
 
-pub sets_are : (f g : FaultSet) → f.changed ≡ g.changed → f.early_flag ≡ g.early_flag → f.not_one_text ≡ g.not_one_text → f.early_tag ≡ g.early_tag → f.tag_outside ≡ g.tag_outside → f ≡ g
-sets_are f g a b c d e = λ i. record { changed = a i; early_flag = b i; not_one_text = c i; early_tag = d i; tag_outside = e i }
+pub sets_are : (f g : FaultSet) → f.changed ≡ g.changed → f.early_flag ≡ g.early_flag → f.not_one_text ≡ g.not_one_text
+    → f.early_tag ≡ g.early_tag → f.tag_outside ≡ g.tag_outside → f ≡ g
+sets_are f g a b c d e = λ i. record {
+  changed = a i;
+  early_flag = b i;
+  not_one_text = c i;
+  early_tag = d i;
+  tag_outside = e i;
+}
 
 -- once no length is left, none is left later
-no_more_room : (o : Option Lengths) (l : Lengths) → nat_le (narrowed o l).least (narrowed o l).most ≡ true → nat_le l.least l.most ≡ true
+no_more_room : (o : Option Lengths) (l : Lengths) → nat_le (narrowed o l).least (narrowed o l).most ≡ true
+    → nat_le l.least l.most ≡ true
 no_more_room None l e = e
 no_more_room (Some k) l e = le-leb l.least l.most (omega (arith, leb-true _ _ e))
 
-not_one : (some each before after : Bool) → (after ≡ true → before ≡ true) → (not (each && before) || not (some && after)) ≡ not ((some && each) && after)
+not_one : (some each before after : Bool) → (after ≡ true → before ≡ true)
+    → (not (each && before) || not (some && after)) ≡ not ((some && each) && after)
 not_one false false before after h = refl
 not_one false true false after h = refl
 not_one false true true after h = refl
@@ -45,57 +61,78 @@ not_one true true false false h = refl
 not_one true true false true h = absurd (let bad : false ≡ true = h refl in cc)
 
 -- an end past each length stays past it
-ends_past : (o : Option Lengths) (l : Lengths) (n : ℕ) → (nat_lt l.most n || nat_lt (narrowed o l).most n) ≡ nat_lt (narrowed o l).most n
+ends_past : (o : Option Lengths) (l : Lengths) (n : ℕ)
+    → (nat_lt l.most n || nat_lt (narrowed o l).most n) ≡ nat_lt (narrowed o l).most n
 ends_past o l n = by (nat_lt l.most n) refl (narrower o)
   where
     narrower : (o : Option Lengths) → (narrowed o l).most ≤ l.most
     narrower None = omega arith
     narrower (Some k) = omega arith
 
-    by : (v : Bool) → nat_lt l.most n ≡ v → (narrowed o l).most ≤ l.most → (v || nat_lt (narrowed o l).most n) ≡ nat_lt (narrowed o l).most n
+    by : (v : Bool) → nat_lt l.most n ≡ v → (narrowed o l).most ≤ l.most
+        → (v || nat_lt (narrowed o l).most n) ≡ nat_lt (narrowed o l).most n
     by true e less = sym (lt-ltb (narrowed o l).most n (omega (arith, ltb-true _ _ e, less)))
     by false e less = refl
 
 -- the rules that a span breaks with one more fragment
 broken_with : (g : Gauge) (d now : ℕ) (p : Fragment) (r : Span)
-    → judged_fragment (g.allowed p.address p.bytes) (lengths_of g.allowed g.longest (fragments_in r.fragments)) (tags_end r.tags) (broken_by g d r) ≡ broken_by g d (span_with now p r)
+    → judged_fragment (g.allowed p.address p.bytes) (lengths_of g.allowed g.longest (fragments_in r.fragments))
+    (tags_end r.tags) (broken_by g d r) ≡ broken_by g d (span_with now p r)
 broken_with g d now p r =
     let l : Lengths = lengths_of g.allowed g.longest (fragments_in r.fragments) in
     let o : Option Lengths = g.allowed p.address p.bytes in
     sets_are _ _ refl refl
-    (not_one (is_some o) (list_all (λ (s : SentFragment). is_some (g.allowed s.fragment.address s.fragment.bytes)) r.fragments) (nat_le l.least l.most) (nat_le (narrowed o l).least (narrowed o l).most) (no_more_room o l))
+    (not_one (is_some o) (list_all (λ (s : SentFragment). is_some (g.allowed s.fragment.address s.fragment.bytes))
+    r.fragments) (nat_le l.least l.most) (nat_le (narrowed o l).least (narrowed o l).most) (no_more_room o l))
     refl (ends_past o l (tags_end r.tags))
 
 -- the same by the state
-broken_put : (g : Gauge) (d now : ℕ) (p : Fragment) (r : Span) (c : ContentState) (f : FaultSet) → HoldsContent g (fragments_in r.fragments) r.tags c → f ≡ broken_by g d r
+broken_put : (g : Gauge) (d now : ℕ) (p : Fragment) (r : Span) (c : ContentState) (f : FaultSet)
+    → HoldsContent g (fragments_in r.fragments) r.tags c → f ≡ broken_by g d r
     → judged_fragment (g.allowed p.address p.bytes) c.lengths c.tags_end f ≡ broken_by g d (span_with now p r)
 broken_put g d now p r c f h e =
     ap (λ (l : Lengths). judged_fragment (g.allowed p.address p.bytes) l c.tags_end f) h.lengths
-    ∙ ap (λ (n : ℕ). judged_fragment (g.allowed p.address p.bytes) (lengths_of g.allowed g.longest (fragments_in r.fragments)) n f) h.ends
-    ∙ ap (λ (x : FaultSet). judged_fragment (g.allowed p.address p.bytes) (lengths_of g.allowed g.longest (fragments_in r.fragments)) (tags_end r.tags) x) e
+    ∙ ap (λ (n : ℕ). judged_fragment (g.allowed p.address p.bytes) (lengths_of g.allowed g.longest
+    (fragments_in r.fragments)) n f) h.ends
+    ∙ ap (λ (x : FaultSet). judged_fragment (g.allowed p.address p.bytes) (lengths_of g.allowed g.longest
+    (fragments_in r.fragments)) (tags_end r.tags) x) e
     ∙ broken_with g d now p r
 
 -- a span without fragments
 empty_broken : (g : Gauge) (d start now : ℕ) (flag is_changed is_early : Bool)
-    → record none_broken { changed = is_changed; early_flag = is_early } ≡ broken_by g d record { start = start; last = now; flag = flag; fragments = []; tags = []; is_changed = is_changed; is_early = is_early }
-empty_broken g d start now flag is_changed is_early = sets_are _ _ refl refl (ap not (sym (le-leb 0 g.longest (omega arith)))) refl (sym (le-ltb g.longest 0 (omega arith)))
+    → record none_broken { changed = is_changed; early_flag = is_early } ≡ broken_by g d record {
+      start = start;
+      last = now;
+      flag = flag;
+      fragments = [];
+      tags = [];
+      is_changed = is_changed;
+      is_early = is_early;
+    }
+empty_broken g d start now flag is_changed is_early = sets_are _ _ refl refl
+    (ap not (sym (le-leb 0 g.longest (omega arith)))) refl (sym (le-ltb g.longest 0 (omega arith)))
 
 -- a fragment at the address of the newest one there, with its bytes, narrows nothing
-pub newest_place : (a : ℕ) (sent : List SentFragment) (t : SentFragment) → newest_at a sent ≡ Some t → t.fragment.address ≡ a
+pub newest_place : (a : ℕ) (sent : List SentFragment) (t : SentFragment) → newest_at a sent ≡ Some t
+    → t.fragment.address ≡ a
 newest_place a [] t e = absurd (cc)
 newest_place a (u ∷ older) t e = by (nat_eq a u.fragment.address) refl e (newest_place a older t)
   where
-    by : (v : Bool) → nat_eq a u.fragment.address ≡ v → cond v (Some u) (newest_at a older) ≡ Some t → (newest_at a older ≡ Some t → t.fragment.address ≡ a) → t.fragment.address ≡ a
-    by true n e rest = (let same : u ≡ t = cc in sym (eqb-true a u.fragment.address n ∙ ap (λ (s : SentFragment). s.fragment.address) same))
+    by : (v : Bool) → nat_eq a u.fragment.address ≡ v → cond v (Some u) (newest_at a older) ≡ Some t
+        → (newest_at a older ≡ Some t → t.fragment.address ≡ a) → t.fragment.address ≡ a
+    by true n e rest = (let same : u ≡ t = cc in sym (eqb-true a u.fragment.address n
+        ∙ ap (λ (s : SentFragment). s.fragment.address) same))
     by false n e rest = rest e
 
-newest_passes : (test : SentFragment → Bool) (a : ℕ) (sent : List SentFragment) (t : SentFragment) → list_all test sent ≡ true → newest_at a sent ≡ Some t → test t ≡ true
+newest_passes : (test : SentFragment → Bool) (a : ℕ) (sent : List SentFragment) (t : SentFragment)
+    → list_all test sent ≡ true → newest_at a sent ≡ Some t → test t ≡ true
 newest_passes test a [] t all e = absurd (cc)
 newest_passes test a (u ∷ older) t all e =
     let parts = and_parts (test u) (list_all test older) all in
     by (nat_eq a u.fragment.address) e (newest_passes test a older t parts.1)
   where
-    by : (v : Bool) → cond v (Some u) (newest_at a older) ≡ Some t → (newest_at a older ≡ Some t → test t ≡ true) → test t ≡ true
+    by : (v : Bool) → cond v (Some u) (newest_at a older) ≡ Some t → (newest_at a older ≡ Some t → test t ≡ true)
+        → test t ≡ true
     by true e rest = (let same : u ≡ t = cc in ap test (sym same) ∙ (and_parts (test u) (list_all test older) all).0)
     by false e rest = rest e
 
@@ -114,20 +151,31 @@ narrowed_swap (Some o) (Some k) l =
     let most : min (min l.most k.most) o.most ≡ min (min l.most o.most) k.most = omega arith in
     λ i. record { least = least i; most = most i }
 
-narrowed_again : (allowed : ℕ → List ℕ → Option Lengths) (longest a : ℕ) (sent : List SentFragment) (t : SentFragment) → newest_at a sent ≡ Some t
-    → narrowed (allowed t.fragment.address t.fragment.bytes) (lengths_of allowed longest (fragments_in sent)) ≡ lengths_of allowed longest (fragments_in sent)
+narrowed_again : (allowed : ℕ → List ℕ → Option Lengths) (longest a : ℕ) (sent : List SentFragment) (t : SentFragment)
+    → newest_at a sent ≡ Some t
+    → narrowed (allowed t.fragment.address t.fragment.bytes) (lengths_of allowed longest (fragments_in sent))
+    ≡ lengths_of allowed longest (fragments_in sent)
 narrowed_again allowed longest a [] t e = absurd (cc)
-narrowed_again allowed longest a (u ∷ older) t e = by (nat_eq a u.fragment.address) e (narrowed_again allowed longest a older t)
+narrowed_again allowed longest a (u ∷ older) t e = by (nat_eq a u.fragment.address) e (narrowed_again allowed longest a
+    older t)
   where
     by : (v : Bool) → cond v (Some u) (newest_at a older) ≡ Some t
-        → (newest_at a older ≡ Some t → narrowed (allowed t.fragment.address t.fragment.bytes) (lengths_of allowed longest (fragments_in older)) ≡ lengths_of allowed longest (fragments_in older))
-        → narrowed (allowed t.fragment.address t.fragment.bytes) (narrowed (allowed u.fragment.address u.fragment.bytes) (lengths_of allowed longest (fragments_in older)))
+        → (newest_at a older ≡ Some t
+        → narrowed (allowed t.fragment.address t.fragment.bytes) (lengths_of allowed longest (fragments_in older))
+        ≡ lengths_of allowed longest (fragments_in older))
+        → narrowed (allowed t.fragment.address t.fragment.bytes) (narrowed (allowed u.fragment.address u.fragment.bytes)
+        (lengths_of allowed longest (fragments_in older)))
         ≡ narrowed (allowed u.fragment.address u.fragment.bytes) (lengths_of allowed longest (fragments_in older))
     by true e rest =
         let same : u ≡ t = cc in
-        subst (λ (x : SentFragment). narrowed (allowed x.fragment.address x.fragment.bytes) (narrowed (allowed u.fragment.address u.fragment.bytes) (lengths_of allowed longest (fragments_in older))) ≡ narrowed (allowed u.fragment.address u.fragment.bytes) (lengths_of allowed longest (fragments_in older)))
-        same (narrowed_twice (allowed u.fragment.address u.fragment.bytes) (lengths_of allowed longest (fragments_in older)))
-    by false e rest = narrowed_swap (allowed t.fragment.address t.fragment.bytes) (allowed u.fragment.address u.fragment.bytes) (lengths_of allowed longest (fragments_in older)) ∙ ap (narrowed (allowed u.fragment.address u.fragment.bytes)) (rest e)
+        subst (λ (x : SentFragment). narrowed (allowed x.fragment.address x.fragment.bytes)
+        (narrowed (allowed u.fragment.address u.fragment.bytes) (lengths_of allowed longest (fragments_in older)))
+        ≡ narrowed (allowed u.fragment.address u.fragment.bytes) (lengths_of allowed longest (fragments_in older)))
+        same (narrowed_twice (allowed u.fragment.address u.fragment.bytes)
+        (lengths_of allowed longest (fragments_in older)))
+    by false e rest = narrowed_swap (allowed t.fragment.address t.fragment.bytes)
+        (allowed u.fragment.address u.fragment.bytes) (lengths_of allowed longest (fragments_in older))
+        ∙ ap (narrowed (allowed u.fragment.address u.fragment.bytes)) (rest e)
 
 both_fit : (some each : Bool) → (each ≡ true → some ≡ true) → (some && each) ≡ each
 both_fit true each h = refl
@@ -136,13 +184,18 @@ both_fit false true h = absurd (let bad : false ≡ true = h refl in cc)
 
 -- so the span breaks the same rules with it
 broken_again : (g : Gauge) (d now : ℕ) (p : Fragment) (r : Span)
-    → narrowed (g.allowed p.address p.bytes) (lengths_of g.allowed g.longest (fragments_in r.fragments)) ≡ lengths_of g.allowed g.longest (fragments_in r.fragments)
-    → (list_all (λ (s : SentFragment). is_some (g.allowed s.fragment.address s.fragment.bytes)) r.fragments ≡ true → is_some (g.allowed p.address p.bytes) ≡ true) → broken_by g d (span_with now p r) ≡ broken_by g d r
+    → narrowed (g.allowed p.address p.bytes) (lengths_of g.allowed g.longest (fragments_in r.fragments))
+    ≡ lengths_of g.allowed g.longest (fragments_in r.fragments)
+    → (list_all (λ (s : SentFragment). is_some (g.allowed s.fragment.address s.fragment.bytes)) r.fragments ≡ true
+    → is_some (g.allowed p.address p.bytes) ≡ true) → broken_by g d (span_with now p r) ≡ broken_by g d r
 broken_again g d now p r again fit =
-    let all : Bool = list_all (λ (s : SentFragment). is_some (g.allowed s.fragment.address s.fragment.bytes)) r.fragments in
+    let all : Bool = list_all (λ (s : SentFragment). is_some (g.allowed s.fragment.address s.fragment.bytes))
+    r.fragments in
     sets_are _ _ refl refl
     (ap (λ (l : Lengths). not ((is_some (g.allowed p.address p.bytes) && all) && nat_le l.least l.most)) again
-    ∙ ap (λ b. not (b && nat_le (lengths_of g.allowed g.longest (fragments_in r.fragments)).least (lengths_of g.allowed g.longest (fragments_in r.fragments)).most)) (both_fit (is_some (g.allowed p.address p.bytes)) all fit))
+    ∙ ap (λ b. not (b && nat_le (lengths_of g.allowed g.longest (fragments_in r.fragments)).least
+    (lengths_of g.allowed g.longest (fragments_in r.fragments)).most))
+    (both_fit (is_some (g.allowed p.address p.bytes)) all fit))
     refl (ap (λ (l : Lengths). nat_lt l.most (tags_end r.tags)) again)
 
 -- an end past each length is not within by a further end
@@ -166,9 +219,12 @@ module _ (g : Gauge) (few : g.segments ≤ 16) (d : ℕ) (pos : 0 < d) (sent : L
   now = length sent
 
   -- a fragment is put into a span
-  put_follows : (p : Fragment) (r : Span) (older : List Span) (s : SpansState) → IsFormed g.segments p → HoldsAges d now (reigns_of (span_with now p r ∷ older)) record s.reigns.ages { since_last = 0 }
-      → HoldsContent g (fragments_in r.fragments) r.tags s.reigns.content → s.count ≡ min (suc (length older)) (2 ^ 64 - 1) → s.broken ≡ broken_by g d r
-      → FollowsFrom g d now (Sends p ∷ sent) (span_with now p r ∷ older) (put_in (g.allowed p.address p.bytes) p.address p.bytes s)
+  put_follows : (p : Fragment) (r : Span) (older : List Span) (s : SpansState) → IsFormed g.segments p
+      → HoldsAges d now (reigns_of (span_with now p r ∷ older)) record s.reigns.ages { since_last = 0 }
+      → HoldsContent g (fragments_in r.fragments) r.tags s.reigns.content
+      → s.count ≡ min (suc (length older)) (2 ^ 64 - 1) → s.broken ≡ broken_by g d r
+      → FollowsFrom g d now (Sends p ∷ sent) (span_with now p r ∷ older) (put_in (g.allowed p.address p.bytes) p.address
+      p.bytes s)
   put_follows p r older s formed ages content count broken = record {
     ages = ages;
     content = taken_content g few p (fragments_in r.fragments) r.tags s.reigns.content content formed;
@@ -177,35 +233,50 @@ module _ (g : Gauge) (few : g.segments ≤ 16) (d : ℕ) (pos : 0 < d) (sent : L
   }
 
   -- what joins the newest span joins it by the definition too
-  is_joined : (Q : List Span → Type 0) (p : Fragment) (r : Span) (older : List Span) (a : Ages) → HoldsAges d now (reigns_of (r ∷ older)) a → Joins d p.flag a → Q (joined d now p (newest_at p.address r.fragments) r older) → Q (spans_after d now p (r ∷ older))
+  is_joined : (Q : List Span → Type 0) (p : Fragment) (r : Span) (older : List Span) (a : Ages)
+      → HoldsAges d now (reigns_of (r ∷ older)) a → Joins d p.flag a
+      → Q (joined d now p (newest_at p.address r.fragments) r older) → Q (spans_after d now p (r ∷ older))
   is_joined Q p r older a h on q =
       let near = joins_near d now p.flag (reign_of r) (reigns_of older) a h on in
       let same : is_same r.flag p.flag ≡ true = is_same_flag r.flag p.flag near.0 in
       let here : nat_lt now (r.last + d) ≡ true = lt-ltb now (r.last + d) near.1 in
       rw (same, here) q
 
-  pub joined_follows : (p : Fragment) (rs : List Span) (s : SpansState) → IsFormed g.segments p → FollowsFrom g d now sent rs s → Joins d p.flag s.reigns.ages → HoldsNoOther p.address p.bytes s.reigns.content
-      → FollowsFrom g d now (Sends p ∷ sent) (spans_after d now p rs) (put_in (g.allowed p.address p.bytes) p.address p.bytes s) × (length (spans_after d now p rs) ≡ length rs)
+  pub joined_follows : (p : Fragment) (rs : List Span) (s : SpansState) → IsFormed g.segments p
+      → FollowsFrom g d now sent rs s → Joins d p.flag s.reigns.ages → HoldsNoOther p.address p.bytes s.reigns.content
+      → FollowsFrom g d now (Sends p ∷ sent) (spans_after d now p rs) (put_in (g.allowed p.address p.bytes) p.address
+      p.bytes s) × (length (spans_after d now p rs) ≡ length rs)
   joined_follows p [] s formed h on no_other = absurd (none_joins d now p.flag s.reigns.ages h.ages on)
   joined_follows p (r ∷ older) s formed h on no_other =
-      is_joined (λ (rs : List Span). FollowsFrom g d now (Sends p ∷ sent) rs (put_in (g.allowed p.address p.bytes) p.address p.bytes s) × (length rs ≡ suc (length older))) p r older s.reigns.ages h.ages on (by (newest_at p.address r.fragments) refl no_other)
+      is_joined (λ (rs : List Span). FollowsFrom g d now (Sends p ∷ sent) rs (put_in (g.allowed p.address p.bytes)
+      p.address p.bytes s) × (length rs ≡ suc (length older))) p r older s.reigns.ages h.ages on
+      (by (newest_at p.address r.fragments) refl no_other)
     where
-      follows : FollowsFrom g d now (Sends p ∷ sent) (span_with now p r ∷ older) (put_in (g.allowed p.address p.bytes) p.address p.bytes s)
+      follows : FollowsFrom g d now (Sends p ∷ sent) (span_with now p r ∷ older) (put_in (g.allowed p.address p.bytes)
+          p.address p.bytes s)
       follows =
-          put_follows p r older s formed (ages_renewed d now (first_slot (record { slot = now; fragment = p } ∷ r.fragments)) (p ∷ fragments_in r.fragments) r.tags (reign_of r) (reigns_of older) s.reigns.ages h.ages)
+          put_follows p r older s formed (ages_renewed d now (first_slot (record { slot = now; fragment = p }
+          ∷ r.fragments)) (p ∷ fragments_in r.fragments) r.tags (reign_of r) (reigns_of older) s.reigns.ages h.ages)
           h.content h.count h.broken
 
-      by : (o : Option SentFragment) → newest_at p.address r.fragments ≡ o → HoldsNoOther p.address p.bytes s.reigns.content → FollowsFrom g d now (Sends p ∷ sent) (joined d now p o r older) (put_in (g.allowed p.address p.bytes) p.address p.bytes s) × (length (joined d now p o r older) ≡ suc (length older))
+      by : (o : Option SentFragment) → newest_at p.address r.fragments ≡ o
+          → HoldsNoOther p.address p.bytes s.reigns.content
+          → FollowsFrom g d now (Sends p ∷ sent) (joined d now p o r older) (put_in (g.allowed p.address p.bytes)
+          p.address p.bytes s) × (length (joined d now p o r older) ≡ suc (length older))
       by None e no_other = (follows, refl)
       by (Some t) e no_other =
           let address = formed.address in
-          let is : cell_at p.address s.reigns.content ≡ Some t.fragment.bytes = h.content.cells p.address (omega arith) ∙ bytes_at p.address r.fragments ∙ ap bytes_of e in
+          let is : cell_at p.address s.reigns.content ≡ Some t.fragment.bytes = h.content.cells p.address (omega arith)
+          ∙ bytes_at p.address r.fragments ∙ ap bytes_of e in
           let same : p.bytes ≡ t.fragment.bytes = elim no_other [ inl none ↦ absurd (cc) | inr some ↦ cc ] in
           rw (bytes_same p.bytes t.fragment.bytes same) (follows, refl)
 
   -- the test of an early span
-  early_same : (r : Span) (older : List Span) (since_before : ℕ) → r.last < now → since_before ≡ age_of_newest d now (reigns_of older) → nat_lt since_before d ≡ nat_lt now (max (r.last + 1) (past_span d older))
-  early_same r [] since_before over e = le-ltb since_before d (omega (arith, e)) ∙ sym (le-ltb now (max (r.last + 1) 0) (omega arith))
+  early_same : (r : Span) (older : List Span) (since_before : ℕ) → r.last < now
+      → since_before ≡ age_of_newest d now (reigns_of older)
+      → nat_lt since_before d ≡ nat_lt now (max (r.last + 1) (past_span d older))
+  early_same r [] since_before over e = le-ltb since_before d (omega (arith, e))
+      ∙ sym (le-ltb now (max (r.last + 1) 0) (omega arith))
   early_same r (q ∷ rest) since_before over e =
       elim (cases_lt now (max (r.last + 1) (q.last + d))) [
         | inl early ↦ lt-ltb since_before d (omega arith) ∙ sym (lt-ltb now (max (r.last + 1) (q.last + d)) early)
@@ -213,60 +284,99 @@ module _ (g : Gauge) (few : g.segments ≤ 16) (d : ℕ) (pos : 0 < d) (sent : L
       ]
 
   -- the start of a span that turned
-  turned_start : (r : Span) (older : List Span) (since_last since_before : ℕ) → AreInOrder now (r ∷ older) → since_last ≡ min (now - r.last) (2 * d) → since_before ≡ age_of_newest d now (reigns_of older)
-      → cond (nat_lt since_before d) (since_last - 1) (min (since_last - 1) (since_before - d)) ≡ min (now - cond (nat_lt now (max (r.last + 1) (past_span d older))) (r.last + 1) (max (r.last + 1) (past_span d older))) d
-  turned_start r older since_last since_before order last before = rw (early_same r older since_before order.0.over before) (by older order before)
+  turned_start : (r : Span) (older : List Span) (since_last since_before : ℕ) → AreInOrder now (r ∷ older)
+      → since_last ≡ min (now - r.last) (2 * d) → since_before ≡ age_of_newest d now (reigns_of older)
+      → cond (nat_lt since_before d) (since_last - 1) (min (since_last - 1) (since_before - d))
+      ≡ min (now - cond (nat_lt now (max (r.last + 1) (past_span d older))) (r.last + 1)
+      (max (r.last + 1) (past_span d older))) d
+  turned_start r older since_last since_before order last before = rw (early_same r older since_before order.0.over
+      before) (by older order before)
     where
       by : (rest : List Span) → AreInOrder now (r ∷ rest) → since_before ≡ age_of_newest d now (reigns_of rest)
-          → cond (nat_lt now (max (r.last + 1) (past_span d rest))) (since_last - 1) (min (since_last - 1) (since_before - d)) ≡ min (now - cond (nat_lt now (max (r.last + 1) (past_span d rest))) (r.last + 1) (max (r.last + 1) (past_span d rest))) d
-      by [] order before = rw (le-ltb now (max (r.last + 1) 0) (omega (arith, order.0.over))) (omega (arith, order.0.over))
+          → cond (nat_lt now (max (r.last + 1) (past_span d rest))) (since_last - 1)
+          (min (since_last - 1) (since_before - d))
+          ≡ min (now - cond (nat_lt now (max (r.last + 1) (past_span d rest))) (r.last + 1)
+          (max (r.last + 1) (past_span d rest))) d
+      by [] order before = rw (le-ltb now (max (r.last + 1) 0) (omega (arith, order.0.over)))
+          (omega (arith, order.0.over))
       by (q ∷ rest) order before =
           elim (cases_lt now (max (r.last + 1) (q.last + d))) [
-            | inl early ↦ rw (lt-ltb now (max (r.last + 1) (q.last + d)) early) (omega (arith, order.0.over, order.0.after, order.0.begun))
-            | inr late ↦ rw (le-ltb now (max (r.last + 1) (q.last + d)) late) (omega (arith, order.0.over, order.1.0.over))
+            | inl early ↦ rw (lt-ltb now (max (r.last + 1) (q.last + d)) early)
+                (omega (arith, order.0.over, order.0.after, order.0.begun))
+            | inr late ↦ rw (le-ltb now (max (r.last + 1) (q.last + d)) late)
+                (omega (arith, order.0.over, order.1.0.over))
           ]
 
   -- a span is opened that started in slot `start`
-  begins : (p : Fragment) (rs : List Span) (start : ℕ) (is_changed is_early : Bool) (s : SpansState) → IsFormed g.segments p → HoldsAges d now (reigns_of rs) s.reigns.ages
-      → began_before d is_changed p.flag s.reigns.ages ≡ min (now - start) d → comes_early d is_changed p.flag s.reigns.ages ≡ is_early → s.count ≡ min (length rs) (2 ^ 64 - 1)
-      → FollowsFrom g d now (Sends p ∷ sent) (first_of_span now p start is_changed is_early ∷ rs) (put_in (g.allowed p.address p.bytes) p.address p.bytes (opened_in d g.longest is_changed p.flag s))
+  begins : (p : Fragment) (rs : List Span) (start : ℕ) (is_changed is_early : Bool) (s : SpansState)
+      → IsFormed g.segments p → HoldsAges d now (reigns_of rs) s.reigns.ages
+      → began_before d is_changed p.flag s.reigns.ages ≡ min (now - start) d
+      → comes_early d is_changed p.flag s.reigns.ages ≡ is_early → s.count ≡ min (length rs) (2 ^ 64 - 1)
+      → FollowsFrom g d now (Sends p ∷ sent) (first_of_span now p start is_changed is_early ∷ rs)
+      (put_in (g.allowed p.address p.bytes) p.address p.bytes (opened_in d g.longest is_changed p.flag s))
   begins p rs start is_changed is_early s formed ages began early count =
-      put_follows p record { start = start; last = now; flag = p.flag; fragments = []; tags = []; is_changed = is_changed; is_early = is_early } rs (opened_in d g.longest is_changed p.flag s) formed
-      (ages_begun d now _ (reign_of (first_of_span now p start is_changed is_early)) (reigns_of rs) s.reigns.ages refl began ages)
+      put_follows p record {
+        start = start;
+        last = now;
+        flag = p.flag;
+        fragments = [];
+        tags = [];
+        is_changed = is_changed;
+        is_early = is_early;
+      } rs (opened_in d g.longest is_changed p.flag s) formed
+      (ages_begun d now _ (reign_of (first_of_span now p start is_changed is_early)) (reigns_of rs) s.reigns.ages refl
+      began ages)
       (empty_content g) (omega arith)
-      (ap (λ (e : Bool). record none_broken { changed = is_changed; early_flag = e }) early ∙ empty_broken g d start now p.flag is_changed is_early)
+      (ap (λ (e : Bool). record none_broken { changed = is_changed; early_flag = e }) early ∙ empty_broken g d start now
+      p.flag is_changed is_early)
 
   -- the newest span of these is followed by one that counts as turned
-  turns : (p : Fragment) (r : Span) (older : List Span) (is_changed : Bool) (s : SpansState) → IsFormed g.segments p → AreInOrder now (r ∷ older) → HoldsAges d now (reigns_of (r ∷ older)) s.reigns.ages → is_turned is_changed p.flag s.reigns.ages ≡ true
+  turns : (p : Fragment) (r : Span) (older : List Span) (is_changed : Bool) (s : SpansState) → IsFormed g.segments p
+      → AreInOrder now (r ∷ older) → HoldsAges d now (reigns_of (r ∷ older)) s.reigns.ages
+      → is_turned is_changed p.flag s.reigns.ages ≡ true
       → s.count ≡ min (suc (length older)) (2 ^ 64 - 1)
-      → FollowsFrom g d now (Sends p ∷ sent) (turned d now p is_changed r older) (put_in (g.allowed p.address p.bytes) p.address p.bytes (opened_in d g.longest is_changed p.flag s))
+      → FollowsFrom g d now (Sends p ∷ sent) (turned d now p is_changed r older) (put_in (g.allowed p.address p.bytes)
+      p.address p.bytes (opened_in d g.longest is_changed p.flag s))
   turns p r older is_changed s formed order ages is count =
-      begins p (r ∷ older) (cond (nat_lt now (max (r.last + 1) (past_span d older))) (r.last + 1) (max (r.last + 1) (past_span d older))) is_changed (nat_lt now (max (r.last + 1) (past_span d older))) s formed ages
+      begins p (r ∷ older) (cond (nat_lt now (max (r.last + 1) (past_span d older))) (r.last + 1)
+      (max (r.last + 1) (past_span d older))) is_changed (nat_lt now (max (r.last + 1) (past_span d older))) s
+      formed ages
       (rw is (turned_start r older s.reigns.ages.since_last s.reigns.ages.since_before order ages.newest ages.second))
       (rw is (early_same r older s.reigns.ages.since_before order.0.over ages.second)) count
 
-  pub changed_follows : (p : Fragment) (rs : List Span) (s : SpansState) → IsFormed g.segments p → AreInOrder now rs → FollowsFrom g d now sent rs s → Joins d p.flag s.reigns.ages → (HoldsNoOther p.address p.bytes s.reigns.content → ⊥)
-      → FollowsFrom g d now (Sends p ∷ sent) (spans_after d now p rs) (put_in (g.allowed p.address p.bytes) p.address p.bytes (opened_in d g.longest true p.flag s)) × (length (spans_after d now p rs) ≡ suc (length rs))
+  pub changed_follows : (p : Fragment) (rs : List Span) (s : SpansState) → IsFormed g.segments p → AreInOrder now rs
+      → FollowsFrom g d now sent rs s → Joins d p.flag s.reigns.ages
+      → (HoldsNoOther p.address p.bytes s.reigns.content → ⊥)
+      → FollowsFrom g d now (Sends p ∷ sent) (spans_after d now p rs) (put_in (g.allowed p.address p.bytes) p.address
+      p.bytes (opened_in d g.longest true p.flag s)) × (length (spans_after d now p rs) ≡ suc (length rs))
   changed_follows p [] s formed order h on other = absurd (none_joins d now p.flag s.reigns.ages h.ages on)
   changed_follows p (r ∷ older) s formed order h on other =
-      is_joined (λ (rs : List Span). FollowsFrom g d now (Sends p ∷ sent) rs (put_in (g.allowed p.address p.bytes) p.address p.bytes (opened_in d g.longest true p.flag s)) × (length rs ≡ suc (suc (length older))))
+      is_joined (λ (rs : List Span). FollowsFrom g d now (Sends p ∷ sent) rs (put_in (g.allowed p.address p.bytes)
+      p.address p.bytes (opened_in d g.longest true p.flag s)) × (length rs ≡ suc (suc (length older))))
       p r older s.reigns.ages h.ages on (by (newest_at p.address r.fragments) refl)
     where
       by : (o : Option SentFragment) → newest_at p.address r.fragments ≡ o
-          → FollowsFrom g d now (Sends p ∷ sent) (joined d now p o r older) (put_in (g.allowed p.address p.bytes) p.address p.bytes (opened_in d g.longest true p.flag s)) × (length (joined d now p o r older) ≡ suc (suc (length older)))
+          → FollowsFrom g d now (Sends p ∷ sent) (joined d now p o r older) (put_in (g.allowed p.address p.bytes)
+          p.address p.bytes (opened_in d g.longest true p.flag s)) × (length (joined d now p o r older)
+          ≡ suc (suc (length older)))
       by None e =
           let address = formed.address in
-          let is : cell_at p.address s.reigns.content ≡ None = h.content.cells p.address (omega arith) ∙ bytes_at p.address r.fragments ∙ ap bytes_of e in
+          let is : cell_at p.address s.reigns.content ≡ None = h.content.cells p.address (omega arith)
+          ∙ bytes_at p.address r.fragments ∙ ap bytes_of e in
           absurd (other (inl is))
       by (Some t) e =
           let address = formed.address in
           let small : p.address < 16 = omega arith in
-          let is : cell_at p.address s.reigns.content ≡ Some t.fragment.bytes = h.content.cells p.address small ∙ bytes_at p.address r.fragments ∙ ap bytes_of e in
-          let not_same : same_bytes p.bytes t.fragment.bytes ≡ false = false_from_ne_true _ (λ same. other (inr (is ∙ ap Some (sym (same_bytes_are _ _ same))))) in
+          let is : cell_at p.address s.reigns.content ≡ Some t.fragment.bytes = h.content.cells p.address small
+          ∙ bytes_at p.address r.fragments ∙ ap bytes_of e in
+          let not_same : same_bytes p.bytes t.fragment.bytes ≡ false = false_from_ne_true _
+          (λ same. other (inr (is ∙ ap Some (sym (same_bytes_are _ _ same))))) in
           rw not_same (turns p r older true s formed order h.ages refl h.count, refl)
 
-  pub opened_follows : (p : Fragment) (rs : List Span) (s : SpansState) → IsFormed g.segments p → AreInOrder now rs → FollowsFrom g d now sent rs s → (Joins d p.flag s.reigns.ages → ⊥)
-      → FollowsFrom g d now (Sends p ∷ sent) (spans_after d now p rs) (put_in (g.allowed p.address p.bytes) p.address p.bytes (opened_in d g.longest false p.flag s)) × (length (spans_after d now p rs) ≡ suc (length rs))
+  pub opened_follows : (p : Fragment) (rs : List Span) (s : SpansState) → IsFormed g.segments p → AreInOrder now rs
+      → FollowsFrom g d now sent rs s → (Joins d p.flag s.reigns.ages → ⊥)
+      → FollowsFrom g d now (Sends p ∷ sent) (spans_after d now p rs) (put_in (g.allowed p.address p.bytes) p.address
+      p.bytes (opened_in d g.longest false p.flag s)) × (length (spans_after d now p rs) ≡ suc (length rs))
   opened_follows p [] s formed order h apart = (
     begins p [] 0 false false s formed h.ages
         (cond_both (is_turned false p.flag s.reigns.ages) _ _ (λ n. n ≡ min (now - 0) d)
@@ -280,11 +390,18 @@ module _ (g : Gauge) (few : g.segments ≤ 16) (d : ℕ) (pos : 0 < d) (sent : L
   opened_follows p (r ∷ older) s formed order h apart = by (same_or_other r.flag p.flag)
     where
       by : (r.flag ≡ p.flag) ⊎ (r.flag ≢ p.flag)
-          → FollowsFrom g d now (Sends p ∷ sent) (spans_after d now p (r ∷ older)) (put_in (g.allowed p.address p.bytes) p.address p.bytes (opened_in d g.longest false p.flag s)) × (length (spans_after d now p (r ∷ older)) ≡ suc (suc (length older)))
+          → FollowsFrom g d now (Sends p ∷ sent) (spans_after d now p (r ∷ older)) (put_in (g.allowed p.address p.bytes)
+          p.address p.bytes (opened_in d g.longest false p.flag s)) × (length (spans_after d now p (r ∷ older))
+          ≡ suc (suc (length older)))
       by (inl e) =
           let same : is_same r.flag p.flag ≡ true = is_same_flag r.flag p.flag e in
-          let mine : is_same p.flag s.reigns.ages.flag ≡ true = is_same_flag p.flag s.reigns.ages.flag (sym (h.ages.current.1 ∙ e)) in
-          let away : r.last + d ≤ now = elim (cases_lt now (r.last + d)) [ inl near ↦ absurd (apart (near_joins d now p.flag (reign_of r) (reigns_of older) s.reigns.ages pos h.ages e near)) | inr far ↦ far ] in
+          let mine : is_same p.flag s.reigns.ages.flag ≡ true = is_same_flag p.flag s.reigns.ages.flag
+          (sym (h.ages.current.1 ∙ e)) in
+          let away : r.last + d ≤ now = elim (cases_lt now (r.last + d)) [
+            | inl near ↦ absurd (apart (near_joins d now p.flag (reign_of r) (reigns_of older) s.reigns.ages pos
+                h.ages e near))
+            | inr far ↦ far
+          ] in
           rw (same, le-ltb now (r.last + d) away) (
             begins p (r ∷ older) (r.last + d) false false s formed h.ages
                 (rw mine (omega (arith, h.ages.newest)))
@@ -293,76 +410,113 @@ module _ (g : Gauge) (few : g.segments ≤ 16) (d : ℕ) (pos : 0 < d) (sent : L
           )
       by (inr ne) =
           let other : is_same r.flag p.flag ≡ false = is_other_flag r.flag p.flag ne in
-          let mine : is_same p.flag s.reigns.ages.flag ≡ false = is_other_flag p.flag s.reigns.ages.flag (λ e. ne (sym h.ages.current.1 ∙ sym e)) in
+          let mine : is_same p.flag s.reigns.ages.flag ≡ false = is_other_flag p.flag s.reigns.ages.flag
+          (λ e. ne (sym h.ages.current.1 ∙ sym e)) in
           rw other (turns p r older false s formed order h.ages (rw mine refl) h.count, refl)
 
-  pub repeated_follows : (p : Fragment) (rs : List Span) (s : SpansState) → IsFormed g.segments p → FollowsFrom g d now sent rs s → Joins d p.flag s.reigns.ages → cell_at p.address s.reigns.content ≡ Some p.bytes
-      → FollowsFrom g d now (Sends p ∷ sent) (spans_after d now p rs) (repeated_in s) × (length (spans_after d now p rs) ≡ length rs)
+  pub repeated_follows : (p : Fragment) (rs : List Span) (s : SpansState) → IsFormed g.segments p
+      → FollowsFrom g d now sent rs s → Joins d p.flag s.reigns.ages → cell_at p.address s.reigns.content ≡ Some p.bytes
+      → FollowsFrom g d now (Sends p ∷ sent) (spans_after d now p rs) (repeated_in s) × (length (spans_after d now p rs)
+      ≡ length rs)
   repeated_follows p [] s formed h on is = absurd (none_joins d now p.flag s.reigns.ages h.ages on)
   repeated_follows p (r ∷ older) s formed h on is = by (newest_at p.address r.fragments) refl
     where
       by : (o : Option SentFragment) → newest_at p.address r.fragments ≡ o
-          → FollowsFrom g d now (Sends p ∷ sent) (spans_after d now p (r ∷ older)) (repeated_in s) × (length (spans_after d now p (r ∷ older)) ≡ suc (length older))
+          → FollowsFrom g d now (Sends p ∷ sent) (spans_after d now p (r ∷ older)) (repeated_in s)
+          × (length (spans_after d now p (r ∷ older)) ≡ suc (length older))
       by None e =
           let address = formed.address in
-          let none : cell_at p.address s.reigns.content ≡ None = h.content.cells p.address (omega arith) ∙ bytes_at p.address r.fragments ∙ ap bytes_of e in
+          let none : cell_at p.address s.reigns.content ≡ None = h.content.cells p.address (omega arith)
+          ∙ bytes_at p.address r.fragments ∙ ap bytes_of e in
           absurd (cc)
       by (Some t) e =
           let address = formed.address in
-          let some : cell_at p.address s.reigns.content ≡ Some t.fragment.bytes = h.content.cells p.address (omega arith) ∙ bytes_at p.address r.fragments ∙ ap bytes_of e in
+          let some : cell_at p.address s.reigns.content ≡ Some t.fragment.bytes = h.content.cells p.address
+          (omega arith) ∙ bytes_at p.address r.fragments ∙ ap bytes_of e in
           let bytes : t.fragment.bytes ≡ p.bytes = cc in
           let place : t.fragment.address ≡ p.address = newest_place p.address r.fragments t e in
-          let allowed : g.allowed t.fragment.address t.fragment.bytes ≡ g.allowed p.address p.bytes = ap (λ a. g.allowed a t.fragment.bytes) place ∙ ap (g.allowed p.address) bytes in
-          let again : narrowed (g.allowed p.address p.bytes) (lengths_of g.allowed g.longest (fragments_in r.fragments)) ≡ lengths_of g.allowed g.longest (fragments_in r.fragments) =
-          ap (λ o. narrowed o (lengths_of g.allowed g.longest (fragments_in r.fragments))) (sym allowed) ∙ narrowed_again g.allowed g.longest p.address r.fragments t e in
-          let fit : list_all (λ (s : SentFragment). is_some (g.allowed s.fragment.address s.fragment.bytes)) r.fragments ≡ true → is_some (g.allowed p.address p.bytes) ≡ true =
-          λ all. ap is_some (sym allowed) ∙ newest_passes (λ (s : SentFragment). is_some (g.allowed s.fragment.address s.fragment.bytes)) p.address r.fragments t all e in
-          let cells : set s.reigns.content.cells p.address (Some p.bytes) ≡ s.reigns.content.cells = set_held s.reigns.content.cells p.address (Some p.bytes) None (omega (arith, h.content.long)) is in
-          let lengths : narrowed (g.allowed p.address p.bytes) s.reigns.content.lengths ≡ s.reigns.content.lengths = ap (narrowed (g.allowed p.address p.bytes)) h.content.lengths ∙ again ∙ sym h.content.lengths in
-          let broken : judged_fragment (g.allowed p.address p.bytes) s.reigns.content.lengths s.reigns.content.tags_end s.broken ≡ s.broken =
-          broken_put g d now p r s.reigns.content s.broken h.content h.broken ∙ broken_again g d now p r again fit ∙ sym h.broken in
+          let allowed : g.allowed t.fragment.address t.fragment.bytes ≡ g.allowed p.address p.bytes = ap
+          (λ a. g.allowed a t.fragment.bytes) place ∙ ap (g.allowed p.address) bytes in
+          let again : narrowed (g.allowed p.address p.bytes) (lengths_of g.allowed g.longest (fragments_in r.fragments))
+          ≡ lengths_of g.allowed g.longest (fragments_in r.fragments) =
+          ap (λ o. narrowed o (lengths_of g.allowed g.longest (fragments_in r.fragments))) (sym allowed)
+          ∙ narrowed_again g.allowed g.longest p.address r.fragments t e in
+          let fit : list_all (λ (s : SentFragment). is_some (g.allowed s.fragment.address s.fragment.bytes)) r.fragments
+          ≡ true → is_some (g.allowed p.address p.bytes) ≡ true =
+          λ all. ap is_some (sym allowed) ∙ newest_passes (λ (s : SentFragment). is_some
+          (g.allowed s.fragment.address s.fragment.bytes)) p.address r.fragments t all e in
+          let cells : set s.reigns.content.cells p.address (Some p.bytes) ≡ s.reigns.content.cells = set_held
+          s.reigns.content.cells p.address (Some p.bytes) None (omega (arith, h.content.long)) is in
+          let lengths : narrowed (g.allowed p.address p.bytes) s.reigns.content.lengths ≡ s.reigns.content.lengths = ap
+          (narrowed (g.allowed p.address p.bytes)) h.content.lengths ∙ again ∙ sym h.content.lengths in
+          let broken : judged_fragment (g.allowed p.address p.bytes) s.reigns.content.lengths s.reigns.content.tags_end
+          s.broken ≡ s.broken =
+          broken_put g d now p r s.reigns.content s.broken h.content h.broken ∙ broken_again g d now p r again fit
+          ∙ sym h.broken in
           let same : put_in (g.allowed p.address p.bytes) p.address p.bytes s ≡ repeated_in s = λ i. record {
             count = s.count;
-            reigns = record { ages = record s.reigns.ages { since_last = 0 }; content = record { cells = cells i; lengths = lengths i; tags_end = s.reigns.content.tags_end } };
+            reigns = record {
+              ages = record s.reigns.ages { since_last = 0 };
+              content = record
+                  { cells = cells i; lengths = lengths i; tags_end = s.reigns.content.tags_end };
+            };
             broken = broken i;
           } in
-          let follows = joined_follows p (r ∷ older) s formed h on (inr is) in
-          (subst (λ (x : SpansState). FollowsFrom g d now (Sends p ∷ sent) (spans_after d now p (r ∷ older)) x) same follows.0, follows.1)
+          let follows = joined_follows p (r ∷ older) s formed h on (inr is) in (
+            subst (λ (x : SpansState). FollowsFrom g d now (Sends p ∷ sent) (spans_after d now p (r ∷ older)) x) same
+                follows.0,
+            follows.1,
+          )
 
-  pub tags_follow : (pair : PairFields) (rs : List Span) (s : SpansState) → FollowsFrom g d now sent rs s → FollowsFrom g d now (Tagged pair ∷ sent) (spans_tagged now pair rs) (tagged_in d pair s) × (length (spans_tagged now pair rs) ≡ length rs)
+  pub tags_follow : (pair : PairFields) (rs : List Span) (s : SpansState) → FollowsFrom g d now sent rs s
+      → FollowsFrom g d now (Tagged pair ∷ sent) (spans_tagged now pair rs) (tagged_in d pair s)
+      × (length (spans_tagged now pair rs) ≡ length rs)
   tags_follow pair [] s h = (
-    cond_both s.reigns.ages.is_open _ _ (λ (x : SpansState). FollowsFrom g d now (Tagged pair ∷ sent) [] x) (λ t. let shut = h.ages.current in absurd (cc)) (λ _. record {
-      ages = h.ages;
-      content = h.content;
-      count = h.count;
-      broken = ap (λ (f : FaultSet). record f { early_tag = true }) h.broken;
-    }),
+    cond_both s.reigns.ages.is_open _ _ (λ (x : SpansState). FollowsFrom g d now (Tagged pair ∷ sent) [] x)
+        (λ t. let shut = h.ages.current in absurd (cc)) (λ _. record {
+          ages = h.ages;
+          content = h.content;
+          count = h.count;
+          broken = ap (λ (f : FaultSet). record f { early_tag = true }) h.broken;
+        }),
     refl,
   )
   tags_follow pair (r ∷ older) s h = (
-    cond_both s.reigns.ages.is_open _ _ (λ (x : SpansState). FollowsFrom g d now (Tagged pair ∷ sent) (spans_tagged now pair (r ∷ older)) x) (λ _. record {
-      ages = ages_renewed d now (first_slot r.fragments) (fragments_in r.fragments) (record { slot = now; pair = pair } ∷ r.tags) (reign_of r) (reigns_of older) s.reigns.ages h.ages;
-      content = tagged_content g now pair (fragments_in r.fragments) r.tags s.reigns.content h.content;
-      count = h.count;
-      broken =
-          ap (λ (l : Lengths). judged_ends l (max s.reigns.content.tags_end (pair_end pair)) record s.broken { early_tag = s.broken.early_tag || are_early d s.reigns.ages }) h.content.lengths
-          ∙ ap (λ (n : ℕ). judged_ends (lengths_of g.allowed g.longest (fragments_in r.fragments)) (max n (pair_end pair)) record s.broken { early_tag = s.broken.early_tag || are_early d s.reigns.ages }) h.content.ends
-          ∙ ap (λ (f : FaultSet). judged_ends (lengths_of g.allowed g.longest (fragments_in r.fragments)) (max (tags_end r.tags) (pair_end pair)) record f { early_tag = f.early_tag || are_early d s.reigns.ages }) h.broken
-          ∙ sets_are _ _ refl refl refl
-          (ap (λ b. has_early_tags d r || b) (early_tags r s.reigns.ages.since_start h.ages.current.2) ∙ or_swap (has_early_tags d r) (nat_lt now (r.start + d)))
-          (further_past (lengths_of g.allowed g.longest (fragments_in r.fragments)).most (tags_end r.tags) (max (tags_end r.tags) (pair_end pair)) (omega arith));
-    }) (λ f. let wide = h.ages.current.0 in absurd (cc)),
+    cond_both s.reigns.ages.is_open _ _ (λ (x : SpansState). FollowsFrom g d now (Tagged pair ∷ sent)
+        (spans_tagged now pair (r ∷ older)) x) (λ _. record {
+          ages = ages_renewed d now (first_slot r.fragments) (fragments_in r.fragments)
+              (record { slot = now; pair = pair }
+              ∷ r.tags) (reign_of r) (reigns_of older) s.reigns.ages h.ages;
+          content = tagged_content g now pair (fragments_in r.fragments) r.tags s.reigns.content h.content;
+          count = h.count;
+          broken =
+              ap (λ (l : Lengths). judged_ends l (max s.reigns.content.tags_end (pair_end pair)) record s.broken
+              { early_tag = s.broken.early_tag || are_early d s.reigns.ages }) h.content.lengths
+              ∙ ap (λ (n : ℕ). judged_ends (lengths_of g.allowed g.longest (fragments_in r.fragments))
+              (max n (pair_end pair)) record s.broken { early_tag = s.broken.early_tag || are_early d s.reigns.ages })
+              h.content.ends
+              ∙ ap (λ (f : FaultSet). judged_ends (lengths_of g.allowed g.longest (fragments_in r.fragments))
+              (max (tags_end r.tags) (pair_end pair)) record f { early_tag = f.early_tag || are_early d s.reigns.ages })
+              h.broken
+              ∙ sets_are _ _ refl refl refl
+              (ap (λ b. has_early_tags d r || b) (early_tags r s.reigns.ages.since_start h.ages.current.2)
+              ∙ or_swap (has_early_tags d r) (nat_lt now (r.start + d)))
+              (further_past (lengths_of g.allowed g.longest (fragments_in r.fragments)).most (tags_end r.tags)
+              (max (tags_end r.tags) (pair_end pair)) (omega arith));
+        }) (λ f. let wide = h.ages.current.0 in absurd (cc)),
     refl,
   )
     where
-      early_tags : (r : Span) (since_start : ℕ) → since_start ≡ min (now - r.start) d → not (nat_le d since_start) ≡ nat_lt now (r.start + d)
+      early_tags : (r : Span) (since_start : ℕ) → since_start ≡ min (now - r.start) d
+          → not (nat_le d since_start) ≡ nat_lt now (r.start + d)
       early_tags r since_start e =
           elim (cases_lt now (r.start + d)) [
             | inl short ↦ ap not (lt-leb d since_start (omega (arith, e))) ∙ sym (lt-ltb now (r.start + d) short)
             | inr long ↦ ap not (le-leb d since_start (omega (arith, e))) ∙ sym (le-ltb now (r.start + d) long)
           ]
 
-  pub nothing_follows : (rs : List Span) (s : SpansState) → FollowsFrom g d now sent rs s → FollowsFrom g d now (Nothing ∷ sent) rs s
+  pub nothing_follows : (rs : List Span) (s : SpansState) → FollowsFrom g d now sent rs s
+      → FollowsFrom g d now (Nothing ∷ sent) rs s
   nothing_follows [] s h = record { ages = h.ages; content = h.content; count = h.count; broken = h.broken }
   nothing_follows (r ∷ older) s h = record { ages = h.ages; content = h.content; count = h.count; broken = h.broken }
 
@@ -372,13 +526,16 @@ reigns_over slot [] h = tt
 reigns_over slot (r ∷ older) h = ((h.0.begun, h.0.over), reigns_over slot older h.1)
 
 -- at the end of a slot
-pub spans_later : (g : Gauge) (d : ℕ) (mark : Mark) (before : List Mark) (s : SpansState) → 0 < d → HoldsNewestSpans g d mark before s
+pub spans_later : (g : Gauge) (d : ℕ) (mark : Mark) (before : List Mark) (s : SpansState) → 0 < d
+    → HoldsNewestSpans g d mark before s
     → HoldsSpans g d (mark ∷ before) record s { reigns = record s.reigns { ages = aged d s.reigns.ages } }
 spans_later g d mark before s pos h =
     let one : length (mark ∷ before) ≡ length before + 1 = omega arith in
-    let over : AreOver (length before + 1) (reigns_of (spans d (mark ∷ before))) = subst (λ n. AreOver n (reigns_of (spans d (mark ∷ before)))) one (reigns_over _ _ (in_order d (mark ∷ before) pos)) in
+    let over : AreOver (length before + 1) (reigns_of (spans d (mark ∷ before))) = subst
+    (λ n. AreOver n (reigns_of (spans d (mark ∷ before)))) one (reigns_over _ _ (in_order d (mark ∷ before) pos)) in
     record {
-      ages = subst (λ n. HoldsAges d n (reigns_of (spans d (mark ∷ before))) (aged d s.reigns.ages)) (sym one) (ages_later d (length before) (reigns_of (spans d (mark ∷ before))) s.reigns.ages over h.ages);
+      ages = subst (λ n. HoldsAges d n (reigns_of (spans d (mark ∷ before))) (aged d s.reigns.ages)) (sym one)
+          (ages_later d (length before) (reigns_of (spans d (mark ∷ before))) s.reigns.ages over h.ages);
       content = h.content;
       count = h.count;
       broken = h.broken;
@@ -386,18 +543,24 @@ spans_later g d mark before s pos h =
 
 -- ---- what a slot adds
 
-pub added_more : (g : Gauge) (d : ℕ) (mark : Mark) (before : List Mark) (old new : FaultSet) → length (spans d (mark ∷ before)) ≡ length (spans d before)
-    → old ≡ broken_newest g d before (spans d before) → new ≡ broken_newest g d (mark ∷ before) (spans d (mark ∷ before)) → not_before old new ≡ added g d mark before
+pub added_more : (g : Gauge) (d : ℕ) (mark : Mark) (before : List Mark) (old new : FaultSet)
+    → length (spans d (mark ∷ before)) ≡ length (spans d before)
+    → old ≡ broken_newest g d before (spans d before)
+    → new ≡ broken_newest g d (mark ∷ before) (spans d (mark ∷ before)) → not_before old new ≡ added g d mark before
 added_more g d mark before old new same e f =
-    rw (eq-eqb (length (spans d (mark ∷ before))) (length (spans d before)) same) (ap (λ (x : FaultSet). not_before x new) e ∙ ap (not_before (broken_newest g d before (spans d before))) f)
+    rw (eq-eqb (length (spans d (mark ∷ before))) (length (spans d before)) same)
+    (ap (λ (x : FaultSet). not_before x new) e ∙ ap (not_before (broken_newest g d before (spans d before))) f)
 
-pub added_first : (g : Gauge) (d : ℕ) (mark : Mark) (before : List Mark) (new : FaultSet) → length (spans d (mark ∷ before)) ≡ suc (length (spans d before))
+pub added_first : (g : Gauge) (d : ℕ) (mark : Mark) (before : List Mark) (new : FaultSet)
+    → length (spans d (mark ∷ before)) ≡ suc (length (spans d before))
     → new ≡ broken_newest g d (mark ∷ before) (spans d (mark ∷ before)) → new ≡ added g d mark before
-added_first g d mark before new more f = rw (ne_eqb (length (spans d (mark ∷ before))) (length (spans d before)) (λ same. omega (arith, more, same))) f
+added_first g d mark before new more f = rw (ne_eqb (length (spans d (mark ∷ before))) (length (spans d before))
+    (λ same. omega (arith, more, same))) f
 
 -- nothing new is added
 pub none_new : (f : FaultSet) → none_broken ≡ not_before f f
-none_new f = sets_are _ _ (not_new f.changed) (not_new f.early_flag) (not_new f.not_one_text) (not_new f.early_tag) (not_new f.tag_outside)
+none_new f = sets_are _ _ (not_new f.changed) (not_new f.early_flag) (not_new f.not_one_text) (not_new f.early_tag)
+    (not_new f.tag_outside)
   where
     not_new : (b : Bool) → false ≡ (b && not b)
     not_new true = refl
@@ -413,17 +576,23 @@ silent_tags : (lost : ℕ) → list_any is_tagged (replicate lost Nothing) ≡ f
 silent_tags zero = refl
 silent_tags (suc n) = silent_tags n
 
-pub silent_follows : (g : Gauge) (start : LogStart) (d : ℕ) (s : SpansState) → s.reigns ≡ record { ages = ages_at start d; content = no_content g.longest } → s.count ≡ 0 → s.broken ≡ none_broken → HoldsSpans g d (silent_as start d) s
+pub silent_follows : (g : Gauge) (start : LogStart) (d : ℕ) (s : SpansState)
+    → s.reigns ≡ record { ages = ages_at start d; content = no_content g.longest } → s.count ≡ 0
+    → s.broken ≡ none_broken → HoldsSpans g d (silent_as start d) s
 silent_follows g start d s e count broken = by start e
   where
-    silent : (start : LogStart) (lost : ℕ) → age_at start d ≡ min (lost + d) (2 * d) → s.reigns ≡ record { ages = ages_at start d; content = no_content g.longest } → HoldsSpans g d (replicate lost Nothing) s
+    silent : (start : LogStart) (lost : ℕ) → age_at start d ≡ min (lost + d) (2 * d)
+        → s.reigns ≡ record { ages = ages_at start d; content = no_content g.longest }
+        → HoldsSpans g d (replicate lost Nothing) s
     silent start lost age e = rw (silent_spans d lost, silent_length lost) record {
-      ages = subst (λ (r : ReignsState). HoldsAges d lost [] r.ages) (sym e) record { newest = age; second = age; current = refl; turns = ((λ _. tt), (λ _. refl)) };
+      ages = subst (λ (r : ReignsState). HoldsAges d lost [] r.ages) (sym e) record
+          { newest = age; second = age; current = refl; turns = ((λ _. tt), (λ _. refl)) };
       content = subst (λ (r : ReignsState). HoldsContent g [] [] r.content) (sym e) (empty_content g);
       count = omega (arith, count);
       broken = broken ∙ ap (λ b. record none_broken { early_tag = b }) (sym (silent_tags lost));
     }
 
-    by : (start : LogStart) → s.reigns ≡ record { ages = ages_at start d; content = no_content g.longest } → HoldsSpans g d (silent_as start d) s
+    by : (start : LogStart) → s.reigns ≡ record { ages = ages_at start d; content = no_content g.longest }
+        → HoldsSpans g d (silent_as start d) s
     by Complete e = silent Complete 0 (omega arith) e
     by Running e = silent Running d (omega arith) e

@@ -1,4 +1,5 @@
--- Short logs calculated by hand, and the faults of each one. Lists have the newest first, except the faults: they stand in
+-- Short logs calculated by hand, and the faults of each one. Lists have the newest first, except the faults: they stand
+-- in
 -- the order in which `audit --all` prints them.
 use Rattle.std.proofs.Common.{◌≡◌, ◌++◌, ℕ, Bool, true, false, List, [], ◌∷◌, Option, Some, None, length, map, refl}
 use Rattle.std.specs.Prelude.{if◌then◌else◌}
@@ -166,7 +167,8 @@ random_one : faults 3 (
     on 0 abcd ∷ on 2 i_end ∷ on 1 efgh ∷ pair (tag 1 3 0) no_tag ∷ None ∷ on 0 abcd ∷ off 0 hi ∷ off 0 a_nul_b_end
     ∷ pair (tag 1 1 4) (tag 1 0 2) ∷ None ∷ on 0 hi ∷ off 0 hi ∷ None ∷ None ∷ []
     )
-    ≡ (5, EarlyTag) ∷ (5, TagOutside) ∷ (6, NotOneText) ∷ (7, Changed) ∷ (7, EarlyFlag) ∷ (8, EarlyFlag) ∷ (10, EarlyTag) ∷ []
+    ≡ (5, EarlyTag) ∷ (5, TagOutside) ∷ (6, NotOneText) ∷ (7, Changed) ∷ (7, EarlyFlag) ∷ (8, EarlyFlag)
+    ∷ (10, EarlyTag) ∷ []
 random_one = refl
 
 -- a log by chance

@@ -8,7 +8,8 @@ use Rattle.rds_audit.specs.declared.audit.AuditFault.{AuditFault}
 use Rattle.rds_audit.specs.declared.fault_set.FaultSet.{FaultSet}
 use Rattle.rds_audit.specs.Ages.{HoldsAges}
 use Rattle.rds_audit.specs.Lengths.{Gauge, lengths_of, name_gauge, sent_last, tags_end, text_gauge}
-use Rattle.rds_audit.specs.Listing.{IsFaultOf, SentFragment, Span, broken_newest, first_of, fragments_in, slot_adds, spans}
+use Rattle.rds_audit.specs.Listing.{IsFaultOf, SentFragment, Span, broken_newest, first_of, fragments_in, slot_adds}
+use Rattle.rds_audit.specs.Listing.{spans}
 use Rattle.rds_audit.specs.AuditState.{AuditState, SpansState}
 use Rattle.rds_audit.specs.ReignsState.{ContentState, cell_at}
 use Rattle.rds_audit.specs.Recording.{counted_as, judged_as}
@@ -127,7 +128,8 @@ pub record AuditTakesSlot (a after : AuditState) (group : Option Group)
   pub again : (fault : AuditFault) → a.fault ≡ Some fault → (result ≡ Err fault) × (after ≡ a)
 
 -- the audit took the next slot, with this group or with none, whatever its fault: it stands at the log with that slot,
--- and follows it if it followed the log; the result is what the slot adds to the list of the log; the fault is the first
+-- and follows it if it followed the log; the result is what the slot adds to the list of the log; the fault is the
+-- first
 -- one that was added
 pub record TakesAll (a after : AuditState) (group : Option Group) (result : FaultSet) : Type 0 where
   pub stands : (pi d : ℕ) (log : List (Option Group)) → AuditAt pi d a log
@@ -136,7 +138,8 @@ pub record TakesAll (a after : AuditState) (group : Option Group) (result : Faul
       → FollowsLog pi d after (group ∷ log)
   pub adds : (pi d : ℕ) (log : List (Option Group)) (s : FollowsLog pi d a log) (message : Option Message)
       → Hears pi group message
-      → result ≡ slot_adds d (counted_as a.start (judged_as a.start d s.at.heard) message) (judged_as a.start d s.at.heard)
+      → result ≡ slot_adds d (counted_as a.start (judged_as a.start d s.at.heard) message)
+      (judged_as a.start d s.at.heard)
   pub start : after.start ≡ a.start
   pub first : a.fault ≡ None → after.fault ≡ first_of result
   pub again : (fault : AuditFault) → a.fault ≡ Some fault → after.fault ≡ Some fault
@@ -163,4 +166,5 @@ pub record ListsGroup (a after : AuditState) (group : Option Group) (result : Fa
 abbrev pub EndsSlot : StoredAudit → StoredAudit → Type 0
 EndsSlot old new =
     IsStoredAudit old → (judged : List (Option Message)) (newest : Option Message)
-    → HoldsSlot old.distance newest judged (audit_stored old) → HoldsLog old.distance (newest ∷ judged) (audit_stored new)
+    → HoldsSlot old.distance newest judged (audit_stored old)
+    → HoldsLog old.distance (newest ∷ judged) (audit_stored new)

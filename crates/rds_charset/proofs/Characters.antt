@@ -1,5 +1,7 @@
 -- Lemmas: the rules of the table, computed over all of it, and what each says of one entry.
-use Rattle.std.proofs.Common.{◌≡◌, ◌+◌, ◌-◌, ◌≤◌, ◌<◌, ◌==◌, ℕ, zero, suc, Bool, true, false, not, ◌&&◌, List, [], ◌∷◌, ◌++◌, length, get_or, drop, map, refl, sym, ap, ◌∙◌, nat_le, nat_lt, arith, Option, Some, None, slice_get, eqb-true, if◌then◌else◌}
+use Rattle.std.proofs.Common.{◌≡◌, ◌+◌, ◌-◌, ◌≤◌, ◌<◌, ◌==◌, ℕ, zero, suc, Bool, true, false, not, ◌&&◌, List, [], ◌∷◌}
+use Rattle.std.proofs.Common.{◌++◌, length, get_or, drop, map, refl, sym, ap, ◌∙◌, nat_le, nat_lt, arith, Option, Some}
+use Rattle.std.proofs.Common.{None, slice_get, eqb-true, if◌then◌else◌}
 use Rattle.std.proofs.lemmas.Bool.Decides.{nat_tests}
 use Rattle.std.proofs.lemmas.List.{at_drop_more}
 use Rattle.std.proofs.lemmas.List.Folds.{list_all-append, list_all-map, list_all_at}
@@ -11,25 +13,40 @@ use Rattle.std.proofs.lemmas.Option.{slice_get-get_or}
 use Rattle.std.specs.Option.{option_or, option_map}
 use Rattle.rds_charset.specs.declared.table.Stretch.{Stretch as HeldStretch}
 use Rattle.rds_charset.specs.Stretches.{stretch_of}
-use Rattle.rds_charset.specs.Table.{Stretch, table, character_in, character_at, character_of, byte_in, byte_at, byte_of, FitsInBytes}
+use Rattle.rds_charset.specs.Table.{Stretch, table, character_in, character_at, character_of, byte_in, byte_at, byte_of}
+use Rattle.rds_charset.specs.Table.{FitsInBytes}
 
 -- the stretch at hand has the byte, or the search goes on in the ones after it
-pub character_in-found : (stretches : List HeldStretch) (i : ℕ) (d : HeldStretch) (byte character : ℕ) → i < length stretches → character_at (stretch_of (get_or stretches i d)) byte ≡ Some character → character_in (map stretch_of (drop i stretches)) byte ≡ Some character
+pub character_in-found : (stretches : List HeldStretch) (i : ℕ) (d : HeldStretch) (byte character : ℕ)
+    → i < length stretches → character_at (stretch_of (get_or stretches i d)) byte ≡ Some character
+    → character_in (map stretch_of (drop i stretches)) byte ≡ Some character
 character_in-found stretches i d byte character within here =
-    at_drop_more (λ rest. character_in (map stretch_of rest) byte) stretches i d within ∙ ap (λ found. option_or found (character_in (map stretch_of (drop (i + 1) stretches)) byte)) here
+    at_drop_more (λ rest. character_in (map stretch_of rest) byte) stretches i d within
+    ∙ ap (λ found. option_or found (character_in (map stretch_of (drop (i + 1) stretches)) byte)) here
 
-pub character_in-passed : (stretches : List HeldStretch) (i : ℕ) (d : HeldStretch) (byte : ℕ) → i < length stretches → character_at (stretch_of (get_or stretches i d)) byte ≡ None → character_in (map stretch_of (drop i stretches)) byte ≡ character_in (map stretch_of (drop (i + 1) stretches)) byte
+pub character_in-passed : (stretches : List HeldStretch) (i : ℕ) (d : HeldStretch) (byte : ℕ) → i < length stretches
+    → character_at (stretch_of (get_or stretches i d)) byte ≡ None
+    → character_in (map stretch_of (drop i stretches)) byte ≡ character_in (map stretch_of (drop (i + 1) stretches))
+    byte
 character_in-passed stretches i d byte within here =
-    at_drop_more (λ rest. character_in (map stretch_of rest) byte) stretches i d within ∙ ap (λ found. option_or found (character_in (map stretch_of (drop (i + 1) stretches)) byte)) here
+    at_drop_more (λ rest. character_in (map stretch_of rest) byte) stretches i d within
+    ∙ ap (λ found. option_or found (character_in (map stretch_of (drop (i + 1) stretches)) byte)) here
 
 -- the same for a character
-pub byte_in-found : (stretches : List HeldStretch) (i : ℕ) (d : HeldStretch) (character byte : ℕ) → i < length stretches → byte_at (stretch_of (get_or stretches i d)) character ≡ Some byte → byte_in (map stretch_of (drop i stretches)) character ≡ Some byte
+pub byte_in-found : (stretches : List HeldStretch) (i : ℕ) (d : HeldStretch) (character byte : ℕ) → i < length stretches
+    → byte_at (stretch_of (get_or stretches i d)) character ≡ Some byte
+    → byte_in (map stretch_of (drop i stretches)) character ≡ Some byte
 byte_in-found stretches i d character byte within here =
-    at_drop_more (λ rest. byte_in (map stretch_of rest) character) stretches i d within ∙ ap (λ found. option_or found (byte_in (map stretch_of (drop (i + 1) stretches)) character)) here
+    at_drop_more (λ rest. byte_in (map stretch_of rest) character) stretches i d within
+    ∙ ap (λ found. option_or found (byte_in (map stretch_of (drop (i + 1) stretches)) character)) here
 
-pub byte_in-passed : (stretches : List HeldStretch) (i : ℕ) (d : HeldStretch) (character : ℕ) → i < length stretches → byte_at (stretch_of (get_or stretches i d)) character ≡ None → byte_in (map stretch_of (drop i stretches)) character ≡ byte_in (map stretch_of (drop (i + 1) stretches)) character
+pub byte_in-passed : (stretches : List HeldStretch) (i : ℕ) (d : HeldStretch) (character : ℕ) → i < length stretches
+    → byte_at (stretch_of (get_or stretches i d)) character ≡ None
+    → byte_in (map stretch_of (drop i stretches)) character ≡ byte_in (map stretch_of (drop (i + 1) stretches))
+    character
 byte_in-passed stretches i d character within here =
-    at_drop_more (λ rest. byte_in (map stretch_of rest) character) stretches i d within ∙ ap (λ found. option_or found (byte_in (map stretch_of (drop (i + 1) stretches)) character)) here
+    at_drop_more (λ rest. byte_in (map stretch_of rest) character) stretches i d within
+    ∙ ap (λ found. option_or found (byte_in (map stretch_of (drop (i + 1) stretches)) character)) here
 
 -- whether the stretch has only bytes up to 255
 abbrev fits : Stretch → Bool
@@ -38,13 +55,17 @@ fits stretch = nat_le (stretch.0 + length stretch.1) 256
 all_fit : list_all fits table ≡ true
 all_fit = refl
 
-FitsInBytes-from_fits : (stretch : Stretch) (b : Bool) → fits stretch ≡ b → (b ≡ false → list_all fits table ≡ false) → FitsInBytes stretch
+FitsInBytes-from_fits : (stretch : Stretch) (b : Bool) → fits stretch ≡ b → (b ≡ false → list_all fits table ≡ false)
+    → FitsInBytes stretch
 FitsInBytes-from_fits stretch true is _ = grind (arith, nat_tests)
 FitsInBytes-from_fits stretch false is unfit = let e : true ≡ false = sym all_fit ∙ unfit refl in grind arith
 
-pub held-FitsInBytes : (stretches : List HeldStretch) (i : ℕ) (d : HeldStretch) → map stretch_of stretches ≡ table → i < length stretches → FitsInBytes (stretch_of (get_or stretches i d))
-held-FitsInBytes stretches i d are within = FitsInBytes-from_fits (stretch_of (get_or stretches i d)) (fits (stretch_of (get_or stretches i d))) refl
-    (λ unfit. ap (list_all fits) (sym are) ∙ list_all-map fits stretch_of stretches ∙ list_all_at (λ stretch. fits (stretch_of stretch)) stretches i d within unfit)
+pub held-FitsInBytes : (stretches : List HeldStretch) (i : ℕ) (d : HeldStretch) → map stretch_of stretches ≡ table
+    → i < length stretches → FitsInBytes (stretch_of (get_or stretches i d))
+held-FitsInBytes stretches i d are within = FitsInBytes-from_fits (stretch_of (get_or stretches i d))
+    (fits (stretch_of (get_or stretches i d))) refl
+    (λ unfit. ap (list_all fits) (sym are) ∙ list_all-map fits stretch_of stretches
+    ∙ list_all_at (λ stretch. fits (stretch_of stretch)) stretches i d within unfit)
 
 -- all bytes that have a character, with that character
 abbrev pub entries_in : List Stretch → List (ℕ × ℕ)
@@ -52,7 +73,9 @@ entries_in [] = []
 entries_in (stretch ∷ stretches) = enumerate_from stretch.0 stretch.1 ++ entries_in stretches
 
 -- if a test holds for all entries, it holds for one
-holds_in_stretch : (test : ℕ → ℕ → Bool) (first : ℕ) (characters : List ℕ) (place character : ℕ) → list_all (λ e. test e.0 e.1) (enumerate_from first characters) ≡ true → slice_get characters place ≡ Some character → test (first + place) character ≡ true
+holds_in_stretch : (test : ℕ → ℕ → Bool) (first : ℕ) (characters : List ℕ) (place character : ℕ)
+    → list_all (λ e. test e.0 e.1) (enumerate_from first characters) ≡ true
+    → slice_get characters place ≡ Some character → test (first + place) character ≡ true
 holds_in_stretch test first [] place character all here = absurd (cc)
 holds_in_stretch test first (known ∷ characters) zero character all here =
     let at_first : test first known ≡ true = (and_parts _ _ all).0 in
@@ -63,45 +86,71 @@ holds_in_stretch test first (known ∷ characters) (suc place) character all her
     let sum : first + suc place ≡ first + 1 + place = omega arith in
     rw sum (holds_in_stretch test (first + 1) characters place character (and_parts _ _ all).1 here)
 
-holds_at_stretch : (test : ℕ → ℕ → Bool) (stretch : Stretch) (stretches : List Stretch) (place character : ℕ) → list_all (λ e. test e.0 e.1) (entries_in (stretch ∷ stretches)) ≡ true → slice_get stretch.1 place ≡ Some character → test (stretch.0 + place) character ≡ true
-holds_at_stretch test stretch stretches place character all here = holds_in_stretch test stretch.0 stretch.1 place character (and_parts _ _ (sym (list_all-append (λ e. test e.0 e.1) (enumerate_from stretch.0 stretch.1) (entries_in stretches)) ∙ all)).0 here
+holds_at_stretch : (test : ℕ → ℕ → Bool) (stretch : Stretch) (stretches : List Stretch) (place character : ℕ)
+    → list_all (λ e. test e.0 e.1) (entries_in (stretch ∷ stretches)) ≡ true
+    → slice_get stretch.1 place ≡ Some character → test (stretch.0 + place) character ≡ true
+holds_at_stretch test stretch stretches place character all here = holds_in_stretch test stretch.0 stretch.1 place
+    character (and_parts _ _ (sym (list_all-append (λ e. test e.0 e.1) (enumerate_from stretch.0 stretch.1)
+    (entries_in stretches)) ∙ all)).0 here
 
-holds_at_rest : (test : ℕ → ℕ → Bool) (stretch : Stretch) (stretches : List Stretch) → list_all (λ e. test e.0 e.1) (entries_in (stretch ∷ stretches)) ≡ true → list_all (λ e. test e.0 e.1) (entries_in stretches) ≡ true
-holds_at_rest test stretch stretches all = (and_parts _ _ (sym (list_all-append (λ e. test e.0 e.1) (enumerate_from stretch.0 stretch.1) (entries_in stretches)) ∙ all)).1
+holds_at_rest : (test : ℕ → ℕ → Bool) (stretch : Stretch) (stretches : List Stretch)
+    → list_all (λ e. test e.0 e.1) (entries_in (stretch ∷ stretches)) ≡ true
+    → list_all (λ e. test e.0 e.1) (entries_in stretches) ≡ true
+holds_at_rest test stretch stretches all = (and_parts _ _
+    (sym (list_all-append (λ e. test e.0 e.1) (enumerate_from stretch.0 stretch.1) (entries_in stretches)) ∙ all)).1
 
-found_at : (test : ℕ → ℕ → Bool) (stretch : Stretch) (stretches : List Stretch) (byte character : ℕ) → list_all (λ e. test e.0 e.1) (entries_in (stretch ∷ stretches)) ≡ true → (b : Bool) → nat_le stretch.0 byte ≡ b → (if b then slice_get stretch.1 (byte - stretch.0) else None) ≡ Some character → test byte character ≡ true
+found_at : (test : ℕ → ℕ → Bool) (stretch : Stretch) (stretches : List Stretch) (byte character : ℕ)
+    → list_all (λ e. test e.0 e.1) (entries_in (stretch ∷ stretches)) ≡ true → (b : Bool) → nat_le stretch.0 byte ≡ b
+    → (if b then slice_get stretch.1 (byte - stretch.0) else None) ≡ Some character → test byte character ≡ true
 found_at test stretch stretches byte character all true is here =
     let within : stretch.0 ≤ byte = grind (arith, nat_tests) in
     let sum : stretch.0 + (byte - stretch.0) ≡ byte = omega arith in
-    let holds : test (stretch.0 + (byte - stretch.0)) character ≡ true = holds_at_stretch test stretch stretches (byte - stretch.0) character all here in
+    let holds : test (stretch.0 + (byte - stretch.0)) character ≡ true = holds_at_stretch test stretch stretches
+    (byte - stretch.0) character all here in
     rw sum at holds
 found_at test stretch stretches byte character all false is here = absurd (cc)
 
-pub holds_at_byte : (test : ℕ → ℕ → Bool) (stretches : List Stretch) (byte character : ℕ) → list_all (λ e. test e.0 e.1) (entries_in stretches) ≡ true → character_in stretches byte ≡ Some character → test byte character ≡ true
+pub holds_at_byte : (test : ℕ → ℕ → Bool) (stretches : List Stretch) (byte character : ℕ)
+    → list_all (λ e. test e.0 e.1) (entries_in stretches) ≡ true → character_in stretches byte ≡ Some character
+    → test byte character ≡ true
 holds_at_byte test [] byte character all here = absurd (cc)
-holds_at_byte test (stretch ∷ stretches) byte character all here = by_stretch (character_at stretch byte) refl here (holds_at_byte test stretches byte character (holds_at_rest test stretch stretches all))
+holds_at_byte test (stretch ∷ stretches) byte character all here = by_stretch (character_at stretch byte) refl here
+    (holds_at_byte test stretches byte character (holds_at_rest test stretch stretches all))
   where
-    by_stretch : (found : Option ℕ) → character_at stretch byte ≡ found → option_or found (character_in stretches byte) ≡ Some character → (character_in stretches byte ≡ Some character → test byte character ≡ true) → test byte character ≡ true
+    by_stretch : (found : Option ℕ) → character_at stretch byte ≡ found
+        → option_or found (character_in stretches byte) ≡ Some character
+        → (character_in stretches byte ≡ Some character → test byte character ≡ true) → test byte character ≡ true
     by_stretch None none here later = later here
-    by_stretch (Some found) some here later = found_at test stretch stretches byte character all (nat_le stretch.0 byte) refl (some ∙ here)
+    by_stretch (Some found) some here later = found_at test stretch stretches byte character all (nat_le stretch.0 byte)
+        refl (some ∙ here)
 
-placed_at : (test : ℕ → ℕ → Bool) (stretch : Stretch) (stretches : List Stretch) (character byte : ℕ) → list_all (λ e. test e.0 e.1) (entries_in (stretch ∷ stretches)) ≡ true → byte_at stretch character ≡ Some byte → test byte character ≡ true
-placed_at test stretch stretches character byte all here = by_place (position (λ known. known == character) stretch.1) refl here
+placed_at : (test : ℕ → ℕ → Bool) (stretch : Stretch) (stretches : List Stretch) (character byte : ℕ)
+    → list_all (λ e. test e.0 e.1) (entries_in (stretch ∷ stretches)) ≡ true → byte_at stretch character ≡ Some byte
+    → test byte character ≡ true
+placed_at test stretch stretches character byte all here = by_place (position (λ known. known == character) stretch.1)
+    refl here
   where
-    by_place : (found : Option ℕ) → position (λ known. known == character) stretch.1 ≡ found → option_map (λ place. stretch.0 + place) found ≡ Some byte → test byte character ≡ true
+    by_place : (found : Option ℕ) → position (λ known. known == character) stretch.1 ≡ found
+        → option_map (λ place. stretch.0 + place) found ≡ Some byte → test byte character ≡ true
     by_place None none here = absurd (cc)
     by_place (Some place) some here =
         let at_place = position-Some (λ known. known == character) stretch.1 place 0 some in
         let same : get_or stretch.1 place 0 ≡ character = eqb-true _ _ at_place.1 in
-        let known : slice_get stretch.1 place ≡ Some character = slice_get-get_or stretch.1 place 0 at_place.0 ∙ ap Some same in
+        let known : slice_get stretch.1 place ≡ Some character = slice_get-get_or stretch.1 place 0 at_place.0
+        ∙ ap Some same in
         let sum : stretch.0 + place ≡ byte = cc in
         rw sum at (holds_at_stretch test stretch stretches place character all known)
 
-holds_at_character : (test : ℕ → ℕ → Bool) (stretches : List Stretch) (character byte : ℕ) → list_all (λ e. test e.0 e.1) (entries_in stretches) ≡ true → byte_in stretches character ≡ Some byte → test byte character ≡ true
+holds_at_character : (test : ℕ → ℕ → Bool) (stretches : List Stretch) (character byte : ℕ)
+    → list_all (λ e. test e.0 e.1) (entries_in stretches) ≡ true → byte_in stretches character ≡ Some byte
+    → test byte character ≡ true
 holds_at_character test [] character byte all here = absurd (cc)
-holds_at_character test (stretch ∷ stretches) character byte all here = by_stretch (byte_at stretch character) refl here (holds_at_character test stretches character byte (holds_at_rest test stretch stretches all))
+holds_at_character test (stretch ∷ stretches) character byte all here = by_stretch (byte_at stretch character) refl here
+    (holds_at_character test stretches character byte (holds_at_rest test stretch stretches all))
   where
-    by_stretch : (found : Option ℕ) → byte_at stretch character ≡ found → option_or found (byte_in stretches character) ≡ Some byte → (byte_in stretches character ≡ Some byte → test byte character ≡ true) → test byte character ≡ true
+    by_stretch : (found : Option ℕ) → byte_at stretch character ≡ found
+        → option_or found (byte_in stretches character) ≡ Some byte
+        → (byte_in stretches character ≡ Some byte → test byte character ≡ true) → test byte character ≡ true
     by_stretch None none here later = later here
     by_stretch (Some found) some here later = placed_at test stretch stretches character byte all (some ∙ here)
 
@@ -116,7 +165,9 @@ is_number-Some (Some m) n is = ap Some (eqb-true m n is)
 -- the rules: the byte of an entry is below 256; its character is not a backslash, has at most three bytes and is not
 -- half of a pair; and neither is in another entry
 abbrev is_lawful : ℕ → ℕ → Bool
-is_lawful byte character = (nat_lt byte 256 && not (character == 0x5C)) && (nat_lt character 0xD800 && (is_number (character_in table byte) character && is_number (byte_in table character) byte))
+is_lawful byte character = (nat_lt byte 256 && not (character == 0x5C))
+    && (nat_lt character 0xD800 && (is_number (character_in table byte) character && is_number (byte_in table character)
+    byte))
 
 all_lawful : list_all (λ e. is_lawful e.0 e.1) (entries_in table) ≡ true
 all_lawful = refl
@@ -133,10 +184,13 @@ pub record IsLawful (byte character : ℕ) : Type 0 where
 IsLawful-from_test : (byte character : ℕ) → is_lawful byte character ≡ true → IsLawful byte character
 unfolding character_of byte_of
 IsLawful-from_test byte character holds =
-    let parts = and_parts (nat_lt byte 256 && not (character == 0x5C)) (nat_lt character 0xD800 && (is_number (character_in table byte) character && is_number (byte_in table character) byte)) holds in
+    let parts = and_parts (nat_lt byte 256 && not (character == 0x5C)) (nat_lt character 0xD800
+    && (is_number (character_in table byte) character && is_number (byte_in table character) byte)) holds in
     let first = and_parts (nat_lt byte 256) (not (character == 0x5C)) parts.0 in
-    let second = and_parts (nat_lt character 0xD800) (is_number (character_in table byte) character && is_number (byte_in table character) byte) parts.1 in
-    let third = and_parts (is_number (character_in table byte) character) (is_number (byte_in table character) byte) second.1 in
+    let second = and_parts (nat_lt character 0xD800) (is_number (character_in table byte) character
+    && is_number (byte_in table character) byte) parts.1 in
+    let third = and_parts (is_number (character_in table byte) character) (is_number (byte_in table character) byte)
+    second.1 in
     let low : character < 0xD800 = grind (arith, nat_tests, second.0) in
     record {
       in_range = grind (arith, nat_tests, first.0);
@@ -149,8 +203,10 @@ IsLawful-from_test byte character holds =
 
 pub IsLawful-from_byte : (byte character : ℕ) → character_of byte ≡ Some character → IsLawful byte character
 unfolding character_of
-IsLawful-from_byte byte character here = IsLawful-from_test byte character (holds_at_byte is_lawful table byte character all_lawful here)
+IsLawful-from_byte byte character here = IsLawful-from_test byte character (holds_at_byte is_lawful table byte character
+    all_lawful here)
 
 pub IsLawful-from_character : (byte character : ℕ) → byte_of character ≡ Some byte → IsLawful byte character
 unfolding byte_of
-IsLawful-from_character byte character here = IsLawful-from_test byte character (holds_at_character is_lawful table character byte all_lawful here)
+IsLawful-from_character byte character here = IsLawful-from_test byte character (holds_at_character is_lawful table
+    character byte all_lawful here)

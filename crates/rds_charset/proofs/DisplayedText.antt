@@ -1,5 +1,6 @@
 -- Lemmas: how many bytes a text has on a display.
-use Rattle.std.proofs.Common.{◌≡◌, ◌+◌, ◌*◌, ◌≤◌, ℕ, Bool, true, List, [], ◌∷◌, ◌++◌, length, length-append, refl, arith, nat_lt, Option, Some, None, encode_utf8}
+use Rattle.std.proofs.Common.{◌≡◌, ◌+◌, ◌*◌, ◌≤◌, ℕ, Bool, true, List, [], ◌∷◌, ◌++◌, length, length-append, refl}
+use Rattle.std.proofs.Common.{arith, nat_lt, Option, Some, None, encode_utf8}
 use Rattle.std.proofs.lemmas.Bool.Decides.{nat_tests}
 use Rattle.std.proofs.lemmas.Str.{length-encode}
 use Rattle.std.specs.Char.{len_utf8}
@@ -22,11 +23,13 @@ width-from_low character low = grind (arith, nat_tests, low)
 length-from_low : (character : ℕ) → nat_lt character 0x10000 ≡ true → length (encode_utf8 character) ≤ 3
 length-from_low character low = rw (length-encode character) (width-from_low character low)
 
-by_more : (byte : ℕ) (found : Option ℕ) → character_in more byte ≡ found → length (encode_utf8 (unwrap_or found replacement)) ≤ 3
+by_more : (byte : ℕ) (found : Option ℕ) → character_in more byte ≡ found
+    → length (encode_utf8 (unwrap_or found replacement)) ≤ 3
 by_more byte None is = length-from_low replacement refl
 by_more byte (Some character) is = length-from_low character (holds_at_byte is_low more byte character all_low is)
 
-by_table : (byte : ℕ) (found : Option ℕ) → character_of byte ≡ found → length (encode_utf8 (unwrap_or (option_or found (character_in more byte)) replacement)) ≤ 3
+by_table : (byte : ℕ) (found : Option ℕ) → character_of byte ≡ found
+    → length (encode_utf8 (unwrap_or (option_or found (character_in more byte)) replacement)) ≤ 3
 by_table byte None is = by_more byte (character_in more byte) refl
 by_table byte (Some character) is = rw (length-encode character) (IsLawful-from_byte byte character is).width
 
@@ -39,5 +42,7 @@ length-displayed [] = omega arith
 length-displayed (byte ∷ bytes) =
     let one : length (encode_utf8 (displayed_character byte)) ≤ 3 = length-displayed_byte byte in
     let others : length (displayed bytes) ≤ 3 * length bytes = length-displayed bytes in
-    let sum : length (encode_utf8 (displayed_character byte) ++ displayed bytes) ≡ length (encode_utf8 (displayed_character byte)) + length (displayed bytes) = length-append (encode_utf8 (displayed_character byte)) (displayed bytes) in
+    let sum : length (encode_utf8 (displayed_character byte) ++ displayed bytes)
+    ≡ length (encode_utf8 (displayed_character byte)) + length (displayed bytes) = length-append
+    (encode_utf8 (displayed_character byte)) (displayed bytes) in
     omega arith

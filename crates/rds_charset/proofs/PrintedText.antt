@@ -3,11 +3,14 @@ use Rattle.std.proofs.KnownBytes.{Appends-trans}
 use Rattle.rds_io.specs.Puts.{AppendsPrefix-append, AppendsPrefix-longer}
 use Rattle.std.specs.Io.KnownBytes.{Appends}
 use Rattle.rds_io.specs.Told.{AppendsPrefix}
-use Rattle.std.proofs.Common.{◌≡◌, ◌+◌, ◌*◌, ◌/◌, ◌%◌, ◌<◌, ◌≤◌, ◌==◌, ℕ, Bool, true, false, inl, inr, List, [], ◌∷◌, ◌++◌, length, length-append, refl, sym, ap, ◌∙◌, arith, Option, Some, None, encode_utf8, if◌then◌else◌, append_assoc, subst}
+use Rattle.std.proofs.Common.{◌≡◌, ◌+◌, ◌*◌, ◌/◌, ◌%◌, ◌<◌, ◌≤◌, ◌==◌, ℕ, Bool, true, false, inl, inr, List, [], ◌∷◌}
+use Rattle.std.proofs.Common.{◌++◌, length, length-append, refl, sym, ap, ◌∙◌, arith, Option, Some, None, encode_utf8}
+use Rattle.std.proofs.Common.{if◌then◌else◌, append_assoc, subst}
 use Rattle.std.proofs.lemmas.Bool.Decides.{nat_tests}
 use Rattle.std.proofs.lemmas.Grind.{flat_map-append}
 use Rattle.std.proofs.lemmas.List.Elements.{All-head, All-tail}
-use Rattle.std.proofs.lemmas.Str.{length-encode, len_utf8_bounds, encode_ascii, IsUtf8-append, IsUtf8-encode, IsUtf8-nil}
+use Rattle.std.proofs.lemmas.Str.{length-encode, len_utf8_bounds, encode_ascii, IsUtf8-append, IsUtf8-encode}
+use Rattle.std.proofs.lemmas.Str.{IsUtf8-nil}
 use Rattle.std.specs.Char.{digit_value}
 use Rattle.std.specs.List.{All}
 use Rattle.std.specs.Option.{option_map_or}
@@ -32,7 +35,8 @@ length-printed [] = omega arith
 length-printed (byte ∷ bytes) =
     let one : length (printed_byte byte) ≤ 4 = length-printed_byte byte in
     let others : length (printed bytes) ≤ 4 * length bytes = length-printed bytes in
-    let sum : length (printed_byte byte ++ printed bytes) ≡ length (printed_byte byte) + length (printed bytes) = length-append (printed_byte byte) (printed bytes) in
+    let sum : length (printed_byte byte ++ printed bytes) ≡ length (printed_byte byte)
+    + length (printed bytes) = length-append (printed_byte byte) (printed bytes) in
     omega arith
 
 -- the digits that are printed are the digits that are read
@@ -57,36 +61,55 @@ escaped-IsSymbol byte small =
       value = rw (high_value, low_value) (omega arith);
     })
 
-shown-IsSymbol : (byte : ℕ) (shown : Option ℕ) → byte < 256 → ((character : ℕ) → shown ≡ Some character → character_of byte ≡ Some character) → IsSymbol (option_map_or encode_utf8 shown (escaped byte)) byte
+shown-IsSymbol : (byte : ℕ) (shown : Option ℕ) → byte < 256
+    → ((character : ℕ) → shown ≡ Some character → character_of byte ≡ Some character)
+    → IsSymbol (option_map_or encode_utf8 shown (escaped byte)) byte
 shown-IsSymbol byte None small own = escaped-IsSymbol byte small
-shown-IsSymbol byte (Some character) small own = inl (record { character = character; in_table = own character refl; spelled = refl })
+shown-IsSymbol byte (Some character) small own = inl
+    (record { character = character; in_table = own character refl; spelled = refl })
 
-shown-own : (byte character : ℕ) (b : Bool) → (if b then None else character_of byte) ≡ Some character → character_of byte ≡ Some character
+shown-own : (byte character : ℕ) (b : Bool) → (if b then None else character_of byte) ≡ Some character
+    → character_of byte ≡ Some character
 shown-own byte character true is = absurd (cc)
 shown-own byte character false is = is
 
 printed_byte-IsSymbol : (byte : ℕ) → byte < 256 → IsSymbol (printed_byte byte) byte
 unfolding printed_byte
-printed_byte-IsSymbol byte small = shown-IsSymbol byte (shown_character byte) small (λ character is. shown-own byte character (byte == 0x22) is)
+printed_byte-IsSymbol byte small = shown-IsSymbol byte (shown_character byte) small (λ character is. shown-own byte
+    character (byte == 0x22) is)
 
 pub IsReadAs-printed : (bytes : List ℕ) → All (λ byte. byte < 256) bytes → IsReadAs (printed bytes) bytes
 IsReadAs-printed [] small = refl
-IsReadAs-printed (byte ∷ bytes) small =
-    (printed bytes, record { symbol = printed_byte byte; cut = refl; is_symbol = printed_byte-IsSymbol byte (All-head (λ b. b < 256) byte bytes small) }, IsReadAs-printed bytes (All-tail (λ b. b < 256) byte bytes small))
+IsReadAs-printed (byte ∷ bytes) small = (
+  printed bytes,
+  record {
+    symbol = printed_byte byte;
+    cut = refl;
+    is_symbol = printed_byte-IsSymbol byte
+        (All-head (λ b. b < 256) byte bytes small);
+  },
+  IsReadAs-printed bytes (All-tail (λ b. b < 256) byte bytes small),
+)
 
 -- the printed form is UTF-8
 ascii-IsUtf8 : (character : ℕ) → character < 128 → IsUtf8 (character ∷ [])
-ascii-IsUtf8 character small = subst IsUtf8 (encode_ascii character small) (IsUtf8-encode character (grind (arith, nat_tests)))
+ascii-IsUtf8 character small = subst IsUtf8 (encode_ascii character small)
+    (IsUtf8-encode character (grind (arith, nat_tests)))
 
 escaped-IsUtf8 : (byte : ℕ) → byte < 256 → IsUtf8 (escaped byte)
 escaped-IsUtf8 byte small =
     let high : upper_digit (byte / 16) < 128 = upper_digit-ascii (byte / 16) (omega arith) in
     let low : upper_digit (byte % 16) < 128 = upper_digit-ascii (byte % 16) (omega arith) in
-    IsUtf8-append (0x5C ∷ []) (0x78 ∷ upper_digit (byte / 16) ∷ upper_digit (byte % 16) ∷ []) (ascii-IsUtf8 0x5C (omega arith))
-    (IsUtf8-append (0x78 ∷ []) (upper_digit (byte / 16) ∷ upper_digit (byte % 16) ∷ []) (ascii-IsUtf8 0x78 (omega arith))
-    (IsUtf8-append (upper_digit (byte / 16) ∷ []) (upper_digit (byte % 16) ∷ []) (ascii-IsUtf8 (upper_digit (byte / 16)) high) (ascii-IsUtf8 (upper_digit (byte % 16)) low)))
+    IsUtf8-append (0x5C ∷ []) (0x78 ∷ upper_digit (byte / 16) ∷ upper_digit (byte % 16) ∷ [])
+    (ascii-IsUtf8 0x5C (omega arith))
+    (IsUtf8-append (0x78 ∷ []) (upper_digit (byte / 16) ∷ upper_digit (byte % 16) ∷ [])
+    (ascii-IsUtf8 0x78 (omega arith))
+    (IsUtf8-append (upper_digit (byte / 16) ∷ []) (upper_digit (byte % 16) ∷ []) (ascii-IsUtf8 (upper_digit (byte / 16))
+    high) (ascii-IsUtf8 (upper_digit (byte % 16)) low)))
 
-shown-IsUtf8 : (byte : ℕ) (shown : Option ℕ) → byte < 256 → ((character : ℕ) → shown ≡ Some character → character_of byte ≡ Some character) → IsUtf8 (option_map_or encode_utf8 shown (escaped byte))
+shown-IsUtf8 : (byte : ℕ) (shown : Option ℕ) → byte < 256
+    → ((character : ℕ) → shown ≡ Some character → character_of byte ≡ Some character)
+    → IsUtf8 (option_map_or encode_utf8 shown (escaped byte))
 shown-IsUtf8 byte None small own = escaped-IsUtf8 byte small
 shown-IsUtf8 byte (Some character) small own =
     let low : character < 0xD800 = (IsLawful-from_byte byte character (own character refl)).in_low_plane in
@@ -94,33 +117,42 @@ shown-IsUtf8 byte (Some character) small own =
 
 printed_byte-IsUtf8 : (byte : ℕ) → byte < 256 → IsUtf8 (printed_byte byte)
 unfolding printed_byte
-printed_byte-IsUtf8 byte small = shown-IsUtf8 byte (shown_character byte) small (λ character is. shown-own byte character (byte == 0x22) is)
+printed_byte-IsUtf8 byte small = shown-IsUtf8 byte (shown_character byte) small (λ character is. shown-own byte
+    character (byte == 0x22) is)
 
 pub IsUtf8-printed : (bytes : List ℕ) → All (λ byte. byte < 256) bytes → IsUtf8 (printed bytes)
 IsUtf8-printed [] small = IsUtf8-nil
 IsUtf8-printed (byte ∷ bytes) small =
-    IsUtf8-append (printed_byte byte) (printed bytes) (printed_byte-IsUtf8 byte (All-head (λ b. b < 256) byte bytes small)) (IsUtf8-printed bytes (All-tail (λ b. b < 256) byte bytes small))
+    IsUtf8-append (printed_byte byte) (printed bytes) (printed_byte-IsUtf8 byte (All-head (λ b. b < 256) byte bytes
+    small)) (IsUtf8-printed bytes (All-tail (λ b. b < 256) byte bytes small))
 
 -- a text in two parts
 pub printed-append : (xs ys : List ℕ) → printed (xs ++ ys) ≡ printed xs ++ printed ys
 printed-append xs ys = flat_map-append printed_byte xs ys
 
 -- one more part of a text goes out, whole or up to a fault
-pub Appends-printed : (a b c : Option (List ℕ)) (done symbol line : List ℕ) → line ≡ printed symbol → Appends a b (printed done) → Appends b c line → Appends a c (printed (done ++ symbol))
-Appends-printed a b c done symbol line is first later = rw (printed-append done symbol) (Appends-trans a b c (printed done) (printed symbol) first (rw is at later))
+pub Appends-printed : (a b c : Option (List ℕ)) (done symbol line : List ℕ) → line ≡ printed symbol
+    → Appends a b (printed done) → Appends b c line → Appends a c (printed (done ++ symbol))
+Appends-printed a b c done symbol line is first later = rw (printed-append done symbol)
+    (Appends-trans a b c (printed done) (printed symbol) first (rw is at later))
 
-pub AppendsPrefix-printed : (a b c : Option (List ℕ)) (bytes done symbol rest line : List ℕ) → bytes ≡ (done ++ symbol) ++ rest → line ≡ printed symbol → Appends a b (printed done) → AppendsPrefix b c line → AppendsPrefix a c (printed bytes)
+pub AppendsPrefix-printed : (a b c : Option (List ℕ)) (bytes done symbol rest line : List ℕ)
+    → bytes ≡ (done ++ symbol) ++ rest → line ≡ printed symbol → Appends a b (printed done) → AppendsPrefix b c line
+    → AppendsPrefix a c (printed bytes)
 AppendsPrefix-printed a b c bytes done symbol rest line whole is first part =
     let sent = AppendsPrefix-append a b c (printed done) (printed symbol) first (subst (AppendsPrefix b c) is part) in
     let longer = AppendsPrefix-longer a c (printed done ++ printed symbol) (printed rest) sent in
     let same : printed bytes ≡ (printed done ++ printed symbol) ++ printed rest =
-    ap printed whole ∙ printed-append (done ++ symbol) rest ∙ ap (λ l. l ++ printed rest) (printed-append done symbol) in
+    ap printed whole ∙ printed-append (done ++ symbol) rest ∙ ap (λ l. l ++ printed rest) (printed-append done symbol)
+    in
     subst (AppendsPrefix a c) (sym same) longer
 
 -- the contents of a fresh line after a symbol was pushed
-pub pushed-printed : (pushed fresh symbol : List ℕ) → pushed ≡ fresh ++ printed symbol → fresh ≡ [] → pushed ≡ printed symbol
+pub pushed-printed : (pushed fresh symbol : List ℕ) → pushed ≡ fresh ++ printed symbol → fresh ≡ []
+    → pushed ≡ printed symbol
 pushed-printed pushed fresh symbol one two = one ∙ ap (λ items. items ++ printed symbol) two
 
 -- a symbol taken from the rest of a text
-pub append-chunk : (bytes done left symbol rest : List ℕ) → bytes ≡ done ++ left → left ≡ symbol ++ rest → bytes ≡ (done ++ symbol) ++ rest
+pub append-chunk : (bytes done left symbol rest : List ℕ) → bytes ≡ done ++ left → left ≡ symbol ++ rest
+    → bytes ≡ (done ++ symbol) ++ rest
 append-chunk bytes done left symbol rest one two = one ∙ ap (λ l. done ++ l) two ∙ sym (append_assoc done symbol rest)

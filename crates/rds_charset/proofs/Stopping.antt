@@ -1,7 +1,9 @@
 -- Lemmas: how many characters come before the place at which reading a text stops.
-use Rattle.std.proofs.Common.{◌≡◌, ◌<◌, ◌≤◌, ◌+◌, ◌-◌, ◌∙◌, ◌++◌, ℕ, List, ap, arith, drop, length, length-append, subst, sym, take}
+use Rattle.std.proofs.Common.{◌≡◌, ◌<◌, ◌≤◌, ◌+◌, ◌-◌, ◌∙◌, ◌++◌, ℕ, List, ap, arith, drop, length, length-append}
+use Rattle.std.proofs.Common.{subst, sym, take}
 use Rattle.std.proofs.lemmas.List.{take-append-drop}
-use Rattle.std.proofs.lemmas.Str.{IsCharBoundary-from_drop, IsUtf8-take, chars-append, chars_past_char, encodes-chars, length-le-encodes}
+use Rattle.std.proofs.lemmas.Str.{IsCharBoundary-from_drop, IsUtf8-take, chars-append, chars_past_char, encodes-chars}
+use Rattle.std.proofs.lemmas.Str.{length-le-encodes}
 use Rattle.std.specs.Prelude.{encode_utf8}
 use Rattle.std.specs.Str.{IsUtf8, chars}
 use Rattle.rds_charset.proofs.Symbols.{IsReadUpTo-drop}
@@ -16,14 +18,19 @@ before_and_after text bs rest whole left read =
     let within : n ≤ length text = omega arith in
     let boundary = IsCharBoundary-from_drop text n within (subst IsUtf8 (sym there) left) in
     let front : IsUtf8 (take n text) = IsUtf8-take text n whole boundary in
-    let parts : chars (take n text ++ drop n text) ≡ chars (take n text) ++ chars (drop n text) = chars-append (take n text) (drop n text) front in
-    let all : chars text ≡ chars (take n text) ++ chars rest = ap chars (sym (take-append-drop n text)) ∙ parts ∙ ap (λ (x : List ℕ). chars (take n text) ++ chars x) there in
+    let parts : chars (take n text ++ drop n text) ≡ chars (take n text) ++ chars (drop n text) = chars-append
+    (take n text) (drop n text) front in
+    let all : chars text ≡ chars (take n text) ++ chars rest = ap chars (sym (take-append-drop n text)) ∙ parts
+    ∙ ap (λ (x : List ℕ). chars (take n text) ++ chars x) there in
     ap length all ∙ length-append (chars (take n text)) (chars rest)
 
 -- a text that begins with a character has at least one
-pub some_character : (rest after : List ℕ) (c : ℕ) → IsUtf8 rest → rest ≡ encode_utf8 c ++ after → 0 < length (chars rest)
-some_character rest after c utf8 begins = (let e = ap length (chars_past_char rest after c utf8 begins) in omega (arith, e))
+pub some_character : (rest after : List ℕ) (c : ℕ) → IsUtf8 rest → rest ≡ encode_utf8 c ++ after
+    → 0 < length (chars rest)
+some_character rest after c utf8 begins = (let e = ap length (chars_past_char rest after c utf8 begins)
+    in omega (arith, e))
 
 -- and at least one byte
 pub some_bytes : (rest : List ℕ) → IsUtf8 rest → 0 < length (chars rest) → 0 < length rest
-some_bytes rest utf8 some = (let most = length-le-encodes (chars rest) in let all = ap length (encodes-chars rest utf8) in omega (arith, most, all))
+some_bytes rest utf8 some = (let most = length-le-encodes (chars rest) in let all = ap length (encodes-chars rest utf8)
+    in omega (arith, most, all))

@@ -1,13 +1,15 @@
 -- Lemmas: a text has one list of symbols only, so it is read as at most one list of bytes, and stops at one place at
 -- most.
-use Rattle.std.proofs.Common.{◌≡◌, inl, inr, ◌+◌, ◌-◌, ◌*◌, ◌≤◌, ◌<◌, ℕ, List, [], ◌∷◌, ◌++◌, length, drop, refl, sym, ap, ◌∙◌, subst, arith, Some, None, encode_utf8, append_assoc, length-append, length-drop}
+use Rattle.std.proofs.Common.{◌≡◌, inl, inr, ◌+◌, ◌-◌, ◌*◌, ◌≤◌, ◌<◌, ℕ, List, [], ◌∷◌, ◌++◌, length, drop, refl, sym}
+use Rattle.std.proofs.Common.{ap, ◌∙◌, subst, arith, Some, None, encode_utf8, append_assoc, length-append, length-drop}
 use Rattle.std.proofs.lemmas.Bool.Decides.{nat_tests}
 use Rattle.std.proofs.lemmas.List.{drop_at}
 use Rattle.std.proofs.lemmas.Str.{encode_same, encode_ascii, length-encode, len_utf8_bounds, IsUtf8-past_char}
 use Rattle.std.specs.Char.{digit_value}
 use Rattle.std.specs.Str.{IsUtf8}
 use Rattle.rds_charset.proofs.Characters.{IsLawful-from_byte, IsLawful-from_character}
-use Rattle.rds_charset.specs.ReadAs.{IsCharacter, IsEscape, IsSymbol, Begins, IsReadUpTo, IsReadAs, BeginsNoSymbol, StopsAt}
+use Rattle.rds_charset.specs.ReadAs.{IsCharacter, IsEscape, IsSymbol, Begins, IsReadUpTo, IsReadAs, BeginsNoSymbol}
+use Rattle.rds_charset.specs.ReadAs.{StopsAt}
 use Rattle.rds_charset.specs.Table.{character_of, byte_of}
 
 -- the backslash and the x as characters
@@ -18,17 +20,21 @@ x-first : (bs : List ℕ) → 0x78 ∷ bs ≡ encode_utf8 0x78 ++ bs
 x-first bs = sym (ap (λ cs. cs ++ bs) (encode_ascii 0x78 (omega arith)))
 
 -- no character of the table begins as an escape does
-character_no_escape : (byte character : ℕ) (r s : List ℕ) → character_of byte ≡ Some character → encode_utf8 character ++ r ≡ 0x5C ∷ s → ⊥
-character_no_escape byte character r s in_table same = (IsLawful-from_byte byte character in_table).no_backslash (encode_same character 0x5C r s (same ∙ backslash-first s)).0
+character_no_escape : (byte character : ℕ) (r s : List ℕ) → character_of byte ≡ Some character
+    → encode_utf8 character ++ r ≡ 0x5C ∷ s → ⊥
+character_no_escape byte character r s in_table same = (IsLawful-from_byte byte character in_table).no_backslash
+    (encode_same character 0x5C r s (same ∙ backslash-first s)).0
 
 pub record SameStart (a b : ℕ) (r s : List ℕ) : Type 0 where
   pub byte : a ≡ b
   pub rest : r ≡ s
 
 -- two characters of the table
-characters_same : (p q : List ℕ) (a b : ℕ) (r s : List ℕ) → IsCharacter p a → IsCharacter q b → p ++ r ≡ q ++ s → SameStart a b r s
+characters_same : (p q : List ℕ) (a b : ℕ) (r s : List ℕ) → IsCharacter p a → IsCharacter q b → p ++ r ≡ q ++ s
+    → SameStart a b r s
 characters_same p q a b r s one two same =
-    let whole : encode_utf8 one.character ++ r ≡ encode_utf8 two.character ++ s = ap (λ t. t ++ r) (sym one.spelled) ∙ same ∙ ap (λ t. t ++ s) two.spelled in
+    let whole : encode_utf8 one.character ++ r ≡ encode_utf8 two.character ++ s = ap (λ t. t ++ r) (sym one.spelled)
+    ∙ same ∙ ap (λ t. t ++ s) two.spelled in
     let split = encode_same one.character two.character r s whole in
     let left : byte_of one.character ≡ Some a = (IsLawful-from_byte a one.character one.in_table).of_character in
     let right : byte_of two.character ≡ Some b = (IsLawful-from_byte b two.character two.in_table).of_character in
@@ -36,19 +42,27 @@ characters_same p q a b r s one two same =
     record { byte = cc; rest = split.1 }
 
 -- two escapes
-escapes_same : (p q : List ℕ) (a b : ℕ) (r s : List ℕ) → IsEscape p a → IsEscape q b → p ++ r ≡ q ++ s → SameStart a b r s
+escapes_same : (p q : List ℕ) (a b : ℕ) (r s : List ℕ) → IsEscape p a → IsEscape q b → p ++ r ≡ q ++ s
+    → SameStart a b r s
 escapes_same p q a b r s one two same =
-    let whole : 0x5C ∷ 0x78 ∷ one.high ∷ one.low ∷ r ≡ 0x5C ∷ 0x78 ∷ two.high ∷ two.low ∷ s = ap (λ t. t ++ r) (sym one.spelled) ∙ same ∙ ap (λ t. t ++ s) two.spelled in
+    let whole : 0x5C ∷ 0x78 ∷ one.high ∷ one.low ∷ r ≡ 0x5C ∷ 0x78 ∷ two.high ∷ two.low ∷ s = ap (λ t. t ++ r)
+    (sym one.spelled) ∙ same ∙ ap (λ t. t ++ s) two.spelled in
     let high : one.high ≡ two.high = cc in
     let low : one.low ≡ two.low = cc in
-    record { byte = one.value ∙ ap (λ d. 16 * digit_value d + digit_value one.low) high ∙ ap (λ d. 16 * digit_value two.high + digit_value d) low ∙ sym two.value; rest = cc }
+    record {
+      byte = one.value ∙ ap (λ d. 16 * digit_value d + digit_value one.low) high
+          ∙ ap (λ d. 16 * digit_value two.high + digit_value d) low ∙ sym two.value;
+      rest = cc;
+    }
 
 -- one of each
 character_and_escape : (p q : List ℕ) (a b : ℕ) (r s : List ℕ) → IsCharacter p a → IsEscape q b → p ++ r ≡ q ++ s → ⊥
 character_and_escape p q a b r s one two same =
-    character_no_escape a one.character r (0x78 ∷ two.high ∷ two.low ∷ s) one.in_table (ap (λ t. t ++ r) (sym one.spelled) ∙ same ∙ ap (λ t. t ++ s) two.spelled)
+    character_no_escape a one.character r (0x78 ∷ two.high ∷ two.low ∷ s) one.in_table
+    (ap (λ t. t ++ r) (sym one.spelled) ∙ same ∙ ap (λ t. t ++ s) two.spelled)
 
-symbols_same : (p q : List ℕ) (a b : ℕ) (r s : List ℕ) → IsSymbol p a → IsSymbol q b → p ++ r ≡ q ++ s → SameStart a b r s
+symbols_same : (p q : List ℕ) (a b : ℕ) (r s : List ℕ) → IsSymbol p a → IsSymbol q b → p ++ r ≡ q ++ s
+    → SameStart a b r s
 symbols_same p q a b r s (inl one) (inl two) same = characters_same p q a b r s one two same
 symbols_same p q a b r s (inl one) (inr two) same = absurd (character_and_escape p q a b r s one two same)
 symbols_same p q a b r s (inr one) (inl two) same = absurd (character_and_escape q p b a s r two one (sym same))
@@ -56,7 +70,8 @@ symbols_same p q a b r s (inr one) (inr two) same = escapes_same p q a b r s one
 
 -- a text begins with one symbol at most
 pub Begins-same : (text : List ℕ) (a b : ℕ) (r s : List ℕ) → Begins text a r → Begins text b s → SameStart a b r s
-Begins-same text a b r s one two = symbols_same one.symbol two.symbol a b r s one.is_symbol two.is_symbol (sym one.cut ∙ two.cut)
+Begins-same text a b r s one two = symbols_same one.symbol two.symbol a b r s one.is_symbol two.is_symbol (sym one.cut
+    ∙ two.cut)
 
 -- a symbol has a byte at least
 IsSymbol-length : (p : List ℕ) (a : ℕ) → IsSymbol p a → 0 < length p
@@ -77,10 +92,13 @@ pub record SameReading (bs cs : List ℕ) (r s : List ℕ) : Type 0 where
   pub rest : r ≡ s
 
 -- a text is read in one way as far as it can be read
-pub IsReadUpTo-same : (text bs cs r s : List ℕ) → IsReadUpTo text bs r → IsReadUpTo text cs s → BeginsNoSymbol r → BeginsNoSymbol s → SameReading bs cs r s
+pub IsReadUpTo-same : (text bs cs r s : List ℕ) → IsReadUpTo text bs r → IsReadUpTo text cs s → BeginsNoSymbol r
+    → BeginsNoSymbol s → SameReading bs cs r s
 IsReadUpTo-same text [] [] r s one two end_one end_two = record { bytes = refl; rest = sym one ∙ two }
-IsReadUpTo-same text [] (c ∷ cs) r s one (after, begins, two) end_one end_two = absurd (end_one c after (subst (λ t. Begins t c after) one begins))
-IsReadUpTo-same text (b ∷ bs) [] r s (after, begins, one) two end_one end_two = absurd (end_two b after (subst (λ t. Begins t b after) two begins))
+IsReadUpTo-same text [] (c ∷ cs) r s one (after, begins, two) end_one end_two = absurd
+    (end_one c after (subst (λ t. Begins t c after) one begins))
+IsReadUpTo-same text (b ∷ bs) [] r s (after, begins, one) two end_one end_two = absurd
+    (end_two b after (subst (λ t. Begins t b after) two begins))
 IsReadUpTo-same text (b ∷ bs) (c ∷ cs) r s (first, begins, one) (second, also, two) end_one end_two =
     let start = Begins-same text b c first second begins also in
     let later = IsReadUpTo-same second bs cs r s (subst (λ t. IsReadUpTo t bs r) start.rest one) two end_one end_two in
@@ -88,16 +106,25 @@ IsReadUpTo-same text (b ∷ bs) (c ∷ cs) r s (first, begins, one) (second, als
 
 -- a text is read as at most one list of bytes
 pub IsReadAs-same : (text bs cs : List ℕ) → IsReadAs text bs → IsReadAs text cs → bs ≡ cs
-IsReadAs-same text bs cs one two = (IsReadUpTo-same text bs cs [] [] one two BeginsNoSymbol-nil BeginsNoSymbol-nil).bytes
+IsReadAs-same text bs cs one two = (IsReadUpTo-same text bs cs [] [] one two BeginsNoSymbol-nil
+    BeginsNoSymbol-nil).bytes
 
 -- one reading, and another of the rest
-pub IsReadUpTo-append : (text bs mid cs rest : List ℕ) → IsReadUpTo text bs mid → IsReadUpTo mid cs rest → IsReadUpTo text (bs ++ cs) rest
+pub IsReadUpTo-append : (text bs mid cs rest : List ℕ) → IsReadUpTo text bs mid → IsReadUpTo mid cs rest
+    → IsReadUpTo text (bs ++ cs) rest
 IsReadUpTo-append text [] mid cs rest one two = subst (λ t. IsReadUpTo t cs rest) (sym one) two
-IsReadUpTo-append text (b ∷ bs) mid cs rest (after, begins, one) two = (after, begins, IsReadUpTo-append after bs mid cs rest one two)
+IsReadUpTo-append text (b ∷ bs) mid cs rest (after, begins, one) two = (
+  after,
+  begins,
+  IsReadUpTo-append after bs mid cs
+      rest one two,
+)
 
 -- and one symbol of the rest
-pub IsReadUpTo-push : (text bs mid : List ℕ) (byte : ℕ) (rest : List ℕ) → IsReadUpTo text bs mid → Begins mid byte rest → IsReadUpTo text (bs ++ byte ∷ []) rest
-IsReadUpTo-push text bs mid byte rest one begins = IsReadUpTo-append text bs mid (byte ∷ []) rest one (rest, begins, refl)
+pub IsReadUpTo-push : (text bs mid : List ℕ) (byte : ℕ) (rest : List ℕ) → IsReadUpTo text bs mid → Begins mid byte rest
+    → IsReadUpTo text (bs ++ byte ∷ []) rest
+IsReadUpTo-push text bs mid byte rest one begins = IsReadUpTo-append text bs mid (byte ∷ []) rest one
+    (rest, begins, refl)
 
 -- the rest is the end of the text
 pub IsReadUpTo-length : (text bs rest : List ℕ) → IsReadUpTo text bs rest → length bs + length rest ≤ length text
@@ -110,8 +137,11 @@ IsReadUpTo-length text (b ∷ bs) rest (after, begins, one) =
 IsReadUpTo-cut : (text bs rest : List ℕ) → IsReadUpTo text bs rest → (read : List ℕ) × (text ≡ read ++ rest)
 IsReadUpTo-cut text [] rest one = ([], one)
 IsReadUpTo-cut text (b ∷ bs) rest (after, begins, one) =
-    let later = IsReadUpTo-cut after bs rest one in
-    (begins.symbol ++ later.0, begins.cut ∙ ap (λ t. begins.symbol ++ t) later.1 ∙ sym (append_assoc begins.symbol later.0 rest))
+    let later = IsReadUpTo-cut after bs rest one in (
+      begins.symbol ++ later.0,
+      begins.cut ∙ ap (λ t. begins.symbol ++ t) later.1
+          ∙ sym (append_assoc begins.symbol later.0 rest),
+    )
 
 pub IsReadUpTo-drop : (text bs rest : List ℕ) → IsReadUpTo text bs rest → drop (length text - length rest) text ≡ rest
 IsReadUpTo-drop text bs rest one =
@@ -121,7 +151,8 @@ IsReadUpTo-drop text bs rest one =
     ap (drop (length text - length rest)) cut.1 ∙ drop_at cut.0 rest (length text - length rest) place
 
 -- if the rest is not empty and begins with no symbol, the text stops there
-pub StopsAt-rest : (text bs rest : List ℕ) → IsReadUpTo text bs rest → BeginsNoSymbol rest → 0 < length rest → StopsAt text (length text - length rest)
+pub StopsAt-rest : (text bs rest : List ℕ) → IsReadUpTo text bs rest → BeginsNoSymbol rest → 0 < length rest
+    → StopsAt text (length text - length rest)
 StopsAt-rest text bs rest one stuck some =
     let there : drop (length text - length rest) text ≡ rest = IsReadUpTo-drop text bs rest one in
     let room : length bs + length rest ≤ length text = IsReadUpTo-length text bs rest one in
@@ -134,7 +165,8 @@ StopsAt-rest text bs rest one stuck some =
 
 pub StopsAt-same : (text : List ℕ) (p q : ℕ) → StopsAt text p → StopsAt text q → p ≡ q
 StopsAt-same text p q one two =
-    let rest : drop p text ≡ drop q text = (IsReadUpTo-same text one.bytes two.bytes (drop p text) (drop q text) one.read two.read one.stuck two.stuck).rest in
+    let rest : drop p text ≡ drop q text = (IsReadUpTo-same text one.bytes two.bytes (drop p text) (drop q text)
+    one.read two.read one.stuck two.stuck).rest in
     let long : length (drop p text) ≡ length (drop q text) = ap length rest in
     let left : p < length text = one.within in
     let right : q < length text = two.within in
@@ -142,7 +174,8 @@ StopsAt-same text p q one two =
 
 pub StopsAt-unread : (text : List ℕ) (p : ℕ) (bs : List ℕ) → StopsAt text p → IsReadAs text bs → ⊥
 StopsAt-unread text p bs one two =
-    let rest : drop p text ≡ [] = (IsReadUpTo-same text one.bytes bs (drop p text) [] one.read two one.stuck BeginsNoSymbol-nil).rest in
+    let rest : drop p text ≡ [] = (IsReadUpTo-same text one.bytes bs (drop p text) [] one.read two one.stuck
+    BeginsNoSymbol-nil).rest in
     let long : length (drop p text) ≡ 0 = ap length rest in
     let left : p < length text = one.within in
     omega (arith, length-drop p text)
@@ -154,52 +187,78 @@ digit_ascii digit small = grind (arith, nat_tests)
 digit-first : (digit : ℕ) (rest : List ℕ) → digit_value digit < 16 → digit ∷ rest ≡ encode_utf8 digit ++ rest
 digit-first digit rest small = sym (ap (λ cs. cs ++ rest) (encode_ascii digit (digit_ascii digit small)))
 
-pub first-digit : (text : List ℕ) (first : ℕ) (after : List ℕ) (digit : ℕ) (rest : List ℕ) → text ≡ encode_utf8 first ++ after → text ≡ digit ∷ rest → digit_value digit < 16 → first ≡ digit
-first-digit text first after digit rest one two small = (encode_same first digit after rest (sym one ∙ two ∙ digit-first digit rest small)).0
+pub first-digit : (text : List ℕ) (first : ℕ) (after : List ℕ) (digit : ℕ) (rest : List ℕ)
+    → text ≡ encode_utf8 first ++ after → text ≡ digit ∷ rest → digit_value digit < 16 → first ≡ digit
+first-digit text first after digit rest one two small = (encode_same first digit after rest (sym one ∙ two
+    ∙ digit-first digit rest small)).0
 
-pub first-x : (text : List ℕ) (first : ℕ) (after rest : List ℕ) → text ≡ encode_utf8 first ++ after → text ≡ 0x78 ∷ rest → first ≡ 0x78
+pub first-x : (text : List ℕ) (first : ℕ) (after rest : List ℕ) → text ≡ encode_utf8 first ++ after → text ≡ 0x78 ∷ rest
+    → first ≡ 0x78
 first-x text first after rest one two = (encode_same first 0x78 after rest (sym one ∙ two ∙ x-first rest)).0
 
-pub text-x : (text : List ℕ) (first : ℕ) (after : List ℕ) → text ≡ encode_utf8 first ++ after → first ≡ 0x78 → text ≡ 0x78 ∷ after
+pub text-x : (text : List ℕ) (first : ℕ) (after : List ℕ) → text ≡ encode_utf8 first ++ after → first ≡ 0x78
+    → text ≡ 0x78 ∷ after
 text-x text first after one is = one ∙ ap (λ c. encode_utf8 c ++ after) is ∙ sym (x-first after)
 
-pub text-backslash : (text : List ℕ) (first : ℕ) (after : List ℕ) → text ≡ encode_utf8 first ++ after → first ≡ 0x5C → text ≡ 0x5C ∷ after
+pub text-backslash : (text : List ℕ) (first : ℕ) (after : List ℕ) → text ≡ encode_utf8 first ++ after → first ≡ 0x5C
+    → text ≡ 0x5C ∷ after
 text-backslash text first after one is = one ∙ ap (λ c. encode_utf8 c ++ after) is ∙ sym (backslash-first after)
 
-pub BeginsNoSymbol-escape : (text : List ℕ) → ((high low : ℕ) (rest : List ℕ) → text ≡ 0x78 ∷ high ∷ low ∷ rest → digit_value high < 16 → digit_value low < 16 → ⊥) → BeginsNoSymbol (0x5C ∷ text)
+pub BeginsNoSymbol-escape : (text : List ℕ)
+    → ((high low : ℕ) (rest : List ℕ) → text ≡ 0x78 ∷ high ∷ low ∷ rest → digit_value high < 16 → digit_value low < 16
+    → ⊥) → BeginsNoSymbol (0x5C ∷ text)
 BeginsNoSymbol-escape text none byte rest one = by_symbol one.is_symbol
   where
     by_symbol : IsSymbol one.symbol byte → ⊥
-    by_symbol (inl is) = character_no_escape byte is.character rest text is.in_table (ap (λ t. t ++ rest) (sym is.spelled) ∙ sym one.cut)
+    by_symbol (inl is) = character_no_escape byte is.character rest text is.in_table
+        (ap (λ t. t ++ rest) (sym is.spelled) ∙ sym one.cut)
     by_symbol (inr is) =
         let whole : 0x5C ∷ text ≡ 0x5C ∷ 0x78 ∷ is.high ∷ is.low ∷ rest = one.cut ∙ ap (λ t. t ++ rest) is.spelled in
         none is.high is.low rest (cc) is.high_digit is.low_digit
 
-pub Begins-escape : (text rest : List ℕ) (high low : ℕ) → text ≡ 0x78 ∷ high ∷ low ∷ rest → digit_value high < 16 → digit_value low < 16 → Begins (0x5C ∷ text) (16 * digit_value high + digit_value low) rest
+pub Begins-escape : (text rest : List ℕ) (high low : ℕ) → text ≡ 0x78 ∷ high ∷ low ∷ rest → digit_value high < 16
+    → digit_value low < 16 → Begins (0x5C ∷ text) (16 * digit_value high + digit_value low) rest
 Begins-escape text rest high low is first second = record {
   symbol = 0x5C ∷ 0x78 ∷ high ∷ low ∷ [];
   cut = ap (λ t. 0x5C ∷ t) is;
-  is_symbol = inr (record { high = high; low = low; high_digit = first; low_digit = second; spelled = refl; value = refl });
+  is_symbol = inr (record {
+    high = high;
+    low = low;
+    high_digit = first;
+    low_digit = second;
+    spelled = refl;
+    value = refl;
+  });
 }
 
-pub BeginsNoSymbol-character : (text : List ℕ) (first : ℕ) (after : List ℕ) → text ≡ encode_utf8 first ++ after → (first ≡ 0x5C → ⊥) → None ≡ byte_of first → BeginsNoSymbol text
+pub BeginsNoSymbol-character : (text : List ℕ) (first : ℕ) (after : List ℕ) → text ≡ encode_utf8 first ++ after
+    → (first ≡ 0x5C → ⊥) → None ≡ byte_of first → BeginsNoSymbol text
 BeginsNoSymbol-character text first after is other unknown byte rest one = by_symbol one.is_symbol
   where
     by_symbol : IsSymbol one.symbol byte → ⊥
     by_symbol (inl character) =
-        let split = encode_same first character.character after rest (sym is ∙ one.cut ∙ ap (λ t. t ++ rest) character.spelled) in
-        let known : byte_of character.character ≡ Some byte = (IsLawful-from_byte byte character.character character.in_table).of_character in
+        let split = encode_same first character.character after rest (sym is ∙ one.cut ∙ ap (λ t. t ++ rest)
+        character.spelled) in
+        let known : byte_of character.character ≡ Some byte = (IsLawful-from_byte byte character.character
+        character.in_table).of_character in
         let both : None ≡ Some byte = unknown ∙ ap byte_of split.0 ∙ known in
         absurd (cc)
     by_symbol (inr escape) =
-        let whole : encode_utf8 first ++ after ≡ 0x5C ∷ 0x78 ∷ escape.high ∷ escape.low ∷ rest = sym is ∙ one.cut ∙ ap (λ t. t ++ rest) escape.spelled in
-        other (encode_same first 0x5C after (0x78 ∷ escape.high ∷ escape.low ∷ rest) (whole ∙ backslash-first (0x78 ∷ escape.high ∷ escape.low ∷ rest))).0
+        let whole : encode_utf8 first ++ after ≡ 0x5C ∷ 0x78 ∷ escape.high ∷ escape.low ∷ rest = sym is ∙ one.cut
+        ∙ ap (λ t. t ++ rest) escape.spelled in
+        other (encode_same first 0x5C after (0x78 ∷ escape.high ∷ escape.low ∷ rest)
+        (whole ∙ backslash-first (0x78 ∷ escape.high ∷ escape.low ∷ rest))).0
 
-pub Begins-character : (text : List ℕ) (first : ℕ) (after : List ℕ) (byte : ℕ) → text ≡ encode_utf8 first ++ after → Some byte ≡ byte_of first → Begins text byte after
+pub Begins-character : (text : List ℕ) (first : ℕ) (after : List ℕ) (byte : ℕ) → text ≡ encode_utf8 first ++ after
+    → Some byte ≡ byte_of first → Begins text byte after
 Begins-character text first after byte is known = record {
   symbol = encode_utf8 first;
   cut = is;
-  is_symbol = inl (record { character = first; in_table = (IsLawful-from_character byte first (sym known)).of_byte; spelled = refl });
+  is_symbol = inl (record {
+    character = first;
+    in_table = (IsLawful-from_character byte first (sym known)).of_byte;
+    spelled = refl;
+  });
 }
 
 -- the rest after a symbol of a text is a text
@@ -207,17 +266,24 @@ pub Begins-IsUtf8 : (text : List ℕ) (byte : ℕ) (rest : List ℕ) → IsUtf8 
 Begins-IsUtf8 text byte rest is one = by_symbol one.is_symbol
   where
     by_symbol : IsSymbol one.symbol byte → IsUtf8 rest
-    by_symbol (inl character) = IsUtf8-past_char text rest character.character is (one.cut ∙ ap (λ t. t ++ rest) character.spelled)
+    by_symbol (inl character) = IsUtf8-past_char text rest character.character is (one.cut ∙ ap (λ t. t ++ rest)
+        character.spelled)
     by_symbol (inr escape) =
-        let whole : text ≡ 0x5C ∷ 0x78 ∷ escape.high ∷ escape.low ∷ rest = one.cut ∙ ap (λ t. t ++ rest) escape.spelled in
-        let one_on = IsUtf8-past_char text (0x78 ∷ escape.high ∷ escape.low ∷ rest) 0x5C is (whole ∙ backslash-first (0x78 ∷ escape.high ∷ escape.low ∷ rest)) in
-        let two_on = IsUtf8-past_char (0x78 ∷ escape.high ∷ escape.low ∷ rest) (escape.high ∷ escape.low ∷ rest) 0x78 one_on (x-first (escape.high ∷ escape.low ∷ rest)) in
-        let three_on = IsUtf8-past_char (escape.high ∷ escape.low ∷ rest) (escape.low ∷ rest) escape.high two_on (digit-first escape.high (escape.low ∷ rest) escape.high_digit) in
+        let whole : text ≡ 0x5C ∷ 0x78 ∷ escape.high ∷ escape.low ∷ rest = one.cut ∙ ap (λ t. t ++ rest) escape.spelled
+        in
+        let one_on = IsUtf8-past_char text (0x78 ∷ escape.high ∷ escape.low ∷ rest) 0x5C is
+        (whole ∙ backslash-first (0x78 ∷ escape.high ∷ escape.low ∷ rest)) in
+        let two_on = IsUtf8-past_char (0x78 ∷ escape.high ∷ escape.low ∷ rest) (escape.high ∷ escape.low ∷ rest) 0x78
+        one_on (x-first (escape.high ∷ escape.low ∷ rest)) in
+        let three_on = IsUtf8-past_char (escape.high ∷ escape.low ∷ rest) (escape.low ∷ rest) escape.high two_on
+        (digit-first escape.high (escape.low ∷ rest) escape.high_digit) in
         IsUtf8-past_char (escape.low ∷ rest) rest escape.low three_on (digit-first escape.low rest escape.low_digit)
 
 -- reading a text after its first symbol
-pub IsReadAs-step : (text : List ℕ) (byte : ℕ) (rest bytes : List ℕ) → IsReadAs text bytes → Begins text byte rest → (later : List ℕ) × IsReadAs rest later × (length bytes ≡ 1 + length later)
-IsReadAs-step text byte rest [] one begins = absurd (BeginsNoSymbol-nil byte rest (subst (λ t. Begins t byte rest) one begins))
+pub IsReadAs-step : (text : List ℕ) (byte : ℕ) (rest bytes : List ℕ) → IsReadAs text bytes → Begins text byte rest
+    → (later : List ℕ) × IsReadAs rest later × (length bytes ≡ 1 + length later)
+IsReadAs-step text byte rest [] one begins = absurd (BeginsNoSymbol-nil byte rest (subst (λ t. Begins t byte rest) one
+    begins))
 IsReadAs-step text byte rest (b ∷ bytes) (after, also, one) begins =
     (bytes, subst (λ t. IsReadAs t bytes) (Begins-same text b byte after rest also begins).rest one, omega arith)
 

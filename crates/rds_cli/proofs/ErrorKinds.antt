@@ -7,7 +7,8 @@ use Rattle.clap.specs.declared.error.kind.ErrorKind.{ErrorKind}
 use Rattle.clap.specs.Walk.{Text}
 use Rattle.rds_cli.specs.CommandLine.{AreAnswered, whole_app}
 
-among : (test : ErrorKind → Bool) (k : ErrorKind) (kinds : Kinds) → IsAmong k kinds → list_all test kinds ≡ true → test k ≡ true
+among : (test : ErrorKind → Bool) (k : ErrorKind) (kinds : Kinds) → IsAmong k kinds → list_all test kinds ≡ true
+    → test k ≡ true
 among test k [] none all = absurd none
 among test k (x ∷ xs) (inl same) all =
     let parts = and_parts _ _ all in
@@ -17,7 +18,8 @@ among test k (x ∷ xs) (inr later) all =
     among test k xs later parts.1
 
 -- one of the kinds passes the test
-pub answered_by : (test : ErrorKind → Bool) (words : List Text) (k : ErrorKind) → AreAnswered test words → IsAmong k (fault_of whole_app words) → test k ≡ true
+pub answered_by : (test : ErrorKind → Bool) (words : List Text) (k : ErrorKind) → AreAnswered test words
+    → IsAmong k (fault_of whole_app words) → test k ≡ true
 answered_by test words k answered is =
     let parts = and_parts _ _ answered in
     among test k (fault_of whole_app words) is parts.1

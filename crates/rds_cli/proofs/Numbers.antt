@@ -1,5 +1,6 @@
 -- Numbers that the words give.
-use Rattle.std.proofs.Common.{◌≡◌, ◌≤◌, ◌<◌, ◌+◌, ◌^◌, ◌&&◌, ℕ, Bool, true, false, List, [], ◌∷◌, Option, Some, None, Result, Ok, Err, inl, inr, refl, sym, ◌∙◌, ap, arith, nat_lt}
+use Rattle.std.proofs.Common.{◌≡◌, ◌≤◌, ◌<◌, ◌+◌, ◌^◌, ◌&&◌, ℕ, Bool, true, false, List, [], ◌∷◌, Option, Some, None}
+use Rattle.std.proofs.Common.{Result, Ok, Err, inl, inr, refl, sym, ◌∙◌, ap, arith, nat_lt}
 use Rattle.std.specs.Prelude.{◌↔◌, IfSome, IsSome, if◌then◌else◌, length, nat_le, option_and_then}
 use Rattle.std.specs.Char.{digit_value}
 use Rattle.std.specs.List.{list_all}
@@ -49,8 +50,10 @@ below least most n h = go (nat_le least n) (nat_le n most) refl
     go false b e = refl
     go true b e = let low = leb-true least n e in absurd (omega arith)
 
-read_number : (k least most : ℕ) {E : Type 0} (G : Text → Result ℕ E → Type 0) (o : Option Text) (r : Option ℕ) → (o ≡ None → r ≡ None)
-    → ((t : Text) → o ≡ Some t → ReadsOne G t r) → ((t : Text) (x : Result ℕ E) → G t x → ParsesUnsigned k 10 t x) → most < 2 ^ k
+read_number : (k least most : ℕ) {E : Type 0} (G : Text → Result ℕ E → Type 0) (o : Option Text) (r : Option ℕ)
+    → (o ≡ None → r ≡ None)
+    → ((t : Text) → o ≡ Some t → ReadsOne G t r) → ((t : Text) (x : Result ℕ E) → G t x → ParsesUnsigned k 10 t x)
+    → most < 2 ^ k
     → option_and_then (number_from_to least most) o ≡ option_and_then (between least most) r
 read_number k least most G None r none value only fits = rw (none refl) refl
 read_number k least most {E} G (Some t) r none value only fits = go r (value t refl) (is_numeral digits) refl
@@ -64,7 +67,8 @@ read_number k least most {E} G (Some t) r none value only fits = go r (value t r
       | inr h ↦ absurd (over (omega (arith, fits)))
     ]
 
-    go : (r : Option ℕ) → ReadsOne G t r → (b : Bool) → is_numeral digits ≡ b → number_from_to least most t ≡ option_and_then (between least most) r
+    go : (r : Option ℕ) → ReadsOne G t r → (b : Bool) → is_numeral digits ≡ b
+        → number_from_to least most t ≡ option_and_then (between least most) r
     go (Some v) h b e =
         let parsed = only t (Ok v) h in
         rw (numeral digits parsed.0.0, parsed.1) refl
@@ -74,12 +78,14 @@ read_number k least most {E} G (Some t) r none value only fits = go r (value t r
     go None h false e = rw e refl
 
 -- what `get_one` reads of an option, at an unsigned type of k bits
-pub read_option : (k least most : ℕ) {E : Type 0} (G : Text → Result ℕ E → Type 0) (f : Found) (option : Text) (r : Option ℕ)
+pub read_option : (k least most : ℕ) {E : Type 0} (G : Text → Result ℕ E → Type 0) (f : Found) (option : Text)
+    (r : Option ℕ)
     → (one_text f option ≡ None → r ≡ None) → ((t : Text) → one_text f option ≡ Some t → ReadsOne G t r)
     → ((t : Text) (x : Result ℕ E) → G t x → ParsesUnsigned k 10 t x) → most < 2 ^ k
     → option_and_then (number_from_to least most) (one_of option (rows_of f)) ≡ option_and_then (between least most) r
 read_option k least most G f option r none value only fits =
-    ap (option_and_then (number_from_to least most)) (sym (one_text-rows f option)) ∙ read_number k least most G (one_text f option) r none value only fits
+    ap (option_and_then (number_from_to least most)) (sym (one_text-rows f option)) ∙ read_number k least most G
+    (one_text f option) r none value only fits
 
 -- a number of slots has its bounds
 pub slots_between : (least most n : ℕ) (o : Option ℕ) → IsSome o ↔ ((least ≤ n) × (n ≤ most)) → IfSome o (λ s. s ≡ n)
@@ -98,7 +104,8 @@ slots_between least most n (Some s) some value =
     rw (le-leb least n low, le-leb n most high) (ap Some value)
 
 -- a place is a number below a bound, which is 1 more than the most
-pub place_between : (most n : ℕ) (o : Option ℕ) → IsSome o ↔ (n < most + 1) → IfSome o (λ p. p ≡ n) → o ≡ between 0 most n
+pub place_between : (most n : ℕ) (o : Option ℕ) → IsSome o ↔ (n < most + 1) → IfSome o (λ p. p ≡ n)
+    → o ≡ between 0 most n
 place_between most n None some value = elim (cases_lt n (most + 1)) [
   | inl h ↦
       let here : IsSome {T = ℕ} None = some.1 h in

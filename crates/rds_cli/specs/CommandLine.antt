@@ -181,7 +181,8 @@ TakesWords words = takes whole_app words ≡ true
 
 -- ---- the request of the arguments
 
--- the task, the argument of `--pi`, that of `--lose` or nothing, and the dwell in slots. `--quiet` and `--json-notes` are
+-- the task, the argument of `--pi`, that of `--lose` or nothing, and the dwell in slots. `--quiet` and `--json-notes`
+-- are
 -- about notes alone
 pub record Requested : Type 0 where
   pub task : Task

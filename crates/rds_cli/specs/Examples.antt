@@ -43,7 +43,7 @@ encoding dwell pty =
       pi = codes "C201";
       lose = [];
       dwell = dwell;
-        }
+    }
 
 abbrev pub simulating : ℕ → ℕ → Bool → ℕ → Requested
 simulating dwell pty tp late = record {

@@ -263,12 +263,10 @@ fn json_notes<'a>(alloc: Global) -> Arg<'a>
     ensures local { result.global ≡ false }
 {
     let help = "Prints each note on standard error as a JSON object";
-    flag(alloc, "json-notes", help)
-        .display_order(101)
-        .long_help(
-            "Prints each note on standard error as one JSON object a line: its kind, its numbers and\n\
+    flag(alloc, "json-notes", help).display_order(101).long_help(
+        "Prints each note on standard error as one JSON object a line: its kind, its numbers and\n\
              its sentence (text)",
-        )
+    )
 }
 
 /// The help texts of a subcommand.

@@ -1,5 +1,6 @@
 -- Lemmas: broadcasts by their numbers.
-use Rattle.std.proofs.Common.{◌≡◌, ◌+◌, ◌-◌, ◌<◌, ◌≤◌, ℕ, zero, suc, List, [], ◌∷◌, length, refl, sym, ◌∙◌, subst, inl, inr, arith}
+use Rattle.std.proofs.Common.{◌≡◌, ◌+◌, ◌-◌, ◌<◌, ◌≤◌, ℕ, zero, suc, List, [], ◌∷◌, length, refl, sym, ◌∙◌, subst, inl}
+use Rattle.std.proofs.Common.{inr, arith}
 use Rattle.std.proofs.lemmas.Bool.{cases_lt}
 use Rattle.rds_encoder.specs.Plan.{Broadcast, HasNumber}
 use Rattle.rds_encoder.specs.Spaced.{IsSpaced}
@@ -27,32 +28,56 @@ at_number : (plan : List Broadcast) (k l : ℕ) (b : Broadcast) → k ≡ l → 
 at_number plan k l b e p = subst (λ (n : ℕ). HasNumber plan n b) e p
 
 -- the one before a broadcast
-before_it : (plan : List Broadcast) (k l : ℕ) (b : Broadcast) → HasNumber plan l b → k < l → (a : Broadcast) × HasNumber plan k a
+before_it : (plan : List Broadcast) (k l : ℕ) (b : Broadcast) → HasNumber plan l b → k < l
+    → (a : Broadcast) × HasNumber plan k a
 before_it plan k l b q h = there plan k (omega (arith, below plan l b q))
 
-ordered_by : (d : ℕ) (plan : List Broadcast) (n k : ℕ) (a b : Broadcast) → IsSpaced d plan → HasNumber plan k a → HasNumber plan (k + 1 + n) b → a.end < b.start
+ordered_by : (d : ℕ) (plan : List Broadcast) (n k : ℕ) (a b : Broadcast) → IsSpaced d plan → HasNumber plan k a
+    → HasNumber plan (k + 1 + n) b → a.end < b.start
 ordered_by d plan zero k a b s p q = s.order k a b p (at_number plan _ _ b (omega arith) q)
 ordered_by d plan (suc n) k a b s p q =
     let w = before_it plan (k + 1 + n) (k + 1 + suc n) b q (omega arith) in
     let rest = ordered_by d plan n k a w.0 s p w.1 in
-    omega (arith, rest, s.lasts (k + 1 + n) w.0 w.1, s.order (k + 1 + n) w.0 b w.1 (at_number plan _ _ b (omega arith) q))
+    omega (
+      arith,
+      rest,
+      s.lasts (k + 1 + n) w.0 w.1,
+      s.order (k + 1 + n) w.0 b w.1 (at_number plan _ _ b (omega arith)
+          q),
+    )
 
-pub ordered : (d : ℕ) (plan : List Broadcast) (k l : ℕ) (a b : Broadcast) → IsSpaced d plan → HasNumber plan k a → HasNumber plan l b → k < l → a.end < b.start
-ordered d plan k l a b s p q h = (let e : l ≡ k + 1 + (l - (k + 1)) = omega arith in ordered_by d plan (l - (k + 1)) k a b s p (at_number plan _ _ b e q))
+pub ordered : (d : ℕ) (plan : List Broadcast) (k l : ℕ) (a b : Broadcast) → IsSpaced d plan → HasNumber plan k a
+    → HasNumber plan l b → k < l → a.end < b.start
+ordered d plan k l a b s p q h = (let e : l ≡ k + 1 + (l - (k + 1)) = omega arith in ordered_by d plan (l - (k + 1)) k a
+    b s p (at_number plan _ _ b e q))
 
-far_by : (d : ℕ) (plan : List Broadcast) (n k : ℕ) (a b : Broadcast) → IsSpaced d plan → HasNumber plan k a → HasNumber plan (k + 2 + n) b → a.end + d ≤ b.start
+far_by : (d : ℕ) (plan : List Broadcast) (n k : ℕ) (a b : Broadcast) → IsSpaced d plan → HasNumber plan k a
+    → HasNumber plan (k + 2 + n) b → a.end + d ≤ b.start
 far_by d plan zero k a b s p q = s.far k a b p (at_number plan _ _ b (omega arith) q)
 far_by d plan (suc n) k a b s p q =
     let w = before_it plan (k + 2 + n) (k + 2 + suc n) b q (omega arith) in
     let rest = far_by d plan n k a w.0 s p w.1 in
-    omega (arith, rest, s.lasts (k + 2 + n) w.0 w.1, s.order (k + 2 + n) w.0 b w.1 (at_number plan _ _ b (omega arith) q))
+    omega (
+      arith,
+      rest,
+      s.lasts (k + 2 + n) w.0 w.1,
+      s.order (k + 2 + n) w.0 b w.1 (at_number plan _ _ b (omega arith)
+          q),
+    )
 
-pub far_apart : (d : ℕ) (plan : List Broadcast) (k l : ℕ) (a b : Broadcast) → IsSpaced d plan → HasNumber plan k a → HasNumber plan l b → k + 2 ≤ l → a.end + d ≤ b.start
-far_apart d plan k l a b s p q h = (let e : l ≡ k + 2 + (l - (k + 2)) = omega arith in far_by d plan (l - (k + 2)) k a b s p (at_number plan _ _ b e q))
+pub far_apart : (d : ℕ) (plan : List Broadcast) (k l : ℕ) (a b : Broadcast) → IsSpaced d plan → HasNumber plan k a
+    → HasNumber plan l b → k + 2 ≤ l → a.end + d ≤ b.start
+far_apart d plan k l a b s p q h = (let e : l ≡ k + 2 + (l - (k + 2)) = omega arith in far_by d plan (l - (k + 2)) k a b
+    s p (at_number plan _ _ b e q))
 
 -- broadcasts of one flag are d slots apart
-pub one_flag_apart : (d : ℕ) (plan : List Broadcast) (k l : ℕ) (a b : Broadcast) → IsSpaced d plan → HasNumber plan k a → HasNumber plan l b → k < l → a.flag ≡ b.flag → a.end + d ≤ b.start
+pub one_flag_apart : (d : ℕ) (plan : List Broadcast) (k l : ℕ) (a b : Broadcast) → IsSpaced d plan → HasNumber plan k a
+    → HasNumber plan l b → k < l → a.flag ≡ b.flag → a.end + d ≤ b.start
 one_flag_apart d plan k l a b s p q h e = elim (cases_lt (k + 1) l) [
   | inl more ↦ far_apart d plan k l a b s p q (omega arith)
-  | inr next ↦ elim (s.apart k a b p (at_number plan _ _ b (omega arith) q)) [ inl differ ↦ absurd (differ e) | inr far ↦ far ]
+  | inr next ↦ elim (s.apart k a b p (at_number plan _ _ b (omega arith) q)) [
+    | inl differ ↦ absurd (differ e)
+    | inr far
+        ↦ far
+  ]
 ]

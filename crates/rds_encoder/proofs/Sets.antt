@@ -11,9 +11,20 @@ use Rattle.rds_encoder.specs.State.{EncoderState, TextState, TrackState}
 use Rattle.rds_encoder.proofs.Turns.{none_yet}
 
 -- a text that is accepted begins with its first segment
-pub text_accepted : (station : Head) (m : ℕ) (e : EncoderState) (track : TrackState TextState) (pair : Option PairFields) (entries : List Entry) (x : List ℕ)
-    → EncoderAt station m e entries → reply_to m (text_moves entries) ≡ Ok tt → HoldsBack m track.hold (Set x ∷ text_moves entries) → track.on_air ≡ Some record { bytes = x; next = 0 } → pair ≡ None
-    → EncoderAt station m record { head = e.head; distance = e.distance; silence = e.silence; round = e.round; text = track; name = e.name; pair = pair } (SetText x ∷ entries)
+pub text_accepted : (station : Head) (m : ℕ) (e : EncoderState) (track : TrackState TextState)
+    (pair : Option PairFields) (entries : List Entry) (x : List ℕ)
+    → EncoderAt station m e entries → reply_to m (text_moves entries) ≡ Ok tt
+    → HoldsBack m track.hold (Set x ∷ text_moves entries) → track.on_air ≡ Some record { bytes = x; next = 0 }
+    → pair ≡ None
+    → EncoderAt station m record {
+      head = e.head;
+      distance = e.distance;
+      silence = e.silence;
+      round = e.round;
+      text = track;
+      name = e.name;
+      pair = pair;
+    } (SetText x ∷ entries)
 text_accepted station m e track pair entries x st ok back on none =
     let done : is_ok (reply_to m (text_moves entries)) ≡ true = ap is_ok ok in
     let first = none_yet (is_text_turn m) (slot_of (text_moves entries)) (text_moves entries) (omega arith) in
@@ -28,9 +39,19 @@ text_accepted station m e track pair entries x st ok back on none =
     }
 
 -- a name that is accepted, or refused
-pub name_accepted : (station : Head) (m : ℕ) (e : EncoderState) (track : TrackState (List ℕ)) (entries : List Entry) (x : List ℕ)
-    → EncoderAt station m e entries → reply_to m (name_moves entries) ≡ Ok tt → HoldsBack m track.hold (Set x ∷ name_moves entries) → track.on_air ≡ Some x
-    → EncoderAt station m record { head = e.head; distance = e.distance; silence = e.silence; round = e.round; text = e.text; name = track; pair = e.pair } (SetName x ∷ entries)
+pub name_accepted : (station : Head) (m : ℕ) (e : EncoderState) (track : TrackState (List ℕ)) (entries : List Entry)
+    (x : List ℕ)
+    → EncoderAt station m e entries → reply_to m (name_moves entries) ≡ Ok tt
+    → HoldsBack m track.hold (Set x ∷ name_moves entries) → track.on_air ≡ Some x
+    → EncoderAt station m record {
+      head = e.head;
+      distance = e.distance;
+      silence = e.silence;
+      round = e.round;
+      text = e.text;
+      name = track;
+      pair = e.pair;
+    } (SetName x ∷ entries)
 name_accepted station m e track entries x st ok back on =
     let done : is_ok (reply_to m (name_moves entries)) ≡ true = ap is_ok ok in
     record {
@@ -44,7 +65,8 @@ name_accepted station m e track entries x st ok back on =
     }
 
 pub name_refused : (station : Head) (m : ℕ) (e : EncoderState) (entries : List Entry) (x : List ℕ)
-    → EncoderAt station m e entries → is_ok (reply_to m (name_moves entries)) ≡ false → EncoderAt station m e (SetName x ∷ entries)
+    → EncoderAt station m e entries → is_ok (reply_to m (name_moves entries)) ≡ false
+    → EncoderAt station m e (SetName x ∷ entries)
 name_refused station m e entries x st absent = record {
   head = st.head;
   distance = st.distance;

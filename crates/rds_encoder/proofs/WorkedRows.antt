@@ -1,5 +1,6 @@
 -- Worked examples of the definitions, calculated by hand. Lists have the newest first.
-use Rattle.std.proofs.Common.{◌≡◌, ℕ, Bool, true, false, List, [], ◌∷◌, ◌++◌, Option, Some, None, Ok, Err, refl, replicate}
+use Rattle.std.proofs.Common.{◌≡◌, ℕ, Bool, true, false, List, [], ◌∷◌, ◌++◌, Option, Some, None, Ok, Err, refl}
+use Rattle.std.proofs.Common.{replicate}
 use Rattle.rds_fields.specs.declared.message.Message.{Message}
 use Rattle.rds_fields.specs.declared.message.Message.TheVariants.{Text, Name, Tags}
 use Rattle.rds_fields.specs.declared.pair.Which.TheVariants.{One}
@@ -100,7 +101,8 @@ sent_to_9 : sent_log 4 restarted_to_9 ≡ yo_segment false ∷ nothing 4 ++ hi_s
 sent_to_9 = refl
 
 planned_to_9 : plan_of 4 9 (text_moves restarted_to_9)
-    ≡ record { start = 9; end = 9; flag = false; bytes = yo } ∷ record { start = 4; end = 4; flag = false; bytes = hi } ∷ []
+    ≡ record { start = 9; end = 9; flag = false; bytes = yo } ∷ record { start = 4; end = 4; flag = false; bytes = hi }
+    ∷ []
 planned_to_9 = refl
 
 -- tags on air: artist and title of a text of 15 characters, accepted in slot 5 and sent in slot 11
@@ -112,7 +114,8 @@ artist_and_title = pair true (tag 4 0 3) (tag 1 7 7)
 
 tags_to_11 : sent_log 4 (free_slots 7 ++ SetTags artist_and_title ∷ Tick true ∷ SetText waterloo ∷ free_slots 4)
     ≡ Some (Tags artist_and_title) ∷ Some (Text false 3 (0x4C ∷ 0x4F ∷ 0x4F ∷ 0x0D ∷ [])) ∷ Some announcement
-    ∷ Some (Text false 2 (0x41 ∷ 0x54 ∷ 0x45 ∷ 0x52 ∷ [])) ∷ None ∷ Some (Text false 1 (0x20 ∷ 0x2D ∷ 0x20 ∷ 0x57 ∷ [])) ∷ None
+    ∷ Some (Text false 2 (0x41 ∷ 0x54 ∷ 0x45 ∷ 0x52 ∷ [])) ∷ None ∷ Some (Text false 1 (0x20 ∷ 0x2D ∷ 0x20 ∷ 0x57 ∷ []))
+    ∷ None
     ∷ Some (Text false 0 (0x41 ∷ 0x42 ∷ 0x42 ∷ 0x41 ∷ [])) ∷ nothing 4
 tags_to_11 = refl
 
@@ -148,7 +151,8 @@ kept_in_3 : pair_on_air 1 to_slot_3 ≡ Some title
 kept_in_3 = refl
 
 whole_round : sent_log 1 (free_slots 6 ++ to_slot_3)
-    ≡ Some (Tags title) ∷ hi_segment true ∷ Some announcement ∷ hi_segment true ∷ Some (Name false 1 (0x20 ∷ 0x46 ∷ 0x4D ∷ 0x20 ∷ [])) ∷ hi_segment true
+    ≡ Some (Tags title) ∷ hi_segment true ∷ Some announcement ∷ hi_segment true
+    ∷ Some (Name false 1 (0x20 ∷ 0x46 ∷ 0x4D ∷ 0x20 ∷ [])) ∷ hi_segment true
     ∷ Some (Name false 0 (0x4A ∷ 0x41 ∷ 0x5A ∷ 0x5A ∷ [])) ∷ hi_segment false ∷ None ∷ []
 whole_round = refl
 

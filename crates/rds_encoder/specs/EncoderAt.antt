@@ -43,7 +43,8 @@ pub record EncoderAt (station : Head) (m : ℕ) (e : EncoderState) (entries : Li
 
 -- this holds of each head, spacing and list of entries that the encoder stands at
 abbrev pub WhereEncoderStands : EncoderState → (Head → ℕ → List Entry → Type 0) → Type 0
-WhereEncoderStands e P = (station : Head) (m : ℕ) (entries : List Entry) → EncoderAt station m e entries → P station m entries
+WhereEncoderStands e P = (station : Head) (m : ℕ) (entries : List Entry) → EncoderAt station m e entries
+    → P station m entries
 
 -- the encoder took the entry: it stands at its entries before with this one added
 abbrev pub Takes : EncoderState → EncoderState → Entry → Type 0

@@ -18,7 +18,8 @@ pub of_run : (count m t : ℕ) (the_run : List Segment) (d rest : ℕ) (s : Stor
     → ((a : ℕ) → a < count → bit_at r.held a ≡ bit_at s.mask a) → r.age ≡ age_stored d rest s
     → HoldsRun m t the_run (segments_stored d rest s) → AreHeldIn count m t the_run r
 of_run count m t the_run d rest s r few same age holds = record {
-  held = λ a h. ap (λ (cells : Cells). contains_key cells a) (sym holds.cells) ∙ contains-held s.mask s.bytes a (omega arith)
+  held = λ a h. ap (λ (cells : Cells). contains_key cells a) (sym holds.cells) ∙ contains-held s.mask s.bytes a
+      (omega arith)
       ∙ ap (λ (bit : ℕ). bit == 1) (sym (same a h));
   age = subst (λ (x : ℕ). HasAge m t the_run x) (sym age) holds.age;
 }

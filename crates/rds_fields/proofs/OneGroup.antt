@@ -12,7 +12,8 @@ use Rattle.rds_fields.specs.Spells.{IsOf, bits_in}
 use Rattle.rds_fields.specs.Canonical.{IsPlain, HasHead, IsWritten}
 
 -- groups of one type and head are equal if their low bits and blocks 3 and 4 are
-same_fields : (n : ℕ) (head : Head) (g h : Group) → IsOf g n → IsOf h n → HasHead head g → HasHead head h → g.low ≡ h.low → g.c ≡ h.c → g.d ≡ h.d → g ≡ h
+same_fields : (n : ℕ) (head : Head) (g h : Group) → IsOf g n → IsOf h n → HasHead head g → HasHead head h
+    → g.low ≡ h.low → g.c ≡ h.c → g.d ≡ h.d → g ≡ h
 same_fields n head g h og oh hg hh low c d =
     let pi : g.pi ≡ h.pi = hg.pi ∙ sym hh.pi in
     let number : g.number ≡ h.number = og.number ∙ sym oh.number in

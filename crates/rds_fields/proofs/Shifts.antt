@@ -46,7 +46,9 @@ low_bit n = rw (and_mask n 1) (from_bool-not_zero (n % 2) (omega arith))
 
 -- joining the eight fields gives their number
 pub fields_joined : (s : Sent) → FitsBits s →
-    bit_or (bit_or (bit_or (bit_or (bit_or (bit_or (bit_or (s.toggle * 2 ^ 36 % 2 ^ 64) (s.running * 2 ^ 35 % 2 ^ 64)) (s.class_one * 2 ^ 29 % 2 ^ 64)) (s.start_one * 2 ^ 23 % 2 ^ 64)) (s.extra_one * 2 ^ 17 % 2 ^ 64)) (s.class_two * 2 ^ 11 % 2 ^ 64)) (s.start_two * 2 ^ 5 % 2 ^ 64)) s.extra_two
+    bit_or (bit_or (bit_or (bit_or (bit_or (bit_or (bit_or (s.toggle * 2 ^ 36 % 2 ^ 64) (s.running * 2 ^ 35 % 2 ^ 64))
+    (s.class_one * 2 ^ 29 % 2 ^ 64)) (s.start_one * 2 ^ 23 % 2 ^ 64)) (s.extra_one * 2 ^ 17 % 2 ^ 64))
+    (s.class_two * 2 ^ 11 % 2 ^ 64)) (s.start_two * 2 ^ 5 % 2 ^ 64)) s.extra_two
     ≡ field_bits s
 fields_joined s h =
     let t : s.toggle * 2 ^ 36 % 2 ^ 64 ≡ s.toggle * 2 ^ 36 = omega arith in

@@ -1,5 +1,6 @@
 -- Lemmas: the digits of words that are spread out, with a number below 16 in each byte of a lane.
-use Rattle.std.proofs.Common.{◌≡◌, ◌+◌, ◌*◌, ◌/◌, ◌%◌, ◌<◌, ◌∙◌, ◌&&◌, Bool, ℕ, ap, arith, bit_and, cond, false, inl, inr, nat_eq, refl, suc, true, zero}
+use Rattle.std.proofs.Common.{◌≡◌, ◌+◌, ◌*◌, ◌/◌, ◌%◌, ◌<◌, ◌∙◌, ◌&&◌, Bool, ℕ, ap, arith, bit_and, cond, false, inl}
+use Rattle.std.proofs.Common.{inr, nat_eq, refl, suc, true, zero}
 use Rattle.std.proofs.lemmas.Bool.{cases_lt}
 use Rattle.std.proofs.lemmas.Bool.Decides.{nat_tests}
 use Rattle.std.proofs.lemmas.Nat.{and_mask}
@@ -38,10 +39,12 @@ shown b n e h = ap digit e ∙ same_at 16 n refl h
 -- a word spread out in a lane
 abbrev pub spread : ℕ → ℕ
 spread w =
-    (((w / 4096 + bit_and (w / 256) 15 * 256 % 4294967296) % 4294967296 + bit_and (w / 16) 15 * 65536 % 4294967296) % 4294967296
+    (((w / 4096 + bit_and (w / 256) 15 * 256 % 4294967296) % 4294967296 + bit_and (w / 16) 15 * 65536 % 4294967296) %
+    4294967296
     + bit_and w 15 * 16777216 % 4294967296) % 4294967296
 
-spread_is : (w : ℕ) → w < 65536 → spread w ≡ w / 4096 + 256 * (w / 256 % 16) + 65536 * (w / 16 % 16) + 16777216 * (w % 16)
+spread_is : (w : ℕ) → w < 65536 → spread w ≡ w / 4096 + 256 * (w / 256 % 16) + 65536 * (w / 16 % 16)
+    + 16777216 * (w % 16)
 spread_is w h = rw (and_mask (w / 256) 4, and_mask (w / 16) 4, and_mask w 4) (omega arith)
 
 -- a number whose lowest lane has this word: the digits of its bytes, and the lanes above
@@ -52,14 +55,17 @@ pub record Shows (n w above : ℕ) : Type 0 where
   pub fourth : digit (n / 256 / 256 / 256 % 256) ≡ upper_digit (w % 16)
   pub rest : n / 256 / 256 / 256 / 256 ≡ above
 
-bytes : (n a b c d above : ℕ) → a < 16 → b < 16 → c < 16 → d < 16 → n ≡ a + 256 * b + 65536 * c + 16777216 * d + 4294967296 * above
-    → (n % 256 ≡ a) × (n / 256 % 256 ≡ b) × (n / 256 / 256 % 256 ≡ c) × (n / 256 / 256 / 256 % 256 ≡ d) × (n / 256 / 256 / 256 / 256 ≡ above)
+bytes : (n a b c d above : ℕ) → a < 16 → b < 16 → c < 16 → d < 16
+    → n ≡ a + 256 * b + 65536 * c + 16777216 * d + 4294967296 * above
+    → (n % 256 ≡ a) × (n / 256 % 256 ≡ b) × (n / 256 / 256 % 256 ≡ c) × (n / 256 / 256 / 256 % 256 ≡ d)
+    × (n / 256 / 256 / 256 / 256 ≡ above)
 bytes n a b c d above ha hb hc hd e = (omega arith, omega arith, omega arith, omega arith, omega arith)
 
 pub shows : (n w above : ℕ) → w < 65536 → n ≡ spread w + 4294967296 * above → Shows n w above
 shows n w above h e =
     let is = spread_is w h in
-    let (first, second, third, fourth, rest) = bytes n (w / 4096) (w / 256 % 16) (w / 16 % 16) (w % 16) above (omega arith) (omega arith) (omega arith) (omega arith) (omega (arith, e, is)) in
+    let (first, second, third, fourth, rest) = bytes n (w / 4096) (w / 256 % 16) (w / 16 % 16) (w % 16) above
+    (omega arith) (omega arith) (omega arith) (omega arith) (omega (arith, e, is)) in
     record {
       first = shown _ _ first (omega arith);
       second = shown _ _ second (omega arith);

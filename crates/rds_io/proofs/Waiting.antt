@@ -22,16 +22,19 @@ nothing_waits w same calm = record {
 }
 
 -- more output waits
-pub waits_more : (w : Traffic) (waiting after total bytes : List ℕ) → Waits w waiting total → after ≡ waiting ++ bytes → Waits w after (total ++ bytes)
+pub waits_more : (w : Traffic) (waiting after total bytes : List ℕ) → Waits w waiting total → after ≡ waiting ++ bytes
+    → Waits w after (total ++ bytes)
 waits_more w waiting after total bytes has more = record {
   written = has.written;
-  all = ap (λ (l : List ℕ). has.written ++ l) more ∙ sym (append_assoc has.written waiting bytes) ∙ ap (λ (l : List ℕ). l ++ bytes) has.all;
+  all = ap (λ (l : List ℕ). has.written ++ l) more ∙ sym (append_assoc has.written waiting bytes)
+      ∙ ap (λ (l : List ℕ). l ++ bytes) has.all;
   wrote = has.wrote;
   calm = has.calm;
 }
 
 -- the output that waits was written
-pub writes : (waiting after total : List ℕ) (a b c : Option (List ℕ)) (f g h : ℕ) → Waits (from a b f g) waiting total → after ≡ []
+pub writes : (waiting after total : List ℕ) (a b c : Option (List ℕ)) (f g h : ℕ) → Waits (from a b f g) waiting total
+    → after ≡ []
     → Puts (from b c g h) waiting (Ok tt) → Waits (from a c f h) after total
 writes waiting after total a b c f g h has none put = record {
   written = has.written ++ waiting;
@@ -41,7 +44,8 @@ writes waiting after total a b c f g h has none put = record {
 }
 
 -- or the writer failed at it
-pub loses : (waiting total : List ℕ) (a b c : Option (List ℕ)) (f g h : ℕ) → Waits (from a b f g) waiting total → AppendsPrefix b c waiting → Failed g h
+pub loses : (waiting total : List ℕ) (a b c : Option (List ℕ)) (f g h : ℕ) → Waits (from a b f g) waiting total
+    → AppendsPrefix b c waiting → Failed g h
     → IsLost (from a c f h) total
 loses waiting total a b c f g h has part failed = record {
   wrote = rw has.all at (AppendsPrefix-append a b c has.written waiting has.wrote part);
@@ -50,10 +54,15 @@ loses waiting total a b c f g h has part failed = record {
 
 -- a writer that failed at output failed at more output
 pub lost_longer : (w : Traffic) (total more : List ℕ) → IsLost w total → IsLost w (total ++ more)
-lost_longer w total more lost = record { wrote = AppendsPrefix-longer w.before w.after total more lost.wrote; failed = lost.failed }
+lost_longer w total more lost = record {
+  wrote = AppendsPrefix-longer w.before w.after total more lost.wrote;
+  failed = lost.failed;
+}
 
 -- nothing waits: all output was written
-pub wrote_all : (w : Traffic) (waiting total : List ℕ) → Waits w waiting total → waiting ≡ [] → Appends w.before w.after total
+pub wrote_all : (w : Traffic) (waiting total : List ℕ) → Waits w waiting total → waiting ≡ []
+    → Appends w.before w.after total
 wrote_all w waiting total has none =
-    let all : has.written ≡ total = sym (ap (λ (l : List ℕ). has.written ++ l) none ∙ append-nil has.written) ∙ has.all in
+    let all : has.written ≡ total = sym (ap (λ (l : List ℕ). has.written ++ l) none ∙ append-nil has.written)
+    ∙ has.all in
     rw all at has.wrote

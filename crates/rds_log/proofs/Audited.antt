@@ -40,23 +40,27 @@ use Rattle.rds_log.specs.declared.log_line.LogLine.TheVariants.{Skip, Slot}
 -- ---- the slots
 
 -- what an audit without a fault took passes
-pub slots_pass : (a : Auditing) (state : AuditState) (slots : List (Option Group)) → AuditAt a.pi (spacing a) state slots → state.start ≡ a.start → state.fault ≡ None → SlotsPass a slots
+pub slots_pass : (a : Auditing) (state : AuditState) (slots : List (Option Group))
+    → AuditAt a.pi (spacing a) state slots → state.start ≡ a.start → state.fault ≡ None → SlotsPass a slots
 slots_pass a state slots s begins none = record {
   heard = s.heard;
   are = s.are;
   passes =
       let all = judged a s.heard in
       let held : LogPasses (spacing a) all × HoldsLog (spacing a) all state =
-      subst (λ (o : Option AuditFault). MatchOption o (LogPasses (spacing a) all × HoldsLog (spacing a) all state) (IsFaultOf (spacing a) all)) none
+      subst (λ (o : Option AuditFault). MatchOption o (LogPasses (spacing a) all × HoldsLog (spacing a) all state)
+      (IsFaultOf (spacing a) all)) none
       (subst (λ (st : LogStart). HasJudged (spacing a) state (judged_as st (spacing a) s.heard)) begins s.holds) in
       held.0;
 }
 
 -- slots that fail with the newest one
-pub fails_at : (a : Auditing) (state after : AuditState) (number : ℕ) (slots : List (Option Group)) (slot : Option Group) (fault : AuditFault)
+pub fails_at : (a : Auditing) (state after : AuditState) (number : ℕ) (slots : List (Option Group))
+    (slot : Option Group) (fault : AuditFault)
     → AuditAt a.pi (spacing a) state slots → state.start ≡ a.start → state.fault ≡ None → number ≡ length slots
     → (stands : AuditAt a.pi (spacing a) after (slot ∷ slots)) → after.start ≡ a.start
-    → IsFaultOf (spacing a) (judged_as after.start (spacing a) stands.heard) fault → SlotsFail a number fault (slot ∷ slots)
+    → IsFaultOf (spacing a) (judged_as after.start (spacing a) stands.heard) fault
+    → SlotsFail a number fault (slot ∷ slots)
 fails_at a state after number slots slot fault s begins passed count stands start is = record {
   newest = slot;
   before = slots;
@@ -69,8 +73,10 @@ fails_at a state after number slots slot fault s begins passed count stands star
 }
 
 -- the fault in the state of an audit is that of its log
-pub fault_of : (d : ℕ) (state : AuditState) (fault : AuditFault) (judged : List (Option Message)) → state.fault ≡ Some fault → HasJudged d state judged → IsFaultOf d judged fault
-fault_of d state fault judged some has = subst (λ (o : Option AuditFault). MatchOption o (LogPasses d judged × HoldsLog d judged state) (λ f. IsFaultOf d judged f)) some has
+pub fault_of : (d : ℕ) (state : AuditState) (fault : AuditFault) (judged : List (Option Message))
+    → state.fault ≡ Some fault → HasJudged d state judged → IsFaultOf d judged fault
+fault_of d state fault judged some has = subst (λ (o : Option AuditFault). MatchOption o (LogPasses d judged
+    × HoldsLog d judged state) (λ f. IsFaultOf d judged f)) some has
 
 -- ---- the lines of a slot
 
@@ -167,8 +173,10 @@ adds a LogEnd (Some fault) (Some other) t slots slot all found wants had first a
     }
 
 -- what one more slot adds
-faults_of_more : (a : Auditing) (l after : AuditState) (slots : List (Option Group)) (slot : Option Group) (faults : List FaultSet) (found : FaultSet) (s : FollowsLog a.pi (spacing a) l slots) → l.start ≡ a.start
-    → (heard : List (Option Message)) → AreHeard a.pi (slot ∷ slots) heard → TakesAll l after slot found → AreFaultsOf a slots faults → AreFaultsOf a (slot ∷ slots) (found ∷ faults)
+faults_of_more : (a : Auditing) (l after : AuditState) (slots : List (Option Group)) (slot : Option Group)
+    (faults : List FaultSet) (found : FaultSet) (s : FollowsLog a.pi (spacing a) l slots) → l.start ≡ a.start
+    → (heard : List (Option Message)) → AreHeard a.pi (slot ∷ slots) heard → TakesAll l after slot found
+    → AreFaultsOf a slots faults → AreFaultsOf a (slot ∷ slots) (found ∷ faults)
 faults_of_more a l after slots slot faults found s begins [] hear takes of = absurd hear
 faults_of_more a l after slots slot faults found s begins (m ∷ h) hear takes of =
     let each = of.each in
@@ -176,16 +184,20 @@ faults_of_more a l after slots slot faults found s begins (m ∷ h) hear takes o
       each = omega (arith, each);
       heard = m ∷ h;
       are = hear;
-      added = subst (λ (x : List (Option Message)). AreAdded (spacing a) x (found ∷ faults)) (sym (judged_step a.start (spacing a) m h)) (adds, older);
+      added = subst (λ (x : List (Option Message)). AreAdded (spacing a) x (found ∷ faults))
+          (sym (judged_step a.start (spacing a) m h)) (adds, older);
     }
   where
     adds : found ≡ slot_adds (spacing a) (counted_as a.start (judged a h) m) (judged a h)
     adds =
-        subst (λ (x : List (Option Message)). found ≡ slot_adds (spacing a) (counted_as a.start (judged a x) m) (judged a x)) (same_heard a.pi slots s.at.heard h s.at.are hear.1)
-        (subst (λ (st : LogStart). found ≡ slot_adds (spacing a) (counted_as st (judged_as st (spacing a) s.at.heard) m) (judged_as st (spacing a) s.at.heard)) begins (takes.adds a.pi (spacing a) slots s m hear.0))
+        subst (λ (x : List (Option Message)). found ≡ slot_adds (spacing a) (counted_as a.start (judged a x) m)
+        (judged a x)) (same_heard a.pi slots s.at.heard h s.at.are hear.1)
+        (subst (λ (st : LogStart). found ≡ slot_adds (spacing a) (counted_as st (judged_as st (spacing a) s.at.heard) m)
+        (judged_as st (spacing a) s.at.heard)) begins (takes.adds a.pi (spacing a) slots s m hear.0))
 
     older : AreAdded (spacing a) (judged a h) faults
-    older = subst (λ (x : List (Option Message)). AreAdded (spacing a) (judged a x) faults) (same_heard a.pi slots of.heard h of.are hear.1) of.added
+    older = subst (λ (x : List (Option Message)). AreAdded (spacing a) (judged a x) faults)
+        (same_heard a.pi slots of.heard h of.are hear.1) of.added
 
 -- the answer that the list gives
 answer_of : (a : Auditing) (known : Option AuditFault) (slots : List (Option Group)) (total : List ℕ)
@@ -252,7 +264,8 @@ takes_slot a l after w out now lines line slot found says taken goes_on takes ou
     fails fault none some =
         fails_at a l.audit after.audit l.slots s.slots slot fault s.audit.at s.begins none s.count stands
         (takes.start ∙ s.begins)
-        (fault_of (spacing a) after.audit fault (judged_as after.audit.start (spacing a) stands.heard) some stands.holds)
+        (fault_of (spacing a) after.audit fault (judged_as after.audit.start (spacing a) stands.heard) some
+        stands.holds)
 
     further : Says a.stop a after.audit.fault (slot ∷ s.slots) (taken.total ++ lines_for a.stop l.slots found)
     further =
@@ -393,7 +406,8 @@ finds a l r w some ended = by a.stop refl l.audit.fault refl ended
       some = (
         fault,
         subst (λ (st : Stop). Says st a (Some fault) all.run.took.slots all.run.written) is
-            (subst (λ (o : Option AuditFault). Says a.stop a o all.run.took.slots all.run.written) e all.run.took.first),
+            (subst (λ (o : Option AuditFault). Says a.stop a o all.run.took.slots all.run.written) e
+            all.run.took.first),
       );
       wrote = all.run.wrote;
       read_calm = all.run.read_calm;
@@ -407,7 +421,8 @@ finds a l r w some ended = by a.stop refl l.audit.fault refl ended
 passed_all : (a : Auditing) (l : Auditor) (r w : Traffic) → l.audit.fault ≡ None → Ended a l r w
     → (all : RunsAll (HasAudited a l) r w) × SlotsPass a all.run.took.slots × (all.run.written ≡ [])
 passed_all a l r w none (inl (all, wants)) =
-    let says = subst (λ (o : Option AuditFault). Says a.stop a o all.run.took.slots all.run.written) none all.run.took.first in
+    let says = subst (λ (o : Option AuditFault). Says a.stop a o all.run.took.slots all.run.written) none
+    all.run.took.first in
     (all, says.0, says.1)
 passed_all a l r w none (inr (run, done)) = absurd ((run.took.done done).1 none)
 

@@ -1,5 +1,6 @@
 -- How the cutter of a log goes on: what it keeps, and the lines that its bytes make.
-use Rattle.std.proofs.Common.{◌≡◌, ◌≢◌, ◌⊎◌, ◌+◌, ◌<◌, ◌≤◌, min, ℕ, List, None, Option, Some, [], ◌∷◌, ◌++◌, take, length, append_assoc, ap, sym, ◌∙◌, refl, arith, inl, inr}
+use Rattle.std.proofs.Common.{◌≡◌, ◌≢◌, ◌⊎◌, ◌+◌, ◌<◌, ◌≤◌, min, ℕ, List, None, Option, Some, [], ◌∷◌, ◌++◌, take}
+use Rattle.std.proofs.Common.{length, append_assoc, ap, sym, ◌∙◌, refl, arith, inl, inr}
 use Rattle.std.specs.Prelude.{IfNone}
 use Rattle.std.proofs.lemmas.List.{length-take, take-append-le, take_all}
 use Rattle.std.proofs.lemmas.List.Elements.{All-append, All-cons, All-nil}
@@ -11,7 +12,8 @@ use Rattle.rds_log.specs.declared.cutter.Cutter.{Cutter}
 use Rattle.rds_log.specs.declared.log_line.LogLine.{LogLine}
 
 -- more bytes of the line that is begun
-pub text_of-more : (closed : List Line) (begun bytes : Line) → text_of closed begun ++ bytes ≡ text_of closed (begun ++ bytes)
+pub text_of-more : (closed : List Line) (begun bytes : Line)
+    → text_of closed begun ++ bytes ≡ text_of closed (begun ++ bytes)
 text_of-more [] begun bytes = refl
 text_of-more (line ∷ before) begun bytes = append_assoc (text_of before line) (line_feed ∷ begun) bytes
 
@@ -22,14 +24,16 @@ kept_of_more begun bytes = elim (few_or_many (length begun)) [
       let full : 60 ≤ length (take 60 begun) = omega (arith, length-take 60 begun, many) in
       let long : 60 ≤ length begun = omega (arith, many) in
       let most : length (take 60 begun) ≤ 60 = omega (arith, length-take 60 begun) in
-      take-append-le 60 (take 60 begun) bytes full ∙ take_all 60 (take 60 begun) most ∙ sym (take-append-le 60 begun bytes long)
+      take-append-le 60 (take 60 begun) bytes full ∙ take_all 60 (take 60 begun) most
+      ∙ sym (take-append-le 60 begun bytes long)
 ]
   where
     few_or_many : (n : ℕ) → (n ≤ 60) ⊎ (60 < n)
     few_or_many n = grind arith
 
 -- as many bytes as there is room for
-pub kept_in_room : (kept bytes : Line) (room : ℕ) → room + length kept ≡ 60 → kept ++ take (min (length bytes) room) bytes ≡ take 60 (kept ++ bytes)
+pub kept_in_room : (kept bytes : Line) (room : ℕ) → room + length kept ≡ 60
+    → kept ++ take (min (length bytes) room) bytes ≡ take 60 (kept ++ bytes)
 kept_in_room kept bytes room fits =
     let all : length kept + room ≡ 60 = omega (arith, fits) in
     ap (λ (l : Line). kept ++ l) (elim (by_room (length bytes)) [
@@ -55,8 +59,10 @@ kept_either None kept first same = same
 kept_either (Some said) kept first same = tt
 
 -- more bytes of the line that is begun were kept
-pub cuts_on : (c after : Cutter) (closed : List Line) (begun bytes : Line) → CutterStandsAt c closed begun → IsLine bytes
-    → after.kept.items ≡ take 60 (c.kept.items ++ bytes) → after.lines ≡ c.lines → CutterStandsAt after closed (begun ++ bytes)
+pub cuts_on : (c after : Cutter) (closed : List Line) (begun bytes : Line) → CutterStandsAt c closed begun
+    → IsLine bytes
+    → after.kept.items ≡ take 60 (c.kept.items ++ bytes) → after.lines ≡ c.lines
+    → CutterStandsAt after closed (begun ++ bytes)
 cuts_on c after closed begun bytes s line kept lines = record {
   kept = kept ∙ ap (λ (l : Line). take 60 (l ++ bytes)) s.kept ∙ kept_of_more begun bytes;
   count = lines ∙ s.count;
@@ -65,8 +71,10 @@ cuts_on c after closed begun bytes s line kept lines = record {
 }
 
 -- the end of a line
-pub closes_line : (c after : Cutter) (closed : List Line) (begun last : Line) (said : LogLine) → CutterStandsAt c closed begun → IsLine last
-    → LineSays (begun ++ last) said → after.lines ≡ c.lines + 1 → after.kept.items ≡ [] → Closes after closed (begun ++ last) said
+pub closes_line : (c after : Cutter) (closed : List Line) (begun last : Line) (said : LogLine)
+    → CutterStandsAt c closed begun → IsLine last
+    → LineSays (begun ++ last) said → after.lines ≡ c.lines + 1 → after.kept.items ≡ []
+    → Closes after closed (begun ++ last) said
 closes_line c after closed begun last said s line says lines kept =
     let count = s.count in
     record {

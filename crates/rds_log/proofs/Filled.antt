@@ -1,5 +1,7 @@
 -- What the taker of `slots` takes, and what it has written at the end of a log.
-use Rattle.std.proofs.Common.{◌≡◌, ◌⊎◌, ◌+◌, ◌-◌, ◌*◌, ◌<◌, ◌≤◌, ℕ, zero, suc, List, [], ◌∷◌, ◌++◌, Option, Some, None, append_assoc, add-one, ap, sym, subst, ◌∙◌, refl, inl, inr, arith, codes, cond, false, is_some, max, take, true, Bool, ◌↔◌}
+use Rattle.std.proofs.Common.{◌≡◌, ◌⊎◌, ◌+◌, ◌-◌, ◌*◌, ◌<◌, ◌≤◌, ℕ, zero, suc, List, [], ◌∷◌, ◌++◌, Option, Some, None}
+use Rattle.std.proofs.Common.{append_assoc, add-one, ap, sym, subst, ◌∙◌, refl, inl, inr, arith, codes, cond, false}
+use Rattle.std.proofs.Common.{is_some, max, take, true, Bool, ◌↔◌}
 use Rattle.std.specs.Prelude.{Err, IsTrue, MatchResult, Ok, Result}
 use Rattle.rds_io.specs.declared.told.WriteFault.{WriteFault}
 use Rattle.std.proofs.lemmas.Bool.{cases_lt}
@@ -18,7 +20,8 @@ use Rattle.rds_arrivals.specs.declared.stamp.Stamp.{Stamp}
 use Rattle.rds_log.specs.LogLines.{Line}
 use Rattle.rds_log.specs.LineSays.{LineSays, deciding}
 use Rattle.rds_log.specs.Outputs.{HasTaken, Pushed, RunsAll, RunsUpTo, WrotePart}
-use Rattle.rds_log.specs.Fill.{AddsNothing, AreFilled, FillsAll, HasLeftOut, IsLeftOut, IsOfAnother, LinesFill, SoFar, TimesAre}
+use Rattle.rds_log.specs.Fill.{AddsNothing, AreFilled, FillsAll, HasLeftOut, IsLeftOut, IsOfAnother, LinesFill, SoFar}
+use Rattle.rds_log.specs.Fill.{TimesAre}
 use Rattle.rds_log.specs.Fill.{gap_lines, lost_lines, more_lines, newest_time, shown, time_of}
 use Rattle.rds_log.specs.Inside.Filler.{HasFilled, KeepsTimes, last_time, told_after}
 use Rattle.rds_log.specs.Inside.Pace.{PaceStandsAt}
@@ -36,30 +39,40 @@ lost_split zero zero h = ([], refl)
 lost_split (suc i) zero h = absurd (omega (arith, h))
 lost_split i (suc n) h = by (cases_lt n i) (λ less. lost_split i n less)
   where
-    by : (n < i) ⊎ (i ≤ n) → (i ≤ n → (rest : List ℕ) × (lost_lines n ≡ lost_lines i ++ rest)) → (rest : List ℕ) × (lost_lines (suc n) ≡ lost_lines i ++ rest)
+    by : (n < i) ⊎ (i ≤ n) → (i ≤ n → (rest : List ℕ) × (lost_lines n ≡ lost_lines i ++ rest))
+        → (rest : List ℕ) × (lost_lines (suc n) ≡ lost_lines i ++ rest)
     by (inl more) older =
         let same : i ≡ suc n = omega (arith, more, h) in
         ([], sym (append-nil (lost_lines i) ∙ ap lost_lines same))
     by (inr less) older =
-        let (rest, is) = older less in
-        (rest ++ codes "---- ---- ---- ----\n", ap (λ (l : List ℕ). l ++ codes "---- ---- ---- ----\n") is ∙ append_assoc (lost_lines i) rest (codes "---- ---- ---- ----\n"))
+        let (rest, is) = older less in (
+          rest ++ codes "---- ---- ---- ----\n",
+          ap (λ (l : List ℕ). l ++ codes "---- ---- ---- ----\n") is
+              ∙ append_assoc (lost_lines i) rest (codes "---- ---- ---- ----\n"),
+        )
 
 -- one lost slot more
-pub more_lost : (total : List ℕ) (n : ℕ) → (total ++ lost_lines n) ++ codes "---- ---- ---- ----\n" ≡ total ++ lost_lines (n + 1)
+pub more_lost : (total : List ℕ) (n : ℕ) → (total ++ lost_lines n) ++ codes "---- ---- ---- ----\n" ≡ total
+    ++ lost_lines (n + 1)
 more_lost total n = rw add-one (append_assoc total (lost_lines n) (codes "---- ---- ---- ----\n"))
 
 -- two more
-pub two_more_lost : (total : List ℕ) (n : ℕ) → (total ++ lost_lines (2 * n)) ++ codes "---- ---- ---- ----\n---- ---- ---- ----\n" ≡ total ++ lost_lines (2 * (n + 1))
+pub two_more_lost : (total : List ℕ) (n : ℕ)
+    → (total ++ lost_lines (2 * n)) ++ codes "---- ---- ---- ----\n---- ---- ---- ----\n" ≡ total
+    ++ lost_lines (2 * (n + 1))
 two_more_lost total n =
     let one = codes "---- ---- ---- ----\n" in
     let later : 2 * n + 1 + 1 ≡ 2 * (n + 1) = omega arith in
-    sym (append_assoc (total ++ lost_lines (2 * n)) one one) ∙ ap (λ (l : List ℕ). l ++ one) (more_lost total (2 * n)) ∙ more_lost total (2 * n + 1) ∙ ap (λ (m : ℕ). total ++ lost_lines m) later
+    sym (append_assoc (total ++ lost_lines (2 * n)) one one) ∙ ap (λ (l : List ℕ). l ++ one) (more_lost total (2 * n))
+    ∙ more_lost total (2 * n + 1) ∙ ap (λ (m : ℕ). total ++ lost_lines m) later
 
 -- ---- the output before a group
 
 -- no break
-pub gap_within : (f : Filling) (came : Bool) (last told time lost : ℕ) → (IsBreak last time → ⊥) → lost ≡ lost_within f.grain (time - last)
-    → (gap_lines f came (Some last) told time ≡ more_lines None told lost) × (lost_between f.grain f.dwell last time ≡ lost)
+pub gap_within : (f : Filling) (came : Bool) (last told time lost : ℕ) → (IsBreak last time → ⊥)
+    → lost ≡ lost_within f.grain (time - last)
+    → (gap_lines f came (Some last) told time ≡ more_lines None told lost) × (lost_between f.grain f.dwell last time
+    ≡ lost)
 gap_within f came last told time lost whole count =
     let (none, some) = no_break last time f.grain f.dwell whole in
     let is : lost_between f.grain f.dwell last time ≡ lost = some ∙ sym count in
@@ -69,25 +82,31 @@ gap_within f came last told time lost whole count =
     either true = refl
     either false = refl
 
-    no_break : (last time grain m : ℕ) → (IsBreak last time → ⊥) → (break_of last time ≡ None) × (lost_between grain m last time ≡ lost_within grain (time - last))
+    no_break : (last time grain m : ℕ) → (IsBreak last time → ⊥)
+        → (break_of last time ≡ None) × (lost_between grain m last time ≡ lost_within grain (time - last))
     no_break last time grain m whole = grind (arith, nat_tests)
 
 -- a break
 pub gap_across : (f : Filling) (came : Bool) (last told time : ℕ) (why : Break) → IsBreakOf last time why
-    → (gap_lines f came (Some last) told time ≡ more_lines (cond came (Some why) None) told f.dwell) × (lost_between f.grain f.dwell last time ≡ f.dwell)
-gap_across f came last told time why is = (let (some, m) = a_break last time f.grain f.dwell why is in (rw (some, m) refl, m))
+    → (gap_lines f came (Some last) told time ≡ more_lines (cond came (Some why) None) told f.dwell)
+    × (lost_between f.grain f.dwell last time ≡ f.dwell)
+gap_across f came last told time why is = (let (some, m) = a_break last time f.grain f.dwell why is
+    in (rw (some, m) refl, m))
   where
-    a_break : (last time grain m : ℕ) (why : Break) → IsBreakOf last time why → (break_of last time ≡ Some why) × (lost_between grain m last time ≡ m)
+    a_break : (last time grain m : ℕ) (why : Break) → IsBreakOf last time why
+        → (break_of last time ≡ Some why) × (lost_between grain m last time ≡ m)
     a_break last time grain m Back is = grind (arith, nat_tests)
     a_break last time grain m Day is = grind (arith, nat_tests)
 
 -- the lost slots are those from the newest group
-pub told_is : (f : Filling) (came : List (Arrival Group)) (told time : ℕ) → told_after f (newest_time came) told time ≡ max told (lost_until f.grain f.dwell came time)
+pub told_is : (f : Filling) (came : List (Arrival Group)) (told time : ℕ)
+    → told_after f (newest_time came) told time ≡ max told (lost_until f.grain f.dwell came time)
 told_is f [] told time = sym (max-zero told)
 told_is f (a ∷ before) told time = refl
 
 -- the same result for the same bytes
-pub same_pushed : (w : Traffic) (waiting : List ℕ) (r : Result (Unit {0}) WriteFault) (total other : List ℕ) → total ≡ other → Pushed w waiting total r → Pushed w waiting other r
+pub same_pushed : (w : Traffic) (waiting : List ℕ) (r : Result (Unit {0}) WriteFault) (total other : List ℕ)
+    → total ≡ other → Pushed w waiting total r → Pushed w waiting other r
 same_pushed w waiting r total other same out = subst (λ (l : List ℕ). Pushed w waiting l r) same out
 
 -- ---- lines
@@ -122,10 +141,13 @@ adds_none how s after w out lines line none f p d u taken =
       waits = taken.waits;
     }
 
-same_gap : (how : Filling) (s : Filler) (lines : List Line) (total : List ℕ) (has : HasFilled how s lines total) (came : Bool) (time : ℕ)
-    → gap_lines s.filling came (last_time s) s.told time ≡ gap_lines s.filling came (newest_time has.so_far.came) has.so_far.told time
+same_gap : (how : Filling) (s : Filler) (lines : List Line) (total : List ℕ) (has : HasFilled how s lines total)
+    (came : Bool) (time : ℕ)
+    → gap_lines s.filling came (last_time s) s.told time ≡ gap_lines s.filling came (newest_time has.so_far.came)
+    has.so_far.told time
 same_gap how s lines total has came time =
-    ap (λ (o : Option ℕ). gap_lines s.filling came o s.told time) has.pace.last ∙ ap (λ (n : ℕ). gap_lines s.filling came (newest_time has.so_far.came) n time) has.told
+    ap (λ (o : Option ℕ). gap_lines s.filling came o s.told time) has.pace.last
+    ∙ ap (λ (n : ℕ). gap_lines s.filling came (newest_time has.so_far.came) n time) has.told
 
 -- a line of this programme with a time, or one without a group, is no group that is left out
 pub none_left_out : (pi : Option ℕ) (line : Line) (lines : List Line) (has : Bool)
@@ -171,15 +193,27 @@ counted pi line stamp first is found own out = by out.left_out
 
 -- what is so far after a line with a whole group, and after one without
 abbrev pub after_group : SoFar → Group → ℕ → List ℕ → SoFar
-after_group s group time written = record { came = record { entry = group; time = time; told = s.told } ∷ s.came; told = 0; written = written }
+after_group s group time written = record {
+  came = record { entry = group; time = time; told = s.told }
+      ∷ s.came;
+  told = 0;
+  written = written;
+}
 
 abbrev pub after_time : Filling → SoFar → ℕ → List ℕ → SoFar
-after_time f s time written = record { came = s.came; told = max s.told (lost_until f.grain f.dwell s.came time); written = written }
+after_time f s time written = record {
+  came = s.came;
+  told = max s.told (lost_until f.grain f.dwell s.came time);
+  written = written;
+}
 
 -- a line that adds a group, and all its output
-pub adds_group : (how : Filling) (s : Filler) (lines : List Line) (total : List ℕ) (line : Line) (group : Group) (stamp : Stamp) (first : List ℕ)
-    → LineSays line (Slot (Some group)) → first ≡ take deciding line → time_of first ≡ Some stamp → (IsOfAnother s.filling.pi first → ⊥) → (has : HasFilled how s lines total)
-    → AreFilled s.filling (line ∷ lines) (after_group has.so_far group stamp.time (has.so_far.written ++ gap_lines s.filling true (last_time s) s.told stamp.time ++ shown first stamp))
+pub adds_group : (how : Filling) (s : Filler) (lines : List Line) (total : List ℕ) (line : Line) (group : Group)
+    (stamp : Stamp) (first : List ℕ)
+    → LineSays line (Slot (Some group)) → first ≡ take deciding line → time_of first ≡ Some stamp
+    → (IsOfAnother s.filling.pi first → ⊥) → (has : HasFilled how s lines total)
+    → AreFilled s.filling (line ∷ lines) (after_group has.so_far group stamp.time (has.so_far.written
+    ++ gap_lines s.filling true (last_time s) s.told stamp.time ++ shown first stamp))
 adds_group how s lines total line group stamp first says is timed own has = inr (
   has.so_far,
   has.fill,
@@ -191,15 +225,20 @@ adds_group how s lines total line group stamp first says is timed own has = inr 
     own = rw is at own;
     came = refl;
     told = refl;
-    writes = ap (λ (l : List ℕ). has.so_far.written ++ l ++ shown first stamp) (same_gap how s lines total has true stamp.time)
-        ∙ ap (λ (l : List ℕ). has.so_far.written ++ gap_lines s.filling true (newest_time has.so_far.came) has.so_far.told stamp.time ++ shown l stamp) is;
+    writes = ap (λ (l : List ℕ). has.so_far.written ++ l ++ shown first stamp) (same_gap how s lines total has true
+        stamp.time)
+        ∙ ap (λ (l : List ℕ). has.so_far.written ++ gap_lines s.filling true (newest_time has.so_far.came)
+        has.so_far.told stamp.time ++ shown l stamp) is;
   },
 )
 
 -- a line that tells a time
-pub adds_time : (how : Filling) (s : Filler) (lines : List Line) (total : List ℕ) (line : Line) (stamp : Stamp) (first : List ℕ)
-    → LineSays line (Slot None) → first ≡ take deciding line → time_of first ≡ Some stamp → (IsOfAnother s.filling.pi first → ⊥) → (has : HasFilled how s lines total)
-    → AreFilled s.filling (line ∷ lines) (after_time s.filling has.so_far stamp.time (has.so_far.written ++ gap_lines s.filling false (last_time s) s.told stamp.time))
+pub adds_time : (how : Filling) (s : Filler) (lines : List Line) (total : List ℕ) (line : Line) (stamp : Stamp)
+    (first : List ℕ)
+    → LineSays line (Slot None) → first ≡ take deciding line → time_of first ≡ Some stamp
+    → (IsOfAnother s.filling.pi first → ⊥) → (has : HasFilled how s lines total)
+    → AreFilled s.filling (line ∷ lines) (after_time s.filling has.so_far stamp.time (has.so_far.written
+    ++ gap_lines s.filling false (last_time s) s.told stamp.time))
 adds_time how s lines total line stamp first says is timed own has = inr (
   has.so_far,
   has.fill,
@@ -215,26 +254,41 @@ adds_time how s lines total line stamp first says is timed own has = inr (
 )
 
 -- the writer failed at the output of a line
-fails_at : (how : Filling) (s : Filler) (lines : List Line) (v : Traffic) (so_far : SoFar) → s.filling ≡ how → AreFilled s.filling lines so_far → IsLost v so_far.written → WrotePart (LinesFill how) v lines
-fails_at how s lines v so_far same fill lose = record { written = so_far.written; write = record { so_far = so_far; fill = rw same at fill; writes = refl }; wrote = lose.wrote; failed = lose.failed }
+fails_at : (how : Filling) (s : Filler) (lines : List Line) (v : Traffic) (so_far : SoFar) → s.filling ≡ how
+    → AreFilled s.filling lines so_far → IsLost v so_far.written → WrotePart (LinesFill how) v lines
+fails_at how s lines v so_far same fill lose = record {
+  written = so_far.written;
+  write = record { so_far = so_far; fill = rw same at fill; writes = refl };
+  wrote = lose.wrote;
+  failed = lose.failed;
+}
 
-pub fails_at_slot : (how : Filling) (s : Filler) (v : Traffic) (lines : List Line) (total : List ℕ) (line : Line) (slot : Option Group) (stamp : Stamp) (first : List ℕ)
-    → LineSays line (Slot slot) → first ≡ take deciding line → time_of first ≡ Some stamp → (IsOfAnother s.filling.pi first → ⊥) → (has : HasFilled how s lines total)
-    → IsLost v (has.so_far.written ++ gap_lines s.filling (is_some slot) (last_time s) s.told stamp.time) → WrotePart (LinesFill how) v (line ∷ lines)
+pub fails_at_slot : (how : Filling) (s : Filler) (v : Traffic) (lines : List Line) (total : List ℕ) (line : Line)
+    (slot : Option Group) (stamp : Stamp) (first : List ℕ)
+    → LineSays line (Slot slot) → first ≡ take deciding line → time_of first ≡ Some stamp
+    → (IsOfAnother s.filling.pi first → ⊥) → (has : HasFilled how s lines total)
+    → IsLost v (has.so_far.written ++ gap_lines s.filling (is_some slot) (last_time s) s.told stamp.time)
+    → WrotePart (LinesFill how) v (line ∷ lines)
 fails_at_slot how s v lines total line (Some group) stamp first says is timed own has lose =
     let written = has.so_far.written ++ gap_lines s.filling true (last_time s) s.told stamp.time in
     fails_at how s (line ∷ lines) v (after_group has.so_far group stamp.time (written ++ shown first stamp)) has.filling
-    (adds_group how s lines total line group stamp first says is timed own has) (lost_longer v written (shown first stamp) lose)
+    (adds_group how s lines total line group stamp first says is timed own has)
+    (lost_longer v written (shown first stamp) lose)
 fails_at_slot how s v lines total line None stamp first says is timed own has lose =
-    fails_at how s (line ∷ lines) v (after_time s.filling has.so_far stamp.time (has.so_far.written ++ gap_lines s.filling false (last_time s) s.told stamp.time)) has.filling
+    fails_at how s (line ∷ lines) v (after_time s.filling has.so_far stamp.time (has.so_far.written
+    ++ gap_lines s.filling false (last_time s) s.told stamp.time)) has.filling
     (adds_time how s lines total line stamp first says is timed own has) lose
 
 -- the output of a line without a whole group was added
-pub time_done : (how : Filling) (s after : Filler) (v : Traffic) (out : List ℕ) (lines : List Line) (total : List ℕ) (line : Line) (slot : Option Group) (stamp : Stamp) (first : List ℕ)
-    → LineSays line (Slot slot) → is_some slot ≡ false → first ≡ take deciding line → time_of first ≡ Some stamp → (IsOfAnother s.filling.pi first → ⊥) → (has : HasFilled how s lines total)
+pub time_done : (how : Filling) (s after : Filler) (v : Traffic) (out : List ℕ) (lines : List Line) (total : List ℕ)
+    (line : Line) (slot : Option Group) (stamp : Stamp) (first : List ℕ)
+    → LineSays line (Slot slot) → is_some slot ≡ false → first ≡ take deciding line → time_of first ≡ Some stamp
+    → (IsOfAnother s.filling.pi first → ⊥) → (has : HasFilled how s lines total)
     → KeepsTimes s after → after.told ≡ told_after s.filling (last_time s) s.told stamp.time
-    → Waits v out (has.so_far.written ++ gap_lines s.filling false (last_time s) s.told stamp.time) → HasTaken (HasFilled how after) v out (line ∷ lines)
-time_done how s after v out lines total line (Some group) stamp first says none is timed own has keeps told waits = absurd (cc)
+    → Waits v out (has.so_far.written ++ gap_lines s.filling false (last_time s) s.told stamp.time)
+    → HasTaken (HasFilled how after) v out (line ∷ lines)
+time_done how s after v out lines total line (Some group) stamp first says none is timed own has keeps told
+    waits = absurd (cc)
 time_done how s after v out lines total line None stamp first says none is timed_at own has keeps told waits =
     let written = has.so_far.written ++ gap_lines s.filling false (last_time s) s.told stamp.time in
     record {
@@ -242,12 +296,14 @@ time_done how s after v out lines total line None stamp first says none is timed
       took = record {
         filling = keeps.filling ∙ has.filling;
         so_far = after_time s.filling has.so_far stamp.time written;
-        fill = subst (λ (g : Filling). AreFilled g (line ∷ lines) (after_time s.filling has.so_far stamp.time written)) (sym keeps.filling)
+        fill = subst (λ (g : Filling). AreFilled g (line ∷ lines) (after_time s.filling has.so_far stamp.time written))
+            (sym keeps.filling)
             (adds_time how s lines total line stamp first says is timed_at own has);
         writes = refl;
         pace = rw keeps.pace has.pace;
         grain = ap (λ (x : Pace). x.grain) keeps.pace ∙ has.grain ∙ ap (λ (g : Filling). g.grain) (sym keeps.filling);
-        told = told ∙ ap (λ (o : Option ℕ). told_after s.filling o s.told stamp.time) has.pace.last ∙ ap (λ (n : ℕ). told_after s.filling (newest_time has.so_far.came) n stamp.time) has.told
+        told = told ∙ ap (λ (o : Option ℕ). told_after s.filling o s.told stamp.time) has.pace.last
+            ∙ ap (λ (n : ℕ). told_after s.filling (newest_time has.so_far.came) n stamp.time) has.told
             ∙ told_is s.filling has.so_far.came has.so_far.told stamp.time;
         left_out = left_out_kept s after s.has_left_out (line ∷ lines) keeps.filling keeps.left_out
             (none_left_out s.filling.pi line lines s.has_left_out
@@ -257,20 +313,30 @@ time_done how s after v out lines total line None stamp first says none is timed
     }
 
 -- the output of a line with a group was added, or the writer failed at it
-pub group_done : (how : Filling) (s after : Filler) (v : Traffic) (out : List ℕ) (lines : List Line) (total : List ℕ) (line : Line) (slot : Option Group) (stamp : Stamp) (first : List ℕ) (r : Result (Unit {0}) WriteFault)
-    → LineSays line (Slot slot) → is_some slot ≡ true → first ≡ take deciding line → time_of first ≡ Some stamp → (IsOfAnother s.filling.pi first → ⊥) → (has : HasFilled how s lines total)
-    → after.filling ≡ s.filling → ((a : Arrival Group) → a.told ≡ s.told → a.time ≡ stamp.time → PaceStandsAt after.pace (a ∷ has.so_far.came)) → after.pace.grain ≡ s.pace.grain → after.told ≡ 0 → after.has_left_out ≡ s.has_left_out
-    → Pushed v out (has.so_far.written ++ gap_lines s.filling true (last_time s) s.told stamp.time ++ shown first stamp) r
-    → MatchResult r (λ _. HasTaken (HasFilled how after) v out (line ∷ lines)) (λ _. WrotePart (LinesFill how) v (line ∷ lines))
-group_done how s after v out lines total line None stamp first r says some is timed_at own has f p k d u pushed = absurd (cc)
-group_done how s after v out lines total line (Some group) stamp first (Ok done) says some is timed_at own has f p k d u pushed =
-    let so_far = after_group has.so_far group stamp.time (has.so_far.written ++ gap_lines s.filling true (last_time s) s.told stamp.time ++ shown first stamp) in
+pub group_done : (how : Filling) (s after : Filler) (v : Traffic) (out : List ℕ) (lines : List Line) (total : List ℕ)
+    (line : Line) (slot : Option Group) (stamp : Stamp) (first : List ℕ) (r : Result (Unit {0}) WriteFault)
+    → LineSays line (Slot slot) → is_some slot ≡ true → first ≡ take deciding line → time_of first ≡ Some stamp
+    → (IsOfAnother s.filling.pi first → ⊥) → (has : HasFilled how s lines total)
+    → after.filling ≡ s.filling → ((a : Arrival Group) → a.told ≡ s.told → a.time ≡ stamp.time
+    → PaceStandsAt after.pace (a ∷ has.so_far.came)) → after.pace.grain ≡ s.pace.grain → after.told ≡ 0
+    → after.has_left_out ≡ s.has_left_out
+    → Pushed v out (has.so_far.written ++ gap_lines s.filling true (last_time s) s.told stamp.time ++ shown first stamp)
+    r
+    → MatchResult r (λ _. HasTaken (HasFilled how after) v out (line ∷ lines)) (λ _. WrotePart (LinesFill how) v
+    (line ∷ lines))
+group_done how s after v out lines total line None stamp first r says some is timed_at own has f p k d u pushed = absurd
+    (cc)
+group_done how s after v out lines total line (Some group) stamp first (Ok done) says some is timed_at own has f p k d u
+    pushed =
+    let so_far = after_group has.so_far group stamp.time (has.so_far.written ++ gap_lines s.filling true (last_time s)
+    s.told stamp.time ++ shown first stamp) in
     record {
       total = so_far.written;
       took = record {
         filling = f ∙ has.filling;
         so_far = so_far;
-        fill = subst (λ (g : Filling). AreFilled g (line ∷ lines) so_far) (sym f) (adds_group how s lines total line group stamp first says is timed_at own has);
+        fill = subst (λ (g : Filling). AreFilled g (line ∷ lines) so_far) (sym f) (adds_group how s lines total line
+            group stamp first says is timed_at own has);
         writes = refl;
         pace = p _ (sym has.told) refl;
         grain = k ∙ has.grain ∙ ap (λ (g : Filling). g.grain) (sym f);
@@ -281,8 +347,10 @@ group_done how s after v out lines total line (Some group) stamp first (Ok done)
       };
       waits = pushed;
     }
-group_done how s after v out lines total line (Some group) stamp first (Err fault) says some is timed_at own has f p k d u pushed =
-    fails_at how s (line ∷ lines) v (after_group has.so_far group stamp.time (has.so_far.written ++ gap_lines s.filling true (last_time s) s.told stamp.time ++ shown first stamp)) has.filling
+group_done how s after v out lines total line (Some group) stamp first (Err fault) says some is timed_at own has f p k d
+    u pushed =
+    fails_at how s (line ∷ lines) v (after_group has.so_far group stamp.time (has.so_far.written ++ gap_lines s.filling
+    true (last_time s) s.told stamp.time ++ shown first stamp)) has.filling
     (adds_group how s lines total line group stamp first says is timed_at own has) pushed
 
 -- ---- the end

@@ -1,5 +1,7 @@
 -- The output of `slots` is a log of the filled slots.
-use Rattle.std.proofs.Common.{◌≡◌, ◌≢◌, ◌+◌, ◌-◌, ◌==◌, ◌≤◌, ℕ, zero, suc, Bool, true, false, not, cond, List, [], ◌∷◌, ◌++◌, Option, Some, None, append_assoc, ap, codes, drop, length, max, take, refl, sym, subst, ◌∙◌, arith, inl, inr}
+use Rattle.std.proofs.Common.{◌≡◌, ◌≢◌, ◌+◌, ◌-◌, ◌==◌, ◌≤◌, ℕ, zero, suc, Bool, true, false, not, cond, List, [], ◌∷◌}
+use Rattle.std.proofs.Common.{◌++◌, Option, Some, None, append_assoc, ap, codes, drop, length, max, take, refl, sym}
+use Rattle.std.proofs.Common.{subst, ◌∙◌, arith, inl, inr}
 use Rattle.std.specs.Prelude.{All, nat_lt}
 use Rattle.std.proofs.Math.Nat.{max-eq_left, max-eq_right, max-zero}
 use Rattle.std.specs.List.{list_all}
@@ -15,7 +17,8 @@ use Rattle.rds_arrivals.specs.Stamps.{stamp_in}
 use Rattle.rds_arrivals.specs.declared.lost.Break.{Break}
 use Rattle.rds_arrivals.specs.declared.lost.Break.TheVariants.{Back, Day}
 use Rattle.rds_arrivals.specs.declared.stamp.Stamp.{Stamp}
-use Rattle.rds_log.specs.Fill.{AreFilled, SoFar, break_line, ended_within, gap_lines, lost_lines, more_lines, newest_time, time_of}
+use Rattle.rds_log.specs.Fill.{AreFilled, SoFar, break_line, ended_within, gap_lines, lost_lines, more_lines}
+use Rattle.rds_log.specs.Fill.{newest_time, time_of}
 use Rattle.rds_log.specs.FilledLog.{FilledTextsAreLogs}
 use Rattle.rds_log.specs.LineSays.{LineSays}
 use Rattle.rds_log.specs.LogLines.{IsLine, Line, line_feed, text_of}
@@ -44,12 +47,14 @@ goes_on first stamp timed = elim (cases_lt 20 (length first)) [
         let none : stamp_in (drop 20 first) ≡ None = ap stamp_in (drop_all 20 first few) ∙ no_stamp in
         by (nat_lt (length first) 20) none timed
       where
-        by : (b : Bool) → stamp_in (drop 20 first) ≡ None → cond b None (ended_within (stamp_in (drop 20 first))) ≡ Some stamp → ⊥
+        by : (b : Bool) → stamp_in (drop 20 first) ≡ None
+            → cond b None (ended_within (stamp_in (drop 20 first))) ≡ Some stamp → ⊥
         by true none e = cc
         by false none e = (let bad : None ≡ Some stamp = sym (ap ended_within none) ∙ e in cc)
 
 -- it is the same slot as far as its time
-pub cut_says : (line : Line) (slot : Option Group) (stamp : Stamp) → LineSays line (Slot slot) → time_of (take 60 line) ≡ Some stamp
+pub cut_says : (line : Line) (slot : Option Group) (stamp : Stamp) → LineSays line (Slot slot)
+    → time_of (take 60 line) ≡ Some stamp
     → LineSays (take (20 + stamp.end) (take 60 line)) (Slot slot)
 cut_says line slot stamp says timed =
     let long = goes_on (take 60 line) stamp timed in
@@ -57,7 +62,8 @@ cut_says line slot stamp says timed =
     same_slot_line line q slot
     (omega (arith, long, length-take 60 line, content_near line))
     (omega (arith, long, length-take (20 + stamp.end) (take 60 line), content_near q))
-    (λ i h. sym (get_or-take (20 + stamp.end) (take 60 line) i 0 (omega (arith, h)) ∙ get_or-take 60 line i 0 (omega (arith, h)))) says
+    (λ i h. sym (get_or-take (20 + stamp.end) (take 60 line) i 0 (omega (arith, h)) ∙ get_or-take 60 line i 0
+    (omega (arith, h)))) says
 
 -- ---- lines more
 
@@ -68,12 +74,14 @@ record HasCut (text : List ℕ) (slots : List (Option Group)) : Type 0 where
   pub lines : All IsLine cut
   pub say : AreSlots cut slots
 
-more_text : (text line : List ℕ) (cut : List Line) → text ≡ text_of cut [] → text ++ (line ++ codes "\n") ≡ text_of (line ∷ cut) []
+more_text : (text line : List ℕ) (cut : List Line) → text ≡ text_of cut []
+    → text ++ (line ++ codes "\n") ≡ text_of (line ∷ cut) []
 more_text text line cut is =
     ap (λ (l : List ℕ). l ++ (line ++ codes "\n")) is ∙ sym (append_assoc (text_of cut []) line (codes "\n"))
     ∙ ap (λ (l : List ℕ). l ++ codes "\n") (text_of-more cut [] line)
 
-with_slot : (text line : List ℕ) (slot : Option Group) (slots : List (Option Group)) → HasCut text slots → IsLine line → LineSays line (Slot slot)
+with_slot : (text line : List ℕ) (slot : Option Group) (slots : List (Option Group)) → HasCut text slots → IsLine line
+    → LineSays line (Slot slot)
     → HasCut (text ++ (line ++ codes "\n")) (slot ∷ slots)
 with_slot text line slot slots had is says = record {
   cut = line ∷ had.cut;
@@ -82,7 +90,8 @@ with_slot text line slot slots had is says = record {
   say = inr (slot, slots, says, refl, had.say);
 }
 
-with_comment : (text line : List ℕ) (slots : List (Option Group)) → HasCut text slots → IsLine line → LineSays line Skip → HasCut (text ++ (line ++ codes "\n")) slots
+with_comment : (text line : List ℕ) (slots : List (Option Group)) → HasCut text slots → IsLine line → LineSays line Skip
+    → HasCut (text ++ (line ++ codes "\n")) slots
 with_comment text line slots had is says = record {
   cut = line ∷ had.cut;
   text_is = more_text text line had.cut had.text_is;
@@ -124,29 +133,39 @@ dashes = (
   },
 )
 
-with_lost : (n : ℕ) (text : List ℕ) (slots : List (Option Group)) → HasCut text slots → HasCut (text ++ lost_lines n) (and_lost n slots)
+with_lost : (n : ℕ) (text : List ℕ) (slots : List (Option Group)) → HasCut text slots
+    → HasCut (text ++ lost_lines n) (and_lost n slots)
 with_lost zero text slots had = same_text text (text ++ []) slots (sym (append-nil text)) had
 with_lost (suc n) text slots had =
     same_text _ _ (None ∷ and_lost n slots) (append_assoc text (lost_lines n) (codes "---- ---- ---- ----\n"))
-    (with_slot (text ++ lost_lines n) (codes "---- ---- ---- ----") None (and_lost n slots) (with_lost n text slots had) (feedless (codes "---- ---- ---- ----") refl) dashes)
+    (with_slot (text ++ lost_lines n) (codes "---- ---- ---- ----") None (and_lost n slots) (with_lost n text slots had)
+    (feedless (codes "---- ---- ---- ----") refl) dashes)
 
-with_break : (why : Option Break) (text : List ℕ) (slots : List (Option Group)) → HasCut text slots → HasCut (text ++ break_line why) slots
+with_break : (why : Option Break) (text : List ℕ) (slots : List (Option Group)) → HasCut text slots
+    → HasCut (text ++ break_line why) slots
 with_break None text slots had = same_text text (text ++ []) slots (sym (append-nil text)) had
-with_break (Some Back) text slots had = with_comment text (codes "# time went back") slots had (feedless (codes "# time went back") refl) (inr (inr (inl refl)))
-with_break (Some Day) text slots had = with_comment text (codes "# more than a day passed") slots had (feedless (codes "# more than a day passed") refl) (inr (inr (inl refl)))
+with_break (Some Back) text slots had = with_comment text (codes "# time went back") slots had
+    (feedless (codes "# time went back") refl) (inr (inr (inl refl)))
+with_break (Some Day) text slots had = with_comment text (codes "# more than a day passed") slots had
+    (feedless (codes "# more than a day passed") refl) (inr (inr (inl refl)))
 
-more_and_lost : {X : Type 0} (n k sum : ℕ) (slots : List (Option X)) → n + k ≡ sum → and_lost n (and_lost k slots) ≡ and_lost sum slots
+more_and_lost : {X : Type 0} (n k sum : ℕ) (slots : List (Option X)) → n + k ≡ sum
+    → and_lost n (and_lost k slots) ≡ and_lost sum slots
 more_and_lost zero k sum slots is = (let same : k ≡ sum = omega (arith, is) in ap (λ (m : ℕ). and_lost m slots) same)
 more_and_lost (suc n) k zero slots is = absurd (omega (arith, is))
-more_and_lost (suc n) k (suc sum) slots is = ap (λ (l : List (Option _)). None ∷ l) (more_and_lost n k sum slots (omega (arith, is)))
+more_and_lost (suc n) k (suc sum) slots is = ap (λ (l : List (Option _)). None ∷ l)
+    (more_and_lost n k sum slots (omega (arith, is)))
 
 -- lost slots that follow others
-with_more : (why : Option Break) (told lost : ℕ) (text : List ℕ) (slots : List (Option Group)) → HasCut text (and_lost told slots)
+with_more : (why : Option Break) (told lost : ℕ) (text : List ℕ) (slots : List (Option Group))
+    → HasCut text (and_lost told slots)
     → HasCut (text ++ more_lines why told lost) (and_lost (max told lost) slots)
 with_more why told lost text slots had =
-    subst (λ (l : List (Option Group)). HasCut (text ++ (break_line why ++ lost_lines (lost - told))) l) (more_and_lost (lost - told) told (max told lost) slots sum)
+    subst (λ (l : List (Option Group)). HasCut (text ++ (break_line why ++ lost_lines (lost - told))) l)
+    (more_and_lost (lost - told) told (max told lost) slots sum)
     (same_text _ _ _ (append_assoc text (break_line why) (lost_lines (lost - told)))
-    (with_lost (lost - told) (text ++ break_line why) (and_lost told slots) (with_break why text (and_lost told slots) had)))
+    (with_lost (lost - told) (text ++ break_line why) (and_lost told slots) (with_break why text (and_lost told slots)
+    had)))
   where
     sum : lost - told + told ≡ max told lost
     sum = elim (cases_lt told lost) [
@@ -154,15 +173,20 @@ with_more why told lost text slots had =
       | inr few ↦ (let is : max told lost ≡ told = max-eq_left few in omega (arith, is, few))
     ]
 
-with_gap : (f : Filling) (is_group : Bool) (came : List (Arrival Group)) (told time : ℕ) (text : List ℕ) (slots : List (Option Group)) → HasCut text (and_lost told slots)
-    → HasCut (text ++ gap_lines f is_group (newest_time came) told time) (and_lost (max told (lost_until f.grain f.dwell came time)) slots)
-with_gap f is_group [] told time text slots had = rw (max-zero told) (same_text text (text ++ []) (and_lost told slots) (sym (append-nil text)) had)
+with_gap : (f : Filling) (is_group : Bool) (came : List (Arrival Group)) (told time : ℕ) (text : List ℕ)
+    (slots : List (Option Group)) → HasCut text (and_lost told slots)
+    → HasCut (text ++ gap_lines f is_group (newest_time came) told time)
+    (and_lost (max told (lost_until f.grain f.dwell came time)) slots)
+with_gap f is_group [] told time text slots had = rw (max-zero told) (same_text text (text ++ []) (and_lost told slots)
+    (sym (append-nil text)) had)
 with_gap f is_group (last ∷ before) told time text slots had =
-    with_more (cond is_group (break_of last.time time) None) told (lost_between f.grain f.dwell last.time time) text slots had
+    with_more (cond is_group (break_of last.time time) None) told (lost_between f.grain f.dwell last.time time) text
+    slots had
 
 -- ---- the whole output
 
-cut_of : (f : Filling) (lines : List Line) (s : SoFar) → All IsLine lines → AreFilled f lines s → HasCut s.written (and_lost s.told (filled f.grain f.dwell s.came))
+cut_of : (f : Filling) (lines : List Line) (s : SoFar) → All IsLine lines → AreFilled f lines s
+    → HasCut s.written (and_lost s.told (filled f.grain f.dwell s.came))
 cut_of f [] s all (none, untold, empty) =
     rw (none, untold, empty) record { cut = []; text_is = refl; lines = All-nil IsLine; say = refl }
 cut_of f (line ∷ before) s all (inl (none, rest)) = cut_of f before s (All-tail IsLine line before all) rest
@@ -170,13 +194,16 @@ cut_of f (line ∷ before) s all (inr (old, rest, inl adds)) =
     let had = cut_of f before old (All-tail IsLine line before all) rest in
     let gap = gap_lines f true (newest_time old.came) old.told adds.stamp.time in
     let first = take (20 + adds.stamp.end) (take 60 line) in
-    let is : IsLine first = All-take (λ x. x ≢ line_feed) (20 + adds.stamp.end) (take 60 line) (All-take (λ x. x ≢ line_feed) 60 line (All-head IsLine line before all)) in
+    let is : IsLine first = All-take (λ x. x ≢ line_feed) (20 + adds.stamp.end) (take 60 line)
+    (All-take (λ x. x ≢ line_feed) 60 line (All-head IsLine line before all)) in
     let lost = with_gap f true old.came old.told adds.stamp.time old.written (filled f.grain f.dwell old.came) had in
-    let all_of = with_slot (old.written ++ gap) first (Some adds.group) _ lost is (cut_says line (Some adds.group) adds.stamp adds.says adds.timed) in
+    let all_of = with_slot (old.written ++ gap) first (Some adds.group) _ lost is (cut_says line (Some adds.group)
+    adds.stamp adds.says adds.timed) in
     rw (adds.came, adds.told, adds.writes) all_of
 cut_of f (line ∷ before) s all (inr (old, rest, inr adds)) =
     let had = cut_of f before old (All-tail IsLine line before all) rest in
-    rw (adds.came, adds.told, adds.writes) (with_gap f false old.came old.told adds.stamp.time old.written (filled f.grain f.dwell old.came) had)
+    rw (adds.came, adds.told, adds.writes) (with_gap f false old.came old.told adds.stamp.time old.written
+    (filled f.grain f.dwell old.came) had)
 
 pub are_logs : FilledTextsAreLogs
 are_logs f lines s all fill =

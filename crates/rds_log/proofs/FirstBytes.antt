@@ -1,5 +1,6 @@
 -- The first 60 bytes of a line say what the line says.
-use Rattle.std.proofs.Common.{◌≡◌, ◌⊎◌, ◌+◌, ◌-◌, ◌<◌, ◌≤◌, ℕ, Bool, true, false, cond, Option, Some, None, take, length, get_or, sym, ◌∙◌, subst, arith, inl, inr}
+use Rattle.std.proofs.Common.{◌≡◌, ◌⊎◌, ◌+◌, ◌-◌, ◌<◌, ◌≤◌, ℕ, Bool, true, false, cond, Option, Some, None, take}
+use Rattle.std.proofs.Common.{length, get_or, sym, ◌∙◌, subst, arith, inl, inr}
 use Rattle.std.specs.Prelude.{IfNone, IfSome}
 use Rattle.std.proofs.lemmas.List.{take_all, length-take, get_or-take}
 use Rattle.rds_block.specs.declared.group.Group.{Group}
@@ -43,7 +44,8 @@ same_dashes p q at s h dashes = record {
   fourth = sym (s (at + 3) (omega arith)) ∙ dashes.fourth;
 }
 
-same_block : (p q : Line) (at : ℕ) (block : Block) → SameBytes p q → at + 4 ≤ 20 → IsBlock p at block → IsBlock q at block
+same_block : (p q : Line) (at : ℕ) (block : Block) → SameBytes p q → at + 4 ≤ 20 → IsBlock p at block
+    → IsBlock q at block
 same_block p q at (Word w) s h block = same_word p q at w s h block
 same_block p q at Missing s h block = same_dashes p q at s h block
 
@@ -75,7 +77,8 @@ same_layout p q from to s laid = record {
 }
 
 -- a line that begins with the same blocks and a space is the same slot
-pub same_slot_line : (p q : Line) (slot : Option Group) → 20 ≤ content_length p → 19 ≤ content_length q → SameBytes p q → LineSays p (Slot slot) → LineSays q (Slot slot)
+pub same_slot_line : (p q : Line) (slot : Option Group) → 20 ≤ content_length p → 19 ≤ content_length q → SameBytes p q
+    → LineSays p (Slot slot) → LineSays q (Slot slot)
 same_slot_line p q slot from to s says = (same_layout p q from to s says.0, same_slot p q slot s says.1)
 
 same_said : (p q : Line) (said : LogLine) → SameStart p q → LineSays p said → LineSays q said
@@ -119,10 +122,12 @@ first_of_said line said says = elim (either (length line)) [
 pub bad_by_first : (line : Line) → IsBad (take 60 line) → IsBad line
 bad_by_first line bad said says = bad said (first_of_said line said says)
 
-pub some_by_first : (line : Line) (said : Option LogLine) → IfSome said (LineSays (take 60 line)) → IfSome said (LineSays line)
+pub some_by_first : (line : Line) (said : Option LogLine) → IfSome said (LineSays (take 60 line))
+    → IfSome said (LineSays line)
 some_by_first line None says = tt
 some_by_first line (Some said) says = said_of_first line said says
 
-pub none_by_first : (line : Line) (said : Option LogLine) → IfNone said (IsBad (take 60 line)) → IfNone said (IsBad line)
+pub none_by_first : (line : Line) (said : Option LogLine) → IfNone said (IsBad (take 60 line))
+    → IfNone said (IsBad line)
 none_by_first line None bad = bad_by_first line bad
 none_by_first line (Some said) bad = tt

@@ -11,17 +11,21 @@ use Rattle.rds_log.specs.declared.log_line.LogLine.TheVariants.{Skip, Slot}
 pub keeps_none : (log : List (Option Group)) → log ≡ [] → AreSlots [] (reverse log)
 keeps_none log none = ap reverse none
 
-pub keeps_slot : (lines : List Line) (line : Line) (slot : Option Group) (log after : List (Option Group)) → LineSays line (Slot slot) → AreSlots lines (reverse log) → after ≡ log ++ (slot ∷ [])
+pub keeps_slot : (lines : List Line) (line : Line) (slot : Option Group) (log after : List (Option Group))
+    → LineSays line (Slot slot) → AreSlots lines (reverse log) → after ≡ log ++ (slot ∷ [])
     → AreSlots (line ∷ lines) (reverse after)
 keeps_slot lines line slot log after says had more =
     inr (slot, reverse log, says, ap reverse more ∙ reverse-append log (slot ∷ []), had)
 
 -- a line that was said to be a slot
-pub keeps_said : (lines : List Line) (line : Line) (said : LogLine) (slot : Option Group) (log after : List (Option Group)) → LineSays line said → said ≡ Slot slot
+pub keeps_said : (lines : List Line) (line : Line) (said : LogLine) (slot : Option Group)
+    (log after : List (Option Group)) → LineSays line said → said ≡ Slot slot
     → AreSlots lines (reverse log) → after ≡ log ++ (slot ∷ []) → AreSlots (line ∷ lines) (reverse after)
-keeps_said lines line said slot log after says is had more = keeps_slot lines line slot log after (rw is at says) had more
+keeps_said lines line said slot log after says is had more = keeps_slot lines line slot log after (rw is at says) had
+    more
 
 -- a line that is skipped
-pub keeps_skip : (lines : List Line) (line : Line) (said : LogLine) (log : List (Option Group)) → LineSays line said → said ≡ Skip → AreSlots lines (reverse log)
+pub keeps_skip : (lines : List Line) (line : Line) (said : LogLine) (log : List (Option Group)) → LineSays line said
+    → said ≡ Skip → AreSlots lines (reverse log)
     → AreSlots (line ∷ lines) (reverse log)
 keeps_skip lines line said log says is had = inl (rw is at says, had)

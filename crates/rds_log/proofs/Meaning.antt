@@ -18,7 +18,8 @@ use Rattle.rds_log.specs.declared.audit_log.Stop.TheVariants.{FirstFault, LogEnd
 use Rattle.rds_io.specs.declared.fault.LogFault.{LogFault}
 
 -- a log that passes is safe as it is
-pub safe_as_it_is : WhatPassesIsSafe → WhatPassesAsARecordingIsSafe → (start : LogStart) (m k : ℕ) (heard : List (Option Message)) → 0 < m
+pub safe_as_it_is : WhatPassesIsSafe → WhatPassesAsARecordingIsSafe
+    → (start : LogStart) (m k : ℕ) (heard : List (Option Message)) → 0 < m
     → LogPasses (m + k) (judged_as start (m + k) heard) → IsSafe start m k heard
 safe_as_it_is complete running Complete m k heard pos passes = complete m k heard pos passes
 safe_as_it_is complete running Running m k heard pos passes = running m k heard pos passes
@@ -26,7 +27,8 @@ safe_as_it_is complete running Running m k heard pos passes = running m k heard 
 -- a yes goes with slots that pass, and a no with slots that fail
 pub meaning : (a : Auditing) (reads : ℕ) (r w : Traffic) (result : Result Bool LogFault)
     → ((slots : List (Option Group)) → SlotsPass a slots → SlotsAreSafe a slots)
-    → ((t : ℕ) (fault : AuditFault) (slots : List (Option Group)) → SlotsFail a t fault slots → SlotsHaveNoPlans a slots)
+    → ((t : ℕ) (fault : AuditFault) (slots : List (Option Group)) → SlotsFail a t fault slots
+    → SlotsHaveNoPlans a slots)
     → Audits a reads r w result → Means a r result
 meaning a reads r w (Err fault) safe none audits = tt
 meaning a reads r w (Ok true) safe none audits = record {

@@ -15,18 +15,21 @@ use Rattle.rds_log.specs.declared.decode_log.Decoding.{Decoding}
 use Rattle.rds_log.proofs.WholeBytes.{read_whole}
 
 -- an input has one display
-same_display : (why : Bool) (t : Tuning) (input : List (Option Group)) (d e : Display) → IsDisplay why t input d → IsDisplay why t input e → d ≡ e
+same_display : (why : Bool) (t : Tuning) (input : List (Option Group)) (d e : Display) → IsDisplay why t input d
+    → IsDisplay why t input e → d ≡ e
 same_display why t input d e p q =
     let view = same_view t input d.view e.view p.view q.view in
     let whys = same_whys why d.whys e.whys p.whys q.whys in
     λ i. record { view = view i; whys = whys i }
   where
-    same_whys : (why : Bool) (one other : Option Whys) → SayWhys why t input one → SayWhys why t input other → one ≡ other
+    same_whys : (why : Bool) (one other : Option Whys) → SayWhys why t input one → SayWhys why t input other
+        → one ≡ other
     same_whys false one other p q = p ∙ sym q
     same_whys true one other (one_is, (heard, are, is), e) (other_is, (heard', are', is'), f) =
         e ∙ ap Some (is ∙ ap (whys_of t) (same_heard t.programme input heard heard' are are') ∙ sym is') ∙ sym f
 
-same_displays : (why : Bool) (t : Tuning) (slots : List (Option Group)) (displays other : List Display) → AreDisplays why t slots displays → AreDisplays why t slots other → displays ≡ other
+same_displays : (why : Bool) (t : Tuning) (slots : List (Option Group)) (displays other : List Display)
+    → AreDisplays why t slots displays → AreDisplays why t slots other → displays ≡ other
 same_displays why t [] [] [] p q = refl
 same_displays why t [] [] (d ∷ other) p q = absurd q
 same_displays why t [] (d ∷ displays) other p q = absurd p
@@ -38,17 +41,22 @@ same_displays why t (slot ∷ before) (d ∷ displays) (e ∷ other) p q =
     (cc)
 
 -- the bytes of a log write one output
-pub same_output : (how : Decoding) (text written other : List ℕ) → LogWrites how text written → LogWrites how text other → written ≡ other
+pub same_output : (how : Decoding) (text written other : List ℕ) → LogWrites how text written → LogWrites how text other
+    → written ≡ other
 same_output how text written other p q =
     let lines : p.cut ≡ q.cut = same_lines text p.cut q.cut p.are q.are in
-    let slots : p.write.slots ≡ q.write.slots = same_slots q.cut p.write.slots q.write.slots (rw lines at p.write.say) q.write.say in
-    let displays : p.write.write.displays ≡ q.write.write.displays = same_displays how.says_why (tuning_of how) q.write.slots p.write.write.displays q.write.write.displays (rw slots at p.write.write.are) q.write.write.are in
+    let slots : p.write.slots ≡ q.write.slots = same_slots q.cut p.write.slots q.write.slots (rw lines at p.write.say)
+    q.write.say in
+    let displays : p.write.write.displays ≡ q.write.write.displays = same_displays how.says_why (tuning_of how)
+    q.write.slots p.write.write.displays q.write.write.displays (rw slots at p.write.write.are) q.write.write.are in
     p.write.write.changes ∙ ap changes_of displays ∙ sym q.write.write.changes
 
 -- two calls over the same bytes
-pub alike : (how : Decoding) (text : List ℕ) (r w q v : Traffic) → r.before ≡ Some text → q.before ≡ Some text → DecodesAll how r w → DecodesAll how q v → WriteAlike w v
+pub alike : (how : Decoding) (text : List ℕ) (r w q v : Traffic) → r.before ≡ Some text → q.before ≡ Some text
+    → DecodesAll how r w → DecodesAll how q v → WriteAlike w v
 alike how text r w q v given same a b =
     let first : a.text ≡ text = read_whole r.before r.after text a.text given a.read a.end in
     let second : b.text ≡ text = read_whole q.before q.after text b.text same b.read b.end in
-    let one : a.written ≡ b.written = same_output how text a.written b.written (rw first at a.write) (rw second at b.write) in
+    let one : a.written ≡ b.written = same_output how text a.written b.written (rw first at a.write) (rw second
+    at b.write) in
     record { written = b.written; one = rw one at a.wrote; other = b.wrote }

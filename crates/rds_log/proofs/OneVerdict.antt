@@ -39,41 +39,67 @@ record GoesOn (closed : List Line) (begun : Line) (rest : List ℕ) : Type 0 whe
   pub lines : All IsLine (newer ++ closed)
   pub line : IsLine last
 
-goes_on : (rest : List ℕ) (closed : List Line) (begun : Line) → All IsLine closed → IsLine begun → GoesOn closed begun rest
-goes_on [] closed begun all is = record { newer = []; last = begun; text = append-nil (text_of closed begun); lines = all; line = is }
+goes_on : (rest : List ℕ) (closed : List Line) (begun : Line) → All IsLine closed → IsLine begun
+    → GoesOn closed begun rest
+goes_on [] closed begun all is = record {
+  newer = [];
+  last = begun;
+  text = append-nil (text_of closed begun);
+  lines = all;
+  line = is;
+}
 goes_on (b ∷ rest) closed begun all is = elim (eqb_tells b line_feed) [
   | inl (test, feed) ↦
-      let more = goes_on rest (begun ∷ closed) [] (All-cons IsLine begun closed is all) (All-nil (λ (x : ℕ). x ≢ line_feed)) in
-      let joined : (more.newer ++ (begun ∷ [])) ++ closed ≡ more.newer ++ (begun ∷ closed) = append_assoc more.newer (begun ∷ []) closed in
+      let more = goes_on rest (begun ∷ closed) [] (All-cons IsLine begun closed is all)
+      (All-nil (λ (x : ℕ). x ≢ line_feed)) in
+      let joined : (more.newer ++ (begun ∷ [])) ++ closed ≡ more.newer ++ (begun ∷ closed) = append_assoc more.newer
+      (begun ∷ []) closed in
       record {
         newer = more.newer ++ (begun ∷ []);
         last = more.last;
-        text = ap (λ (x : ℕ). text_of closed begun ++ (x ∷ rest)) feed ∙ sym (append_assoc (text_of closed begun) (line_feed ∷ []) rest) ∙ more.text ∙ ap (λ (l : List Line). text_of l more.last) (sym joined);
+        text = ap (λ (x : ℕ). text_of closed begun ++ (x ∷ rest)) feed
+            ∙ sym (append_assoc (text_of closed begun) (line_feed ∷ []) rest) ∙ more.text
+            ∙ ap (λ (l : List Line). text_of l more.last) (sym joined);
         lines = rw joined more.lines;
         line = more.line;
       }
   | inr (test, other) ↦
-      let one : All (λ (x : ℕ). x ≢ line_feed) (b ∷ []) = All-cons (λ (x : ℕ). x ≢ line_feed) b [] other (All-nil (λ (x : ℕ). x ≢ line_feed)) in
-      let more = goes_on rest closed (begun ++ (b ∷ [])) all (All-append (λ (x : ℕ). x ≢ line_feed) begun (b ∷ []) is one) in
+      let one : All (λ (x : ℕ). x ≢ line_feed) (b ∷ []) = All-cons (λ (x : ℕ). x ≢ line_feed) b [] other
+      (All-nil (λ (x : ℕ). x ≢ line_feed)) in
+      let more = goes_on rest closed (begun ++ (b ∷ [])) all (All-append (λ (x : ℕ). x ≢ line_feed) begun (b ∷ []) is
+      one) in
       record {
         newer = more.newer;
         last = more.last;
-        text = sym (append_assoc (text_of closed begun) (b ∷ []) rest) ∙ ap (λ (l : List ℕ). l ++ rest) (text_of-more closed begun (b ∷ [])) ∙ more.text;
+        text = sym (append_assoc (text_of closed begun) (b ∷ []) rest) ∙ ap (λ (l : List ℕ). l ++ rest)
+            (text_of-more closed begun (b ∷ [])) ∙ more.text;
         lines = more.lines;
         line = more.line;
       }
 ]
 
 -- the lines of all bytes go on after those that the bytes begin with
-all_lines : (bytes : List ℕ) (lines : List Line) → BeginsWith bytes (Some []) lines → (newer : List Line) × AreLines bytes (newer ++ lines)
+all_lines : (bytes : List ℕ) (lines : List Line) → BeginsWith bytes (Some []) lines
+    → (newer : List Line) × AreLines bytes (newer ++ lines)
 all_lines bytes lines (inr (end, are)) = ([], are)
 all_lines bytes lines (inl (line, rest, cut, all, is)) =
     let more = goes_on rest lines line all is in
     closing more.newer more.last (cut ∙ more.text) more.lines more.line
   where
-    closing : (newer : List Line) (last : Line) → bytes ≡ text_of (newer ++ lines) last → All IsLine (newer ++ lines) → IsLine last → (more : List Line) × AreLines bytes (more ++ lines)
+    closing : (newer : List Line) (last : Line) → bytes ≡ text_of (newer ++ lines) last → All IsLine (newer ++ lines)
+        → IsLine last → (more : List Line) × AreLines bytes (more ++ lines)
     closing newer [] text each is_line = (newer, (newer ++ lines, [], text, each, is_line, inl (refl, refl)))
-    closing newer (b ∷ last) text each is_line = ((b ∷ last) ∷ newer, (newer ++ lines, b ∷ last, text, each, is_line, inr ((λ e. (cc)), refl)))
+    closing newer (b ∷ last) text each is_line = (
+      (b ∷ last) ∷ newer,
+      (
+        newer ++ lines,
+        b ∷ last,
+        text,
+        each,
+        is_line,
+        inr ((λ e. (cc)), refl),
+      ),
+    )
 
 -- of two ends of a list one is an end of the other
 two_ends : (a b x y : List Line) → a ++ x ≡ b ++ y → ((c : List Line) × (x ≡ c ++ y)) ⊎ ((c : List Line) × (y ≡ c ++ x))
@@ -86,14 +112,16 @@ two_ends (l ∷ a) (l' ∷ b) x y e =
 -- ---- slots
 
 -- the slots of lines that go on after others go on after theirs
-more_slots : (newer lines : List Line) (all slots : List (Option Group)) → AreSlots (newer ++ lines) all → AreSlots lines slots → (more : List (Option Group)) × (all ≡ more ++ slots)
+more_slots : (newer lines : List Line) (all slots : List (Option Group)) → AreSlots (newer ++ lines) all
+    → AreSlots lines slots → (more : List (Option Group)) × (all ≡ more ++ slots)
 more_slots [] lines all slots p q = ([], same_slots lines all slots p q)
 more_slots (line ∷ newer) lines all slots (inl (skip, p)) q = more_slots newer lines all slots p q
 more_slots (line ∷ newer) lines all slots (inr (slot, older, says, e, p)) q =
     let (more, is) = more_slots newer lines older slots p q in
     (slot ∷ more, e ∙ ap (λ (l : List (Option Group)). slot ∷ l) is)
 
-more_heard : (pi : ℕ) (more slots : List (Option Group)) (heard other : List (Option Message)) → AreHeard pi (more ++ slots) heard → AreHeard pi slots other
+more_heard : (pi : ℕ) (more slots : List (Option Group)) (heard other : List (Option Message))
+    → AreHeard pi (more ++ slots) heard → AreHeard pi slots other
     → (newer : List (Option Message)) × (heard ≡ newer ++ other)
 more_heard pi [] slots heard other p q = ([], same_heard pi slots heard other p q)
 more_heard pi (s ∷ more) slots [] other p q = absurd p
@@ -102,20 +130,26 @@ more_heard pi (s ∷ more) slots (m ∷ heard) other p q =
     (m ∷ newer, ap (λ (l : List (Option Message)). m ∷ l) is)
 
 -- a log that goes on after a fault has it
-fault_stays : (d : ℕ) (newer log : List (Option Message)) (fault : AuditFault) → IsFaultOf d log fault → IsFaultOf d (newer ++ log) fault
+fault_stays : (d : ℕ) (newer log : List (Option Message)) (fault : AuditFault) → IsFaultOf d log fault
+    → IsFaultOf d (newer ++ log) fault
 fault_stays d [] log fault p = p
-fault_stays d (m ∷ newer) log fault p = ap (λ (o : Option AuditFault). or_else o (first_of (slot_adds d m (newer ++ log)))) (fault_stays d newer log fault p)
+fault_stays d (m ∷ newer) log fault p = ap (λ (o : Option AuditFault). or_else o
+    (first_of (slot_adds d m (newer ++ log)))) (fault_stays d newer log fault p)
 
 -- slots that go on after a fault do not pass
-fails_for_good : WhatHasAFaultDoesNotPass → (a : Auditing) (t : ℕ) (fault : AuditFault) (more slots : List (Option Group)) → 0 < spacing a → SlotsFail a t fault slots → SlotsPass a (more ++ slots) → ⊥
+fails_for_good : WhatHasAFaultDoesNotPass
+    → (a : Auditing) (t : ℕ) (fault : AuditFault) (more slots : List (Option Group)) → 0 < spacing a
+    → SlotsFail a t fault slots → SlotsPass a (more ++ slots) → ⊥
 fails_for_good fails a t fault more slots some fail pass =
     let (newer, same) = more_heard a.pi more slots pass.heard fail.heard pass.are fail.are in
     let (later, e) = judged_more a.start (spacing a) newer fail.heard in
     let goes_on : judged a pass.heard ≡ later ++ judged a fail.heard = ap (judged a) same ∙ e in
-    fails (spacing a) (judged a pass.heard) fault some (rw goes_on (fault_stays (spacing a) later (judged a fail.heard) fault fail.fault_is)) pass.passes
+    fails (spacing a) (judged a pass.heard) fault some (rw goes_on (fault_stays (spacing a) later (judged a fail.heard)
+    fault fail.fault_is)) pass.passes
 
 -- and those that do not pass fail at one slot, with one fault
-fails_once : WhatHasAFaultDoesNotPass → (a : Auditing) (t u : ℕ) (f g : AuditFault) (more slots all : List (Option Group))
+fails_once : WhatHasAFaultDoesNotPass
+    → (a : Auditing) (t u : ℕ) (f g : AuditFault) (more slots all : List (Option Group))
     → 0 < spacing a → all ≡ more ++ slots → SlotsFail a t f slots → SlotsFail a u g all → no_line t f ≡ no_line u g
 fails_once fails a t u f g [] slots all some same p q =
     let count : length all ≡ length slots = ap length same in

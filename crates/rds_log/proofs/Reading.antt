@@ -1,5 +1,7 @@
 -- How a source of lines goes on: from line to line, and from chunk to chunk.
-use Rattle.std.proofs.Common.{◌≡◌, ◌≢◌, ◌+◌, ◌-◌, ◌<◌, ◌≤◌, ◌⊎◌, ℕ, Bool, List, [], ◌∷◌, ◌++◌, take, drop, length, length-append, Option, Some, None, Ok, Err, true, false, append_assoc, add-one, ap, sym, ◌∙◌, refl, arith, inl, inr, nat_lt}
+use Rattle.std.proofs.Common.{◌≡◌, ◌≢◌, ◌+◌, ◌-◌, ◌<◌, ◌≤◌, ◌⊎◌, ℕ, Bool, List, [], ◌∷◌, ◌++◌, take, drop, length}
+use Rattle.std.proofs.Common.{length-append, Option, Some, None, Ok, Err, true, false, append_assoc, add-one, ap, sym}
+use Rattle.std.proofs.Common.{◌∙◌, refl, arith, inl, inr, nat_lt}
 use Rattle.std.specs.Prelude.{IfErr, IfNone, IfSome, MatchBool, MatchOption, MatchResult, Result}
 use Rattle.std.proofs.lemmas.Bool.Decides.{nat_tests}
 use Rattle.std.proofs.lemmas.List.{append-nil, drop-drop, drop-take, take-append-drop, take-take}
@@ -12,7 +14,8 @@ use Rattle.rds_log.specs.LogLines.{EndsAt, IsLine, Line, line_feed, text_of}
 use Rattle.rds_log.specs.LineSays.{LineSays}
 use Rattle.rds_log.specs.Inside.Cutter.{Closes, CutterStandsAt, IsBadLine}
 use Rattle.rds_log.specs.Reads.{MadeReads, ReadsUpTo}
-use Rattle.rds_log.specs.Inside.Source.{GivesNext, HasLine, HasNoNext, HasMade, IsAtLast, IsInside, IsThrough, ReaderState, SourceStandsAt, since, start_of, start_with, waiting}
+use Rattle.rds_log.specs.Inside.Source.{GivesNext, HasLine, HasNoNext, HasMade, IsAtLast, IsInside, IsThrough}
+use Rattle.rds_log.specs.Inside.Source.{ReaderState, SourceStandsAt, since, start_of, start_with, waiting}
 use Rattle.rds_io.specs.declared.fault.BadLine as fault
 use Rattle.rds_io.specs.declared.fault.LogFault.{LogFault}
 use Rattle.rds_io.specs.declared.fault.LogFault.TheVariants.{BadLine, TooLong}
@@ -21,7 +24,8 @@ use Rattle.rds_log.specs.declared.source.Source.{Source}
 use Rattle.rds_log.proofs.Cutting.{begun_empty, kept_of_more, text_of-more}
 
 -- where the next line ends in the bytes, or that it does not
-pub line_told : (bytes : List ℕ) (o : Option ℕ) → IfNone o (IsLine bytes) → IfSome o (EndsAt bytes) → MatchOption o (IsLine bytes) (EndsAt bytes)
+pub line_told : (bytes : List ℕ) (o : Option ℕ) → IfNone o (IsLine bytes) → IfSome o (EndsAt bytes)
+    → MatchOption o (IsLine bytes) (EndsAt bytes)
 line_told bytes None none some = none
 line_told bytes (Some n) none some = some
 
@@ -29,39 +33,48 @@ no_end : (bytes : List ℕ) (o : Option ℕ) → o ≡ None → MatchOption o (I
 no_end bytes None e h = h
 no_end bytes (Some n) e h = absurd (cc)
 
-an_end : (bytes : List ℕ) (o : Option ℕ) (n : ℕ) → o ≡ Some n → MatchOption o (IsLine bytes) (EndsAt bytes) → EndsAt bytes n
+an_end : (bytes : List ℕ) (o : Option ℕ) (n : ℕ) → o ≡ Some n → MatchOption o (IsLine bytes) (EndsAt bytes)
+    → EndsAt bytes n
 an_end bytes None n e h = absurd (cc)
 an_end bytes (Some m) n e h = (let same : m ≡ n = (cc) in rw same at h)
 
 -- a source that is not at its end
-inside : (s : Source) (most : ℕ) (start now : ReaderState) (lines : List Line) → s.ended ≡ false → SourceStandsAt s most start now lines → IsInside s most start now lines
+inside : (s : Source) (most : ℕ) (start now : ReaderState) (lines : List Line) → s.ended ≡ false
+    → SourceStandsAt s most start now lines → IsInside s most start now lines
 inside s most start now lines not_ended stands = by_end s.ended not_ended stands.where_it_is
   where
-    by_end : (b : Bool) → b ≡ false → MatchBool b (IsThrough start now lines × (s.line ≡ None)) (IsInside s most start now lines) → IsInside s most start now lines
+    by_end : (b : Bool) → b ≡ false
+        → MatchBool b (IsThrough start now lines × (s.line ≡ None)) (IsInside s most start now lines)
+        → IsInside s most start now lines
     by_end true e h = absurd (cc)
     by_end false e h = h
 
-from_inside : (s : Source) (most : ℕ) (start now : ReaderState) (lines : List Line) (b : Bool) → b ≡ false → IsInside s most start now lines
+from_inside : (s : Source) (most : ℕ) (start now : ReaderState) (lines : List Line) (b : Bool) → b ≡ false
+    → IsInside s most start now lines
     → MatchBool b (IsThrough start now lines × (s.line ≡ None)) (IsInside s most start now lines)
 from_inside s most start now lines true e is = absurd (cc)
 from_inside s most start now lines false e is = is
 
 -- one that is
-from_through : (s : Source) (most : ℕ) (start now : ReaderState) (lines : List Line) (b : Bool) → b ≡ true → IsThrough start now lines → s.line ≡ None
+from_through : (s : Source) (most : ℕ) (start now : ReaderState) (lines : List Line) (b : Bool) → b ≡ true
+    → IsThrough start now lines → s.line ≡ None
     → MatchBool b (IsThrough start now lines × (s.line ≡ None)) (IsInside s most start now lines)
 from_through s most start now lines true e through none = (through, none)
 from_through s most start now lines false e through none = absurd (cc)
 
 -- a source that knows of a line is not at its end
-goes_on : (s : Source) (most n : ℕ) (start now : ReaderState) (lines : List Line) → s.line ≡ Some n → SourceStandsAt s most start now lines → s.ended ≡ false
+goes_on : (s : Source) (most n : ℕ) (start now : ReaderState) (lines : List Line) → s.line ≡ Some n
+    → SourceStandsAt s most start now lines → s.ended ≡ false
 goes_on s most n start now lines e stands = by_end s.ended stands.where_it_is
   where
-    by_end : (b : Bool) → MatchBool b (IsThrough start now lines × (s.line ≡ None)) (IsInside s most start now lines) → b ≡ false
+    by_end : (b : Bool) → MatchBool b (IsThrough start now lines × (s.line ≡ None)) (IsInside s most start now lines)
+        → b ≡ false
     by_end true (through, none) = absurd (let both : Some n ≡ None = sym e ∙ none in cc)
     by_end false is = refl
 
 -- no read more
-made_so_far : (s after : Source) (most : ℕ) (start now : ReaderState) → after.left ≡ s.left → HasMade s most start now → HasMade after most start now
+made_so_far : (s after : Source) (most : ℕ) (start now : ReaderState) → after.left ≡ s.left → HasMade s most start now
+    → HasMade after most start now
 made_so_far s after most start now left m =
     let leaves = m.leaves in
     record { made = m.made; leaves = omega (arith, leaves, left); counted = m.counted; calm = m.calm }
@@ -73,8 +86,10 @@ cut_line lines begun bytes n ends =
     let run = take n bytes in
     let rest = drop (n + 1) bytes in
     let feed = ends.feed in
-    let whole : run ++ (line_feed ∷ rest) ≡ bytes = rw (← feed, add-one, ← drop-cons bytes n 0 ends.within) (take-append-drop n bytes) in
-    ap (λ (l : List ℕ). text_of lines begun ++ l) (sym whole) ∙ sym (append_assoc (text_of lines begun) run (line_feed ∷ rest))
+    let whole : run ++ (line_feed ∷ rest) ≡ bytes = rw (← feed, add-one, ← drop-cons bytes n 0 ends.within)
+    (take-append-drop n bytes) in
+    ap (λ (l : List ℕ). text_of lines begun ++ l) (sym whole)
+    ∙ sym (append_assoc (text_of lines begun) run (line_feed ∷ rest))
     ∙ ap (λ (l : List ℕ). l ++ (line_feed ∷ rest)) (text_of-more lines begun run)
 
 -- what waits after a line and its end
@@ -89,20 +104,24 @@ wait_on chunk at count n less =
     ∙ ap (λ (m : ℕ). drop (n + 1) (take m (drop at chunk))) size
 
 -- the line that ends so many bytes on, as the code's range has it
-pub line_of : (chunk : List ℕ) (at count n : ℕ) → at + n < count → take n (take (count - at) (drop at chunk)) ≡ take (at + n - at) (drop at chunk)
+pub line_of : (chunk : List ℕ) (at count n : ℕ) → at + n < count
+    → take n (take (count - at) (drop at chunk)) ≡ take (at + n - at) (drop at chunk)
 line_of chunk at count n less =
     let size : n ≡ at + n - at = omega arith in
     take-take n (count - at) (drop at chunk) (omega (arith, less)) ∙ ap (λ (m : ℕ). take m (drop at chunk)) size
 
 -- the first bytes of the line that these bytes end
-start_is : (s : Source) (lines : List Line) (begun last : Line) → CutterStandsAt s.cutter lines begun → start_with s last ≡ take 60 (begun ++ last)
+start_is : (s : Source) (lines : List Line) (begun last : Line) → CutterStandsAt s.cutter lines begun
+    → start_with s last ≡ take 60 (begun ++ last)
 start_is s lines begun last cutter = ap (λ (l : Line). take 60 (l ++ last)) cutter.kept ∙ kept_of_more begun last
 
 -- where the newest line starts is known, or its first bytes were copied
 abbrev pub IsStartKept : Source → Source → List ℕ → Type 0
-IsStartKept s after last = ((after.start.place ≡ s.at) × (s.cutter.kept.items ≡ [])) ⊎ ((after.start.place ≡ 65536) × (after.start.copy.items ≡ start_with s last))
+IsStartKept s after last = ((after.start.place ≡ s.at) × (s.cutter.kept.items ≡ [])) ⊎ ((after.start.place ≡ 65536)
+    × (after.start.copy.items ≡ start_with s last))
 
-starts : (s after : Source) (n : ℕ) → s.at + n < s.count → s.count ≤ 65536 → after.chunk ≡ s.chunk → after.at ≡ s.at + n + 1
+starts : (s after : Source) (n : ℕ) → s.at + n < s.count → s.count ≤ 65536 → after.chunk ≡ s.chunk
+    → after.at ≡ s.at + n + 1
     → IsStartKept s after (take n (waiting s)) → start_of after ≡ start_with s (take n (waiting s))
 starts s after n less room chunk at (inl (here, none)) =
     let before : nat_lt after.start.place after.at ≡ true = grind (arith, nat_tests, here, at) in
@@ -113,21 +132,29 @@ starts s after n less room chunk at (inr (elsewhere, copied)) =
     rw behind copied
 
 -- the first bytes were copied
-starts_elsewhere : (after : Source) (first : List ℕ) → after.start.place ≡ 65536 → after.at ≤ 65536 → after.start.copy.items ≡ first → start_of after ≡ first
+starts_elsewhere : (after : Source) (first : List ℕ) → after.start.place ≡ 65536 → after.at ≤ 65536
+    → after.start.copy.items ≡ first → start_of after ≡ first
 starts_elsewhere after first elsewhere room copied =
     let behind : nat_lt after.start.place after.at ≡ false = grind (arith, nat_tests, elsewhere, room) in
     rw behind copied
 
 -- the start of a last line that was begun before
-last_start : (s after : Source) (lines : List Line) (begun : Line) → CutterStandsAt s.cutter lines begun → begun ≢ [] → after.at ≤ 65536 → IsStartKept s after [] → start_of after ≡ start_with s []
-last_start s after lines begun cutter some room (inl (here, none)) = absurd (some (begun_empty begun (sym (ap length cutter.kept) ∙ ap length none)))
-last_start s after lines begun cutter some room (inr (elsewhere, copied)) = starts_elsewhere after (start_with s []) elsewhere room copied
+last_start : (s after : Source) (lines : List Line) (begun : Line) → CutterStandsAt s.cutter lines begun → begun ≢ []
+    → after.at ≤ 65536 → IsStartKept s after [] → start_of after ≡ start_with s []
+last_start s after lines begun cutter some room (inl (here, none)) = absurd
+    (some (begun_empty begun (sym (ap length cutter.kept) ∙ ap length none)))
+last_start s after lines begun cutter some room (inr (elsewhere, copied)) = starts_elsewhere after (start_with s [])
+    elsewhere room copied
 
 -- the next line was closed, and says this
-gives_line : (s after : Source) (most n : ℕ) (start now : ReaderState) (lines : List Line) (said : LogLine) → SourceStandsAt s most start now lines → s.line ≡ Some n
-    → s.at + n < s.count → ((begun : Line) → CutterStandsAt s.cutter lines begun → IsLine (take n (waiting s)) → Closes after.cutter lines (begun ++ take n (waiting s)) said)
-    → after.chunk ≡ s.chunk → after.at ≡ s.at + n + 1 → after.count ≡ s.count → after.left ≡ s.left → after.ended ≡ s.ended
-    → MatchOption after.line (IsLine (waiting after)) (EndsAt (waiting after)) → start_of after ≡ start_with s (take n (waiting s)) → GivesNext after most start now lines (Some said)
+gives_line : (s after : Source) (most n : ℕ) (start now : ReaderState) (lines : List Line) (said : LogLine)
+    → SourceStandsAt s most start now lines → s.line ≡ Some n
+    → s.at + n < s.count → ((begun : Line) → CutterStandsAt s.cutter lines begun → IsLine (take n (waiting s))
+    → Closes after.cutter lines (begun ++ take n (waiting s)) said)
+    → after.chunk ≡ s.chunk → after.at ≡ s.at + n + 1 → after.count ≡ s.count → after.left ≡ s.left
+    → after.ended ≡ s.ended
+    → MatchOption after.line (IsLine (waiting after)) (EndsAt (waiting after))
+    → start_of after ≡ start_with s (take n (waiting s)) → GivesNext after most start now lines (Some said)
 gives_line s after most n start now lines said stands line less closes chunk at count left ended next first =
     let not_ended = goes_on s most n start now lines line stands in
     let is = inside s most start now lines not_ended stands in
@@ -135,8 +162,10 @@ gives_line s after most n start now lines said stands line less closes chunk at 
     let closed = closes is.holds.begun is.holds.cutter ends.line in
     let whole = is.holds.begun ++ take n (waiting s) in
     let rest : waiting after ≡ drop (n + 1) (waiting s) =
-    ap (λ (l : List ℕ). take (after.count - after.at) (drop after.at l)) chunk ∙ ap (λ (m : ℕ). take (after.count - m) (drop m s.chunk)) at
-    ∙ ap (λ (m : ℕ). take (m - (s.at + n + 1)) (drop (s.at + n + 1) s.chunk)) count ∙ wait_on s.chunk s.at s.count n less in
+    ap (λ (l : List ℕ). take (after.count - after.at) (drop after.at l)) chunk
+    ∙ ap (λ (m : ℕ). take (after.count - m) (drop m s.chunk)) at
+    ∙ ap (λ (m : ℕ). take (m - (s.at + n + 1)) (drop (s.at + n + 1) s.chunk)) count ∙ wait_on s.chunk s.at s.count n
+    less in
     let reads = stands.reads in
     let enough = is.enough in (
       whole,
@@ -149,7 +178,8 @@ gives_line s after most n start now lines said stands line less closes chunk at 
           enough = omega (arith, enough, left);
           holds = record {
             begun = [];
-            cut = is.holds.cut ∙ cut_line lines is.holds.begun (waiting s) n ends ∙ sym (text_of-more (whole ∷ lines) [] (drop (n + 1) (waiting s)))
+            cut = is.holds.cut ∙ cut_line lines is.holds.begun (waiting s) n ends
+                ∙ sym (text_of-more (whole ∷ lines) [] (drop (n + 1) (waiting s)))
                 ∙ ap (λ (l : List ℕ). text_of (whole ∷ lines) [] ++ l) (sym rest);
             cutter = closed.stands;
             line = next;
@@ -160,9 +190,12 @@ gives_line s after most n start now lines said stands line less closes chunk at 
     )
 
 -- the next line is bad
-gives_bad : (s after : Source) (most n number : ℕ) (start now : ReaderState) (lines : List Line) → SourceStandsAt s most start now lines → s.line ≡ Some n
-    → ((begun : Line) → CutterStandsAt s.cutter lines begun → IsLine (take n (waiting s)) → IsBadLine number lines (begun ++ take n (waiting s)))
-    → ((begun : Line) → CutterStandsAt s.cutter lines begun → after.cutter.kept.items ≡ take 60 (begun ++ take n (waiting s)))
+gives_bad : (s after : Source) (most n number : ℕ) (start now : ReaderState) (lines : List Line)
+    → SourceStandsAt s most start now lines → s.line ≡ Some n
+    → ((begun : Line) → CutterStandsAt s.cutter lines begun → IsLine (take n (waiting s))
+    → IsBadLine number lines (begun ++ take n (waiting s)))
+    → ((begun : Line) → CutterStandsAt s.cutter lines begun
+    → after.cutter.kept.items ≡ take 60 (begun ++ take n (waiting s)))
     → HasNoNext most start now lines after.cutter.kept.items (BadLine number)
 gives_bad s after most n number start now lines stands line bad first =
     let is = inside s most start now lines (goes_on s most n start now lines line stands) stands in
@@ -183,24 +216,35 @@ gives_bad s after most n number start now lines stands line bad first =
     )
 
 -- the next line, whatever it is
-pub gives_either : (s after : Source) (most n : ℕ) (start now : ReaderState) (lines : List Line) (result : Result LogLine fault.BadLine) → SourceStandsAt s most start now lines → s.line ≡ Some n
+pub gives_either : (s after : Source) (most n : ℕ) (start now : ReaderState) (lines : List Line)
+    (result : Result LogLine fault.BadLine) → SourceStandsAt s most start now lines → s.line ≡ Some n
     → s.at + n < s.count → ((begun : Line) → CutterStandsAt s.cutter lines begun → IsLine (take n (waiting s))
-    → MatchResult result (Closes after.cutter lines (begun ++ take n (waiting s))) (λ bad. IsBadLine bad.number lines (begun ++ take n (waiting s))))
-    → ((begun : Line) → CutterStandsAt s.cutter lines begun → IfErr result (λ _. after.cutter.kept.items ≡ take 60 (begun ++ take n (waiting s))))
-    → after.chunk ≡ s.chunk → after.at ≡ s.at + n + 1 → after.count ≡ s.count → after.left ≡ s.left → after.ended ≡ s.ended
-    → MatchOption after.line (IsLine (waiting after)) (EndsAt (waiting after)) → s.count ≤ 65536 → IsStartKept s after (take n (waiting s))
-    → MatchResult result (λ said. GivesNext after most start now lines (Some said)) (λ bad. HasNoNext most start now lines after.cutter.kept.items (BadLine bad.number))
-gives_either s after most n start now lines (Ok said) stands line less closes first chunk at count left ended next room kept =
-    gives_line s after most n start now lines said stands line less closes chunk at count left ended next (starts s after n less room chunk at kept)
-gives_either s after most n start now lines (Err bad) stands line less closes first chunk at count left ended next room kept =
+    → MatchResult result (Closes after.cutter lines (begun ++ take n (waiting s))) (λ bad. IsBadLine bad.number lines
+    (begun ++ take n (waiting s))))
+    → ((begun : Line) → CutterStandsAt s.cutter lines begun
+    → IfErr result (λ _. after.cutter.kept.items ≡ take 60 (begun ++ take n (waiting s))))
+    → after.chunk ≡ s.chunk → after.at ≡ s.at + n + 1 → after.count ≡ s.count → after.left ≡ s.left
+    → after.ended ≡ s.ended
+    → MatchOption after.line (IsLine (waiting after)) (EndsAt (waiting after)) → s.count ≤ 65536
+    → IsStartKept s after (take n (waiting s))
+    → MatchResult result (λ said. GivesNext after most start now lines (Some said)) (λ bad. HasNoNext most start now
+    lines after.cutter.kept.items (BadLine bad.number))
+gives_either s after most n start now lines (Ok said) stands line less closes first chunk at count left ended next room
+    kept =
+    gives_line s after most n start now lines said stands line less closes chunk at count left ended next
+    (starts s after n less room chunk at kept)
+gives_either s after most n start now lines (Err bad) stands line less closes first chunk at count left ended next room
+    kept =
     gives_bad s after most n bad.number start now lines stands line closes first
 
 -- all of the chunk is of the line that is begun
-pub takes_rest : (s : Source) (lines : List Line) (text : List ℕ) (h : HasLine s lines text) → s.line ≡ None → (text ≡ text_of lines (h.begun ++ waiting s)) × IsLine (waiting s)
+pub takes_rest : (s : Source) (lines : List Line) (text : List ℕ) (h : HasLine s lines text) → s.line ≡ None
+    → (text ≡ text_of lines (h.begun ++ waiting s)) × IsLine (waiting s)
 takes_rest s lines text h none = (h.cut ∙ text_of-more lines h.begun (waiting s), no_end (waiting s) s.line none h.line)
 
 -- no line is there, and the lines so far are told
-pub reads_up_to : (s : Source) (most least : ℕ) (start now after : ReaderState) (lines : List Line) → SourceStandsAt s most start now lines → s.ended ≡ false → s.line ≡ None
+pub reads_up_to : (s : Source) (most least : ℕ) (start now after : ReaderState) (lines : List Line)
+    → SourceStandsAt s most start now lines → s.ended ≡ false → s.line ≡ None
     → Keeps now.left after.left → least + s.left ≤ most → ReadsUpTo (since start after) least lines
 reads_up_to s most least start now after lines stands not_ended none keeps less =
     let is = inside s most start now lines not_ended stands in
@@ -216,7 +260,8 @@ reads_up_to s most least start now after lines stands not_ended none keeps less 
     }
 
 -- one read more
-pub made_more : (s after : Source) (most : ℕ) (start now later : ReaderState) → HasMade s most start now → after.left + 1 ≡ s.left → later.reads ≡ next_count now.reads
+pub made_more : (s after : Source) (most : ℕ) (start now later : ReaderState) → HasMade s most start now
+    → after.left + 1 ≡ s.left → later.reads ≡ next_count now.reads
     → later.failures ≡ now.failures → HasMade after most start later
 made_more s after most start now later m fewer counts calm =
     let leaves = m.leaves in
@@ -228,7 +273,8 @@ made_more s after most start now later m fewer counts calm =
     }
 
 -- a read that failed
-pub made_in_vain : {X : Type 0} (s : Source) (most : ℕ) (start now : ReaderState) (after : ℕ) (result : Result X LogFault) → HasMade s most start now → 0 < s.left
+pub made_in_vain : {X : Type 0} (s : Source) (most : ℕ) (start now : ReaderState) (after : ℕ)
+    (result : Result X LogFault) → HasMade s most start now → 0 < s.left
     → after ≡ next_count now.reads → result ≢ Err TooLong → MadeReads most start.reads after result
 made_in_vain s most start now after result m some counts other =
     let leaves = m.leaves in
@@ -240,15 +286,25 @@ made_in_vain s most start now after result m some counts other =
     }
 
 -- all reads were made
-pub made_all : {X : Type 0} (s : Source) (most : ℕ) (start now : ReaderState) (result : Result X LogFault) → HasMade s most start now → s.left ≡ 0 → MadeReads most start.reads now.reads result
+pub made_all : {X : Type 0} (s : Source) (most : ℕ) (start now : ReaderState) (result : Result X LogFault)
+    → HasMade s most start now → s.left ≡ 0 → MadeReads most start.reads now.reads result
 made_all s most start now result m none =
     let leaves = m.leaves in
-    record { made = m.made; at_most = omega (arith, leaves, none); counted = m.counted; gave_up = λ e. omega (arith, leaves, none) }
+    record {
+      made = m.made;
+      at_most = omega (arith, leaves, none);
+      counted = m.counted;
+      gave_up = λ e. omega
+          (arith, leaves, none);
+    }
 
 -- a read that gave nothing
-pub reads_none : (s after : Source) (most : ℕ) (start now later : ReaderState) (lines : List Line) → SourceStandsAt s most start now lines → s.ended ≡ false → s.line ≡ None
-    → (IsLine (waiting s) → (closed : List Line) (begun : Line) → CutterStandsAt s.cutter closed begun → CutterStandsAt after.cutter closed (begun ++ waiting s))
-    → after.left + 1 ≡ s.left → later.reads ≡ next_count now.reads → later.failures ≡ now.failures → Consumes now.left later.left [] → IsAtEnd later.left
+pub reads_none : (s after : Source) (most : ℕ) (start now later : ReaderState) (lines : List Line)
+    → SourceStandsAt s most start now lines → s.ended ≡ false → s.line ≡ None
+    → (IsLine (waiting s) → (closed : List Line) (begun : Line) → CutterStandsAt s.cutter closed begun
+    → CutterStandsAt after.cutter closed (begun ++ waiting s))
+    → after.left + 1 ≡ s.left → later.reads ≡ next_count now.reads → later.failures ≡ now.failures
+    → Consumes now.left later.left [] → IsAtEnd later.left
     → IsAtLast after most start later lines
 reads_none s after most start now later lines stands not_ended none keeps fewer counts calm gave end =
     let is = inside s most start now lines not_ended stands in
@@ -262,10 +318,14 @@ reads_none s after most start now later lines stands not_ended none keeps fewer 
     }
 
 -- a read that gave bytes
-pub reads_more : (s after : Source) (most : ℕ) (start now later : ReaderState) (lines : List Line) → SourceStandsAt s most start now lines → s.ended ≡ false → s.line ≡ None
-    → (IsLine (waiting s) → (closed : List Line) (begun : Line) → CutterStandsAt s.cutter closed begun → CutterStandsAt after.cutter closed (begun ++ waiting s))
-    → after.left + 1 ≡ s.left → after.ended ≡ false → later.reads ≡ next_count now.reads → later.failures ≡ now.failures → Consumes now.left later.left (waiting after) → 0 < length (waiting after)
-    → MatchOption after.line (IsLine (waiting after)) (EndsAt (waiting after)) → SourceStandsAt after most start later lines
+pub reads_more : (s after : Source) (most : ℕ) (start now later : ReaderState) (lines : List Line)
+    → SourceStandsAt s most start now lines → s.ended ≡ false → s.line ≡ None
+    → (IsLine (waiting s) → (closed : List Line) (begun : Line) → CutterStandsAt s.cutter closed begun
+    → CutterStandsAt after.cutter closed (begun ++ waiting s))
+    → after.left + 1 ≡ s.left → after.ended ≡ false → later.reads ≡ next_count now.reads → later.failures ≡ now.failures
+    → Consumes now.left later.left (waiting after) → 0 < length (waiting after)
+    → MatchOption after.line (IsLine (waiting after)) (EndsAt (waiting after))
+    → SourceStandsAt after most start later lines
 reads_more s after most start now later lines stands not_ended none keeps fewer still counts calm gave some next =
     let is = inside s most start now lines not_ended stands in
     let (cut, rest) = takes_rest s lines is.text is.holds none in
@@ -286,7 +346,8 @@ reads_more s after most start now later lines stands not_ended none keeps fewer 
     }
 
 -- the end, where no line is begun
-pub ends_between : (s after : Source) (most : ℕ) (start now : ReaderState) (lines : List Line) (last : IsAtLast s most start now lines) → last.begun ≡ [] → after.left ≡ s.left
+pub ends_between : (s after : Source) (most : ℕ) (start now : ReaderState) (lines : List Line)
+    (last : IsAtLast s most start now lines) → last.begun ≡ [] → after.left ≡ s.left
     → after.ended ≡ true → after.line ≡ None → GivesNext after most start now lines None
 ends_between s after most start now lines last empty left ended none =
     let through : IsThrough start now lines = record {
@@ -304,8 +365,10 @@ ends_between s after most start now lines last empty left ended none =
     )
 
 -- the end, which closes a line
-pub ends_line : (s after : Source) (most : ℕ) (start now : ReaderState) (lines : List Line) (said : LogLine) (last : IsAtLast s most start now lines) → last.begun ≢ []
-    → Closes after.cutter lines (last.begun ++ []) said → after.left ≡ s.left → after.ended ≡ true → after.line ≡ None → after.at ≤ 65536 → IsStartKept s after [] → GivesNext after most start now lines (Some said)
+pub ends_line : (s after : Source) (most : ℕ) (start now : ReaderState) (lines : List Line) (said : LogLine)
+    (last : IsAtLast s most start now lines) → last.begun ≢ []
+    → Closes after.cutter lines (last.begun ++ []) said → after.left ≡ s.left → after.ended ≡ true → after.line ≡ None
+    → after.at ≤ 65536 → IsStartKept s after [] → GivesNext after most start now lines (Some said)
 ends_line s after most start now lines said last some closed left ended none room kept =
     let says : LineSays last.begun said = rw (append-nil last.begun) at closed.says in
     let through : IsThrough start now (last.begun ∷ lines) = record {
@@ -321,11 +384,13 @@ ends_line s after most start now lines said last some closed left ended none roo
         reads = made_so_far s after most start now left reads;
         where_it_is = from_through after most start now (last.begun ∷ lines) after.ended ended through none;
       },
-      last_start s after lines last.begun last.cutter some room kept ∙ start_is s lines last.begun [] last.cutter ∙ ap (take 60) (append-nil last.begun),
+      last_start s after lines last.begun last.cutter some room kept ∙ start_is s lines last.begun [] last.cutter
+          ∙ ap (take 60) (append-nil last.begun),
     )
 
 -- the end closes a bad line
-pub ends_bad : (s : Source) (kept : List ℕ) (most number : ℕ) (start now : ReaderState) (lines : List Line) (last : IsAtLast s most start now lines) → IsBadLine number lines (last.begun ++ [])
+pub ends_bad : (s : Source) (kept : List ℕ) (most number : ℕ) (start now : ReaderState) (lines : List Line)
+    (last : IsAtLast s most start now lines) → IsBadLine number lines (last.begun ++ [])
     → kept ≡ take 60 (last.begun ++ []) → HasNoNext most start now lines kept (BadLine number)
 ends_bad s kept most number start now lines last bad first = (
   text_of lines last.begun,

@@ -26,7 +26,8 @@ wrote_lines Gives Took w waiting lines meant has none = record {
 }
 
 -- the writer failed at output that waited
-pub wrote_part : (Begins Took : List Line → List ℕ → Type 0) (lines : List Line) (w v : Traffic) (waiting total : List ℕ)
+pub wrote_part : (Begins Took : List Line → List ℕ → Type 0) (lines : List Line) (w v : Traffic)
+    (waiting total : List ℕ)
     → ((total : List ℕ) → Took lines total → total ≢ [] → Begins lines total)
     → Took lines total → Waits w waiting total → waiting ≢ [] → IsLost v total → WrotePart Begins v lines
 wrote_part Begins Took lines w v waiting total begun took waits some lost = record {

@@ -6,6 +6,7 @@ use Rattle.rds_log.specs.LineSays.{IsSkipped, LineSays, SaysSlot}
 use Rattle.rds_log.specs.declared.log_line.LogLine.{LogLine}
 use Rattle.rds_log.specs.declared.log_line.LogLine.TheVariants.{Skip, Slot}
 
-pub bad_by_slot : (line : Line) → (IsSkipped line → ⊥) → ((slot : Option Group) → SaysSlot line slot → ⊥) → (said : LogLine) → LineSays line said → ⊥
+pub bad_by_slot : (line : Line) → (IsSkipped line → ⊥) → ((slot : Option Group) → SaysSlot line slot → ⊥)
+    → (said : LogLine) → LineSays line said → ⊥
 bad_by_slot line no_mark no_slot Skip h = no_mark h
 bad_by_slot line no_mark no_slot (Slot slot) h = no_slot slot h.1

@@ -1,5 +1,6 @@
 -- How the displays and their changes go on by a slot.
-use Rattle.std.proofs.Common.{◌≡◌, ◌+◌, ◌++◌, ℕ, Bool, true, false, List, [], ◌∷◌, None, Option, Some, length, refl, sym, ap, ◌∙◌, arith}
+use Rattle.std.proofs.Common.{◌≡◌, ◌+◌, ◌++◌, ℕ, Bool, true, false, List, [], ◌∷◌, None, Option, Some, length, refl}
+use Rattle.std.proofs.Common.{sym, ap, ◌∙◌, arith}
 use Rattle.std.proofs.lemmas.List.{append-nil}
 use Rattle.rds_block.specs.declared.group.Group.{Group}
 use Rattle.rds_receiver.specs.NotShown.{whys_of}
@@ -15,13 +16,17 @@ use Rattle.rds_log.specs.Inside.ViewLines.{ViewsStandAt}
 use Rattle.rds_log.specs.declared.decoder.ViewLines.{ViewLines}
 
 -- a slot that was handled: its display, and the changes that it appends
-pub slot_given : (why : Bool) (t : Tuning) (v after : ViewLines) (slots : List (Option Group)) (written before now : List ℕ) (group : Option Group) (display : Display) (s : ViewsStandAt why t v slots written)
-    → ReceiverAt t after.receiver (group ∷ slots) → IsDisplay why t (group ∷ slots) display → after.says_why ≡ v.says_why → after.slot ≡ v.slot + 1 → view_kept after.shown ≡ display.view
+pub slot_given : (why : Bool) (t : Tuning) (v after : ViewLines) (slots : List (Option Group))
+    (written before now : List ℕ) (group : Option Group) (display : Display) (s : ViewsStandAt why t v slots written)
+    → ReceiverAt t after.receiver (group ∷ slots) → IsDisplay why t (group ∷ slots) display
+    → after.says_why ≡ v.says_why → after.slot ≡ v.slot + 1 → view_kept after.shown ≡ display.view
     → now ≡ before ++ change (slot_stamp v.slot) display.whys (view_kept v.shown) display.view
     → (added : List ℕ) × (now ≡ before ++ added) × ViewsStandAt why t after (group ∷ slots) (written ++ added)
 slot_given why t v after slots written before now group display s receiver is says slot shown gave =
-    let here : change (slot_stamp v.slot) display.whys (view_kept v.shown) display.view ≡ change (slot_stamp (length s.displays)) display.whys (newest s.displays) display.view =
-    ap (λ (n : ℕ). change (slot_stamp n) display.whys (view_kept v.shown) display.view) s.slot ∙ ap (λ (x : ShownView). change (slot_stamp (length s.displays)) display.whys x display.view) s.shown in (
+    let here : change (slot_stamp v.slot) display.whys (view_kept v.shown) display.view
+    ≡ change (slot_stamp (length s.displays)) display.whys (newest s.displays) display.view =
+    ap (λ (n : ℕ). change (slot_stamp n) display.whys (view_kept v.shown) display.view) s.slot
+    ∙ ap (λ (x : ShownView). change (slot_stamp (length s.displays)) display.whys x display.view) s.shown in (
       change (slot_stamp v.slot) display.whys (view_kept v.shown) display.view,
       gave,
       record {
@@ -31,32 +36,40 @@ slot_given why t v after slots written before now group display s receiver is sa
         are = (is, s.are);
         slot = slot ∙ ap (λ (n : ℕ). n + 1) s.slot ∙ one_more s.displays display;
         shown = shown;
-        changes = ap (λ (bytes : List ℕ). written ++ bytes) here ∙ ap (λ (bytes : List ℕ). bytes ++ change (slot_stamp (length s.displays)) display.whys (newest s.displays) display.view) s.changes;
+        changes = ap (λ (bytes : List ℕ). written ++ bytes) here ∙ ap (λ (bytes : List ℕ). bytes
+            ++ change (slot_stamp (length s.displays)) display.whys (newest s.displays) display.view) s.changes;
       },
     )
   where
     one_more : (displays : List Display) (display : Display) → length displays + 1 ≡ length (display ∷ displays)
     one_more displays display = omega arith
 
-newest_view : (why : Bool) (t : Tuning) (slots : List (Option Group)) (displays : List Display) → AreDisplays why t slots displays → IsView t slots (newest displays)
+newest_view : (why : Bool) (t : Tuning) (slots : List (Option Group)) (displays : List Display)
+    → AreDisplays why t slots displays → IsView t slots (newest displays)
 newest_view why t [] [] are = view_of_none t
 newest_view why t [] (display ∷ older) are = absurd are
 newest_view why t (slot ∷ before) [] are = absurd are
 newest_view why t (slot ∷ before) (display ∷ older) are = are.0.view
 
 -- a slot has reasons, whether the lines say them or not
-some_whys : (why : Bool) (t : Tuning) (input : List (Option Group)) (view : ShownView) → IsView t input view → (whys : Option Whys) × SayWhys why t input whys
+some_whys : (why : Bool) (t : Tuning) (input : List (Option Group)) (view : ShownView) → IsView t input view
+    → (whys : Option Whys) × SayWhys why t input whys
 some_whys false t input view is = (None, refl)
 some_whys true t input view (heard, are, shows) = (Some (whys_of t heard), (whys_of t heard, (heard, are, refl), refl))
 
 -- a slot that shows what the one before it showed
-pub slot_same : (why : Bool) (t : Tuning) (v after : ViewLines) (slots : List (Option Group)) (written before : List ℕ) (group : Option Group) (s : ViewsStandAt why t v slots written)
-    → ReceiverAt t after.receiver (group ∷ slots) → ((view : ShownView) → IsView t slots view → IsView t (group ∷ slots) view)
+pub slot_same : (why : Bool) (t : Tuning) (v after : ViewLines) (slots : List (Option Group)) (written before : List ℕ)
+    (group : Option Group) (s : ViewsStandAt why t v slots written)
+    → ReceiverAt t after.receiver (group ∷ slots)
+    → ((view : ShownView) → IsView t slots view → IsView t (group ∷ slots) view)
     → after.says_why ≡ v.says_why → after.slot ≡ v.slot + 1 → view_kept after.shown ≡ view_kept v.shown
     → (added : List ℕ) × (before ≡ before ++ added) × ViewsStandAt why t after (group ∷ slots) (written ++ added)
 slot_same why t v after slots written before group s receiver stays says slot kept =
     let is = stays (newest s.displays) (newest_view why t slots s.displays s.are) in
     let (whys, say) = some_whys why t (group ∷ slots) (newest s.displays) is in
-    let none : change (slot_stamp v.slot) whys (view_kept v.shown) (newest s.displays) ≡ [] = ap (λ (view : ShownView). change (slot_stamp v.slot) whys view (newest s.displays)) s.shown ∙ no_change (slot_stamp v.slot) whys (newest s.displays) in
-    slot_given why t v after slots written before before group (record { view = newest s.displays; whys = whys }) s receiver (record { view = is; whys = say }) says slot (kept ∙ s.shown)
+    let none : change (slot_stamp v.slot) whys (view_kept v.shown) (newest s.displays)
+    ≡ [] = ap (λ (view : ShownView). change (slot_stamp v.slot) whys view (newest s.displays)) s.shown
+    ∙ no_change (slot_stamp v.slot) whys (newest s.displays) in
+    slot_given why t v after slots written before before group (record { view = newest s.displays; whys = whys }) s
+    receiver (record { view = is; whys = say }) says slot (kept ∙ s.shown)
     (sym (append-nil before) ∙ ap (λ (bytes : List ℕ). before ++ bytes) (sym none))

@@ -1,4 +1,5 @@
--- When the slots and the bytes of a log pass the audit, and what that means. Lists of slots and of lines have the newest
+-- When the slots and the bytes of a log pass the audit, and what that means. Lists of slots and of lines have the
+-- newest
 -- first. a says how the log is judged: its programme, M, K, whether it begins with its station, and where the audit
 -- stops.
 use Rattle.std.specs.Prelude.{◌≡◌, ◌+◌, ◌∷◌, ℕ, List, Option, length}

@@ -1,5 +1,6 @@
 -- From what the words were read as to what the words say.
-use Rattle.std.proofs.Common.{◌≡◌, ◌∙◌, ◌⊎◌, ℕ, [], Bool, List, Option, Some, None, Ok, Err, ap, false, true, inl, inr, refl, subst, sym}
+use Rattle.std.proofs.Common.{◌≡◌, ◌∙◌, ◌⊎◌, ℕ, [], Bool, List, Option, Some, None, Ok, Err, ap, false, true, inl, inr}
+use Rattle.std.proofs.Common.{refl, subst, sym}
 use Rattle.std.specs.Prelude.{Result, IfErr, IfOk, option_map}
 use Rattle.clap.specs.Words.{FailsBy, fault_of, kind_of}
 use Rattle.clap.specs.declared.error.Error.{Error}
@@ -9,7 +10,8 @@ use Rattle.rds_io.specs.Told.{Traffic}
 use Rattle.rds_log.specs.LogWrites.{tuned}
 use Rattle.rds_receiver.specs.Receipts.{Tuning}
 use Rattle.rds_cli.specs.Asks.{asked_by}
-use Rattle.rds_cli.specs.CommandLine.{AreAnswered, AreRefused, AskForHelp, Requested, IsPi, TakesWords, asked_in, is_shown, whole_app}
+use Rattle.rds_cli.specs.CommandLine.{AreAnswered, AreRefused, AskForHelp, Requested, IsPi, TakesWords, asked_in}
+use Rattle.rds_cli.specs.CommandLine.{is_shown, whole_app}
 use Rattle.rds_cli.specs.declared.request.Request.{Request}
 use Rattle.rds_cli.specs.declared.request.Task.{Task}
 use Rattle.rds_program.specs.Run.{NoMemory, RefusesPi, RunsRead, RunsWords, TellsError, status_of}
@@ -30,36 +32,46 @@ shown_status DisplayHelp shown = refl
 shown_status DisplayVersion shown = refl
 shown_status _ shown = absurd (let bad : false ≡ true = shown in cc)
 
-refused_status : (kind : ErrorKind) (w : Traffic) (status : ℕ) → TellsError kind w status → is_shown kind ≡ false → NoMemory w status ⊎ (status ≡ 2)
-refused_status OutOfMemory w status tells unshown = inl (record { status_is = tells.status_is; told = tells.no_memory refl })
+refused_status : (kind : ErrorKind) (w : Traffic) (status : ℕ) → TellsError kind w status → is_shown kind ≡ false
+    → NoMemory w status ⊎ (status ≡ 2)
+refused_status OutOfMemory w status tells unshown = inl
+    (record { status_is = tells.status_is; told = tells.no_memory refl })
 refused_status DisplayHelp w status tells unshown = absurd (let bad : true ≡ false = unshown in cc)
 refused_status DisplayVersion w status tells unshown = absurd (let bad : true ≡ false = unshown in cc)
 refused_status _ w status tells unshown = inr tells.status_is
 
-either_status : (kind : ErrorKind) (w : Traffic) (status : ℕ) → TellsError kind w status → NoMemory w status ⊎ ((status ≡ 0) ⊎ (status ≡ 2))
+either_status : (kind : ErrorKind) (w : Traffic) (status : ℕ) → TellsError kind w status
+    → NoMemory w status ⊎ ((status ≡ 0) ⊎ (status ≡ 2))
 either_status OutOfMemory w status tells = inl (record { status_is = tells.status_is; told = tells.no_memory refl })
 either_status DisplayHelp w status tells = inr (inl tells.status_is)
 either_status DisplayVersion w status tells = inr (inl tells.status_is)
 either_status _ w status tells = inr (inr tells.status_is)
 
-no_memory : (kind : ErrorKind) (w : Traffic) (status : ℕ) → TellsError kind w status → kind ≡ OutOfMemory → NoMemory w status
-no_memory kind w status tells memory = record { status_is = tells.status_is ∙ ap status_of memory; told = tells.no_memory memory }
+no_memory : (kind : ErrorKind) (w : Traffic) (status : ℕ) → TellsError kind w status → kind ≡ OutOfMemory
+    → NoMemory w status
+no_memory kind w status tells memory = record {
+  status_is = tells.status_is ∙ ap status_of memory;
+  told = tells.no_memory memory;
+}
 
 -- ---- what the words say
 
 -- words that were read well have no answer of `clap`
-none_answered : (test : ErrorKind → Bool) (words : List (List ℕ)) → fault_of whole_app words ≡ [] → AreAnswered test words → ⊥
+none_answered : (test : ErrorKind → Bool) (words : List (List ℕ)) → fault_of whole_app words ≡ []
+    → AreAnswered test words → ⊥
 none_answered test words none answered = let bad : false ≡ true = rw none at answered in cc
 
 one_asked : {x y : Requested} → Some x ≡ Some y → x ≡ y
 one_asked e = cc
 
-pub by_words : (words : List (List ℕ)) (read : Result (Option Request) Error) (Engine : Task → List ℕ → Tuning → Type 0) (Rests : Type 0) (w : Traffic) (status : ℕ)
+pub by_words : (words : List (List ℕ)) (read : Result (Option Request) Error) (Engine : Task → List ℕ → Tuning → Type 0)
+    (Rests : Type 0) (w : Traffic) (status : ℕ)
     → ReadAs words read → RunsRead read Engine Rests w status → RunsWords words Engine Rests w status
 by_words words (Ok (Some request)) Engine Rests w status known ran = record {
   runs = λ asked pi given is.
       let same : asked_by request ≡ asked = one_asked (known.ok ∙ given.ask) in
-      inr (subst (λ (a : Requested). Engine a.task a.lose (tuned pi a.dwell)) same (ran.runs pi (subst (λ (a : Requested). IsPi a.pi pi) (sym same) is)));
+      inr (subst (λ (a : Requested). Engine a.task a.lose (tuned pi a.dwell)) same
+      (ran.runs pi (subst (λ (a : Requested). IsPi a.pi pi) (sym same) is)));
   fault_pi = λ asked given none.
       let same : asked_by request ≡ asked = one_asked (known.ok ∙ given.ask) in
       let (refused, rests) = ran.fault_pi (subst (λ (a : Requested). (pi : ℕ) → IsPi a.pi pi → ⊥) (sym same) none) in

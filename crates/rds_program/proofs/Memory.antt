@@ -8,7 +8,8 @@ use Rattle.rds_witness.specs.declared.burst.Burst.{Burst}
 use Rattle.rds_program.specs.Run.{LossRuns, NoMemoryFor, ReaderOver}
 
 -- whatever slots were to be lost
-pub loss_memory : (lost : Option (List Burst)) (alone : Bool) (t : Tuning) (r : ReaderOver) (w : Traffic) (status : ℕ) → r.Untouched → IsCalm r.traffic → NoMemoryFor (Lose alone) w status → LossRuns lost alone t r w status
+pub loss_memory : (lost : Option (List Burst)) (alone : Bool) (t : Tuning) (r : ReaderOver) (w : Traffic) (status : ℕ)
+    → r.Untouched → IsCalm r.traffic → NoMemoryFor (Lose alone) w status → LossRuns lost alone t r w status
 loss_memory None alone t r w status rests calm memory = (inr memory, rests)
 loss_memory (Some lost) alone t r w status rests calm memory = record {
   outcome = Err Memory;

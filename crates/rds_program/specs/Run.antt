@@ -232,7 +232,8 @@ TaskRuns (Simulate programme late window alone why) lose t r w status =
     SimulationRuns why (simulated_station t programme late window alone) (Simulate programme late window alone why) r w
     status
 TaskRuns (Audit late running all) lose t r w status =
-    EngineRuns (Audits (auditing_of t late running all) (2 ^ 32) r.traffic) verdict_status (Audit late running all) w status
+    EngineRuns (Audits (auditing_of t late running all) (2 ^ 32) r.traffic) verdict_status (Audit late running all) w
+    status
 TaskRuns Witness lose t r w status = EngineRuns (Witnesses t r.traffic) witness_status Witness w status
 TaskRuns (Lose alone) lose t r w status = LossRuns (bursts_in lose) alone t r w status
 TaskRuns (Slots grain only) lose t r w status =

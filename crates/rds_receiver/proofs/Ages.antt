@@ -1,5 +1,6 @@
 -- Lemmas: the ages that the plain numbers of a receiver stand for.
-use Rattle.std.proofs.Common.{◌≡◌, ◌≢◌, ◌⊎◌, ◌+◌, ◌-◌, ◌<◌, ◌≤◌, ◌==◌, ℕ, Bool, List, [], ◌∷◌, Option, Some, None, length, refl, sym, ap, ◌∙◌, subst, inl, inr, arith}
+use Rattle.std.proofs.Common.{◌≡◌, ◌≢◌, ◌⊎◌, ◌+◌, ◌-◌, ◌<◌, ◌≤◌, ◌==◌, ℕ, Bool, List, [], ◌∷◌, Option, Some, None}
+use Rattle.std.proofs.Common.{length, refl, sym, ap, ◌∙◌, subst, inl, inr, arith}
 use Rattle.std.specs.FinMap.{empty, get, get-empty, get-insert, insert}
 use Rattle.std.specs.Ordering.{nat_cmp}
 use Rattle.std.specs.Cmp.{unsigned_tied}
@@ -53,29 +54,41 @@ none_held m rest s rests soon old = by (cases_eq s.mask 0)
     by (inr some) = absurd (old (young m rest s rests soon some))
 
 -- after a segment was taken, some are held
-pub taken_held : (mask : ℕ) (bytes : List ℕ) (cells : Cells) (a : ℕ) (b : List ℕ) → held_cells mask bytes ≡ insert cells a b → mask ≢ 0
+pub taken_held : (mask : ℕ) (bytes : List ℕ) (cells : Cells) (a : ℕ) (b : List ℕ)
+    → held_cells mask bytes ≡ insert cells a b → mask ≢ 0
 taken_held mask bytes cells a b now none =
     let same : nat_eq a a ≡ true = grind (arith, nat_tests) in
-    let here : get (insert cells a b) a ≡ Some b = get-insert nat_cmp_total cells a b a ∙ ap (λ is. cond is (Some b) (get cells a)) (unsigned_tied a a ∙ same) in
+    let here : get (insert cells a b) a ≡ Some b = get-insert nat_cmp_total cells a b a
+    ∙ ap (λ is. cond is (Some b) (get cells a)) (unsigned_tied a a ∙ same) in
     let nothing : insert cells a b ≡ empty = sym now ∙ ap (λ n. held_cells n bytes) none ∙ nothing_held bytes in
-    let there : get (insert cells a b) a ≡ None = ap (λ (c : Cells). get c a) nothing ∙ get-empty {X = List ℕ} nat_cmp a in
+    let there : get (insert cells a b) a ≡ None = ap (λ (c : Cells). get c a) nothing ∙ get-empty {X = List ℕ} nat_cmp a
+    in
     absurd (cc)
 
-pub age_taken : (m rest : ℕ) (s : StoredSegments) (cells : Cells) (a : ℕ) (b : List ℕ) → held_cells s.mask s.bytes ≡ insert cells a b → s.later ≡ m - rest → age_stored m rest s ≡ 0
-age_taken m rest s cells a b now later = (let age = age_held m rest s (taken_held s.mask s.bytes cells a b now) in omega (arith, age, later))
+pub age_taken : (m rest : ℕ) (s : StoredSegments) (cells : Cells) (a : ℕ) (b : List ℕ)
+    → held_cells s.mask s.bytes ≡ insert cells a b → s.later ≡ m - rest → age_stored m rest s ≡ 0
+age_taken m rest s cells a b now later = (let age = age_held m rest s (taken_held s.mask s.bytes cells a b now)
+    in omega (arith, age, later))
 
 -- a look: segments that it is due to are dropped
-pub looked : (m rest : ℕ) (s one after : StoredSegments) → 0 < m → AreWithin m 1 s → (0 < s.later → one ≡ s) → (s.later ≡ 0 → one ≡ record s { mask = 0 })
-    → (one.mask ≢ 0 → rest ≤ one.later) → after ≡ record one { later = one.later - rest } → AreOlder m (segments_stored m 1 s) (segments_stored m rest after)
+pub looked : (m rest : ℕ) (s one after : StoredSegments) → 0 < m → AreWithin m 1 s → (0 < s.later → one ≡ s)
+    → (s.later ≡ 0 → one ≡ record s { mask = 0 })
+    → (one.mask ≢ 0 → rest ≤ one.later) → after ≡ record one { later = one.later - rest }
+    → AreOlder m (segments_stored m 1 s) (segments_stored m rest after)
 looked m rest s one after lasts within later due soon is = by (cases_eq s.mask 0) (cases_eq s.later 0)
   where
-    same_age : AreOlder m (segments_stored m 1 s) (segments_stored m rest (record one { later = one.later - rest })) → AreOlder m (segments_stored m 1 s) (segments_stored m rest after)
+    same_age : AreOlder m (segments_stored m 1 s) (segments_stored m rest (record one { later = one.later - rest }))
+        → AreOlder m (segments_stored m 1 s) (segments_stored m rest after)
     same_age = subst (λ (x : StoredSegments). AreOlder m (segments_stored m 1 s) (segments_stored m rest x)) (sym is)
 
-    of_one : (x : StoredSegments) → one ≡ x → AreOlder m (segments_stored m 1 s) (segments_stored m rest (record x { later = x.later - rest })) → AreOlder m (segments_stored m 1 s) (segments_stored m rest after)
-    of_one x e h = same_age (subst (λ (y : StoredSegments). AreOlder m (segments_stored m 1 s) (segments_stored m rest (record y { later = y.later - rest }))) (sym e) h)
+    of_one : (x : StoredSegments) → one ≡ x
+        → AreOlder m (segments_stored m 1 s) (segments_stored m rest (record x { later = x.later - rest }))
+        → AreOlder m (segments_stored m 1 s) (segments_stored m rest after)
+    of_one x e h = same_age (subst (λ (y : StoredSegments). AreOlder m (segments_stored m 1 s)
+        (segments_stored m rest (record y { later = y.later - rest }))) (sym e) h)
 
-    by : (s.mask ≡ 0) ⊎ (s.mask ≢ 0) → (s.later ≡ 0) ⊎ (s.later ≢ 0) → AreOlder m (segments_stored m 1 s) (segments_stored m rest after)
+    by : (s.mask ≡ 0) ⊎ (s.mask ≢ 0) → (s.later ≡ 0) ⊎ (s.later ≢ 0)
+        → AreOlder m (segments_stored m 1 s) (segments_stored m rest after)
     by (inl none) (inl now) =
         let old = age_none m 1 s none in
         of_one (record s { mask = 0 }) (due now) (record {
@@ -104,35 +117,42 @@ looked m rest s one after lasts within later due soon is = by (cases_eq s.mask 0
         let new = age_held m rest (record s { later = s.later - rest }) some in
         let rests : rest ≤ s.later = subst (λ (x : StoredSegments). x.mask ≢ 0 → rest ≤ x.later) e soon some in
         let left = within some in
-        let more : age_stored m rest (record s { later = s.later - rest }) ≡ age_stored m 1 s + 1 = omega (arith, old, new, rests, left, then_) in
+        let more : age_stored m rest (record s { later = s.later - rest }) ≡ age_stored m 1 s
+        + 1 = omega (arith, old, new, rests, left, then_) in
         of_one s e (record {
           gone = λ l. absurd (omega (arith, l, old, lasts));
           older = λ _ i. record { cells = held_cells s.mask s.bytes; flag = is_set s.flag; age = more i };
           over = λ q. absurd (omega (arith, q, old, left, then_));
         })
 
-run_older_at : (m first : ℕ) (pick : Message → Option Fragment) (heard : List (Option Message)) (h now : HeldSegments) → AreOlder m h now
+run_older_at : (m first : ℕ) (pick : Message → Option Fragment) (heard : List (Option Message)) (h now : HeldSegments)
+    → AreOlder m h now
     → HoldsRun m (newest_slot first heard) (run m (newest_slot first heard) (segments pick first heard)) h
     → HoldsRun m (first + length heard) (run m (first + length heard) (segments pick first heard)) now
 run_older_at m first pick [] h now older st =
-    subst (λ (x : HeldSegments). HoldsRun m (first + length {A = Option Message} []) [] x) (sym (older.gone (omega (arith, st.age)))) record { cells = st.cells; flag = tt; age = st.age }
-run_older_at m first pick (x ∷ before) h now older st = run_older m (first + length before) (first + length (x ∷ before)) (segments pick first (x ∷ before)) h now (omega arith) older st
+    subst (λ (x : HeldSegments). HoldsRun m (first + length {A = Option Message} []) [] x)
+    (sym (older.gone (omega (arith, st.age)))) record { cells = st.cells; flag = tt; age = st.age }
+run_older_at m first pick (x ∷ before) h now older st = run_older m (first + length before)
+    (first + length (x ∷ before)) (segments pick first (x ∷ before)) h now (omega arith) older st
 
 -- a run that is not over is that of the slot before
-goes_on : (m t n : ℕ) (segs : List Segment) (h : HeldSegments) → t ≤ n → HoldsRun m n (run m n segs) h → h.age < m → run m t segs ≡ run m n segs
+goes_on : (m t n : ℕ) (segs : List Segment) (h : HeldSegments) → t ≤ n → HoldsRun m n (run m n segs) h → h.age < m
+    → run m t segs ≡ run m n segs
 goes_on m t n [] h later st young = refl
 goes_on m t n (g ∷ older) h later st young = by (cases_lt n (g.slot + m))
   where
     by : (n < g.slot + m) ⊎ (g.slot + m ≤ n) → run m t (g ∷ older) ≡ run m n (g ∷ older)
     by (inl l) = run_recent m t g older (omega (arith, l, later)) ∙ sym (run_recent m n g older l)
-    by (inr over) = (let none = subst (λ (r : List Segment). HoldsRun m n r h) (run_over m n g older over) st in absurd (omega (arith, none.age, young)))
+    by (inr over) = (let none = subst (λ (r : List Segment). HoldsRun m n r h) (run_over m n g older over) st
+        in absurd (omega (arith, none.age, young)))
 
 not_later : (first : ℕ) (heard : List (Option Message)) → newest_slot first heard ≤ first + length heard
 not_later first [] = omega arith
 not_later first (x ∷ before) = omega arith
 
 -- a receiver one slot later
-pub receiver_older : (m first : ℕ) (r after : DisplayState) (heard : List (Option Message)) → IsOlder r after → HoldsAt m (newest_slot first heard) first r heard
+pub receiver_older : (m first : ℕ) (r after : DisplayState) (heard : List (Option Message)) → IsOlder r after
+    → HoldsAt m (newest_slot first heard) first r heard
     → HoldsAt m (first + length heard) first after heard
 receiver_older m first r after heard older st = record {
   dwell = older.dwell ∙ st.dwell;
@@ -152,7 +172,8 @@ receiver_older m first r after heard older st = record {
     at_dwell : (h now : HeldSegments) → AreOlder r.dwell h now → AreOlder m h now
     at_dwell h now = subst (λ (d : ℕ). AreOlder d h now) st.dwell
 
-    one_later : (pick : Message → Option Fragment) (h now : HeldSegments) → AreOlder m h now → HoldsRun m t (run m t (segments pick first heard)) h → HoldsRun m n (run m n (segments pick first heard)) now
+    one_later : (pick : Message → Option Fragment) (h now : HeldSegments) → AreOlder m h now
+        → HoldsRun m t (run m t (segments pick first heard)) h → HoldsRun m n (run m n (segments pick first heard)) now
     one_later pick h now is holds = run_older_at m first pick heard h now is holds
 
     text : HoldsRun m n (run m n (segments text_fragment first heard)) after.text
@@ -160,23 +181,29 @@ receiver_older m first r after heard older st = record {
 
     last_slot : r.text.age < m → m ≤ after.text.age → (r.text.age + 1 < m) ⊎ (m ≤ r.text.age + 1) → r.text.age + 1 ≡ m
     last_slot l over (inl young) =
-        let now : after.text.age ≡ r.text.age + 1 = ap (λ (h : HeldSegments). h.age) ((at_dwell r.text after.text older.text).older young) in
+        let now : after.text.age ≡ r.text.age + 1 = ap (λ (h : HeldSegments). h.age)
+        ((at_dwell r.text after.text older.text).older young) in
         absurd (omega (arith, now, over, young))
     last_slot l over (inr old) = omega (arith, l, old)
 
     none : m ≤ after.text.age → (r.text.age < m) ⊎ (m ≤ r.text.age) → after.pair ≡ None
-    none over (inl l) = older.dropped (let last : r.text.age + 1 ≡ m = last_slot l over (cases_lt (r.text.age + 1) m) in last ∙ sym st.dwell)
+    none over (inl l) = older.dropped (let last : r.text.age + 1 ≡ m = last_slot l over (cases_lt (r.text.age + 1) m)
+        in last ∙ sym st.dwell)
     none over (inr old) =
-        let before : r.pair ≡ None = st.pair ∙ ap (λ (s : List Segment). pair_from first (begins_in s) heard) (is_not_held m t (segments text_fragment first heard) r.text st.text (λ l. omega (arith, l, old))) in
+        let before : r.pair ≡ None = st.pair ∙ ap (λ (s : List Segment). pair_from first (begins_in s) heard)
+        (is_not_held m t (segments text_fragment first heard) r.text st.text (λ l. omega (arith, l, old))) in
         elim older.pair [ inl same ↦ same ∙ before | inr gone ↦ gone ]
 
-    by_age : (after.text.age < m) ⊎ (m ≤ after.text.age) → after.pair ≡ pair_from first (begins_in (run m n (segments text_fragment first heard))) heard
+    by_age : (after.text.age < m) ⊎ (m ≤ after.text.age)
+        → after.pair ≡ pair_from first (begins_in (run m n (segments text_fragment first heard))) heard
     by_age (inl l) =
         older.held (subst (λ (d : ℕ). after.text.age < d) (sym st.dwell) l) ∙ st.pair
-        ∙ ap (λ (s : List Segment). pair_from first (begins_in s) heard) (goes_on m t n (segments text_fragment first heard) after.text (not_later first heard) text l)
+        ∙ ap (λ (s : List Segment). pair_from first (begins_in s) heard)
+        (goes_on m t n (segments text_fragment first heard) after.text (not_later first heard) text l)
     by_age (inr over) =
         none over (cases_lt r.text.age m)
-        ∙ ap (λ (s : List Segment). pair_from first (begins_in s) heard) (sym (is_not_held m n (segments text_fragment first heard) after.text text (λ l. omega (arith, l, over))))
+        ∙ ap (λ (s : List Segment). pair_from first (begins_in s) heard)
+        (sym (is_not_held m n (segments text_fragment first heard) after.text text (λ l. omega (arith, l, over))))
 
 -- what a look does to the segments of one service
 pub record Looks (m rest : ℕ) (s one : StoredSegments) (later : ℕ) : Type 0 where
@@ -186,18 +213,28 @@ pub record Looks (m rest : ℕ) (s one : StoredSegments) (later : ℕ) : Type 0 
   pub soon : one.mask ≢ 0 → rest ≤ one.later
   pub is : later ≡ one.later - rest
 
-look_older : (m rest : ℕ) (s one : StoredSegments) (later : ℕ) → 0 < m → Looks m rest s one later → AreOlder m (segments_stored m 1 s) (segments_stored m rest (record one { later = later }))
+look_older : (m rest : ℕ) (s one : StoredSegments) (later : ℕ) → 0 < m → Looks m rest s one later
+    → AreOlder m (segments_stored m 1 s) (segments_stored m rest (record one { later = later }))
 look_older m rest s one later lasts h =
-    looked m rest s one (record one { later = later }) lasts h.within h.stays h.due h.soon (λ i. record one { later = h.is i })
+    looked m rest s one (record one { later = later }) lasts h.within h.stays h.due h.soon
+    (λ i. record one { later = h.is i })
 
 pub no_pair : (p : StoredPair) → p.is_there ≡ 0 → pair_stored p ≡ None
 no_pair p none = cond-false (is_set p.is_there) (Some (fields_stored p)) None (ap not (eq-eqb p.is_there 0 none))
 
 -- a receiver after a look; `text` and `name` are the segments before the next look is set
-pub receiver_looked : (r : StoredDisplay) (rest : ℕ) (text name : StoredSegments) (later later_name : ℕ) (pair : StoredPair) → IsStoredDisplay (record r { rest = 1 })
+pub receiver_looked : (r : StoredDisplay) (rest : ℕ) (text name : StoredSegments) (later later_name : ℕ)
+    (pair : StoredPair) → IsStoredDisplay (record r { rest = 1 })
     → Looks r.dwell rest r.text text later → Looks r.dwell rest r.name name later_name
     → (text.mask ≢ 0 → pair_stored pair ≡ pair_stored r.pair) → (text.mask ≡ 0 → pair_stored pair ≡ None)
-    → IsOlder (display_stored (record r { rest = 1 })) (display_stored (record r { rest = rest; text = record text { later = later }; name = record name { later = later_name }; pair = pair }))
+    → IsOlder (display_stored (record r { rest = 1 }))
+    (display_stored (record r {
+      rest = rest;
+      text = record text { later = later };
+      name = record name
+          { later = later_name };
+      pair = pair;
+    }))
 receiver_looked r rest text name later later_name pair stored texts names stays gone = record {
   dwell = refl;
   text = look_older r.dwell rest r.text text later stored.soon texts;
@@ -212,28 +249,37 @@ receiver_looked r rest text name later later_name pair stored texts names stays 
     by (inl none) = inr (gone none)
     by (inr some) = inl (stays some)
 
-    by_mask : r.text.later ≢ 0 → age_stored r.dwell 1 r.text + 1 ≡ r.dwell → (r.text.mask ≡ 0) ⊎ (r.text.mask ≢ 0) → r.text.mask ≡ 0
+    by_mask : r.text.later ≢ 0 → age_stored r.dwell 1 r.text + 1 ≡ r.dwell → (r.text.mask ≡ 0) ⊎ (r.text.mask ≢ 0)
+        → r.text.mask ≡ 0
     by_mask then_ last (inl none) = none
-    by_mask then_ last (inr some) = (let age = age_held r.dwell 1 r.text some in let left = stored.text some in absurd (omega (arith, age, left, last, then_)))
+    by_mask then_ last (inr some) = (let age = age_held r.dwell 1 r.text some in let left = stored.text some
+        in absurd (omega (arith, age, left, last, then_)))
 
     none : age_stored r.dwell 1 r.text + 1 ≡ r.dwell → (r.text.later ≡ 0) ⊎ (r.text.later ≢ 0) → text.mask ≡ 0
     none last (inl now) = ap (λ (x : StoredSegments). x.mask) (texts.due now)
-    none last (inr then_) = ap (λ (x : StoredSegments). x.mask) (texts.stays (omega (arith, then_))) ∙ by_mask then_ last (cases_eq r.text.mask 0)
+    none last (inr then_) = ap (λ (x : StoredSegments). x.mask) (texts.stays (omega (arith, then_)))
+        ∙ by_mask then_ last (cases_eq r.text.mask 0)
 
 -- why the segments of a run show nothing
-pub why_stored : (m t d rest : ℕ) (segs : List Segment) (s : StoredSegments) (why : WhyNone) → 0 < rest → rest ≤ d → d ≡ m → HoldsRun m t (run m t segs) (segments_stored d rest s)
+pub why_stored : (m t d rest : ℕ) (segs : List Segment) (s : StoredSegments) (why : WhyNone) → 0 < rest → rest ≤ d
+    → d ≡ m → HoldsRun m t (run m t segs) (segments_stored d rest s)
     → (s.mask ≢ 0 → why ≡ Incomplete) → (s.mask ≡ 0 → why ≡ Dropped) → why ≡ why_of (run m t segs)
 why_stored m t d rest segs s why rests soon dwell holds held none =
     why_held m t segs (segments_stored d rest s) why (omega (arith, rests, soon, dwell)) holds
-    (λ l. held (some_held d rest s (omega (arith, l, dwell)))) (λ old. none (none_held d rest s rests soon (λ l. old (omega (arith, l, dwell)))))
+    (λ l. held (some_held d rest s (omega (arith, l, dwell))))
+    (λ old. none (none_held d rest s rests soon (λ l. old (omega (arith, l, dwell)))))
 
 -- a slot with a name segment
-pub name_taken : (m first : ℕ) (r : StoredDisplay) (name : StoredSegments) (heard : List (Option Message)) (f : Bool) (a : ℕ) (b : List ℕ)
+pub name_taken : (m first : ℕ) (r : StoredDisplay) (name : StoredSegments) (heard : List (Option Message)) (f : Bool)
+    (a : ℕ) (b : List ℕ)
     → (f ≡ is_set r.name.flag → held_cells name.mask name.bytes ≡ insert (held_cells r.name.mask r.name.bytes) a b)
-    → (f ≢ is_set r.name.flag → held_cells name.mask name.bytes ≡ insert empty a b) → is_set name.flag ≡ f → name.later ≡ r.dwell - r.rest
-    → HoldsAt m (first + length heard) first (display_stored r) heard → HoldsAt m (first + length heard) first (display_stored (record r { name = name })) (Some (Name f a b) ∷ heard)
+    → (f ≢ is_set r.name.flag → held_cells name.mask name.bytes ≡ insert empty a b) → is_set name.flag ≡ f
+    → name.later ≡ r.dwell - r.rest
+    → HoldsAt m (first + length heard) first (display_stored r) heard
+    → HoldsAt m (first + length heard) first (display_stored (record r { name = name })) (Some (Name f a b) ∷ heard)
 name_taken m first r name heard f a b same other flag later st =
-    name_heard m first (display_stored r) (display_stored (record r { name = name })) heard f a b refl refl refl refl record { same = same; other = other; flag = flag; age = age (equal_or_not f (is_set r.name.flag)) } st
+    name_heard m first (display_stored r) (display_stored (record r { name = name })) heard f a b refl refl refl refl
+    record { same = same; other = other; flag = flag; age = age (equal_or_not f (is_set r.name.flag)) } st
   where
     age : (f ≡ is_set r.name.flag) ⊎ (f ≢ is_set r.name.flag) → age_stored r.dwell r.rest name ≡ 0
     age (inl e) = age_taken r.dwell r.rest name (held_cells r.name.mask r.name.bytes) a b (same e) later

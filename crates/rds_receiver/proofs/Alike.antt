@@ -22,12 +22,21 @@ makes_itself IsWhole cells shown = (λ h. h, λ h. h)
 
 -- a display shows the same as itself
 pub alike_itself : (r : DisplayState) → ShowsAlike r r
-alike_itself r = record { text = makes_itself IsWholeText r.text.cells; name = makes_itself IsWholeName r.name.cells; pair = inl refl }
+alike_itself r = record {
+  text = makes_itself IsWholeText r.text.cells;
+  name = makes_itself IsWholeName r.name.cells;
+  pair = inl refl;
+}
 
 -- cells that make nothing whole make the same whole
-pub nothing_alike : (IsWhole : Cells → List ℕ → Type 0) (cells after : Cells) → IsShown IsWhole cells None → IsShown IsWhole after None → MakeAlike IsWhole cells after
+pub nothing_alike : (IsWhole : Cells → List ℕ → Type 0) (cells after : Cells) → IsShown IsWhole cells None
+    → IsShown IsWhole after None → MakeAlike IsWhole cells after
 nothing_alike IsWhole cells after before now None = (λ _. now, λ _. before)
-nothing_alike IsWhole cells after before now (Some x) = (λ whole. absurd (before x whole), λ whole. absurd (now x whole))
+nothing_alike IsWhole cells after before now (Some x) = (
+  λ whole. absurd (before x whole),
+  λ whole. absurd
+      (now x whole),
+)
 
 pub alike_by : (a b c : DisplayState) → ShowsAlike a b → ShowsAlike b c → ShowsAlike a c
 alike_by a b c p q = record {
@@ -40,17 +49,28 @@ alike_by a b c p q = record {
 }
 
 -- item bits and tags are the same if the pair is the same or no text is shown
-nothing_beside : (text : Option (List ℕ)) (cells : Cells) (p q : Option PairFields) → IsShown IsWholeText cells text → (q ≡ p) ⊎ IsShown IsWholeText cells None
-    → (item_of text p ≡ item_of text q) × (tag_of One text p ≡ tag_of One text q) × (tag_of Two text p ≡ tag_of Two text q)
-nothing_beside text cells p q shown (inl same) = (ap (item_of text) (sym same), ap (tag_of One text) (sym same), ap (tag_of Two text) (sym same))
+nothing_beside : (text : Option (List ℕ)) (cells : Cells) (p q : Option PairFields) → IsShown IsWholeText cells text
+    → (q ≡ p) ⊎ IsShown IsWholeText cells None
+    → (item_of text p ≡ item_of text q) × (tag_of One text p ≡ tag_of One text q)
+    × (tag_of Two text p ≡ tag_of Two text q)
+nothing_beside text cells p q shown (inl same) = (
+  ap (item_of text) (sym same),
+  ap (tag_of One text) (sym same),
+  ap
+      (tag_of Two text) (sym same),
+)
 nothing_beside None cells p q shown (inr none) = (refl, refl, refl)
 nothing_beside (Some x) cells p q shown (inr none) = absurd (none x shown)
 
-pub view_stays : (r after : DisplayState) (m first : ℕ) (heard more : List (Option Message)) (view : ShownView) → HoldsAt m (newest_slot first heard) first r heard
-    → HoldsAt m (newest_slot first more) first after more → ShowsAlike r after → ShowsView m first heard view → ShowsView m first more view
+pub view_stays : (r after : DisplayState) (m first : ℕ) (heard more : List (Option Message)) (view : ShownView)
+    → HoldsAt m (newest_slot first heard) first r heard
+    → HoldsAt m (newest_slot first more) first after more → ShowsAlike r after → ShowsView m first heard view
+    → ShowsView m first more view
 view_stays r after m first heard more view s u alike shown =
-    let text : IsShown IsWholeText r.text.cells view.text = subst (λ (c : Cells). IsShown IsWholeText c view.text) (sym (text_cells r m first heard s)) shown.text in
-    let name : IsShown IsWholeName r.name.cells view.name = subst (λ (c : Cells). IsShown IsWholeName c view.name) (sym (name_cells r m first heard s)) shown.name in
+    let text : IsShown IsWholeText r.text.cells view.text = subst (λ (c : Cells). IsShown IsWholeText c view.text)
+    (sym (text_cells r m first heard s)) shown.text in
+    let name : IsShown IsWholeName r.name.cells view.name = subst (λ (c : Cells). IsShown IsWholeName c view.name)
+    (sym (name_cells r m first heard s)) shown.name in
     let beside = nothing_beside view.text r.text.cells r.pair after.pair text alike.pair in
     let before = pair_is r m first heard s in
     let now = pair_is after m first more u in
@@ -63,11 +83,14 @@ view_stays r after m first heard more view s u alike shown =
     }
 
 -- the view of a receiver stays if its display shows the same
-pub stays_shown : (t : Tuning) (r after : ReceiverState) (input more : List (Option Group)) (view : ShownView) → ReceiverAt t r input → ReceiverAt t after more
+pub stays_shown : (t : Tuning) (r after : ReceiverState) (input more : List (Option Group)) (view : ShownView)
+    → ReceiverAt t r input → ReceiverAt t after more
     → ShowsAlike r.display after.display → IsView t input view → IsView t more view
 stays_shown t r after input more view s u alike (heard, are, shown) = (
   u.heard,
   u.are,
-  view_stays r.display after.display t.dwell t.first (counted t s.heard) (counted t u.heard) view (shows_counted t r input s) (shows_counted t after more u) alike
-      (subst (λ (h : List (Option Message)). ShowsView t.dwell t.first (counted t h) view) (same_heard t.programme input heard s.heard are s.are) shown),
+  view_stays r.display after.display t.dwell t.first (counted t s.heard) (counted t u.heard) view
+      (shows_counted t r input s) (shows_counted t after more u) alike
+      (subst (λ (h : List (Option Message)). ShowsView t.dwell t.first (counted t h) view)
+      (same_heard t.programme input heard s.heard are s.are) shown),
 )

@@ -1,5 +1,6 @@
 -- Lemmas: the run is the longest last part that is chained.
-use Rattle.std.proofs.Common.{◌≡◌, ◌⊎◌, ◌+◌, ◌<◌, ◌≤◌, ◌&&◌, ◌++◌, ℕ, Bool, true, false, nat_lt, List, [], ◌∷◌, length, refl, sym, ap, subst, inl, inr, arith}
+use Rattle.std.proofs.Common.{◌≡◌, ◌⊎◌, ◌+◌, ◌<◌, ◌≤◌, ◌&&◌, ◌++◌, ℕ, Bool, true, false, nat_lt, List, [], ◌∷◌, length}
+use Rattle.std.proofs.Common.{refl, sym, ap, subst, inl, inr, arith}
 use Rattle.std.specs.Prelude.{if◌then◌else◌}
 use Rattle.std.specs.List.{All}
 use Rattle.std.proofs.lemmas.List.Elements.{All-cons, All-head, All-nil, All-tail}
@@ -35,7 +36,8 @@ test_below a b e = by (cases_lt a b)
         absurd (cc)
 
 -- a segment for which both tests hold belongs to the run
-go_on_if : (m s : ℕ) (f : Bool) (g : Segment) (rest : List Segment) (b : Bool) → (is_same f g.fragment.flag && nat_lt s (g.slot + m)) ≡ b → GoOn m f g.slot rest
+go_on_if : (m s : ℕ) (f : Bool) (g : Segment) (rest : List Segment) (b : Bool)
+    → (is_same f g.fragment.flag && nat_lt s (g.slot + m)) ≡ b → GoOn m f g.slot rest
     → GoOn m f s (if b then g ∷ rest else [])
 go_on_if m s f g rest true e go =
     let both = and-true (is_same f g.fragment.flag) (nat_lt s (g.slot + m)) e in
@@ -46,13 +48,15 @@ go_on_if m s f g rest false e go = tt
 before_goes_on : (m s : ℕ) (f : Bool) (segs : List Segment) → GoOn m f s (run_before m f s segs)
 before_goes_on m s f [] = tt
 before_goes_on m s f (g ∷ older) =
-    go_on_if m s f g (run_before m f g.slot older) (is_same f g.fragment.flag && nat_lt s (g.slot + m)) refl (before_goes_on m g.slot f older)
+    go_on_if m s f g (run_before m f g.slot older) (is_same f g.fragment.flag && nat_lt s (g.slot + m)) refl
+    (before_goes_on m g.slot f older)
 
 flags_of : (m s : ℕ) (f : Bool) (segs : List Segment) → GoOn m f s segs → All (λ g. g.fragment.flag ≡ f) segs
 flags_of m s f [] go = All-nil (λ g. g.fragment.flag ≡ f)
 flags_of m s f (g ∷ older) go = All-cons (λ g. g.fragment.flag ≡ f) g older go.0 (flags_of m g.slot f older go.2)
 
-near_of : (m s : ℕ) (f : Bool) (segs newer older : List Segment) (g h : Segment) → GoOn m f s segs → segs ≡ newer ++ g ∷ h ∷ older → g.slot < h.slot + m
+near_of : (m s : ℕ) (f : Bool) (segs newer older : List Segment) (g h : Segment) → GoOn m f s segs
+    → segs ≡ newer ++ g ∷ h ∷ older → g.slot < h.slot + m
 near_of m s f [] [] older g h go e = absurd (cc)
 near_of m s f [] (n ∷ newer) older g h go e = absurd (cc)
 near_of m s f (x ∷ []) [] older g h go e =
@@ -77,10 +81,12 @@ none_chained m t = record {
   recent = λ g older e. absurd (cc);
 }
 
-goes_on_chained : (m t : ℕ) (g : Segment) (older : List Segment) → t < g.slot + m → GoOn m g.fragment.flag g.slot older → IsChained m t (g ∷ older)
+goes_on_chained : (m t : ℕ) (g : Segment) (older : List Segment) → t < g.slot + m → GoOn m g.fragment.flag g.slot older
+    → IsChained m t (g ∷ older)
 goes_on_chained m t g older h go = record {
   flag = g.fragment.flag;
-  one_flag = All-cons (λ x. x.fragment.flag ≡ g.fragment.flag) g older refl (flags_of m g.slot g.fragment.flag older go);
+  one_flag = All-cons (λ x. x.fragment.flag ≡ g.fragment.flag) g older refl (flags_of m g.slot g.fragment.flag older
+      go);
   near = λ newer rest a b e. near_of m t g.fragment.flag (g ∷ older) newer rest a b (refl, h, go) e;
   recent = λ a rest e.
       let same : g ≡ a = (cc) in
@@ -95,33 +101,42 @@ run_chained m t (g ∷ older) = by (cases_lt t (g.slot + m))
   where
     by : (t < g.slot + m) ⊎ (g.slot + m ≤ t) → IsChained m t (run m t (g ∷ older))
     by (inl h) =
-        subst (λ (r : List Segment). IsChained m t r) (sym (run_recent m t g older h)) (goes_on_chained m t g (run_before m g.fragment.flag g.slot older) h (before_goes_on m g.slot g.fragment.flag older))
+        subst (λ (r : List Segment). IsChained m t r) (sym (run_recent m t g older h))
+        (goes_on_chained m t g (run_before m g.fragment.flag g.slot older) h
+        (before_goes_on m g.slot g.fragment.flag older))
     by (inr h) = subst (λ (r : List Segment). IsChained m t r) (sym (run_over m t g older h)) (none_chained m t)
 
-part_if : (b : Bool) (g : Segment) (rest front : List Segment) → ((older : List Segment) × (rest ≡ front ++ older)) → (older : List Segment) × (g ∷ rest ≡ (if b then g ∷ front else []) ++ older)
+part_if : (b : Bool) (g : Segment) (rest front : List Segment) → ((older : List Segment) × (rest ≡ front ++ older))
+    → (older : List Segment) × (g ∷ rest ≡ (if b then g ∷ front else []) ++ older)
 part_if true g rest front (older, e) = (older, ap (λ (xs : List Segment). g ∷ xs) e)
 part_if false g rest front (older, e) = (g ∷ rest, refl)
 
-before_last : (m s : ℕ) (f : Bool) (segs : List Segment) → (older : List Segment) × (segs ≡ run_before m f s segs ++ older)
+before_last : (m s : ℕ) (f : Bool) (segs : List Segment)
+    → (older : List Segment) × (segs ≡ run_before m f s segs ++ older)
 before_last m s f [] = ([], refl)
-before_last m s f (g ∷ rest) = part_if (is_same f g.fragment.flag && nat_lt s (g.slot + m)) g rest (run_before m f g.slot rest) (before_last m g.slot f rest)
+before_last m s f (g ∷ rest) = part_if (is_same f g.fragment.flag && nat_lt s (g.slot + m)) g rest
+    (run_before m f g.slot rest) (before_last m g.slot f rest)
 
 -- the run is a last part of the segments
 pub run_last : (m t : ℕ) (segs : List Segment) → (older : List Segment) × (segs ≡ run m t segs ++ older)
 run_last m t [] = ([], refl)
-run_last m t (g ∷ rest) = part_if (nat_lt t (g.slot + m)) g rest (run_before m g.fragment.flag g.slot rest) (before_last m g.slot g.fragment.flag rest)
+run_last m t (g ∷ rest) = part_if (nat_lt t (g.slot + m)) g rest (run_before m g.fragment.flag g.slot rest)
+    (before_last m g.slot g.fragment.flag rest)
 
 -- the segments before the newest one of a chain belong to its run
 go_of : (m : ℕ) (f : Bool) (g : Segment) (rest : List Segment) → All (λ x. x.fragment.flag ≡ f) rest
-    → ((newer older : List Segment) (a b : Segment) → g ∷ rest ≡ newer ++ a ∷ b ∷ older → a.slot < b.slot + m) → GoOn m f g.slot rest
+    → ((newer older : List Segment) (a b : Segment) → g ∷ rest ≡ newer ++ a ∷ b ∷ older → a.slot < b.slot + m)
+    → GoOn m f g.slot rest
 go_of m f g [] flags near = tt
 go_of m f g (h ∷ rest) flags near = (
   All-head (λ x. x.fragment.flag ≡ f) h rest flags,
   near [] rest g h refl,
-  go_of m f h rest (All-tail (λ x. x.fragment.flag ≡ f) h rest flags) (λ newer older a b e. near (g ∷ newer) older a b (ap (λ (xs : List Segment). g ∷ xs) e)),
+  go_of m f h rest (All-tail (λ x. x.fragment.flag ≡ f) h rest flags) (λ newer older a b e. near (g ∷ newer) older a b
+      (ap (λ (xs : List Segment). g ∷ xs) e)),
 )
 
-before_longest : (m s : ℕ) (f : Bool) (front older : List Segment) → GoOn m f s front → length front ≤ length (run_before m f s (front ++ older))
+before_longest : (m s : ℕ) (f : Bool) (front older : List Segment) → GoOn m f s front
+    → length front ≤ length (run_before m f s (front ++ older))
 before_longest m s f [] older go = omega arith
 before_longest m s f (g ∷ front) older go =
     let rest = before_longest m g.slot f front older go.2 in
@@ -130,11 +145,14 @@ before_longest m s f (g ∷ front) older go =
     rw (same, test_true s (g.slot + m) go.1) longer
 
 -- no chained last part is longer than the run
-pub run_longest : (m t : ℕ) (front older : List Segment) → IsChained m t front → length front ≤ length (run m t (front ++ older))
+pub run_longest : (m t : ℕ) (front older : List Segment) → IsChained m t front
+    → length front ≤ length (run m t (front ++ older))
 run_longest m t [] older chain = omega arith
 run_longest m t (g ∷ front) older chain =
     let flag : g.fragment.flag ≡ chain.flag = All-head (λ x. x.fragment.flag ≡ chain.flag) g front chain.one_flag in
-    let go = go_of m chain.flag g front (All-tail (λ x. x.fragment.flag ≡ chain.flag) g front chain.one_flag) chain.near in
-    let rest = before_longest m g.slot g.fragment.flag front older (subst (λ (f : Bool). GoOn m f g.slot front) (sym flag) go) in
+    let go = go_of m chain.flag g front (All-tail (λ x. x.fragment.flag ≡ chain.flag) g front chain.one_flag) chain.near
+    in
+    let rest = before_longest m g.slot g.fragment.flag front older (subst (λ (f : Bool). GoOn m f g.slot front)
+    (sym flag) go) in
     let longer : length (g ∷ front) ≤ length (g ∷ run_before m g.fragment.flag g.slot (front ++ older)) = omega arith in
     rw (run_recent m t g (front ++ older) (chain.recent g front refl)) longer

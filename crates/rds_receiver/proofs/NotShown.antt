@@ -11,7 +11,8 @@ use Rattle.rds_receiver.specs.declared.why.WhyNone.TheVariants.{Dropped, Incompl
 use Rattle.rds_receiver.proofs.Runs.{run_over, run_recent}
 
 -- segments younger than the dwell are a run, and there is no other
-pub why_held : (m t : ℕ) (segs : List Segment) (held : HeldSegments) (why : WhyNone) → 0 < m → HoldsRun m t (run m t segs) held
+pub why_held : (m t : ℕ) (segs : List Segment) (held : HeldSegments) (why : WhyNone) → 0 < m
+    → HoldsRun m t (run m t segs) held
     → (held.age < m → why ≡ Incomplete) → ((held.age < m → ⊥) → why ≡ Dropped) → why ≡ why_of (run m t segs)
 why_held m t [] held why some holds young old = old (λ l. omega (arith, l, holds.age))
 why_held m t (g ∷ older) held why some holds young old = by (cases_lt t (g.slot + m))
@@ -19,7 +20,8 @@ why_held m t (g ∷ older) held why some holds young old = by (cases_lt t (g.slo
     by : (t < g.slot + m) ⊎ (g.slot + m ≤ t) → why ≡ why_of (run m t (g ∷ older))
     by (inl l) =
         let recent = run_recent m t g older l in
-        let now : HoldsRun m t (g ∷ run_before m g.fragment.flag g.slot older) held = subst (λ (r : List Segment). HoldsRun m t r held) recent holds in
+        let now : HoldsRun m t (g ∷ run_before m g.fragment.flag g.slot older) held = subst
+        (λ (r : List Segment). HoldsRun m t r held) recent holds in
         young (omega (arith, l, now.age)) ∙ sym (ap why_of recent)
     by (inr l) =
         let over = run_over m t g older l in

@@ -1,5 +1,6 @@
 -- Lemmas: how the pair held changes from slot to slot.
-use Rattle.std.proofs.Common.{◌≡◌, ◌+◌, ◌<◌, ◌≤◌, ◌&&◌, ℕ, Bool, true, false, nat_lt, List, [], ◌∷◌, Option, Some, None, length, refl, sym, ap, subst, ◌∙◌, arith}
+use Rattle.std.proofs.Common.{◌≡◌, ◌+◌, ◌<◌, ◌≤◌, ◌&&◌, ℕ, Bool, true, false, nat_lt, List, [], ◌∷◌, Option, Some, None}
+use Rattle.std.proofs.Common.{length, refl, sym, ap, subst, ◌∙◌, arith}
 use Rattle.std.specs.Option.{option_eq}
 use Rattle.std.specs.Prelude.{if◌then◌else◌}
 use Rattle.std.proofs.lemmas.Bool.Decides.{nat_tests}
@@ -29,19 +30,24 @@ below_if n false segs all = tt
 
 before_below : (m n s : ℕ) (f : Bool) (segs : List Segment) → AllBelow n segs → AllBelow n (run_before m f s segs)
 before_below m n s f [] all = tt
-before_below m n s f (g ∷ older) all = below_if n (is_same f g.fragment.flag && nat_lt s (g.slot + m)) (g ∷ run_before m f g.slot older) (all.0, before_below m n g.slot f older all.1)
+before_below m n s f (g ∷ older) all = below_if n (is_same f g.fragment.flag && nat_lt s (g.slot + m))
+    (g ∷ run_before m f g.slot older) (all.0, before_below m n g.slot f older all.1)
 
 pub run_below : (m n t : ℕ) (segs : List Segment) → AllBelow n segs → AllBelow n (run m t segs)
 run_below m n t [] all = tt
-run_below m n t (g ∷ older) all = below_if n (nat_lt t (g.slot + m)) (g ∷ run_before m g.fragment.flag g.slot older) (all.0, before_below m n g.slot g.fragment.flag older all.1)
+run_below m n t (g ∷ older) all = below_if n (nat_lt t (g.slot + m)) (g ∷ run_before m g.fragment.flag g.slot older)
+    (all.0, before_below m n g.slot g.fragment.flag older all.1)
 
-with_below : (slot n : ℕ) (o : Option Fragment) (segs : List Segment) → slot < n → AllBelow slot segs → AllBelow n (with_segment slot o segs)
+with_below : (slot n : ℕ) (o : Option Fragment) (segs : List Segment) → slot < n → AllBelow slot segs
+    → AllBelow n (with_segment slot o segs)
 with_below slot n None segs h all = below_later slot n segs (omega arith) all
 with_below slot n (Some p) segs h all = (h, below_later slot n segs (omega arith) all)
 
-pub segments_below : (pick : Message → Option Fragment) (first : ℕ) (heard : List (Option Message)) → AllBelow (first + length heard) (segments pick first heard)
+pub segments_below : (pick : Message → Option Fragment) (first : ℕ) (heard : List (Option Message))
+    → AllBelow (first + length heard) (segments pick first heard)
 segments_below pick first [] = tt
-segments_below pick first (x ∷ before) = with_below (first + length before) (first + length (x ∷ before)) (picked pick x) (segments pick first before) (omega arith) (segments_below pick first before)
+segments_below pick first (x ∷ before) = with_below (first + length before) (first + length (x ∷ before))
+    (picked pick x) (segments pick first before) (omega arith) (segments_below pick first before)
 
 unless_none : (says : Option Bool) → unless_contrary says None ≡ None
 unless_none None = refl
@@ -49,19 +55,23 @@ unless_none (Some true) = refl
 unless_none (Some false) = refl
 
 -- no pair came later than the newest slot
-pub none_since : (first since : ℕ) (heard : List (Option Message)) → first + length heard ≤ since + 1 → pair_since first since heard ≡ None
+pub none_since : (first since : ℕ) (heard : List (Option Message)) → first + length heard ≤ since + 1
+    → pair_since first since heard ≡ None
 none_since first since [] h = refl
 none_since first since (None ∷ before) h = none_since first since before (omega arith)
 none_since first since (Some (Tags pair) ∷ before) h =
-    rw (test_false since (first + length before) (omega arith), and_false (is_known before)) (none_since first since before (omega arith))
+    rw (test_false since (first + length before) (omega arith), and_false (is_known before))
+    (none_since first since before (omega arith))
 none_since first since (Some (Announce code bits aid) ∷ before) h =
-    ap (unless_contrary (says_of_rtplus code aid)) (none_since first since before (omega arith)) ∙ unless_none (says_of_rtplus code aid)
+    ap (unless_contrary (says_of_rtplus code aid)) (none_since first since before (omega arith))
+    ∙ unless_none (says_of_rtplus code aid)
 none_since first since (Some (Text f a b) ∷ before) h = none_since first since before (omega arith)
 none_since first since (Some (Name f a b) ∷ before) h = none_since first since before (omega arith)
 none_since first since (Some Other ∷ before) h = none_since first since before (omega arith)
 
 -- a text segment that extends the run keeps the pair
-pub pair_goes_on : (first n : ℕ) (heard : List (Option Message)) (f : Bool) (a : ℕ) (b : List ℕ) (g : Segment) (older : List Segment) → n ≡ first + length heard → g.slot ≡ n
+pub pair_goes_on : (first n : ℕ) (heard : List (Option Message)) (f : Bool) (a : ℕ) (b : List ℕ) (g : Segment)
+    (older : List Segment) → n ≡ first + length heard → g.slot ≡ n
     → pair_from first (begins_in older) heard ≡ pair_from first (begins_in (g ∷ older)) (Some (Text f a b) ∷ heard)
 pair_goes_on first n heard f a b g [] at here = sym (none_since first g.slot heard (omega arith))
 pair_goes_on first n heard f a b g (o ∷ older) at here = from (begins_in (o ∷ older))
@@ -71,41 +81,51 @@ pair_goes_on first n heard f a b g (o ∷ older) at here = from (begins_in (o �
     from (Some since) = refl
 
 -- a slot without a text, tags or an announcement keeps the pair
-pub pair_of_none : (first : ℕ) (begins : Option ℕ) (heard : List (Option Message)) → pair_from first begins heard ≡ pair_from first begins (None ∷ heard)
+pub pair_of_none : (first : ℕ) (begins : Option ℕ) (heard : List (Option Message))
+    → pair_from first begins heard ≡ pair_from first begins (None ∷ heard)
 pair_of_none first None heard = refl
 pair_of_none first (Some since) heard = refl
 
-pub pair_of_other : (first : ℕ) (begins : Option ℕ) (heard : List (Option Message)) → pair_from first begins heard ≡ pair_from first begins (Some Other ∷ heard)
+pub pair_of_other : (first : ℕ) (begins : Option ℕ) (heard : List (Option Message))
+    → pair_from first begins heard ≡ pair_from first begins (Some Other ∷ heard)
 pair_of_other first None heard = refl
 pair_of_other first (Some since) heard = refl
 
-pub pair_of_name : (first : ℕ) (begins : Option ℕ) (heard : List (Option Message)) (f : Bool) (a : ℕ) (b : List ℕ) → pair_from first begins heard ≡ pair_from first begins (Some (Name f a b) ∷ heard)
+pub pair_of_name : (first : ℕ) (begins : Option ℕ) (heard : List (Option Message)) (f : Bool) (a : ℕ) (b : List ℕ)
+    → pair_from first begins heard ≡ pair_from first begins (Some (Name f a b) ∷ heard)
 pair_of_name first None heard f a b = refl
 pair_of_name first (Some since) heard f a b = refl
 
 -- tags that come while RadioText Plus is known are held if there is a run
-tags_known : (first : ℕ) (g : Segment) (older : List Segment) (heard : List (Option Message)) (pair : PairFields) → AllBelow (first + length heard) (g ∷ older) → is_known heard ≡ true
+tags_known : (first : ℕ) (g : Segment) (older : List Segment) (heard : List (Option Message)) (pair : PairFields)
+    → AllBelow (first + length heard) (g ∷ older) → is_known heard ≡ true
     → Some pair ≡ pair_from first (begins_in (g ∷ older)) (Some (Tags pair) ∷ heard)
 tags_known first g [] heard pair all h = rw (h, test_true g.slot (first + length heard) all.0) refl
 tags_known first g (o ∷ older) heard pair all h = tags_known first o older heard pair all.1 h
 
-tags_taken_by : (m n first : ℕ) (the_run : List Segment) (heard : List (Option Message)) (pair : PairFields) (held : HeldSegments) → AllBelow (first + length heard) the_run
+tags_taken_by : (m n first : ℕ) (the_run : List Segment) (heard : List (Option Message)) (pair : PairFields)
+    (held : HeldSegments) → AllBelow (first + length heard) the_run
     → HoldsRun m n the_run held → held.age < m → is_known heard ≡ true
     → Some pair ≡ pair_from first (begins_in the_run) (Some (Tags pair) ∷ heard)
 tags_taken_by m n first [] heard pair held all st young h = absurd (omega (arith, st.age))
 tags_taken_by m n first (g ∷ older) heard pair held all st young h = tags_known first g older heard pair all h
 
-pub tags_taken : (m n first : ℕ) (pick : Message → Option Fragment) (heard : List (Option Message)) (pair : PairFields) (held : HeldSegments)
+pub tags_taken : (m n first : ℕ) (pick : Message → Option Fragment) (heard : List (Option Message)) (pair : PairFields)
+    (held : HeldSegments)
     → HoldsRun m n (run m n (segments pick first heard)) held → held.age < m → is_known heard ≡ true
     → Some pair ≡ pair_from first (begins_in (run m n (segments pick first heard))) (Some (Tags pair) ∷ heard)
 tags_taken m n first pick heard pair held st young h =
-    tags_taken_by m n first (run m n (segments pick first heard)) heard pair held (run_below m (first + length heard) n (segments pick first heard) (segments_below pick first heard)) st young h
+    tags_taken_by m n first (run m n (segments pick first heard)) heard pair held (run_below m (first + length heard) n
+    (segments pick first heard) (segments_below pick first heard)) st young h
 
 -- the test of a held pair decides whether it is this one
-pub is_held_pair : (held : Option PairFields) (pair : PairFields) → option_eq eq-value.it held (Some pair) ≡ true → held ≡ Some pair
+pub is_held_pair : (held : Option PairFields) (pair : PairFields) → option_eq eq-value.it held (Some pair) ≡ true
+    → held ≡ Some pair
 is_held_pair None pair e = absurd (grind (arith, e))
 is_held_pair (Some held) pair e = ap Some (grind (arith, e, nat_tests))
 
-pub held_pair_is : (held : Option PairFields) (pair : PairFields) → held ≡ Some pair → option_eq eq-value.it held (Some pair) ≡ true
+pub held_pair_is : (held : Option PairFields) (pair : PairFields) → held ≡ Some pair
+    → option_eq eq-value.it held (Some pair) ≡ true
 held_pair_is None pair e = absurd (cc)
-held_pair_is (Some held) pair e = (let same : held ≡ pair = cc in subst (λ (p : PairFields). option_eq eq-value.it (Some p) (Some pair) ≡ true) (sym same) (grind (arith, nat_tests)))
+held_pair_is (Some held) pair e = (let same : held ≡ pair = cc in subst (λ (p : PairFields). option_eq eq-value.it
+    (Some p) (Some pair) ≡ true) (sym same) (grind (arith, nat_tests)))

@@ -1,5 +1,6 @@
 -- Lemmas: how the run and the held segments change from slot to slot.
-use Rattle.std.proofs.Common.{◌≡◌, ◌≢◌, ◌⊎◌, ◌+◌, ◌<◌, ◌≤◌, ◌&&◌, ℕ, Bool, true, false, nat_lt, List, [], ◌∷◌, Option, refl, sym, ap, ◌∙◌, subst, inl, inr, arith}
+use Rattle.std.proofs.Common.{◌≡◌, ◌≢◌, ◌⊎◌, ◌+◌, ◌<◌, ◌≤◌, ◌&&◌, ℕ, Bool, true, false, nat_lt, List, [], ◌∷◌, Option}
+use Rattle.std.proofs.Common.{refl, sym, ap, ◌∙◌, subst, inl, inr, arith}
 use Rattle.std.specs.FinMap.{empty, insert}
 use Rattle.std.proofs.lemmas.Bool.{cases_lt}
 use Rattle.std.proofs.lemmas.Bool.Decides.{nat_tests}
@@ -37,7 +38,8 @@ equal_or_not true false = inr (λ e. (cc))
 equal_or_not false true = inr (λ e. (cc))
 
 -- the run, if the newest segment came less than m slots ago
-pub run_recent : (m t : ℕ) (g : Segment) (older : List Segment) → t < g.slot + m → run m t (g ∷ older) ≡ g ∷ run_before m g.fragment.flag g.slot older
+pub run_recent : (m t : ℕ) (g : Segment) (older : List Segment) → t < g.slot + m
+    → run m t (g ∷ older) ≡ g ∷ run_before m g.fragment.flag g.slot older
 run_recent m t g older h = rw (test_true t (g.slot + m) h) refl
 
 -- the run, if it did not: empty
@@ -45,12 +47,14 @@ pub run_over : (m t : ℕ) (g : Segment) (older : List Segment) → g.slot + m �
 run_over m t g older h = rw (test_false t (g.slot + m) h) refl
 
 -- the run in the newest slot
-pub run_at_newest : (pick : Message → Option Fragment) (m first : ℕ) (heard : List (Option Message)) → run m (newest_slot first heard) (segments pick first heard) ≡ run_at pick m first heard
+pub run_at_newest : (pick : Message → Option Fragment) (m first : ℕ) (heard : List (Option Message))
+    → run m (newest_slot first heard) (segments pick first heard) ≡ run_at pick m first heard
 run_at_newest pick m first [] = refl
 run_at_newest pick m first (x ∷ before) = refl
 
 -- before a segment with the flag of the run comes the whole run
-pub before_same : (m n : ℕ) (f : Bool) (segs : List Segment) → HasFlag (run m n segs) f → run_before m f n segs ≡ run m n segs
+pub before_same : (m n : ℕ) (f : Bool) (segs : List Segment) → HasFlag (run m n segs) f
+    → run_before m f n segs ≡ run m n segs
 before_same m n f [] h = refl
 before_same m n f (g ∷ older) h = by_age (cases_lt n (g.slot + m))
   where
@@ -58,14 +62,17 @@ before_same m n f (g ∷ older) h = by_age (cases_lt n (g.slot + m))
     by_age (inl l) =
         let flag : f ≡ g.fragment.flag = subst (λ (r : List Segment). HasFlag r f) (run_recent m n g older l) h in
         let same : is_same f g.fragment.flag ≡ true = rw flag (same_is g.fragment.flag) in
-        let kept : run_before m f n (g ∷ older) ≡ g ∷ run_before m g.fragment.flag g.slot older = rw (same, test_true n (g.slot + m) l) (ap (λ (x : Bool). g ∷ run_before m x g.slot older) flag) in
+        let kept : run_before m f n (g ∷ older) ≡ g ∷ run_before m g.fragment.flag g.slot older = rw
+        (same, test_true n (g.slot + m) l) (ap (λ (x : Bool). g ∷ run_before m x g.slot older) flag) in
         kept ∙ sym (run_recent m n g older l)
     by_age (inr l) =
-        let kept : run_before m f n (g ∷ older) ≡ [] = rw (test_false n (g.slot + m) l, and_false (is_same f g.fragment.flag)) refl in
+        let kept : run_before m f n (g ∷ older)
+        ≡ [] = rw (test_false n (g.slot + m) l, and_false (is_same f g.fragment.flag)) refl in
         kept ∙ sym (run_over m n g older l)
 
 -- before a segment with the other flag comes nothing
-pub before_other : (m n : ℕ) (f f' : Bool) (segs : List Segment) → HasFlag (run m n segs) f' → f ≢ f' → run_before m f n segs ≡ []
+pub before_other : (m n : ℕ) (f f' : Bool) (segs : List Segment) → HasFlag (run m n segs) f' → f ≢ f'
+    → run_before m f n segs ≡ []
 before_other m n f f' [] h ne = refl
 before_other m n f f' (g ∷ older) h ne = by_age (cases_lt n (g.slot + m))
   where
@@ -77,7 +84,8 @@ before_other m n f f' (g ∷ older) h ne = by_age (cases_lt n (g.slot + m))
 
 -- the held segments after one was taken
 pub held_taken : (m n : ℕ) (segs : List Segment) (p : Fragment) (h after : HeldSegments) → 0 < m
-    → (p.flag ≡ h.flag → after.cells ≡ insert h.cells p.address p.bytes) → (p.flag ≢ h.flag → after.cells ≡ insert empty p.address p.bytes)
+    → (p.flag ≡ h.flag → after.cells ≡ insert h.cells p.address p.bytes)
+    → (p.flag ≢ h.flag → after.cells ≡ insert empty p.address p.bytes)
     → after.flag ≡ p.flag → after.age ≡ 0
     → HoldsRun m n (run m n segs) h → HoldsRun m n (run m n (record { slot = n; fragment = p } ∷ segs)) after
 held_taken m n segs p h after some same other flag age st =
@@ -86,34 +94,47 @@ held_taken m n segs p h after some same other flag age st =
       flag = flag;
       age = omega arith;
     } in
-    subst (λ (r : List Segment). HoldsRun m n r after) (sym (run_recent m n record { slot = n; fragment = p } segs (omega arith))) now
+    subst (λ (r : List Segment). HoldsRun m n r after)
+    (sym (run_recent m n record { slot = n; fragment = p } segs (omega arith))) now
   where
-    by_flag : (p.flag ≡ h.flag) ⊎ (p.flag ≢ h.flag) → after.cells ≡ insert (cells_of (run_before m p.flag n segs)) p.address p.bytes
+    by_flag : (p.flag ≡ h.flag) ⊎ (p.flag ≢ h.flag)
+        → after.cells ≡ insert (cells_of (run_before m p.flag n segs)) p.address p.bytes
     by_flag (inl e) =
         let goes_on = before_same m n p.flag segs (subst (λ (f : Bool). HasFlag (run m n segs) f) (sym e) st.flag) in
-        same e ∙ ap (λ cells. insert cells p.address p.bytes) st.cells ∙ ap (λ (r : List Segment). insert (cells_of r) p.address p.bytes) (sym goes_on)
+        same e ∙ ap (λ cells. insert cells p.address p.bytes) st.cells
+        ∙ ap (λ (r : List Segment). insert (cells_of r) p.address p.bytes) (sym goes_on)
     by_flag (inr ne) =
         let begins = before_other m n p.flag h.flag segs st.flag ne in
         other ne ∙ ap (λ (r : List Segment). insert (cells_of r) p.address p.bytes) (sym begins)
 
 -- the held segments one slot later
-pub run_older : (m t n : ℕ) (segs : List Segment) (h after : HeldSegments) → n ≡ t + 1 → AreOlder m h after → HoldsRun m t (run m t segs) h → HoldsRun m n (run m n segs) after
-run_older m t n [] h after next older st = subst (λ (x : HeldSegments). HoldsRun m n [] x) (sym (older.gone (omega (arith, st.age)))) record { cells = st.cells; flag = tt; age = st.age }
+pub run_older : (m t n : ℕ) (segs : List Segment) (h after : HeldSegments) → n ≡ t + 1 → AreOlder m h after
+    → HoldsRun m t (run m t segs) h → HoldsRun m n (run m n segs) after
+run_older m t n [] h after next older st = subst (λ (x : HeldSegments). HoldsRun m n [] x)
+    (sym (older.gone (omega (arith, st.age)))) record { cells = st.cells; flag = tt; age = st.age }
 run_older m t n (g ∷ earlier) h after next older st = by_age (cases_lt t (g.slot + m))
   where
-    by_next : (t < g.slot + m) → HoldsRun m t (g ∷ run_before m g.fragment.flag g.slot earlier) h → (n < g.slot + m) ⊎ (g.slot + m ≤ n) → HoldsRun m n (run m n (g ∷ earlier)) after
+    by_next : (t < g.slot + m) → HoldsRun m t (g ∷ run_before m g.fragment.flag g.slot earlier) h
+        → (n < g.slot + m) ⊎ (g.slot + m ≤ n) → HoldsRun m n (run m n (g ∷ earlier)) after
     by_next l now (inl soon) =
-        let then_h : HoldsRun m n (g ∷ run_before m g.fragment.flag g.slot earlier) (record h { age = h.age + 1 }) = record { cells = now.cells; flag = now.flag; age = omega (arith, now.age, next) } in
+        let then_h : HoldsRun m n (g ∷ run_before m g.fragment.flag g.slot earlier)
+        (record h { age = h.age + 1 }) = record
+        { cells = now.cells; flag = now.flag; age = omega (arith, now.age, next) } in
         subst (λ (r : List Segment). HoldsRun m n r after) (sym (run_recent m n g earlier soon))
-        (subst (λ (x : HeldSegments). HoldsRun m n (g ∷ run_before m g.fragment.flag g.slot earlier) x) (sym (older.older (omega (arith, now.age, next, soon)))) then_h)
+        (subst (λ (x : HeldSegments). HoldsRun m n (g ∷ run_before m g.fragment.flag g.slot earlier) x)
+        (sym (older.older (omega (arith, now.age, next, soon)))) then_h)
     by_next l now (inr over) =
-        let then_h : HoldsRun m n [] (record h { cells = empty; age = m }) = record { cells = refl; flag = tt; age = refl } in
+        let then_h : HoldsRun m n [] (record h { cells = empty; age = m }) = record
+        { cells = refl; flag = tt; age = refl } in
         subst (λ (r : List Segment). HoldsRun m n r after) (sym (run_over m n g earlier over))
-        (subst (λ (x : HeldSegments). HoldsRun m n [] x) (sym (older.over (omega (arith, now.age, next, over, l)))) then_h)
+        (subst (λ (x : HeldSegments). HoldsRun m n [] x) (sym (older.over (omega (arith, now.age, next, over, l))))
+        then_h)
 
     by_age : (t < g.slot + m) ⊎ (g.slot + m ≤ t) → HoldsRun m n (run m n (g ∷ earlier)) after
-    by_age (inl l) = by_next l (subst (λ (r : List Segment). HoldsRun m t r h) (run_recent m t g earlier l) st) (cases_lt n (g.slot + m))
+    by_age (inl l) = by_next l (subst (λ (r : List Segment). HoldsRun m t r h) (run_recent m t g earlier l) st)
+        (cases_lt n (g.slot + m))
     by_age (inr l) =
         let now = subst (λ (r : List Segment). HoldsRun m t r h) (run_over m t g earlier l) st in
         subst (λ (r : List Segment). HoldsRun m n r after) (sym (run_over m n g earlier (omega (arith, l, next))))
-        (subst (λ (x : HeldSegments). HoldsRun m n [] x) (sym (older.gone (omega (arith, now.age)))) record { cells = now.cells; flag = tt; age = now.age })
+        (subst (λ (x : HeldSegments). HoldsRun m n [] x) (sym (older.gone (omega (arith, now.age)))) record
+        { cells = now.cells; flag = tt; age = now.age })

@@ -17,28 +17,41 @@ use Rattle.rds_receiver.specs.ConfirmedLemmas.{newest_counted}
 use Rattle.rds_receiver.proofs.Runs.{run_at_newest}
 
 -- the cells and the pair held are those of the definition
-pub text_cells : (r : DisplayState) → WhatItShows r (λ m first heard. r.text.cells ≡ cells_of (run_at text_fragment m first heard))
-text_cells r m first heard s = s.text.cells ∙ ap (λ (xs : List Segment). cells_of xs) (run_at_newest text_fragment m first heard)
+pub text_cells : (r : DisplayState)
+    → WhatItShows r (λ m first heard. r.text.cells ≡ cells_of (run_at text_fragment m first heard))
+text_cells r m first heard s = s.text.cells ∙ ap (λ (xs : List Segment). cells_of xs) (run_at_newest text_fragment m
+    first heard)
 
-pub name_cells : (r : DisplayState) → WhatItShows r (λ m first heard. r.name.cells ≡ cells_of (run_at name_fragment m first heard))
-name_cells r m first heard s = s.name.cells ∙ ap (λ (xs : List Segment). cells_of xs) (run_at_newest name_fragment m first heard)
+pub name_cells : (r : DisplayState)
+    → WhatItShows r (λ m first heard. r.name.cells ≡ cells_of (run_at name_fragment m first heard))
+name_cells r m first heard s = s.name.cells ∙ ap (λ (xs : List Segment). cells_of xs) (run_at_newest name_fragment m
+    first heard)
 
 pub pair_is : (r : DisplayState) → WhatItShows r (λ m first heard. r.pair ≡ pair_held m first heard)
-pair_is r m first heard s = s.pair ∙ ap (λ (xs : List Segment). pair_from first (begins_in xs) heard) (run_at_newest text_fragment m first heard)
+pair_is r m first heard s = s.pair ∙ ap (λ (xs : List Segment). pair_from first (begins_in xs) heard)
+    (run_at_newest text_fragment m first heard)
 
 -- so the value that the cells make whole is shown
-pub text_shown : (r : DisplayState) (shown : Option (List ℕ)) → IsShown IsWholeText r.text.cells shown → WhatItShows r (λ m first heard. IsTextShown m first heard shown)
-text_shown r shown is m first heard s = subst (λ (cells : Cells). IsShown IsWholeText cells shown) (text_cells r m first heard s) is
+pub text_shown : (r : DisplayState) (shown : Option (List ℕ)) → IsShown IsWholeText r.text.cells shown
+    → WhatItShows r (λ m first heard. IsTextShown m first heard shown)
+text_shown r shown is m first heard s = subst (λ (cells : Cells). IsShown IsWholeText cells shown)
+    (text_cells r m first heard s) is
 
-pub name_shown : (r : DisplayState) (shown : Option (List ℕ)) → IsShown IsWholeName r.name.cells shown → WhatItShows r (λ m first heard. IsNameShown m first heard shown)
-name_shown r shown is m first heard s = subst (λ (cells : Cells). IsShown IsWholeName cells shown) (name_cells r m first heard s) is
+pub name_shown : (r : DisplayState) (shown : Option (List ℕ)) → IsShown IsWholeName r.name.cells shown
+    → WhatItShows r (λ m first heard. IsNameShown m first heard shown)
+name_shown r shown is m first heard s = subst (λ (cells : Cells). IsShown IsWholeName cells shown)
+    (name_cells r m first heard s) is
 
 -- the display of a receiver that stands at an input follows from what counts of it
-pub shows_counted : (t : Tuning) (r : ReceiverState) (input : List (Option Group)) (s : ReceiverAt t r input) → HoldsAt t.dwell (newest_slot t.first (counted t s.heard)) t.first r.display (counted t s.heard)
-shows_counted t r input s = subst (λ (n : ℕ). HoldsAt t.dwell n t.first r.display (counted t s.heard)) (sym (newest_counted t.window t.dwell t.first s.heard)) s.holds.display
+pub shows_counted : (t : Tuning) (r : ReceiverState) (input : List (Option Group)) (s : ReceiverAt t r input)
+    → HoldsAt t.dwell (newest_slot t.first (counted t s.heard)) t.first r.display (counted t s.heard)
+shows_counted t r input s = subst (λ (n : ℕ). HoldsAt t.dwell n t.first r.display (counted t s.heard))
+    (sym (newest_counted t.window t.dwell t.first s.heard)) s.holds.display
 
 -- what holds of each list that the display may follow from holds of what counts of each list heard
-pub what_it_heard : (r : ReceiverState) (Holds : ℕ → ℕ → List (Option Message) → Type 0) → WhatItShows r.display Holds → WhatItHeard r Holds
+pub what_it_heard : (r : ReceiverState) (Holds : ℕ → ℕ → List (Option Message) → Type 0) → WhatItShows r.display Holds
+    → WhatItHeard r Holds
 what_it_heard r Holds holds t input s heard are =
-    subst (λ (h : List (Option Message)). Holds t.dwell t.first (counted t h)) (same_heard t.programme input s.heard heard s.are are)
+    subst (λ (h : List (Option Message)). Holds t.dwell t.first (counted t h)) (same_heard t.programme input s.heard
+    heard s.are are)
     (holds t.dwell t.first (counted t s.heard) (shows_counted t r input s))

@@ -1,5 +1,6 @@
 -- Lemmas: the state of a receiver follows from its input after each slot.
-use Rattle.std.proofs.Common.{◌≡◌, ◌≢◌, ◌⊎◌, ◌+◌, ◌<◌, ℕ, Bool, true, List, ◌∷◌, Option, Some, None, length, refl, sym, ap, ◌∙◌, subst, inl, inr, arith}
+use Rattle.std.proofs.Common.{◌≡◌, ◌≢◌, ◌⊎◌, ◌+◌, ◌<◌, ℕ, Bool, true, List, ◌∷◌, Option, Some, None, length, refl, sym}
+use Rattle.std.proofs.Common.{ap, ◌∙◌, subst, inl, inr, arith}
 use Rattle.std.specs.FinMap.{empty, insert}
 use Rattle.rds_fields.specs.declared.message.Message.{Message}
 use Rattle.rds_fields.specs.declared.message.Message.TheVariants.{Name, Tags, Text}
@@ -13,13 +14,15 @@ use Rattle.rds_receiver.proofs.Runs.{before_other, before_same, equal_or_not, he
 use Rattle.rds_receiver.proofs.Pairs.{none_since, pair_goes_on, pair_of_name, pair_of_none, tags_taken}
 
 -- a slot in which nothing is heard
-pub nothing_heard : (m first : ℕ) (r : DisplayState) (heard : List (Option Message)) → HoldsAt m (first + length heard) first r heard → HoldsAt m (first + length heard) first r (None ∷ heard)
+pub nothing_heard : (m first : ℕ) (r : DisplayState) (heard : List (Option Message))
+    → HoldsAt m (first + length heard) first r heard → HoldsAt m (first + length heard) first r (None ∷ heard)
 nothing_heard m first r heard st = record {
   dwell = st.dwell;
   lasts = st.lasts;
   text = st.text;
   name = st.name;
-  pair = st.pair ∙ pair_of_none first (begins_in (run m (first + length heard) (segments text_fragment first heard))) heard;
+  pair = st.pair ∙ pair_of_none first (begins_in (run m (first + length heard) (segments text_fragment first heard)))
+      heard;
   known = st.known;
 }
 
@@ -32,15 +35,19 @@ pub record Takes (p : Fragment) (h after : HeldSegments) : Type 0 where
 
 -- a slot with a text segment
 pub text_heard : (m first : ℕ) (r after : DisplayState) (heard : List (Option Message)) (f : Bool) (a : ℕ) (b : List ℕ)
-    → after.dwell ≡ r.dwell → after.is_known ≡ r.is_known → after.name ≡ r.name → Takes record { flag = f; address = a; bytes = b } r.text after.text
+    → after.dwell ≡ r.dwell → after.is_known ≡ r.is_known → after.name ≡ r.name
+    → Takes record { flag = f; address = a; bytes = b } r.text after.text
     → (f ≡ r.text.flag → after.pair ≡ r.pair) → (f ≢ r.text.flag → after.pair ≡ None)
-    → HoldsAt m (first + length heard) first r heard → HoldsAt m (first + length heard) first after (Some (Text f a b) ∷ heard)
+    → HoldsAt m (first + length heard) first r heard
+    → HoldsAt m (first + length heard) first after (Some (Text f a b) ∷ heard)
 text_heard m first r after heard f a b dwell known name takes stays gone st = record {
   dwell = dwell ∙ st.dwell;
   lasts = st.lasts;
   text = held_taken m n segs p r.text after.text st.lasts takes.same takes.other takes.flag takes.age st.text;
-  name = subst (λ (h : HeldSegments). HoldsRun m (first + length heard) (run m (first + length heard) (segments name_fragment first heard)) h) (sym name) st.name;
-  pair = by_flag (equal_or_not f r.text.flag) ∙ ap (λ (x : List Segment). pair_from first (begins_in x) (Some (Text f a b) ∷ heard)) (sym (run_recent m n g segs (omega (arith, st.lasts))));
+  name = subst (λ (h : HeldSegments). HoldsRun m (first + length heard)
+      (run m (first + length heard) (segments name_fragment first heard)) h) (sym name) st.name;
+  pair = by_flag (equal_or_not f r.text.flag) ∙ ap (λ (x : List Segment). pair_from first (begins_in x)
+      (Some (Text f a b) ∷ heard)) (sym (run_recent m n g segs (omega (arith, st.lasts))));
   known = known ∙ st.known;
 }
   where
@@ -56,7 +63,8 @@ text_heard m first r after heard f a b dwell known name takes stays gone st = re
     g : Segment
     g = record { slot = n; fragment = p }
 
-    by_flag : (f ≡ r.text.flag) ⊎ (f ≢ r.text.flag) → after.pair ≡ pair_from first (begins_in (g ∷ run_before m f n segs)) (Some (Text f a b) ∷ heard)
+    by_flag : (f ≡ r.text.flag) ⊎ (f ≢ r.text.flag)
+        → after.pair ≡ pair_from first (begins_in (g ∷ run_before m f n segs)) (Some (Text f a b) ∷ heard)
     by_flag (inl e) =
         let goes_on = before_same m n f segs (subst (λ (x : Bool). HasFlag (run m n segs) x) (sym e) st.text.flag) in
         stays e ∙ st.pair ∙ pair_goes_on first n heard f a b g (run m n segs) refl refl
@@ -68,20 +76,28 @@ text_heard m first r after heard f a b dwell known name takes stays gone st = re
 
 -- a slot with a name segment
 pub name_heard : (m first : ℕ) (r after : DisplayState) (heard : List (Option Message)) (f : Bool) (a : ℕ) (b : List ℕ)
-    → after.dwell ≡ r.dwell → after.is_known ≡ r.is_known → after.text ≡ r.text → after.pair ≡ r.pair → Takes record { flag = f; address = a; bytes = b } r.name after.name
-    → HoldsAt m (first + length heard) first r heard → HoldsAt m (first + length heard) first after (Some (Name f a b) ∷ heard)
+    → after.dwell ≡ r.dwell → after.is_known ≡ r.is_known → after.text ≡ r.text → after.pair ≡ r.pair
+    → Takes record { flag = f; address = a; bytes = b } r.name after.name
+    → HoldsAt m (first + length heard) first r heard
+    → HoldsAt m (first + length heard) first after (Some (Name f a b) ∷ heard)
 name_heard m first r after heard f a b dwell known text pair takes st = record {
   dwell = dwell ∙ st.dwell;
   lasts = st.lasts;
-  text = subst (λ (h : HeldSegments). HoldsRun m (first + length heard) (run m (first + length heard) (segments text_fragment first heard)) h) (sym text) st.text;
-  name = held_taken m (first + length heard) (segments name_fragment first heard) record { flag = f; address = a; bytes = b } r.name after.name st.lasts takes.same takes.other takes.flag takes.age st.name;
-  pair = pair ∙ st.pair ∙ pair_of_name first (begins_in (run m (first + length heard) (segments text_fragment first heard))) heard f a b;
+  text = subst (λ (h : HeldSegments). HoldsRun m (first + length heard)
+      (run m (first + length heard) (segments text_fragment first heard)) h) (sym text) st.text;
+  name = held_taken m (first + length heard) (segments name_fragment first heard) record
+      { flag = f; address = a; bytes = b } r.name after.name st.lasts takes.same takes.other takes.flag takes.age
+      st.name;
+  pair = pair ∙ st.pair ∙ pair_of_name first (begins_in
+      (run m (first + length heard) (segments text_fragment first heard))) heard f a b;
   known = known ∙ st.known;
 }
 
 -- a slot with tags that are held
-pub tags_heard : (m first : ℕ) (r : DisplayState) (heard : List (Option Message)) (pair : PairFields) → r.is_known ≡ true → r.text.age < m
-    → HoldsAt m (first + length heard) first r heard → HoldsAt m (first + length heard) first record r { pair = Some pair } (Some (Tags pair) ∷ heard)
+pub tags_heard : (m first : ℕ) (r : DisplayState) (heard : List (Option Message)) (pair : PairFields)
+    → r.is_known ≡ true → r.text.age < m
+    → HoldsAt m (first + length heard) first r heard
+    → HoldsAt m (first + length heard) first record r { pair = Some pair } (Some (Tags pair) ∷ heard)
 tags_heard m first r heard pair known young st = record {
   dwell = st.dwell;
   lasts = st.lasts;
@@ -92,20 +108,30 @@ tags_heard m first r heard pair known young st = record {
 }
 
 -- a slot with a text segment, after the tags of the other flag were dropped
-pub text_heard_by : (m first : ℕ) (r between after : DisplayState) (heard : List (Option Message)) (f : Bool) (a : ℕ) (b : List ℕ)
-    → (f ≡ r.text.flag → between ≡ r) → (f ≢ r.text.flag → between ≡ record r { pair = None }) → Takes record { flag = f; address = a; bytes = b } between.text after.text
+pub text_heard_by : (m first : ℕ) (r between after : DisplayState) (heard : List (Option Message)) (f : Bool) (a : ℕ)
+    (b : List ℕ)
+    → (f ≡ r.text.flag → between ≡ r) → (f ≢ r.text.flag → between ≡ record r { pair = None })
+    → Takes record { flag = f; address = a; bytes = b } between.text after.text
     → after ≡ record between { text = after.text }
-    → HoldsAt m (first + length heard) first r heard → HoldsAt m (first + length heard) first after (Some (Text f a b) ∷ heard)
+    → HoldsAt m (first + length heard) first r heard
+    → HoldsAt m (first + length heard) first after (Some (Text f a b) ∷ heard)
 text_heard_by m first r between after heard f a b same other takes is st = by (equal_or_not f r.text.flag)
   where
-    by : (f ≡ r.text.flag) ⊎ (f ≢ r.text.flag) → HoldsAt m (first + length heard) first after (Some (Text f a b) ∷ heard)
+    by : (f ≡ r.text.flag) ⊎ (f ≢ r.text.flag)
+        → HoldsAt m (first + length heard) first after (Some (Text f a b) ∷ heard)
     by (inl e) =
-        let now : after ≡ record r { text = after.text } = is ∙ ap (λ (x : DisplayState). record x { text = after.text }) (same e) in
-        let took = subst (λ (x : DisplayState). Takes record { flag = f; address = a; bytes = b } x.text after.text) (same e) takes in
-        text_heard m first r after heard f a b (ap (λ (x : DisplayState). x.dwell) now) (ap (λ (x : DisplayState). x.is_known) now) (ap (λ (x : DisplayState). x.name) now)
+        let now : after ≡ record r { text = after.text } = is
+        ∙ ap (λ (x : DisplayState). record x { text = after.text }) (same e) in
+        let took = subst (λ (x : DisplayState). Takes record { flag = f; address = a; bytes = b } x.text after.text)
+        (same e) takes in
+        text_heard m first r after heard f a b (ap (λ (x : DisplayState). x.dwell) now)
+        (ap (λ (x : DisplayState). x.is_known) now) (ap (λ (x : DisplayState). x.name) now)
         took (λ _. ap (λ (x : DisplayState). x.pair) now) (λ ne. absurd (ne e)) st
     by (inr ne) =
-        let now : after ≡ record r { text = after.text; pair = None } = is ∙ ap (λ (x : DisplayState). record x { text = after.text }) (other ne) in
-        let took = subst (λ (x : DisplayState). Takes record { flag = f; address = a; bytes = b } x.text after.text) (other ne) takes in
-        text_heard m first r after heard f a b (ap (λ (x : DisplayState). x.dwell) now) (ap (λ (x : DisplayState). x.is_known) now) (ap (λ (x : DisplayState). x.name) now)
+        let now : after ≡ record r { text = after.text; pair = None } = is
+        ∙ ap (λ (x : DisplayState). record x { text = after.text }) (other ne) in
+        let took = subst (λ (x : DisplayState). Takes record { flag = f; address = a; bytes = b } x.text after.text)
+        (other ne) takes in
+        text_heard m first r after heard f a b (ap (λ (x : DisplayState). x.dwell) now)
+        (ap (λ (x : DisplayState). x.is_known) now) (ap (λ (x : DisplayState). x.name) now)
         took (λ e. absurd (ne e)) (λ _. ap (λ (x : DisplayState). x.pair) now) st

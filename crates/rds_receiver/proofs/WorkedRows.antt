@@ -17,7 +17,11 @@ abbrev Heard : Type 0
 Heard = List (Option Message)
 
 abbrev segment : ℕ → Bool → ℕ → List ℕ → Segment
-segment slot flag address bytes = record { slot = slot; fragment = record { flag = flag; address = address; bytes = bytes } }
+segment slot flag address bytes = record {
+  slot = slot;
+  fragment = record
+      { flag = flag; address = address; bytes = bytes };
+}
 
 abbrev hi : List ℕ
 hi = 72 ∷ 73 ∷ 13 ∷ 32 ∷ []
@@ -39,24 +43,30 @@ one_over : run_at text_fragment 4 0 (None ∷ None ∷ None ∷ None ∷ Some (T
 one_over = refl
 
 -- silence, dwell and age: the only segment comes in slot 4 and is held up to slot 7
-held_to_7 : run_at text_fragment 4 0 (None ∷ None ∷ None ∷ Some (Text false 0 hi) ∷ None ∷ None ∷ None ∷ None ∷ []) ≡ segment 4 false 0 hi ∷ []
+held_to_7 : run_at text_fragment 4 0 (None ∷ None ∷ None ∷ Some (Text false 0 hi) ∷ None ∷ None ∷ None ∷ None ∷ [])
+    ≡ segment 4 false 0 hi ∷ []
 held_to_7 = refl
 
-over_in_8 : run_at text_fragment 4 0 (None ∷ None ∷ None ∷ None ∷ Some (Text false 0 hi) ∷ None ∷ None ∷ None ∷ None ∷ []) ≡ []
+over_in_8 : run_at text_fragment 4 0 (None ∷ None ∷ None ∷ None ∷ Some (Text false 0 hi) ∷ None ∷ None ∷ None ∷ None
+    ∷ []) ≡ []
 over_in_8 = refl
 
 -- a segment that comes in slot 4 is alone in its run
-second_too_late : run_at text_fragment 4 0 (Some (Text false 1 hi) ∷ None ∷ None ∷ None ∷ Some (Text false 0 hi) ∷ []) ≡ segment 4 false 1 hi ∷ []
+second_too_late : run_at text_fragment 4 0 (Some (Text false 1 hi) ∷ None ∷ None ∷ None ∷ Some (Text false 0 hi) ∷ [])
+    ≡ segment 4 false 1 hi ∷ []
 second_too_late = refl
 
 -- two segments of the first song in slots 6 and 8, and the third song in slots 20, 22 and 24
 abbrev skipped : Heard
 skipped =
-    Some (Text false 2 (78 ∷ 71 ∷ 13 ∷ 32 ∷ [])) ∷ None ∷ Some (Text false 1 (68 ∷ 32 ∷ 83 ∷ 79 ∷ [])) ∷ None ∷ Some (Text false 0 (84 ∷ 72 ∷ 73 ∷ 82 ∷ [])) ∷ None ∷ None ∷ None ∷ None ∷ None
-    ∷ None ∷ None ∷ None ∷ None ∷ None ∷ None ∷ Some (Text false 2 (78 ∷ 71 ∷ 13 ∷ 32 ∷ [])) ∷ None ∷ Some (Text false 1 (84 ∷ 32 ∷ 83 ∷ 79 ∷ [])) ∷ None ∷ None ∷ None ∷ None ∷ None ∷ None ∷ []
+    Some (Text false 2 (78 ∷ 71 ∷ 13 ∷ 32 ∷ [])) ∷ None ∷ Some (Text false 1 (68 ∷ 32 ∷ 83 ∷ 79 ∷ [])) ∷ None
+    ∷ Some (Text false 0 (84 ∷ 72 ∷ 73 ∷ 82 ∷ [])) ∷ None ∷ None ∷ None ∷ None ∷ None
+    ∷ None ∷ None ∷ None ∷ None ∷ None ∷ None ∷ Some (Text false 2 (78 ∷ 71 ∷ 13 ∷ 32 ∷ [])) ∷ None
+    ∷ Some (Text false 1 (84 ∷ 32 ∷ 83 ∷ 79 ∷ [])) ∷ None ∷ None ∷ None ∷ None ∷ None ∷ None ∷ []
 
 skipped_run : run_at text_fragment 4 0 skipped
-    ≡ segment 24 false 2 (78 ∷ 71 ∷ 13 ∷ 32 ∷ []) ∷ segment 22 false 1 (68 ∷ 32 ∷ 83 ∷ 79 ∷ []) ∷ segment 20 false 0 (84 ∷ 72 ∷ 73 ∷ 82 ∷ []) ∷ []
+    ≡ segment 24 false 2 (78 ∷ 71 ∷ 13 ∷ 32 ∷ []) ∷ segment 22 false 1 (68 ∷ 32 ∷ 83 ∷ 79 ∷ []) ∷ segment 20 false 0
+    (84 ∷ 72 ∷ 73 ∷ 82 ∷ []) ∷ []
 skipped_run = refl
 
 skipped_cells : cells_of (run_at text_fragment 4 0 skipped)
@@ -79,7 +89,8 @@ contrary_pair = refl
 -- the encoder that keeps none of the rules, up to slots 5, 6, 8, 9 and 12
 abbrev foreign_5 : Heard
 foreign_5 =
-    Some (Tags title) ∷ Some (Announce 22 0 0x4BD7) ∷ Some (Tags title) ∷ Some (Text false 0 hi) ∷ Some (Text false 1 (13 ∷ 32 ∷ 32 ∷ 32 ∷ [])) ∷ Some (Text false 0 (65 ∷ 66 ∷ 66 ∷ 65 ∷ [])) ∷ []
+    Some (Tags title) ∷ Some (Announce 22 0 0x4BD7) ∷ Some (Tags title) ∷ Some (Text false 0 hi)
+    ∷ Some (Text false 1 (13 ∷ 32 ∷ 32 ∷ 32 ∷ [])) ∷ Some (Text false 0 (65 ∷ 66 ∷ 66 ∷ 65 ∷ [])) ∷ []
 
 abbrev foreign_6 : Heard
 foreign_6 = Some (Text true 0 (89 ∷ 79 ∷ 13 ∷ 32 ∷ [])) ∷ foreign_5
@@ -92,7 +103,8 @@ foreign_9 = Some (Announce 20 0 0x4BD7) ∷ foreign_8
 
 abbrev foreign_12 : Heard
 foreign_12 =
-    Some (Name true 0 (74 ∷ 13 ∷ 90 ∷ 90 ∷ [])) ∷ Some (Name true 1 (32 ∷ 70 ∷ 77 ∷ 32 ∷ [])) ∷ Some (Name false 0 (74 ∷ 13 ∷ 90 ∷ 90 ∷ [])) ∷ foreign_9
+    Some (Name true 0 (74 ∷ 13 ∷ 90 ∷ 90 ∷ [])) ∷ Some (Name true 1 (32 ∷ 70 ∷ 77 ∷ 32 ∷ []))
+    ∷ Some (Name false 0 (74 ∷ 13 ∷ 90 ∷ 90 ∷ [])) ∷ foreign_9
 
 foreign_5_begins : begins_in (run_at text_fragment 4 0 foreign_5) ≡ Some 0
 foreign_5_begins = refl
@@ -121,36 +133,44 @@ foreign_9_known = refl
 foreign_12_text : run_at text_fragment 4 0 foreign_12 ≡ []
 foreign_12_text = refl
 
-foreign_12_name : run_at name_fragment 4 0 foreign_12 ≡ segment 12 true 0 (74 ∷ 13 ∷ 90 ∷ 90 ∷ []) ∷ segment 11 true 1 (32 ∷ 70 ∷ 77 ∷ 32 ∷ []) ∷ []
+foreign_12_name : run_at name_fragment 4 0 foreign_12 ≡ segment 12 true 0 (74 ∷ 13 ∷ 90 ∷ 90 ∷ [])
+    ∷ segment 11 true 1 (32 ∷ 70 ∷ 77 ∷ 32 ∷ []) ∷ []
 foreign_12_name = refl
 
 -- heard twice: in a window of 4 slots the segment of slot 0 is confirmed in slot 3, not in slot 4
-again_in_3 : confirmed 4 4 0 (Some (Text false 0 hi) ∷ None ∷ None ∷ Some (Text false 0 hi) ∷ []) ≡ Some (Text false 0 hi) ∷ None ∷ None ∷ None ∷ []
+again_in_3 : confirmed 4 4 0 (Some (Text false 0 hi) ∷ None ∷ None ∷ Some (Text false 0 hi) ∷ [])
+    ≡ Some (Text false 0 hi) ∷ None ∷ None ∷ None ∷ []
 again_in_3 = refl
 
-again_in_4 : confirmed 4 4 0 (Some (Text false 0 hi) ∷ None ∷ None ∷ None ∷ Some (Text false 0 hi) ∷ []) ≡ None ∷ None ∷ None ∷ None ∷ None ∷ []
+again_in_4 : confirmed 4 4 0 (Some (Text false 0 hi) ∷ None ∷ None ∷ None ∷ Some (Text false 0 hi) ∷ []) ≡ None ∷ None
+    ∷ None ∷ None ∷ None ∷ []
 again_in_4 = refl
 
 -- other bytes at its address in slot 1 delay it to slot 3; another flag does too
 abbrev ho : List ℕ
 ho = 72 ∷ 79 ∷ 13 ∷ 32 ∷ []
 
-delayed : confirmed 4 4 0 (Some (Text false 0 hi) ∷ Some (Text false 0 hi) ∷ Some (Text false 0 ho) ∷ Some (Text false 0 hi) ∷ []) ≡ Some (Text false 0 hi) ∷ None ∷ None ∷ None ∷ []
+delayed : confirmed 4 4 0 (Some (Text false 0 hi) ∷ Some (Text false 0 hi) ∷ Some (Text false 0 ho)
+    ∷ Some (Text false 0 hi) ∷ []) ≡ Some (Text false 0 hi) ∷ None ∷ None ∷ None ∷ []
 delayed = refl
 
-delayed_by_flag : confirmed 4 4 0 (Some (Text false 0 hi) ∷ Some (Text true 0 hi) ∷ Some (Text false 0 hi) ∷ []) ≡ None ∷ None ∷ None ∷ []
+delayed_by_flag : confirmed 4 4 0 (Some (Text false 0 hi) ∷ Some (Text true 0 hi) ∷ Some (Text false 0 hi) ∷ []) ≡ None
+    ∷ None ∷ None ∷ []
 delayed_by_flag = refl
 
 -- other bytes at another address do not
-not_delayed : confirmed 4 4 0 (Some (Text false 0 hi) ∷ Some (Text false 1 ho) ∷ Some (Text false 0 hi) ∷ []) ≡ Some (Text false 0 hi) ∷ None ∷ None ∷ []
+not_delayed : confirmed 4 4 0 (Some (Text false 0 hi) ∷ Some (Text false 1 ho) ∷ Some (Text false 0 hi) ∷ [])
+    ≡ Some (Text false 0 hi) ∷ None ∷ None ∷ []
 not_delayed = refl
 
 -- the run of texts begins in slot 1. Tags of slots 2 and 3 are confirmed in slot 3; those of slots 0 and 2 are not
-tags_in_run : confirmed 4 4 0 (Some (Tags title) ∷ Some (Tags title) ∷ Some (Text false 0 hi) ∷ Some (Text false 0 hi) ∷ [])
+tags_in_run : confirmed 4 4 0 (Some (Tags title) ∷ Some (Tags title) ∷ Some (Text false 0 hi) ∷ Some (Text false 0 hi)
+    ∷ [])
     ≡ Some (Tags title) ∷ None ∷ Some (Text false 0 hi) ∷ None ∷ []
 tags_in_run = refl
 
-tags_before_run : confirmed 5 4 0 (Some (Tags title) ∷ Some (Text false 0 hi) ∷ Some (Tags title) ∷ Some (Text false 0 hi) ∷ [])
+tags_before_run : confirmed 5 4 0 (Some (Tags title) ∷ Some (Text false 0 hi) ∷ Some (Tags title)
+    ∷ Some (Text false 0 hi) ∷ [])
     ≡ None ∷ Some (Text false 0 hi) ∷ None ∷ None ∷ []
 tags_before_run = refl
 

@@ -19,16 +19,20 @@ use Rattle.rds_safety.specs.Lawful.{IsFragmentOf, Kind, names, texts}
 use Rattle.rds_safety.proofs.OneBroadcast.{LiesInOne}
 use Rattle.rds_safety.proofs.Told.{AreOf}
 
-pub get-put : (cells : Cells) (k : ℕ) (cell : List ℕ) (a : ℕ) → get (insert cells k cell) a ≡ cond (nat_eq a k) (Some cell) (get cells a)
-get-put cells k cell a = get-insert nat_cmp_total cells k cell a ∙ ap (λ same. cond same (Some cell) (get cells a)) (unsigned_tied a k)
+pub get-put : (cells : Cells) (k : ℕ) (cell : List ℕ) (a : ℕ)
+    → get (insert cells k cell) a ≡ cond (nat_eq a k) (Some cell) (get cells a)
+get-put cells k cell a = get-insert nat_cmp_total cells k cell a ∙ ap (λ same. cond same (Some cell) (get cells a))
+    (unsigned_tied a k)
 
 -- each cell of a run of fragments of one body is the body's segment at its address
 pub cell_is : (body : List ℕ) (gs : List Segment) → AllByRecursion (λ (g : Segment). IsFragmentOf body g.fragment) gs
     → (a : ℕ) (cell : List ℕ) → get (cells_of gs) a ≡ Some cell → cell ≡ segment_of body a
 cell_is body [] all a cell e = (let none = get-empty {X = List ℕ} nat_cmp a in absurd (cc))
-cell_is body (g ∷ older) all a cell e = by (nat_eq a g.fragment.address) refl (sym (get-put (cells_of older) g.fragment.address g.fragment.bytes a) ∙ e) (cell_is body older all.1 a cell)
+cell_is body (g ∷ older) all a cell e = by (nat_eq a g.fragment.address) refl
+    (sym (get-put (cells_of older) g.fragment.address g.fragment.bytes a) ∙ e) (cell_is body older all.1 a cell)
   where
-    by : (same : Bool) → nat_eq a g.fragment.address ≡ same → cond same (Some g.fragment.bytes) (get (cells_of older) a) ≡ Some cell
+    by : (same : Bool) → nat_eq a g.fragment.address ≡ same → cond same (Some g.fragment.bytes) (get (cells_of older) a)
+        ≡ Some cell
         → (get (cells_of older) a ≡ Some cell → cell ≡ segment_of body a)
         → cell ≡ segment_of body a
     by true t e rest =
@@ -37,13 +41,15 @@ cell_is body (g ∷ older) all a cell e = by (nat_eq a g.fragment.address) refl 
     by false t e rest = rest e
 
 -- the segments of a broadcast are fragments of its body
-are_fragments : (kind : Kind) (input : Input) (b : Broadcast) (gs : List Segment) → AreOf kind input b gs → AllByRecursion (λ (g : Segment). IsFragmentOf (kind.body b.bytes) g.fragment) gs
+are_fragments : (kind : Kind) (input : Input) (b : Broadcast) (gs : List Segment) → AreOf kind input b gs
+    → AllByRecursion (λ (g : Segment). IsFragmentOf (kind.body b.bytes) g.fragment) gs
 are_fragments kind input b [] all = tt
 are_fragments kind input b (g ∷ older) all = (all.0.has.fragment, are_fragments kind input b older all.1)
 
 -- a service: segments of a value make only this value whole, and no segments make nothing whole
 pub record IsService (kind : Kind) (IsWhole : Cells → List ℕ → Type 0) : Type 0 where
-  pub own : (cells : Cells) (x y : List ℕ) → kind.IsValue x → AreSegmentsOf (kind.body x) cells → IsWhole cells y → y ≡ x
+  pub own : (cells : Cells) (x y : List ℕ) → kind.IsValue x → AreSegmentsOf (kind.body x) cells → IsWhole cells y
+      → y ≡ x
   pub none : (x : List ℕ) → IsWhole empty x → ⊥
 
 pub text_service : IsService texts IsWholeText
@@ -56,9 +62,13 @@ name_service = record { own = own_name; none = no_name_of_none }
 abbrev pub HasValues : Kind → List Broadcast → Type 0
 HasValues kind plan = (number : ℕ) (b : Broadcast) → HasNumber plan number b → kind.IsValue b.bytes
 
-pub bytes_of_run : (d t : ℕ) (kind : Kind) (IsWhole : Cells → List ℕ → Type 0) (plan : List Broadcast) (input : Input) (g : Segment) (older : List Segment) (x : List ℕ)
+pub bytes_of_run : (d t : ℕ) (kind : Kind) (IsWhole : Cells → List ℕ → Type 0) (plan : List Broadcast) (input : Input)
+    (g : Segment) (older : List Segment) (x : List ℕ)
     → IsService kind IsWhole → HasValues kind plan
     → (l : LiesInOne d t kind plan input g older) → IsWhole (cells_of (g ∷ older)) x → x ≡ l.broadcast.bytes
 bytes_of_run d t kind IsWhole plan input g older x service values l whole =
-    let own : AreSegmentsOf (kind.body l.broadcast.bytes) (cells_of (g ∷ older)) = record { taken = cell_is (kind.body l.broadcast.bytes) (g ∷ older) (are_fragments kind input l.broadcast (g ∷ older) l.all) } in
+    let own : AreSegmentsOf (kind.body l.broadcast.bytes) (cells_of (g ∷ older)) = record {
+      taken = cell_is (kind.body l.broadcast.bytes) (g ∷ older) (are_fragments kind input l.broadcast (g ∷ older)
+          l.all);
+    } in
     service.own (cells_of (g ∷ older)) l.broadcast.bytes x (values l.number l.broadcast l.planned) own whole

@@ -1,5 +1,6 @@
 -- Lemmas: a receiver that shows only what it heard twice shows a text or a name of which each segment came twice.
-use Rattle.std.proofs.Common.{◌≡◌, ◌+◌, ◌<◌, ◌≤◌, ◌==◌, ℕ, Bool, true, false, List, [], ◌∷◌, length, Option, Some, refl, sym, ap, ◌∙◌, subst, inl, inr, arith}
+use Rattle.std.proofs.Common.{◌≡◌, ◌+◌, ◌<◌, ◌≤◌, ◌==◌, ℕ, Bool, true, false, List, [], ◌∷◌, length, Option, Some, refl}
+use Rattle.std.proofs.Common.{sym, ap, ◌∙◌, subst, inl, inr, arith}
 use Rattle.std.specs.Prelude.{bytes_eq, nat_lt}
 use Rattle.std.proofs.lemmas.Bool.{cond-false, cond-true, eqb-false, eqb-true, lt-ltb}
 use Rattle.std.proofs.lemmas.Slice.Eq.{bytes_eq-Decides}
@@ -20,7 +21,8 @@ use Rattle.rds_safety.specs.Laws.{PlanLaws}
 use Rattle.rds_safety.specs.Lawful.{IsLawful, Kind, names, texts}
 use Rattle.rds_safety.specs.Marks.{Mark, marks, name_mark, text_mark}
 use Rattle.rds_safety.specs.Confirmed.{IsHeardWithWrong, NoWrongConfirmed, confirmed_input, lateness_of_two}
-use Rattle.rds_safety.specs.ConfirmedLaws.{CameTwice, HearsEachTwice, WhoHearsBothSegmentsTwiceShowsTheName, WhoHearsEachSegmentTwiceShowsTheText}
+use Rattle.rds_safety.specs.ConfirmedLaws.{CameTwice, HearsEachTwice, WhoHearsBothSegmentsTwiceShowsTheName}
+use Rattle.rds_safety.specs.ConfirmedLaws.{WhoHearsEachSegmentTwiceShowsTheText}
 use Rattle.rds_safety.proofs.Bytes.{IsService, name_service, text_service}
 use Rattle.rds_safety.proofs.Counts.{one_segment, two_segments}
 use Rattle.rds_safety.proofs.Entries.{before_end, mark_sent}
@@ -28,7 +30,8 @@ use Rattle.rds_safety.proofs.Hearing.{AreFalling, IsPicked, all_picked, segments
 use Rattle.rds_safety.proofs.HeldWhole.{CameSince, IsIn, all_in, came_in, in_below, in_segments, one_covers, shown_near}
 use Rattle.rds_safety.proofs.OneBroadcast.{PicksWhatIsMarked}
 use Rattle.rds_safety.proofs.Safety.{name_fragments_marked, text_fragments_marked}
-use Rattle.rds_safety.proofs.Confirmed.{HasReceipts, confirmed_is_near, from_one_of_two, name_receipts, own_kept, segment_is_confirmed, text_receipts}
+use Rattle.rds_safety.proofs.Confirmed.{HasReceipts, confirmed_is_near, from_one_of_two, name_receipts, own_kept}
+use Rattle.rds_safety.proofs.Confirmed.{segment_is_confirmed, text_receipts}
 
 -- if a segment with this address is among the segments, the last one with this address came no earlier
 record IsLastSince (a since : ℕ) (gs : List Segment) : Type 0 where
@@ -38,19 +41,23 @@ record IsLastSince (a since : ℕ) (gs : List Segment) : Type 0 where
   is_in : IsIn gs segment
   address : segment.fragment.address ≡ a
 
-last_since : (n a : ℕ) (gs : List Segment) (g : Segment) → AreFalling n gs → IsIn gs g → g.fragment.address ≡ a → IsLastSince a g.slot gs
+last_since : (n a : ℕ) (gs : List Segment) (g : Segment) → AreFalling n gs → IsIn gs g → g.fragment.address ≡ a
+    → IsLastSince a g.slot gs
 last_since n a [] g falls is_in at = absurd is_in
-last_since n a (h ∷ older) g falls is_in at = by (h.fragment.address == a) refl (λ older_in. last_since h.slot a older g falls.1 older_in at)
+last_since n a (h ∷ older) g falls is_in at = by (h.fragment.address == a) refl (λ older_in. last_since h.slot a older g
+    falls.1 older_in at)
   where
     later : IsIn (h ∷ older) g → g.slot ≤ h.slot
     later (inl e) = subst (λ (x : Segment). x.slot ≤ h.slot) (sym e) (omega arith)
     later (inr older_in) = omega (arith, in_below h.slot older g falls.1 older_in)
 
     rest : (h.fragment.address == a) ≡ false → IsIn (h ∷ older) g → IsIn older g
-    rest other (inl e) = absurd (eqb-false h.fragment.address a other (ap (λ (x : Segment). x.fragment.address) (sym e) ∙ at))
+    rest other (inl e) = absurd (eqb-false h.fragment.address a other (ap (λ (x : Segment). x.fragment.address) (sym e)
+        ∙ at))
     rest other (inr older_in) = older_in
 
-    by : (same : Bool) → (h.fragment.address == a) ≡ same → (IsIn older g → IsLastSince a g.slot older) → IsLastSince a g.slot (h ∷ older)
+    by : (same : Bool) → (h.fragment.address == a) ≡ same → (IsIn older g → IsLastSince a g.slot older)
+        → IsLastSince a g.slot (h ∷ older)
     by true e before = record {
       segment = h;
       last = cond-true (h.fragment.address == a) (Some h) (last_at a older) e;
@@ -68,71 +75,104 @@ last_since n a (h ∷ older) g falls is_in at = by (h.fragment.address == a) ref
           address = l.address;
         }
 
-module _ (laws : PlanLaws) (w k m t s : ℕ) (kind : Kind) (pick : Message → Option Fragment) (of : Option Message → Mark) (plan : List Broadcast) (log : List (Option Message)) (raw : Input) (b : Broadcast)
-    (alike : PicksWhatIsMarked pick of) (receipts : HasReceipts pick) (law : IsLawful (m + lateness_of_two w k) kind plan (marks of log)) (heard : IsHeardWithWrong k log raw) (once : NoWrongConfirmed w raw)
-    (now : raw.first + length raw.heard ≡ t + 1) (hears : HearsEachTwice pick w m t s (segment_count (kind.body b.bytes)) plan raw b) where
+module _ (laws : PlanLaws) (w k m t s : ℕ) (kind : Kind) (pick : Message → Option Fragment) (of : Option Message → Mark)
+    (plan : List Broadcast) (log : List (Option Message)) (raw : Input) (b : Broadcast)
+    (alike : PicksWhatIsMarked pick of) (receipts : HasReceipts pick) (law : IsLawful (m + lateness_of_two w k) kind
+    plan (marks of log)) (heard : IsHeardWithWrong k log raw) (once : NoWrongConfirmed w raw)
+    (now : raw.first + length raw.heard ≡ t + 1) (hears : HearsEachTwice pick w m t s
+    (segment_count (kind.body b.bytes)) plan raw b) where
   -- each segment heard since slot s is the broadcast's
-  own : (u : ℕ) (message : Message) (p : Fragment) → pick message ≡ Some p → s ≤ u → HasEntry raw.first raw.heard u (Some message) → (p.flag ≡ b.flag) × (p.bytes ≡ segment_of (kind.body b.bytes) p.address)
+  own : (u : ℕ) (message : Message) (p : Fragment) → pick message ≡ Some p → s ≤ u
+      → HasEntry raw.first raw.heard u (Some message)
+      → (p.flag ≡ b.flag) × (p.bytes ≡ segment_of (kind.body b.bytes) p.address)
   own u message p picks since came =
       let sent = heard.each u u (Some message) (hears.right u message since came) came in
       let marked = rw (alike.picked message p picks) at (mark_sent of log u (Some message) sent) in
       let lies = law.fragments u p marked in
-      let mine : Covers b u = record { from = omega (arith, hears.from, since); to = omega (arith, hears.to, now, before_end raw.first raw.heard u (Some message) came) } in
-      let same : lies.broadcast ≡ b = one_covers laws (m + lateness_of_two w k) plan lies.number hears.number lies.broadcast b u law.spaced lies.planned hears.planned lies.is.covers mine in
-      (lies.is.flag ∙ ap (λ (y : Broadcast). y.flag) same, lies.is.fragment.bytes ∙ ap (λ (y : Broadcast). segment_of (kind.body y.bytes) p.address) same)
+      let mine : Covers b u = record {
+        from = omega (arith, hears.from, since);
+        to = omega
+            (arith, hears.to, now, before_end raw.first raw.heard u (Some message) came);
+      } in
+      let same : lies.broadcast ≡ b = one_covers laws (m + lateness_of_two w k) plan lies.number hears.number
+      lies.broadcast b u law.spaced lies.planned hears.planned lies.is.covers mine in (
+        lies.is.flag ∙ ap (λ (y : Broadcast). y.flag) same,
+        lies.is.fragment.bytes
+            ∙ ap (λ (y : Broadcast). segment_of (kind.body y.bytes) p.address) same,
+      )
 
   -- so the second receipt of each is confirmed
-  second_confirmed : (a : ℕ) → (c : CameTwice pick w s a raw) → HasEntry raw.first (confirmed w m raw.first raw.heard) c.two (Some c.second.message)
-  second_confirmed a c = segment_is_confirmed pick receipts w m raw.first raw.heard c.second.message q c.two c.second.picks c.second.heard again
+  second_confirmed : (a : ℕ) → (c : CameTwice pick w s a raw)
+      → HasEntry raw.first (confirmed w m raw.first raw.heard) c.two (Some c.second.message)
+  second_confirmed a c = segment_is_confirmed pick receipts w m raw.first raw.heard c.second.message q c.two
+      c.second.picks c.second.heard again
     where
       q : Fragment
       q = c.second.fragment
 
-      again : (before : List (Option Message)) → ((u : ℕ) (x : Option Message) → HasEntry raw.first before u x → HasEntry raw.first raw.heard u x)
-          → ((u : ℕ) (x : Option Message) → u < c.two → HasEntry raw.first raw.heard u x → HasEntry raw.first before u x)
-          → (u : ℕ) × (segment_again w c.two q.flag q.bytes (last_at q.address (segments pick raw.first before)) ≡ Some u)
+      again : (before : List (Option Message))
+          → ((u : ℕ) (x : Option Message) → HasEntry raw.first before u x → HasEntry raw.first raw.heard u x)
+          → ((u : ℕ) (x : Option Message) → u < c.two → HasEntry raw.first raw.heard u x
+          → HasEntry raw.first before u x)
+          → (u : ℕ) × (segment_again w c.two q.flag q.bytes (last_at q.address (segments pick raw.first before))
+          ≡ Some u)
       again before still back =
           let gs = segments pick raw.first before in
-          let is_in = in_segments pick raw.first before c.one c.first.message c.first.fragment (back c.one (Some c.first.message) c.later c.first.heard) c.first.picks in
-          let l = last_since (raw.first + length before) q.address gs (came_in c.one c.first.fragment) (segments_fall pick raw.first before) is_in (c.first.at ∙ sym c.second.at) in
+          let is_in = in_segments pick raw.first before c.one c.first.message c.first.fragment
+          (back c.one (Some c.first.message) c.later c.first.heard) c.first.picks in
+          let l = last_since (raw.first + length before) q.address gs (came_in c.one c.first.fragment)
+          (segments_fall pick raw.first before) is_in (c.first.at ∙ sym c.second.at) in
           let g = l.segment in
           let picked = all_in (IsPicked pick raw.first before) gs g (all_picked pick raw.first before) l.is_in in
-          let mine = own g.slot picked.message g.fragment picked.fragment (omega (arith, c.since, l.later)) (still g.slot (Some picked.message) picked.came) in
+          let mine = own g.slot picked.message g.fragment picked.fragment (omega (arith, c.since, l.later))
+          (still g.slot (Some picked.message) picked.came) in
           let theirs = own c.two c.second.message q c.second.picks (omega (arith, c.since, c.later)) c.second.heard in
-          let flag : is_same q.flag g.fragment.flag ≡ true = is_same_flag q.flag g.fragment.flag (theirs.0 ∙ sym mine.0) in
-          let same : q.bytes ≡ g.fragment.bytes = theirs.1 ∙ ap (segment_of (kind.body b.bytes)) (sym l.address) ∙ sym mine.1 in
+          let flag : is_same q.flag g.fragment.flag ≡ true = is_same_flag q.flag g.fragment.flag (theirs.0 ∙ sym mine.0)
+          in
+          let same : q.bytes ≡ g.fragment.bytes = theirs.1 ∙ ap (segment_of (kind.body b.bytes)) (sym l.address)
+          ∙ sym mine.1 in
           let bytes : bytes_eq q.bytes g.fragment.bytes ≡ true = (bytes_eq-Decides q.bytes g.fragment.bytes).1 same in
           let recent : nat_lt c.two (g.slot + w) ≡ true = lt-ltb c.two (g.slot + w) (omega (arith, c.soon, l.later)) in
           (g.slot, ap (segment_again w c.two q.flag q.bytes) l.last ∙ rw (flag, bytes, recent) refl)
 
-  shown_twice : (IsWhole : Cells → List ℕ → Type 0) → IsService kind IsWhole → ((cells : Cells) → AreAllHeld (kind.body b.bytes) cells → IsWhole cells b.bytes) → 0 < segment_count (kind.body b.bytes)
-      → (shown : Option (List ℕ)) → IsShown IsWhole (cells_of (run_at pick m raw.first (confirmed w m raw.first raw.heard))) shown → shown ≡ Some b.bytes
+  shown_twice : (IsWhole : Cells → List ℕ → Type 0) → IsService kind IsWhole
+      → ((cells : Cells) → AreAllHeld (kind.body b.bytes) cells → IsWhole cells b.bytes)
+      → 0 < segment_count (kind.body b.bytes)
+      → (shown : Option (List ℕ))
+      → IsShown IsWhole (cells_of (run_at pick m raw.first (confirmed w m raw.first raw.heard))) shown
+      → shown ≡ Some b.bytes
   shown_twice IsWhole service all some shown is =
       let long = confirmed_long w m raw.first raw.heard in
-      shown_near laws (m + lateness_of_two w k) m t s kind pick of plan log (confirmed_input w m raw) hears.number b alike law
-      (confirmed_is_near w m k t log raw heard once now) (omega (arith, now, long)) fresh hears.planned hears.from hears.to hears.within
+      shown_near laws (m + lateness_of_two w k) m t s kind pick of plan log (confirmed_input w m raw) hears.number b
+      alike law
+      (confirmed_is_near w m k t log raw heard once now) (omega (arith, now, long)) fresh hears.planned hears.from
+      hears.to hears.within
       IsWhole service all some each shown is
     where
       fresh : (u r : ℕ) → s ≤ u → CameFrom (confirmed_input w m raw) u r → s ≤ r
       fresh u r since p =
           let f = from_one_of_two w m raw.first raw.heard raw.origins u r heard.beside p in
-          let same = own_kept w m raw.first raw.heard raw.origins u u r heard.beside (hears.right u f.message since f.came) p in
+          let same = own_kept w m raw.first raw.heard raw.origins u u r heard.beside (hears.right u f.message since
+          f.came) p in
           omega (arith, since, same)
 
-      each : (a : ℕ) → a < segment_count (kind.body b.bytes) → CameSince (segments pick raw.first (confirmed w m raw.first raw.heard)) s a
+      each : (a : ℕ) → a < segment_count (kind.body b.bytes)
+          → CameSince (segments pick raw.first (confirmed w m raw.first raw.heard)) s a
       each a within =
           let c = hears.each a within in
           record {
             segment = came_in c.two c.second.fragment;
             since = omega (arith, c.since, c.later);
             at = c.second.at;
-            is_in = in_segments pick raw.first (confirmed w m raw.first raw.heard) c.two c.second.message c.second.fragment (second_confirmed a c) c.second.picks;
+            is_in = in_segments pick raw.first (confirmed w m raw.first raw.heard) c.two c.second.message
+                c.second.fragment (second_confirmed a c) c.second.picks;
           }
 
 pub text_shown_twice : PlanLaws → WhoHearsEachSegmentTwiceShowsTheText
 text_shown_twice laws w k m t s plans log r b law listens hears =
     let value = law.text.values hears.number b hears.planned in
-    shown_twice laws w k m t s texts text_fragment text_mark plans.text log listens.raw b text_fragments_marked text_receipts law.text listens.heard listens.once listens.now hears
+    shown_twice laws w k m t s texts text_fragment text_mark plans.text log listens.raw b text_fragments_marked
+    text_receipts law.text listens.heard listens.once listens.now hears
     IsWholeText text_service (λ cells held. all_text cells b.bytes value held) (one_segment b.bytes) r.view.text
     (subst (λ (x : Input). ShowsView m x.first x.heard r.view) listens.confirmed listens.shows).text
 
@@ -140,7 +180,8 @@ pub name_shown_twice : PlanLaws → WhoHearsBothSegmentsTwiceShowsTheName
 name_shown_twice laws w k m t s plans log r b law listens hears =
     let value = law.name.values hears.number b hears.planned in
     let two = two_segments b.bytes value in
-    shown_twice laws w k m t s names name_fragment name_mark plans.name log listens.raw b name_fragments_marked name_receipts law.name listens.heard listens.once listens.now
+    shown_twice laws w k m t s names name_fragment name_mark plans.name log listens.raw b name_fragments_marked
+    name_receipts law.name listens.heard listens.once listens.now
     (subst (λ (n : ℕ). HearsEachTwice name_fragment w m t s n plans.name listens.raw b) (sym two) hears)
     IsWholeName name_service (λ cells held. all_name cells b.bytes value held) (omega (arith, two)) r.view.name
     (subst (λ (x : Input). ShowsView m x.first x.heard r.view) listens.confirmed listens.shows).name

@@ -1,5 +1,6 @@
 -- Lemmas: a text has from one to sixteen segments, and a name two.
-use Rattle.std.proofs.Common.{◌≡◌, ◌-◌, ◌%◌, ◌<◌, ◌≤◌, ℕ, Bool, true, false, nat_eq, List, ◌∷◌, refl, arith, length, length-append, replicate}
+use Rattle.std.proofs.Common.{◌≡◌, ◌-◌, ◌%◌, ◌<◌, ◌≤◌, ℕ, Bool, true, false, nat_eq, List, ◌∷◌, refl, arith, length}
+use Rattle.std.proofs.Common.{length-append, replicate}
 use Rattle.std.proofs.lemmas.Bool.Decides.{nat_tests}
 use Rattle.std.proofs.lemmas.List.{length-replicate}
 use Rattle.rds_assembly.specs.Body.{name_body, segment_count, text_body}
@@ -30,4 +31,10 @@ few_segments x t = by (nat_eq (length x) 64) refl
         )
 
 pub two_segments : (x : List ℕ) → IsName x → segment_count (name_body x) ≡ 2
-two_segments x n = omega (arith, n.0, length-append x (replicate (8 - length x) 32), length-replicate {A = ℕ} (8 - length x) 32)
+two_segments x n = omega (
+  arith,
+  n.0,
+  length-append x (replicate (8 - length x) 32),
+  length-replicate {A = ℕ}
+      (8 - length x) 32,
+)

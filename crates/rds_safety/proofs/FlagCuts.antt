@@ -1,7 +1,8 @@
 -- Lemmas: tags have to come after a segment of their text. `AAA` is on air in slots 0 and 1, `BBB` with the other flag
 -- from slot 2 on, and tags of `BBB` are sent in slot d + 2. A receiver with the flag bit alone that loses everything
 -- between cuts `AAA`.
-use Rattle.std.proofs.Common.{◌≡◌, ◌≢◌, ◌⊎◌, ◌+◌, ◌-◌, ◌<◌, ◌≤◌, ◌&&◌, ℕ, zero, suc, true, false, List, [], ◌∷◌, length, slice_index, Option, Some, None, refl, sym, ap, ◌∙◌, subst, inl, inr, arith}
+use Rattle.std.proofs.Common.{◌≡◌, ◌≢◌, ◌⊎◌, ◌+◌, ◌-◌, ◌<◌, ◌≤◌, ◌&&◌, ℕ, zero, suc, true, false, List, [], ◌∷◌, length}
+use Rattle.std.proofs.Common.{slice_index, Option, Some, None, refl, sym, ap, ◌∙◌, subst, inl, inr, arith}
 use Rattle.std.specs.Prelude.{nat_lt}
 use Rattle.std.specs.FinMap.{empty, get, insert}
 use Rattle.std.proofs.lemmas.Bool.{cond-true, lt-ltb}
@@ -17,7 +18,8 @@ use Rattle.rds_encoder.specs.Plan.{Broadcast, HasNumber}
 use Rattle.rds_receiver.specs.Receipts.{Fragment, Segment, name_fragment, segments, text_fragment}
 use Rattle.rds_receiver.specs.Shown.{ShownView}
 use Rattle.rds_receiver.specs.Tags.{is_known, pair_since}
-use Rattle.rds_safety.specs.FlagAlone.{HearsEach, HearsOneIn, IsFilled, ShowsByFlag, TurnsTheFlag, flag_run, pair_by_flag, run_by_flag}
+use Rattle.rds_safety.specs.FlagAlone.{HearsEach, HearsOneIn, IsFilled, ShowsByFlag, TurnsTheFlag, flag_run}
+use Rattle.rds_safety.specs.FlagAlone.{pair_by_flag, run_by_flag}
 use Rattle.rds_safety.specs.FlagBounds.{CutsByFlag}
 use Rattle.rds_safety.specs.FlagLaws.{ShowsEmptyText, ShowsTagsOfText}
 use Rattle.rds_safety.specs.Late.{CameFrom, HasEntry, Input, IsHeardLate, IsHeardOnTime, SentIn, own_origins}
@@ -43,7 +45,12 @@ of_three P a p (suc (suc zero)) h = p
 of_three P a p (suc (suc (suc i))) h = absurd (omega arith)
 
 is_text_of_three : (a : ℕ) → a < 256 → is_text_byte a ≡ true → IsText (a ∷ a ∷ a ∷ [])
-is_text_of_three a p x = record { at_most = omega arith; bytes = of_three (λ n. n < 256) a p; allowed = of_three (λ n. is_text_byte n ≡ true) a x }
+is_text_of_three a p x = record {
+  at_most = omega arith;
+  bytes = of_three (λ n. n < 256) a p;
+  allowed = of_three
+      (λ n. is_text_byte n ≡ true) a x;
+}
 
 abbrev dummy : TagFields
 dummy = record { class = 0; start = 0; extra = 0 }
@@ -66,7 +73,8 @@ which e k b (inl p) = inl p
 which e k b (inr (inl p)) = inr p
 which e k b (inr (inr p)) = absurd p
 
-follow : (P : Broadcast → Broadcast → Type 0) (e k : ℕ) (a b : Broadcast) → HasNumber (two e) k a → HasNumber (two e) (k + 1) b → P a_of (b_of e) → P a b
+follow : (P : Broadcast → Broadcast → Type 0) (e k : ℕ) (a b : Broadcast) → HasNumber (two e) k a
+    → HasNumber (two e) (k + 1) b → P a_of (b_of e) → P a b
 follow P e k a b p q x = elim (which e k a p) [
   | inl u ↦ absurd (elim (which e (k + 1) b q) [ inl v ↦ omega arith | inr v ↦ omega arith ])
   | inr u ↦ elim (which e (k + 1) b q) [
@@ -110,7 +118,8 @@ abbrev heard : ℕ → List (Option Message)
 heard e = Some (Tags pair) ∷ after (suc e) begun
 
 sent_marks : (e t : ℕ) (mark : Mark) → IsMarkIn (marks text_mark (log e)) t mark
-    → (mark ≡ Nothing) ⊎ (((t ≡ e + 3) × (mark ≡ Tagged pair)) ⊎ (((t ≡ 2) × (mark ≡ Sends b_fragment)) ⊎ ((t ≡ 1) × (mark ≡ Sends a_fragment))))
+    → (mark ≡ Nothing) ⊎ (((t ≡ e + 3) × (mark ≡ Tagged pair)) ⊎ (((t ≡ 2) × (mark ≡ Sends b_fragment))
+    ⊎ ((t ≡ 1) × (mark ≡ Sends a_fragment))))
 sent_marks e t mark (inl s) = inr (inl (omega (arith, s.0, after_marks_long e (b_message ∷ begun)), s.1))
 sent_marks e t mark (inr s) = elim (after_texts e (b_message ∷ begun) t mark s) [
   | inl none ↦ inl none
@@ -128,12 +137,14 @@ lawful e = record {
     apart = λ k a b p q. follow (λ a b. (a.flag ≢ b.flag) ⊎ (a.end + (e + 1) ≤ b.start)) e k a b p q (inl (λ e. (cc)));
     far = λ k a b p q. absurd (none_after e k a b p q);
   };
-  values = λ k b p. each_of_two (λ b. texts.IsValue b.bytes) e k b p (is_text_of_three 65 (omega arith) refl) (is_text_of_three 66 (omega arith) refl);
+  values = λ k b p. each_of_two (λ b. texts.IsValue b.bytes) e k b p (is_text_of_three 65 (omega arith) refl)
+      (is_text_of_three 66 (omega arith) refl);
   fragments = fragments;
   tags = tags;
 }
   where
-    fragments : (t : ℕ) (p : Fragment) → IsMarkIn (marks text_mark (log e)) t (Sends p) → HasOne (two e) (HasFragment texts t p)
+    fragments : (t : ℕ) (p : Fragment) → IsMarkIn (marks text_mark (log e)) t (Sends p)
+        → HasOne (two e) (HasFragment texts t p)
     fragments t p s = elim (sent_marks e t (Sends p) s) [
       | inl none ↦ absurd (cc)
       | inr o ↦ elim o [
@@ -145,7 +156,11 @@ lawful e = record {
                 number = 1;
                 broadcast = b_of e;
                 planned = inl (refl, refl);
-                is = rw (same, b.0) record { covers = record { from = omega arith; to = omega arith }; flag = refl; fragment = record { within = omega arith; bytes = refl } };
+                is = rw (same, b.0) record {
+                  covers = record { from = omega arith; to = omega arith };
+                  flag = refl;
+                  fragment = record { within = omega arith; bytes = refl };
+                };
               }
           | inr a ↦
               let same : p ≡ a_fragment = (let f = a.1 in cc) in
@@ -153,13 +168,18 @@ lawful e = record {
                 number = 0;
                 broadcast = a_of;
                 planned = inr (inl (refl, refl));
-                is = rw (same, a.0) record { covers = record { from = omega arith; to = omega arith }; flag = refl; fragment = record { within = omega arith; bytes = refl } };
+                is = rw (same, a.0) record {
+                  covers = record { from = omega arith; to = omega arith };
+                  flag = refl;
+                  fragment = record { within = omega arith; bytes = refl };
+                };
               }
         ]
       ]
     ]
 
-    tags : (t : ℕ) (q : PairFields) → IsMarkIn (marks text_mark (log e)) t (Tagged q) → HasOne (two e) (HasTags (e + 1) t q)
+    tags : (t : ℕ) (q : PairFields) → IsMarkIn (marks text_mark (log e)) t (Tagged q)
+        → HasOne (two e) (HasTags (e + 1) t q)
     tags t q s = elim (sent_marks e t (Tagged q) s) [
       | inl none ↦ absurd (cc)
       | inr o ↦ elim o [
@@ -169,26 +189,37 @@ lawful e = record {
               number = 1;
               broadcast = b_of e;
               planned = inl (refl, refl);
-              is = rw (same, tagged.0) record { lasted = omega arith; to = omega arith; ends = record { one = refl; two = refl } };
+              is = rw (same, tagged.0) record {
+                lasted = omega arith;
+                to = omega arith;
+                ends = record
+                    { one = refl; two = refl };
+              };
             }
         | inr r ↦ elim r [ inl b ↦ (let bad = b.1 in absurd (cc)) | inr a ↦ (let bad = a.1 in absurd (cc)) ]
       ]
     ]
 
 -- the receiver is on time: each entry is what was sent in its slot, or nothing
-after_on_time : (j : ℕ) (sent : List (Option Message)) (before : List (Option Message)) → ((t : ℕ) (entry : Option Message) → HasEntry 0 before t entry → (entry ≡ None) ⊎ SentIn sent t entry)
+after_on_time : (j : ℕ) (sent : List (Option Message)) (before : List (Option Message))
+    → ((t : ℕ) (entry : Option Message) → HasEntry 0 before t entry → (entry ≡ None) ⊎ SentIn sent t entry)
     → (t : ℕ) (entry : Option Message) → HasEntry 0 (after j before) t entry → (entry ≡ None) ⊎ SentIn sent t entry
 after_on_time zero sent before each t entry has = each t entry has
 after_on_time (suc j) sent before each t entry (inl now) = inl now.1
 after_on_time (suc j) sent before each t entry (inr has) = after_on_time j sent before each t entry has
 
-still : (j : ℕ) (before : List (Option Message)) (t : ℕ) (m : Option Message) → SentIn before t m → SentIn (after j before) t m
+still : (j : ℕ) (before : List (Option Message)) (t : ℕ) (m : Option Message) → SentIn before t m
+    → SentIn (after j before) t m
 still zero before t m s = s
 still (suc j) before t m s = inr (still j before t m s)
 
 on_time : (e : ℕ) → IsHeardOnTime (log e) 0 (heard e)
-on_time e t entry (inl now) = inr (inl (omega (arith, now.0, after_long e (b_message ∷ begun), after_long e begun), now.1))
-on_time e t entry (inr has) = after_on_time (suc e) (log e) begun (λ u x is_in. inr (inr (still e (b_message ∷ begun) u x (inr is_in)))) t entry has
+on_time e t entry (inl now) = inr (inl (
+  omega (arith, now.0, after_long e (b_message ∷ begun), after_long e begun),
+  now.1,
+))
+on_time e t entry (inr has) = after_on_time (suc e) (log e) begun
+    (λ u x is_in. inr (inr (still e (b_message ∷ begun) u x (inr is_in)))) t entry has
 
 abbrev input : ℕ → Input
 input e = input_of 0 (heard e) (own_origins 0 (heard e))
@@ -197,10 +228,17 @@ late : (e : ℕ) → IsHeardLate 0 (log e) (input e)
 late e = no_slot_late (log e) 0 (heard e) (on_time e)
 
 by_now : (e t s : ℕ) → CameFrom (input e) t s → s ≤ e + 3
-by_now e t s came = omega (arith, (late e).past t s came, before_end 0 (own_origins 0 (heard e)) t (Some s) came, (late e).order.beside, after_long e begun)
+by_now e t s came = omega (
+  arith,
+  (late e).past t s came,
+  before_end 0 (own_origins 0 (heard e)) t (Some s) came,
+  (late e).order.beside,
+  after_long e begun,
+)
 
 -- it shows `AAA`, cut by the tags
-after_segments : (pick : Message → Option Fragment) (j : ℕ) (before : List (Option Message)) → segments pick 0 (after j before) ≡ segments pick 0 before
+after_segments : (pick : Message → Option Fragment) (j : ℕ) (before : List (Option Message))
+    → segments pick 0 (after j before) ≡ segments pick 0 before
 after_segments pick zero before = refl
 after_segments pick (suc j) before = after_segments pick j before
 
@@ -219,7 +257,8 @@ no_run e = ap (λ (gs : List Segment). flag_run gs) (after_segments name_fragmen
 
 the_pair : (e : ℕ) → pair_by_flag (input e) ≡ Some pair
 the_pair e = rw (the_run e)
-    (cond-true (is_known (after (suc e) begun) && nat_lt 1 (0 + length (after (suc e) begun))) (Some pair) (pair_since 0 1 (after (suc e) begun))
+    (cond-true (is_known (after (suc e) begun) && nat_lt 1 (0 + length (after (suc e) begun))) (Some pair)
+    (pair_since 0 1 (after (suc e) begun))
     (rw (after_known (suc e) begun) (lt-ltb 1 (0 + length (after (suc e) begun)) (omega (arith, after_long e begun)))))
 
 abbrev a_cells : Cells
@@ -241,7 +280,8 @@ shows e = record {
   two = rw (the_pair e) refl;
 }
 
-not_of_text : (e : ℕ) → ShowsNoTags view ⊎ ShowsEmptyText view ⊎ ShowsTagsOfText (e + 1) (two e) (marks text_mark (log e)) view → ⊥
+not_of_text : (e : ℕ)
+    → ShowsNoTags view ⊎ ShowsEmptyText view ⊎ ShowsTagsOfText (e + 1) (two e) (marks text_mark (log e)) view → ⊥
 not_of_text e (inl none) = (let bad = none.item in cc)
 not_of_text e (inr (inl blank)) = (let bad = blank.text in cc)
 not_of_text e (inr (inr tags)) = elim (which e tags.number tags.broadcast tags.planned) [
@@ -262,7 +302,9 @@ not_of_text e (inr (inr tags)) = elim (which e tags.number tags.broadcast tags.p
     first_byte : Some aaa ≡ Some bbb → ⊥
     first_byte same = (let bytes : aaa ≡ bbb = cc in omega (arith, ap (λ (x : List ℕ). slice_index x 0) bytes))
 
-at_one_or_more : (e : ℕ) → CutsByFlag (e + 1) (λ plan now input. TurnsTheFlag plan × HearsEach IsFilled text_fragment plan now input × HearsOneIn (e + 1 + 1) text_fragment plan now input)
+at_one_or_more : (e : ℕ)
+    → CutsByFlag (e + 1) (λ plan now input. TurnsTheFlag plan × HearsEach IsFilled text_fragment plan now input
+    × HearsOneIn (e + 1 + 1) text_fragment plan now input)
 at_one_or_more e = record {
   plan = two e;
   log = log e;
@@ -271,15 +313,21 @@ at_one_or_more e = record {
   receiver = record { input = input e; view = view };
   listens = record { order = (late e).order; past = by_now e; shows = shows e };
   is_so = (
-    λ k a b p q. follow (λ a b. (a.flag ≢ b.flag) ⊎ ((a.bytes ≡ b.bytes) ⊎ (b.bytes ≡ []))) e k a b p q (inl (λ e. (cc))),
-    λ k b next t r p q some h before started. absurd ((follow (λ a b. r < a.start → ⊥) e k b next p q (λ u. omega arith)) before),
-    λ k s t r b p from to past h before. absurd ((each_of_two (λ b. b.start ≤ s → s + (e + 1 + 1) ≤ b.end + 1 → r < s → s + (e + 1 + 1) ≤ e + 3 → ⊥) e k b p
+    λ k a b p q. follow (λ a b. (a.flag ≢ b.flag) ⊎ ((a.bytes ≡ b.bytes) ⊎ (b.bytes ≡ []))) e k a b p q
+        (inl (λ e. (cc))),
+    λ k b next t r p q some h before started. absurd
+        ((follow (λ a b. r < a.start → ⊥) e k b next p q (λ u. omega arith)) before),
+    λ k s t r b p from to past h before. absurd
+        ((each_of_two (λ b. b.start ≤ s → s + (e + 1 + 1) ≤ b.end + 1 → r < s → s + (e + 1 + 1) ≤ e + 3 → ⊥) e k b p
         (λ u v w x. omega arith) (λ u v w x. omega arith)) from to before past),
   );
   fails = not_of_text e;
 }
 
-pub one_slot_more : (d : ℕ) → 0 < d → CutsByFlag d (λ plan now input. TurnsTheFlag plan × HearsEach IsFilled text_fragment plan now input × HearsOneIn (d + 1) text_fragment plan now input)
+pub one_slot_more : (d : ℕ) → 0 < d
+    → CutsByFlag d (λ plan now input. TurnsTheFlag plan × HearsEach IsFilled text_fragment plan now input
+    × HearsOneIn (d + 1) text_fragment plan now input)
 one_slot_more d some =
     let e : d - 1 + 1 ≡ d = omega arith in
-    subst (λ (x : ℕ). CutsByFlag x (λ plan now input. TurnsTheFlag plan × HearsEach IsFilled text_fragment plan now input × HearsOneIn (x + 1) text_fragment plan now input)) e (at_one_or_more (d - 1))
+    subst (λ (x : ℕ). CutsByFlag x (λ plan now input. TurnsTheFlag plan × HearsEach IsFilled text_fragment plan now
+    input × HearsOneIn (x + 1) text_fragment plan now input)) e (at_one_or_more (d - 1))

@@ -1,6 +1,7 @@
 -- Lemmas about the runs of a receiver with the flag bit alone that heard a segment of each broadcast before news: all
 -- segments of a run are of its source's value, or this value is empty.
-use Rattle.std.proofs.Common.{◌≡◌, ◌≢◌, ◌⊎◌, ◌+◌, ◌-◌, ◌<◌, ◌≤◌, ℕ, zero, suc, Bool, true, false, List, [], ◌∷◌, length, Option, refl, sym, ap, ◌∙◌, subst, inl, inr, arith}
+use Rattle.std.proofs.Common.{◌≡◌, ◌≢◌, ◌⊎◌, ◌+◌, ◌-◌, ◌<◌, ◌≤◌, ℕ, zero, suc, Bool, true, false, List, [], ◌∷◌, length}
+use Rattle.std.proofs.Common.{Option, refl, sym, ap, ◌∙◌, subst, inl, inr, arith}
 use Rattle.std.specs.List.{AllByRecursion}
 use Rattle.std.proofs.lemmas.Bool.{cases_eq, cases_lt, cases_order, cond_both}
 use Rattle.rds_fields.specs.declared.message.Message.{Message}
@@ -9,7 +10,8 @@ use Rattle.rds_encoder.specs.Plan.{Broadcast, Covers, HasNumber}
 use Rattle.rds_encoder.specs.Spaced.{IsSpaced}
 use Rattle.rds_receiver.specs.Receipts.{Fragment, Segment, segments}
 use Rattle.rds_receiver.specs.Run.{is_same}
-use Rattle.rds_safety.specs.FlagAlone.{HearsEach, IsHarmless, IsHeardFrom, IsNews, TurnsTheFlag, flag_run, flag_run_before, run_by_flag}
+use Rattle.rds_safety.specs.FlagAlone.{HearsEach, IsHarmless, IsHeardFrom, IsNews, TurnsTheFlag, flag_run}
+use Rattle.rds_safety.specs.FlagAlone.{flag_run_before, run_by_flag}
 use Rattle.rds_safety.specs.Flags.{same_flag}
 use Rattle.rds_safety.specs.Late.{CameFrom, Input, InputOf, IsHeardInOrder}
 use Rattle.rds_safety.specs.Lawful.{IsLawful, Kind}
@@ -28,7 +30,8 @@ harmless_on x y z (inl e) (inl f) = inl (e ∙ f)
 harmless_on x y z (inr none) (inl f) = inr (sym f ∙ none)
 
 -- an entry that was sent earlier came earlier
-pub came_earlier : {X : Type 0} (log : List (Option X)) (input : InputOf X) (t u r s : ℕ) → IsHeardInOrder log input → CameFrom input t r → CameFrom input u s → r < s → t < u
+pub came_earlier : {X : Type 0} (log : List (Option X)) (input : InputOf X) (t u r s : ℕ) → IsHeardInOrder log input
+    → CameFrom input t r → CameFrom input u s → r < s → t < u
 came_earlier log input t u r s order p q less =
     elim (cases_order t u) [
       | inl same ↦ absurd (omega (arith, one_origin input u r s (subst (λ (n : ℕ). CameFrom input n r) same p) q))
@@ -36,14 +39,23 @@ came_earlier log input t u r s order p q less =
     ]
 
 -- each segment of a run is one of the segments
-pub all_before : (P : Segment → Type 0) (f : Bool) (gs : List Segment) → AllByRecursion P gs → AllByRecursion P (flag_run_before f gs)
+pub all_before : (P : Segment → Type 0) (f : Bool) (gs : List Segment) → AllByRecursion P gs
+    → AllByRecursion P (flag_run_before f gs)
 all_before P f [] all = tt
 all_before P f (g ∷ older) all =
-    cond_both (is_same f g.fragment.flag) (g ∷ flag_run_before f older) [] (AllByRecursion P) (λ _. (all.0, all_before P f older all.1)) (λ _. tt)
+    cond_both (is_same f g.fragment.flag) (g ∷ flag_run_before f older) [] (AllByRecursion P)
+    (λ _. (all.0, all_before P f older all.1)) (λ _. tt)
 
 -- a segment that was picked was heard, with its origin
-pub heard_from : (pick : Message → Option Fragment) (input : Input) (g : Segment) (r : ℕ) → IsPicked pick input.first input.heard g → CameFrom input g.slot r → IsHeardFrom pick input g.slot r
-heard_from pick input g r is from = record { message = is.message; fragment = g.fragment; came = is.came; picked = is.fragment; from = from }
+pub heard_from : (pick : Message → Option Fragment) (input : Input) (g : Segment) (r : ℕ)
+    → IsPicked pick input.first input.heard g → CameFrom input g.slot r → IsHeardFrom pick input g.slot r
+heard_from pick input g r is from = record {
+  message = is.message;
+  fragment = g.fragment;
+  came = is.came;
+  picked = is.fragment;
+  from = from;
+}
 
 -- there are no bytes, or some
 no_or_some : (bytes : List ℕ) → (bytes ≡ []) ⊎ (bytes ≢ [])
@@ -73,131 +85,187 @@ like_or_not a b = by a.flag b.flag refl refl
     by : (f g : Bool) → a.flag ≡ f → b.flag ≡ g → IsLike a b ⊎ (IsLike a b → ⊥)
     by true false e h = inr (λ like. (let bad : true ≡ false = sym e ∙ like.0 ∙ h in cc))
     by false true e h = inr (λ like. (let bad : false ≡ true = sym e ∙ like.0 ∙ h in cc))
-    by true true e h = elim (same_or_differ a.bytes b.bytes) [ inl same ↦ inl (e ∙ sym h, same) | inr differ ↦ inr (λ like. differ like.1) ]
-    by false false e h = elim (same_or_differ a.bytes b.bytes) [ inl same ↦ inl (e ∙ sym h, same) | inr differ ↦ inr (λ like. differ like.1) ]
+    by true true e h = elim (same_or_differ a.bytes b.bytes) [
+      | inl same ↦ inl (e ∙ sym h, same)
+      | inr differ ↦ inr
+          (λ like. differ like.1)
+    ]
+    by false false e h = elim (same_or_differ a.bytes b.bytes) [
+      | inl same ↦ inl (e ∙ sym h, same)
+      | inr differ ↦ inr
+          (λ like. differ like.1)
+    ]
 
 -- a broadcast is news if it is filled and not like one of the two before it
-is_news : PlanLaws → (plan : List Broadcast) (l : ℕ) (c e b : Broadcast) → HasNumber plan (l - 1) c → HasNumber plan (l - 2) e → 1 < l → b.bytes ≢ [] → (IsLike c b → ⊥) → (IsLike e b → ⊥)
+is_news : PlanLaws → (plan : List Broadcast) (l : ℕ) (c e b : Broadcast) → HasNumber plan (l - 1) c
+    → HasNumber plan (l - 2) e → 1 < l → b.bytes ≢ [] → (IsLike c b → ⊥) → (IsLike e b → ⊥)
     → IsNews plan l b
 is_news laws plan l c e b p q two filled one other = record { filled = filled; new = new }
   where
     new : (j : ℕ) (a : Broadcast) → HasNumber plan j a → j < l → l ≤ j + 2 → a.flag ≡ b.flag → a.bytes ≡ b.bytes → ⊥
     new j a r less near flag bytes = elim (cases_lt j (l - 1)) [
       | inl second ↦
-          let same : a ≡ e = laws.one plan (l - 2) a e (let at : j ≡ l - 2 = omega (arith, second, near, two) in subst (λ (n : ℕ). HasNumber plan n a) at r) q in
+          let same : a ≡ e = laws.one plan (l - 2) a e (let at : j ≡ l - 2 = omega (arith, second, near, two)
+          in subst (λ (n : ℕ). HasNumber plan n a) at r) q in
           other (subst (λ (x : Broadcast). IsLike x b) {x = a} same (flag, bytes))
       | inr first ↦
-          let same : a ≡ c = laws.one plan (l - 1) a c (let at : j ≡ l - 1 = omega (arith, first, less) in subst (λ (n : ℕ). HasNumber plan n a) at r) p in
+          let same : a ≡ c = laws.one plan (l - 1) a c (let at : j ≡ l - 1 = omega (arith, first, less)
+          in subst (λ (n : ℕ). HasNumber plan n a) at r) p in
           one (subst (λ (x : Broadcast). IsLike x b) {x = a} same (flag, bytes))
     ]
 
-module _ (laws : PlanLaws) (names_one : EachNumberNamesOne) (d now : ℕ) (pick : Message → Option Fragment) (plan : List Broadcast) (log : List (Option Message)) (input : Input)
-    (spaced : IsSpaced d plan) (order : IsHeardInOrder log input) (past : (t s : ℕ) → CameFrom input t s → s ≤ now) where
-  abbrev all_segments : List Segment
-  all_segments = segments pick input.first input.heard
+module _ (laws : PlanLaws) (names_one : EachNumberNamesOne) (d now : ℕ) (pick : Message → Option Fragment)
+    (plan : List Broadcast) (log : List (Option Message)) (input : Input)
+    (spaced : IsSpaced d plan) (order : IsHeardInOrder log input) (past : (t s : ℕ) → CameFrom input t s → s ≤ now)
+  where
+    abbrev all_segments : List Segment
+    all_segments = segments pick input.first input.heard
 
-  -- nothing of the service came between the segment h and a later slot
-  abbrev IsNext : ℕ → Segment → Type 0
-  IsNext slot h = (x : Segment) → IsIn all_segments x → h.slot < x.slot → x.slot < slot → ⊥
+    -- nothing of the service came between the segment h and a later slot
+    abbrev IsNext : ℕ → Segment → Type 0
+    IsNext slot h = (x : Segment) → IsIn all_segments x → h.slot < x.slot → x.slot < slot → ⊥
 
-  -- so each broadcast that Is holds of and that began by slot s is at most the next one after that of h
-  pub none_passes : (Is : List Broadcast → ℕ → Broadcast → Type 0) → HearsEach Is pick plan now input
-      → (slot s : ℕ) (h : Segment) (r k l : ℕ) (a b : Broadcast) → IsNext slot h → ((t q : ℕ) → CameFrom input t q → q < s → t < slot) → s ≤ now
-      → IsPicked pick input.first input.heard h → CameFrom input h.slot r → HasNumber plan k a → HasNumber plan l b → Covers a r → b.start ≤ s
-      → k + 1 < l → Is plan l b → ⊥
-  none_passes Is each slot s h r k l a b next earlier by_now is from p q covers begun far so =
-      let between = names_one plan (l - 1) (omega (arith, laws.below plan l b q)) in
-      let c = between.0 in
-      let after : a.end < c.start = laws.order d plan k (l - 1) a c spaced p between.1 (omega (arith, far)) in
-      let before : c.end < b.start = laws.order d plan (l - 1) l c b spaced between.1 q (omega (arith, far)) in
-      let number : l ≡ l - 1 + 1 = omega (arith, far) in
-      let w = each (l - 1) c b h.slot r between.1 (subst (λ (n : ℕ). HasNumber plan n b) number q) (subst (λ (n : ℕ). Is plan n b) number so) (heard_from pick input h r is from) (omega (arith, covers.to, after)) (omega (arith, begun, by_now)) in
-      let its = w.heard in
-      next (came_in w.slot its.fragment) (in_segments pick input.first input.heard w.slot its.message its.fragment its.came its.picked)
-      (came_earlier log input h.slot w.slot r w.origin order from its.from (omega (arith, covers.to, after, w.since)))
-      (earlier w.slot w.origin its.from (omega (arith, w.until, before, begun)))
+    -- so each broadcast that Is holds of and that began by slot s is at most the next one after that of h
+    pub none_passes : (Is : List Broadcast → ℕ → Broadcast → Type 0) → HearsEach Is pick plan now input
+        → (slot s : ℕ) (h : Segment) (r k l : ℕ) (a b : Broadcast) → IsNext slot h
+        → ((t q : ℕ) → CameFrom input t q → q < s → t < slot) → s ≤ now
+        → IsPicked pick input.first input.heard h → CameFrom input h.slot r → HasNumber plan k a → HasNumber plan l b
+        → Covers a r → b.start ≤ s
+        → k + 1 < l → Is plan l b → ⊥
+    none_passes Is each slot s h r k l a b next earlier by_now is from p q covers begun far so =
+        let between = names_one plan (l - 1) (omega (arith, laws.below plan l b q)) in
+        let c = between.0 in
+        let after : a.end < c.start = laws.order d plan k (l - 1) a c spaced p between.1 (omega (arith, far)) in
+        let before : c.end < b.start = laws.order d plan (l - 1) l c b spaced between.1 q (omega (arith, far)) in
+        let number : l ≡ l - 1 + 1 = omega (arith, far) in
+        let w = each (l - 1) c b h.slot r between.1 (subst (λ (n : ℕ). HasNumber plan n b) number q)
+        (subst (λ (n : ℕ). Is plan n b) number so) (heard_from pick input h r is from)
+        (omega (arith, covers.to, after)) (omega (arith, begun, by_now)) in
+        let its = w.heard in
+        next (came_in w.slot its.fragment) (in_segments pick input.first input.heard w.slot its.message its.fragment
+        its.came its.picked)
+        (came_earlier log input h.slot w.slot r w.origin order from its.from (omega (arith, covers.to, after, w.since)))
+        (earlier w.slot w.origin its.from (omega (arith, w.until, before, begun)))
 
-  -- the next broadcast with one flag does no harm
-  next_is_harmless : TurnsTheFlag plan → (k l : ℕ) (a b : Broadcast) → l ≡ k + 1 → HasNumber plan k a → HasNumber plan l b → a.flag ≡ b.flag → IsHarmless a b
-  next_is_harmless turns k l a b follows p q flag =
-      elim (turns k a b p (subst (λ (m : ℕ). HasNumber plan m b) follows q)) [ inl differ ↦ absurd (differ flag) | inr harmless ↦ harmless ]
+    -- the next broadcast with one flag does no harm
+    next_is_harmless : TurnsTheFlag plan → (k l : ℕ) (a b : Broadcast) → l ≡ k + 1 → HasNumber plan k a
+        → HasNumber plan l b → a.flag ≡ b.flag → IsHarmless a b
+    next_is_harmless turns k l a b follows p q flag =
+        elim (turns k a b p (subst (λ (m : ℕ). HasNumber plan m b) follows q)) [
+          | inl differ ↦ absurd (differ flag)
+          | inr
+              harmless ↦ harmless
+        ]
 
-  -- so each broadcast with the flag of that of h does no harm, if what was missed comes before no news
-  harmless_after : HearsEach IsNews pick plan now input → TurnsTheFlag plan → (slot s : ℕ) (h : Segment) (r k : ℕ) (a : Broadcast) → IsNext slot h
-      → ((t q : ℕ) → CameFrom input t q → q < s → t < slot) → s ≤ now → IsPicked pick input.first input.heard h → CameFrom input h.slot r → HasNumber plan k a → Covers a r
-      → (n l : ℕ) (b : Broadcast) → l ≤ k + 1 + n → k < l → HasNumber plan l b → b.start ≤ s → a.flag ≡ b.flag → IsHarmless a b
-  harmless_after each turns slot s h r k a next earlier by_now is from p covers zero l b within less q begun flag = next_is_harmless turns k l a b (omega (arith, within, less)) p q flag
-  harmless_after each turns slot s h r k a next earlier by_now is from p covers (suc m) l b within less q begun flag = elim (cases_lt (k + 1) l) [
-    | inr near ↦ next_is_harmless turns k l a b (omega (arith, near, less)) p q flag
-    | inl far ↦
-        let one = names_one plan (l - 1) (omega (arith, laws.below plan l b q)) in
-        let two = names_one plan (l - 2) (omega (arith, laws.below plan l b q)) in
-        elim (no_or_some b.bytes) [
-          | inl none ↦ inr none
-          | inr filled ↦ elim (like_or_not one.0 b) [
-            | inl like ↦
-                harmless_on a one.0 b
-                (harmless_after each turns slot s h r k a next earlier by_now is from p covers m (l - 1) one.0 (omega (arith, within)) (omega (arith, far)) one.1
-                (omega (arith, spaced.lasts (l - 1) one.0 one.1, laws.order d plan (l - 1) l one.0 b spaced one.1 q (omega (arith, far)), begun)) (flag ∙ sym like.0))
-                (inl like.1)
-            | inr not_one ↦ elim (like_or_not two.0 b) [
-              | inr not_two ↦ absurd (none_passes IsNews each slot s h r k l a b next earlier by_now is from p q covers begun far (is_news laws plan l one.0 two.0 b one.1 two.1 (omega (arith, far)) filled not_one not_two))
-              | inl like ↦ elim (cases_lt k (l - 2)) [
-                | inl further ↦
-                    harmless_on a two.0 b
-                    (harmless_after each turns slot s h r k a next earlier by_now is from p covers m (l - 2) two.0 (omega (arith, within)) further two.1
-                    (omega (arith, spaced.lasts (l - 2) two.0 two.1, laws.order d plan (l - 2) l two.0 b spaced two.1 q (omega (arith, far)), begun)) (flag ∙ sym like.0))
-                    (inl like.1)
-                | inr here ↦
-                    let same : a ≡ two.0 = laws.one plan (l - 2) a two.0 (let at : k ≡ l - 2 = omega (arith, here, far) in subst (λ (x : ℕ). HasNumber plan x a) at p) two.1 in
-                    inl (ap (λ (x : Broadcast). x.bytes) same ∙ like.1)
+    -- so each broadcast with the flag of that of h does no harm, if what was missed comes before no news
+    harmless_after : HearsEach IsNews pick plan now input → TurnsTheFlag plan
+        → (slot s : ℕ) (h : Segment) (r k : ℕ) (a : Broadcast) → IsNext slot h
+        → ((t q : ℕ) → CameFrom input t q → q < s → t < slot) → s ≤ now → IsPicked pick input.first input.heard h
+        → CameFrom input h.slot r → HasNumber plan k a → Covers a r
+        → (n l : ℕ) (b : Broadcast) → l ≤ k + 1 + n → k < l → HasNumber plan l b → b.start ≤ s → a.flag ≡ b.flag
+        → IsHarmless a b
+    harmless_after each turns slot s h r k a next earlier by_now is from p covers zero l b within less q begun
+        flag = next_is_harmless turns k l a b (omega (arith, within, less)) p q flag
+    harmless_after each turns slot s h r k a next earlier by_now is from p covers (suc m) l b within less q begun
+        flag = elim (cases_lt (k + 1) l) [
+          | inr near ↦ next_is_harmless turns k l a b (omega (arith, near, less)) p q flag
+          | inl far ↦
+              let one = names_one plan (l - 1) (omega (arith, laws.below plan l b q)) in
+              let two = names_one plan (l - 2) (omega (arith, laws.below plan l b q)) in
+              elim (no_or_some b.bytes) [
+                | inl none ↦ inr none
+                | inr filled ↦ elim (like_or_not one.0 b) [
+                  | inl like ↦
+                      harmless_on a one.0 b
+                      (harmless_after each turns slot s h r k a next earlier by_now is from p covers m (l - 1) one.0
+                      (omega (arith, within)) (omega (arith, far)) one.1
+                      (omega (
+                        arith,
+                        spaced.lasts (l - 1) one.0 one.1,
+                        laws.order d plan (l - 1) l one.0 b spaced one.1 q
+                            (omega (arith, far)),
+                        begun,
+                      )) (flag ∙ sym like.0))
+                      (inl like.1)
+                  | inr not_one ↦ elim (like_or_not two.0 b) [
+                    | inr not_two ↦ absurd (none_passes IsNews each slot s h r k l a b next earlier by_now is from p q
+                        covers
+                        begun far (is_news laws plan l one.0 two.0 b one.1 two.1 (omega (arith, far)) filled not_one
+                        not_two))
+                    | inl like ↦ elim (cases_lt k (l - 2)) [
+                      | inl further ↦
+                          harmless_on a two.0 b
+                          (harmless_after each turns slot s h r k a next earlier by_now is from p covers m (l - 2) two.0
+                          (omega (arith, within)) further two.1
+                          (omega (
+                            arith,
+                            spaced.lasts (l - 2) two.0 two.1,
+                            laws.order d plan (l - 2) l two.0 b spaced two.1 q
+                                (omega (arith, far)),
+                            begun,
+                          )) (flag ∙ sym like.0))
+                          (inl like.1)
+                      | inr here ↦
+                          let same : a ≡ two.0 = laws.one plan (l - 2) a two.0 (let at : k
+                          ≡ l - 2 = omega (arith, here, far)
+                          in subst (λ (x : ℕ). HasNumber plan x a) at p) two.1 in
+                          inl (ap (λ (x : Broadcast). x.bytes) same ∙ like.1)
+                    ]
+                  ]
+                ]
               ]
-            ]
+        ]
+
+    -- the flag separates the broadcasts of two segments that came one after the other
+    told : HearsEach IsNews pick plan now input → TurnsTheFlag plan → (g h : Segment) → h.slot < g.slot
+        → IsNext g.slot h
+        → IsPicked pick input.first input.heard h
+        → (r s : ℕ) → CameFrom input h.slot r → CameFrom input g.slot s → IsTold IsHarmless plan r s
+    told each turns g h falls next is r s from to k l a b p q u v flag =
+        let later : r < s = order.rising h.slot g.slot r s from to falls in
+        elim (cases_order k l) [
+          | inl same ↦ inl (ap (λ (x : Broadcast). x.bytes)
+              (laws.one plan l a b (subst (λ (n : ℕ). HasNumber plan n a) {x = k} same p) q))
+          | inr o ↦ elim o [
+            | inl less ↦
+                harmless_after each turns g.slot s h r k a next (λ t n came before. came_earlier log input t g.slot n s
+                order came to before) (past g.slot s to) is from p u
+                l l b (omega arith) less q v.from flag
+            | inr more ↦ absurd (omega (arith, laws.order d plan l k b a spaced q p more, u.from, v.to, later))
           ]
         ]
-  ]
 
-  -- the flag separates the broadcasts of two segments that came one after the other
-  told : HearsEach IsNews pick plan now input → TurnsTheFlag plan → (g h : Segment) → h.slot < g.slot → IsNext g.slot h → IsPicked pick input.first input.heard h
-      → (r s : ℕ) → CameFrom input h.slot r → CameFrom input g.slot s → IsTold IsHarmless plan r s
-  told each turns g h falls next is r s from to k l a b p q u v flag =
-      let later : r < s = order.rising h.slot g.slot r s from to falls in
-      elim (cases_order k l) [
-        | inl same ↦ inl (ap (λ (x : Broadcast). x.bytes) (laws.one plan l a b (subst (λ (n : ℕ). HasNumber plan n a) {x = k} same p) q))
-        | inr o ↦ elim o [
-          | inl less ↦
-              harmless_after each turns g.slot s h r k a next (λ t n came before. came_earlier log input t g.slot n s order came to before) (past g.slot s to) is from p u
-              l l b (omega arith) less q v.from flag
-          | inr more ↦ absurd (omega (arith, laws.order d plan l k b a spaced q p more, u.from, v.to, later))
+    -- so the run is joined
+    joined_before : HearsEach IsNews pick plan now input → TurnsTheFlag plan
+        → (f : Bool) (g : Segment) (gs : List Segment) → g.fragment.flag ≡ f → AreFalling g.slot gs
+        → AllByRecursion (IsPicked pick input.first input.heard) gs
+        → ((x : Segment) → IsIn all_segments x → x.slot < g.slot → IsIn gs x)
+        → AreJoined IsHarmless plan input (g ∷ flag_run_before f gs)
+    joined_before each turns f g [] e falls picks holds = tt
+    joined_before each turns f g (h ∷ older) e falls picks holds =
+        cond_both (is_same f h.fragment.flag) (h ∷ flag_run_before f older) [] (λ (gs : List Segment). AreJoined
+        IsHarmless plan input (g ∷ gs))
+        (λ same. (
+          record { flag = e ∙ same_flag f h.fragment.flag same; told = told each turns g h falls.0 next picks.0 },
+          joined_before each turns f h older (sym (same_flag f h.fragment.flag same)) falls.1 picks.1 rest,
+        ))
+        (λ _. tt)
+      where
+        next : IsNext g.slot h
+        next x is_in after before = elim (holds x is_in before) [
+          | inl same ↦ omega (arith, ap (λ (y : Segment). y.slot) same, after)
+          | inr is_older ↦ omega (arith, in_below h.slot older x falls.1 is_older, after)
         ]
-      ]
 
-  -- so the run is joined
-  joined_before : HearsEach IsNews pick plan now input → TurnsTheFlag plan → (f : Bool) (g : Segment) (gs : List Segment) → g.fragment.flag ≡ f → AreFalling g.slot gs → AllByRecursion (IsPicked pick input.first input.heard) gs
-      → ((x : Segment) → IsIn all_segments x → x.slot < g.slot → IsIn gs x) → AreJoined IsHarmless plan input (g ∷ flag_run_before f gs)
-  joined_before each turns f g [] e falls picks holds = tt
-  joined_before each turns f g (h ∷ older) e falls picks holds =
-      cond_both (is_same f h.fragment.flag) (h ∷ flag_run_before f older) [] (λ (gs : List Segment). AreJoined IsHarmless plan input (g ∷ gs))
-      (λ same. (
-        record { flag = e ∙ same_flag f h.fragment.flag same; told = told each turns g h falls.0 next picks.0 },
-        joined_before each turns f h older (sym (same_flag f h.fragment.flag same)) falls.1 picks.1 rest,
-      ))
-      (λ _. tt)
-    where
-      next : IsNext g.slot h
-      next x is_in after before = elim (holds x is_in before) [
-        | inl same ↦ omega (arith, ap (λ (y : Segment). y.slot) same, after)
-        | inr is_older ↦ omega (arith, in_below h.slot older x falls.1 is_older, after)
-      ]
-
-      rest : (x : Segment) → IsIn all_segments x → x.slot < h.slot → IsIn older x
-      rest x is_in before = elim (holds x is_in (omega (arith, before, falls.0))) [
-        | inl same ↦ absurd (omega (arith, ap (λ (y : Segment). y.slot) same, before))
-        | inr is_older ↦ is_older
-      ]
+        rest : (x : Segment) → IsIn all_segments x → x.slot < h.slot → IsIn older x
+        rest x is_in before = elim (holds x is_in (omega (arith, before, falls.0))) [
+          | inl same ↦ absurd (omega (arith, ap (λ (y : Segment). y.slot) same, before))
+          | inr is_older ↦ is_older
+        ]
 
 -- a run has one value, that of the broadcast of its newest segment, or that broadcast is empty
-pub record IsOfOneValue (kind : Kind) (plan : List Broadcast) (input : Input) (g : Segment) (older : List Segment) : Type 0 where
+pub record IsOfOneValue (kind : Kind) (plan : List Broadcast) (input : Input) (g : Segment) (older : List Segment)
+    : Type 0 where
   pub number : ℕ
   pub broadcast : Broadcast
   pub planned : HasNumber plan number broadcast
@@ -208,15 +276,22 @@ abbrev pub RunIsOfOneValue : Kind → List Broadcast → Input → List Segment 
 RunIsOfOneValue kind plan input [] = Unit {0}
 RunIsOfOneValue kind plan input (g ∷ older) = IsOfOneValue kind plan input g older
 
-pub run_is_of_one_value : PlanLaws → EachNumberNamesOne → (d now : ℕ) (kind : Kind) (pick : Message → Option Fragment) (of : Option Message → Mark) (plan : List Broadcast) (log : List (Option Message)) (input : Input)
-    → PicksWhatIsMarked pick of → IsLawful d kind plan (marks of log) → TurnsTheFlag plan → IsHeardInOrder log input → ((t s : ℕ) → CameFrom input t s → s ≤ now) → HearsEach IsNews pick plan now input
+pub run_is_of_one_value : PlanLaws → EachNumberNamesOne
+    → (d now : ℕ) (kind : Kind) (pick : Message → Option Fragment) (of : Option Message → Mark) (plan : List Broadcast)
+    (log : List (Option Message)) (input : Input)
+    → PicksWhatIsMarked pick of → IsLawful d kind plan (marks of log) → TurnsTheFlag plan → IsHeardInOrder log input
+    → ((t s : ℕ) → CameFrom input t s → s ≤ now) → HearsEach IsNews pick plan now input
     → RunIsOfOneValue kind plan input (run_by_flag pick input)
 run_is_of_one_value laws names_one d now kind pick of plan log input alike law turns order past each =
-    by (segments pick input.first input.heard) (segments_fall pick input.first input.heard) (all_picked pick input.first input.heard)
-    (all_of_any d kind pick of plan log input (segments pick input.first input.heard) alike law (in_order_is_heard log input order) (all_picked pick input.first input.heard)) (λ x is_in. is_in)
+    by (segments pick input.first input.heard) (segments_fall pick input.first input.heard)
+    (all_picked pick input.first input.heard)
+    (all_of_any d kind pick of plan log input (segments pick input.first input.heard) alike law
+    (in_order_is_heard log input order) (all_picked pick input.first input.heard)) (λ x is_in. is_in)
   where
-    by : (gs : List Segment) → AreFalling (input.first + length input.heard) gs → AllByRecursion (IsPicked pick input.first input.heard) gs → AllByRecursion (IsOfAny kind plan input) gs
-        → ((x : Segment) → IsIn (segments pick input.first input.heard) x → IsIn gs x) → RunIsOfOneValue kind plan input (flag_run gs)
+    by : (gs : List Segment) → AreFalling (input.first + length input.heard) gs
+        → AllByRecursion (IsPicked pick input.first input.heard) gs → AllByRecursion (IsOfAny kind plan input) gs
+        → ((x : Segment) → IsIn (segments pick input.first input.heard) x → IsIn gs x)
+        → RunIsOfOneValue kind plan input (flag_run gs)
     by [] falls picks all holds = tt
     by (g ∷ older) falls picks all holds =
         let its = all.0 in
@@ -226,10 +301,23 @@ run_is_of_one_value laws names_one d now kind pick of plan log input alike law t
           planned = its.planned;
           newest = its.is;
           all = (
-            record { number = its.number; broadcast = its.broadcast; planned = its.planned; is = its.is; alike = inl refl },
-            all_like IsHarmless harmless_on kind plan input its.broadcast g (flag_run_before g.fragment.flag older) its.number its.broadcast its.planned its.is (inl refl)
-                (joined_before laws names_one d now pick plan log input law.spaced order past each turns g.fragment.flag g older refl falls.1 picks.1
-                (λ x is_in before. elim (holds x is_in) [ inl same ↦ absurd (omega (arith, ap (λ (y : Segment). y.slot) same, before)) | inr is_older ↦ is_older ]))
+            record {
+              number = its.number;
+              broadcast = its.broadcast;
+              planned = its.planned;
+              is = its.is;
+              alike = inl
+                  refl;
+            },
+            all_like IsHarmless harmless_on kind plan input its.broadcast g (flag_run_before g.fragment.flag older)
+                its.number its.broadcast its.planned its.is (inl refl)
+                (joined_before laws names_one d now pick plan log input law.spaced order past each turns g.fragment.flag
+                g older refl falls.1 picks.1
+                (λ x is_in before. elim (holds x is_in) [
+                  | inl same ↦ absurd (omega (arith, ap (λ (y : Segment). y.slot) same, before))
+                  | inr is_older ↦
+                      is_older
+                ]))
                 (all_before (IsOfAny kind plan input) g.fragment.flag older all.1),
           );
         }

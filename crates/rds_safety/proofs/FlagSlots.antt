@@ -1,6 +1,8 @@
 -- Lemmas in slots: a receiver that hears a segment in each n slots in a row hears one of each broadcast that lasts for
--- n slots. And a receiver with the flag bit alone shows the same as one with a dwell within which each segment followed the one before.
-use Rattle.std.proofs.Common.{◌≡◌, ◌+◌, ◌<◌, ◌≤◌, ◌&&◌, ℕ, Bool, true, false, List, [], ◌∷◌, length, Option, Some, cond, refl, sym, ap, ◌∙◌, subst, arith, ◌⊎◌, ◌-◌, zero, suc, inl, inr}
+-- n slots. And a receiver with the flag bit alone shows the same as one with a dwell within which each segment followed
+-- the one before.
+use Rattle.std.proofs.Common.{◌≡◌, ◌+◌, ◌<◌, ◌≤◌, ◌&&◌, ℕ, Bool, true, false, List, [], ◌∷◌, length, Option, Some, cond}
+use Rattle.std.proofs.Common.{refl, sym, ap, ◌∙◌, subst, arith, ◌⊎◌, ◌-◌, zero, suc, inl, inr}
 use Rattle.std.specs.Prelude.{nat_lt}
 use Rattle.std.proofs.lemmas.Bool.{cases_eq, cases_lt, cond-true, lt-ltb}
 use Rattle.rds_fields.specs.declared.message.Message.{Message}
@@ -15,8 +17,11 @@ use Rattle.rds_receiver.specs.Holds.{newest_slot}
 use Rattle.rds_receiver.proofs.Runs.{run_at_newest}
 use Rattle.rds_receiver.specs.Tags.{item_of, pair_from, pair_held, tag_of}
 use Rattle.rds_fields.specs.declared.pair.Which.TheVariants.{One, Two}
-use Rattle.rds_safety.specs.FlagAlone.{EachLasts, GetsInARow, HearsEach, HearsOneIn, HearsTextBeforeTags, IsFilled, IsNews, ListensByFlag, ShowsByFlag, flag_run, flag_run_before, pair_by_flag, run_by_flag}
-use Rattle.rds_safety.specs.FlagLaws.{CameWithin, HearsWithin, TheFlagAloneIsADwellWhileHeard, TheFlagAloneIsALongDwell, WhoGetsSomeHearsOneIn, WhoHearsOneInHearsEach, WhoLosesFewGetsSome}
+use Rattle.rds_safety.specs.FlagAlone.{EachLasts, GetsInARow, HearsEach, HearsOneIn, HearsTextBeforeTags, IsFilled}
+use Rattle.rds_safety.specs.FlagAlone.{IsNews, ListensByFlag, ShowsByFlag, flag_run, flag_run_before, pair_by_flag}
+use Rattle.rds_safety.specs.FlagAlone.{run_by_flag}
+use Rattle.rds_safety.specs.FlagLaws.{CameWithin, HearsWithin, TheFlagAloneIsADwellWhileHeard, TheFlagAloneIsALongDwell}
+use Rattle.rds_safety.specs.FlagLaws.{WhoGetsSomeHearsOneIn, WhoHearsOneInHearsEach, WhoLosesFewGetsSome}
 use Rattle.rds_safety.specs.Late.{CameFrom, HasEntry, Input, IsHeardInOrder, SentIn}
 use Rattle.rds_safety.specs.Lawful.{IsLawful, texts}
 use Rattle.rds_safety.specs.Laws.{PlanLaws}
@@ -28,7 +33,8 @@ use Rattle.rds_safety.proofs.Pairs.{tags_are_marked}
 use Rattle.rds_safety.proofs.Hearing.{AreFalling, segments_fall}
 use Rattle.rds_safety.proofs.HeldWhole.{one_covers}
 
-hears_each_so : (Is : List Broadcast → ℕ → Broadcast → Type 0) (d n now : ℕ) (pick : Message → Option Fragment) (plan : List Broadcast) (input : Input)
+hears_each_so : (Is : List Broadcast → ℕ → Broadcast → Type 0) (d n now : ℕ) (pick : Message → Option Fragment)
+    (plan : List Broadcast) (input : Input)
     → IsSpaced d plan → HearsOneIn n pick plan now input → EachLasts Is n plan → HearsEach Is pick plan now input
 hears_each_so Is d n now pick plan input spaced often lasts k b next t r p q so heard before begun =
     let long = lasts k b next p q so in
@@ -37,24 +43,42 @@ hears_each_so Is d n now pick plan input spaced often lasts k b next t r p q so 
     record { slot = w.slot; origin = w.origin; heard = w.heard; since = w.since; until = omega (arith, w.until, long) }
 
 pub hears_each : WhoHearsOneInHearsEach
-hears_each d n now pick plan input spaced often =
-    (hears_each_so IsFilled d n now pick plan input spaced often, hears_each_so IsNews d n now pick plan input spaced often)
+hears_each d n now pick plan input spaced often = (
+  hears_each_so IsFilled d n now pick plan input spaced often,
+  hears_each_so IsNews d n now pick plan input spaced
+      often,
+)
 
-pub hears_text_before_tags : PlanLaws → (d now : ℕ) (plan : List Broadcast) (log : List (Option Message)) (r : Listener) → IsLawful d texts plan (marks text_mark log) → ListensByFlag now log r
+pub hears_text_before_tags : PlanLaws → (d now : ℕ) (plan : List Broadcast) (log : List (Option Message)) (r : Listener)
+    → IsLawful d texts plan (marks text_mark log) → ListensByFlag now log r
     → HearsOneIn d text_fragment plan now r.input → HearsTextBeforeTags plan r.input
 hears_text_before_tags laws d now plan log r law listens often t s u q k pair b came from planned covers heard before =
-    let w = arrival log r.input t (Tags pair) (in_order_is_heard log r.input listens.order) (tags_are_marked pair) came in
+    let w = arrival log r.input t (Tags pair) (in_order_is_heard log r.input listens.order) (tags_are_marked pair) came
+    in
     let slot : w.slot ≡ s = one_origin r.input t w.slot s w.from from in
     let lies = law.tags w.slot pair (mark_sent text_mark log w.slot (Some (Tags pair)) w.sent) in
-    let mine : Covers b w.slot = record { from = omega (arith, covers.from, slot); to = omega (arith, covers.to, slot) } in
+    let mine : Covers b w.slot = record { from = omega (arith, covers.from, slot); to = omega (arith, covers.to, slot) }
+    in
     let theirs : Covers lies.broadcast w.slot = record { from = omega (arith, lies.is.lasted); to = lies.is.to } in
-    let same : lies.broadcast ≡ b = one_covers laws d plan lies.number k lies.broadcast b w.slot law.spaced lies.planned planned theirs mine in
-    let lasted : b.start + d ≤ w.slot = subst (λ (x : Broadcast). x.start + d ≤ w.slot) {x = lies.broadcast} same lies.is.lasted in
-    let one = often k b.start u q b planned (omega arith) (omega (arith, lasted, slot, covers.to)) (omega (arith, lasted, slot, listens.past t s from)) heard before in
-    record { slot = one.slot; origin = one.origin; heard = one.heard; since = one.since; until = omega (arith, one.until, lasted, slot) }
+    let same : lies.broadcast ≡ b = one_covers laws d plan lies.number k lies.broadcast b w.slot law.spaced lies.planned
+    planned theirs mine in
+    let lasted : b.start + d ≤ w.slot = subst (λ (x : Broadcast). x.start + d ≤ w.slot) {x = lies.broadcast} same
+    lies.is.lasted in
+    let one = often k b.start u q b planned (omega arith) (omega (arith, lasted, slot, covers.to))
+    (omega (arith, lasted, slot, listens.past t s from)) heard before in
+    record {
+      slot = one.slot;
+      origin = one.origin;
+      heard = one.heard;
+      since = one.since;
+      until = omega
+          (arith, one.until, lasted, slot);
+    }
 
 -- each entry is that of the log in its origin
-pub came_as_sent : (log : List (Option Message)) (input : Input) (t s : ℕ) (message : Message) → IsHeardInOrder log input → CameFrom input t s → SentIn log s (Some message) → HasEntry input.first input.heard t (Some message)
+pub came_as_sent : (log : List (Option Message)) (input : Input) (t s : ℕ) (message : Message)
+    → IsHeardInOrder log input → CameFrom input t s → SentIn log s (Some message)
+    → HasEntry input.first input.heard t (Some message)
 came_as_sent log input t s message order from sent =
     let w = entry_beside input.first input.origins input.heard t (Some s) (sym order.beside) from in
     let same : w.0 ≡ Some message = one_entry 0 log s w.0 (Some message) (order.each t (Some s) w.0 from w.1) sent in
@@ -68,17 +92,26 @@ hears_one_in r n now pick plan log input order sends gets k s t q b planned from
     record {
       slot = came.0;
       origin = w.slot;
-      heard = record { message = w.message; fragment = w.fragment; came = came_as_sent log input came.0 w.slot w.message order came.1 w.is_sent; picked = w.picked; from = came.1 };
+      heard = record {
+        message = w.message;
+        fragment = w.fragment;
+        came = came_as_sent log input came.0 w.slot w.message
+            order came.1 w.is_sent;
+        picked = w.picked;
+        from = came.1;
+      };
       since = omega (arith, got.since, w.since);
       until = omega (arith, got.until, w.until);
     }
 
 -- all of k slots in a row came, or one was lost
-all_or_lost : (got : ℕ → Bool) (s k : ℕ) → ((v : ℕ) → s ≤ v → v < s + k → got v ≡ true) ⊎ ((x : ℕ) × (s ≤ x) × (x < s + k) × (got x ≡ false))
+all_or_lost : (got : ℕ → Bool) (s k : ℕ)
+    → ((v : ℕ) → s ≤ v → v < s + k → got v ≡ true) ⊎ ((x : ℕ) × (s ≤ x) × (x < s + k) × (got x ≡ false))
 all_or_lost got s zero = inl (λ v from to. absurd (omega (arith, from, to)))
 all_or_lost got s (suc k) = by (all_or_lost got s k) (got (s + k)) refl
   where
-    by : ((v : ℕ) → s ≤ v → v < s + k → got v ≡ true) ⊎ ((x : ℕ) × (s ≤ x) × (x < s + k) × (got x ≡ false)) → (b : Bool) → got (s + k) ≡ b
+    by : ((v : ℕ) → s ≤ v → v < s + k → got v ≡ true) ⊎ ((x : ℕ) × (s ≤ x) × (x < s + k) × (got x ≡ false)) → (b : Bool)
+        → got (s + k) ≡ b
         → ((v : ℕ) → s ≤ v → v < s + suc k → got v ≡ true) ⊎ ((x : ℕ) × (s ≤ x) × (x < s + suc k) × (got x ≡ false))
     by (inr lost) b is = inr (lost.0, lost.1, omega (arith, lost.2), lost.3)
     by (inl all) false is = inr (s + k, omega arith, omega arith, is)
@@ -88,11 +121,21 @@ all_or_lost got s (suc k) = by (all_or_lost got s k) (got (s + k)) refl
     ])
 
 -- between a lost slot and one that came, some lost slot is followed by one that came
-edge : (got : ℕ → Bool) (j x : ℕ) → got x ≡ false → got (x + 1 + j) ≡ true → (y : ℕ) × (x ≤ y) × (y ≤ x + j) × (got y ≡ false) × (got (y + 1) ≡ true)
-edge got zero x lost came = (x, omega arith, omega arith, lost, subst (λ (n : ℕ). got n ≡ true) (let same : x + 1 + 0 ≡ x + 1 = omega arith in same) came)
-edge got (suc j) x lost came = by (got (x + 1)) refl (λ next. edge got j (x + 1) next (subst (λ (n : ℕ). got n ≡ true) (let same : x + 1 + suc j ≡ x + 1 + 1 + j = omega arith in same) came))
+edge : (got : ℕ → Bool) (j x : ℕ) → got x ≡ false → got (x + 1 + j) ≡ true
+    → (y : ℕ) × (x ≤ y) × (y ≤ x + j) × (got y ≡ false) × (got (y + 1) ≡ true)
+edge got zero x lost came = (
+  x,
+  omega arith,
+  omega arith,
+  lost,
+  subst (λ (n : ℕ). got n ≡ true) (let same : x + 1 + 0
+      ≡ x + 1 = omega arith in same) came,
+)
+edge got (suc j) x lost came = by (got (x + 1)) refl (λ next. edge got j (x + 1) next (subst (λ (n : ℕ). got n ≡ true)
+    (let same : x + 1 + suc j ≡ x + 1 + 1 + j = omega arith in same) came))
   where
-    by : (b : Bool) → got (x + 1) ≡ b → (got (x + 1) ≡ false → (y : ℕ) × (x + 1 ≤ y) × (y ≤ x + 1 + j) × (got y ≡ false) × (got (y + 1) ≡ true))
+    by : (b : Bool) → got (x + 1) ≡ b → (got (x + 1) ≡ false
+        → (y : ℕ) × (x + 1 ≤ y) × (y ≤ x + 1 + j) × (got y ≡ false) × (got (y + 1) ≡ true))
         → (y : ℕ) × (x ≤ y) × (y ≤ x + suc j) × (got y ≡ false) × (got (y + 1) ≡ true)
     by true is rest = (x, omega arith, omega arith, lost, is)
     by false is rest = (let w = rest is in (w.0, omega (arith, w.1), omega (arith, w.2), w.3, w.4))
@@ -102,7 +145,8 @@ gets_some most r n now pick plan input got few loses k s t q b planned from to b
     by (all_or_lost got s r)
   where
     after : (x : ℕ) → s ≤ x → x < s + r → got x ≡ false → (v : ℕ) × (x ≤ v) × (v ≤ x + most) × (got v ≡ true)
-    after x since until lost = loses.short x t q heard (omega (arith, before, since)) (omega (arith, until, few, by_now))
+    after x since until lost = loses.short x t q heard (omega (arith, before, since))
+        (omega (arith, until, few, by_now))
 
     later : (x v : ℕ) → x ≤ v → got x ≡ false → got v ≡ true → x < v
     later x v le lost came = elim (cases_eq x v) [
@@ -110,8 +154,15 @@ gets_some most r n now pick plan input got few loses k s t q b planned from to b
       | inr differ ↦ elim (cases_lt x v) [ inl less ↦ less | inr more ↦ absurd (differ (omega (arith, le, more))) ]
     ]
 
-    by : ((v : ℕ) → s ≤ v → v < s + r → got v ≡ true) ⊎ ((x : ℕ) × (s ≤ x) × (x < s + r) × (got x ≡ false)) → GetsInARow r input s (s + n)
-    by (inl all) = record { first = s; since = omega arith; until = omega (arith, few); each = λ v u w. loses.came v (all v u w) }
+    by : ((v : ℕ) → s ≤ v → v < s + r → got v ≡ true) ⊎ ((x : ℕ) × (s ≤ x) × (x < s + r) × (got x ≡ false))
+        → GetsInARow r input s (s + n)
+    by (inl all) = record {
+      first = s;
+      since = omega arith;
+      until = omega (arith, few);
+      each = λ v u w. loses.came v
+          (all v u w);
+    }
     by (inr (x, since, until, lost)) =
         let v = after x since until lost in
         let less = later x v.0 v.1 lost v.3 in
@@ -121,7 +172,8 @@ gets_some most r n now pick plan input got few loses k s t q b planned from to b
           first = e.0 + 1;
           since = omega (arith, e.1, since);
           until = omega (arith, e.2, v.2, less, until, few);
-          each = λ u from_u to_u. loses.came u (loses.long e.0 u e.3 e.4 (omega (arith, from_u)) (omega (arith, to_u)) (omega (arith, to_u, e.2, v.2, less, until, few, by_now)));
+          each = λ u from_u to_u. loses.came u (loses.long e.0 u e.3 e.4 (omega (arith, from_u)) (omega (arith, to_u))
+              (omega (arith, to_u, e.2, v.2, less, until, few, by_now)));
         }
 
 -- ---- a long dwell
@@ -130,10 +182,12 @@ both : (a b : Bool) (x y : List Segment) → b ≡ true → x ≡ y → cond (a 
 both true b x y e same = cond-true b x [] e ∙ same
 both false b x y e same = refl
 
-within_before : (m : ℕ) (f : Bool) (s : ℕ) (gs : List Segment) → CameWithin m s gs → run_before m f s gs ≡ flag_run_before f gs
+within_before : (m : ℕ) (f : Bool) (s : ℕ) (gs : List Segment) → CameWithin m s gs
+    → run_before m f s gs ≡ flag_run_before f gs
 within_before m f s [] came = refl
 within_before m f s (g ∷ older) came =
-    both (is_same f g.fragment.flag) (nat_lt s (g.slot + m)) (g ∷ run_before m f g.slot older) (g ∷ flag_run_before f older) (lt-ltb s (g.slot + m) came.0)
+    both (is_same f g.fragment.flag) (nat_lt s (g.slot + m)) (g ∷ run_before m f g.slot older)
+    (g ∷ flag_run_before f older) (lt-ltb s (g.slot + m) came.0)
     (ap (λ (gs : List Segment). g ∷ gs) (within_before m f g.slot older came.1))
 
 within_run : (m t : ℕ) (gs : List Segment) → CameWithin m t gs → run m t gs ≡ flag_run gs
@@ -142,9 +196,11 @@ within_run m t (g ∷ older) came =
     cond-true (nat_lt t (g.slot + m)) (g ∷ run_before m g.fragment.flag g.slot older) [] (lt-ltb t (g.slot + m) came.0)
     ∙ ap (λ (gs : List Segment). g ∷ gs) (within_before m g.fragment.flag g.slot older came.1)
 
-run_while_heard : (pick : Message → Option Fragment) (m : ℕ) (input : Input) → HearsWithin m pick input → run_at pick m input.first input.heard ≡ run_by_flag pick input
+run_while_heard : (pick : Message → Option Fragment) (m : ℕ) (input : Input) → HearsWithin m pick input
+    → run_at pick m input.first input.heard ≡ run_by_flag pick input
 run_while_heard pick m input came =
-    sym (run_at_newest pick m input.first input.heard) ∙ within_run m (newest_slot input.first input.heard) (segments pick input.first input.heard) came
+    sym (run_at_newest pick m input.first input.heard) ∙ within_run m (newest_slot input.first input.heard)
+    (segments pick input.first input.heard) came
 
 -- segments that came in fewer than m slots came within m slots
 falls_within : (m t : ℕ) (gs : List Segment) → t < m → AreFalling (t + 1) gs → CameWithin m t gs
@@ -156,15 +212,19 @@ falls_within m t (g ∷ older) long falls =
     lower [] falls = tt
     lower (h ∷ older) falls = (let before = falls.0 in omega arith, falls.1)
 
-long_within : (pick : Message → Option Fragment) (m : ℕ) (input : Input) → next_slot input ≤ m → HearsWithin m pick input
+long_within : (pick : Message → Option Fragment) (m : ℕ) (input : Input) → next_slot input ≤ m
+    → HearsWithin m pick input
 long_within pick m input long = by input.heard long
   where
-    by : (heard : List (Option Message)) → input.first + length heard ≤ m → CameWithin m (newest_slot input.first heard) (segments pick input.first heard)
+    by : (heard : List (Option Message)) → input.first + length heard ≤ m
+        → CameWithin m (newest_slot input.first heard) (segments pick input.first heard)
     by [] long = tt
     by (x ∷ before) long =
         let next : input.first + length (x ∷ before) ≡ input.first + length before + 1 = omega arith in
-        falls_within m (input.first + length before) (segments pick input.first (x ∷ before)) (omega (arith, long, next))
-        (subst (λ (n : ℕ). AreFalling n (segments pick input.first (x ∷ before))) next (segments_fall pick input.first (x ∷ before)))
+        falls_within m (input.first + length before) (segments pick input.first (x ∷ before))
+        (omega (arith, long, next))
+        (subst (λ (n : ℕ). AreFalling n (segments pick input.first (x ∷ before))) next (segments_fall pick input.first
+        (x ∷ before)))
 
 pub while_heard : TheFlagAloneIsADwellWhileHeard
 while_heard m input view texts_came names_came = (to, from)
@@ -197,4 +257,5 @@ while_heard m input view texts_came names_came = (to, from)
     }
 
 pub long_dwell : TheFlagAloneIsALongDwell
-long_dwell m input view long = while_heard m input view (long_within text_fragment m input long) (long_within name_fragment m input long)
+long_dwell m input view long = while_heard m input view (long_within text_fragment m input long)
+    (long_within name_fragment m input long)

@@ -1,5 +1,6 @@
 -- Lemmas: a run holds each recent segment, so a broadcast is shown if all its segments came recently.
-use Rattle.std.proofs.Common.{◌≡◌, ◌+◌, ◌<◌, ◌≤◌, ◌⊎◌, ℕ, Bool, true, false, List, [], ◌∷◌, Option, Some, None, cond, length, nat_eq, nat_lt, ◌&&◌, refl, sym, ap, ◌∙◌, subst, inl, inr, arith}
+use Rattle.std.proofs.Common.{◌≡◌, ◌+◌, ◌<◌, ◌≤◌, ◌⊎◌, ℕ, Bool, true, false, List, [], ◌∷◌, Option, Some, None, cond}
+use Rattle.std.proofs.Common.{length, nat_eq, nat_lt, ◌&&◌, refl, sym, ap, ◌∙◌, subst, inl, inr, arith}
 use Rattle.std.specs.FinMap.{get}
 use Rattle.std.specs.List.{AllByRecursion}
 use Rattle.std.proofs.lemmas.Bool.{cases_order, eqb-false, eqb-true, lt-ltb}
@@ -38,15 +39,19 @@ abbrev pub came_in : ℕ → Fragment → Segment
 came_in slot p = record { slot = slot; fragment = p }
 
 -- each fragment that was heard is among the segments
-pub in_segments : (pick : Message → Option Fragment) (first : ℕ) (heard : List (Option Message)) (u : ℕ) (message : Message) (p : Fragment)
+pub in_segments : (pick : Message → Option Fragment) (first : ℕ) (heard : List (Option Message)) (u : ℕ)
+    (message : Message) (p : Fragment)
     → HasEntry first heard u (Some message) → pick message ≡ Some p → IsIn (segments pick first heard) (came_in u p)
 in_segments pick first [] u message p has is = absurd has
 in_segments pick first (x ∷ before) u message p (inl now) is =
     let picks : picked pick x ≡ Some p = ap (picked pick) (sym now.1) ∙ is in
-    subst (λ (o : Option Fragment). IsIn (with_segment (first + length before) o (segments pick first before)) (came_in u p)) (sym picks) (inl (ap (λ n. came_in n p) now.0))
-in_segments pick first (x ∷ before) u message p (inr earlier) is = by (picked pick x) (in_segments pick first before u message p earlier is)
+    subst (λ (o : Option Fragment). IsIn (with_segment (first + length before) o (segments pick first before))
+    (came_in u p)) (sym picks) (inl (ap (λ n. came_in n p) now.0))
+in_segments pick first (x ∷ before) u message p (inr earlier) is = by (picked pick x) (in_segments pick first before u
+    message p earlier is)
   where
-    by : (o : Option Fragment) → IsIn (segments pick first before) (came_in u p) → IsIn (with_segment (first + length before) o (segments pick first before)) (came_in u p)
+    by : (o : Option Fragment) → IsIn (segments pick first before) (came_in u p)
+        → IsIn (with_segment (first + length before) o (segments pick first before)) (came_in u p)
     by None has = has
     by (Some q) has = inr has
 
@@ -56,7 +61,8 @@ in_below n (h ∷ older) g falls (inl e) = subst (λ (x : Segment). x.slot < n) 
 in_below n (h ∷ older) g falls (inr is_in) = omega (arith, falls.0, in_below h.slot older g falls.1 is_in)
 
 -- if one of the segments came in slot s or later, so did the newest one
-newest_since : (s : ℕ) (h : Segment) (older : List Segment) (g : Segment) → AreFalling h.slot older → s ≤ g.slot → IsIn (h ∷ older) g → s ≤ h.slot
+newest_since : (s : ℕ) (h : Segment) (older : List Segment) (g : Segment) → AreFalling h.slot older → s ≤ g.slot
+    → IsIn (h ∷ older) g → s ≤ h.slot
 newest_since s h older g falls since (inl e) = subst (λ (x : Segment). s ≤ x.slot) e since
 newest_since s h older g falls since (inr is_in) = omega (arith, since, in_below h.slot older g falls is_in)
 
@@ -71,49 +77,62 @@ both_true false b p q = absurd (cc)
 
 -- if slots s to t are at most m, the run in slot t has each segment that came in slot s or later
 module _ (m t s : ℕ) (f : Bool) (soon : t < s + m) where
-  kept_before : (n : ℕ) (gs : List Segment) (g : Segment) → n ≤ t → AreFalling n gs → HaveFlag f s gs → s ≤ g.slot → IsIn gs g → IsIn (run_before m f n gs) g
+  kept_before : (n : ℕ) (gs : List Segment) (g : Segment) → n ≤ t → AreFalling n gs → HaveFlag f s gs → s ≤ g.slot
+      → IsIn gs g → IsIn (run_before m f n gs) g
   kept_before n [] g past falls flags since is_in = absurd is_in
   kept_before n (h ∷ older) g past falls flags since is_in =
       let new : s ≤ h.slot = newest_since s h older g falls.1 since is_in in
       let below = falls.0 in
       let joins : (is_same f h.fragment.flag && nat_lt n (h.slot + m)) ≡ true =
-      both_true (is_same f h.fragment.flag) (nat_lt n (h.slot + m)) (is_same_flag f h.fragment.flag (sym (flags.0 new))) (lt-ltb n (h.slot + m) (omega (arith, soon, new, past))) in
+      both_true (is_same f h.fragment.flag) (nat_lt n (h.slot + m)) (is_same_flag f h.fragment.flag (sym (flags.0 new)))
+      (lt-ltb n (h.slot + m) (omega (arith, soon, new, past))) in
       subst (λ (b : Bool). IsIn (cond b (h ∷ run_before m f h.slot older) []) g) (sym joins)
       (by is_in (kept_before h.slot older g (omega (arith, below, past)) falls.1 flags.1 since))
     where
-      by : (g ≡ h) ⊎ IsIn older g → (IsIn older g → IsIn (run_before m f h.slot older) g) → (g ≡ h) ⊎ IsIn (run_before m f h.slot older) g
+      by : (g ≡ h) ⊎ IsIn older g → (IsIn older g → IsIn (run_before m f h.slot older) g)
+          → (g ≡ h) ⊎ IsIn (run_before m f h.slot older) g
       by (inl e) rest = inl e
       by (inr is_in) rest = inr (rest is_in)
 
-  kept : (gs : List Segment) (g : Segment) → AreFalling (t + 1) gs → HaveFlag f s gs → s ≤ g.slot → IsIn gs g → IsIn (run m t gs) g
+  kept : (gs : List Segment) (g : Segment) → AreFalling (t + 1) gs → HaveFlag f s gs → s ≤ g.slot → IsIn gs g
+      → IsIn (run m t gs) g
   kept [] g falls flags since is_in = absurd is_in
   kept (h ∷ older) g falls flags since is_in =
       let new : s ≤ h.slot = newest_since s h older g falls.1 since is_in in
       let below = falls.0 in
-      subst (λ (b : Bool). IsIn (cond b (h ∷ run_before m h.fragment.flag h.slot older) []) g) (sym (lt-ltb t (h.slot + m) (omega (arith, soon, new))))
+      subst (λ (b : Bool). IsIn (cond b (h ∷ run_before m h.fragment.flag h.slot older) []) g)
+      (sym (lt-ltb t (h.slot + m) (omega (arith, soon, new))))
       (subst (λ (x : Bool). IsIn (h ∷ run_before m x h.slot older) g) (sym (flags.0 new))
       (by is_in (kept_before h.slot older g (omega (arith, below)) falls.1 flags.1 since)))
     where
-      by : (g ≡ h) ⊎ IsIn older g → (IsIn older g → IsIn (run_before m f h.slot older) g) → (g ≡ h) ⊎ IsIn (run_before m f h.slot older) g
+      by : (g ≡ h) ⊎ IsIn older g → (IsIn older g → IsIn (run_before m f h.slot older) g)
+          → (g ≡ h) ⊎ IsIn (run_before m f h.slot older) g
       by (inl e) rest = inl e
       by (inr is_in) rest = inr (rest is_in)
 
 -- for each segment of a run in one broadcast, that broadcast's segment is held at its address
-held_own : (kind : Kind) (input : Input) (b : Broadcast) (gs : List Segment) (g : Segment) → AreOf kind input b gs → IsIn gs g
+held_own : (kind : Kind) (input : Input) (b : Broadcast) (gs : List Segment) (g : Segment) → AreOf kind input b gs
+    → IsIn gs g
     → get (cells_of gs) g.fragment.address ≡ Some (segment_of (kind.body b.bytes) g.fragment.address)
 held_own kind input b [] g all is_in = absurd is_in
 held_own kind input b (h ∷ older) g all is_in =
-    get-put (cells_of older) h.fragment.address h.fragment.bytes g.fragment.address ∙ by (nat_eq g.fragment.address h.fragment.address) refl is_in (held_own kind input b older g all.1)
+    get-put (cells_of older) h.fragment.address h.fragment.bytes g.fragment.address
+    ∙ by (nat_eq g.fragment.address h.fragment.address) refl is_in (held_own kind input b older g all.1)
   where
     by : (same : Bool) → nat_eq g.fragment.address h.fragment.address ≡ same → IsIn (h ∷ older) g
-        → (IsIn older g → get (cells_of older) g.fragment.address ≡ Some (segment_of (kind.body b.bytes) g.fragment.address))
-        → cond same (Some h.fragment.bytes) (get (cells_of older) g.fragment.address) ≡ Some (segment_of (kind.body b.bytes) g.fragment.address)
-    by true e is_in rest = ap Some (all.0.has.fragment.bytes ∙ ap (segment_of (kind.body b.bytes)) (sym (eqb-true g.fragment.address h.fragment.address e)))
-    by false e (inl own) rest = absurd (eqb-false g.fragment.address h.fragment.address e (ap (λ (x : Segment). x.fragment.address) own))
+        → (IsIn older g
+        → get (cells_of older) g.fragment.address ≡ Some (segment_of (kind.body b.bytes) g.fragment.address))
+        → cond same (Some h.fragment.bytes) (get (cells_of older) g.fragment.address)
+        ≡ Some (segment_of (kind.body b.bytes) g.fragment.address)
+    by true e is_in rest = ap Some (all.0.has.fragment.bytes ∙ ap (segment_of (kind.body b.bytes))
+        (sym (eqb-true g.fragment.address h.fragment.address e)))
+    by false e (inl own) rest = absurd (eqb-false g.fragment.address h.fragment.address e
+        (ap (λ (x : Segment). x.fragment.address) own))
     by false e (inr is_in) rest = rest is_in
 
 -- one broadcast covers a slot
-pub one_covers : PlanLaws → (d : ℕ) (plan : List Broadcast) (k l : ℕ) (a b : Broadcast) (u : ℕ) → IsSpaced d plan → HasNumber plan k a → HasNumber plan l b → Covers a u → Covers b u → a ≡ b
+pub one_covers : PlanLaws → (d : ℕ) (plan : List Broadcast) (k l : ℕ) (a b : Broadcast) (u : ℕ) → IsSpaced d plan
+    → HasNumber plan k a → HasNumber plan l b → Covers a u → Covers b u → a ≡ b
 one_covers laws d plan k l a b u spaced p q v w =
     elim (cases_order k l) [
       | inl same ↦ laws.one plan l a b (subst (λ (n : ℕ). HasNumber plan n a) {x = k} same p) q
@@ -130,9 +149,12 @@ pub record CameSince (gs : List Segment) (s address : ℕ) : Type 0 where
   pub at : segment.fragment.address ≡ address
   pub is_in : IsIn gs segment
 
-module _ (laws : PlanLaws) (d m t s : ℕ) (kind : Kind) (pick : Message → Option Fragment) (of : Option Message → Mark) (plan : List Broadcast) (log : List (Option Message)) (input : Input) (number : ℕ) (b : Broadcast)
-    (alike : PicksWhatIsMarked pick of) (law : IsLawful d kind plan (marks of log)) (hears : IsHeardNear d m t log input) (now : input.first + length input.heard ≡ t + 1)
-    (fresh : (u r : ℕ) → s ≤ u → CameFrom input u r → s ≤ r) (planned : HasNumber plan number b) (from : b.start ≤ s) (to : t ≤ b.end) (soon : t < s + m) where
+module _ (laws : PlanLaws) (d m t s : ℕ) (kind : Kind) (pick : Message → Option Fragment) (of : Option Message → Mark)
+    (plan : List Broadcast) (log : List (Option Message)) (input : Input) (number : ℕ) (b : Broadcast)
+    (alike : PicksWhatIsMarked pick of) (law : IsLawful d kind plan (marks of log)) (hears : IsHeardNear d m t log
+    input) (now : input.first + length input.heard ≡ t + 1)
+    (fresh : (u r : ℕ) → s ≤ u → CameFrom input u r → s ≤ r) (planned : HasNumber plan number b) (from : b.start ≤ s)
+    (to : t ≤ b.end) (soon : t < s + m) where
   abbrev pub its_segments : List Segment
   its_segments = segments pick input.first input.heard
 
@@ -142,40 +164,62 @@ module _ (laws : PlanLaws) (d m t s : ℕ) (kind : Kind) (pick : Message → Opt
     where
       flag : s ≤ g.slot → g.fragment.flag ≡ b.flag
       flag since =
-          let came = arrival log input g.slot all.0.message hears.heard (is_marked pick of all.0.message g.fragment alike all.0.fragment) all.0.came in
-          let sent = rw (alike.picked all.0.message g.fragment all.0.fragment) at (mark_sent of log came.slot (Some all.0.message) came.sent) in
+          let came = arrival log input g.slot all.0.message hears.heard (is_marked pick of all.0.message g.fragment
+          alike all.0.fragment) all.0.came in
+          let sent = rw (alike.picked all.0.message g.fragment all.0.fragment)
+          at (mark_sent of log came.slot (Some all.0.message) came.sent) in
           let lies = law.fragments came.slot g.fragment sent in
-          let mine : Covers b came.slot = record { from = omega (arith, from, fresh g.slot came.slot since came.from); to = omega (arith, to, hears.past g.slot came.slot came.from) } in
-          let same : lies.broadcast ≡ b = one_covers laws d plan lies.number number lies.broadcast b came.slot law.spaced lies.planned planned lies.is.covers mine in
+          let mine : Covers b came.slot = record {
+            from = omega (arith, from, fresh g.slot came.slot since came.from);
+            to = omega
+                (arith, to, hears.past g.slot came.slot came.from);
+          } in
+          let same : lies.broadcast ≡ b = one_covers laws d plan lies.number number lies.broadcast b came.slot
+          law.spaced lies.planned planned lies.is.covers mine in
           lies.is.flag ∙ ap (λ (x : Broadcast). x.flag) same
 
-  run_is : (heard : List (Option Message)) → input.first + length heard ≡ t + 1 → run_at pick m input.first heard ≡ run m t (segments pick input.first heard)
+  run_is : (heard : List (Option Message)) → input.first + length heard ≡ t + 1
+      → run_at pick m input.first heard ≡ run m t (segments pick input.first heard)
   run_is [] e = refl
-  run_is (x ∷ before) e = (let slot : input.first + length before ≡ t = omega arith in ap (λ (n : ℕ). run m n (segments pick input.first (x ∷ before))) slot)
+  run_is (x ∷ before) e = (let slot : input.first + length before ≡ t = omega arith
+      in ap (λ (n : ℕ). run m n (segments pick input.first (x ∷ before))) slot)
 
   in_run : (g : Segment) → s ≤ g.slot → IsIn its_segments g → IsIn (run m t its_segments) g
   in_run g since is_in =
-      kept m t s b.flag soon its_segments g (subst (λ (n : ℕ). AreFalling n its_segments) now (segments_fall pick input.first input.heard)) (flags its_segments (all_picked pick input.first input.heard)) since is_in
+      kept m t s b.flag soon its_segments g (subst (λ (n : ℕ). AreFalling n its_segments) now
+      (segments_fall pick input.first input.heard)) (flags its_segments (all_picked pick input.first input.heard))
+      since is_in
 
   -- the value shown for a run that lies in one broadcast and has all its segments
-  shown_of : (IsWhole : Cells → List ℕ → Type 0) → IsService kind IsWhole → (the_run : List Segment) → RunLiesInOne d t kind plan input the_run → ((g : Segment) → s ≤ g.slot → IsIn its_segments g → IsIn the_run g)
-      → ((cells : Cells) → AreAllHeld (kind.body b.bytes) cells → IsWhole cells b.bytes) → 0 < segment_count (kind.body b.bytes)
-      → ((a : ℕ) → a < segment_count (kind.body b.bytes) → CameSince its_segments s a) → (shown : Option (List ℕ)) → IsShown IsWhole (cells_of the_run) shown → shown ≡ Some b.bytes
-  shown_of IsWhole service [] lies holds all some each shown is = absurd (holds (each 0 some).segment (each 0 some).since (each 0 some).is_in)
+  shown_of : (IsWhole : Cells → List ℕ → Type 0) → IsService kind IsWhole → (the_run : List Segment)
+      → RunLiesInOne d t kind plan input the_run → ((g : Segment) → s ≤ g.slot → IsIn its_segments g → IsIn the_run g)
+      → ((cells : Cells) → AreAllHeld (kind.body b.bytes) cells → IsWhole cells b.bytes)
+      → 0 < segment_count (kind.body b.bytes)
+      → ((a : ℕ) → a < segment_count (kind.body b.bytes) → CameSince its_segments s a) → (shown : Option (List ℕ))
+      → IsShown IsWhole (cells_of the_run) shown → shown ≡ Some b.bytes
+  shown_of IsWhole service [] lies holds all some each shown is = absurd
+      (holds (each 0 some).segment (each 0 some).since (each 0 some).is_in)
   shown_of IsWhole service (h ∷ older) lies holds all some each shown is = by shown is
     where
       same : lies.broadcast ≡ b
       same =
           let w = each 0 some in
           let g = w.segment in
-          let own : IsSegmentOf kind input g lies.broadcast = all_in (λ (x : Segment). IsSegmentOf kind input x lies.broadcast) (h ∷ older) g lies.all (holds g w.since w.is_in) in
-          let mine : Covers b own.slot = record { from = omega (arith, from, fresh g.slot own.slot w.since own.from); to = omega (arith, to, hears.past g.slot own.slot own.from) } in
-          one_covers laws d plan lies.number number lies.broadcast b own.slot law.spaced lies.planned planned own.has.covers mine
+          let own : IsSegmentOf kind input g lies.broadcast = all_in (λ (x : Segment). IsSegmentOf kind input x
+          lies.broadcast) (h ∷ older) g lies.all (holds g w.since w.is_in) in
+          let mine : Covers b own.slot = record {
+            from = omega (arith, from, fresh g.slot own.slot w.since own.from);
+            to = omega
+                (arith, to, hears.past g.slot own.slot own.from);
+          } in
+          one_covers laws d plan lies.number number lies.broadcast b own.slot law.spaced lies.planned planned
+          own.has.covers mine
 
       own_run : AreOf kind input b (h ∷ older)
       own_run = subst (λ (x : Broadcast). AreOf kind input x (h ∷ older)) same lies.all
 
-      held : (a : ℕ) → a < segment_count (kind.body b.bytes) → get (cells_of (h ∷ older)) a ≡ Some (segment_of (kind.body b.bytes) a)
+      held : (a : ℕ) → a < segment_count (kind.body b.bytes)
+          → get (cells_of (h ∷ older)) a ≡ Some (segment_of (kind.body b.bytes) a)
       held a within =
           let w = each a within in
           subst (λ (n : ℕ). get (cells_of (h ∷ older)) n ≡ Some (segment_of (kind.body b.bytes) n)) w.at
@@ -183,22 +227,33 @@ module _ (laws : PlanLaws) (d m t s : ℕ) (kind : Kind) (pick : Message → Opt
 
       by : (shown : Option (List ℕ)) → IsShown IsWhole (cells_of (h ∷ older)) shown → shown ≡ Some b.bytes
       by None is = absurd (is b.bytes (all (cells_of (h ∷ older)) record { held = held }))
-      by (Some x) is = ap Some (bytes_of_run d t kind IsWhole plan input h older x service law.values lies is ∙ ap (λ (y : Broadcast). y.bytes) same)
+      by (Some x) is = ap Some (bytes_of_run d t kind IsWhole plan input h older x service law.values lies is
+          ∙ ap (λ (y : Broadcast). y.bytes) same)
 
-  pub shown_near : (IsWhole : Cells → List ℕ → Type 0) → IsService kind IsWhole → ((cells : Cells) → AreAllHeld (kind.body b.bytes) cells → IsWhole cells b.bytes) → 0 < segment_count (kind.body b.bytes)
-      → ((a : ℕ) → a < segment_count (kind.body b.bytes) → CameSince its_segments s a) → (shown : Option (List ℕ)) → IsShown IsWhole (cells_of (run_at pick m input.first input.heard)) shown → shown ≡ Some b.bytes
+  pub shown_near : (IsWhole : Cells → List ℕ → Type 0) → IsService kind IsWhole
+      → ((cells : Cells) → AreAllHeld (kind.body b.bytes) cells → IsWhole cells b.bytes)
+      → 0 < segment_count (kind.body b.bytes)
+      → ((a : ℕ) → a < segment_count (kind.body b.bytes) → CameSince its_segments s a) → (shown : Option (List ℕ))
+      → IsShown IsWhole (cells_of (run_at pick m input.first input.heard)) shown → shown ≡ Some b.bytes
   shown_near IsWhole service all some each shown is =
       let the_run : run_at pick m input.first input.heard ≡ run m t its_segments = run_is input.heard now in
       shown_of IsWhole service (run m t its_segments)
-      (subst (λ (xs : List Segment). RunLiesInOne d t kind plan input xs) the_run (heard_run_lies laws d m t kind pick of plan log input alike law hears))
+      (subst (λ (xs : List Segment). RunLiesInOne d t kind plan input xs) the_run (heard_run_lies laws d m t kind pick
+      of plan log input alike law hears))
       in_run all some each shown (subst (λ (xs : List Segment). IsShown IsWhole (cells_of xs) shown) the_run is)
 
 -- the same if the input is at most k slots late
-pub shown_whole : PlanLaws → (m t s : ℕ) (kind : Kind) (pick : Message → Option Fragment) (of : Option Message → Mark) (plan : List Broadcast) (log : List (Option Message)) (input : Input) (number : ℕ) (b : Broadcast)
-    → PicksWhatIsMarked pick of → (k : ℕ) → IsLawful (m + k) kind plan (marks of log) → IsHeardLate k log input → input.first + length input.heard ≡ t + 1
+pub shown_whole : PlanLaws → (m t s : ℕ) (kind : Kind) (pick : Message → Option Fragment) (of : Option Message → Mark)
+    (plan : List Broadcast) (log : List (Option Message)) (input : Input) (number : ℕ) (b : Broadcast)
+    → PicksWhatIsMarked pick of → (k : ℕ) → IsLawful (m + k) kind plan (marks of log) → IsHeardLate k log input
+    → input.first + length input.heard ≡ t + 1
     → ((u r : ℕ) → s ≤ u → CameFrom input u r → s ≤ r) → HasNumber plan number b → b.start ≤ s → t ≤ b.end → t < s + m
-    → (IsWhole : Cells → List ℕ → Type 0) → IsService kind IsWhole → ((cells : Cells) → AreAllHeld (kind.body b.bytes) cells → IsWhole cells b.bytes) → 0 < segment_count (kind.body b.bytes)
-    → ((a : ℕ) → a < segment_count (kind.body b.bytes) → CameSince (segments pick input.first input.heard) s a) → (shown : Option (List ℕ))
+    → (IsWhole : Cells → List ℕ → Type 0) → IsService kind IsWhole
+    → ((cells : Cells) → AreAllHeld (kind.body b.bytes) cells → IsWhole cells b.bytes)
+    → 0 < segment_count (kind.body b.bytes)
+    → ((a : ℕ) → a < segment_count (kind.body b.bytes) → CameSince (segments pick input.first input.heard) s a)
+    → (shown : Option (List ℕ))
     → IsShown IsWhole (cells_of (run_at pick m input.first input.heard)) shown → shown ≡ Some b.bytes
 shown_whole laws m t s kind pick of plan log input number b alike k law late now =
-    shown_near laws (m + k) m t s kind pick of plan log input number b alike law (own_is_near (m + k) m t log input (late_hears k m t log input late now)) now
+    shown_near laws (m + k) m t s kind pick of plan log input number b alike law (own_is_near (m + k) m t log input
+    (late_hears k m t log input late now)) now

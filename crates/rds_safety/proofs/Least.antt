@@ -3,7 +3,8 @@
 -- nothing in n slots, then the second segment of `BBBBDDD`. For it the two came less than its dwell apart, so it shows
 -- `AAAADDD`, which nobody set. If j is n + k, the first came k slots late and the second on time. By a clock of its own
 -- any j will do.
-use Rattle.std.proofs.Common.{◌≡◌, ◌≢◌, ◌⊎◌, ◌+◌, ◌-◌, ◌<◌, ◌≤◌, ℕ, zero, suc, true, false, List, [], ◌∷◌, length, slice_index, Option, Some, None, refl, sym, ap, ◌∙◌, subst, inl, inr, arith}
+use Rattle.std.proofs.Common.{◌≡◌, ◌≢◌, ◌⊎◌, ◌+◌, ◌-◌, ◌<◌, ◌≤◌, ℕ, zero, suc, true, false, List, [], ◌∷◌, length}
+use Rattle.std.proofs.Common.{slice_index, Option, Some, None, refl, sym, ap, ◌∙◌, subst, inl, inr, arith}
 use Rattle.std.specs.Prelude.{IfSome, nat_lt}
 use Rattle.std.specs.FinMap.{empty, get, insert}
 use Rattle.std.proofs.lemmas.Bool.{cond-true, lt-ltb}
@@ -134,7 +135,8 @@ marks_long : (j : ℕ) → length (marks text_mark (quiet j)) ≡ suc j
 marks_long zero = refl
 marks_long (suc j) = ap suc (marks_long j)
 
-pub quiet_texts : (j t : ℕ) (m : Mark) → IsMarkIn (marks text_mark (quiet j)) t m → (m ≡ Nothing) ⊎ ((t ≡ 0) × (m ≡ Sends first_fragment))
+pub quiet_texts : (j t : ℕ) (m : Mark) → IsMarkIn (marks text_mark (quiet j)) t m
+    → (m ≡ Nothing) ⊎ ((t ≡ 0) × (m ≡ Sends first_fragment))
 quiet_texts zero t m (inl s) = inr s
 quiet_texts zero t m (inr s) = absurd s
 quiet_texts (suc j) t m (inl s) = inl s.1
@@ -153,12 +155,16 @@ log j = last_message ∷ quiet j
 pub texts_lawful : (j : ℕ) → IsLawful (j + 1) texts (plan (j + 1)) (marks text_mark (log j))
 texts_lawful j = record {
   spaced = spaced (j + 1) (omega arith);
-  values = λ k b p. elim (which (j + 1) k b p) [ inl q ↦ rw q.1 (is_text 66 68 (omega arith) (omega arith) refl refl) | inr q ↦ rw q.1 (is_text 65 67 (omega arith) (omega arith) refl refl) ];
+  values = λ k b p. elim (which (j + 1) k b p) [
+    | inl q ↦ rw q.1 (is_text 66 68 (omega arith) (omega arith) refl refl)
+    | inr q ↦ rw q.1 (is_text 65 67 (omega arith) (omega arith) refl refl)
+  ];
   fragments = fragments;
   tags = tags;
 }
   where
-    fragments : (t : ℕ) (p : Fragment) → IsMarkIn (marks text_mark (log j)) t (Sends p) → HasOne (plan (j + 1)) (HasFragment texts t p)
+    fragments : (t : ℕ) (p : Fragment) → IsMarkIn (marks text_mark (log j)) t (Sends p)
+        → HasOne (plan (j + 1)) (HasFragment texts t p)
     fragments t p (inl s) =
         let same : p ≡ last_fragment = (let e = s.1 in cc) in
         let slot : t ≡ j + 1 = omega (arith, s.0, marks_long j) in
@@ -166,7 +172,11 @@ texts_lawful j = record {
           number = 1;
           broadcast = newer (j + 1);
           planned = inl (refl, refl);
-          is = rw (same, slot) record { covers = record { from = omega arith; to = omega arith }; flag = refl; fragment = record { within = omega arith; bytes = refl } };
+          is = rw (same, slot) record {
+            covers = record { from = omega arith; to = omega arith };
+            flag = refl;
+            fragment = record { within = omega arith; bytes = refl };
+          };
         }
     fragments t p (inr s) = elim (quiet_texts j t (Sends p) s) [
       | inl none ↦ absurd (cc)
@@ -176,17 +186,31 @@ texts_lawful j = record {
             number = 0;
             broadcast = older;
             planned = inr (inl (refl, refl));
-            is = rw (same, one.0) record { covers = record { from = omega arith; to = omega arith }; flag = refl; fragment = record { within = omega arith; bytes = refl } };
+            is = rw (same, one.0) record {
+              covers = record { from = omega arith; to = omega arith };
+              flag = refl;
+              fragment = record { within = omega arith; bytes = refl };
+            };
           }
     ]
 
-    tags : (t : ℕ) (pair : PairFields) → IsMarkIn (marks text_mark (log j)) t (Tagged pair) → HasOne (plan (j + 1)) (HasTags (j + 1) t pair)
+    tags : (t : ℕ) (pair : PairFields) → IsMarkIn (marks text_mark (log j)) t (Tagged pair)
+        → HasOne (plan (j + 1)) (HasTags (j + 1) t pair)
     tags t pair (inl s) = (let e = s.1 in absurd (cc))
-    tags t pair (inr s) = elim (quiet_texts j t (Tagged pair) s) [ inl none ↦ absurd (cc) | inr one ↦ (let e = one.1 in absurd (cc)) ]
+    tags t pair (inr s) = elim (quiet_texts j t (Tagged pair) s) [
+      | inl none ↦ absurd (cc)
+      | inr one ↦ (let e = one.1
+          in absurd (cc))
+    ]
 
 names_lawful : (d j : ℕ) → IsLawful d names [] (marks name_mark (log j))
 names_lawful d j = record {
-  spaced = record { lasts = λ k b p. absurd p; order = λ k a b p q. absurd p; apart = λ k a b p q. absurd p; far = λ k a b p q. absurd p };
+  spaced = record {
+    lasts = λ k b p. absurd p;
+    order = λ k a b p q. absurd p;
+    apart = λ k a b p q. absurd p;
+    far = λ k a b p q. absurd p;
+  };
   values = λ k b p. absurd p;
   fragments = λ t p s. absurd (none t (Sends p) s (λ e. (cc)));
   tags = λ t pair s. absurd (none t (Tagged pair) s (λ e. (cc)));
@@ -213,21 +237,29 @@ all_from_first k zero u s (inr p) = absurd p
 all_from_first k (suc n) u s (inl p) = (let e = p.1 in absurd (cc))
 all_from_first k (suc n) u s (inr p) = all_from_first k n u s p
 
-quiet_late : (k n : ℕ) (sent : List (Option Message)) → SentIn sent 0 first_message → IsHeardLate k sent (input_of k (quiet n) (quiet_origins n))
-quiet_late k zero sent s = one_more k sent k [] [] (Some 0) first_message (nothing_heard k sent k) s (omega arith, omega arith) (λ r u s e a. absurd a)
-quiet_late k (suc n) sent s = one_more k sent k (quiet n) (quiet_origins n) None None (quiet_late k n sent s) refl tt (λ r u s e a. absurd (cc))
+quiet_late : (k n : ℕ) (sent : List (Option Message)) → SentIn sent 0 first_message
+    → IsHeardLate k sent (input_of k (quiet n) (quiet_origins n))
+quiet_late k zero sent s = one_more k sent k [] [] (Some 0) first_message (nothing_heard k sent k) s
+    (omega arith, omega arith) (λ r u s e a. absurd a)
+quiet_late k (suc n) sent s = one_more k sent k (quiet n) (quiet_origins n) None None (quiet_late k n sent s) refl tt
+    (λ r u s e a. absurd (cc))
 
 is_late : (k n : ℕ) → IsHeardLate k (log (n + k)) (input k n (n + k))
-is_late k n = one_more k (log (n + k)) k (quiet n) (quiet_origins n) (Some (n + k + 1)) last_message (quiet_late k n (log (n + k)) (inr (first_sent (n + k))))
+is_late k n = one_more k (log (n + k)) k (quiet n) (quiet_origins n) (Some (n + k + 1)) last_message
+    (quiet_late k n (log (n + k)) (inr (first_sent (n + k))))
     (inl (omega (arith, quiet_long (n + k)), refl)) (omega (arith, quiet_long n), omega (arith, quiet_long n))
     (λ r u s e a. (let r_is : n + k + 1 ≡ r = cc in omega (arith, all_from_first k n u s a)))
 
-pub quiet_in_order : (n : ℕ) (sent : List (Option Message)) → SentIn sent 0 first_message → IsHeardInOrder sent (input_of 0 (quiet n) (quiet_origins n))
-quiet_in_order zero sent s = one_more_in_order sent 0 [] [] (Some 0) first_message (nothing_in_order sent 0) s (λ r u s e a. absurd a)
-quiet_in_order (suc n) sent s = one_more_in_order sent 0 (quiet n) (quiet_origins n) None None (quiet_in_order n sent s) refl (λ r u s e a. absurd (cc))
+pub quiet_in_order : (n : ℕ) (sent : List (Option Message)) → SentIn sent 0 first_message
+    → IsHeardInOrder sent (input_of 0 (quiet n) (quiet_origins n))
+quiet_in_order zero sent s = one_more_in_order sent 0 [] [] (Some 0) first_message (nothing_in_order sent 0) s
+    (λ r u s e a. absurd a)
+quiet_in_order (suc n) sent s = one_more_in_order sent 0 (quiet n) (quiet_origins n) None None (quiet_in_order n sent s)
+    refl (λ r u s e a. absurd (cc))
 
 pub in_order : (n j : ℕ) → IsHeardInOrder (log j) (input 0 n j)
-in_order n j = one_more_in_order (log j) 0 (quiet n) (quiet_origins n) (Some (j + 1)) last_message (quiet_in_order n (log j) (inr (first_sent j)))
+in_order n j = one_more_in_order (log j) 0 (quiet n) (quiet_origins n) (Some (j + 1)) last_message
+    (quiet_in_order n (log j) (inr (first_sent j)))
     (inl (omega (arith, quiet_long j), refl))
     (λ r u s e a. (let r_is : j + 1 ≡ r = cc in omega (arith, all_from_first 0 n u s a)))
 
@@ -252,16 +284,19 @@ no_segments k zero = refl
 no_segments k (suc n) = no_segments k n
 
 -- so it shows the mix until the last segment is as old as the dwell
-pub mixed_by : (k n now : ℕ) → now < k + length (quiet n) + (n + 2) → run (n + 2) now (segments text_fragment k (heard n)) ≡ last_segment (k + length (quiet n)) ∷ first_segment k ∷ []
+pub mixed_by : (k n now : ℕ) → now < k + length (quiet n) + (n + 2)
+    → run (n + 2) now (segments text_fragment k (heard n)) ≡ last_segment (k + length (quiet n)) ∷ first_segment k ∷ []
 mixed_by k n now soon =
     let t : ℕ = k + length (quiet n) in
     let recent : nat_lt now (t + (n + 2)) ≡ true = lt-ltb _ _ soon in
     let joins : nat_lt t (k + 0 + (n + 2)) ≡ true = lt-ltb _ _ (omega (arith, quiet_long n)) in
     ap (λ gs. run (n + 2) now (last_segment t ∷ gs)) (quiet_segments k n)
-    ∙ cond-true (nat_lt now (t + (n + 2))) (last_segment t ∷ run_before (n + 2) false t (first_segment k ∷ [])) [] recent
+    ∙ cond-true (nat_lt now (t + (n + 2))) (last_segment t ∷ run_before (n + 2) false t (first_segment k ∷ [])) []
+    recent
     ∙ ap (λ gs. last_segment t ∷ gs) (cond-true (nat_lt t (k + 0 + (n + 2))) (first_segment k ∷ []) [] joins)
 
-mixed : (k n : ℕ) → run_at text_fragment (n + 2) k (heard n) ≡ last_segment (k + length (quiet n)) ∷ first_segment k ∷ []
+mixed : (k n : ℕ) → run_at text_fragment (n + 2) k (heard n) ≡ last_segment (k + length (quiet n)) ∷ first_segment k
+    ∷ []
 mixed k n = mixed_by k n (k + length (quiet n)) (omega arith)
 
 no_name : (k n : ℕ) → run_at name_fragment (n + 2) k (heard n) ≡ []
@@ -322,20 +357,25 @@ fifth_byte a b a' b' e = cc
 
 pub of_none : (c k : ℕ) (b : Broadcast) → HasNumber (plan c) k b → b.bytes ≡ mix → ⊥
 of_none c k b p same = elim (which c k b p) [
-  | inl q ↦ (let e : newer_text ≡ mix = ap (λ (x : Broadcast). x.bytes) (sym q.1) ∙ same in omega (arith, one_byte _ _ _ _ e))
-  | inr q ↦ (let e : older_text ≡ mix = ap (λ (x : Broadcast). x.bytes) (sym q.1) ∙ same in omega (arith, fifth_byte 65 67 65 68 e))
+  | inl q ↦ (let e : newer_text ≡ mix = ap (λ (x : Broadcast). x.bytes) (sym q.1) ∙ same
+      in omega (arith, one_byte _ _ _ _ e))
+  | inr q ↦ (let e : older_text ≡ mix = ap (λ (x : Broadcast). x.bytes) (sym q.1) ∙ same
+      in omega (arith, fifth_byte 65 67 65 68 e))
 ]
 
-not_safe : (c d m t : ℕ) (sent : List (Option Message)) (r : Listener) → r.view.text ≡ Some mix → AreSafeViews d m t record { text = plan c; name = [] } sent (r ∷ []) → ⊥
+not_safe : (c d m t : ℕ) (sent : List (Option Message)) (r : Listener) → r.view.text ≡ Some mix
+    → AreSafeViews d m t record { text = plan c; name = [] } sent (r ∷ []) → ⊥
 not_safe c d m t sent r shown safe =
-    let w = subst (λ (x : Option (List ℕ)). IfSome x (RunWasOnAir d t (plan c) r.input (text_run m r.input))) shown (safe.texts 0 r (omega arith)) in
+    let w = subst (λ (x : Option (List ℕ)). IfSome x (RunWasOnAir d t (plan c) r.input (text_run m r.input))) shown
+    (safe.texts 0 r (omega arith)) in
     of_none c w.number w.broadcast w.source.planned w.bytes
 
 pub lawful : (j : ℕ) → AreLawful (j + 1) record { text = plan (j + 1); name = [] } (log j)
 lawful j = record { text = texts_lawful j; name = names_lawful (j + 1) j }
 
 -- a receiver that listens in this way to that log, and shows the mix
-pub mixes : (n j now : ℕ) (Listens : ℕ → List (Option Message) → Listener → Type 0) (r : Listener) → r.view.text ≡ Some mix → Listens now (log j) r → ShowsAMix (j + 1) n Listens
+pub mixes : (n j now : ℕ) (Listens : ℕ → List (Option Message) → Listener → Type 0) (r : Listener)
+    → r.view.text ≡ Some mix → Listens now (log j) r → ShowsAMix (j + 1) n Listens
 mixes n j now Listens r shown listens = record {
   plans = record { text = plan (j + 1); name = [] };
   log = log j;
@@ -376,7 +416,8 @@ one_slot_less_by_slow_clock m k h =
     }
 
 by_own_clock : (n j : ℕ) → ShowsAMix (j + 1) (n + 2) (ListensByOwnClock (j + 2) (n + 2))
-by_own_clock n j = mixes (n + 2) j (j + 1) (ListensByOwnClock (j + 2) (n + 2)) (receiver 0 n j) refl (listens_by_own_clock n j)
+by_own_clock n j = mixes (n + 2) j (j + 1) (ListensByOwnClock (j + 2) (n + 2)) (receiver 0 n j) refl
+    (listens_by_own_clock n j)
 
 pub one_slot_less_by_own_clock : (d m : ℕ) → 1 < d → 1 < m → ShowsAMix (d - 1) m (ListensByOwnClock d m)
 one_slot_less_by_own_clock d m g h =
@@ -384,4 +425,6 @@ one_slot_less_by_own_clock d m g h =
     let m_is : m - 2 + 2 ≡ m = omega arith in
     let slots : d - 2 + 1 ≡ d - 1 = omega arith in
     subst (λ (x : ℕ). ShowsAMix (d - 1) x (ListensByOwnClock d x)) m_is
-    (subst (λ (x : ℕ). ShowsAMix (d - 1) (m - 2 + 2) (ListensByOwnClock x (m - 2 + 2))) d_is (subst (λ (x : ℕ). ShowsAMix x (m - 2 + 2) (ListensByOwnClock (d - 2 + 2) (m - 2 + 2))) slots (by_own_clock (m - 2) (d - 2))))
+    (subst (λ (x : ℕ). ShowsAMix (d - 1) (m - 2 + 2) (ListensByOwnClock x (m - 2 + 2))) d_is
+    (subst (λ (x : ℕ). ShowsAMix x (m - 2 + 2) (ListensByOwnClock (d - 2 + 2) (m - 2 + 2))) slots
+    (by_own_clock (m - 2) (d - 2))))

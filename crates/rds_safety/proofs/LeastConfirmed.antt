@@ -1,9 +1,13 @@
--- Lemmas: no spacing below the dwell and the lateness of two receipts is enough. For receivers that show what they heard
--- once, none is enough. The plan and the log are those of proofs/Least: `AAAACCC` is on air in slot 0 alone, and `BBBBDDD`
--- in slot j + 1 alone. The receiver gets the first segment of `AAAACCC` k slots late, and a wrong copy of it w - 1 slots
+-- Lemmas: no spacing below the dwell and the lateness of two receipts is enough. For receivers that show what they
+-- heard
+-- once, none is enough. The plan and the log are those of proofs/Least: `AAAACCC` is on air in slot 0 alone, and
+-- `BBBBDDD`
+-- in slot j + 1 alone. The receiver gets the first segment of `AAAACCC` k slots late, and a wrong copy of it w - 1
+-- slots
 -- after that. It gets the second segment of `BBBBDDD` in slot j + 1, and a wrong copy of it in the slot before. So both
 -- are confirmed less than a dwell apart, and it shows `AAAADDD`.
-use Rattle.std.proofs.Common.{◌≡◌, ◌⊎◌, ◌+◌, ◌-◌, ◌<◌, ℕ, zero, suc, true, false, List, [], ◌∷◌, length, Option, Some, None, refl, sym, ap, ◌∙◌, subst, inl, inr, arith}
+use Rattle.std.proofs.Common.{◌≡◌, ◌⊎◌, ◌+◌, ◌-◌, ◌<◌, ℕ, zero, suc, true, false, List, [], ◌∷◌, length, Option, Some}
+use Rattle.std.proofs.Common.{None, refl, sym, ap, ◌∙◌, subst, inl, inr, arith}
 use Rattle.std.specs.Prelude.{nat_lt}
 use Rattle.std.proofs.lemmas.Bool.{cond-true, lt-ltb}
 use Rattle.rds_fields.specs.declared.message.Message.{Message}
@@ -18,9 +22,12 @@ use Rattle.rds_receiver.specs.Confirmed.{confirmed, if_confirmed, last_at, segme
 use Rattle.rds_safety.specs.Late.{CameFrom, HasEntry, Input, SentIn}
 use Rattle.rds_safety.specs.Laws.{ShowsAMix}
 use Rattle.rds_safety.specs.Safe.{Listener}
-use Rattle.rds_safety.specs.Confirmed.{IsHeardWithWrong, ListensOnce, ListensConfirmed, NoWrongConfirmed, WasSent, confirmed_input, lateness_of_two}
+use Rattle.rds_safety.specs.Confirmed.{IsHeardWithWrong, ListensOnce, ListensConfirmed, NoWrongConfirmed, WasSent}
+use Rattle.rds_safety.specs.Confirmed.{confirmed_input, lateness_of_two}
 use Rattle.rds_safety.proofs.Entries.{one_entry}
-use Rattle.rds_safety.proofs.Least.{first_fragment, first_message, first_sent, four, heard, last_fragment, last_message, log, mix, mix_is_whole, mixes, quiet, quiet_long, quiet_origins, shows, three_and_end, view}
+use Rattle.rds_safety.proofs.Least.{first_fragment, first_message, first_sent, four, heard, last_fragment, last_message}
+use Rattle.rds_safety.proofs.Least.{log, mix, mix_is_whole, mixes, quiet, quiet_long, quiet_origins, shows}
+use Rattle.rds_safety.proofs.Least.{three_and_end, view}
 use Rattle.rds_safety.proofs.OnTime.{input_of}
 
 -- nothing in n slots
@@ -32,24 +39,29 @@ pub gap_long : {X : Type 0} (n : ℕ) (xs : List (Option X)) → length (gap n x
 gap_long zero xs = omega arith
 gap_long (suc n) xs = (let e = gap_long n xs in omega arith)
 
-pub gap_has : {X : Type 0} (first n : ℕ) (xs : List (Option X)) (t : ℕ) (x : X) → HasEntry first (gap n xs) t (Some x) → HasEntry first xs t (Some x)
+pub gap_has : {X : Type 0} (first n : ℕ) (xs : List (Option X)) (t : ℕ) (x : X) → HasEntry first (gap n xs) t (Some x)
+    → HasEntry first xs t (Some x)
 gap_has first zero xs t x a = a
 gap_has first (suc n) xs t x (inl a) = (let bad = a.1 in absurd (cc))
 gap_has first (suc n) xs t x (inr a) = gap_has first n xs t x a
 
-pub has_gap : {X : Type 0} (first n : ℕ) (xs : List (Option X)) (t : ℕ) (x : Option X) → HasEntry first xs t x → HasEntry first (gap n xs) t x
+pub has_gap : {X : Type 0} (first n : ℕ) (xs : List (Option X)) (t : ℕ) (x : Option X) → HasEntry first xs t x
+    → HasEntry first (gap n xs) t x
 has_gap first zero xs t x a = a
 has_gap first (suc n) xs t x a = inr (has_gap first n xs t x a)
 
-pub gap_texts : (first n : ℕ) (xs : List (Option Message)) → segments text_fragment first (gap n xs) ≡ segments text_fragment first xs
+pub gap_texts : (first n : ℕ) (xs : List (Option Message))
+    → segments text_fragment first (gap n xs) ≡ segments text_fragment first xs
 gap_texts first zero xs = refl
 gap_texts first (suc n) xs = gap_texts first n xs
 
-pub gap_names : (first n : ℕ) (xs : List (Option Message)) → segments name_fragment first (gap n xs) ≡ segments name_fragment first xs
+pub gap_names : (first n : ℕ) (xs : List (Option Message))
+    → segments name_fragment first (gap n xs) ≡ segments name_fragment first xs
 gap_names first zero xs = refl
 gap_names first (suc n) xs = gap_names first n xs
 
-pub gap_confirmed : (w m first n : ℕ) (xs : List (Option Message)) → confirmed w m first (gap n xs) ≡ gap n (confirmed w m first xs)
+pub gap_confirmed : (w m first n : ℕ) (xs : List (Option Message))
+    → confirmed w m first (gap n xs) ≡ gap n (confirmed w m first xs)
 gap_confirmed w m first zero xs = refl
 gap_confirmed w m first (suc n) xs = ap (λ (ys : List (Option Message)). None ∷ ys) (gap_confirmed w m first n xs)
 
@@ -91,8 +103,11 @@ left a b = last_message ∷ None ∷ gap b (two_left a)
 two_confirmed : (m k a : ℕ) → confirmed (a + 2) m k (two a) ≡ two_left a
 two_confirmed m k a =
     let soon : nat_lt (k + length (gap a one)) (k + 0 + (a + 2)) ≡ true = lt-ltb _ _ (omega (arith, gap_long a one)) in
-    let again : segment_again (a + 2) (k + length (gap a one)) false (four 65) (Some record { slot = k + 0; fragment = first_fragment }) ≡ Some (k + 0) = cond-true (nat_lt (k + length (gap a one)) (k + 0 + (a + 2))) (Some (k + 0)) None soon in
-    ap (λ (gs : List Segment). if_confirmed (segment_again (a + 2) (k + length (gap a one)) false (four 65) (last_at 0 gs)) first_message ∷ confirmed (a + 2) m k (gap a one)) (gap_texts k a one)
+    let again : segment_again (a + 2) (k + length (gap a one)) false (four 65)
+    (Some record { slot = k + 0; fragment = first_fragment }) ≡ Some (k + 0) = cond-true
+    (nat_lt (k + length (gap a one)) (k + 0 + (a + 2))) (Some (k + 0)) None soon in
+    ap (λ (gs : List Segment). if_confirmed (segment_again (a + 2) (k + length (gap a one)) false (four 65)
+    (last_at 0 gs)) first_message ∷ confirmed (a + 2) m k (gap a one)) (gap_texts k a one)
     ∙ ap (λ (r : Option ℕ). if_confirmed r first_message ∷ confirmed (a + 2) m k (gap a one)) again
     ∙ ap (λ (xs : List (Option Message)). first_message ∷ xs) (gap_confirmed (a + 2) m k a one)
 
@@ -100,7 +115,10 @@ three_confirmed : (m k a b : ℕ) → confirmed (a + 2) m k (three a b) ≡ None
 three_confirmed m k a b =
     let rest = confirmed (a + 2) m k (gap b (two a)) in
     let n : ℕ = k + length (gap b (two a)) in
-    ap (λ (gs : List Segment). if_confirmed (segment_again (a + 2) n false (three_and_end 68) (last_at 1 gs)) last_message ∷ rest) (gap_texts k b (two a) ∙ ap (λ (gs : List Segment). record { slot = k + length (gap a one); fragment = first_fragment } ∷ gs) (gap_texts k a one))
+    ap (λ (gs : List Segment). if_confirmed (segment_again (a + 2) n false (three_and_end 68) (last_at 1 gs))
+    last_message ∷ rest) (gap_texts k b (two a)
+    ∙ ap (λ (gs : List Segment). record { slot = k + length (gap a one); fragment = first_fragment } ∷ gs)
+    (gap_texts k a one))
     ∙ ap (λ (xs : List (Option Message)). None ∷ xs) (gap_confirmed (a + 2) m k b (two a))
     ∙ ap (λ (xs : List (Option Message)). None ∷ gap b xs) (two_confirmed m k a)
 
@@ -108,7 +126,9 @@ four_confirmed : (m k a b : ℕ) → confirmed (a + 2) m k (four_heard a b) ≡ 
 four_confirmed m k a b =
     let n : ℕ = k + length (gap b (two a)) in
     let soon : nat_lt (k + length (three a b)) (n + (a + 2)) ≡ true = lt-ltb _ _ (omega arith) in
-    let again : segment_again (a + 2) (k + length (three a b)) false (three_and_end 68) (Some record { slot = n; fragment = last_fragment }) ≡ Some n = cond-true (nat_lt (k + length (three a b)) (n + (a + 2))) (Some n) None soon in
+    let again : segment_again (a + 2) (k + length (three a b)) false (three_and_end 68)
+    (Some record { slot = n; fragment = last_fragment }) ≡ Some n = cond-true (nat_lt (k + length (three a b))
+    (n + (a + 2))) (Some n) None soon in
     ap (λ (r : Option ℕ). if_confirmed r last_message ∷ confirmed (a + 2) m k (three a b)) again
     ∙ ap (λ (xs : List (Option Message)). last_message ∷ xs) (three_confirmed m k a b)
 
@@ -136,17 +156,20 @@ last_slot_is k a b = (let e = gap_long b (two_left a) in let f = left_long a in 
 
 segments_left : (k a b : ℕ) → segments text_fragment k (left a b) ≡ last_left k a b ∷ first_left k a ∷ []
 segments_left k a b =
-    ap (λ (gs : List Segment). last_left k a b ∷ gs) (gap_texts k b (two_left a) ∙ ap (λ (gs : List Segment). first_left k a ∷ gs) (none_left k a))
+    ap (λ (gs : List Segment). last_left k a b ∷ gs) (gap_texts k b (two_left a)
+    ∙ ap (λ (gs : List Segment). first_left k a ∷ gs) (none_left k a))
 
 mixed : (k a b : ℕ) → run_at text_fragment (b + 3) k (left a b) ≡ last_left k a b ∷ first_left k a ∷ []
 mixed k a b =
     let m : ℕ = b + 3 in
     let t : ℕ = last_slot k a b in
     let recent : nat_lt t (t + m) ≡ true = lt-ltb _ _ (omega arith) in
-    let joins : nat_lt t (k + length (gap a nothing) + m) ≡ true = lt-ltb _ _ (omega (arith, last_slot_is k a b, left_long a)) in
+    let joins : nat_lt t (k + length (gap a nothing) + m)
+    ≡ true = lt-ltb _ _ (omega (arith, last_slot_is k a b, left_long a)) in
     ap (λ gs. run m t gs) (segments_left k a b)
     ∙ cond-true (nat_lt t (t + m)) (last_left k a b ∷ run_before m false t (first_left k a ∷ [])) [] recent
-    ∙ ap (λ gs. last_left k a b ∷ gs) (cond-true (nat_lt t (k + length (gap a nothing) + m)) (first_left k a ∷ []) [] joins)
+    ∙ ap (λ gs. last_left k a b ∷ gs) (cond-true (nat_lt t (k + length (gap a nothing) + m)) (first_left k a ∷ []) []
+    joins)
 
 abbrev mixed_view : ℕ → ℕ → ℕ → ShownView
 mixed_view k a b = record {
@@ -183,7 +206,8 @@ origin_is k a b j t s (inl p) =
 origin_is k a b j t s (inr (inl p)) = (let bad = p.1 in absurd (cc))
 origin_is k a b j t s (inr (inr p)) = by (gap_has k b (None ∷ gap a (Some 0 ∷ [])) t s p)
   where
-    by : HasEntry k (None ∷ gap a (Some 0 ∷ [])) t (Some s) → ((t ≡ k + (a + b + 3)) × (s ≡ j + 1)) ⊎ ((t ≡ k) × (s ≡ 0))
+    by : HasEntry k (None ∷ gap a (Some 0 ∷ [])) t (Some s)
+        → ((t ≡ k + (a + b + 3)) × (s ≡ j + 1)) ⊎ ((t ≡ k) × (s ≡ 0))
     by (inl q) = (let bad = q.1 in absurd (cc))
     by (inr q) = by_first (gap_has k a (Some 0 ∷ []) t s q)
       where
@@ -192,16 +216,21 @@ origin_is k a b j t s (inr (inr p)) = by (gap_has k b (None ∷ gap a (Some 0 �
         by_first (inr r) = absurd r
 
 heard_is : (k a b t : ℕ) (x : Message) → HasEntry k (four_heard a b) t (Some x)
-    → ((x ≡ last_text) × ((t ≡ k + (a + b + 3)) ⊎ (t ≡ k + (a + b + 2)))) ⊎ ((x ≡ first_text) × ((t ≡ k + (a + 1)) ⊎ (t ≡ k)))
-heard_is k a b t x (inl p) = (let e = p.1 in let same : x ≡ last_text = cc in inl (same, inl (omega (arith, p.0, three_long a b))))
-heard_is k a b t x (inr (inl p)) = (let e = p.1 in let same : x ≡ last_text = cc in inl (same, inr (omega (arith, p.0, gap_long b (two a), two_long a))))
+    → ((x ≡ last_text) × ((t ≡ k + (a + b + 3)) ⊎ (t ≡ k + (a + b + 2))))
+    ⊎ ((x ≡ first_text) × ((t ≡ k + (a + 1)) ⊎ (t ≡ k)))
+heard_is k a b t x (inl p) = (let e = p.1 in let same : x ≡ last_text = cc
+    in inl (same, inl (omega (arith, p.0, three_long a b))))
+heard_is k a b t x (inr (inl p)) = (let e = p.1 in let same : x ≡ last_text = cc
+    in inl (same, inr (omega (arith, p.0, gap_long b (two a), two_long a))))
 heard_is k a b t x (inr (inr p)) = by (gap_has k b (two a) t x p)
   where
-    by : HasEntry k (two a) t (Some x) → ((x ≡ last_text) × ((t ≡ k + (a + b + 3)) ⊎ (t ≡ k + (a + b + 2)))) ⊎ ((x ≡ first_text) × ((t ≡ k + (a + 1)) ⊎ (t ≡ k)))
+    by : HasEntry k (two a) t (Some x) → ((x ≡ last_text) × ((t ≡ k + (a + b + 3)) ⊎ (t ≡ k + (a + b + 2))))
+        ⊎ ((x ≡ first_text) × ((t ≡ k + (a + 1)) ⊎ (t ≡ k)))
     by (inl q) = (let e = q.1 in let same : x ≡ first_text = cc in inr (same, inl (omega (arith, q.0, gap_long a one))))
     by (inr q) = by_first (gap_has k a one t x q)
       where
-        by_first : HasEntry k one t (Some x) → ((x ≡ last_text) × ((t ≡ k + (a + b + 3)) ⊎ (t ≡ k + (a + b + 2)))) ⊎ ((x ≡ first_text) × ((t ≡ k + (a + 1)) ⊎ (t ≡ k)))
+        by_first : HasEntry k one t (Some x) → ((x ≡ last_text) × ((t ≡ k + (a + b + 3)) ⊎ (t ≡ k + (a + b + 2))))
+            ⊎ ((x ≡ first_text) × ((t ≡ k + (a + 1)) ⊎ (t ≡ k)))
         by_first (inl r) = (let e = r.1 in let same : x ≡ first_text = cc in inr (same, inr (omega (arith, r.0))))
         by_first (inr r) = absurd r
 
@@ -209,7 +238,12 @@ some_is : (x y : Message) → Some x ≡ Some y → x ≡ y
 some_is x y e = cc
 
 first_has_origin : (k a b j : ℕ) → WasSent (raw k a b j) k
-first_has_origin k a b j = record { slot = 0; from = inr (inr (has_gap k b (None ∷ gap a (Some 0 ∷ [])) k (Some 0) (inr (has_gap k a (Some 0 ∷ []) k (Some 0) (inl (omega arith, refl)))))) }
+first_has_origin k a b j = record {
+  slot = 0;
+  from = inr
+      (inr (has_gap k b (None ∷ gap a (Some 0 ∷ [])) k (Some 0)
+      (inr (has_gap k a (Some 0 ∷ []) k (Some 0) (inl (omega arith, refl))))));
+}
 
 last_has_origin : (k a b j : ℕ) → WasSent (raw k a b j) (k + (a + b + 3))
 last_has_origin k a b j =
@@ -220,7 +254,8 @@ last_has_origin k a b j =
 -- it heard the log k slots late, with two wrong messages
 with_wrong : (k a b : ℕ) → IsHeardWithWrong k (log (k + a + b + 2)) (raw k a b (k + a + b + 2))
 with_wrong k a b = record {
-  beside = (let f = gap_long {X = ℕ} b (None ∷ gap a (Some 0 ∷ [])) in let g = gap_long {X = ℕ} a (Some 0 ∷ []) in let h = three_long a b in omega arith);
+  beside = (let f = gap_long {X = ℕ} b (None ∷ gap a (Some 0 ∷ [])) in let g = gap_long {X = ℕ} a (Some 0 ∷ [])
+      in let h = three_long a b in omega arith);
   each = each;
   rising = rising;
   past = λ t s p. elim (origin_is k a b j t s p) [ inl o ↦ omega (arith, o.0, o.1) | inr o ↦ omega (arith, o.0, o.1) ];
@@ -237,22 +272,38 @@ with_wrong k a b = record {
     last_came = inl (omega (arith, three_long a b), refl)
 
     first_came : HasEntry k (four_heard a b) k first_message
-    first_came = inr (inr (has_gap k b (two a) k first_message (inr (has_gap k a one k first_message (inl (omega arith, refl))))))
+    first_came = inr (inr (has_gap k b (two a) k first_message
+        (inr (has_gap k a one k first_message (inl (omega arith, refl))))))
 
-    each : (t s : ℕ) (entry : Option Message) → CameFrom (raw k a b (k + a + b + 2)) t s → HasEntry k (four_heard a b) t entry → SentIn (log (k + a + b + 2)) s entry
+    each : (t s : ℕ) (entry : Option Message) → CameFrom (raw k a b (k + a + b + 2)) t s
+        → HasEntry k (four_heard a b) t entry → SentIn (log (k + a + b + 2)) s entry
     each t s entry p q = elim (origin_is k a b (k + a + b + 2) t s p) [
       | inl o ↦
-          let is : last_message ≡ entry = one_entry k (four_heard a b) (k + (a + b + 3)) last_message entry last_came (subst (λ (n : ℕ). HasEntry k (four_heard a b) n entry) o.0 q) in
-          subst (λ (y : Option Message). SentIn (log (k + a + b + 2)) s y) is (subst (λ (n : ℕ). SentIn (log (k + a + b + 2)) n last_message) (sym o.1) sent_last)
+          let is : last_message ≡ entry = one_entry k (four_heard a b) (k + (a + b + 3)) last_message entry last_came
+          (subst (λ (n : ℕ). HasEntry k (four_heard a b) n entry) o.0 q) in
+          subst (λ (y : Option Message). SentIn (log (k + a + b + 2)) s y) is
+          (subst (λ (n : ℕ). SentIn (log (k + a + b + 2)) n last_message) (sym o.1) sent_last)
       | inr o ↦
-          let is : first_message ≡ entry = one_entry k (four_heard a b) k first_message entry first_came (subst (λ (n : ℕ). HasEntry k (four_heard a b) n entry) o.0 q) in
-          subst (λ (y : Option Message). SentIn (log (k + a + b + 2)) s y) is (subst (λ (n : ℕ). SentIn (log (k + a + b + 2)) n first_message) (sym o.1) (inr (first_sent (k + a + b + 2))))
+          let is : first_message ≡ entry = one_entry k (four_heard a b) k first_message entry first_came
+          (subst (λ (n : ℕ). HasEntry k (four_heard a b) n entry) o.0 q) in
+          subst (λ (y : Option Message). SentIn (log (k + a + b + 2)) s y) is
+          (subst (λ (n : ℕ). SentIn (log (k + a + b + 2)) n first_message) (sym o.1)
+          (inr (first_sent (k + a + b + 2))))
     ]
 
-    rising : (t u r s : ℕ) → CameFrom (raw k a b (k + a + b + 2)) t r → CameFrom (raw k a b (k + a + b + 2)) u s → t < u → r < s
+    rising : (t u r s : ℕ) → CameFrom (raw k a b (k + a + b + 2)) t r → CameFrom (raw k a b (k + a + b + 2)) u s → t < u
+        → r < s
     rising t u r s p q l = elim (origin_is k a b (k + a + b + 2) t r p) [
-      | inl o ↦ elim (origin_is k a b (k + a + b + 2) u s q) [ inl v ↦ absurd (omega (arith, o.0, v.0, l)) | inr v ↦ absurd (omega (arith, o.0, v.0, l)) ]
-      | inr o ↦ elim (origin_is k a b (k + a + b + 2) u s q) [ inl v ↦ omega (arith, o.1, v.1) | inr v ↦ absurd (omega (arith, o.0, v.0, l)) ]
+      | inl o ↦ elim (origin_is k a b (k + a + b + 2) u s q) [
+        | inl v ↦ absurd (omega (arith, o.0, v.0, l))
+        | inr v ↦
+            absurd (omega (arith, o.0, v.0, l))
+      ]
+      | inr o ↦ elim (origin_is k a b (k + a + b + 2) u s q) [
+        | inl v ↦ omega (arith, o.1, v.1)
+        | inr v ↦ absurd
+            (omega (arith, o.0, v.0, l))
+      ]
     ]
 
 pub texts_differ : first_text ≡ last_text → ⊥
@@ -280,27 +331,32 @@ once_each k a b j t u message needs l soon p q = elim (heard_is k a b t message 
 abbrev receiver : ℕ → ℕ → ℕ → ℕ → Listener
 receiver k a b j = record { input = confirmed_input (a + 2) (b + 3) (raw k a b j); view = mixed_view k a b }
 
-listens : (k a b : ℕ) → ListensConfirmed (a + 2) k (b + 3) (k + a + b + 2 + 1) (log (k + a + b + 2)) (receiver k a b (k + a + b + 2))
+listens : (k a b : ℕ)
+    → ListensConfirmed (a + 2) k (b + 3) (k + a + b + 2 + 1) (log (k + a + b + 2)) (receiver k a b (k + a + b + 2))
 listens k a b = record {
   raw = raw k a b (k + a + b + 2);
   heard = with_wrong k a b;
   once = once_each k a b (k + a + b + 2);
   now = omega (arith, three_long a b);
   confirmed = refl;
-  shows = subst (λ (xs : List (Option Message)). ShowsView (b + 3) k xs (mixed_view k a b)) (sym (four_confirmed (b + 3) k a b)) (shows_mix k a b);
+  shows = subst (λ (xs : List (Option Message)). ShowsView (b + 3) k xs (mixed_view k a b))
+      (sym (four_confirmed (b + 3) k a b)) (shows_mix k a b);
 }
 
 at_two_and_three : (k a b : ℕ) → ShowsAMix (k + a + b + 2 + 1) (b + 3) (ListensConfirmed (a + 2) k (b + 3))
-at_two_and_three k a b = mixes (b + 3) (k + a + b + 2) (k + a + b + 2 + 1) (ListensConfirmed (a + 2) k (b + 3)) (receiver k a b (k + a + b + 2)) refl (listens k a b)
+at_two_and_three k a b = mixes (b + 3) (k + a + b + 2) (k + a + b + 2 + 1) (ListensConfirmed (a + 2) k (b + 3))
+    (receiver k a b (k + a + b + 2)) refl (listens k a b)
 
-pub one_slot_less_confirmed : (w k m : ℕ) → 1 < w → 2 < m → ShowsAMix (m + lateness_of_two w k - 1) m (ListensConfirmed w k m)
+pub one_slot_less_confirmed : (w k m : ℕ) → 1 < w → 2 < m
+    → ShowsAMix (m + lateness_of_two w k - 1) m (ListensConfirmed w k m)
 one_slot_less_confirmed w k m g h =
     let w_is : w - 2 + 2 ≡ w = omega arith in
     let m_is : m - 3 + 3 ≡ m = omega arith in
     let slots : k + (w - 2) + (m - 3) + 2 + 1 ≡ m + lateness_of_two w k - 1 = omega arith in
     subst (λ (x : ℕ). ShowsAMix (m + lateness_of_two w k - 1) x (ListensConfirmed w k x)) m_is
     (subst (λ (x : ℕ). ShowsAMix (m + lateness_of_two w k - 1) (m - 3 + 3) (ListensConfirmed x k (m - 3 + 3))) w_is
-    (subst (λ (x : ℕ). ShowsAMix x (m - 3 + 3) (ListensConfirmed (w - 2 + 2) k (m - 3 + 3))) slots (at_two_and_three k (w - 2) (m - 3))))
+    (subst (λ (x : ℕ). ShowsAMix x (m - 3 + 3) (ListensConfirmed (w - 2 + 2) k (m - 3 + 3))) slots
+    (at_two_and_three k (w - 2) (m - 3))))
 
 -- a receiver that shows what it heard once: the first segment comes in slot 0, and n + 1 slots after it a wrong message
 abbrev one_wrong : ℕ → Input
@@ -335,7 +391,11 @@ listens_once n j = record {
     past = λ t s p. omega (arith, (from p).0, (from p).1);
     late = λ t s p. omega (arith, (from p).0, (from p).1);
   };
-  one = λ u v x y p q l. inl (record { slot = 0; from = subst (λ (t : ℕ). CameFrom (one_wrong n) t 0) (sym (first_is u v x y p q l)) (inr (first_origin n)) });
+  one = λ u v x y p q l. inl (record {
+    slot = 0;
+    from = subst (λ (t : ℕ). CameFrom (one_wrong n) t 0)
+        (sym (first_is u v x y p q l)) (inr (first_origin n));
+  });
   now = omega (arith, quiet_long n);
   shows = shows 0 n;
 }
@@ -344,12 +404,16 @@ listens_once n j = record {
     from {t} {s} (inl p) = (let bad = p.1 in absurd (cc))
     from {t} {s} (inr p) = from_first n t s p
 
-    each : (t s : ℕ) (entry : Option Message) → CameFrom (one_wrong n) t s → HasEntry 0 (heard n) t entry → SentIn (log j) s entry
+    each : (t s : ℕ) (entry : Option Message) → CameFrom (one_wrong n) t s → HasEntry 0 (heard n) t entry
+        → SentIn (log j) s entry
     each t s entry p q =
-        let is : first_message ≡ entry = one_entry 0 (heard n) 0 first_message entry (inr (first_sent n)) (subst (λ (u : ℕ). HasEntry 0 (heard n) u entry) (from p).0 q) in
-        subst (λ (y : Option Message). SentIn (log j) s y) is (subst (λ (u : ℕ). SentIn (log j) u first_message) (sym (from p).1) (inr (first_sent j)))
+        let is : first_message ≡ entry = one_entry 0 (heard n) 0 first_message entry (inr (first_sent n))
+        (subst (λ (u : ℕ). HasEntry 0 (heard n) u entry) (from p).0 q) in
+        subst (λ (y : Option Message). SentIn (log j) s y) is (subst (λ (u : ℕ). SentIn (log j) u first_message)
+        (sym (from p).1) (inr (first_sent j)))
 
-    first_is : (u v : ℕ) (x y : Message) → HasEntry 0 (heard n) u (Some x) → HasEntry 0 (heard n) v (Some y) → u < v → u ≡ 0
+    first_is : (u v : ℕ) (x y : Message) → HasEntry 0 (heard n) u (Some x) → HasEntry 0 (heard n) v (Some y) → u < v
+        → u ≡ 0
     first_is u v x y (inr p) q l = quiet_has n u x p
     first_is u v x y (inl p) (inl q) l = absurd (omega (arith, p.0, q.0, l))
     first_is u v x y (inl p) (inr q) l = absurd (omega (arith, p.0, quiet_has n v y q, l))
@@ -360,4 +424,5 @@ one_wrong_mixes d m g h =
     let d_is : d - 1 + 1 ≡ d = omega arith in
     subst (λ (x : ℕ). ShowsAMix d x (ListensOnce 0 x)) m_is
     (subst (λ (x : ℕ). ShowsAMix x (m - 2 + 2) (ListensOnce 0 (m - 2 + 2))) d_is
-    (mixes (m - 2 + 2) (d - 1) (m - 2 + 1) (ListensOnce 0 (m - 2 + 2)) (record { input = one_wrong (m - 2); view = view 0 (m - 2) }) refl (listens_once (m - 2) (d - 1))))
+    (mixes (m - 2 + 2) (d - 1) (m - 2 + 1) (ListensOnce 0 (m - 2 + 2))
+    (record { input = one_wrong (m - 2); view = view 0 (m - 2) }) refl (listens_once (m - 2) (d - 1))))

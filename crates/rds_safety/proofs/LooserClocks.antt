@@ -1,5 +1,6 @@
 -- Lemmas: none of the three bounds of a receiver's own clock can be one slot looser.
-use Rattle.std.proofs.Common.{◌≡◌, ◌⊎◌, ◌↔◌, ◌+◌, ◌-◌, ◌<◌, ◌≤◌, ℕ, zero, suc, true, false, List, [], ◌∷◌, length, Option, Some, None, refl, ap, ◌∙◌, subst, inl, inr, arith}
+use Rattle.std.proofs.Common.{◌≡◌, ◌⊎◌, ◌↔◌, ◌+◌, ◌-◌, ◌<◌, ◌≤◌, ℕ, zero, suc, true, false, List, [], ◌∷◌, length}
+use Rattle.std.proofs.Common.{Option, Some, None, refl, ap, ◌∙◌, subst, inl, inr, arith}
 use Rattle.std.specs.Prelude.{nat_lt, slice_index}
 use Rattle.std.proofs.lemmas.Bool.{lt-ltb}
 use Rattle.std.specs.FinMap.{empty, get, insert}
@@ -30,18 +31,30 @@ use Rattle.rds_safety.specs.Safe.{Listener, RunWasOnAir}
 use Rattle.rds_safety.specs.Source.{text_run}
 use Rattle.rds_safety.proofs.Bytes.{get-put}
 use Rattle.rds_safety.proofs.Entries.{marks_long}
-use Rattle.rds_safety.proofs.Least.{heard, in_order, input, log, mix, mix_is_whole, mixed_by, mixes, no_segments, quiet_long, quiet_origins, sent_by, three_and_end}
+use Rattle.rds_safety.proofs.Least.{heard, in_order, input, log, mix, mix_is_whole, mixed_by, mixes, no_segments}
+use Rattle.rds_safety.proofs.Least.{quiet_long, quiet_origins, sent_by, three_and_end}
 use Rattle.rds_safety.proofs.OnTime.{input_of, nothing_in_order, one_more_in_order}
 
 -- listening by an own clock is listening within its bounds
-pub own_bounds_are_own : (d m now : ℕ) (sent : List (Option Message)) (r : Listener) → ListensByOwnClock d m now sent r ↔ ListensWithin (own_bounds d) m now sent r
+pub own_bounds_are_own : (d m now : ℕ) (sent : List (Option Message)) (r : Listener)
+    → ListensByOwnClock d m now sent r ↔ ListensWithin (own_bounds d) m now sent r
 own_bounds_are_own d m now sent r = (
   λ listens. record {
-    heard = record { order = listens.heard.order; between = listens.heard.between; since = listens.heard.since; past = λ t s p. omega (arith, listens.heard.past t s p) };
+    heard = record {
+      order = listens.heard.order;
+      between = listens.heard.between;
+      since = listens.heard.since;
+      past = λ t s p. omega (arith, listens.heard.past t s p);
+    };
     shows = listens.shows;
   },
   λ listens. record {
-    heard = record { order = listens.heard.order; between = listens.heard.between; since = listens.heard.since; past = λ t s p. omega (arith, listens.heard.past t s p) };
+    heard = record {
+      order = listens.heard.order;
+      between = listens.heard.between;
+      since = listens.heard.since;
+      past = λ t s p. omega (arith, listens.heard.past t s p);
+    };
     shows = listens.shows;
   },
 )
@@ -85,25 +98,34 @@ waited_shows n = record {
   two = refl;
 }
 
-between_mixes : (n j : ℕ) → ShowsAMix (j + 1) (n + 2) (ListensWithin (record { between = j + 1 + 1; since = j + 1; ahead = 0 }) (n + 2))
-between_mixes n j = mixes (n + 2) j (j + 1) (ListensWithin (record { between = j + 1 + 1; since = j + 1; ahead = 0 }) (n + 2))
+between_mixes : (n j : ℕ)
+    → ShowsAMix (j + 1) (n + 2) (ListensWithin (record { between = j + 1 + 1; since = j + 1; ahead = 0 }) (n + 2))
+between_mixes n j = mixes (n + 2) j (j + 1) (ListensWithin (record { between = j + 1 + 1; since = j + 1; ahead = 0 })
+    (n + 2))
     record { input = waited n j; view = waited_view n } refl
     record {
       heard = record {
-        order = one_more_in_order (log j) 0 (heard n) (Some (j + 1) ∷ quiet_origins n) None None (in_order n j) refl (λ r u s e a. absurd (cc));
+        order = one_more_in_order (log j) 0 (heard n) (Some (j + 1) ∷ quiet_origins n) None None (in_order n j) refl
+            (λ r u s e a. absurd (cc));
         between = λ t u r s p q near. omega (arith, sent_by n j u s (waited_came n j u s q));
-        since = λ t s p near. omega (arith, waited_since n j t s (waited_came n j t s p) (omega (arith, near, quiet_long n)));
+        since = λ t s p near. omega (
+          arith,
+          waited_since n j t s (waited_came n j t s p)
+              (omega (arith, near, quiet_long n)),
+        );
         past = λ t s p. omega (arith, sent_by n j t s (waited_came n j t s p));
       };
       shows = waited_shows n;
     }
 
-pub one_slot_more_between : (d m : ℕ) → 0 < d → 1 < m → ShowsAMix d m (ListensWithin (record { between = d + 1; since = d; ahead = 0 }) m)
+pub one_slot_more_between : (d m : ℕ) → 0 < d → 1 < m
+    → ShowsAMix d m (ListensWithin (record { between = d + 1; since = d; ahead = 0 }) m)
 one_slot_more_between d m g h =
     let d_is : d - 1 + 1 ≡ d = omega arith in
     let m_is : m - 2 + 2 ≡ m = omega arith in
     subst (λ (x : ℕ). ShowsAMix d x (ListensWithin (record { between = d + 1; since = d; ahead = 0 }) x)) m_is
-    (subst (λ (x : ℕ). ShowsAMix x (m - 2 + 2) (ListensWithin (record { between = x + 1; since = x; ahead = 0 }) (m - 2 + 2))) d_is (between_mixes (m - 2) (d - 1)))
+    (subst (λ (x : ℕ). ShowsAMix x (m - 2 + 2) (ListensWithin (record { between = x + 1; since = x; ahead = 0 })
+    (m - 2 + 2))) d_is (between_mixes (m - 2) (d - 1)))
 
 -- ---- since an entry, and ahead of the station: a text of one segment is on air in slot a alone, and j slots follow.
 -- The receiver gets that segment in its slot 0 and counts no other slot
@@ -147,12 +169,14 @@ nothing_long : (a : ℕ) → length (nothing a) ≡ a
 nothing_long zero = refl
 nothing_long (suc a) = ap suc (nothing_long a)
 
-marks_of_nothing : (of : Option Message → Mark) (a t : ℕ) (m : Mark) → of None ≡ Nothing → IsMarkIn (marks of (nothing a)) t m → m ≡ Nothing
+marks_of_nothing : (of : Option Message → Mark) (a t : ℕ) (m : Mark) → of None ≡ Nothing
+    → IsMarkIn (marks of (nothing a)) t m → m ≡ Nothing
 marks_of_nothing of zero t m e s = absurd s
 marks_of_nothing of (suc a) t m e (inl s) = s.1 ∙ e
 marks_of_nothing of (suc a) t m e (inr s) = marks_of_nothing of a t m e s
 
-once_texts : (a j t : ℕ) (m : Mark) → IsMarkIn (marks text_mark (sent_once a j)) t m → (m ≡ Nothing) ⊎ ((t ≡ a) × (m ≡ Sends fragment))
+once_texts : (a j t : ℕ) (m : Mark) → IsMarkIn (marks text_mark (sent_once a j)) t m
+    → (m ≡ Nothing) ⊎ ((t ≡ a) × (m ≡ Sends fragment))
 once_texts a zero t m (inl s) = inr (omega (arith, s.0, marks_long text_mark (nothing a), nothing_long a), s.1)
 once_texts a zero t m (inr s) = inl (marks_of_nothing text_mark a t m refl s)
 once_texts a (suc j) t m (inl s) = inl s.1
@@ -183,7 +207,8 @@ once_spaced d a = record {
 once_lawful : (d a j : ℕ) → AreLawful d record { text = once a ∷ []; name = [] } (sent_once a j)
 once_lawful d a j = record { text = of_texts; name = of_names }
   where
-    fragments : (t : ℕ) (p : Fragment) → IsMarkIn (marks text_mark (sent_once a j)) t (Sends p) → HasOne (once a ∷ []) (HasFragment texts t p)
+    fragments : (t : ℕ) (p : Fragment) → IsMarkIn (marks text_mark (sent_once a j)) t (Sends p)
+        → HasOne (once a ∷ []) (HasFragment texts t p)
     fragments t p s = elim (once_texts a j t (Sends p) s) [
       | inl none ↦ absurd (cc)
       | inr one ↦
@@ -192,12 +217,21 @@ once_lawful d a j = record { text = of_texts; name = of_names }
             number = 0;
             broadcast = once a;
             planned = inl (refl, refl);
-            is = rw (same, one.0) record { covers = record { from = omega arith; to = omega arith }; flag = refl; fragment = record { within = omega arith; bytes = refl } };
+            is = rw (same, one.0) record {
+              covers = record { from = omega arith; to = omega arith };
+              flag = refl;
+              fragment = record { within = omega arith; bytes = refl };
+            };
           }
     ]
 
-    tags : (t : ℕ) (pair : PairFields) → IsMarkIn (marks text_mark (sent_once a j)) t (Tagged pair) → HasOne (once a ∷ []) (HasTags d t pair)
-    tags t pair s = elim (once_texts a j t (Tagged pair) s) [ inl none ↦ absurd (cc) | inr one ↦ (let e = one.1 in absurd (cc)) ]
+    tags : (t : ℕ) (pair : PairFields) → IsMarkIn (marks text_mark (sent_once a j)) t (Tagged pair)
+        → HasOne (once a ∷ []) (HasTags d t pair)
+    tags t pair s = elim (once_texts a j t (Tagged pair) s) [
+      | inl none ↦ absurd (cc)
+      | inr one ↦ (let e = one.1
+          in absurd (cc))
+    ]
 
     of_texts : IsLawful d texts (once a ∷ []) (marks text_mark (sent_once a j))
     of_texts = record {
@@ -209,7 +243,12 @@ once_lawful d a j = record { text = of_texts; name = of_names }
 
     of_names : IsLawful d names [] (marks name_mark (sent_once a j))
     of_names = record {
-      spaced = record { lasts = λ k b p. absurd p; order = λ k b c p q. absurd p; apart = λ k b c p q. absurd p; far = λ k b c p q. absurd p };
+      spaced = record {
+        lasts = λ k b p. absurd p;
+        order = λ k b c p q. absurd p;
+        apart = λ k b c p q. absurd p;
+        far = λ k b c p q. absurd p;
+      };
       values = λ k b p. absurd p;
       fragments = λ t p s. (let e = once_names a j t (Sends p) s in absurd (cc));
       tags = λ t pair s. (let e = once_names a j t (Tagged pair) s in absurd (cc));
@@ -253,7 +292,8 @@ once_shows m h =
     }
 
 -- if slot a is not one of the last d slots up to `now`
-once_unsafe : (b : Bounds) (d m a j now : ℕ) → 0 < m → 0 < b.between → now < a + b.since → a ≤ now + b.ahead → (a ≤ now → now < a + d → ⊥) → IsUnsafe d m (ListensWithin b m)
+once_unsafe : (b : Bounds) (d m a j now : ℕ) → 0 < m → 0 < b.between → now < a + b.since → a ≤ now + b.ahead
+    → (a ≤ now → now < a + d → ⊥) → IsUnsafe d m (ListensWithin b m)
 once_unsafe b d m a j now some between since ahead out = record {
   plans = record { text = once a ∷ []; name = [] };
   log = sent_once a j;
@@ -262,7 +302,8 @@ once_unsafe b d m a j now some between since ahead out = record {
   receiver = record { input = once_input a; view = once_view m };
   listens = record {
     heard = record {
-      order = one_more_in_order (sent_once a j) 0 [] [] (Some a) message (nothing_in_order (sent_once a j) 0) (message_sent a j) (λ r u s e n. absurd n);
+      order = one_more_in_order (sent_once a j) 0 [] [] (Some a) message (nothing_in_order (sent_once a j) 0)
+          (message_sent a j) (λ r u s e n. absurd n);
       between = λ t u r s p q near. omega (arith, once_came a t r p, once_came a u s q, between);
       since = λ t s p near. omega (arith, once_came a t s p, since);
       past = λ t s p. omega (arith, once_came a t s p, ahead);
@@ -270,15 +311,20 @@ once_unsafe b d m a j now some between since ahead out = record {
     shows = once_shows m some;
   };
   fails = λ safe.
-      let w : RunWasOnAir d now (once a ∷ []) (once_input a) (text_run m (once_input a)) three = safe.texts 0 (record { input = once_input a; view = once_view m }) (omega arith) in
+      let w : RunWasOnAir d now (once a ∷ []) (once_input a) (text_run m (once_input a)) three = safe.texts 0
+      (record { input = once_input a; view = once_view m }) (omega arith) in
       let is = (only_once a w.number w.broadcast w.source.planned).1 in
       let from : a ≤ w.slot = rw is at w.covers.from in
       let to : w.slot ≤ a = rw is at w.covers.to in
       out (omega (arith, from, w.past)) (omega (arith, to, w.recent));
 }
 
-pub one_slot_more_since : (d m : ℕ) → 0 < d → 0 < m → IsUnsafe d m (ListensWithin (record { between = d; since = d + 1; ahead = 0 }) m)
-one_slot_more_since d m g h = once_unsafe (record { between = d; since = d + 1; ahead = 0 }) d m 0 d d h g (omega arith) (omega arith) (λ p q. omega (arith, q))
+pub one_slot_more_since : (d m : ℕ) → 0 < d → 0 < m
+    → IsUnsafe d m (ListensWithin (record { between = d; since = d + 1; ahead = 0 }) m)
+one_slot_more_since d m g h = once_unsafe (record { between = d; since = d + 1; ahead = 0 }) d m 0 d d h g (omega arith)
+    (omega arith) (λ p q. omega (arith, q))
 
-pub one_slot_ahead : (d m : ℕ) → 0 < d → 0 < m → IsUnsafe d m (ListensWithin (record { between = d; since = d; ahead = 1 }) m)
-one_slot_ahead d m g h = once_unsafe (record { between = d; since = d; ahead = 1 }) d m 1 0 0 h g (omega arith) (omega arith) (λ p q. omega (arith, p))
+pub one_slot_ahead : (d m : ℕ) → 0 < d → 0 < m
+    → IsUnsafe d m (ListensWithin (record { between = d; since = d; ahead = 1 }) m)
+one_slot_ahead d m g h = once_unsafe (record { between = d; since = d; ahead = 1 }) d m 1 0 0 h g (omega arith)
+    (omega arith) (λ p q. omega (arith, p))

@@ -1,16 +1,24 @@
 -- Lemmas about one more entry of an input in order, or of a late one, and about inputs that are on time.
-use Rattle.std.proofs.Common.{◌≡◌, ◌⊎◌, ◌+◌, ◌<◌, ◌≤◌, ℕ, suc, List, [], ◌∷◌, length, Option, Some, None, refl, sym, ap, subst, inl, inr, arith}
-use Rattle.rds_safety.specs.Late.{HasEntry, InputOf, IsHeardInOrder, IsHeardLate, IsHeardOnTime, IsOfItsOrigin, SentIn, own_origins}
+use Rattle.std.proofs.Common.{◌≡◌, ◌⊎◌, ◌+◌, ◌<◌, ◌≤◌, ℕ, suc, List, [], ◌∷◌, length, Option, Some, None, refl, sym, ap}
+use Rattle.std.proofs.Common.{subst, inl, inr, arith}
+use Rattle.rds_safety.specs.Late.{HasEntry, InputOf, IsHeardInOrder, IsHeardLate, IsHeardOnTime, IsOfItsOrigin, SentIn}
+use Rattle.rds_safety.specs.Late.{own_origins}
 use Rattle.rds_safety.proofs.Entries.{before_end, entry_beside}
 
 abbrev pub input_of : {X : Type 0} → ℕ → List (Option X) → List (Option ℕ) → InputOf X
 input_of first heard origins = record { first = first; heard = heard; origins = origins }
 
 pub nothing_in_order : {X : Type 0} (log : List (Option X)) (first : ℕ) → IsHeardInOrder log (input_of first [] [])
-nothing_in_order log first = record { beside = refl; each = λ t origin entry o a. absurd o; rising = λ t u r s p q h. absurd p }
+nothing_in_order log first = record {
+  beside = refl;
+  each = λ t origin entry o a. absurd o;
+  rising = λ t u r s p q h.
+      absurd p;
+}
 
 -- an entry of the log extends an input in order, if its origin is later than all origins before
-pub one_more_in_order : {X : Type 0} (log : List (Option X)) (first : ℕ) (heard : List (Option X)) (origins : List (Option ℕ)) (o : Option ℕ) (x : Option X)
+pub one_more_in_order : {X : Type 0} (log : List (Option X)) (first : ℕ) (heard : List (Option X))
+    (origins : List (Option ℕ)) (o : Option ℕ) (x : Option X)
     → IsHeardInOrder log (input_of first heard origins) → IsOfItsOrigin log o x
     → ((r u s : ℕ) → o ≡ Some r → HasEntry first origins u (Some s) → s < r)
     → IsHeardInOrder log (input_of first (x ∷ heard) (o ∷ origins))
@@ -20,13 +28,16 @@ one_more_in_order {X} log first heard origins o x order says after = record {
   rising = rising;
 }
   where
-    each : (t : ℕ) (origin : Option ℕ) (entry : Option X) → HasEntry first (o ∷ origins) t origin → HasEntry first (x ∷ heard) t entry → IsOfItsOrigin log origin entry
-    each t origin entry (inl p) (inl q) = subst (λ y. IsOfItsOrigin log y entry) (sym p.1) (subst (λ y. IsOfItsOrigin log o y) (sym q.1) says)
+    each : (t : ℕ) (origin : Option ℕ) (entry : Option X) → HasEntry first (o ∷ origins) t origin
+        → HasEntry first (x ∷ heard) t entry → IsOfItsOrigin log origin entry
+    each t origin entry (inl p) (inl q) = subst (λ y. IsOfItsOrigin log y entry) (sym p.1)
+        (subst (λ y. IsOfItsOrigin log o y) (sym q.1) says)
     each t origin entry (inl p) (inr q) = absurd (omega (arith, before_end first heard t entry q, order.beside))
     each t origin entry (inr p) (inl q) = absurd (omega (arith, before_end first origins t origin p, order.beside))
     each t origin entry (inr p) (inr q) = order.each t origin entry p q
 
-    rising : (t u r s : ℕ) → HasEntry first (o ∷ origins) t (Some r) → HasEntry first (o ∷ origins) u (Some s) → t < u → r < s
+    rising : (t u r s : ℕ) → HasEntry first (o ∷ origins) t (Some r) → HasEntry first (o ∷ origins) u (Some s) → t < u
+        → r < s
     rising t u r s (inl p) (inl q) l = absurd (omega arith)
     rising t u r s (inl p) (inr q) l = absurd (omega (arith, before_end first origins u (Some s) q))
     rising t u r s (inr p) (inl q) l = after s t r (sym q.1) p
@@ -38,10 +49,16 @@ IsSoon k t None = Unit {0}
 IsSoon k t (Some s) = (s ≤ t) × (t ≤ s + k)
 
 pub nothing_heard : {X : Type 0} (k : ℕ) (log : List (Option X)) (first : ℕ) → IsHeardLate k log (input_of first [] [])
-nothing_heard k log first = record { order = nothing_in_order log first; past = λ t s p. absurd p; late = λ t s p. absurd p }
+nothing_heard k log first = record {
+  order = nothing_in_order log first;
+  past = λ t s p. absurd p;
+  late = λ t s p.
+      absurd p;
+}
 
 -- the same for a late input, if the entry came so soon
-pub one_more : {X : Type 0} (k : ℕ) (log : List (Option X)) (first : ℕ) (heard : List (Option X)) (origins : List (Option ℕ)) (o : Option ℕ) (x : Option X)
+pub one_more : {X : Type 0} (k : ℕ) (log : List (Option X)) (first : ℕ) (heard : List (Option X))
+    (origins : List (Option ℕ)) (o : Option ℕ) (x : Option X)
     → IsHeardLate k log (input_of first heard origins) → IsOfItsOrigin log o x → IsSoon k (first + length heard) o
     → ((r u s : ℕ) → o ≡ Some r → HasEntry first origins u (Some s) → s < r)
     → IsHeardLate k log (input_of first (x ∷ heard) (o ∷ origins))
@@ -58,8 +75,10 @@ one_more {X} k log first heard origins o x late says soon after = record {
     all_soon t s (inr p) = (late.past t s p, late.late t s p)
 
 -- zero slots late, each entry is that of its slot
-pub each_on_time : {X : Type 0} (log : List (Option X)) (first : ℕ) (heard : List (Option X)) (origins : List (Option ℕ)) → IsHeardLate 0 log (input_of first heard origins) → IsHeardOnTime log first heard
-each_on_time {X} log first heard origins late t entry a = by (entry_beside first heard origins t entry late.order.beside a)
+pub each_on_time : {X : Type 0} (log : List (Option X)) (first : ℕ) (heard : List (Option X))
+    (origins : List (Option ℕ)) → IsHeardLate 0 log (input_of first heard origins) → IsHeardOnTime log first heard
+each_on_time {X} log first heard origins late t entry a = by (entry_beside first heard origins t entry late.order.beside
+    a)
   where
     by : (origin : Option ℕ) × HasEntry first origins t origin → (entry ≡ None) ⊎ SentIn log t entry
     by (None, o) = inl (late.order.each t None entry o a)
@@ -73,27 +92,35 @@ own_long first (None ∷ before) = ap suc (own_long first before)
 own_long first (Some x ∷ before) = ap suc (own_long first before)
 
 -- each of its own origins is the slot itself
-origin_is_slot : {X : Type 0} (first : ℕ) (heard : List (Option X)) (t s : ℕ) → HasEntry first (own_origins first heard) t (Some s) → (s ≡ t) × (t < first + length heard)
+origin_is_slot : {X : Type 0} (first : ℕ) (heard : List (Option X)) (t s : ℕ)
+    → HasEntry first (own_origins first heard) t (Some s) → (s ≡ t) × (t < first + length heard)
 origin_is_slot first [] t s a = absurd a
 origin_is_slot first (None ∷ before) t s (inl p) = (let bad = p.1 in absurd (cc))
-origin_is_slot first (None ∷ before) t s (inr p) = (let rest = origin_is_slot first before t s p in (rest.0, omega (arith, rest.1)))
+origin_is_slot first (None ∷ before) t s (inr p) = (let rest = origin_is_slot first before t s p
+    in (rest.0, omega (arith, rest.1)))
 origin_is_slot first (Some x ∷ before) t s (inl p) =
     let origin = p.1 in
     let s_is : s ≡ first + length before = cc in
     (omega (arith, own_long first before, p.0), omega (arith, own_long first before, p.0))
-origin_is_slot first (Some x ∷ before) t s (inr p) = (let rest = origin_is_slot first before t s p in (rest.0, omega (arith, rest.1)))
+origin_is_slot first (Some x ∷ before) t s (inr p) = (let rest = origin_is_slot first before t s p
+    in (rest.0, omega (arith, rest.1)))
 
 -- an input that is on time is zero slots late
-pub no_slot_late : {X : Type 0} (log : List (Option X)) (first : ℕ) (heard : List (Option X)) → IsHeardOnTime log first heard → IsHeardLate 0 log (input_of first heard (own_origins first heard))
+pub no_slot_late : {X : Type 0} (log : List (Option X)) (first : ℕ) (heard : List (Option X))
+    → IsHeardOnTime log first heard → IsHeardLate 0 log (input_of first heard (own_origins first heard))
 no_slot_late log first [] each = nothing_heard 0 log first
 no_slot_late log first (None ∷ before) each =
-    one_more 0 log first before (own_origins first before) None None (no_slot_late log first before (λ t entry a. each t entry (inr a))) refl tt (λ r u s e a. absurd (cc))
-no_slot_late {X} log first (Some x ∷ before) each = by (each (first + length before) (Some x) (inl (refl, refl))) (no_slot_late log first before (λ t entry a. each t entry (inr a)))
+    one_more 0 log first before (own_origins first before) None None (no_slot_late log first before
+    (λ t entry a. each t entry (inr a))) refl tt (λ r u s e a. absurd (cc))
+no_slot_late {X} log first (Some x ∷ before) each = by (each (first + length before) (Some x) (inl (refl, refl)))
+    (no_slot_late log first before (λ t entry a. each t entry (inr a)))
   where
-    by : (Some x ≡ None) ⊎ SentIn log (first + length before) (Some x) → IsHeardLate 0 log (input_of first before (own_origins first before))
+    by : (Some x ≡ None) ⊎ SentIn log (first + length before) (Some x)
+        → IsHeardLate 0 log (input_of first before (own_origins first before))
         → IsHeardLate 0 log (input_of first (Some x ∷ before) (own_origins first (Some x ∷ before)))
     by (inl none) late = absurd (cc)
     by (inr sent) late =
         one_more 0 log first before (own_origins first before) (Some (first + length before)) (Some x) late
         sent (omega arith, omega arith)
-        (λ r u s e a. (let r_is : first + length before ≡ r = cc in let own = origin_is_slot first before u s a in omega (arith, own.0, own.1)))
+        (λ r u s e a. (let r_is : first + length before ≡ r = cc in let own = origin_is_slot first before u s a
+        in omega (arith, own.0, own.1)))

@@ -1,6 +1,7 @@
 -- Lemmas: a run lies in one broadcast. A receiver knows only one bit of a broadcast, but any two neighbours of a run
 -- have one flag and were sent less than d slots apart, in whatever order and by whatever clock they came.
-use Rattle.std.proofs.Common.{◌≡◌, ◌+◌, ◌<◌, ◌≤◌, ℕ, Bool, List, [], ◌∷◌, length, Option, Some, ◌&&◌, refl, sym, ap, ◌∙◌, subst, inl, inr, arith}
+use Rattle.std.proofs.Common.{◌≡◌, ◌+◌, ◌<◌, ◌≤◌, ℕ, Bool, List, [], ◌∷◌, length, Option, Some, ◌&&◌, refl, sym, ap}
+use Rattle.std.proofs.Common.{◌∙◌, subst, inl, inr, arith}
 use Rattle.std.specs.Prelude.{nat_lt}
 use Rattle.std.specs.List.{AllByRecursion}
 use Rattle.std.proofs.lemmas.Bool.{and_parts, cases_order, cond_both, ltb-true}
@@ -20,7 +21,8 @@ use Rattle.rds_safety.proofs.Hearing.{AreFalling, IsPicked, all_picked, segments
 use Rattle.rds_safety.proofs.Told.{AreJoined, AreOf, IsOfAny, IsTold, all_of_one}
 
 -- broadcasts of one flag that cover slots less than d apart are one
-one_number : PlanLaws → (d : ℕ) (plan : List Broadcast) (k l : ℕ) (a b : Broadcast) (s r : ℕ) → IsSpaced d plan → HasNumber plan k a → HasNumber plan l b
+one_number : PlanLaws → (d : ℕ) (plan : List Broadcast) (k l : ℕ) (a b : Broadcast) (s r : ℕ) → IsSpaced d plan
+    → HasNumber plan k a → HasNumber plan l b
     → Covers a s → Covers b r → r < s + d → s < r + d → a.flag ≡ b.flag → k ≡ l
 one_number laws d plan k l a b s r spaced p q u v after before e =
     elim (cases_order k l) [
@@ -37,20 +39,26 @@ pub record PicksWhatIsMarked (pick : Message → Option Fragment) (of : Option M
   pub unmarked : (entry : Option Message) → IsUnmarked entry → of entry ≡ Nothing
 
 -- so what is picked from is marked
-pub is_marked : (pick : Message → Option Fragment) (of : Option Message → Mark) (message : Message) (p : Fragment) → PicksWhatIsMarked pick of → pick message ≡ Some p → IsUnmarked (Some message) → ⊥
-is_marked pick of message p alike picks none = no_fragment p (sym (alike.picked message p picks) ∙ alike.unmarked (Some message) none)
+pub is_marked : (pick : Message → Option Fragment) (of : Option Message → Mark) (message : Message) (p : Fragment)
+    → PicksWhatIsMarked pick of → pick message ≡ Some p → IsUnmarked (Some message) → ⊥
+is_marked pick of message p alike picks none = no_fragment p (sym (alike.picked message p picks)
+    ∙ alike.unmarked (Some message) none)
   where
     no_fragment : (p : Fragment) → Sends p ≡ Nothing → ⊥
     no_fragment p e = cc
 
 -- each segment that was picked is of some broadcast
-pub all_of_any : (d : ℕ) (kind : Kind) (pick : Message → Option Fragment) (of : Option Message → Mark) (plan : List Broadcast) (log : List (Option Message)) (input : Input) (gs : List Segment)
-    → PicksWhatIsMarked pick of → IsLawful d kind plan (marks of log) → IsHeard log input → AllByRecursion (IsPicked pick input.first input.heard) gs → AllByRecursion (IsOfAny kind plan input) gs
+pub all_of_any : (d : ℕ) (kind : Kind) (pick : Message → Option Fragment) (of : Option Message → Mark)
+    (plan : List Broadcast) (log : List (Option Message)) (input : Input) (gs : List Segment)
+    → PicksWhatIsMarked pick of → IsLawful d kind plan (marks of log) → IsHeard log input
+    → AllByRecursion (IsPicked pick input.first input.heard) gs → AllByRecursion (IsOfAny kind plan input) gs
 all_of_any d kind pick of plan log input [] alike law hears all = tt
 all_of_any d kind pick of plan log input (g ∷ gs) alike law hears all =
     let message = all.0.message in
-    let came = arrival log input g.slot message hears (is_marked pick of message g.fragment alike all.0.fragment) all.0.came in
-    let sent = rw (alike.picked message g.fragment all.0.fragment) at (mark_sent of log came.slot (Some message) came.sent) in
+    let came = arrival log input g.slot message hears (is_marked pick of message g.fragment alike all.0.fragment)
+    all.0.came in
+    let sent = rw (alike.picked message g.fragment all.0.fragment)
+    at (mark_sent of log came.slot (Some message) came.sent) in
     let lies = law.fragments came.slot g.fragment sent in (
       record {
         number = lies.number;
@@ -62,7 +70,8 @@ all_of_any d kind pick of plan log input (g ∷ gs) alike law hears all =
     )
 
 -- the run lies in one broadcast, and its last segment was sent in the d slots up to slot t
-pub record LiesInOne (d t : ℕ) (kind : Kind) (plan : List Broadcast) (input : Input) (g : Segment) (older : List Segment) : Type 0 where
+pub record LiesInOne (d t : ℕ) (kind : Kind) (plan : List Broadcast) (input : Input) (g : Segment)
+    (older : List Segment) : Type 0 where
   pub number : ℕ
   pub broadcast : Broadcast
   pub planned : HasNumber plan number broadcast
@@ -76,14 +85,18 @@ RunLiesInOne d t kind plan input [] = Unit {0}
 RunLiesInOne d t kind plan input (g ∷ older) = LiesInOne d t kind plan input g older
 
 -- each segment of a run is one of the segments
-all_before : (P : Segment → Type 0) (m : ℕ) (f : Bool) (s : ℕ) (gs : List Segment) → AllByRecursion P gs → AllByRecursion P (run_before m f s gs)
+all_before : (P : Segment → Type 0) (m : ℕ) (f : Bool) (s : ℕ) (gs : List Segment) → AllByRecursion P gs
+    → AllByRecursion P (run_before m f s gs)
 all_before P m f s [] all = tt
 all_before P m f s (g ∷ older) all =
-    cond_both (is_same f g.fragment.flag && nat_lt s (g.slot + m)) (g ∷ run_before m f g.slot older) [] (AllByRecursion P) (λ _. (all.0, all_before P m f g.slot older all.1)) (λ _. tt)
+    cond_both (is_same f g.fragment.flag && nat_lt s (g.slot + m)) (g ∷ run_before m f g.slot older) []
+    (AllByRecursion P) (λ _. (all.0, all_before P m f g.slot older all.1)) (λ _. tt)
 
-module _ (laws : PlanLaws) (d m t : ℕ) (kind : Kind) (plan : List Broadcast) (log : List (Option Message)) (input : Input) (spaced : IsSpaced d plan) (hears : IsHeardNear d m t log input) where
+module _ (laws : PlanLaws) (d m t : ℕ) (kind : Kind) (plan : List Broadcast) (log : List (Option Message))
+    (input : Input) (spaced : IsSpaced d plan) (hears : IsHeardNear d m t log input) where
   -- the flag separates broadcasts less than d slots apart
-  told : (g h : Segment) → h.slot < g.slot → g.slot < h.slot + m → (r s : ℕ) → CameFrom input h.slot r → CameFrom input g.slot s → IsTold (λ x y. x ≡ y) plan r s
+  told : (g h : Segment) → h.slot < g.slot → g.slot < h.slot + m → (r s : ℕ) → CameFrom input h.slot r
+      → CameFrom input g.slot s → IsTold (λ x y. x ≡ y) plan r s
   told g h falls near r s from to k l a b p q u v flag =
       let after = hears.between h.slot g.slot r s from to near in
       let before = hears.between g.slot h.slot s r to from (omega (arith, falls)) in
@@ -91,20 +104,27 @@ module _ (laws : PlanLaws) (d m t : ℕ) (kind : Kind) (plan : List Broadcast) (
       laws.one plan l a b (subst (λ (n : ℕ). HasNumber plan n a) {x = k} same p) q
 
   -- so a run is joined
-  joined_before : (f : Bool) (g : Segment) (gs : List Segment) → g.fragment.flag ≡ f → AreFalling g.slot gs → AreJoined (λ x y. x ≡ y) plan input (g ∷ run_before m f g.slot gs)
+  joined_before : (f : Bool) (g : Segment) (gs : List Segment) → g.fragment.flag ≡ f → AreFalling g.slot gs
+      → AreJoined (λ x y. x ≡ y) plan input (g ∷ run_before m f g.slot gs)
   joined_before f g [] e falls = tt
   joined_before f g (h ∷ older) e falls =
-      cond_both (is_same f h.fragment.flag && nat_lt g.slot (h.slot + m)) (h ∷ run_before m f h.slot older) [] (λ (gs : List Segment). AreJoined (λ x y. x ≡ y) plan input (g ∷ gs))
+      cond_both (is_same f h.fragment.flag && nat_lt g.slot (h.slot + m)) (h ∷ run_before m f h.slot older) []
+      (λ (gs : List Segment). AreJoined (λ x y. x ≡ y) plan input (g ∷ gs))
       (λ joins.
       let parts = and_parts (is_same f h.fragment.flag) (nat_lt g.slot (h.slot + m)) joins in
-      let flag : f ≡ h.fragment.flag = same_flag f h.fragment.flag parts.0 in
-      (record { flag = e ∙ flag; told = told g h falls.0 (ltb-true g.slot (h.slot + m) parts.1) }, joined_before f h older (sym flag) falls.1))
+      let flag : f ≡ h.fragment.flag = same_flag f h.fragment.flag parts.0 in (
+        record { flag = e ∙ flag; told = told g h falls.0 (ltb-true g.slot (h.slot + m) parts.1) },
+        joined_before f h
+            older (sym flag) falls.1,
+      ))
       (λ _. tt)
 
-  run_lies : (n : ℕ) (gs : List Segment) → input.first + length input.heard ≡ n + 1 → AreFalling (n + 1) gs → AllByRecursion (IsOfAny kind plan input) gs → RunLiesInOne d t kind plan input (run m n gs)
+  run_lies : (n : ℕ) (gs : List Segment) → input.first + length input.heard ≡ n + 1 → AreFalling (n + 1) gs
+      → AllByRecursion (IsOfAny kind plan input) gs → RunLiesInOne d t kind plan input (run m n gs)
   run_lies n [] next falls all = tt
   run_lies n (g ∷ older) next falls all =
-      cond_both (nat_lt n (g.slot + m)) (g ∷ run_before m g.fragment.flag g.slot older) [] (RunLiesInOne d t kind plan input)
+      cond_both (nat_lt n (g.slot + m)) (g ∷ run_before m g.fragment.flag g.slot older) []
+      (RunLiesInOne d t kind plan input)
       (λ near.
       let its = all.0.is in
       record {
@@ -113,8 +133,10 @@ module _ (laws : PlanLaws) (d m t : ℕ) (kind : Kind) (plan : List Broadcast) (
         planned = all.0.planned;
         all = (
           its,
-          all_of_one kind plan input all.0.number all.0.broadcast g (run_before m g.fragment.flag g.slot older) all.0.planned its
-              (joined_before g.fragment.flag g older refl falls.1) (all_before (IsOfAny kind plan input) m g.fragment.flag g.slot older all.1),
+          all_of_one kind plan input all.0.number all.0.broadcast g (run_before m g.fragment.flag g.slot older)
+              all.0.planned its
+              (joined_before g.fragment.flag g older refl falls.1) (all_before (IsOfAny kind plan input) m
+              g.fragment.flag g.slot older all.1),
         );
         past = hears.past g.slot its.slot its.from;
         recent = hears.since g.slot its.slot its.from (omega (arith, next, ltb-true _ _ near));
@@ -122,18 +144,25 @@ module _ (laws : PlanLaws) (d m t : ℕ) (kind : Kind) (plan : List Broadcast) (
       (λ _. tt)
 
 -- the run of what was heard lies in one broadcast
-pub heard_run_lies : PlanLaws → (d m t : ℕ) (kind : Kind) (pick : Message → Option Fragment) (of : Option Message → Mark) (plan : List Broadcast) (log : List (Option Message)) (input : Input)
+pub heard_run_lies : PlanLaws
+    → (d m t : ℕ) (kind : Kind) (pick : Message → Option Fragment) (of : Option Message → Mark) (plan : List Broadcast)
+    (log : List (Option Message)) (input : Input)
     → PicksWhatIsMarked pick of → IsLawful d kind plan (marks of log) → IsHeardNear d m t log input
     → RunLiesInOne d t kind plan input (run_at pick m input.first input.heard)
 heard_run_lies laws d m t kind pick of plan log input alike law hears = by input.heard refl
   where
-    by : (heard : List (Option Message)) → input.heard ≡ heard → RunLiesInOne d t kind plan input (run_at pick m input.first heard)
+    by : (heard : List (Option Message)) → input.heard ≡ heard
+        → RunLiesInOne d t kind plan input (run_at pick m input.first heard)
     by [] e = tt
     by (newest ∷ before) e =
         let n : ℕ = input.first + length before in
-        let next : input.first + length input.heard ≡ n + 1 = ap (λ (h : List (Option Message)). input.first + length h) e ∙ omega arith in
-        let of_any = all_of_any d kind pick of plan log input (segments pick input.first input.heard) alike law hears.heard (all_picked pick input.first input.heard) in
+        let next : input.first + length input.heard ≡ n + 1 = ap (λ (h : List (Option Message)). input.first + length h)
+        e ∙ omega arith in
+        let of_any = all_of_any d kind pick of plan log input (segments pick input.first input.heard) alike law
+        hears.heard (all_picked pick input.first input.heard) in
         let falls = segments_fall pick input.first input.heard in
         run_lies laws d m t kind plan log input law.spaced hears n (segments pick input.first (newest ∷ before)) next
-        (subst (λ (h : List (Option Message)). AreFalling (n + 1) (segments pick input.first h)) e (subst (λ (i : ℕ). AreFalling i (segments pick input.first input.heard)) next falls))
-        (subst (λ (h : List (Option Message)). AllByRecursion (IsOfAny kind plan input) (segments pick input.first h)) e of_any)
+        (subst (λ (h : List (Option Message)). AreFalling (n + 1) (segments pick input.first h)) e
+        (subst (λ (i : ℕ). AreFalling i (segments pick input.first input.heard)) next falls))
+        (subst (λ (h : List (Option Message)). AllByRecursion (IsOfAny kind plan input) (segments pick input.first h)) e
+        of_any)

@@ -43,51 +43,69 @@ name_fragments_marked = record { picked = picks; unmarked = λ entry none. none.
 
 module _ (laws : PlanLaws) (d m t : ℕ) (plans : Plans) (log : List (Option Message)) (law : AreLawful d plans log) where
   text_lies : (r : Listener) → ListensNear d m t log r → RunLiesInOne d t texts plans.text r.input (text_run m r.input)
-  text_lies r h = heard_run_lies laws d m t texts text_fragment text_mark plans.text log r.input text_fragments_marked law.text h.near
+  text_lies r h = heard_run_lies laws d m t texts text_fragment text_mark plans.text log r.input text_fragments_marked
+      law.text h.near
 
   name_lies : (r : Listener) → ListensNear d m t log r → RunLiesInOne d t names plans.name r.input (name_run m r.input)
-  name_lies r h = heard_run_lies laws d m t names name_fragment name_mark plans.name log r.input name_fragments_marked law.name h.near
+  name_lies r h = heard_run_lies laws d m t names name_fragment name_mark plans.name log r.input name_fragments_marked
+      law.name h.near
 
   neighbours : (x y : Listener) → ListensNear d m t log x → ListensNear d m t log y → AreNeighbours m plans x y
   neighbours x y h i = record {
-    texts = near_sources laws d t texts plans.text x.input (text_run m x.input) y.input (text_run m y.input) law.text.spaced (text_lies x h) (text_lies y i);
-    names = near_sources laws d t names plans.name x.input (name_run m x.input) y.input (name_run m y.input) law.name.spaced (name_lies x h) (name_lies y i);
+    texts = near_sources laws d t texts plans.text x.input (text_run m x.input) y.input (text_run m y.input)
+        law.text.spaced (text_lies x h) (text_lies y i);
+    names = near_sources laws d t names plans.name x.input (name_run m x.input) y.input (name_run m y.input)
+        law.name.spaced (name_lies x h) (name_lies y i);
   }
 
-  pub are_safe : (receivers : List Listener) → All (ListensNear d m t log) receivers → AreSafeViews d m t plans log receivers
+  pub are_safe : (receivers : List Listener) → All (ListensNear d m t log) receivers
+      → AreSafeViews d m t plans log receivers
   are_safe receivers all = record {
     texts = λ i o h.
         let r = slice_index_or receivers i o in
-        shown_on_air d t texts IsWholeText plans.text r.input (text_run m r.input) r.view.text text_service law.text.values (text_lies r (all i o h)) (all i o h).shows.text;
+        shown_on_air d t texts IsWholeText plans.text r.input (text_run m r.input) r.view.text text_service
+        law.text.values (text_lies r (all i o h)) (all i o h).shows.text;
     names = λ i o h.
         let r = slice_index_or receivers i o in
-        shown_on_air d t names IsWholeName plans.name r.input (name_run m r.input) r.view.name name_service law.name.values (name_lies r (all i o h)) (all i o h).shows.name;
+        shown_on_air d t names IsWholeName plans.name r.input (name_run m r.input) r.view.name name_service
+        law.name.values (name_lies r (all i o h)) (all i o h).shows.name;
     tags = λ i o h.
         let r = slice_index_or receivers i o in
-        shows_tags laws d m t plans.text log r.input r.view law.text (all i o h).near (text_lies r (all i o h)) (all i o h).shows;
-    neighbours = λ i o h j e g. neighbours (slice_index_or receivers i o) (slice_index_or receivers j e) (all i o h) (all j e g);
+        shows_tags laws d m t plans.text log r.input r.view law.text (all i o h).near (text_lies r (all i o h))
+        (all i o h).shows;
+    neighbours = λ i o h j e g. neighbours (slice_index_or receivers i o) (slice_index_or receivers j e) (all i o h)
+        (all j e g);
   }
 
 -- if fewer than m slots of each receiver's clock are fewer than d of the station
-pub are_safe_by_own_clocks : PlanLaws → (d m t : ℕ) (plans : Plans) (log : List (Option Message)) (receivers : List Listener)
+pub are_safe_by_own_clocks : PlanLaws
+    → (d m t : ℕ) (plans : Plans) (log : List (Option Message)) (receivers : List Listener)
     → AreLawful d plans log → All (ListensByOwnClock d m t log) receivers → AreSafeViews d m t plans log receivers
 are_safe_by_own_clocks laws d m t plans log receivers law all =
-    are_safe laws d m t plans log law receivers (λ i o h. own_listens d m t log (slice_index_or receivers i o) (all i o h))
+    are_safe laws d m t plans log law receivers (λ i o h. own_listens d m t log (slice_index_or receivers i o)
+    (all i o h))
 
 -- if all receivers show only what they heard twice, plans that are lawful for the lateness of two receipts are enough
-pub are_safe_confirmed : PlanLaws → (w k m t : ℕ) (plans : Plans) (log : List (Option Message)) (receivers : List Listener)
-    → AreLawful (m + lateness_of_two w k) plans log → All (ListensConfirmed w k m t log) receivers → AreSafeViews (m + lateness_of_two w k) m t plans log receivers
+pub are_safe_confirmed : PlanLaws
+    → (w k m t : ℕ) (plans : Plans) (log : List (Option Message)) (receivers : List Listener)
+    → AreLawful (m + lateness_of_two w k) plans log → All (ListensConfirmed w k m t log) receivers
+    → AreSafeViews (m + lateness_of_two w k) m t plans log receivers
 are_safe_confirmed laws w k m t plans log receivers law all =
-    are_safe laws (m + lateness_of_two w k) m t plans log law receivers (λ i o h. confirmed_listens w k m t log (slice_index_or receivers i o) (all i o h))
+    are_safe laws (m + lateness_of_two w k) m t plans log law receivers (λ i o h. confirmed_listens w k m t log
+    (slice_index_or receivers i o) (all i o h))
 
 -- if all clocks count at most k slots too few within m, plans that are lawful for m + k are enough
-pub are_safe_by_slow_clocks : PlanLaws → (m k t : ℕ) (plans : Plans) (log : List (Option Message)) (receivers : List Listener)
-    → AreLawful (m + k) plans log → All (ListensBySlowClock k m t log) receivers → AreSafeViews (m + k) m t plans log receivers
+pub are_safe_by_slow_clocks : PlanLaws
+    → (m k t : ℕ) (plans : Plans) (log : List (Option Message)) (receivers : List Listener)
+    → AreLawful (m + k) plans log → All (ListensBySlowClock k m t log) receivers
+    → AreSafeViews (m + k) m t plans log receivers
 are_safe_by_slow_clocks laws m k t plans log receivers law all =
-    are_safe_by_own_clocks laws (m + k) m t plans log receivers law (λ i o h. slow_listens k m t log (slice_index_or receivers i o) (all i o h))
+    are_safe_by_own_clocks laws (m + k) m t plans log receivers law (λ i o h. slow_listens k m t log
+    (slice_index_or receivers i o) (all i o h))
 
 -- the same if all inputs are at most k slots late
 pub are_safe_late : PlanLaws → (m k t : ℕ) (plans : Plans) (log : List (Option Message)) (receivers : List Listener)
     → AreLawful (m + k) plans log → All (ListensTo k m t log) receivers → AreSafeViews (m + k) m t plans log receivers
 are_safe_late laws m k t plans log receivers law all =
-    are_safe_by_slow_clocks laws m k t plans log receivers law (λ i o h. late_listens k m t log (slice_index_or receivers i o) (all i o h))
+    are_safe_by_slow_clocks laws m k t plans log receivers law (λ i o h. late_listens k m t log
+    (slice_index_or receivers i o) (all i o h))

@@ -23,8 +23,10 @@ pub source_of : (d t : ℕ) (kind : Kind) (plan : List Broadcast) (input : Input
 source_of d t kind plan input g older l =
     record { planned = l.planned; slot = l.all.0.slot; sent = l.all.0.from; covers = l.all.0.has.covers }
 
-was_on_air : (d t : ℕ) (kind : Kind) (IsWhole : Cells → List ℕ → Type 0) (plan : List Broadcast) (input : Input) (the_run : List Segment) (x : List ℕ)
-    → IsService kind IsWhole → HasValues kind plan → RunLiesInOne d t kind plan input the_run → IsWhole (cells_of the_run) x
+was_on_air : (d t : ℕ) (kind : Kind) (IsWhole : Cells → List ℕ → Type 0) (plan : List Broadcast) (input : Input)
+    (the_run : List Segment) (x : List ℕ)
+    → IsService kind IsWhole → HasValues kind plan → RunLiesInOne d t kind plan input the_run
+    → IsWhole (cells_of the_run) x
     → RunWasOnAir d t plan input the_run x
 was_on_air d t kind IsWhole plan input [] x service values l whole = absurd (service.none x whole)
 was_on_air d t kind IsWhole plan input (g ∷ older) x service values l whole =
@@ -41,14 +43,18 @@ was_on_air d t kind IsWhole plan input (g ∷ older) x service values l whole =
     }
 
 -- what is shown was on air
-pub shown_on_air : (d t : ℕ) (kind : Kind) (IsWhole : Cells → List ℕ → Type 0) (plan : List Broadcast) (input : Input) (the_run : List Segment) (shown : Option (List ℕ))
-    → IsService kind IsWhole → HasValues kind plan → RunLiesInOne d t kind plan input the_run → IsShown IsWhole (cells_of the_run) shown
+pub shown_on_air : (d t : ℕ) (kind : Kind) (IsWhole : Cells → List ℕ → Type 0) (plan : List Broadcast) (input : Input)
+    (the_run : List Segment) (shown : Option (List ℕ))
+    → IsService kind IsWhole → HasValues kind plan → RunLiesInOne d t kind plan input the_run
+    → IsShown IsWhole (cells_of the_run) shown
     → IfSome shown (RunWasOnAir d t plan input the_run)
 shown_on_air d t kind IsWhole plan input the_run None service values l is = tt
-shown_on_air d t kind IsWhole plan input the_run (Some x) service values l is = was_on_air d t kind IsWhole plan input the_run x service values l is
+shown_on_air d t kind IsWhole plan input the_run (Some x) service values l is = was_on_air d t kind IsWhole plan input
+    the_run x service values l is
 
 -- one broadcast covers a slot
-one_covers : PlanLaws → (d : ℕ) (plan : List Broadcast) (k l : ℕ) (a b : Broadcast) (s : ℕ) → IsSpaced d plan → HasNumber plan k a → HasNumber plan l b → Covers a s → Covers b s → k ≡ l
+one_covers : PlanLaws → (d : ℕ) (plan : List Broadcast) (k l : ℕ) (a b : Broadcast) (s : ℕ) → IsSpaced d plan
+    → HasNumber plan k a → HasNumber plan l b → Covers a s → Covers b s → k ≡ l
 one_covers laws d plan k l a b s spaced p q u v =
     elim (cases_order k l) [
       | inl same ↦ same
@@ -58,20 +64,24 @@ one_covers laws d plan k l a b s spaced p q u v =
       ]
     ]
 
-one_last : (input : Input) (the_run : List Segment) (r s : ℕ) → LastWasSentIn input the_run r → LastWasSentIn input the_run s → r ≡ s
+one_last : (input : Input) (the_run : List Segment) (r s : ℕ) → LastWasSentIn input the_run r
+    → LastWasSentIn input the_run s → r ≡ s
 one_last input [] r s p q = absurd p
 one_last input (g ∷ older) r s p q = one_origin input g.slot r s p q
 
 -- a run has one source
-pub one_source : PlanLaws → (d : ℕ) (plan : List Broadcast) (input : Input) (the_run : List Segment) (k l : ℕ) (a b : Broadcast) → IsSpaced d plan
+pub one_source : PlanLaws → (d : ℕ) (plan : List Broadcast) (input : Input) (the_run : List Segment) (k l : ℕ)
+    (a b : Broadcast) → IsSpaced d plan
     → IsSource plan input the_run k a → IsSource plan input the_run l b → (k ≡ l) × (a ≡ b)
 one_source laws d plan input the_run k l a b spaced p q =
-    let in_one_slot : Covers b p.slot = subst (Covers b) (one_last input the_run q.slot p.slot q.sent p.sent) q.covers in
+    let in_one_slot : Covers b p.slot = subst (Covers b) (one_last input the_run q.slot p.slot q.sent p.sent) q.covers
+    in
     let same : k ≡ l = one_covers laws d plan k l a b p.slot spaced p.planned q.planned p.covers in_one_slot in
     (same, laws.one plan l a b (subst (λ (n : ℕ). HasNumber plan n a) same p.planned) q.planned)
 
 -- in one slot, the source of a run is at most the next one after that of another run
-not_far : PlanLaws → (d t : ℕ) (kind : Kind) (plan : List Broadcast) (x : Input) (x_run : List Segment) (y : Input) (y_run : List Segment) (n l : ℕ) (a b : Broadcast)
+not_far : PlanLaws → (d t : ℕ) (kind : Kind) (plan : List Broadcast) (x : Input) (x_run : List Segment) (y : Input)
+    (y_run : List Segment) (n l : ℕ) (a b : Broadcast)
     → IsSpaced d plan → RunLiesInOne d t kind plan x x_run → RunLiesInOne d t kind plan y y_run
     → IsSource plan x x_run n a → IsSource plan y y_run l b → l ≤ n + 1
 not_far laws d t kind plan x [] y y_run n l a b spaced u v p q = absurd p.sent
@@ -82,10 +92,24 @@ not_far laws d t kind plan x (g ∷ g_older) y (h ∷ h_older) n l a b spaced u 
       | inl far ↦
           let one = one_origin x g.slot p.slot u.all.0.slot p.sent u.all.0.from in
           let two = one_origin y h.slot q.slot v.all.0.slot q.sent v.all.0.from in
-          absurd (omega (arith, laws.far d plan n l a b spaced p.planned q.planned (omega arith), p.covers.to, q.covers.from, u.recent, v.past, one, two))
+          absurd (omega (
+            arith,
+            laws.far d plan n l a b spaced p.planned q.planned (omega arith),
+            p.covers.to,
+            q.covers.from,
+            u.recent,
+            v.past,
+            one,
+            two,
+          ))
     ]
 
-pub near_sources : PlanLaws → (d t : ℕ) (kind : Kind) (plan : List Broadcast) (x : Input) (x_run : List Segment) (y : Input) (y_run : List Segment)
-    → IsSpaced d plan → RunLiesInOne d t kind plan x x_run → RunLiesInOne d t kind plan y y_run → HaveNearSources plan x x_run y y_run
-near_sources laws d t kind plan x x_run y y_run spaced u v n l a b p q =
-    (not_far laws d t kind plan y y_run x x_run l n b a spaced v u q p, not_far laws d t kind plan x x_run y y_run n l a b spaced u v p q)
+pub near_sources : PlanLaws → (d t : ℕ) (kind : Kind) (plan : List Broadcast) (x : Input) (x_run : List Segment)
+    (y : Input) (y_run : List Segment)
+    → IsSpaced d plan → RunLiesInOne d t kind plan x x_run → RunLiesInOne d t kind plan y y_run
+    → HaveNearSources plan x x_run y y_run
+near_sources laws d t kind plan x x_run y y_run spaced u v n l a b p q = (
+  not_far laws d t kind plan y y_run x x_run l n b a spaced v u q p,
+  not_far laws d t kind plan x x_run y y_run n l a
+      b spaced u v p q,
+)

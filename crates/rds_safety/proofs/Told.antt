@@ -24,10 +24,12 @@ AreOf kind input b gs = AllByRecursion (λ (g : Segment). IsSegmentOf kind input
 -- the flag separates slots r and s: broadcasts with one flag that cover them are alike
 abbrev pub IsTold : (Broadcast → Broadcast → Type 0) → List Broadcast → ℕ → ℕ → Type 0
 IsTold Alike plan r s =
-    (k l : ℕ) (a b : Broadcast) → HasNumber plan k a → HasNumber plan l b → Covers a r → Covers b s → a.flag ≡ b.flag → Alike a b
+    (k l : ℕ) (a b : Broadcast) → HasNumber plan k a → HasNumber plan l b → Covers a r → Covers b s → a.flag ≡ b.flag
+    → Alike a b
 
 -- a segment and the one before it have one flag, and it separates their broadcasts
-pub record IsJoined (Alike : Broadcast → Broadcast → Type 0) (plan : List Broadcast) (input : Input) (g h : Segment) : Type 0 where
+pub record IsJoined (Alike : Broadcast → Broadcast → Type 0) (plan : List Broadcast) (input : Input) (g h : Segment)
+    : Type 0 where
   pub flag : g.fragment.flag ≡ h.fragment.flag
   pub told : (r s : ℕ) → CameFrom input h.slot r → CameFrom input g.slot s → IsTold Alike plan r s
 
@@ -38,7 +40,8 @@ AreJoined Alike plan input (g ∷ []) = Unit {0}
 AreJoined Alike plan input (g ∷ h ∷ older) = IsJoined Alike plan input g h × AreJoined Alike plan input (h ∷ older)
 
 -- the segment is of some broadcast that is alike
-pub record IsSegmentLike (Alike : Broadcast → Broadcast → Type 0) (kind : Kind) (plan : List Broadcast) (input : Input) (b : Broadcast) (g : Segment) : Type 0 where
+pub record IsSegmentLike (Alike : Broadcast → Broadcast → Type 0) (kind : Kind) (plan : List Broadcast) (input : Input)
+    (b : Broadcast) (g : Segment) : Type 0 where
   pub number : ℕ
   pub broadcast : Broadcast
   pub planned : HasNumber plan number broadcast
@@ -47,13 +50,16 @@ pub record IsSegmentLike (Alike : Broadcast → Broadcast → Type 0) (kind : Ki
 
 -- segments before one of a broadcast that is like b are like b
 pub all_like : (Alike : Broadcast → Broadcast → Type 0) → ((x y z : Broadcast) → Alike x y → Alike y z → Alike x z)
-    → (kind : Kind) (plan : List Broadcast) (input : Input) (b : Broadcast) (g : Segment) (older : List Segment) (l : ℕ) (c : Broadcast)
-    → HasNumber plan l c → IsSegmentOf kind input g c → Alike c b → AreJoined Alike plan input (g ∷ older) → AllByRecursion (IsOfAny kind plan input) older
+    → (kind : Kind) (plan : List Broadcast) (input : Input) (b : Broadcast) (g : Segment) (older : List Segment) (l : ℕ)
+    (c : Broadcast)
+    → HasNumber plan l c → IsSegmentOf kind input g c → Alike c b → AreJoined Alike plan input (g ∷ older)
+    → AllByRecursion (IsOfAny kind plan input) older
     → AllByRecursion (IsSegmentLike Alike kind plan input b) older
 all_like Alike on kind plan input b g [] l c p own near joined all = tt
 all_like Alike on kind plan input b g (h ∷ older) l c p own near joined all =
     let its = all.0 in
-    let like = joined.0.told its.is.slot own.slot its.is.from own.from its.number l its.broadcast c its.planned p its.is.has.covers own.has.covers
+    let like = joined.0.told its.is.slot own.slot its.is.from own.from its.number l its.broadcast c its.planned p
+    its.is.has.covers own.has.covers
     (sym its.is.has.flag ∙ sym joined.0.flag ∙ own.has.flag) in
     let near_too = on its.broadcast c b like near in (
       record { number = its.number; broadcast = its.broadcast; planned = its.planned; is = its.is; alike = near_too },
@@ -61,10 +67,14 @@ all_like Alike on kind plan input b g (h ∷ older) l c p own near joined all =
     )
 
 -- if only the same is alike, they are of one broadcast
-pub all_of_one : (kind : Kind) (plan : List Broadcast) (input : Input) (l : ℕ) (b : Broadcast) (g : Segment) (older : List Segment) → HasNumber plan l b → IsSegmentOf kind input g b
-    → AreJoined (λ x y. x ≡ y) plan input (g ∷ older) → AllByRecursion (IsOfAny kind plan input) older → AreOf kind input b older
-all_of_one kind plan input l b g older p own joined all = by older (all_like (λ x y. x ≡ y) (λ x y z u v. u ∙ v) kind plan input b g older l b p own refl joined all)
+pub all_of_one : (kind : Kind) (plan : List Broadcast) (input : Input) (l : ℕ) (b : Broadcast) (g : Segment)
+    (older : List Segment) → HasNumber plan l b → IsSegmentOf kind input g b
+    → AreJoined (λ x y. x ≡ y) plan input (g ∷ older) → AllByRecursion (IsOfAny kind plan input) older
+    → AreOf kind input b older
+all_of_one kind plan input l b g older p own joined all = by older (all_like (λ x y. x ≡ y) (λ x y z u v. u ∙ v) kind
+    plan input b g older l b p own refl joined all)
   where
-    by : (gs : List Segment) → AllByRecursion (IsSegmentLike (λ x y. x ≡ y) kind plan input b) gs → AreOf kind input b gs
+    by : (gs : List Segment) → AllByRecursion (IsSegmentLike (λ x y. x ≡ y) kind plan input b) gs
+        → AreOf kind input b gs
     by [] like = tt
     by (h ∷ gs) like = (subst (IsSegmentOf kind input h) like.0.alike like.0.is, by gs like.1)

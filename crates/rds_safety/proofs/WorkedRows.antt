@@ -1,5 +1,6 @@
 -- Worked examples of the definitions of safety, calculated by hand. Lists have the newest first.
-use Rattle.std.proofs.Common.{◌≡◌, ◌+◌, ◌<◌, ◌≤◌, ℕ, true, false, List, [], ◌∷◌, ◌++◌, take, drop, slice_index, Option, Some, None, refl, sym, ap, ◌∙◌, inl, inr, arith, replicate}
+use Rattle.std.proofs.Common.{◌≡◌, ◌+◌, ◌<◌, ◌≤◌, ℕ, true, false, List, [], ◌∷◌, ◌++◌, take, drop, slice_index, Option}
+use Rattle.std.proofs.Common.{Some, None, refl, sym, ap, ◌∙◌, inl, inr, arith, replicate}
 use Rattle.rds_fields.specs.declared.message.Message.{Message}
 use Rattle.rds_fields.specs.declared.message.Message.TheVariants.{Text}
 use Rattle.rds_encoder.specs.Entries.{Entry, SetText, Tick, text_moves}
@@ -35,7 +36,8 @@ third_song = 0x54 ∷ 0x48 ∷ 0x49 ∷ 0x52 ∷ 0x44 ∷ 0x20 ∷ 0x53 ∷ 0x4F
 
 -- until the end of slot 20
 abbrev three_songs : List Entry
-three_songs = Tick true ∷ SetText third_song ∷ free_slots 8 ++ SetText other_song ∷ free_slots 8 ++ SetText first_song ∷ free_slots 4
+three_songs = Tick true ∷ SetText third_song ∷ free_slots 8 ++ SetText other_song ∷ free_slots 8 ++ SetText first_song
+    ∷ free_slots 4
 
 abbrev first_broadcast : Broadcast
 first_broadcast = record { start = 4; end = 11; flag = false; bytes = first_song }
@@ -76,7 +78,11 @@ heard_in_20 = record {
 }
 
 abbrev third_segment : ℕ → ℕ → List ℕ → Segment
-third_segment slot address bytes = record { slot = slot; fragment = record { flag = false; address = address; bytes = bytes } }
+third_segment slot address bytes = record {
+  slot = slot;
+  fragment = record
+      { flag = false; address = address; bytes = bytes };
+}
 
 -- in slot 20 its run is the newest segment alone, so `THIRT SONG` is not whole
 run_in_20 : text_run 4 heard_in_20 ≡ third_segment 20 0 (0x54 ∷ 0x48 ∷ 0x49 ∷ 0x52 ∷ []) ∷ []
@@ -84,7 +90,13 @@ run_in_20 = refl
 
 -- and its source is the third broadcast
 source_in_20 : IsSource (songs 20) heard_in_20 (text_run 4 heard_in_20) 2 (third_broadcast 20)
-source_in_20 = record { planned = inl (refl, refl); slot = 20; sent = inl (refl, refl); covers = record { from = omega arith; to = omega arith } }
+source_in_20 = record {
+  planned = inl (refl, refl);
+  slot = 20;
+  sent = inl (refl, refl);
+  covers = record
+      { from = omega arith; to = omega arith };
+}
 
 -- of the texts that it could show then, the third song was on air
 third_was_on_air : RunWasOnAir 4 20 (songs 20) heard_in_20 (text_run 4 heard_in_20) third_song
@@ -106,8 +118,13 @@ mixed_song = 0x54 ∷ 0x48 ∷ 0x49 ∷ 0x52 ∷ 0x54 ∷ 0x20 ∷ 0x53 ∷ 0x4F
 mix_was_not : RunWasOnAir 4 20 (songs 20) heard_in_20 (text_run 4 heard_in_20) mixed_song → ⊥
 mix_was_not w = by w.source.slot w.source.sent w.broadcast w.source.planned w.source.covers w.bytes
   where
-    by : (slot : ℕ) → CameFrom heard_in_20 20 slot → (b : Broadcast) → HasNumber (songs 20) w.number b → Covers b slot → b.bytes ≡ mixed_song → ⊥
-    by slot (inr earlier) b planned covers e = omega (arith, before_end 0 (lost 11 ++ Some 8 ∷ None ∷ Some 6 ∷ lost 6) 20 (Some slot) earlier)
+    by : (slot : ℕ) → CameFrom heard_in_20 20 slot → (b : Broadcast) → HasNumber (songs 20) w.number b → Covers b slot
+        → b.bytes ≡ mixed_song → ⊥
+    by slot (inr earlier) b planned covers e = omega (
+      arith,
+      before_end 0 (lost 11 ++ Some 8 ∷ None ∷ Some 6 ∷ lost 6)
+          20 (Some slot) earlier,
+    )
     by slot (inl now) b (inl third) covers e =
         let bytes : third_song ≡ mixed_song = ap (λ (x : Broadcast). x.bytes) (sym third.1) ∙ e in
         omega (arith, ap (λ (x : List ℕ). slice_index x 4) bytes)
@@ -135,7 +152,13 @@ run_in_24 : text_run 4 heard_in_24
 run_in_24 = refl
 
 source_in_24 : IsSource (songs 24) heard_in_24 (text_run 4 heard_in_24) 2 (third_broadcast 24)
-source_in_24 = record { planned = inl (refl, refl); slot = 24; sent = inl (refl, refl); covers = record { from = omega arith; to = omega arith } }
+source_in_24 = record {
+  planned = inl (refl, refl);
+  slot = 24;
+  sent = inl (refl, refl);
+  covers = record
+      { from = omega arith; to = omega arith };
+}
 
 -- a receiver with the flag bit alone that gets the same joins the two songs in slot 20, which the dwell keeps apart
 run_by_flag_in_20 : run_by_flag text_fragment heard_in_20
@@ -187,25 +210,46 @@ abbrev handed : Input
 handed = record { first = 10; heard = take 3 (sent_log 4 one_and_two); origins = Some 12 ∷ Some 11 ∷ Some 10 ∷ [] }
 
 abbrev handed_less : Input
-handed_less = record { first = 10; heard = None ∷ take 2 (drop 1 (sent_log 4 one_and_two)); origins = None ∷ Some 11 ∷ Some 10 ∷ [] }
+handed_less = record {
+  first = 10;
+  heard = None ∷ take 2 (drop 1 (sent_log 4 one_and_two));
+  origins = None ∷ Some 11
+      ∷ Some 10 ∷ [];
+}
 
 source_with_it : IsSource (two_on_air ∷ one_on_air ∷ []) handed (text_run 4 handed) 1 two_on_air
-source_with_it = record { planned = inl (refl, refl); slot = 12; sent = inl (refl, refl); covers = record { from = omega arith; to = omega arith } }
+source_with_it = record {
+  planned = inl (refl, refl);
+  slot = 12;
+  sent = inl (refl, refl);
+  covers = record
+      { from = omega arith; to = omega arith };
+}
 
 source_without : IsSource (two_on_air ∷ one_on_air ∷ []) handed_less (text_run 4 handed_less) 0 one_on_air
-source_without = record { planned = inr (inl (refl, refl)); slot = 10; sent = inr (inr (inl (refl, refl))); covers = record { from = omega arith; to = omega arith } }
+source_without = record {
+  planned = inr (inl (refl, refl));
+  slot = 10;
+  sent = inr (inr (inl (refl, refl)));
+  covers = record { from = omega arith; to = omega arith };
+}
 
 -- a late group: what was sent in slot 3 comes in slot 4, one slot late and not on time
 abbrev late_log : List (Option Message)
 late_log = None ∷ ng ∷ nothing 3
 
 one_slot_late : IsHeardLate 1 late_log record { first = 4; heard = ng ∷ []; origins = Some 3 ∷ [] }
-one_slot_late = one_more 1 late_log 4 [] [] (Some 3) ng (nothing_heard 1 late_log 4) (inr (inl (refl, refl))) (omega arith, omega arith) (λ r u s e a. absurd a)
+one_slot_late = one_more 1 late_log 4 [] [] (Some 3) ng (nothing_heard 1 late_log 4) (inr (inl (refl, refl)))
+    (omega arith, omega arith) (λ r u s e a. absurd a)
 
 not_on_time : IsHeardOnTime late_log 4 (ng ∷ []) → ⊥
 not_on_time each = elim (each 4 ng (inl (refl, refl))) [
   | inl none ↦ absurd (cc)
-  | inr sent ↦ elim sent [ inl now ↦ (let none = now.1 in absurd (cc)) | inr before ↦ omega (arith, before_end 0 (ng ∷ nothing 3) 4 ng before) ]
+  | inr sent ↦ elim sent [
+    | inl now ↦ (let none = now.1 in absurd (cc))
+    | inr before ↦ omega
+        (arith, before_end 0 (ng ∷ nothing 3) 4 ng before)
+  ]
 ]
 
 -- the tags of `ABBA - WATERLOO` mark its artist and its title
@@ -227,17 +271,22 @@ title = record { class = refl; real = omega arith; ends = omega arith; piece = r
 -- two songs, and the first one again with its flag after a restart: the second is news and the third is not
 abbrev first_then_other_then_first : List Broadcast
 first_then_other_then_first =
-    record { start = 24; end = 30; flag = false; bytes = first_song } ∷ record { start = 12; end = 13; flag = true; bytes = other_song }
+    record { start = 24; end = 30; flag = false; bytes = first_song }
+    ∷ record { start = 12; end = 13; flag = true; bytes = other_song }
     ∷ record { start = 4; end = 11; flag = false; bytes = first_song } ∷ []
 
-again_is_no_news : IsNews first_then_other_then_first 2 record { start = 24; end = 30; flag = false; bytes = first_song } → ⊥
-again_is_no_news news = news.new 0 record { start = 4; end = 11; flag = false; bytes = first_song } (inr (inr (inl (refl, refl)))) (omega arith) (omega arith) refl refl
+again_is_no_news : IsNews first_then_other_then_first 2 record
+    { start = 24; end = 30; flag = false; bytes = first_song } → ⊥
+again_is_no_news news = news.new 0 record { start = 4; end = 11; flag = false; bytes = first_song }
+    (inr (inr (inl (refl, refl)))) (omega arith) (omega arith) refl refl
 
 other_is_news : IsNews first_then_other_then_first 1 record { start = 12; end = 13; flag = true; bytes = other_song }
 other_is_news = record { filled = λ none. (cc); new = new }
   where
-    new : (j : ℕ) (a : Broadcast) → HasNumber first_then_other_then_first j a → j < 1 → 1 ≤ j + 2 → a.flag ≡ true → a.bytes ≡ other_song → ⊥
+    new : (j : ℕ) (a : Broadcast) → HasNumber first_then_other_then_first j a → j < 1 → 1 ≤ j + 2 → a.flag ≡ true
+        → a.bytes ≡ other_song → ⊥
     new j a (inl p) before near flag bytes = omega (arith, p.0, before)
     new j a (inr (inl p)) before near flag bytes = omega (arith, p.0, before)
-    new j a (inr (inr (inl p))) before near flag bytes = (let bad : false ≡ true = ap (λ (b : Broadcast). b.flag) (sym p.1) ∙ flag in cc)
+    new j a (inr (inr (inl p))) before near flag bytes = (let bad : false ≡ true = ap (λ (b : Broadcast). b.flag)
+        (sym p.1) ∙ flag in cc)
     new j a (inr (inr (inr p))) before near flag bytes = p

@@ -89,8 +89,9 @@ pub record AreNeighbours (m : ℕ) (plans : Plans) (x y : Listener) : Type 0 whe
   pub names : HaveNearSources plans.name x.input (name_run m x.input) y.input (name_run m y.input)
 
 -- the views of these receivers of dwell m at the end of slot t are safe
-pub record AreSafeViews (d m t : ℕ) (plans : Plans) (log : List (Option Message)) (receivers : List Listener) : Type 0 where
-  pub texts : All (ShowsTextOnAir d m t plans) receivers
-  pub names : All (ShowsNameOnAir d m t plans) receivers
-  pub tags : All (ShowsTagsOfItsText d m plans log) receivers
-  pub neighbours : All (λ x. All (AreNeighbours m plans x) receivers) receivers
+pub record AreSafeViews (d m t : ℕ) (plans : Plans) (log : List (Option Message)) (receivers : List Listener) : Type 0
+  where
+    pub texts : All (ShowsTextOnAir d m t plans) receivers
+    pub names : All (ShowsNameOnAir d m t plans) receivers
+    pub tags : All (ShowsTagsOfItsText d m plans log) receivers
+    pub neighbours : All (λ x. All (AreNeighbours m plans x) receivers) receivers

@@ -10,7 +10,8 @@ use Rattle.rds_receiver.specs.State.{ReceiverState}
 use Rattle.rds_world.specs.declared.world.Config.{Config}
 
 -- the reasons of a receiver are those of its input
-pub whys_heard : (config : Config) (input : Input) (r : ReceiverState) (whys : Whys) → HasHeard config input r → WhereReceiverStands r (λ t groups. AreWhys t groups whys)
+pub whys_heard : (config : Config) (input : Input) (r : ReceiverState) (whys : Whys) → HasHeard config input r
+    → WhereReceiverStands r (λ t groups. AreWhys t groups whys)
     → whys ≡ whys_of (tuned_to config input) input.heard
 whys_heard config input r whys has are =
     let (heard, same, is) = are (tuned_to config input) has.groups has.stands in

@@ -1,5 +1,6 @@
 -- Numbers with one space between each and the next are read one way.
-use Rattle.std.proofs.Common.{◌≡◌, ◌≢◌, ◌<◌, ◌≤◌, ℕ, Bor, List, [], ◌∷◌, ◌++◌, Option, Some, None, get_or, length, length-append, append_assoc, refl, sym, ap, ◌∙◌, subst, arith}
+use Rattle.std.proofs.Common.{◌≡◌, ◌≢◌, ◌<◌, ◌≤◌, ℕ, Bor, List, [], ◌∷◌, ◌++◌, Option, Some, None, get_or, length}
+use Rattle.std.proofs.Common.{length-append, append_assoc, refl, sym, ap, ◌∙◌, subst, arith}
 use Rattle.std.proofs.lemmas.Grind.{common_steps}
 use Rattle.std.specs.Prelude.{IfNone, IfSome, MatchOption}
 use Rattle.std.proofs.lemmas.List.Elements.{All-head, All-tail}
@@ -18,14 +19,18 @@ no_space : (b : ℕ) (rest : List ℕ) → HasNoSpace (space ∷ rest) → ⊥
 no_space b rest h = All-head (λ b. b ≢ space) space rest h refl
 
 -- the first space stands at one place
-same_cut : (first other rest others : List ℕ) → HasNoSpace first → HasNoSpace other → first ++ space ∷ rest ≡ other ++ space ∷ others → (first ≡ other) × (rest ≡ others)
+same_cut : (first other rest others : List ℕ) → HasNoSpace first → HasNoSpace other
+    → first ++ space ∷ rest ≡ other ++ space ∷ others → (first ≡ other) × (rest ≡ others)
 same_cut [] [] rest others p q e = (refl, (cc))
-same_cut [] (b ∷ other) rest others p q e = (let head : b ≡ space = (cc) in absurd (All-head (λ b. b ≢ space) b other q head))
-same_cut (b ∷ first) [] rest others p q e = (let head : b ≡ space = (cc) in absurd (All-head (λ b. b ≢ space) b first p head))
+same_cut [] (b ∷ other) rest others p q e = (let head : b ≡ space = (cc)
+    in absurd (All-head (λ b. b ≢ space) b other q head))
+same_cut (b ∷ first) [] rest others p q e = (let head : b ≡ space = (cc)
+    in absurd (All-head (λ b. b ≢ space) b first p head))
 same_cut (b ∷ first) (c ∷ other) rest others p q e =
     let tail : first ++ space ∷ rest ≡ other ++ space ∷ others = (cc) in
     let head : b ≡ c = (cc) in
-    let same = same_cut first other rest others (All-tail (λ b. b ≢ space) b first p) (All-tail (λ b. b ≢ space) c other q) tail in
+    let same = same_cut first other rest others (All-tail (λ b. b ≢ space) b first p) (All-tail (λ b. b ≢ space) c other
+    q) tail in
     let front : first ≡ other = same.0 in
     (cc, same.1)
 
@@ -42,23 +47,32 @@ not_more text first rest none c = inside first (subst HasNoSpace c.cut none)
     inside (b ∷ before) h = inside before (All-tail (λ b. b ≢ space) b (before ++ space ∷ rest) h)
 
 -- the numbers of a text that is cut: the first, and those of the rest
-pub numbers_of_cut : (text first rest : List ℕ) (all : List ℕ) → IsCut text first rest → AreNumbers text all → (n : ℕ) × (more : List ℕ) × (all ≡ n ∷ more) × IsNumber first n × AreNumbers rest more
+pub numbers_of_cut : (text first rest : List ℕ) (all : List ℕ) → IsCut text first rest → AreNumbers text all
+    → (n : ℕ) × (more : List ℕ) × (all ≡ n ∷ more) × IsNumber first n × AreNumbers rest more
 unfolding AreNumbers
 numbers_of_cut text first rest [] c are = absurd are
 numbers_of_cut text first rest (n ∷ []) c are = absurd (not_one text first rest n c are)
 numbers_of_cut text first rest (n ∷ m ∷ more) c (first', rest', c', number, are) =
-    let same = same_cut first' first rest' rest c'.first_space c.first_space (sym c'.cut ∙ c.cut) in
-    (n, m ∷ more, refl, subst (λ (x : List ℕ). IsNumber x n) same.0 number, subst (λ (x : List ℕ). AreNumbers x (m ∷ more)) same.1 are)
+    let same = same_cut first' first rest' rest c'.first_space c.first_space (sym c'.cut ∙ c.cut) in (
+      n,
+      m ∷ more,
+      refl,
+      subst (λ (x : List ℕ). IsNumber x n) same.0 number,
+      subst
+          (λ (x : List ℕ). AreNumbers x (m ∷ more)) same.1 are,
+    )
 
 -- and of one that isn't
-pub number_of_whole : (text : List ℕ) (all : List ℕ) → HasNoSpace text → AreNumbers text all → (n : ℕ) × (all ≡ n ∷ []) × IsNumber text n
+pub number_of_whole : (text : List ℕ) (all : List ℕ) → HasNoSpace text → AreNumbers text all
+    → (n : ℕ) × (all ≡ n ∷ []) × IsNumber text n
 unfolding AreNumbers
 number_of_whole text [] none are = absurd are
 number_of_whole text (n ∷ []) none are = (n, refl, are)
 number_of_whole text (n ∷ m ∷ more) none (first, rest, c, number, are) = absurd (not_more text first rest none c)
 
 -- a text has one list of numbers
-pub same_numbers : (text : List ℕ) (numbers other : List ℕ) → AreNumbers text numbers → AreNumbers text other → numbers ≡ other
+pub same_numbers : (text : List ℕ) (numbers other : List ℕ) → AreNumbers text numbers → AreNumbers text other
+    → numbers ≡ other
 unfolding AreNumbers
 same_numbers text [] other p q = absurd p
 same_numbers text (n ∷ []) [] p q = absurd q
@@ -69,7 +83,8 @@ same_numbers text (n ∷ k ∷ more) (m ∷ []) (first, rest, c, number, are) q 
 same_numbers text (n ∷ k ∷ more) (m ∷ l ∷ more') (first, rest, c, number, are) (first', rest', c', number', are') =
     let cut = same_cut first first' rest rest' c.first_space c'.first_space (sym c.cut ∙ c'.cut) in
     let head : n ≡ m = number.value ∙ ap (digits_value 10) cut.0 ∙ sym number'.value in
-    let tail : k ∷ more ≡ l ∷ more' = same_numbers rest (k ∷ more) (l ∷ more') are (subst (λ (x : List ℕ). AreNumbers x (l ∷ more')) (sym cut.1) are') in
+    let tail : k ∷ more ≡ l ∷ more' = same_numbers rest (k ∷ more) (l ∷ more') are
+    (subst (λ (x : List ℕ). AreNumbers x (l ∷ more')) (sym cut.1) are') in
     ap (λ (x : ℕ). x ∷ k ∷ more) head ∙ ap (λ (x : List ℕ). m ∷ x) tail
 
 -- what was read, and then the numbers of what is left
@@ -77,16 +92,22 @@ pub record ReadSoFar (text : List ℕ) (numbers rest : List ℕ) : Type 0 where
   pub forward : (more : List ℕ) → AreNumbers rest more → AreNumbers text (numbers ++ more)
   pub backward : (all : List ℕ) → AreNumbers text all → (more : List ℕ) × (all ≡ numbers ++ more) × AreNumbers rest more
 
-pub one_more : (text numbers rest first after : List ℕ) (n : ℕ) → ReadSoFar text numbers rest → IsCut rest first after → IsNumber first n → ((m : ℕ) → IsNumber first m → m ≡ n)
+pub one_more : (text numbers rest first after : List ℕ) (n : ℕ) → ReadSoFar text numbers rest → IsCut rest first after
+    → IsNumber first n → ((m : ℕ) → IsNumber first m → m ≡ n)
     → ReadSoFar text (numbers ++ n ∷ []) after
 unfolding AreNumbers
 one_more text numbers rest first after n s c number one = record {
-  forward = λ more are. subst (AreNumbers text) (sym (append_assoc numbers (n ∷ []) more)) (s.forward (n ∷ more) (joined more are));
+  forward = λ more are. subst (AreNumbers text) (sym (append_assoc numbers (n ∷ []) more))
+      (s.forward (n ∷ more) (joined more are));
   backward = λ all are.
       let (more, is, left) = s.backward all are in
       let (m, later, split, its, rest_are) = numbers_of_cut rest first after more c left in
-      let same : m ≡ n = one m its in
-      (later, is ∙ ap (λ (l : List ℕ). numbers ++ l) (split ∙ ap (λ (k : ℕ). k ∷ later) same) ∙ sym (append_assoc numbers (n ∷ []) later), rest_are);
+      let same : m ≡ n = one m its in (
+        later,
+        is ∙ ap (λ (l : List ℕ). numbers ++ l) (split ∙ ap (λ (k : ℕ). k ∷ later) same)
+            ∙ sym (append_assoc numbers (n ∷ []) later),
+        rest_are,
+      );
 }
   where
     joined : (more : List ℕ) → AreNumbers after more → AreNumbers rest (n ∷ more)
@@ -95,33 +116,40 @@ one_more text numbers rest first after n s c number one = record {
 
 -- what `split_once` found, and what it didn't
 no_space_in : (text : List ℕ) → ((i : ℕ) → i < length text → get_or text i 0 ≢ space) → HasNoSpace text
-no_space_in text h k d within e = h k within (let same : get_or text k 0 ≡ get_or text k d = grind (arith, common_steps) in same ∙ e)
+no_space_in text h k d within e = h k within (let same : get_or text k 0 ≡ get_or text k d = grind (arith, common_steps)
+    in same ∙ e)
 
 pub cut_is : (text : List ℕ) (r : Option (Bor (List ℕ) × Bor (List ℕ)))
-    → MatchOption r ((i : ℕ) → i < length text → get_or text i 0 ≢ space) (λ x. (text ≡ x.0.now ++ (space ∷ x.1.now)) × ((i : ℕ) → i < length x.0.now → get_or x.0.now i 0 ≢ space))
+    → MatchOption r ((i : ℕ) → i < length text → get_or text i 0 ≢ space) (λ x. (text ≡ x.0.now ++ (space ∷ x.1.now))
+    × ((i : ℕ) → i < length x.0.now → get_or x.0.now i 0 ≢ space))
     → IfSome r (λ cut. IsCut text cut.0.now cut.1.now)
 cut_is text None h = tt
 cut_is text (Some x) h = record { cut = h.0; first_space = no_space_in x.0.now h.1 }
 
 pub none_is : (text : List ℕ) (r : Option (Bor (List ℕ) × Bor (List ℕ)))
-    → MatchOption r ((i : ℕ) → i < length text → get_or text i 0 ≢ space) (λ x. (text ≡ x.0.now ++ (space ∷ x.1.now)) × ((i : ℕ) → i < length x.0.now → get_or x.0.now i 0 ≢ space))
+    → MatchOption r ((i : ℕ) → i < length text → get_or text i 0 ≢ space) (λ x. (text ≡ x.0.now ++ (space ∷ x.1.now))
+    × ((i : ℕ) → i < length x.0.now → get_or x.0.now i 0 ≢ space))
     → IfNone r (HasNoSpace text)
 none_is text None h = no_space_in text h
 none_is text (Some x) h = tt
 
-pub last_one : (text numbers rest : List ℕ) (n : ℕ) → ReadSoFar text numbers rest → IsNumber rest n → AreNumbers text (numbers ++ n ∷ [])
+pub last_one : (text numbers rest : List ℕ) (n : ℕ) → ReadSoFar text numbers rest → IsNumber rest n
+    → AreNumbers text (numbers ++ n ∷ [])
 unfolding AreNumbers
 last_one text numbers rest n s number = s.forward (n ∷ []) number
 
 -- eight numbers were read, and one more is there
-pub too_many : (text numbers rest : List ℕ) → ReadSoFar text numbers rest → length numbers ≡ 8 → (all : List ℕ) → length all ≤ 8 → AreNumbers text all → ⊥
+pub too_many : (text numbers rest : List ℕ) → ReadSoFar text numbers rest → length numbers ≡ 8 → (all : List ℕ)
+    → length all ≤ 8 → AreNumbers text all → ⊥
 unfolding AreNumbers
 too_many text numbers rest s full all few are = no_room (s.backward all are)
   where
     no_room : ((more : List ℕ) × (all ≡ numbers ++ more) × AreNumbers rest more) → ⊥
     no_room ([], is, left) = left
-    no_room (n ∷ more, is, left) = (let size : length all ≡ length (numbers ++ n ∷ more) = ap length is in omega (arith, length-append numbers (n ∷ more), size, full, few))
+    no_room (n ∷ more, is, left) = (let size : length all ≡ length (numbers ++ n ∷ more) = ap length is
+        in omega (arith, length-append numbers (n ∷ more), size, full, few))
 
 -- a pair is said by its own numbers alone
-pub no_other_length : (text numbers : List ℕ) (pair : PairFields) → AreNumbers text numbers → AreNumbers text (numbers_of_pair pair) → length numbers ≢ 8 → ⊥
+pub no_other_length : (text numbers : List ℕ) (pair : PairFields) → AreNumbers text numbers
+    → AreNumbers text (numbers_of_pair pair) → length numbers ≢ 8 → ⊥
 no_other_length text numbers pair p q other = other (ap length (same_numbers text numbers (numbers_of_pair pair) p q))

@@ -35,8 +35,10 @@ same_pair : (p q : PairFields) → numbers_of_pair p ≡ numbers_of_pair q → p
 same_pair p q e =
     let toggle = same_bit p.toggle q.toggle (ap (λ (l : List ℕ). get_or l 0 0) e) in
     let running = same_bit p.running q.running (ap (λ (l : List ℕ). get_or l 1 0) e) in
-    let one : p.one ≡ q.one = same_tag p.one q.one (ap (λ (l : List ℕ). get_or l 2 0) e) (ap (λ (l : List ℕ). get_or l 3 0) e) (ap (λ (l : List ℕ). get_or l 4 0) e) in
-    let two : p.two ≡ q.two = same_tag p.two q.two (ap (λ (l : List ℕ). get_or l 5 0) e) (ap (λ (l : List ℕ). get_or l 6 0) e) (ap (λ (l : List ℕ). get_or l 7 0) e) in
+    let one : p.one ≡ q.one = same_tag p.one q.one (ap (λ (l : List ℕ). get_or l 2 0) e)
+    (ap (λ (l : List ℕ). get_or l 3 0) e) (ap (λ (l : List ℕ). get_or l 4 0) e) in
+    let two : p.two ≡ q.two = same_tag p.two q.two (ap (λ (l : List ℕ). get_or l 5 0) e)
+    (ap (λ (l : List ℕ). get_or l 6 0) e) (ap (λ (l : List ℕ). get_or l 7 0) e) in
     λ i. record { toggle = toggle i; running = running i; one = one i; two = two i }
   where
     same_tag : (a b : TagFields) → a.class ≡ b.class → a.start ≡ b.start → a.extra ≡ b.extra → a ≡ b
@@ -46,33 +48,55 @@ same_name : TextIsReadOneWay → (argument x y : List ℕ) → IsNameArgument ar
 same_name one argument x y p q = p.padded ∙ ap name_body (one argument p.given q.given p.read q.read) ∙ sym q.padded
 
 -- a word and its argument say one command
-same_command : TextIsReadOneWay → (word argument : List ℕ) (c d : Command) → SaysCommand word argument c → SaysCommand word argument d → c ≡ d
+same_command : TextIsReadOneWay → (word argument : List ℕ) (c d : Command) → SaysCommand word argument c
+    → SaysCommand word argument d → c ≡ d
 unfolding third
 same_command one word argument Quiet Quiet p q = refl
-same_command one word argument Quiet Restart p q = absurd (let e : third verb.Nothing ≡ third verb.Restart = other_third word verb.Nothing verb.Restart p.0 q.0 in omega (arith, e))
-same_command one word argument Quiet (SetText x') p q = absurd (let e : third verb.Nothing ≡ third verb.Text = other_third word verb.Nothing verb.Text p.0 q.0 in omega (arith, e))
-same_command one word argument Quiet (SetName x') p q = absurd (let e : third verb.Nothing ≡ third verb.Name = other_third word verb.Nothing verb.Name p.0 q.0 in omega (arith, e))
-same_command one word argument Quiet (SetTags pair') p q = absurd (let e : third verb.Nothing ≡ third verb.Tags = other_third word verb.Nothing verb.Tags p.0 q.0 in omega (arith, e))
-same_command one word argument Restart Quiet p q = absurd (let e : third verb.Restart ≡ third verb.Nothing = other_third word verb.Restart verb.Nothing p.0 q.0 in omega (arith, e))
+same_command one word argument Quiet Restart p q = absurd (let e : third verb.Nothing ≡ third verb.Restart = other_third
+    word verb.Nothing verb.Restart p.0 q.0 in omega (arith, e))
+same_command one word argument Quiet (SetText x') p q = absurd (let e : third verb.Nothing
+    ≡ third verb.Text = other_third word verb.Nothing verb.Text p.0 q.0 in omega (arith, e))
+same_command one word argument Quiet (SetName x') p q = absurd (let e : third verb.Nothing
+    ≡ third verb.Name = other_third word verb.Nothing verb.Name p.0 q.0 in omega (arith, e))
+same_command one word argument Quiet (SetTags pair') p q = absurd (let e : third verb.Nothing
+    ≡ third verb.Tags = other_third word verb.Nothing verb.Tags p.0 q.0 in omega (arith, e))
+same_command one word argument Restart Quiet p q = absurd (let e : third verb.Restart ≡ third verb.Nothing = other_third
+    word verb.Restart verb.Nothing p.0 q.0 in omega (arith, e))
 same_command one word argument Restart Restart p q = refl
-same_command one word argument Restart (SetText x') p q = absurd (let e : third verb.Restart ≡ third verb.Text = other_third word verb.Restart verb.Text p.0 q.0 in omega (arith, e))
-same_command one word argument Restart (SetName x') p q = absurd (let e : third verb.Restart ≡ third verb.Name = other_third word verb.Restart verb.Name p.0 q.0 in omega (arith, e))
-same_command one word argument Restart (SetTags pair') p q = absurd (let e : third verb.Restart ≡ third verb.Tags = other_third word verb.Restart verb.Tags p.0 q.0 in omega (arith, e))
-same_command one word argument (SetText x) Quiet p q = absurd (let e : third verb.Text ≡ third verb.Nothing = other_third word verb.Text verb.Nothing p.0 q.0 in omega (arith, e))
-same_command one word argument (SetText x) Restart p q = absurd (let e : third verb.Text ≡ third verb.Restart = other_third word verb.Text verb.Restart p.0 q.0 in omega (arith, e))
+same_command one word argument Restart (SetText x') p q = absurd (let e : third verb.Restart
+    ≡ third verb.Text = other_third word verb.Restart verb.Text p.0 q.0 in omega (arith, e))
+same_command one word argument Restart (SetName x') p q = absurd (let e : third verb.Restart
+    ≡ third verb.Name = other_third word verb.Restart verb.Name p.0 q.0 in omega (arith, e))
+same_command one word argument Restart (SetTags pair') p q = absurd (let e : third verb.Restart
+    ≡ third verb.Tags = other_third word verb.Restart verb.Tags p.0 q.0 in omega (arith, e))
+same_command one word argument (SetText x) Quiet p q = absurd (let e : third verb.Text
+    ≡ third verb.Nothing = other_third word verb.Text verb.Nothing p.0 q.0 in omega (arith, e))
+same_command one word argument (SetText x) Restart p q = absurd (let e : third verb.Text
+    ≡ third verb.Restart = other_third word verb.Text verb.Restart p.0 q.0 in omega (arith, e))
 same_command one word argument (SetText x) (SetText x') p q = ap SetText (one argument x x' p.1 q.1)
-same_command one word argument (SetText x) (SetName x') p q = absurd (let e : third verb.Text ≡ third verb.Name = other_third word verb.Text verb.Name p.0 q.0 in omega (arith, e))
-same_command one word argument (SetText x) (SetTags pair') p q = absurd (let e : third verb.Text ≡ third verb.Tags = other_third word verb.Text verb.Tags p.0 q.0 in omega (arith, e))
-same_command one word argument (SetName x) Quiet p q = absurd (let e : third verb.Name ≡ third verb.Nothing = other_third word verb.Name verb.Nothing p.0 q.0 in omega (arith, e))
-same_command one word argument (SetName x) Restart p q = absurd (let e : third verb.Name ≡ third verb.Restart = other_third word verb.Name verb.Restart p.0 q.0 in omega (arith, e))
-same_command one word argument (SetName x) (SetText x') p q = absurd (let e : third verb.Name ≡ third verb.Text = other_third word verb.Name verb.Text p.0 q.0 in omega (arith, e))
+same_command one word argument (SetText x) (SetName x') p q = absurd (let e : third verb.Text
+    ≡ third verb.Name = other_third word verb.Text verb.Name p.0 q.0 in omega (arith, e))
+same_command one word argument (SetText x) (SetTags pair') p q = absurd (let e : third verb.Text
+    ≡ third verb.Tags = other_third word verb.Text verb.Tags p.0 q.0 in omega (arith, e))
+same_command one word argument (SetName x) Quiet p q = absurd (let e : third verb.Name
+    ≡ third verb.Nothing = other_third word verb.Name verb.Nothing p.0 q.0 in omega (arith, e))
+same_command one word argument (SetName x) Restart p q = absurd (let e : third verb.Name
+    ≡ third verb.Restart = other_third word verb.Name verb.Restart p.0 q.0 in omega (arith, e))
+same_command one word argument (SetName x) (SetText x') p q = absurd (let e : third verb.Name
+    ≡ third verb.Text = other_third word verb.Name verb.Text p.0 q.0 in omega (arith, e))
 same_command one word argument (SetName x) (SetName x') p q = ap SetName (same_name one argument x x' p.1 q.1)
-same_command one word argument (SetName x) (SetTags pair') p q = absurd (let e : third verb.Name ≡ third verb.Tags = other_third word verb.Name verb.Tags p.0 q.0 in omega (arith, e))
-same_command one word argument (SetTags pair) Quiet p q = absurd (let e : third verb.Tags ≡ third verb.Nothing = other_third word verb.Tags verb.Nothing p.0 q.0 in omega (arith, e))
-same_command one word argument (SetTags pair) Restart p q = absurd (let e : third verb.Tags ≡ third verb.Restart = other_third word verb.Tags verb.Restart p.0 q.0 in omega (arith, e))
-same_command one word argument (SetTags pair) (SetText x') p q = absurd (let e : third verb.Tags ≡ third verb.Text = other_third word verb.Tags verb.Text p.0 q.0 in omega (arith, e))
-same_command one word argument (SetTags pair) (SetName x') p q = absurd (let e : third verb.Tags ≡ third verb.Name = other_third word verb.Tags verb.Name p.0 q.0 in omega (arith, e))
-same_command one word argument (SetTags pair) (SetTags pair') p q = ap SetTags (same_pair pair pair' (same_numbers argument (numbers_of_pair pair) (numbers_of_pair pair') p.1 q.1))
+same_command one word argument (SetName x) (SetTags pair') p q = absurd (let e : third verb.Name
+    ≡ third verb.Tags = other_third word verb.Name verb.Tags p.0 q.0 in omega (arith, e))
+same_command one word argument (SetTags pair) Quiet p q = absurd (let e : third verb.Tags
+    ≡ third verb.Nothing = other_third word verb.Tags verb.Nothing p.0 q.0 in omega (arith, e))
+same_command one word argument (SetTags pair) Restart p q = absurd (let e : third verb.Tags
+    ≡ third verb.Restart = other_third word verb.Tags verb.Restart p.0 q.0 in omega (arith, e))
+same_command one word argument (SetTags pair) (SetText x') p q = absurd (let e : third verb.Tags
+    ≡ third verb.Text = other_third word verb.Tags verb.Text p.0 q.0 in omega (arith, e))
+same_command one word argument (SetTags pair) (SetName x') p q = absurd (let e : third verb.Tags
+    ≡ third verb.Name = other_third word verb.Tags verb.Name p.0 q.0 in omega (arith, e))
+same_command one word argument (SetTags pair) (SetTags pair') p q = ap SetTags
+    (same_pair pair pair' (same_numbers argument (numbers_of_pair pair) (numbers_of_pair pair') p.1 q.1))
 
 same_free : (a b : Bool) → free_field a ≡ free_field b → a ≡ b
 same_free true true e = refl
@@ -82,16 +106,22 @@ same_free false false e = refl
 
 pub same_event : TextIsReadOneWay → (row : Record) (e f : Event) → SaysEvent row e → SaysEvent row f → e ≡ f
 same_event one row e f p q =
-    let both : p.word ∷ p.argument ∷ free_field e.free ∷ p.receptions ∷ [] ≡ q.word ∷ q.argument ∷ free_field f.free ∷ q.receptions ∷ [] = sym p.fields ∙ q.fields in
+    let both : p.word ∷ p.argument ∷ free_field e.free ∷ p.receptions ∷ [] ≡ q.word ∷ q.argument ∷ free_field f.free
+    ∷ q.receptions ∷ [] = sym p.fields ∙ q.fields in
     let word : p.word ≡ q.word = (cc) in
     let argument : p.argument ≡ q.argument = (cc) in
-    let command : e.command ≡ f.command = same_command one q.word q.argument e.command f.command (subst (λ (x : List ℕ). SaysCommand x q.argument e.command) word (subst (λ (x : List ℕ). SaysCommand p.word x e.command) argument p.command)) q.command in
+    let command : e.command ≡ f.command = same_command one q.word q.argument e.command f.command
+    (subst (λ (x : List ℕ). SaysCommand x q.argument e.command) word
+    (subst (λ (x : List ℕ). SaysCommand p.word x e.command) argument p.command)) q.command in
     let free : e.free ≡ f.free = same_free e.free f.free (cc) in
     let text : p.receptions ≡ q.receptions = (cc) in
-    let receptions : e.receptions ≡ f.receptions = same_receptions q.receptions e.receptions f.receptions (subst (λ (x : List ℕ). AreReceptions x e.receptions) text p.spelled) q.spelled in
+    let receptions : e.receptions ≡ f.receptions = same_receptions q.receptions e.receptions f.receptions
+    (subst (λ (x : List ℕ). AreReceptions x e.receptions) text p.spelled) q.spelled in
     λ i. record { command = command i; free = free i; receptions = receptions i }
 
-pub same_events : TextIsReadOneWay → (premise : Premise) (n other_n : ℕ) (records : List Record) (events other : List Event) → AreRows premise n records events → AreRows premise other_n records other → events ≡ other
+pub same_events : TextIsReadOneWay
+    → (premise : Premise) (n other_n : ℕ) (records : List Record) (events other : List Event)
+    → AreRows premise n records events → AreRows premise other_n records other → events ≡ other
 same_events one premise n k [] [] [] p q = refl
 same_events one premise n k [] [] (f ∷ other) p q = absurd q
 same_events one premise n k [] (e ∷ events) other p q = absurd p

@@ -1,5 +1,6 @@
 -- How a station goes on by a row, and why a record is no row.
-use Rattle.std.proofs.Common.{◌≡◌, ◌⊎◌, ◌<◌, ◌≤◌, ◌+◌, ◌∙◌, ◌∷◌, ◌++◌, [], ℕ, suc, add-one, List, None, Option, Some, ap, ap₂, arith, inl, inr, length, refl, subst, sym}
+use Rattle.std.proofs.Common.{◌≡◌, ◌⊎◌, ◌<◌, ◌≤◌, ◌+◌, ◌∙◌, ◌∷◌, ◌++◌, [], ℕ, suc, add-one, List, None, Option, Some}
+use Rattle.std.proofs.Common.{ap, ap₂, arith, inl, inr, length, refl, subst, sym}
 use Rattle.std.specs.Prelude.{Err, Ok, OnOk, Result}
 use Rattle.rds_world.specs.Event.{Event}
 use Rattle.rds_world.specs.Premise.{Premise}
@@ -10,7 +11,8 @@ use Rattle.rds_script.proofs.AiringLines.{compared_alike}
 use Rattle.rds_view_lines.specs.NoChange.{view_of_none}
 use Rattle.rds_world.specs.Slots.{entries, input_of}
 use Rattle.rds_world.specs.WorldAt.{IsViewOfInput, ShowsStill, tuned_to}
-use Rattle.rds_script.specs.Outcomes.{AreOutcomes, IsOutcome, Outcome, answer_lines, compared_lines, lines_of, newest_views, receiver_changes, slot_lines, view_at, whys_at}
+use Rattle.rds_script.specs.Outcomes.{AreOutcomes, IsOutcome, Outcome, answer_lines, compared_lines, lines_of}
+use Rattle.rds_script.specs.Outcomes.{newest_views, receiver_changes, slot_lines, view_at, whys_at}
 use Rattle.rds_script.specs.Inside.Compared.{HasRoom}
 use Rattle.rds_script.specs.Inside.Player.{AppendsRow, HasWatched, IsBegun, Played, PlayerStandsAt}
 use Rattle.rds_script.specs.Inside.Watched.{AreKept, WatchedStandsAt, WereShown, views_kept}
@@ -30,80 +32,101 @@ use Rattle.rds_world.specs.declared.event.TheConstants.{MOST_RECEIVERS}
 use Rattle.rds_world.specs.declared.world.Config.{Config}
 
 -- a record, an event and an outcome for each slot
-pub as_many_rows : (k : Premise) (receivers : ℕ) (records : List Record) (events : List Event) → AreRows k receivers records events → length records ≡ length events
+pub as_many_rows : (k : Premise) (receivers : ℕ) (records : List Record) (events : List Event)
+    → AreRows k receivers records events → length records ≡ length events
 as_many_rows k receivers [] [] are = refl
 as_many_rows k receivers [] (e ∷ older) are = absurd are
 as_many_rows k receivers (row ∷ before) [] are = absurd are
 as_many_rows k receivers (row ∷ before) (e ∷ older) are = ap suc (as_many_rows k receivers before older are.2)
 
 -- a row has one number of receptions
-pub same_count : (row : Record) (e f : Event) → SaysEvent row e → SaysEvent row f → length e.receptions ≡ length f.receptions
+pub same_count : (row : Record) (e f : Event) → SaysEvent row e → SaysEvent row f
+    → length e.receptions ≡ length f.receptions
 same_count row e f p q =
     let text : p.receptions ≡ q.receptions = fourth (sym p.fields ∙ q.fields) in
-    ap length (same_receptions q.receptions e.receptions f.receptions (subst (λ (x : List ℕ). AreReceptions x e.receptions) text p.spelled) q.spelled)
+    ap length (same_receptions q.receptions e.receptions f.receptions
+    (subst (λ (x : List ℕ). AreReceptions x e.receptions) text p.spelled) q.spelled)
   where
     fourth : {a b c d a' b' c' d' : List ℕ} → a ∷ b ∷ c ∷ d ∷ [] ≡ a' ∷ b' ∷ c' ∷ d' ∷ [] → d ≡ d'
     fourth e = (cc)
 
 -- a row with more receivers than its script may name
-pub names_receivers : (k : Premise) (form : Form) (row : Record) (records : List Record) (e : Event) → SaysEvent row e → (IsAllowed form (length e.receptions) → ⊥) → AreNoRows k form (row ∷ records)
+pub names_receivers : (k : Premise) (form : Form) (row : Record) (records : List Record) (e : Event) → SaysEvent row e
+    → (IsAllowed form (length e.receptions) → ⊥) → AreNoRows k form (row ∷ records)
 names_receivers k form row records e says none [] say = say.rows
-names_receivers k form row records e says none (f ∷ older) say = none (subst (IsAllowed form) (sym (same_count row e f says say.rows.0 ∙ say.rows.1.count)) say.allowed)
+names_receivers k form row records e says none (f ∷ older) say = none
+    (subst (IsAllowed form) (sym (same_count row e f says say.rows.0 ∙ say.rows.1.count)) say.allowed)
 
 -- a record that says no event
 few_allowed : (form : Form) (n : ℕ) → IsAllowed form n → n ≤ MOST_RECEIVERS
 few_allowed (Simulation why) n allowed = allowed
 few_allowed Log n allowed = omega (arith, allowed)
 
-pub says_none : (k : Premise) (form : Form) (row : Record) (records : List Record) → ((e : Event) → length e.receptions ≤ MOST_RECEIVERS → SaysEvent row e → ⊥) → AreNoRows k form (row ∷ records)
+pub says_none : (k : Premise) (form : Form) (row : Record) (records : List Record)
+    → ((e : Event) → length e.receptions ≤ MOST_RECEIVERS → SaysEvent row e → ⊥) → AreNoRows k form (row ∷ records)
 says_none k form row records none [] say = say.rows
-says_none k form row records none (e ∷ older) say = none e (let few = few_allowed form say.receivers say.allowed in omega (arith, few, say.rows.1.count)) say.rows.0
+says_none k form row records none (e ∷ older) say = none e (let few = few_allowed form say.receivers say.allowed
+    in omega (arith, few, say.rows.1.count)) say.rows.0
 
 -- rows of one script have one number of receivers
-same_receivers : (k : Premise) (n other : ℕ) (records : List Record) (events older : List Event) → AreRows k n records events → AreRows k other records older → 0 < length records → n ≡ other
+same_receivers : (k : Premise) (n other : ℕ) (records : List Record) (events older : List Event)
+    → AreRows k n records events → AreRows k other records older → 0 < length records → n ≡ other
 same_receivers k n other [] events older p q some = absurd (omega (arith, some))
 same_receivers k n other (row ∷ records) [] older p q some = absurd p
 same_receivers k n other (row ∷ records) (e ∷ events) [] p q some = absurd q
-same_receivers k n other (row ∷ records) (e ∷ events) (f ∷ older) p q some = sym p.1.count ∙ same_count row e f p.0 q.0 ∙ q.1.count
+same_receivers k n other (row ∷ records) (e ∷ events) (f ∷ older) p q some = sym p.1.count ∙ same_count row e f p.0 q.0
+    ∙ q.1.count
 
 -- the lines of a slot come after those of the slots before
-pub slot_written : (form : Form) (config : Config) (slot : ℕ) (kept : List ShownView) (e : Event) (events : List Event) (o : Outcome) (older : List Outcome) (written lines : List ℕ)
+pub slot_written : (form : Form) (config : Config) (slot : ℕ) (kept : List ShownView) (e : Event) (events : List Event)
+    (o : Outcome) (older : List Outcome) (written lines : List ℕ)
     → written ≡ lines_of form config events older → slot ≡ length older → AreKept kept (newest_views older)
-    → lines ≡ slot_lines form config slot e events kept o ++ compared_lines config slot (length o.views) e events kept o.views
+    → lines ≡ slot_lines form config slot e events kept o ++ compared_lines config slot (length o.views) e events kept
+    o.views
     → written ++ lines ≡ lines_of form config (e ∷ events) (o ∷ older)
 slot_written form config slot kept e events o older written lines had now same gave =
     let whys = whys_at form config e.receptions (e ∷ events) in
-    let changes : receiver_changes slot (length o.views) whys kept o.views ≡ receiver_changes (length older) (length o.views) whys (newest_views older) o.views =
-    changes_same slot (length o.views) whys kept (newest_views older) o.views o.views (λ i l. same i) (λ i l. refl) ∙ ap (λ (s : ℕ). receiver_changes s (length o.views) whys (newest_views older) o.views) now in
-    let answer : answer_lines form slot o.command o.reply o.sent ≡ answer_lines form (length older) o.command o.reply o.sent = ap (λ (s : ℕ). answer_lines form s o.command o.reply o.sent) now in
-    let compared = compared_alike config slot (length older) (length o.views) e events kept (newest_views older) o.views now same in
-    ap₂ (λ (x y : List ℕ). x ++ y) had (gave ∙ ap₂ (λ (x y : List ℕ). x ++ y) (ap₂ (λ (x y : List ℕ). x ++ y) answer changes) compared)
+    let changes : receiver_changes slot (length o.views) whys kept o.views ≡ receiver_changes (length older)
+    (length o.views) whys (newest_views older) o.views =
+    changes_same slot (length o.views) whys kept (newest_views older) o.views o.views (λ i l. same i) (λ i l. refl)
+    ∙ ap (λ (s : ℕ). receiver_changes s (length o.views) whys (newest_views older) o.views) now in
+    let answer : answer_lines form slot o.command o.reply o.sent ≡ answer_lines form (length older) o.command o.reply
+    o.sent = ap (λ (s : ℕ). answer_lines form s o.command o.reply o.sent) now in
+    let compared = compared_alike config slot (length older) (length o.views) e events kept (newest_views older) o.views
+    now same in
+    ap₂ (λ (x y : List ℕ). x ++ y) had (gave ∙ ap₂ (λ (x y : List ℕ). x ++ y) (ap₂ (λ (x y : List ℕ). x ++ y) answer
+    changes) compared)
 
 -- before the first slot any number of receivers will do, and no outcome shows a thing
-pub none_played : (k : Premise) (receivers other : ℕ) (records : List Record) (events : List Event) → AreRows k receivers records events → events ≡ [] → AreRows k other records events
+pub none_played : (k : Premise) (receivers other : ℕ) (records : List Record) (events : List Event)
+    → AreRows k receivers records events → events ≡ [] → AreRows k other records events
 none_played k receivers other [] [] rows none = tt
 none_played k receivers other [] (e ∷ older) rows none = absurd rows
 none_played k receivers other (row ∷ records) [] rows none = absurd rows
 none_played k receivers other (row ∷ records) (e ∷ older) rows none = absurd (omega (arith, ap length none))
 
-pub none_shown : (config : Config) (events : List Event) (outcomes : List Outcome) → AreOutcomes config events outcomes → events ≡ [] → newest_views outcomes ≡ []
+pub none_shown : (config : Config) (events : List Event) (outcomes : List Outcome) → AreOutcomes config events outcomes
+    → events ≡ [] → newest_views outcomes ≡ []
 none_shown config [] [] are none = refl
 none_shown config [] (o ∷ older) are none = absurd are
 none_shown config (e ∷ before) outcomes are none = absurd (omega (arith, ap length none))
 
 -- the world that a row begins with: with as many receivers as the rows before have, or the first row asks for, and with
 -- memory for its slot
-pub record IsReady (played : Played) (events : List Event) (outcomes : List Outcome) (asked : ℕ) (w : Watched) : Type 0 where
-  pub receivers : ℕ
-  pub allowed : IsAllowed played.form receivers
-  pub rows : AreRows played.config.premise receivers played.records events
-  pub stands : WatchedStandsAt played.config receivers w events
-  pub same : AreKept (views_kept w) (newest_views outcomes)
-  pub room : HasRoom w.compared
-  pub how : (0 < length played.records) ⊎ (receivers ≡ asked)
+pub record IsReady (played : Played) (events : List Event) (outcomes : List Outcome) (asked : ℕ) (w : Watched) : Type 0
+  where
+    pub receivers : ℕ
+    pub allowed : IsAllowed played.form receivers
+    pub rows : AreRows played.config.premise receivers played.records events
+    pub stands : WatchedStandsAt played.config receivers w events
+    pub same : AreKept (views_kept w) (newest_views outcomes)
+    pub room : HasRoom w.compared
+    pub how : (0 < length played.records) ⊎ (receivers ≡ asked)
 
-pub is_ready : (before : Option Watched) (w : Watched) (played : Played) (asked : ℕ) (events : List Event) (outcomes : List Outcome) → IsAllowed played.form played.receivers → IsAllowed played.form asked
-    → AreRows played.config.premise played.receivers played.records events → AreOutcomes played.config events outcomes → HasWatched played.config played.receivers before events outcomes
+pub is_ready : (before : Option Watched) (w : Watched) (played : Played) (asked : ℕ) (events : List Event)
+    (outcomes : List Outcome) → IsAllowed played.form played.receivers → IsAllowed played.form asked
+    → AreRows played.config.premise played.receivers played.records events → AreOutcomes played.config events outcomes
+    → HasWatched played.config played.receivers before events outcomes
     → IsBegun played.config asked before w → IsReady played events outcomes asked w
 is_ready None w played asked events outcomes had allowed rows are none begun = record {
   receivers = asked;
@@ -121,47 +144,64 @@ is_ready (Some before) w played asked events outcomes had allowed rows are has b
   stands = begun.0 played.config played.receivers events has.1;
   same = λ i. ap (λ (views : List ShownView). view_at views i) begun.1 ∙ has.2 i;
   room = begun.2;
-  how = inl (let counted = as_many_rows played.config.premise played.receivers played.records events rows in omega (arith, has.0, counted));
+  how = inl (let counted = as_many_rows played.config.premise played.receivers played.records events rows
+      in omega (arith, has.0, counted));
 }
 
 -- an event and an outcome for each slot
-pub as_many_outcomes : (config : Config) (events : List Event) (outcomes : List Outcome) → AreOutcomes config events outcomes → length events ≡ length outcomes
+pub as_many_outcomes : (config : Config) (events : List Event) (outcomes : List Outcome)
+    → AreOutcomes config events outcomes → length events ≡ length outcomes
 as_many_outcomes config [] [] are = refl
 as_many_outcomes config [] (o ∷ older) are = absurd are
 as_many_outcomes config (e ∷ before) [] are = absurd are
 as_many_outcomes config (e ∷ before) (o ∷ older) are = ap suc (as_many_outcomes config before older are.1)
 
 -- a slot more is played in a world whose receivers are watched
-pub plays_on : {T E : Type 0} (r : Result T E) (before now : Player) (played : Played) (s : PlayerStandsAt before played) (receivers : ℕ) (kept : List ShownView) (w : Watched) (row : Record) (e : Event) (old new : List ℕ)
-    → now.form ≡ before.form → now.config ≡ before.config → now.slot ≡ before.slot + 1 → now.watched ≡ Some w → IsAllowed played.form receivers
-    → AreRows played.config.premise receivers played.records s.events → SaysEvent row e → AreKept kept (newest_views s.outcomes)
-    → OnOk r (CanBeTaken played.config.premise receivers e s.events) → OnOk r (WatchedStandsAt played.config receivers w (e ∷ s.events))
-    → OnOk r ((o : Outcome) × IsOutcome played.config e s.events o × (o.views ≡ views_kept w) × (new ≡ old ++ (slot_lines played.form played.config before.slot e s.events kept o ++ compared_lines played.config before.slot (length o.views) e s.events kept o.views)))
+pub plays_on : {T E : Type 0} (r : Result T E) (before now : Player) (played : Played)
+    (s : PlayerStandsAt before played) (receivers : ℕ) (kept : List ShownView) (w : Watched) (row : Record) (e : Event)
+    (old new : List ℕ)
+    → now.form ≡ before.form → now.config ≡ before.config → now.slot ≡ before.slot + 1 → now.watched ≡ Some w
+    → IsAllowed played.form receivers
+    → AreRows played.config.premise receivers played.records s.events → SaysEvent row e
+    → AreKept kept (newest_views s.outcomes)
+    → OnOk r (CanBeTaken played.config.premise receivers e s.events)
+    → OnOk r (WatchedStandsAt played.config receivers w (e ∷ s.events))
+    → OnOk r ((o : Outcome) × IsOutcome played.config e s.events o × (o.views ≡ views_kept w)
+    × (new ≡ old ++ (slot_lines played.form played.config before.slot e s.events kept o
+    ++ compared_lines played.config before.slot (length o.views) e s.events kept o.views)))
     → OnOk r (AppendsRow now row old new played)
-plays_on (Err why) before now played s receivers kept w row e old new form config slot watched allowed rows says same taken stands outcome = tt
-plays_on (Ok done) before now played s receivers kept w row e old new form config slot watched allowed rows says same taken stands (o, is, views, gave) = (
-  slot_lines played.form played.config before.slot e s.events kept o ++ compared_lines played.config before.slot (length o.views) e s.events kept o.views,
-  gave,
-  (
-    receivers,
-    record {
-      form_is = form ∙ s.form_is;
-      config_is = config ∙ s.config_is;
-      allowed = allowed;
-      events = e ∷ s.events;
-      rows = (says, taken, rows);
-      outcomes = o ∷ s.outcomes;
-      are = (is, s.are);
-      slot = slot ∙ ap (λ (n : ℕ). n + 1) s.slot ∙ add-one (length s.outcomes);
-      lines = slot_written played.form played.config before.slot kept e s.events o s.outcomes played.written _ s.lines s.slot same refl;
-      watched = subst (λ (x : Option Watched). HasWatched played.config receivers x (e ∷ s.events) (o ∷ s.outcomes)) (sym watched) (omega arith, stands, λ i. ap (λ (views : List ShownView). view_at views i) (sym views));
-    },
-  ),
-)
+plays_on (Err why) before now played s receivers kept w row e old new form config slot watched allowed rows says same
+    taken stands outcome = tt
+plays_on (Ok done) before now played s receivers kept w row e old new form config slot watched allowed rows says same
+    taken stands (o, is, views, gave) = (
+      slot_lines played.form played.config before.slot e s.events kept o ++ compared_lines played.config before.slot
+          (length o.views) e s.events kept o.views,
+      gave,
+      (
+        receivers,
+        record {
+          form_is = form ∙ s.form_is;
+          config_is = config ∙ s.config_is;
+          allowed = allowed;
+          events = e ∷ s.events;
+          rows = (says, taken, rows);
+          outcomes = o ∷ s.outcomes;
+          are = (is, s.are);
+          slot = slot ∙ ap (λ (n : ℕ). n + 1) s.slot ∙ add-one (length s.outcomes);
+          lines = slot_written played.form played.config before.slot kept e s.events o s.outcomes played.written _
+              s.lines
+              s.slot same refl;
+          watched = subst (λ (x : Option Watched). HasWatched played.config receivers x (e ∷ s.events) (o ∷ s.outcomes))
+              (sym watched) (omega arith, stands, λ i. ap (λ (views : List ShownView). view_at views i) (sym views));
+        },
+      ),
+    )
 
 -- a record whose event was refused, after rows or as the first one
-pub refused_row : TextIsReadOneWay → (form : Form) (k : Premise) (receivers : ℕ) (row : Record) (records : List Record) (e : Event) (events : List Event) → AreRows k receivers records events → SaysEvent row e
-    → (0 < length records) ⊎ (receivers ≡ length e.receptions) → (CanBeTaken k receivers e events → ⊥) → AreNoRows k form (row ∷ records)
+pub refused_row : TextIsReadOneWay → (form : Form) (k : Premise) (receivers : ℕ) (row : Record) (records : List Record)
+    (e : Event) (events : List Event) → AreRows k receivers records events → SaysEvent row e
+    → (0 < length records) ⊎ (receivers ≡ length e.receptions) → (CanBeTaken k receivers e events → ⊥)
+    → AreNoRows k form (row ∷ records)
 refused_row one form k receivers row records e events rows says how none [] say = say.rows
 refused_row one form k receivers row records e events rows says how none (g ∷ older) say =
     let same : g ≡ e = same_event one row g e say.rows.0 says in
@@ -170,22 +210,29 @@ refused_row one form k receivers row records e events rows says how none (g ∷ 
       | inl some ↦ same_receivers k say.receivers receivers records older events say.rows.2 rows some
       | inr began ↦ sym say.rows.1.count ∙ same_count row g e say.rows.0 says ∙ sym began
     ] in
-    none (subst (λ (n : ℕ). CanBeTaken k n e events) count (subst (λ (x : Event). CanBeTaken k say.receivers x events) same (subst (λ (l : List Event). CanBeTaken k say.receivers g l) before say.rows.1)))
+    none (subst (λ (n : ℕ). CanBeTaken k n e events) count (subst (λ (x : Event). CanBeTaken k say.receivers x events)
+    same (subst (λ (l : List Event). CanBeTaken k say.receivers g l) before say.rows.1)))
 
 -- a slot that is refused can't be taken
-pub not_taken : (k : Premise) (receivers : ℕ) (e : Event) (before : List Event) (why : StepRefused) → IsStepRefused k receivers e before why → CanBeTaken k receivers e before → ⊥
+pub not_taken : (k : Premise) (receivers : ℕ) (e : Event) (before : List Event) (why : StepRefused)
+    → IsStepRefused k receivers e before why → CanBeTaken k receivers e before → ⊥
 not_taken k receivers e before step.ReceiverCount refused taken = refused taken.count
 not_taken k receivers e before (step.Late r) refused taken = refused.late.late (taken.due r)
 not_taken k receivers e before (step.Wrong r) refused taken = refused.unfit.1.breaks (taken.fit r)
 not_taken k receivers e before (step.WrongConfirmed r) refused taken = refused.unfit.1.breaks (taken.fit r)
 
 -- what a receiver shows that shows what it showed
-pub still_shown : (config : Config) (n i : ℕ) (events : List Event) (kept now : List ShownView) → ShowsStill config i events → WereShown config n events kept → i < n
+pub still_shown : (config : Config) (n i : ℕ) (events : List Event) (kept now : List ShownView)
+    → ShowsStill config i events → WereShown config n events kept → i < n
     → view_at now i ≡ view_at kept i → IsViewOfInput config (input_of (distance config) i events) (view_at now i)
 still_shown config n i [] kept now still were within same = absurd were
-still_shown config n i (e ∷ before) kept now still were within same = subst (IsViewOfInput config (input_of (distance config) i (e ∷ before))) (sym same) (still (view_at kept i) (were i within))
+still_shown config n i (e ∷ before) kept now still were within same = subst
+    (IsViewOfInput config (input_of (distance config) i (e ∷ before))) (sym same)
+    (still (view_at kept i) (were i within))
 
 -- where nothing is kept yet, before the first slot
-pub nothing_yet : (config : Config) (i : ℕ) (kept : List ShownView) → view_at kept i ≡ view_at [] i → IsViewOfInput config (input_of (distance config) i []) (view_at kept i)
+pub nothing_yet : (config : Config) (i : ℕ) (kept : List ShownView) → view_at kept i ≡ view_at [] i
+    → IsViewOfInput config (input_of (distance config) i []) (view_at kept i)
 nothing_yet config i kept nothing =
-    subst (IsViewOfInput config (input_of (distance config) i [])) (sym nothing) record { groups = []; spelled = tt; is = view_of_none (tuned_to config (input_of (distance config) i [])) }
+    subst (IsViewOfInput config (input_of (distance config) i [])) (sym nothing) record
+    { groups = []; spelled = tt; is = view_of_none (tuned_to config (input_of (distance config) i [])) }

@@ -12,9 +12,13 @@ use Rattle.rds_script.specs.Inside.Player.{ScriptStandsAt}
 use Rattle.rds_script.specs.Rows.{Record}
 use Rattle.rds_script.specs.Play.{HasAllRecords}
 
-pub next_stands : {R : Type 0} {g h : _} (remaining : R → Option (List ℕ)) (old new : Reader (FailureFlag R g h)) (found : Bool) (fields : List (List ℕ)) (known : Option (List ℕ)) (records : List Record)
-    → ScriptStandsAt remaining known record { reader = old } records → ReadRecord (asked_bytes remaining) old new found fields → took_first new ≡ true → is_flexible new ≡ is_flexible old
-    → MatchBool found (ScriptStandsAt remaining known record { reader = new } (fields ∷ records)) (HasAllRecords known records)
+pub next_stands : {R : Type 0} {g h : _} (remaining : R → Option (List ℕ)) (old new : Reader (FailureFlag R g h))
+    (found : Bool) (fields : List (List ℕ)) (known : Option (List ℕ)) (records : List Record)
+    → ScriptStandsAt remaining known record { reader = old } records
+    → ReadRecord (asked_bytes remaining) old new found fields → took_first new ≡ true
+    → is_flexible new ≡ is_flexible old
+    → MatchBool found (ScriptStandsAt remaining known record { reader = new } (fields ∷ records))
+    (HasAllRecords known records)
 next_stands remaining old new true fields known records s read first flexible = record {
   plain = read.3 ∙ s.plain;
   flexible = flexible ∙ s.flexible;
@@ -22,9 +26,15 @@ next_stands remaining old new true fields known records s read first flexible = 
   config = read.2 ∙ s.config;
   gave = λ script k.
       let (rest, source, upto) = s.gave script k in
-      let more = rows-more (asked_bytes remaining) old new fields default_config StartRecord (strip_bom script) rest (reverse records) s.config source upto.reached read in
+      let more = rows-more (asked_bytes remaining) old new fields default_config StartRecord (strip_bom script) rest
+      (reverse records) s.config source upto.reached read in
       (more.0, more.1, record { reached = rw (reverse_onto records fields []) more.2 });
 }
 next_stands remaining old new false fields known records s read first flexible = λ script k.
-    let (rest, source, upto) = s.gave script k in
-    (reader_state old, rest, upto, rows-end (asked_bytes remaining) old new fields default_config rest s.config source read)
+    let (rest, source, upto) = s.gave script k in (
+      reader_state old,
+      rest,
+      upto,
+      rows-end (asked_bytes remaining) old new fields default_config rest s.config source
+          read,
+    )

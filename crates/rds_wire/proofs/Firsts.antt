@@ -10,7 +10,8 @@ pub first_all : {X : Type 0} (n : ℕ) (xs : List X) → length xs ≤ n → fir
 first_all n xs few = let none : length xs - n ≡ 0 = omega (arith, few) in rw none refl
 
 -- an entry after n others is none of the first n
-pub first_more : {X : Type 0} (n : ℕ) (x : X) (xs : List X) → n ≤ length xs → first_entries n (x ∷ xs) ≡ first_entries n xs
+pub first_more : {X : Type 0} (n : ℕ) (x : X) (xs : List X) → n ≤ length xs
+    → first_entries n (x ∷ xs) ≡ first_entries n xs
 first_more n x xs some = let step : length (x ∷ xs) - n ≡ suc (length xs - n) = omega (arith, some) in rw step refl
 
 -- the first n of enough entries are n

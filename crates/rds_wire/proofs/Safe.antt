@@ -167,7 +167,8 @@ was_with law d now air sent i r m view x contents upto spaced shows ex ey was (i
         )
 
 -- two receivers whose views are safe show what is safe
-pub shown_safely : ARunHasOneSource → (d m now : ℕ) (air : StationPlans) (messages : List (Option Message)) (r s : Listener)
+pub shown_safely : ARunHasOneSource
+    → (d m now : ℕ) (air : StationPlans) (messages : List (Option Message)) (r s : Listener)
     (One Other : Part → List ℕ → Type 0) → AreTagsUpTo now air (marks text_mark messages) → IsSpaced d air.plans.text
     → AreSafeViews d m now air.plans messages (r ∷ s ∷ []) → ShowsView m r.input.first r.input.heard r.view
     → ((part : Part) (x : List ℕ) → One part x → IsContentOf part r.view x)

@@ -120,7 +120,8 @@ lawful_is_safe_twice laws pi m w k log sent air is lawful tags x p y q t one oth
     let lr : Listens r = listens pi m w k log sent is x p t one ra in
     let ls : Listens s = listens pi m w k log sent is y q t other rb in
     shown_safely laws.source d m t air (first_entries (t + 1) sent) r s (Shows p t) (Shows q t) upto lawful.text.spaced
-    (laws.safe w k m t air.plans (first_entries (t + 1) sent) (r ∷ s ∷ []) (lawful_first d (t + 1) air.plans sent lawful)
+    (laws.safe w k m t air.plans (first_entries (t + 1) sent) (r ∷ s ∷ []) (lawful_first d (t + 1) air.plans sent
+    lawful)
     (All-cons Listens r (s ∷ []) lr (All-cons Listens s [] ls (All-nil Listens)))) lr.shows
     (shows pi m w k log sent is x p t one ra) (shows pi m w k log sent is y q t other rb)
   where

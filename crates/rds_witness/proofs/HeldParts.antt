@@ -1,5 +1,6 @@
 -- When what a stored receiver holds is a part of what another one holds, its runs are parts of the other's.
-use Rattle.std.proofs.Common.{◌≡◌, ◌⊎◌, ◌≤◌, ◌∷◌, [], ◌∙◌, ℕ, true, List, Option, Some, ap, arith, cond, inl, inr, length, nat_eq, refl, subst, sym}
+use Rattle.std.proofs.Common.{◌≡◌, ◌⊎◌, ◌≤◌, ◌∷◌, [], ◌∙◌, ℕ, true, List, Option, Some, ap, arith, cond, inl, inr}
+use Rattle.std.proofs.Common.{length, nat_eq, refl, subst, sym}
 use Rattle.std.specs.FinMap.{empty, get, get-empty, get-insert}
 use Rattle.std.specs.Cmp.{unsigned_tied}
 use Rattle.std.specs.Ordering.{nat_cmp}
@@ -30,22 +31,27 @@ pub record HoldsPart (one other : StoredSegments) (one_age other_age : ℕ) : Ty
   pub cells : HasCells (held_cells one.mask one.bytes) (held_cells other.mask other.bytes)
   pub newer : (one.mask ≡ 0) ⊎ ((is_set one.flag ≡ is_set other.flag) × (other_age ≤ one_age))
 
-newest_cell : (g : Segment) (older : List Segment) → get (cells_of (g ∷ older)) g.fragment.address ≡ Some g.fragment.bytes
+newest_cell : (g : Segment) (older : List Segment)
+    → get (cells_of (g ∷ older)) g.fragment.address ≡ Some g.fragment.bytes
 newest_cell g older =
     let a = g.fragment.address in
     let same : nat_eq a a ≡ true = grind (arith, nat_tests) in
     get-insert nat_cmp_total (cells_of older) a g.fragment.bytes a
     ∙ ap (λ is. cond is (Some g.fragment.bytes) (get (cells_of older) a)) (unsigned_tied a a ∙ same)
 
-pub held_part : (m t : ℕ) (r s : List Segment) (d e rest rest_other : ℕ) (one other : StoredSegments) → HoldsPart one other (age_stored d rest one) (age_stored e rest_other other)
+pub held_part : (m t : ℕ) (r s : List Segment) (d e rest rest_other : ℕ) (one other : StoredSegments)
+    → HoldsPart one other (age_stored d rest one) (age_stored e rest_other other)
     → HoldsRun m t r (segments_stored d rest one) → HoldsRun m t s (segments_stored e rest_other other) → IsPart r s
 held_part m t [] s d e rest rest_other one other part mine theirs = tt
 held_part m t (g ∷ older) s d e rest rest_other one other part mine theirs = by_newer part.newer
   where
     has : HasCells (cells_of (g ∷ older)) (cells_of s)
-    has = subst (λ cells. HasCells cells (cells_of s)) mine.cells (subst (HasCells (held_cells one.mask one.bytes)) theirs.cells part.cells)
+    has = subst (λ cells. HasCells cells (cells_of s)) mine.cells (subst (HasCells (held_cells one.mask one.bytes))
+        theirs.cells part.cells)
 
-    there : (s : List Segment) → HoldsRun m t s (segments_stored e rest_other other) → HasCells (cells_of (g ∷ older)) (cells_of s) → is_set one.flag ≡ is_set other.flag → age_stored e rest_other other ≤ age_stored d rest one → IsPart (g ∷ older) s
+    there : (s : List Segment) → HoldsRun m t s (segments_stored e rest_other other)
+        → HasCells (cells_of (g ∷ older)) (cells_of s) → is_set one.flag ≡ is_set other.flag
+        → age_stored e rest_other other ≤ age_stored d rest one → IsPart (g ∷ older) s
     there [] theirs has same newer =
         let held = has g.fragment.address g.fragment.bytes (newest_cell g older) in
         let none = get-empty {X = List ℕ} nat_cmp g.fragment.address in
@@ -53,59 +59,75 @@ held_part m t (g ∷ older) s d e rest rest_other one other part mine theirs = b
     there (h ∷ later) theirs has same newer =
         (sym mine.flag ∙ same ∙ theirs.flag, omega (arith, mine.age, theirs.age, newer), has)
 
-    by_newer : (one.mask ≡ 0) ⊎ ((is_set one.flag ≡ is_set other.flag) × (age_stored e rest_other other ≤ age_stored d rest one)) → IsPart (g ∷ older) s
+    by_newer : (one.mask ≡ 0) ⊎ ((is_set one.flag ≡ is_set other.flag) × (age_stored e rest_other other
+        ≤ age_stored d rest one)) → IsPart (g ∷ older) s
     by_newer (inl none) =
-        let nothing : held_cells one.mask one.bytes ≡ empty = ap (λ mask. held_cells mask one.bytes) none ∙ nothing_held one.bytes in
+        let nothing : held_cells one.mask one.bytes ≡ empty = ap (λ mask. held_cells mask one.bytes) none
+        ∙ nothing_held one.bytes in
         let held = newest_cell g older in
         let cells = mine.cells in
         let empty_here = get-empty {X = List ℕ} nat_cmp g.fragment.address in
         absurd (cc)
     by_newer (inr (same, newer)) = there s theirs has same newer
 
-same_newest : (first : ℕ) (h k : List (Option Message)) → length h ≡ length k → newest_slot first h ≡ newest_slot first k
+same_newest : (first : ℕ) (h k : List (Option Message)) → length h ≡ length k
+    → newest_slot first h ≡ newest_slot first k
 same_newest first [] [] long = refl
 same_newest first [] (y ∷ k) long = absurd (omega (arith, long))
 same_newest first (x ∷ h) [] long = absurd (omega (arith, long))
 same_newest first (x ∷ h) (y ∷ k) long = omega (arith, long)
 
-pub heard_long : (pi : ℕ) (input : List (Option Group)) (h : List (Option Message)) → AreHeard pi input h → length input ≡ length h
+pub heard_long : (pi : ℕ) (input : List (Option Group)) (h : List (Option Message)) → AreHeard pi input h
+    → length input ≡ length h
 heard_long pi [] [] are = refl
 heard_long pi [] (x ∷ h) are = absurd are
 heard_long pi (slot ∷ input) [] are = absurd are
 heard_long pi (slot ∷ input) (x ∷ h) are = let rest = heard_long pi input h are.1 in omega (arith, rest)
 
-pub heard_part : (pick : Message → Option Fragment) (pi m d e rest rest_other : ℕ) (one other : StoredSegments) (input more : List (Option Group)) (h k : List (Option Message)) → HoldsPart one other (age_stored d rest one) (age_stored e rest_other other) → AreHeard pi input h → AreHeard pi more k → length input ≡ length more
+pub heard_part : (pick : Message → Option Fragment) (pi m d e rest rest_other : ℕ) (one other : StoredSegments)
+    (input more : List (Option Group)) (h k : List (Option Message))
+    → HoldsPart one other (age_stored d rest one) (age_stored e rest_other other) → AreHeard pi input h
+    → AreHeard pi more k → length input ≡ length more
     → HoldsRun m (newest_slot 0 h) (run m (newest_slot 0 h) (segments pick 0 h)) (segments_stored d rest one)
-    → HoldsRun m (newest_slot 0 k) (run m (newest_slot 0 k) (segments pick 0 k)) (segments_stored e rest_other other) → IsPart (run_at pick m 0 h) (run_at pick m 0 k)
+    → HoldsRun m (newest_slot 0 k) (run m (newest_slot 0 k) (segments pick 0 k)) (segments_stored e rest_other other)
+    → IsPart (run_at pick m 0 h) (run_at pick m 0 k)
 heard_part pick pi m d e rest rest_other one other input more h k part mine theirs long holds other_holds =
     let long_one : length input ≡ length h = heard_long pi input h mine in
     let long_other : length more ≡ length k = heard_long pi more k theirs in
     let at : newest_slot 0 h ≡ newest_slot 0 k = same_newest 0 h k (omega (arith, long, long_one, long_other)) in
     let moved : HoldsRun m (newest_slot 0 h) (run_at pick m 0 k) (segments_stored e rest_other other) =
     subst (λ (t : ℕ). HoldsRun m t (run_at pick m 0 k) (segments_stored e rest_other other)) (sym at)
-    (subst (λ (r : List Segment). HoldsRun m (newest_slot 0 k) r (segments_stored e rest_other other)) (run_at_newest pick m 0 k) other_holds) in
+    (subst (λ (r : List Segment). HoldsRun m (newest_slot 0 k) r (segments_stored e rest_other other))
+    (run_at_newest pick m 0 k) other_holds) in
     held_part m (newest_slot 0 h) (run_at pick m 0 h) (run_at pick m 0 k) d e rest rest_other one other part
-    (subst (λ (r : List Segment). HoldsRun m (newest_slot 0 h) r (segments_stored d rest one)) (run_at_newest pick m 0 h) holds) moved
+    (subst (λ (r : List Segment). HoldsRun m (newest_slot 0 h) r (segments_stored d rest one))
+    (run_at_newest pick m 0 h) holds) moved
 
 -- ---- whole receivers
 
 -- what `is_receiver_part` finds
 pub record HoldsPartOf (one other : StoredReceiver) : Type 0 where
-  pub text : HoldsPart one.display.text other.display.text (display_stored one.display).text.age (display_stored other.display).text.age
-  pub name : HoldsPart one.display.name other.display.name (display_stored one.display).name.age (display_stored other.display).name.age
+  pub text : HoldsPart one.display.text other.display.text (display_stored one.display).text.age
+      (display_stored other.display).text.age
+  pub name : HoldsPart one.display.name other.display.name (display_stored one.display).name.age
+      (display_stored other.display).name.age
   pub pair : IsPairPart (pair_stored one.display.pair) (pair_stored other.display.pair)
   pub known : is_set one.display.is_known ≡ true → is_set other.display.is_known ≡ true
 
 holds_itself : (s : StoredSegments) (age : ℕ) → HoldsPart s s age age
 holds_itself s age = record { cells = λ a b held. held; newer = inr (refl, omega arith) }
 
-module _ (pi m : ℕ) (one other : StoredReceiver) (part : HoldsPartOf one other) (input more : List (Option Group)) (mine : ReceiverAt (tuned pi m) (receiver_stored one) input) (theirs : ReceiverAt (tuned pi m) (receiver_stored other) more) (long : length input ≡ length more) where
+module _ (pi m : ℕ) (one other : StoredReceiver) (part : HoldsPartOf one other) (input more : List (Option Group))
+    (mine : ReceiverAt (tuned pi m) (receiver_stored one) input) (theirs : ReceiverAt (tuned pi m)
+    (receiver_stored other) more) (long : length input ≡ length more) where
   tags_part : IsTagPart m 0 mine.heard theirs.heard
   tags_part = (by_pair part.pair, λ is. sym theirs.holds.display.known ∙ part.known (mine.holds.display.known ∙ is))
     where
-      by_pair : IsPairPart (pair_stored one.display.pair) (pair_stored other.display.pair) → IsPairPart (pair_held m 0 mine.heard) (pair_held m 0 theirs.heard)
+      by_pair : IsPairPart (pair_stored one.display.pair) (pair_stored other.display.pair)
+          → IsPairPart (pair_held m 0 mine.heard) (pair_held m 0 theirs.heard)
       by_pair (inl none) = inl (sym (pair_is (display_stored one.display) m 0 mine.heard mine.holds.display) ∙ none)
-      by_pair (inr same) = inr (sym (pair_is (display_stored one.display) m 0 mine.heard mine.holds.display) ∙ same ∙ pair_is (display_stored other.display) m 0 theirs.heard theirs.holds.display)
+      by_pair (inr same) = inr (sym (pair_is (display_stored one.display) m 0 mine.heard mine.holds.display) ∙ same
+          ∙ pair_is (display_stored other.display) m 0 theirs.heard theirs.holds.display)
 
   pub holds_part : IsInputPart (tuned pi m) input more
   holds_part = record {
@@ -113,11 +135,15 @@ module _ (pi m : ℕ) (one other : StoredReceiver) (part : HoldsPartOf one other
     texts = λ h k heard others.
         let same = same_heard pi input h mine.heard heard mine.are in
         let same_other = same_heard pi more k theirs.heard others theirs.are in
-        rw (same, same_other) (heard_part text_fragment pi m one.display.dwell other.display.dwell one.display.rest other.display.rest one.display.text other.display.text input more mine.heard theirs.heard part.text mine.are theirs.are long mine.holds.display.text theirs.holds.display.text);
+        rw (same, same_other) (heard_part text_fragment pi m one.display.dwell other.display.dwell one.display.rest
+        other.display.rest one.display.text other.display.text input more mine.heard theirs.heard part.text mine.are
+        theirs.are long mine.holds.display.text theirs.holds.display.text);
     names = λ h k heard others.
         let same = same_heard pi input h mine.heard heard mine.are in
         let same_other = same_heard pi more k theirs.heard others theirs.are in
-        rw (same, same_other) (heard_part name_fragment pi m one.display.dwell other.display.dwell one.display.rest other.display.rest one.display.name other.display.name input more mine.heard theirs.heard part.name mine.are theirs.are long mine.holds.display.name theirs.holds.display.name);
+        rw (same, same_other) (heard_part name_fragment pi m one.display.dwell other.display.dwell one.display.rest
+        other.display.rest one.display.name other.display.name input more mine.heard theirs.heard part.name mine.are
+        theirs.are long mine.holds.display.name theirs.holds.display.name);
     tags = λ h k heard others.
         let same = same_heard pi input h mine.heard heard mine.are in
         let same_other = same_heard pi more k theirs.heard others theirs.are in
@@ -125,7 +151,15 @@ module _ (pi m : ℕ) (one other : StoredReceiver) (part : HoldsPartOf one other
   }
 
 -- one receiver at two inputs
-pub same_part : (pi m : ℕ) (s : StoredReceiver) (input more : List (Option Group)) → ReceiverAt (tuned pi m) (receiver_stored s) input → ReceiverAt (tuned pi m) (receiver_stored s) more → length input ≡ length more
+pub same_part : (pi m : ℕ) (s : StoredReceiver) (input more : List (Option Group))
+    → ReceiverAt (tuned pi m) (receiver_stored s) input → ReceiverAt (tuned pi m) (receiver_stored s) more
+    → length input ≡ length more
     → IsInputPart (tuned pi m) input more
 same_part pi m s input more mine theirs long =
-    holds_part pi m s s record { text = holds_itself s.display.text (display_stored s.display).text.age; name = holds_itself s.display.name (display_stored s.display).name.age; pair = inr refl; known = λ is. is } input more mine theirs long
+    holds_part pi m s s record {
+      text = holds_itself s.display.text (display_stored s.display).text.age;
+      name = holds_itself s.display.name (display_stored s.display).name.age;
+      pair = inr refl;
+      known = λ is. is;
+    }
+    input more mine theirs long

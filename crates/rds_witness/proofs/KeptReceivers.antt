@@ -1,5 +1,6 @@
 -- What kept receivers cover when one more is offered.
-use Rattle.std.proofs.Common.{◌≡◌, ◌∙◌, ◌+◌, ◌<◌, ◌++◌, ◌∷◌, [], ℕ, zero, suc, All, List, Option, arith, inl, inr, length, refl, subst, sym}
+use Rattle.std.proofs.Common.{◌≡◌, ◌∙◌, ◌+◌, ◌<◌, ◌++◌, ◌∷◌, [], ℕ, zero, suc, All, List, Option, arith, inl, inr}
+use Rattle.std.proofs.Common.{length, refl, subst, sym}
 use Rattle.std.specs.List.{Contains}
 use Rattle.std.proofs.lemmas.List.Elements.{All-contains, All-push, Contains-append_left, Contains-append_right}
 use Rattle.rds_block.specs.declared.group.Group.{Group}
@@ -20,28 +21,37 @@ use Rattle.rds_witness.proofs.HeldParts.{heard_long}
 use Rattle.rds_witness.proofs.PartSteps.{part_heard, part_itself, part_through}
 use Rattle.rds_witness.proofs.TagParts.{tag_part_heard}
 
-tags_through : (m first : ℕ) (one two three : List (Option Message)) → IsTagPart m first one two → IsTagPart m first two three → IsTagPart m first one three
+tags_through : (m first : ℕ) (one two three : List (Option Message)) → IsTagPart m first one two
+    → IsTagPart m first two three → IsTagPart m first one three
 tags_through m first one two three p q = (by_first p.0, λ is. q.1 (p.1 is))
   where
-    by_second : pair_held m first one ≡ pair_held m first two → IsPairPart (pair_held m first two) (pair_held m first three) → IsPairPart (pair_held m first one) (pair_held m first three)
+    by_second : pair_held m first one ≡ pair_held m first two
+        → IsPairPart (pair_held m first two) (pair_held m first three)
+        → IsPairPart (pair_held m first one) (pair_held m first three)
     by_second same (inl none) = inl (same ∙ none)
     by_second same (inr other) = inr (same ∙ other)
 
-    by_first : IsPairPart (pair_held m first one) (pair_held m first two) → IsPairPart (pair_held m first one) (pair_held m first three)
+    by_first : IsPairPart (pair_held m first one) (pair_held m first two)
+        → IsPairPart (pair_held m first one) (pair_held m first three)
     by_first (inl none) = inl none
     by_first (inr same) = by_second same q.0
 
-pub input_through : (t : Tuning) (r : ReceiverState) (one two three : List (Option Group)) → ReceiverAt t r two → IsInputPart t one two → IsInputPart t two three → IsInputPart t one three
+pub input_through : (t : Tuning) (r : ReceiverState) (one two three : List (Option Group)) → ReceiverAt t r two
+    → IsInputPart t one two → IsInputPart t two three → IsInputPart t one three
 input_through t r one two three stands p q = record {
   long = p.long ∙ q.long;
-  texts = λ h k heard others. part_through _ _ _ (p.texts h stands.heard heard stands.are) (q.texts stands.heard k stands.are others);
-  names = λ h k heard others. part_through _ _ _ (p.names h stands.heard heard stands.are) (q.names stands.heard k stands.are others);
-  tags = λ h k heard others. tags_through t.dwell t.first (counted t h) (counted t stands.heard) (counted t k) (p.tags h stands.heard heard stands.are) (q.tags stands.heard k stands.are others);
+  texts = λ h k heard others. part_through _ _ _ (p.texts h stands.heard heard stands.are)
+      (q.texts stands.heard k stands.are others);
+  names = λ h k heard others. part_through _ _ _ (p.names h stands.heard heard stands.are)
+      (q.names stands.heard k stands.are others);
+  tags = λ h k heard others. tags_through t.dwell t.first (counted t h) (counted t stands.heard) (counted t k)
+      (p.tags h stands.heard heard stands.are) (q.tags stands.heard k stands.are others);
 }
 
 -- one that is kept holds all that is offered
 pub keeps_part : (t : Tuning) (n : ℕ) (kept : List Lossy) (one by : Lossy) → Contains kept by
-    → ((input more : List (Option Group)) → ReceiverAt t (receiver_stored one.receiver) input → ReceiverAt t (receiver_stored by.receiver) more → length input ≡ length more → IsInputPart t input more)
+    → ((input more : List (Option Group)) → ReceiverAt t (receiver_stored one.receiver) input
+    → ReceiverAt t (receiver_stored by.receiver) more → length input ≡ length more → IsInputPart t input more)
     → All (IsAt t n) kept → Keeps t n one kept kept
 keeps_part t n kept one by there part at = record {
   at = at;
@@ -56,22 +66,38 @@ keeps_part t n kept one by there part at = record {
           other = its.input;
           stands = its.stands;
           stored = its.stored;
-          part = input_through t (receiver_stored one.receiver) input covers.other its.input covers.stands covers.part (part covers.other its.input covers.stands its.stands same);
+          part = input_through t (receiver_stored one.receiver) input covers.other its.input covers.stands covers.part
+              (part covers.other its.input covers.stands its.stands same);
         };
       };
 }
 
 -- what is offered is kept too
-pub keeps_more : (t : Tuning) (n : ℕ) (kept : List Lossy) (one : Lossy) → All (IsAt t n) kept → IsAt t n one → Keeps t n one kept (kept ++ one ∷ [])
+pub keeps_more : (t : Tuning) (n : ℕ) (kept : List Lossy) (one : Lossy) → All (IsAt t n) kept → IsAt t n one
+    → Keeps t n one kept (kept ++ one ∷ [])
 keeps_more t n kept one at its = record {
   at = All-push (IsAt t n) kept one at its;
-  stays = λ input covered. record { by = covered.by; is_there = Contains-append_left kept (one ∷ []) covered.by covered.is_there; covers = covered.covers };
-  more = λ input long covers. record { by = one; is_there = Contains-append_right kept (one ∷ []) one (0, omega arith, refl); covers = covers };
+  stays = λ input covered. record {
+    by = covered.by;
+    is_there = Contains-append_left kept (one ∷ []) covered.by
+        covered.is_there;
+    covers = covered.covers;
+  };
+  more = λ input long covers. record {
+    by = one;
+    is_there = Contains-append_right kept (one ∷ []) one
+        (0, omega arith, refl);
+    covers = covers;
+  };
 }
 
 -- one slot later
-pub at_next : (pi m n : ℕ) (s later : Lossy) (group : Option Group) → (IsStoredReceiver s.receiver → WhereReceiverStands (receiver_stored s.receiver) (λ t input. ReceiverAt t (receiver_stored later.receiver) (group ∷ input)))
-    → (IsStoredReceiver s.receiver → IsStoredReceiver later.receiver) → IsAt (tuned pi m) n s → IsAt (tuned pi m) (n + 1) later
+pub at_next : (pi m n : ℕ) (s later : Lossy) (group : Option Group)
+    → (IsStoredReceiver s.receiver
+    → WhereReceiverStands (receiver_stored s.receiver) (λ t input. ReceiverAt t (receiver_stored later.receiver)
+    (group ∷ input)))
+    → (IsStoredReceiver s.receiver → IsStoredReceiver later.receiver) → IsAt (tuned pi m) n s
+    → IsAt (tuned pi m) (n + 1) later
 at_next pi m n s later group stands good its = record {
   input = group ∷ its.input;
   long = let long = its.long in omega (arith, long);
@@ -79,7 +105,9 @@ at_next pi m n s later group stands good its = record {
   stored = good its.stored;
 }
 
-run_next : (pick : Message → Option Fragment) (pi m : ℕ) (group : Option Group) (one other : List (Option Group)) → 0 < m → length one ≡ length other → IsRunPart pick (tuned pi m) one other → IsRunPart pick (tuned pi m) (group ∷ one) (group ∷ other)
+run_next : (pick : Message → Option Fragment) (pi m : ℕ) (group : Option Group) (one other : List (Option Group))
+    → 0 < m → length one ≡ length other → IsRunPart pick (tuned pi m) one other
+    → IsRunPart pick (tuned pi m) (group ∷ one) (group ∷ other)
 run_next pick pi m group one other some long part [] k heard others = absurd heard
 run_next pick pi m group one other some long part (x ∷ h) [] heard others = absurd others
 run_next pick pi m group one other some long part (x ∷ h) (y ∷ k) heard others =
@@ -87,16 +115,20 @@ run_next pick pi m group one other some long part (x ∷ h) (y ∷ k) heard othe
     let as_long : length h ≡ length k = sym (heard_long pi one h heard.1) ∙ long ∙ heard_long pi other k others.1 in
     rw same (part_heard pick m x h k some as_long (part h k heard.1 others.1))
 
-tags_next : (pi m : ℕ) (group : Option Group) (one other : List (Option Group)) → 0 < m → IsInputPart (tuned pi m) one other → (h k : List (Option Message)) → AreHeard pi (group ∷ one) h → AreHeard pi (group ∷ other) k
+tags_next : (pi m : ℕ) (group : Option Group) (one other : List (Option Group)) → 0 < m
+    → IsInputPart (tuned pi m) one other → (h k : List (Option Message)) → AreHeard pi (group ∷ one) h
+    → AreHeard pi (group ∷ other) k
     → IsTagPart m 0 h k
 tags_next pi m group one other some part [] k heard others = absurd heard
 tags_next pi m group one other some part (x ∷ h) [] heard others = absurd others
 tags_next pi m group one other some part (x ∷ h) (y ∷ k) heard others =
     let same : y ≡ x = same_heard_in pi group y x others.0 heard.0 in
-    let as_long : length h ≡ length k = sym (heard_long pi one h heard.1) ∙ part.long ∙ heard_long pi other k others.1 in
+    let as_long : length h ≡ length k = sym (heard_long pi one h heard.1) ∙ part.long ∙ heard_long pi other k others.1
+    in
     rw same (tag_part_heard m x h k some as_long (part.texts h k heard.1 others.1) (part.tags h k heard.1 others.1))
 
-pub input_next : (pi m : ℕ) (group : Option Group) (one other : List (Option Group)) → 0 < m → IsInputPart (tuned pi m) one other → IsInputPart (tuned pi m) (group ∷ one) (group ∷ other)
+pub input_next : (pi m : ℕ) (group : Option Group) (one other : List (Option Group)) → 0 < m
+    → IsInputPart (tuned pi m) one other → IsInputPart (tuned pi m) (group ∷ one) (group ∷ other)
 input_next pi m group one other some part = record {
   long = let long = part.long in omega (arith, long);
   texts = run_next text_fragment pi m group one other some part.long part.texts;
@@ -104,8 +136,12 @@ input_next pi m group one other some part = record {
   tags = tags_next pi m group one other some part;
 }
 
-pub covers_next : (pi m : ℕ) (s later : Lossy) (group : Option Group) (input : List (Option Group)) → (IsStoredReceiver s.receiver → WhereReceiverStands (receiver_stored s.receiver) (λ t input. ReceiverAt t (receiver_stored later.receiver) (group ∷ input)))
-    → (IsStoredReceiver s.receiver → IsStoredReceiver later.receiver) → CoversInput (tuned pi m) input s → CoversInput (tuned pi m) (group ∷ input) later
+pub covers_next : (pi m : ℕ) (s later : Lossy) (group : Option Group) (input : List (Option Group))
+    → (IsStoredReceiver s.receiver
+    → WhereReceiverStands (receiver_stored s.receiver) (λ t input. ReceiverAt t (receiver_stored later.receiver)
+    (group ∷ input)))
+    → (IsStoredReceiver s.receiver → IsStoredReceiver later.receiver) → CoversInput (tuned pi m) input s
+    → CoversInput (tuned pi m) (group ∷ input) later
 covers_next pi m s later group input stands good covers = record {
   other = group ∷ covers.other;
   stands = stands covers.stored (tuned pi m) covers.other covers.stands;
@@ -117,30 +153,39 @@ covers_next pi m s later group input stands good covers = record {
 pub input_itself : (pi m : ℕ) (input : List (Option Group)) → IsInputPart (tuned pi m) input input
 input_itself pi m input = record {
   long = refl;
-  texts = λ h k heard others. let same = same_heard pi input h k heard others in rw same (part_itself (run_at text_fragment m 0 k));
-  names = λ h k heard others. let same = same_heard pi input h k heard others in rw same (part_itself (run_at name_fragment m 0 k));
+  texts = λ h k heard others. let same = same_heard pi input h k heard others
+      in rw same (part_itself (run_at text_fragment m 0 k));
+  names = λ h k heard others. let same = same_heard pi input h k heard others
+      in rw same (part_itself (run_at name_fragment m 0 k));
   tags = λ h k heard others. let same = same_heard pi input h k heard others in rw same (inr refl, λ is. is);
 }
 
-pub covers_itself : (pi m : ℕ) (input : List (Option Group)) (s : Lossy) → ReceiverAt (tuned pi m) (receiver_stored s.receiver) input → IsStoredReceiver s.receiver → CoversInput (tuned pi m) input s
-covers_itself pi m input s stands stored = record { other = input; stands = stands; stored = stored; part = input_itself pi m input }
+pub covers_itself : (pi m : ℕ) (input : List (Option Group)) (s : Lossy)
+    → ReceiverAt (tuned pi m) (receiver_stored s.receiver) input → IsStoredReceiver s.receiver
+    → CoversInput (tuned pi m) input s
+covers_itself pi m input s stands stored = record
+    { other = input; stands = stands; stored = stored; part = input_itself pi m input }
 
 -- ---- a list with one more in front
 
-pub covered_first : (t : Tuning) (one : Lossy) (set : List Lossy) (input : List (Option Group)) → CoversInput t input one → IsCovered t (one ∷ set) input
+pub covered_first : (t : Tuning) (one : Lossy) (set : List Lossy) (input : List (Option Group))
+    → CoversInput t input one → IsCovered t (one ∷ set) input
 covered_first t one set input covers = record { by = one; is_there = (0, omega arith, refl); covers = covers }
 
 pub contains_next : (one : Lossy) (set : List Lossy) (by : Lossy) → Contains set by → Contains (one ∷ set) by
 contains_next one set by (k, inside, is) = (suc k, omega (arith, inside), is)
 
-pub at_first : (t : Tuning) (n : ℕ) (one : Lossy) (set : List Lossy) → IsAt t n one → All (IsAt t n) set → All (IsAt t n) (one ∷ set)
+pub at_first : (t : Tuning) (n : ℕ) (one : Lossy) (set : List Lossy) → IsAt t n one → All (IsAt t n) set
+    → All (IsAt t n) (one ∷ set)
 at_first t n one set its at zero d less = its
 at_first t n one set its at (suc k) d less = at k d (omega (arith, less))
 
 -- what the first one does for the inputs that it covers, and the others for theirs, is done for all
-pub by_first : (t : Tuning) (one : Lossy) (set : List Lossy) (input : List (Option Group)) (Holds : Type 0) → IsCovered t (one ∷ set) input → (CoversInput t input one → Holds) → (IsCovered t set input → Holds) → Holds
+pub by_first : (t : Tuning) (one : Lossy) (set : List Lossy) (input : List (Option Group)) (Holds : Type 0)
+    → IsCovered t (one ∷ set) input → (CoversInput t input one → Holds) → (IsCovered t set input → Holds) → Holds
 by_first t one set input Holds covered first others = by_place covered.is_there
   where
     by_place : Contains (one ∷ set) covered.by → Holds
     by_place (zero, inside, is) = first (subst (CoversInput t input) (sym is) covered.covers)
-    by_place (suc k, inside, is) = others record { by = covered.by; is_there = (k, omega (arith, inside), is); covers = covered.covers }
+    by_place (suc k, inside, is) = others record
+        { by = covered.by; is_there = (k, omega (arith, inside), is); covers = covered.covers }

@@ -1,5 +1,6 @@
 -- A receiver that loses nothing gets the slots of the log.
-use Rattle.std.proofs.Common.{◌≡◌, ◌<◌, ◌≤◌, ◌∷◌, [], ◌∙◌, ℕ, List, Option, None, add-one, ap, arith, get_or, length, reverse, suc, sym, take, zero}
+use Rattle.std.proofs.Common.{◌≡◌, ◌<◌, ◌≤◌, ◌∷◌, [], ◌∙◌, ℕ, List, Option, None, add-one, ap, arith, get_or, length}
+use Rattle.std.proofs.Common.{reverse, suc, sym, take, zero}
 use Rattle.std.proofs.Math.Seq.{take-suc}
 use Rattle.std.proofs.lemmas.List.{reverse-append, take_all}
 use Rattle.rds_block.specs.declared.group.Group.{Group}

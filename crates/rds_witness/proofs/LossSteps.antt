@@ -1,5 +1,6 @@
 -- The lines of the mixes of a receiver that loses given slots, slot after slot.
-use Rattle.std.proofs.Common.{◌≡◌, ◌++◌, ◌∷◌, ◌+◌, ◌<◌, [], ◌∙◌, ℕ, List, Option, ap, arith, codes, inl, inr, length, refl, subst, sym}
+use Rattle.std.proofs.Common.{◌≡◌, ◌++◌, ◌∷◌, ◌+◌, ◌<◌, [], ◌∙◌, ℕ, List, Option, ap, arith, codes, inl, inr, length}
+use Rattle.std.proofs.Common.{refl, subst, sym}
 use Rattle.std.specs.List.{Contains}
 use Rattle.std.proofs.lemmas.Bool.{cases_lt}
 use Rattle.rds_block.specs.declared.group.Group.{Group}
@@ -44,13 +45,15 @@ no_shown_line slot (Tag which class piece) none = no_line_end _ none
 
 no_things : (slot : ℕ) (things : List Thing) → mix_lines [] slot things ≡ [] → things ≡ []
 no_things slot [] none = refl
-no_things slot (thing ∷ older) none = absurd (no_shown_line slot thing (ends_empty (mix_lines [] slot older) (shown_line slot thing) none))
+no_things slot (thing ∷ older) none = absurd (no_shown_line slot thing (ends_empty (mix_lines [] slot older)
+    (shown_line slot thing) none))
 
 contains_none : (things : List Thing) (thing : Thing) → things ≡ [] → Contains things thing → ⊥
 contains_none things thing none (k, less, is) = (let long = ap length none in omega (arith, less, long))
 
 module _ (t : Tuning) (ahead : ℕ) (log : List (Option Group)) (lost : List Burst) where
-  no_mix_in : (slots : List (List ℕ)) → joined_parts slots ≡ [] → AreLinesOfSlots t ahead log lost slots → (slot : ℕ) (thing : Thing) → slot < length slots → IsMix t ahead log lost slot thing → ⊥
+  no_mix_in : (slots : List (List ℕ)) → joined_parts slots ≡ [] → AreLinesOfSlots t ahead log lost slots
+      → (slot : ℕ) (thing : Thing) → slot < length slots → IsMix t ahead log lost slot thing → ⊥
   no_mix_in [] none are slot thing less mix = absurd (omega (arith, less))
   no_mix_in (newest ∷ older) none are slot thing less mix = elim (cases_lt slot (length older)) [
     | inl before ↦ no_mix_in older (begins_empty (joined_parts older) newest none) are.1 slot thing before mix
@@ -62,16 +65,19 @@ module _ (t : Tuning) (ahead : ℕ) (log : List (Option Group)) (lost : List Bur
   ]
 
   -- no line, no mix
-  pub no_loss_mix : (lines : List ℕ) → lines ≡ [] → AreLossLines t ahead log lost (length log) lines → (slot : ℕ) (thing : Thing) → IsMix t ahead log lost slot thing → ⊥
+  pub no_loss_mix : (lines : List ℕ) → lines ≡ [] → AreLossLines t ahead log lost (length log) lines
+      → (slot : ℕ) (thing : Thing) → IsMix t ahead log lost slot thing → ⊥
   no_loss_mix lines none had slot thing mix =
-      no_mix_in had.slots (sym had.are ∙ none) had.each slot thing (let inside = mix.inside in let long = had.long in omega (arith, inside, long)) mix
+      no_mix_in had.slots (sym had.are ∙ none) had.each slot thing (let inside = mix.inside in let long = had.long
+      in omega (arith, inside, long)) mix
 
   -- ---- slot after slot
 
   pub adds_first : (lines : List ℕ) → lines ≡ [] → AreLossLines t ahead log lost 0 lines
   adds_first lines none = record { slots = []; long = refl; each = tt; are = none }
 
-  pub adds_slot : (slot : ℕ) (lines here more : List ℕ) → AreMixLines t ahead log lost [] slot here → more ≡ lines ++ here → AreLossLines t ahead log lost slot lines → AreLossLines t ahead log lost (slot + 1) more
+  pub adds_slot : (slot : ℕ) (lines here more : List ℕ) → AreMixLines t ahead log lost [] slot here
+      → more ≡ lines ++ here → AreLossLines t ahead log lost slot lines → AreLossLines t ahead log lost (slot + 1) more
   adds_slot slot lines here more are more_are had = record {
     slots = here ∷ had.slots;
     long = let long = had.long in omega (arith, long);
@@ -80,20 +86,27 @@ module _ (t : Tuning) (ahead : ℕ) (log : List (Option Group)) (lost : List Bur
   }
 
   -- a view that stays has no mix
-  pub stays_none : (slot : ℕ) → ((view : ShownView) → IsView t (got lost log slot) view → IsView t (got lost log (slot + 1)) view) → (thing : Thing) → IsMix t ahead log lost slot thing → ⊥
+  pub stays_none : (slot : ℕ) → ((view : ShownView) → IsView t (got lost log slot) view
+      → IsView t (got lost log (slot + 1)) view) → (thing : Thing) → IsMix t ahead log lost slot thing → ⊥
   stays_none slot stays thing mix =
       let new = mix.new in
-      let same : new.after ≡ new.before = same_view t (got lost log (slot + 1)) new.after new.before new.is (stays new.before new.was) in
+      let same : new.after ≡ new.before = same_view t (got lost log (slot + 1)) new.after new.before new.is
+      (stays new.before new.was) in
       new.not_shown (has_shows new.before thing (subst (λ (v : ShownView). Has v thing) same new.has))
 
   -- nor has one whose things are known
-  pub known_none : (slot : ℕ) (before after : ShownView) → IsView t (got lost log slot) before → IsView t (got lost log (slot + 1)) after
-      → ((thing : Thing) → Has after thing → IsKnown t log (until ahead log slot) before thing) → (thing : Thing) → IsMix t ahead log lost slot thing → ⊥
-  known_none slot before after was is known thing mix = by_known (known thing (subst (λ (v : ShownView). Has v thing) (same_view t (got lost log (slot + 1)) new.after after new.is is) new.has))
+  pub known_none : (slot : ℕ) (before after : ShownView) → IsView t (got lost log slot) before
+      → IsView t (got lost log (slot + 1)) after
+      → ((thing : Thing) → Has after thing → IsKnown t log (until ahead log slot) before thing) → (thing : Thing)
+      → IsMix t ahead log lost slot thing → ⊥
+  known_none slot before after was is known thing mix = by_known
+      (known thing (subst (λ (v : ShownView). Has v thing) (same_view t (got lost log (slot + 1)) new.after after new.is
+      is) new.has))
     where
       new : IsNew t log lost slot thing
       new = mix.new
 
       by_known : IsKnown t log (until ahead log slot) before thing → ⊥
-      by_known (inl shown) = new.not_shown (subst (λ (v : ShownView). ViewHas v thing) (same_view t (got lost log slot) before new.before was new.was) shown)
+      by_known (inl shown) = new.not_shown (subst (λ (v : ShownView). ViewHas v thing) (same_view t (got lost log slot)
+          before new.before was new.was) shown)
       by_known (inr seen) = mix.never seen.slot seen.view seen.before seen.is seen.shows

@@ -1,5 +1,6 @@
 -- How lines of mixes go on by the lines of a kind of things.
-use Rattle.std.proofs.Common.{◌≡◌, ◌⊎◌, ◌++◌, ◌∷◌, ◌+◌, ◌<◌, [], ◌∙◌, ℕ, List, Option, None, Some, ap, append_assoc, arith, inl, inr, refl, subst, suc}
+use Rattle.std.proofs.Common.{◌≡◌, ◌⊎◌, ◌++◌, ◌∷◌, ◌+◌, ◌<◌, [], ◌∙◌, ℕ, List, Option, None, Some, ap, append_assoc}
+use Rattle.std.proofs.Common.{arith, inl, inr, refl, subst, suc}
 use Rattle.std.specs.List.{Contains}
 use Rattle.std.proofs.lemmas.Bool.{cases_lt}
 use Rattle.std.proofs.lemmas.List.Elements.{All-cons, All-nil}
@@ -37,12 +38,14 @@ one_thing view (Name x) (Tag One d y) e p q = absurd (omega (arith, e))
 one_thing view (Name x) (Tag Two d y) e p q = absurd (omega (arith, e))
 one_thing view (Tag One c x) (Text y) e p q = absurd (omega (arith, e))
 one_thing view (Tag One c x) (Name y) e p q = absurd (omega (arith, e))
-one_thing view (Tag One c x) (Tag One d y) e p q = ap (λ (tag : ℕ × List ℕ). Tag One tag.0 tag.1) (same_tag view.one (c, x) (d, y) p q)
+one_thing view (Tag One c x) (Tag One d y) e p q = ap (λ (tag : ℕ × List ℕ). Tag One tag.0 tag.1)
+    (same_tag view.one (c, x) (d, y) p q)
 one_thing view (Tag One c x) (Tag Two d y) e p q = absurd (omega (arith, e))
 one_thing view (Tag Two c x) (Text y) e p q = absurd (omega (arith, e))
 one_thing view (Tag Two c x) (Name y) e p q = absurd (omega (arith, e))
 one_thing view (Tag Two c x) (Tag One d y) e p q = absurd (omega (arith, e))
-one_thing view (Tag Two c x) (Tag Two d y) e p q = ap (λ (tag : ℕ × List ℕ). Tag Two tag.0 tag.1) (same_tag view.two (c, x) (d, y) p q)
+one_thing view (Tag Two c x) (Tag Two d y) e p q = ap (λ (tag : ℕ × List ℕ). Tag Two tag.0 tag.1)
+    (same_tag view.two (c, x) (d, y) p q)
 
 -- a view without a thing of a kind
 pub no_text : (view : ShownView) → view.text ≡ None → (thing : Thing) → kind_of thing ≡ 0 → Has view thing → ⊥
@@ -80,20 +83,41 @@ contains_more xs y x (k, less, is) = (suc k, omega (arith, less), is)
 module _ (t : Tuning) (ahead : ℕ) (log : List (Option Group)) (lost : List Burst) (words : List ℕ) (slot : ℕ) where
   -- before the first kind
   no_lines : (lines : List ℕ) → lines ≡ [] → AreSomeMixLines 0 t ahead log lost words slot lines
-  no_lines lines none = record { things = []; mixes = All-nil (IsMix t ahead log lost slot); all = λ thing below is. absurd (omega (arith, below)); are = none }
+  no_lines lines none = record {
+    things = [];
+    mixes = All-nil (IsMix t ahead log lost slot);
+    all = λ thing below is.
+        absurd (omega (arith, below));
+    are = none;
+  }
 
   -- after the last kind
-  pub all_kinds : (before after : List ℕ) → before ≡ [] → (AreSomeMixLines 0 t ahead log lost words slot before → AreSomeMixLines 4 t ahead log lost words slot after) → AreMixLines t ahead log lost words slot after
+  pub all_kinds : (before after : List ℕ) → before ≡ []
+      → (AreSomeMixLines 0 t ahead log lost words slot before → AreSomeMixLines 4 t ahead log lost words slot after)
+      → AreMixLines t ahead log lost words slot after
   all_kinds before after none adds =
       let some = adds (no_lines before none) in
-      record { things = some.things; mixes = some.mixes; all = λ thing is. some.all thing (kinds_below thing) is; are = some.are }
+      record {
+        things = some.things;
+        mixes = some.mixes;
+        all = λ thing is. some.all thing (kinds_below thing) is;
+        are = some.are;
+      }
 
   -- a slot without a mix
   pub no_mixes : ((thing : Thing) → IsMix t ahead log lost slot thing → ⊥) → AreMixLines t ahead log lost words slot []
-  no_mixes not = record { things = []; mixes = All-nil (IsMix t ahead log lost slot); all = λ thing is. absurd (not thing is); are = refl }
+  no_mixes not = record {
+    things = [];
+    mixes = All-nil (IsMix t ahead log lost slot);
+    all = λ thing is. absurd
+        (not thing is);
+    are = refl;
+  }
 
   -- no thing of the kind is a mix
-  pub adds_none : (n : ℕ) (lines : List ℕ) → ((thing : Thing) → kind_of thing ≡ n → IsMix t ahead log lost slot thing → ⊥) → AreSomeMixLines n t ahead log lost words slot lines → AreSomeMixLines (n + 1) t ahead log lost words slot lines
+  pub adds_none : (n : ℕ) (lines : List ℕ)
+      → ((thing : Thing) → kind_of thing ≡ n → IsMix t ahead log lost slot thing → ⊥)
+      → AreSomeMixLines n t ahead log lost words slot lines → AreSomeMixLines (n + 1) t ahead log lost words slot lines
   adds_none n lines none had = record { things = had.things; mixes = had.mixes; all = all; are = had.are }
     where
       all : (thing : Thing) → kind_of thing < n + 1 → IsMix t ahead log lost slot thing → Contains had.things thing
@@ -104,17 +128,24 @@ module _ (t : Tuning) (ahead : ℕ) (log : List (Option Group)) (lost : List Bur
 
   module _ (before after : ShownView) (around : AreAround t log lost slot before after) where
     has_after : (thing : Thing) → IsMix t ahead log lost slot thing → Has after thing
-    has_after thing is = subst (λ (v : ShownView). Has v thing) (same_view t (got lost log (slot + 1)) is.new.after after is.new.is around.is) is.new.has
+    has_after thing is = subst (λ (v : ShownView). Has v thing) (same_view t (got lost log (slot + 1)) is.new.after
+        after is.new.is around.is) is.new.has
 
     not_before : (thing : Thing) → IsMix t ahead log lost slot thing → ViewHas before thing → ⊥
-    not_before thing is = subst (λ (v : ShownView). ViewHas v thing → ⊥) (same_view t (got lost log slot) is.new.before before is.new.was around.was) is.new.not_shown
+    not_before thing is = subst (λ (v : ShownView). ViewHas v thing → ⊥) (same_view t (got lost log slot) is.new.before
+        before is.new.was around.was) is.new.not_shown
 
     -- the view has no thing of the kind
-    pub adds_nothing : (n : ℕ) (lines : List ℕ) → ((thing : Thing) → kind_of thing ≡ n → Has after thing → ⊥) → AreSomeMixLines n t ahead log lost words slot lines → AreSomeMixLines (n + 1) t ahead log lost words slot lines
+    pub adds_nothing : (n : ℕ) (lines : List ℕ) → ((thing : Thing) → kind_of thing ≡ n → Has after thing → ⊥)
+        → AreSomeMixLines n t ahead log lost words slot lines
+        → AreSomeMixLines (n + 1) t ahead log lost words slot lines
     adds_nothing n lines none = adds_none n lines (λ thing kind is. none thing kind (has_after thing is))
 
     -- the thing of the kind is no mix
-    pub adds_no_mix : (thing : Thing) (lines : List ℕ) → Has after thing → ViewHas before thing ⊎ (NeverShows t log (until ahead log slot) thing → ⊥) → AreSomeMixLines (kind_of thing) t ahead log lost words slot lines → AreSomeMixLines (kind_of thing + 1) t ahead log lost words slot lines
+    pub adds_no_mix : (thing : Thing) (lines : List ℕ) → Has after thing
+        → ViewHas before thing ⊎ (NeverShows t log (until ahead log slot) thing → ⊥)
+        → AreSomeMixLines (kind_of thing) t ahead log lost words slot lines
+        → AreSomeMixLines (kind_of thing + 1) t ahead log lost words slot lines
     adds_no_mix thing lines has isnt = adds_none (kind_of thing) lines (λ other kind is.
         not (subst (IsMix t ahead log lost slot) (one_thing after other thing kind (has_after other is) has) is))
       where
@@ -125,11 +156,14 @@ module _ (t : Tuning) (ahead : ℕ) (log : List (Option Group)) (lost : List Bur
         ]
 
     -- the line of a mix, after the words
-    pub adds_mix : (thing : Thing) (lines a more : List ℕ) → a ≡ lines ++ words → more ≡ a ++ shown_line slot thing → Has after thing → IsMix t ahead log lost slot thing
-        → AreSomeMixLines (kind_of thing) t ahead log lost words slot lines → AreSomeMixLines (kind_of thing + 1) t ahead log lost words slot more
+    pub adds_mix : (thing : Thing) (lines a more : List ℕ) → a ≡ lines ++ words → more ≡ a ++ shown_line slot thing
+        → Has after thing → IsMix t ahead log lost slot thing
+        → AreSomeMixLines (kind_of thing) t ahead log lost words slot lines
+        → AreSomeMixLines (kind_of thing + 1) t ahead log lost words slot more
     adds_mix thing lines a more first second has is had =
         let shown = shown_line slot thing in
-        let whole : more ≡ lines ++ mix_line words slot thing = second ∙ ap (λ (l : List ℕ). l ++ shown) first ∙ append_assoc lines words shown in
+        let whole : more ≡ lines ++ mix_line words slot thing = second ∙ ap (λ (l : List ℕ). l ++ shown) first
+        ∙ append_assoc lines words shown in
         record {
           things = thing ∷ had.things;
           mixes = All-cons (IsMix t ahead log lost slot) thing had.things is had.mixes;
@@ -137,8 +171,10 @@ module _ (t : Tuning) (ahead : ℕ) (log : List (Option Group)) (lost : List Bur
           are = whole ∙ ap (λ (l : List ℕ). l ++ mix_line words slot thing) had.are;
         }
       where
-        all : (other : Thing) → kind_of other < kind_of thing + 1 → IsMix t ahead log lost slot other → Contains (thing ∷ had.things) other
+        all : (other : Thing) → kind_of other < kind_of thing + 1 → IsMix t ahead log lost slot other
+            → Contains (thing ∷ had.things) other
         all other below also = elim (cases_lt (kind_of other) (kind_of thing)) [
           | inl older ↦ contains_more had.things thing other (had.all other older also)
-          | inr here ↦ subst (Contains (thing ∷ had.things)) (one_thing after thing other (omega arith) has (has_after other also)) (contains_here had.things thing)
+          | inr here ↦ subst (Contains (thing ∷ had.things)) (one_thing after thing other (omega arith) has
+              (has_after other also)) (contains_here had.things thing)
         ]

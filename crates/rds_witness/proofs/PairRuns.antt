@@ -1,5 +1,6 @@
 -- Pairs of tags of a run of texts that goes on.
-use Rattle.std.proofs.Common.{◌≡◌, ◌∙◌, ◌⊎◌, ◌+◌, ◌<◌, ◌≤◌, ◌∷◌, [], ℕ, Bool, List, Option, Some, ap, arith, inl, inr, length, refl, subst, sym}
+use Rattle.std.proofs.Common.{◌≡◌, ◌∙◌, ◌⊎◌, ◌+◌, ◌<◌, ◌≤◌, ◌∷◌, [], ℕ, Bool, List, Option, Some, ap, arith, inl, inr}
+use Rattle.std.proofs.Common.{length, refl, subst, sym}
 use Rattle.std.proofs.lemmas.Bool.{cases_lt}
 use Rattle.rds_block.specs.declared.group.Group.{Group}
 use Rattle.rds_fields.specs.declared.message.Message.{Message}
@@ -22,13 +23,16 @@ record Goes (m : ℕ) (heard : List (Option Message)) (flag : Bool) : Type 0 whe
   is : run m (0 + length heard) (segments text_fragment 0 heard) ≡ g ∷ older
   same : flag ≡ g.fragment.flag
 
-goes : (m : ℕ) (heard : List (Option Message)) (held : HeldSegments) → HoldsRun m (newest_slot 0 heard) (run m (newest_slot 0 heard) (segments text_fragment 0 heard)) held → held.age + 1 < m → Goes m heard held.flag
+goes : (m : ℕ) (heard : List (Option Message)) (held : HeldSegments)
+    → HoldsRun m (newest_slot 0 heard) (run m (newest_slot 0 heard) (segments text_fragment 0 heard)) held
+    → held.age + 1 < m → Goes m heard held.flag
 goes m [] held holds young = absurd (let age = holds.age in omega (arith, age, young))
 goes m (y ∷ before) held holds young = by_segments (segments text_fragment 0 (y ∷ before)) refl
   where
     by_segments : (segs : List Segment) → segments text_fragment 0 (y ∷ before) ≡ segs → Goes m (y ∷ before) held.flag
     by_segments [] are =
-        let age : HasAge m (0 + length before) [] held.age = subst (λ (s : List Segment). HasAge m (0 + length before) (run m (0 + length before) s) held.age) are holds.age in
+        let age : HasAge m (0 + length before) [] held.age = subst (λ (s : List Segment). HasAge m (0 + length before)
+        (run m (0 + length before) s) held.age) are holds.age in
         absurd (omega (arith, age, young))
     by_segments (g ∷ older) are = by_age (cases_lt (0 + length before) (g.slot + m))
       where
@@ -37,45 +41,63 @@ goes m (y ∷ before) held holds young = by_segments (segments text_fragment 0 (
 
         by_age : (0 + length before < g.slot + m) ⊎ (g.slot + m ≤ 0 + length before) → Goes m (y ∷ before) held.flag
         by_age (inr over) =
-            let age : HasAge m (0 + length before) [] held.age = subst (λ (r : List Segment). HasAge m (0 + length before) r held.age) (run_over m (0 + length before) g older over) here.age in
+            let age : HasAge m (0 + length before) [] held.age = subst (λ (r : List Segment). HasAge m
+            (0 + length before) r held.age) (run_over m (0 + length before) g older over) here.age in
             absurd (omega (arith, age, young))
         by_age (inl soon) =
             let r = g ∷ run_before m g.fragment.flag g.slot older in
-            let now : HoldsRun m (0 + length before) r held = subst (λ (r : List Segment). HoldsRun m (0 + length before) r held) (run_recent m (0 + length before) g older soon) here in
+            let now : HoldsRun m (0 + length before) r held = subst (λ (r : List Segment). HoldsRun m
+            (0 + length before) r held) (run_recent m (0 + length before) g older soon) here in
             let age : 0 + length before ≡ g.slot + held.age = now.age in
             record {
               g = g;
               older = run_before m g.fragment.flag g.slot older;
-              is = ap (run m (0 + length (y ∷ before))) are ∙ run_recent m (0 + length (y ∷ before)) g older (omega (arith, age, young));
+              is = ap (run m (0 + length (y ∷ before))) are ∙ run_recent m (0 + length (y ∷ before)) g older
+                  (omega (arith, age, young));
               same = now.flag;
             }
 
 -- the flag of a segment that came in the newest slot
 newest_flag : (m : ℕ) (heard : List (Option Message)) (f : Bool) (a : ℕ) (b : List ℕ) (held : HeldSegments) → 0 < m
-    → HoldsRun m (0 + length heard) (run m (0 + length heard) (segments text_fragment 0 (Some (Text f a b) ∷ heard))) held → held.flag ≡ f
+    → HoldsRun m (0 + length heard) (run m (0 + length heard) (segments text_fragment 0 (Some (Text f a b) ∷ heard)))
+    held → held.flag ≡ f
 newest_flag m heard f a b held some holds =
     let s : Segment = record { slot = 0 + length heard; fragment = record { flag = f; address = a; bytes = b } } in
-    subst (λ (r : List Segment). HasFlag r held.flag) (run_recent m (0 + length heard) s (segments text_fragment 0 heard) (omega (arith, some))) holds.flag
+    subst (λ (r : List Segment). HasFlag r held.flag) (run_recent m (0 + length heard) s
+    (segments text_fragment 0 heard) (omega (arith, some))) holds.flag
 
 -- the run begins in the same slot before and after the next one
-pub same_run : (pi m : ℕ) (old new : ReceiverState) (group : Option Group) (input : List (Option Group)) → old.display.text.age + 1 < old.display.dwell → old.display.text.flag ≡ new.display.text.flag → ReceiverAt (tuned pi m) old input → ReceiverAt (tuned pi m) new (group ∷ input)
-    → (h k : List (Option Message)) → AreHeard pi input h → AreHeard pi (group ∷ input) k → begins_in (run_at text_fragment m 0 h) ≡ begins_in (run_at text_fragment m 0 k)
+pub same_run : (pi m : ℕ) (old new : ReceiverState) (group : Option Group) (input : List (Option Group))
+    → old.display.text.age + 1 < old.display.dwell → old.display.text.flag ≡ new.display.text.flag
+    → ReceiverAt (tuned pi m) old input → ReceiverAt (tuned pi m) new (group ∷ input)
+    → (h k : List (Option Message)) → AreHeard pi input h → AreHeard pi (group ∷ input) k
+    → begins_in (run_at text_fragment m 0 h) ≡ begins_in (run_at text_fragment m 0 k)
 same_run pi m old new group input young flag was is h [] heard now = absurd now
 same_run pi m old new group input young flag was is h (x ∷ k) heard now =
     let same : was.heard ≡ h = same_heard pi input was.heard h was.are heard in
     let same_now : k ≡ h = same_heard pi input k h now.1 heard in
-    let whole : is.heard ≡ x ∷ h = same_heard pi (group ∷ input) is.heard (x ∷ k) is.are now ∙ ap (λ (l : List (Option Message)). x ∷ l) same_now in
-    let held : HoldsRun m (newest_slot 0 h) (run m (newest_slot 0 h) (segments text_fragment 0 h)) old.display.text = subst (λ (l : List (Option Message)). HoldsRun m (newest_slot 0 l) (run m (newest_slot 0 l) (segments text_fragment 0 l)) old.display.text) same was.holds.display.text in
+    let whole : is.heard ≡ x ∷ h = same_heard pi (group ∷ input) is.heard (x ∷ k) is.are now
+    ∙ ap (λ (l : List (Option Message)). x ∷ l) same_now in
+    let held : HoldsRun m (newest_slot 0 h) (run m (newest_slot 0 h) (segments text_fragment 0 h))
+    old.display.text = subst (λ (l : List (Option Message)). HoldsRun m (newest_slot 0 l)
+    (run m (newest_slot 0 l) (segments text_fragment 0 l)) old.display.text) same was.holds.display.text in
     let after : HoldsRun m (0 + length h) (run m (0 + length h) (segments text_fragment 0 (x ∷ h))) new.display.text =
-    subst (λ (l : List (Option Message)). HoldsRun m (newest_slot 0 l) (run m (newest_slot 0 l) (segments text_fragment 0 l)) new.display.text) whole is.holds.display.text in
+    subst (λ (l : List (Option Message)). HoldsRun m (newest_slot 0 l)
+    (run m (newest_slot 0 l) (segments text_fragment 0 l)) new.display.text) whole is.holds.display.text in
     let dwell : old.display.dwell ≡ m = was.holds.display.dwell in
     let it : Goes m h old.display.text.flag = goes m h old.display.text held (omega (arith, young, dwell)) in
     begins_on m x h it.g it.older was.holds.display.lasts it.is
-    (λ f a b text. sym (newest_flag m h f a b new.display.text was.holds.display.lasts (subst (λ (y : Option Message). HoldsRun m (0 + length h) (run m (0 + length h) (segments text_fragment 0 (y ∷ h))) new.display.text) text after)) ∙ sym flag ∙ it.same)
+    (λ f a b text. sym (newest_flag m h f a b new.display.text was.holds.display.lasts
+    (subst (λ (y : Option Message). HoldsRun m (0 + length h)
+    (run m (0 + length h) (segments text_fragment 0 (y ∷ h))) new.display.text) text after)) ∙ sym flag ∙ it.same)
     ∙ ap (λ (l : List (Option Message)). begins_in (run_at text_fragment m 0 (x ∷ l))) (sym same_now)
 
 -- the same over the slots of a log
-pub same_run_of_log : (pi m n : ℕ) (log : List (Option Group)) (old new : ReceiverState) → old.display.text.age + 1 < old.display.dwell → old.display.text.flag ≡ new.display.text.flag → ReceiverAt (tuned pi m) old (got [] log n) → ReceiverAt (tuned pi m) new (got [] log (n + 1))
-    → (h k : List (Option Message)) → AreHeard pi (got [] log n) h → AreHeard pi (got [] log (n + 1)) k → begins_in (run_at text_fragment m 0 h) ≡ begins_in (run_at text_fragment m 0 k)
+pub same_run_of_log : (pi m n : ℕ) (log : List (Option Group)) (old new : ReceiverState)
+    → old.display.text.age + 1 < old.display.dwell → old.display.text.flag ≡ new.display.text.flag
+    → ReceiverAt (tuned pi m) old (got [] log n) → ReceiverAt (tuned pi m) new (got [] log (n + 1))
+    → (h k : List (Option Message)) → AreHeard pi (got [] log n) h → AreHeard pi (got [] log (n + 1)) k
+    → begins_in (run_at text_fragment m 0 h) ≡ begins_in (run_at text_fragment m 0 k)
 same_run_of_log pi m n log old new young flag was is h k heard now =
-    same_run pi m old new (group_left [] log n) (got [] log n) young flag was (subst (ReceiverAt (tuned pi m) new) (got-more [] log n) is) h k heard (subst (λ (l : List (Option Group)). AreHeard pi l k) (got-more [] log n) now)
+    same_run pi m old new (group_left [] log n) (got [] log n) young flag was (subst (ReceiverAt (tuned pi m) new)
+    (got-more [] log n) is) h k heard (subst (λ (l : List (Option Group)). AreHeard pi l k) (got-more [] log n) now)

@@ -1,5 +1,6 @@
 -- Why a slot has no mix if receivers that hold all that others hold show nothing else than one that loses nothing.
-use Rattle.std.proofs.Common.{[], ◌≡◌, ◌∙◌, ◌+◌, ◌<◌, ◌≤◌, ◌∷◌, ℕ, Bool, false, true, List, None, Option, Some, ap, arith, inl, inr, length, refl, subst, sym}
+use Rattle.std.proofs.Common.{[], ◌≡◌, ◌∙◌, ◌+◌, ◌<◌, ◌≤◌, ◌∷◌, ℕ, Bool, false, true, List, None, Option, Some, ap}
+use Rattle.std.proofs.Common.{arith, inl, inr, length, refl, subst, sym}
 use Rattle.std.specs.Prelude.{nat_le, if◌then◌else◌}
 use Rattle.std.proofs.lemmas.List.Elements.{All-contains}
 use Rattle.rds_block.specs.declared.group.Group.{Group}
@@ -30,21 +31,25 @@ use Rattle.rds_witness.proofs.PartSteps.{part_cells, whole_name, whole_text}
 -- ---- what a tag shows
 
 -- a shown tag comes of a shown text and a held pair
-pub record Cuts (which : Which) (text : Option (List ℕ)) (pair : Option PairFields) (class : ℕ) (piece : List ℕ) : Type 0 where
+pub record Cuts (which : Which) (text : Option (List ℕ)) (pair : Option PairFields) (class : ℕ) (piece : List ℕ) : Type
+    0 where
   pub x : List ℕ
   pub p : PairFields
   pub has_text : text ≡ Some x
   pub has_pair : pair ≡ Some p
   pub cut : cut_by (tag_in which p) x ≡ Some (class, piece)
 
-pub cuts : (which : Which) (text : Option (List ℕ)) (pair : Option PairFields) (class : ℕ) (piece : List ℕ) → tag_of which text pair ≡ Some (class, piece) → Cuts which text pair class piece
+pub cuts : (which : Which) (text : Option (List ℕ)) (pair : Option PairFields) (class : ℕ) (piece : List ℕ)
+    → tag_of which text pair ≡ Some (class, piece) → Cuts which text pair class piece
 cuts which None pair class piece is = absurd (cc)
 cuts which (Some x) None class piece is = absurd (cc)
 cuts which (Some x) (Some p) class piece is = record { x = x; p = p; has_text = refl; has_pair = refl; cut = is }
 
-cuts_again : (which : Which) (text other : Option (List ℕ)) (pair more : Option PairFields) (class : ℕ) (piece : List ℕ) → ((x : List ℕ) → text ≡ Some x → other ≡ Some x) → IsPairPart pair more
+cuts_again : (which : Which) (text other : Option (List ℕ)) (pair more : Option PairFields) (class : ℕ) (piece : List ℕ)
+    → ((x : List ℕ) → text ≡ Some x → other ≡ Some x) → IsPairPart pair more
     → tag_of which text pair ≡ Some (class, piece) → tag_of which other more ≡ Some (class, piece)
-cuts_again which text other pair more class piece shows (inl none) is = (let c = cuts which text pair class piece is in let has = c.has_pair in absurd (cc))
+cuts_again which text other pair more class piece shows (inl none) is = (let c = cuts which text pair class piece is
+    in let has = c.has_pair in absurd (cc))
 cuts_again which text other pair more class piece shows (inr same) is =
     let c = cuts which text pair class piece is in
     let there : other ≡ Some c.x = shows c.x c.has_text in
@@ -53,11 +58,13 @@ cuts_again which text other pair more class piece shows (inr same) is =
 
 -- ---- a part has no other things
 
-shown_name : (cells : Cells) (shown : Option (List ℕ)) (x : List ℕ) → IsShown IsWholeName cells shown → IsWholeName cells x → shown ≡ Some x
+shown_name : (cells : Cells) (shown : Option (List ℕ)) (x : List ℕ) → IsShown IsWholeName cells shown
+    → IsWholeName cells x → shown ≡ Some x
 shown_name cells None x p q = absurd (p x q)
 shown_name cells (Some y) x p q = ap Some (one_name cells y x p q)
 
-module _ (t : Tuning) (one other : List (Option Group)) (part : IsInputPart t one other) (v w : ShownView) (is : IsView t one v) (is_other : IsView t other w) where
+module _ (t : Tuning) (one other : List (Option Group)) (part : IsInputPart t one other) (v w : ShownView)
+    (is : IsView t one v) (is_other : IsView t other w) where
   view_of_one : ShowsView t.dwell t.first (counted t is.0) v
   view_of_one = is.2
 
@@ -68,14 +75,17 @@ module _ (t : Tuning) (one other : List (Option Group)) (part : IsInputPart t on
   text_part x has =
       let (h, are, counts) = is in
       let (k, k_are, k_counts) = is_other in
-      let shown : IsTextShown t.dwell t.first (counted t h) (Some x) = subst (IsTextShown t.dwell t.first (counted t h)) has view_of_one.text in
-      same_text_shown t.dwell t.first (counted t k) w.text (Some x) view_of_other.text (whole_text _ _ x (part_cells _ _ (part.texts h k are k_are)) shown)
+      let shown : IsTextShown t.dwell t.first (counted t h) (Some x) = subst (IsTextShown t.dwell t.first (counted t h))
+      has view_of_one.text in
+      same_text_shown t.dwell t.first (counted t k) w.text (Some x) view_of_other.text
+      (whole_text _ _ x (part_cells _ _ (part.texts h k are k_are)) shown)
 
   name_part : (x : List ℕ) → v.name ≡ Some x → w.name ≡ Some x
   name_part x has =
       let (h, are, counts) = is in
       let (k, k_are, k_counts) = is_other in
-      let shown : IsNameShown t.dwell t.first (counted t h) (Some x) = subst (IsNameShown t.dwell t.first (counted t h)) has view_of_one.name in
+      let shown : IsNameShown t.dwell t.first (counted t h) (Some x) = subst (IsNameShown t.dwell t.first (counted t h))
+      has view_of_one.name in
       shown_name _ w.name x view_of_other.name (whole_name _ _ x (part_cells _ _ (part.names h k are k_are)) shown)
 
   pub view_part : (thing : Thing) → Has v thing → Has w thing
@@ -84,17 +94,23 @@ module _ (t : Tuning) (one other : List (Option Group)) (part : IsInputPart t on
   view_part (Tag One class piece) has =
       let (h, are, counts) = is in
       let (k, k_are, k_counts) = is_other in
-      view_of_other.one ∙ cuts_again One v.text w.text (pair_held t.dwell t.first (counted t h)) (pair_held t.dwell t.first (counted t k)) class piece text_part (part.tags h k are k_are).0 (sym view_of_one.one ∙ has)
+      view_of_other.one ∙ cuts_again One v.text w.text (pair_held t.dwell t.first (counted t h))
+      (pair_held t.dwell t.first (counted t k)) class piece text_part (part.tags h k are k_are).0
+      (sym view_of_one.one ∙ has)
   view_part (Tag Two class piece) has =
       let (h, are, counts) = is in
       let (k, k_are, k_counts) = is_other in
-      view_of_other.two ∙ cuts_again Two v.text w.text (pair_held t.dwell t.first (counted t h)) (pair_held t.dwell t.first (counted t k)) class piece text_part (part.tags h k are k_are).0 (sym view_of_one.two ∙ has)
+      view_of_other.two ∙ cuts_again Two v.text w.text (pair_held t.dwell t.first (counted t h))
+      (pair_held t.dwell t.first (counted t k)) class piece text_part (part.tags h k are k_are).0
+      (sym view_of_one.two ∙ has)
 
 -- ---- the receiver that loses nothing
 
 -- it shows its own things in this slot
-own_tag : (t : Tuning) (log : List (Option Group)) (n slots : ℕ) (which : Which) (class : ℕ) (piece : List ℕ) (view : ShownView) → n < slots → (is : IsView t (got [] log (n + 1)) view)
-    → tag_of which view.text (pair_held t.dwell t.first (counted t is.0)) ≡ Some (class, piece) → IsTagOfRun t log slots class piece
+own_tag : (t : Tuning) (log : List (Option Group)) (n slots : ℕ) (which : Which) (class : ℕ) (piece : List ℕ)
+    (view : ShownView) → n < slots → (is : IsView t (got [] log (n + 1)) view)
+    → tag_of which view.text (pair_held t.dwell t.first (counted t is.0)) ≡ Some (class, piece)
+    → IsTagOfRun t log slots class piece
 own_tag t log n slots which class piece view less is has =
     let c = cuts which view.text (pair_held t.dwell t.first (counted t is.0)) class piece has in
     record {
@@ -105,14 +121,26 @@ own_tag t log n slots which class piece view less is has =
       text = c.x;
       shown = c.has_text;
       pair = c.p;
-      of_run = record { slot = n; before = omega arith; old = is.0; new = is.0; were = is.1; are = is.1; held = c.has_pair; same = refl };
+      of_run = record {
+        slot = n;
+        before = omega arith;
+        old = is.0;
+        new = is.0;
+        were = is.1;
+        are = is.1;
+        held = c.has_pair;
+        same = refl;
+      };
       which = which;
       cut = c.cut;
     }
 
-pub own_things : (t : Tuning) (log : List (Option Group)) (n slots : ℕ) (view : ShownView) (thing : Thing) → n < slots → IsView t (got [] log (n + 1)) view → Has view thing → IsSeenBefore t log slots thing
-own_things t log n slots view (Text x) less is has = record { slot = n; view = view; before = less; is = is; shows = has }
-own_things t log n slots view (Name x) less is has = record { slot = n; view = view; before = less; is = is; shows = has }
+pub own_things : (t : Tuning) (log : List (Option Group)) (n slots : ℕ) (view : ShownView) (thing : Thing) → n < slots
+    → IsView t (got [] log (n + 1)) view → Has view thing → IsSeenBefore t log slots thing
+own_things t log n slots view (Text x) less is has = record
+    { slot = n; view = view; before = less; is = is; shows = has }
+own_things t log n slots view (Name x) less is has = record
+    { slot = n; view = view; before = less; is = is; shows = has }
 own_things t log n slots view (Tag One class piece) less is has =
     own_tag t log n slots One class piece view less is (sym is.2.one ∙ has)
 own_things t log n slots view (Tag Two class piece) less is has =
@@ -121,31 +149,43 @@ own_things t log n slots view (Tag Two class piece) less is has =
 -- ---- a slot without a mix
 
 -- a mix that is seen before is a tag of a replaced pair
-seen_mix : (t : Tuning) (log : List (Option Group)) (burst : Burst) (n : ℕ) (thing : Thing) → IsBurstMix t log burst n thing → IsSeenBefore t log (until t.dwell log n) thing → IsReplaced t log (until t.dwell log n) thing
+seen_mix : (t : Tuning) (log : List (Option Group)) (burst : Burst) (n : ℕ) (thing : Thing)
+    → IsBurstMix t log burst n thing → IsSeenBefore t log (until t.dwell log n) thing
+    → IsReplaced t log (until t.dwell log n) thing
 seen_mix t log burst n (Text x) mix seen = mix.mix.never seen.slot seen.view seen.before seen.is seen.shows
 seen_mix t log burst n (Name x) mix seen = mix.mix.never seen.slot seen.view seen.before seen.is seen.shows
 seen_mix t log burst n (Tag which class piece) mix seen = seen
 
-pub no_mix : (t : Tuning) (log : List (Option Group)) (n slots : ℕ) → slots ≡ until t.dwell log n → n < slots → HasViews t log (length log) → (whole : Lossy) (receivers : List Lossy)
-    → ((input : List (Option Group)) → length input ≡ n + 1 → CoversInput t input whole → IsInputPart t input (got [] log (n + 1)))
-    → ((burst : Burst) → burst.first ≤ burst.last → burst.last + 1 < n + 1 → IsCovered t (whole ∷ receivers) (got (burst ∷ []) log (n + 1)))
-    → ShowOnlySeen t log slots receivers → (burst : Burst) (thing : Thing) → IsBurstMix t log burst n thing → IsReplaced t log (until t.dwell log n) thing
+pub no_mix : (t : Tuning) (log : List (Option Group)) (n slots : ℕ) → slots ≡ until t.dwell log n → n < slots
+    → HasViews t log (length log) → (whole : Lossy) (receivers : List Lossy)
+    → ((input : List (Option Group)) → length input ≡ n + 1 → CoversInput t input whole
+    → IsInputPart t input (got [] log (n + 1)))
+    → ((burst : Burst) → burst.first ≤ burst.last → burst.last + 1 < n + 1
+    → IsCovered t (whole ∷ receivers) (got (burst ∷ []) log (n + 1)))
+    → ShowOnlySeen t log slots receivers → (burst : Burst) (thing : Thing) → IsBurstMix t log burst n thing
+    → IsReplaced t log (until t.dwell log n) thing
 no_mix t log n slots is soon views whole receivers same_whole hold show burst thing mix =
     seen_mix t log burst n thing mix (subst (λ (u : ℕ). IsSeenBefore t log u thing) is
-    (by_first t whole receivers (got (burst ∷ []) log (n + 1)) (IsSeenBefore t log slots thing) (hold burst mix.place.order (let behind = mix.place.before in omega (arith, behind))) by_whole by_other))
+    (by_first t whole receivers (got (burst ∷ []) log (n + 1)) (IsSeenBefore t log slots thing)
+    (hold burst mix.place.order (let behind = mix.place.before in omega (arith, behind))) by_whole by_other))
   where
     by_whole : CoversInput t (got (burst ∷ []) log (n + 1)) whole → IsSeenBefore t log slots thing
     by_whole covers =
         let (view, here) = views n mix.place.inside in
-        own_things t log n slots view thing soon here (view_part t (got (burst ∷ []) log (n + 1)) (got [] log (n + 1)) (same_whole (got (burst ∷ []) log (n + 1)) (got_long (burst ∷ []) log (n + 1)) covers) mix.mix.new.after view mix.mix.new.is here thing mix.mix.new.has)
+        own_things t log n slots view thing soon here (view_part t (got (burst ∷ []) log (n + 1)) (got [] log (n + 1))
+        (same_whole (got (burst ∷ []) log (n + 1)) (got_long (burst ∷ []) log (n + 1)) covers) mix.mix.new.after
+        view mix.mix.new.is here thing mix.mix.new.has)
 
     by_other : IsCovered t receivers (got (burst ∷ []) log (n + 1)) → IsSeenBefore t log slots thing
     by_other covered =
-        let shows : ShowsOnlySeen t log slots (receiver_stored covered.by.receiver) = All-contains (λ s. ShowsOnlySeen t log slots (receiver_stored s.receiver)) receivers covered.by show covered.is_there in
+        let shows : ShowsOnlySeen t log slots (receiver_stored covered.by.receiver) = All-contains
+        (λ s. ShowsOnlySeen t log slots (receiver_stored s.receiver)) receivers covered.by show covered.is_there in
         let only = shows covered.covers.other covered.covers.stands in
-        only.seen thing (view_part t (got (burst ∷ []) log (n + 1)) covered.covers.other covered.covers.part mix.mix.new.after only.view mix.mix.new.is only.is thing mix.mix.new.has)
+        only.seen thing (view_part t (got (burst ∷ []) log (n + 1)) covered.covers.other covered.covers.part
+        mix.mix.new.after only.view mix.mix.new.is only.is thing mix.mix.new.has)
 
-pub now_before_until : (dwell : ℕ) (log : List (Option Group)) (n : ℕ) → 0 < dwell → n < length log → n < until dwell log n
+pub now_before_until : (dwell : ℕ) (log : List (Option Group)) (n : ℕ) → 0 < dwell → n < length log
+    → n < until dwell log n
 now_before_until dwell log n some inside = by_end (nat_le (n + dwell) (length log))
   where
     by_end : (ends : Bool) → n < (if ends then n + dwell else length log)

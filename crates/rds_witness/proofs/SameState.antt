@@ -12,22 +12,40 @@ use Rattle.rds_witness.specs.Mix.{Name, Tag, Text, Thing, until}
 use Rattle.rds_witness.specs.Search.{HasOnlySeen, IsSeenBefore, ShowsOnlySeen}
 
 -- the view of a state at two inputs
-view_at : (t : Tuning) (r : ReceiverState) (one other : List (Option Group)) (v : ShownView) → ReceiverAt t r one → ReceiverAt t r other → IsView t one v → IsView t other v
+view_at : (t : Tuning) (r : ReceiverState) (one other : List (Option Group)) (v : ShownView) → ReceiverAt t r one
+    → ReceiverAt t r other → IsView t one v → IsView t other v
 view_at t r one other v mine theirs = stays_shown t r r one other v mine theirs (alike_itself r.display)
 
-only_everywhere : (t : Tuning) (log : List (Option Group)) (n : ℕ) (r : ReceiverState) (input : List (Option Group)) → ReceiverAt t r input → HasOnlySeen t log n input → ShowsOnlySeen t log n r
-only_everywhere t log n r input stands only other there = record { view = only.view; is = view_at t r input other only.view stands there only.is; seen = only.seen }
+only_everywhere : (t : Tuning) (log : List (Option Group)) (n : ℕ) (r : ReceiverState) (input : List (Option Group))
+    → ReceiverAt t r input → HasOnlySeen t log n input → ShowsOnlySeen t log n r
+only_everywhere t log n r input stands only other there = record
+    { view = only.view; is = view_at t r input other only.view stands there only.is; seen = only.seen }
 
 -- a view that stays
-pub only_stays : (t : Tuning) (log : List (Option Group)) (n : ℕ) (old new : ReceiverState) (group : Option Group) (input : List (Option Group)) → ((view : ShownView) → IsView t input view → IsView t (group ∷ input) view)
+pub only_stays : (t : Tuning) (log : List (Option Group)) (n : ℕ) (old new : ReceiverState) (group : Option Group)
+    (input : List (Option Group)) → ((view : ShownView) → IsView t input view → IsView t (group ∷ input) view)
     → ReceiverAt t old input → ReceiverAt t new (group ∷ input) → ShowsOnlySeen t log n old → ShowsOnlySeen t log n new
 only_stays t log n old new group input same stands now only =
     let was = only input stands in
-    only_everywhere t log n new (group ∷ input) now record { view = was.view; is = same was.view was.is; seen = was.seen }
+    only_everywhere t log n new (group ∷ input) now record
+    { view = was.view; is = same was.view was.is; seen = was.seen }
 
-seen_later : (t : Tuning) (log : List (Option Group)) (n k : ℕ) (thing : Thing) → n ≤ k → IsSeenBefore t log n thing → IsSeenBefore t log k thing
-seen_later t log n k (Text x) less seen = record { slot = seen.slot; view = seen.view; before = let before = seen.before in omega (arith, less, before); is = seen.is; shows = seen.shows }
-seen_later t log n k (Name x) less seen = record { slot = seen.slot; view = seen.view; before = let before = seen.before in omega (arith, less, before); is = seen.is; shows = seen.shows }
+seen_later : (t : Tuning) (log : List (Option Group)) (n k : ℕ) (thing : Thing) → n ≤ k → IsSeenBefore t log n thing
+    → IsSeenBefore t log k thing
+seen_later t log n k (Text x) less seen = record {
+  slot = seen.slot;
+  view = seen.view;
+  before = let before = seen.before in omega (arith, less, before);
+  is = seen.is;
+  shows = seen.shows;
+}
+seen_later t log n k (Name x) less seen = record {
+  slot = seen.slot;
+  view = seen.view;
+  before = let before = seen.before in omega (arith, less, before);
+  is = seen.is;
+  shows = seen.shows;
+}
 seen_later t log n k (Tag which class piece) less seen = record {
   slot = seen.slot;
   before = let before = seen.before in omega (arith, less, before);
@@ -41,7 +59,8 @@ seen_later t log n k (Tag which class piece) less seen = record {
   cut = seen.cut;
 }
 
-pub only_later : (t : Tuning) (log : List (Option Group)) (n k : ℕ) (r : ReceiverState) → n ≤ k → ShowsOnlySeen t log n r → ShowsOnlySeen t log k r
+pub only_later : (t : Tuning) (log : List (Option Group)) (n k : ℕ) (r : ReceiverState) → n ≤ k
+    → ShowsOnlySeen t log n r → ShowsOnlySeen t log k r
 only_later t log n k r less only input stands =
     let now = only input stands in
     record { view = now.view; is = now.is; seen = λ thing has. seen_later t log n k thing less (now.seen thing has) }
@@ -49,8 +68,10 @@ only_later t log n k r less only input stands =
 pub until_later : (m : ℕ) (log : List (Option Group)) (n : ℕ) → until m log n ≤ until m log (n + 1)
 until_later m log n = by_ends (nat_le (n + m) (length log)) (nat_le (n + 1 + m) (length log)) refl refl
   where
-    by_ends : (one other : Bool) → nat_le (n + m) (length log) ≡ one → nat_le (n + 1 + m) (length log) ≡ other → (if one then n + m else length log) ≤ (if other then n + 1 + m else length log)
+    by_ends : (one other : Bool) → nat_le (n + m) (length log) ≡ one → nat_le (n + 1 + m) (length log) ≡ other
+        → (if one then n + m else length log) ≤ (if other then n + 1 + m else length log)
     by_ends true true is now = omega arith
     by_ends true false is now = (let less : n + m ≤ length log = grind (arith, nat_tests) in less)
-    by_ends false true is now = (let over : n + 1 + m ≤ length log = grind (arith, nat_tests) in let under : length log ≤ n + m = grind (arith, nat_tests) in absurd (omega (arith, over, under)))
+    by_ends false true is now = (let over : n + 1 + m ≤ length log = grind (arith, nat_tests) in let under : length log
+        ≤ n + m = grind (arith, nat_tests) in absurd (omega (arith, over, under)))
     by_ends false false is now = omega arith

@@ -11,7 +11,8 @@ use Rattle.rds_witness.specs.Lost.{got, got-more, group_left}
 use Rattle.rds_witness.specs.Mix.{NeverShows, ViewHas, Thing}
 use Rattle.rds_witness.specs.declared.burst.Burst.{Burst}
 
-pub stands_more : (t : Tuning) (r : ReceiverState) (lost : List Burst) (log : List (Option Group)) (n : ℕ) (group : Option Group) → group ≡ group_left lost log n
+pub stands_more : (t : Tuning) (r : ReceiverState) (lost : List Burst) (log : List (Option Group)) (n : ℕ)
+    (group : Option Group) → group ≡ group_left lost log n
     → ReceiverAt t r (group ∷ got lost log n) → ReceiverAt t r (got lost log (n + 1))
 stands_more t r lost log n group same stands =
     subst (ReceiverAt t r) (ap (λ (g : Option Group). g ∷ got lost log n) same ∙ sym (got-more lost log n)) stands
@@ -19,14 +20,16 @@ stands_more t r lost log n group same stands =
 pub never_none : (t : Tuning) (log : List (Option Group)) (thing : Thing) → NeverShows t log 0 thing
 never_none t log thing slot view less is shown = absurd (omega arith)
 
-pub never_more : (t : Tuning) (log : List (Option Group)) (n : ℕ) (thing : Thing) (view : ShownView) → NeverShows t log n thing → IsView t (got [] log (n + 1)) view → (ViewHas view thing → ⊥)
+pub never_more : (t : Tuning) (log : List (Option Group)) (n : ℕ) (thing : Thing) (view : ShownView)
+    → NeverShows t log n thing → IsView t (got [] log (n + 1)) view → (ViewHas view thing → ⊥)
     → NeverShows t log (n + 1) thing
 never_more t log n thing view never is not_shown slot other less is_other shown =
     elim (cases_lt slot n) [
       | inl before ↦ never slot other before is_other shown
       | inr from ↦ (
           let here : slot ≡ n = omega arith in
-          let is_here : IsView t (got [] log (n + 1)) other = subst (λ (k : ℕ). IsView t (got [] log (k + 1)) other) here is_other in
+          let is_here : IsView t (got [] log (n + 1)) other = subst (λ (k : ℕ). IsView t (got [] log (k + 1)) other)
+          here is_other in
           let same : other ≡ view = same_view t (got [] log (n + 1)) other view is_here is in
           not_shown (subst (λ (v : ShownView). ViewHas v thing) same shown))
     ]

@@ -1,6 +1,8 @@
--- Lemmas: a receiver of a world that got on time each free one of enough slots of a broadcast shows it, as each receiver
+-- Lemmas: a receiver of a world that got on time each free one of enough slots of a broadcast shows it, as each
+-- receiver
 -- of a station does.
-use Rattle.std.proofs.Common.{◌≡◌, ◌+◌, ◌-◌, ◌≤◌, ℕ, inl, inr, Bool, true, false, List, [], ◌∷◌, ◌++◌, length-append, Option, Some, None, refl, sym, ap, ◌∙◌, subst, arith, length}
+use Rattle.std.proofs.Common.{◌≡◌, ◌+◌, ◌-◌, ◌≤◌, ℕ, inl, inr, Bool, true, false, List, [], ◌∷◌, ◌++◌, length-append}
+use Rattle.std.proofs.Common.{Option, Some, None, refl, sym, ap, ◌∙◌, subst, arith, length}
 use Rattle.std.specs.Prelude.{slice_index_or}
 use Rattle.rds_fields.specs.declared.head.Head.{Head}
 use Rattle.rds_fields.specs.declared.message.Message.{Message}
@@ -19,7 +21,9 @@ use Rattle.rds_world.specs.declared.event.Reception.{Reception}
 use Rattle.rds_world.specs.declared.event.Reception.TheVariants.{Got, Lost, Wrong}
 use Rattle.rds_world.specs.declared.event.Reception.TheVariants as reception
 use Rattle.rds_world.specs.declared.receiver_kind.ReceiverKind.TheVariants.{WithDwell}
-use Rattle.rds_world.specs.Delivery.{ANameIsDelivered, AStationDeliversAName, AStationDeliversAText, AStationDeliversAnyText, ATextIsDelivered, AnyTextIsDelivered, GetsEachFree, GetsIfFree, GotOfStation, GotRecently, LieIn, LieInBroadcast, free_slots}
+use Rattle.rds_world.specs.Delivery.{ANameIsDelivered, AStationDeliversAName, AStationDeliversAText}
+use Rattle.rds_world.specs.Delivery.{AStationDeliversAnyText, ATextIsDelivered, AnyTextIsDelivered, GetsEachFree}
+use Rattle.rds_world.specs.Delivery.{GetsIfFree, GotOfStation, GotRecently, LieIn, LieInBroadcast, free_slots}
 use Rattle.rds_world.specs.Event.{Event}
 use Rattle.rds_world.specs.Slots.{commanded, entries, input_of, log, plans_of, received}
 use Rattle.rds_world.specs.WorldAt.{WorldAt}
@@ -58,7 +62,8 @@ has_recent (e ∷ recent) before =
     let w = has_recent recent before in
     record {
       later = Tick e.free ∷ commanded e.command w.later;
-      is = ap (λ (es : List Entry). Tick e.free ∷ es) (ap (λ (es : List Entry). commanded e.command es) w.is ∙ sym (commanded_front e.command w.later (entries before)));
+      is = ap (λ (es : List Entry). Tick e.free ∷ es) (ap (λ (es : List Entry). commanded e.command es) w.is
+          ∙ sym (commanded_front e.command w.later (entries before)));
       free = omega (arith, free_commanded e.command w.later, w.free);
     }
 
@@ -68,13 +73,19 @@ slots_are events = reaches text_moves text_service events
 -- ---- what a receiver got
 
 -- the receiver got this slot, which is free, in its own slot
-own_origin : (r : Reception) (slot : ℕ) (sent : List (Option Message)) (input : Input) → GetsIfFree true r → input.first + length input.origins ≡ slot → CameFrom (received r slot sent input) slot slot
-own_origin (Got back) slot sent input gets now = inl (sym now, (let own : slot ≡ slot - back = omega (arith, gets) in ap (λ (n : ℕ). Some n) own))
+own_origin : (r : Reception) (slot : ℕ) (sent : List (Option Message)) (input : Input) → GetsIfFree true r
+    → input.first + length input.origins ≡ slot → CameFrom (received r slot sent input) slot slot
+own_origin (Got back) slot sent input gets now = inl (
+  sym now,
+  (let own : slot ≡ slot - back = omega (arith, gets)
+      in ap (λ (n : ℕ). Some n) own),
+)
 own_origin Lost slot sent input gets now = absurd gets
 own_origin (Wrong x) slot sent input gets now = absurd gets
 own_origin reception.Restart slot sent input gets now = absurd gets
 
-came_still : (r : Reception) (free : Bool) (slot : ℕ) (sent : List (Option Message)) (input : Input) (t s : ℕ) → GetsIfFree free r → CameFrom input t s → CameFrom (received r slot sent input) t s
+came_still : (r : Reception) (free : Bool) (slot : ℕ) (sent : List (Option Message)) (input : Input) (t s : ℕ)
+    → GetsIfFree free r → CameFrom input t s → CameFrom (received r slot sent input) t s
 came_still (Got back) free slot sent input t s gets came = inr came
 came_still Lost free slot sent input t s gets came = inr came
 came_still (Wrong x) true slot sent input t s gets came = absurd gets
@@ -91,29 +102,36 @@ free_by_command (command.SetName x) es s free = free
 free_by_command (command.SetTags pair) es s free = free
 
 -- the input of a receiver has an origin up to the last slot
-origins : (d i : ℕ) (events : List Event) → (input_of d i events).first + length (input_of d i events).origins ≡ length events
+origins : (d i : ℕ) (events : List Event) → (input_of d i events).first + length (input_of d i events).origins
+    ≡ length events
 origins d i [] = refl
 origins d i (e ∷ before) = by (slice_index_or e.receptions i Lost) (origins d i before)
   where
     by : (r : Reception) → (input_of d i before).first + length (input_of d i before).origins ≡ length before
-        → (received r (length before) (log d (e ∷ before)) (input_of d i before)).first + length (received r (length before) (log d (e ∷ before)) (input_of d i before)).origins ≡ length (e ∷ before)
+        → (received r (length before) (log d (e ∷ before)) (input_of d i before)).first
+        + length (received r (length before) (log d (e ∷ before)) (input_of d i before)).origins
+        ≡ length (e ∷ before)
     by (Got back) now = omega (arith, now)
     by Lost now = omega (arith, now)
     by (Wrong x) now = omega (arith, now)
     by reception.Restart now = omega arith
 
 -- each free one of the recent slots came in its own slot
-came_in_own : (d i : ℕ) (recent before : List Event) → GetsEachFree i recent → (s : ℕ) → length before ≤ s → IsFreeIn (entries (recent ++ before)) s → CameFrom (input_of d i (recent ++ before)) s s
-came_in_own d i [] before gets s since free = absurd (omega (arith, since, free_before (entries before) s free, slots_are before))
+came_in_own : (d i : ℕ) (recent before : List Event) → GetsEachFree i recent → (s : ℕ) → length before ≤ s
+    → IsFreeIn (entries (recent ++ before)) s → CameFrom (input_of d i (recent ++ before)) s s
+came_in_own d i [] before gets s since free = absurd
+    (omega (arith, since, free_before (entries before) s free, slots_are before))
 came_in_own d i (e ∷ recent) before gets s since (inr earlier) =
     let older = recent ++ before in
-    came_still (slice_index_or e.receptions i Lost) e.free (length older) (log d (e ∷ older)) (input_of d i older) s s gets.0
+    came_still (slice_index_or e.receptions i Lost) e.free (length older) (log d (e ∷ older)) (input_of d i older) s s
+    gets.0
     (came_in_own d i recent before gets.1 s since (free_by_command e.command (entries older) s earlier))
 came_in_own d i (e ∷ recent) before gets s since (inl here) =
     let older = recent ++ before in
     let slot : s ≡ length older = here.0 ∙ text_service.same_slot e.command (entries older) ∙ slots_are older in
     subst (λ (n : ℕ). CameFrom (input_of d i (e ∷ older)) n n) (sym slot)
-    (own_origin (slice_index_or e.receptions i Lost) (length older) (log d (e ∷ older)) (input_of d i older) (subst (λ (b : Bool). GetsIfFree b (slice_index_or e.receptions i Lost)) here.1 gets.0) (origins d i older))
+    (own_origin (slice_index_or e.receptions i Lost) (length older) (log d (e ∷ older)) (input_of d i older)
+    (subst (λ (b : Bool). GetsIfFree b (slice_index_or e.receptions i Lost)) here.1 gets.0) (origins d i older))
 
 -- ---- a receiver of a world
 
@@ -121,10 +139,18 @@ came_in_own d i (e ∷ recent) before gets s since (inl here) =
 abbrev plain : Head → ℕ → ℕ → Config
 plain head m k = record { head = head; dwell = m; premise = record { late = k; window = None }; kind = WithDwell }
 
-is_plain : (config : Config) → config.premise.window ≡ None → config.kind ≡ WithDwell → plain config.head config.dwell config.premise.late ≡ config
-is_plain config once kind = sym (λ i. record { head = config.head; dwell = config.dwell; premise = record { late = config.premise.late; window = once i }; kind = kind i })
+is_plain : (config : Config) → config.premise.window ≡ None → config.kind ≡ WithDwell
+    → plain config.head config.dwell config.premise.late ≡ config
+is_plain config once kind = sym (λ i. record {
+  head = config.head;
+  dwell = config.dwell;
+  premise = record
+      { late = config.premise.late; window = once i };
+  kind = kind i;
+})
 
-module _ (head : Head) (m k : ℕ) (e : Event) (recent before : List Event) (view : ShownView) (gets : GotRecently (plain head m k) (e ∷ recent) before view) where
+module _ (head : Head) (m k : ℕ) (e : Event) (recent before : List Event) (view : ShownView)
+    (gets : GotRecently (plain head m k) (e ∷ recent) before view) where
   abbrev config : Config
   config = plain head m k
 
@@ -149,39 +175,56 @@ module _ (head : Head) (m k : ℕ) (e : Event) (recent before : List Event) (vie
       let same = slots_of_a_world d events due.values in
       subst (λ (t : ℕ). ListensTo k m t (sent_log d (entries events)) receiver) last
       (subst (λ (sent : List (Option Message)). ListensTo k m (length (recent ++ before)) sent receiver) (sym same.log)
-      (listens config e (recent ++ before) gets.number gets.receiver view refl due.due due.fit (due.receivers.each gets.number gets.receiver gets.there) gets.shows))
+      (listens config e (recent ++ before) gets.number gets.receiver view refl due.due due.fit
+      (due.receivers.each gets.number gets.receiver gets.there) gets.shows))
 
   got_of_station : GotOfStation k m told.later (entries before) receiver
   got_of_station = record {
     slots = subst AreEndedSlots told.is (slots_of_a_world d events due.values).slots;
     listens = subst (λ (es : List Entry). ListensTo k m (slots_in es - 1) (sent_log d es) receiver) told.is listening;
     within = subst (λ (es : List Entry). slots_in es ≤ slots_in (entries before) + m) told.is within;
-    got = λ s since free. came_in_own d gets.number (e ∷ recent) before gets.got s (omega (arith, since, slots_are before))
+    got = λ s since free. came_in_own d gets.number (e ∷ recent) before gets.got s
+        (omega (arith, since, slots_are before))
         (subst (λ (es : List Entry). IsFreeIn es s) (sym told.is) free);
   }
     where
       within : slots_in (entries events) ≤ slots_in (entries before) + m
-      within = (let most = gets.within in omega (arith, most, slots_are events, slots_are before, length-append (e ∷ recent) before))
+      within = (let most = gets.within in omega (
+        arith,
+        most,
+        slots_are events,
+        slots_are before,
+        length-append
+            (e ∷ recent) before,
+      ))
 
   -- a broadcast of the plans of the world is one of the plans of its station
-  lies_of : (plan : Plans → List Broadcast) (b : Broadcast) → LieIn (plan (plans_of d events)) (e ∷ recent) before b → LieInBroadcast (plan (station_plans d (told.later ++ entries before))) told.later (entries before) b
+  lies_of : (plan : Plans → List Broadcast) (b : Broadcast) → LieIn (plan (plans_of d events)) (e ∷ recent) before b
+      → LieInBroadcast (plan (station_plans d (told.later ++ entries before))) told.later (entries before) b
   lies_of plan b lies = record {
     number = lies.number;
     planned = subst (λ (es : List Entry). HasNumber (plan (station_plans d es)) lies.number b) told.is
-        (subst (λ (plans : Plans). HasNumber (plan plans) lies.number b) (sym (slots_of_a_world d events due.values).plans) lies.planned);
+        (subst (λ (plans : Plans). HasNumber (plan plans) lies.number b)
+        (sym (slots_of_a_world d events due.values).plans) lies.planned);
     from = (let from = lies.from in omega (arith, from, slots_are before));
-    to = subst (λ (es : List Entry). slots_in es ≤ b.end + 1) told.is (let to = lies.to in omega (arith, to, slots_are events));
+    to = subst (λ (es : List Entry). slots_in es ≤ b.end + 1) told.is (let to = lies.to
+        in omega (arith, to, slots_are events));
   }
 
 -- what holds in each world without a window holds wherever receivers got the recent slots
-abbrev IsShownIn : (Plans → List Broadcast) → (ShownView → Option (List ℕ)) → List Event → List Event → ShownView → Broadcast → Config → Type 0
+abbrev IsShownIn : (Plans → List Broadcast) → (ShownView → Option (List ℕ)) → List Event → List Event → ShownView
+    → Broadcast → Config → Type 0
 IsShownIn plan part recent before view b config =
-    GotRecently config recent before view → LieIn (plan (plans_of (distance config) (recent ++ before))) recent before b → part view ≡ Some b.bytes
+    GotRecently config recent before view → LieIn (plan (plans_of (distance config) (recent ++ before))) recent before b
+    → part view ≡ Some b.bytes
 
-for_each : (plan : Plans → List Broadcast) (part : ShownView → Option (List ℕ)) (recent before : List Event) (view : ShownView) (b : Broadcast)
-    → ((head : Head) (m k : ℕ) → IsShownIn plan part recent before view b (plain head m k)) → (config : Config) → IsShownIn plan part recent before view b config
+for_each : (plan : Plans → List Broadcast) (part : ShownView → Option (List ℕ)) (recent before : List Event)
+    (view : ShownView) (b : Broadcast)
+    → ((head : Head) (m k : ℕ) → IsShownIn plan part recent before view b (plain head m k)) → (config : Config)
+    → IsShownIn plan part recent before view b config
 for_each plan part recent before view b shown config gets lies =
-    subst (IsShownIn plan part recent before view b) (is_plain config gets.once gets.kind) (shown config.head config.dwell config.premise.late) gets lies
+    subst (IsShownIn plan part recent before view b) (is_plain config gets.once gets.kind)
+    (shown config.head config.dwell config.premise.late) gets lies
 
 -- a broadcast of texts has segments, so some slots are recent
 pub text_delivered : AStationDeliversAText → ATextIsDelivered
@@ -190,7 +233,8 @@ text_delivered delivers config (e ∷ recent) before view b gets lies enough =
     for_each (λ plans. plans.text) (λ v. v.text) (e ∷ recent) before view b
     (λ head m k got lie.
     let lasts = got.stands.lasts in
-    delivers k m _ _ _ b (omega arith) (got_of_station head m k e recent before view got) (lies_of head m k e recent before view got (λ plans. plans.text) b lie)
+    delivers k m _ _ _ b (omega arith) (got_of_station head m k e recent before view got)
+    (lies_of head m k e recent before view got (λ plans. plans.text) b lie)
     (omega (arith, enough, (told head m k e recent before view got).free))) config gets lies
 
 pub any_text_delivered : AStationDeliversAnyText → AnyTextIsDelivered
@@ -199,7 +243,8 @@ any_text_delivered delivers config (e ∷ recent) before view b gets lies enough
     for_each (λ plans. plans.text) (λ v. v.text) (e ∷ recent) before view b
     (λ head m k got lie.
     let lasts = got.stands.lasts in
-    delivers k m _ _ _ b (omega arith) (got_of_station head m k e recent before view got) (lies_of head m k e recent before view got (λ plans. plans.text) b lie)
+    delivers k m _ _ _ b (omega arith) (got_of_station head m k e recent before view got)
+    (lies_of head m k e recent before view got (λ plans. plans.text) b lie)
     (omega (arith, enough, (told head m k e recent before view got).free))) config gets lies
 
 pub name_delivered : AStationDeliversAName → ANameIsDelivered
@@ -208,5 +253,6 @@ name_delivered delivers config (e ∷ recent) before view b gets lies enough =
     for_each (λ plans. plans.name) (λ v. v.name) (e ∷ recent) before view b
     (λ head m k got lie.
     let lasts = got.stands.lasts in
-    delivers k m _ _ _ b (omega arith) (got_of_station head m k e recent before view got) (lies_of head m k e recent before view got (λ plans. plans.name) b lie)
+    delivers k m _ _ _ b (omega arith) (got_of_station head m k e recent before view got)
+    (lies_of head m k e recent before view got (λ plans. plans.name) b lie)
     (omega (arith, enough, (told head m k e recent before view got).free))) config gets lies

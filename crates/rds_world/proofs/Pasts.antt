@@ -1,5 +1,6 @@
 -- Lemmas: the ring of the last wrong messages of a receiver, slot by slot.
-use Rattle.std.proofs.Common.{◌≡◌, ◌≢◌, ◌⊎◌, ◌≤◌, ℕ, inl, inr, zero, suc, Bool, true, false, List, [], ◌∷◌, Option, Some, None, nat_eq, take, length, refl, sym, ap, subst, arith}
+use Rattle.std.proofs.Common.{◌≡◌, ◌≢◌, ◌⊎◌, ◌≤◌, ℕ, inl, inr, zero, suc, Bool, true, false, List, [], ◌∷◌, Option}
+use Rattle.std.proofs.Common.{Some, None, nat_eq, take, length, refl, sym, ap, subst, arith}
 use Rattle.std.proofs.lemmas.Bool.Decides.{nat_tests}
 use Rattle.std.proofs.lemmas.List.{get_or_past}
 use Rattle.std.specs.Cmp.Lexicographic.{other_text, pointwise, same_text}
@@ -21,28 +22,34 @@ take_again zero x xs = refl
 take_again (suc n) x xs = ap (λ ys. x ∷ ys) (shorter n xs)
 
 -- a ring of n places needs no more than the last n entries
-pub with_again : (n : ℕ) (r : Reception) (wrong : List (Option Message)) → take n (with_wrong r (take n wrong)) ≡ take n (with_wrong r wrong)
+pub with_again : (n : ℕ) (r : Reception) (wrong : List (Option Message))
+    → take n (with_wrong r (take n wrong)) ≡ take n (with_wrong r wrong)
 with_again n (Got back) wrong = take_again n None wrong
 with_again n Lost wrong = take_again n None wrong
 with_again n (Wrong message) wrong = take_again n (Some message) wrong
 with_again n Restart wrong = refl
 
 -- a reception that does not keep the premise is a wrong message
-pub breaks_by : (window : Option ℕ) (wrong : List (Option Message)) (r : Reception) → (IsFit window wrong r → ⊥) → (message : Message) × (r ≡ Wrong message)
+pub breaks_by : (window : Option ℕ) (wrong : List (Option Message)) (r : Reception) → (IsFit window wrong r → ⊥)
+    → (message : Message) × (r ≡ Wrong message)
 breaks_by window wrong (Got back) breaks = absurd (breaks tt)
 breaks_by window wrong Lost breaks = absurd (breaks tt)
 breaks_by window wrong (Wrong message) breaks = (message, refl)
 breaks_by window wrong Restart breaks = absurd (breaks tt)
 
 -- a reception past the end of the list keeps the premise
-pub fit_past : (window : Option ℕ) (e : Event) (before : List Event) (i : ℕ) → length e.receptions ≤ i → IsFitTo window e before i
-fit_past window e before i past = subst (λ (r : Reception). IsFit window (wrong_of i before) r) (sym (get_or_past e.receptions i Lost past)) tt
+pub fit_past : (window : Option ℕ) (e : Event) (before : List Event) (i : ℕ) → length e.receptions ≤ i
+    → IsFitTo window e before i
+fit_past window e before i past = subst (λ (r : Reception). IsFit window (wrong_of i before) r)
+    (sym (get_or_past e.receptions i Lost past)) tt
 
 -- the test of two lists of bytes decides whether they are the same
-bytes_tell : (xs ys : List ℕ) → ((pointwise nat_eq xs ys ≡ true) × (xs ≡ ys)) ⊎ ((pointwise nat_eq xs ys ≡ false) × (xs ≢ ys))
+bytes_tell : (xs ys : List ℕ)
+    → ((pointwise nat_eq xs ys ≡ true) × (xs ≡ ys)) ⊎ ((pointwise nat_eq xs ys ≡ false) × (xs ≢ ys))
 bytes_tell xs ys = by (pointwise nat_eq xs ys) refl
   where
-    by : (t : Bool) → pointwise nat_eq xs ys ≡ t → ((pointwise nat_eq xs ys ≡ true) × (xs ≡ ys)) ⊎ ((pointwise nat_eq xs ys ≡ false) × (xs ≢ ys))
+    by : (t : Bool) → pointwise nat_eq xs ys ≡ t
+        → ((pointwise nat_eq xs ys ≡ true) × (xs ≡ ys)) ⊎ ((pointwise nat_eq xs ys ≡ false) × (xs ≢ ys))
     by true e = inl (e, same_text xs ys (sym e))
     by false e = inr (e, other_text xs ys (sym e))
 

@@ -1,5 +1,6 @@
 -- Lemmas: the input of a receiver after one more slot, and one entry of a list after it was written.
-use Rattle.std.proofs.Common.{◌≡◌, ◌&&◌, ◌≢◌, ◌<◌, ℕ, zero, suc, Bool, true, false, List, [], ◌∷◌, Option, Some, None, refl, ap, subst, inl, take, arith}
+use Rattle.std.proofs.Common.{◌≡◌, ◌&&◌, ◌≢◌, ◌<◌, ℕ, zero, suc, Bool, true, false, List, [], ◌∷◌, Option, Some, None}
+use Rattle.std.proofs.Common.{refl, ap, subst, inl, take, arith}
 use Rattle.std.specs.List.{AllByRecursion}
 use Rattle.std.specs.Prelude.{slice_get, slice_index_or, slice_set}
 use Rattle.rds_block.specs.declared.group.Group.{Group}
@@ -17,7 +18,8 @@ use Rattle.rds_world.specs.WorldAt.{HasHeard, HeardNothing, StaysShown, tuned_to
 use Rattle.rds_world.specs.declared.world.Config.{Config}
 
 -- receivers hear the messages of the station
-pub hears_sent : (config : Config) (sent : Option Message) (group : Option Group) → IsSent config.head sent group → Hears config.head.pi group sent
+pub hears_sent : (config : Config) (sent : Option Message) (group : Option Group) → IsSent config.head sent group
+    → Hears config.head.pi group sent
 hears_sent config None None s = refl
 hears_sent config None (Some group) s = absurd s
 hears_sent config (Some message) None s = absurd s
@@ -27,9 +29,11 @@ abbrev input_from : ℕ → List (Option Message) → List (Option ℕ) → Inpu
 input_from first heard origins = record { first = first; heard = heard; origins = origins }
 
 -- one more group was handled, so one more entry was heard
-pub hears_more : (config : Config) (input : Input) (old new : ReceiverState) (group : Option Group) (heard : Option Message) (origin : Option ℕ)
+pub hears_more : (config : Config) (input : Input) (old new : ReceiverState) (group : Option Group)
+    (heard : Option Message) (origin : Option ℕ)
     → Hears config.head.pi group heard → TakesSlot old new group
-    → HasHeard config input old → HasHeard config (input_from input.first (heard ∷ input.heard) (origin ∷ input.origins)) new
+    → HasHeard config input old
+    → HasHeard config (input_from input.first (heard ∷ input.heard) (origin ∷ input.origins)) new
 hears_more config input old new group heard origin hears goes_on has = record {
   groups = group ∷ has.groups;
   spelled = (hears, has.spelled);
@@ -37,13 +41,21 @@ hears_more config input old new group heard origin hears goes_on has = record {
 }
 
 -- one more group was handled, and the view did not change
-pub stays_shown : (config : Config) (input : Input) (old : ReceiverState) (group : Option Group) (heard : Option Message) (origin : Option ℕ)
+pub stays_shown : (config : Config) (input : Input) (old : ReceiverState) (group : Option Group)
+    (heard : Option Message) (origin : Option ℕ)
     → Hears config.head.pi group heard → KeepsView old group
-    → HasHeard config input old → StaysShown config input (input_from input.first (heard ∷ input.heard) (origin ∷ input.origins))
+    → HasHeard config input old
+    → StaysShown config input (input_from input.first (heard ∷ input.heard) (origin ∷ input.origins))
 stays_shown config input old group heard origin hears stays has view shown =
     let (other, are, shows) = shown.is in
     let same : other ≡ input.heard = same_heard config.head.pi shown.groups other input.heard are shown.spelled in
-    let by_own : IsView (tuned_to config input) has.groups view = (input.heard, has.spelled, subst (λ (x : List (Option Message)). ShowsView (dwell_of config.kind config.dwell) input.first (counted (tuned_to config input) x) view) same shows) in
+    let by_own : IsView (tuned_to config input) has.groups view = (
+      input.heard,
+      has.spelled,
+      subst
+          (λ (x : List (Option Message)). ShowsView (dwell_of config.kind config.dwell) input.first
+          (counted (tuned_to config input) x) view) same shows,
+    ) in
     record {
       groups = group ∷ has.groups;
       spelled = (hears, has.spelled);
@@ -68,20 +80,23 @@ written (x ∷ rs) zero r s e = cc
 written (x ∷ rs) (suc i) r s e = written rs i r s e
 
 -- each of the first entries is one of all entries
-pub one_of_first : {X : Type 0} (P : X → Type 0) (n : ℕ) (rs : List X) (i : ℕ) (r : X) → AllByRecursion P rs → slice_get (take n rs) i ≡ Some r → P r
+pub one_of_first : {X : Type 0} (P : X → Type 0) (n : ℕ) (rs : List X) (i : ℕ) (r : X) → AllByRecursion P rs
+    → slice_get (take n rs) i ≡ Some r → P r
 one_of_first P zero rs i r all e = absurd (cc)
 one_of_first P (suc n) [] i r all e = absurd (cc)
 one_of_first P (suc n) (x ∷ rs) zero r all e = subst P (cc) all.0
 one_of_first P (suc n) (x ∷ rs) (suc i) r all e = one_of_first P n rs i r all.1 e
 
-pub of_first : {X : Type 0} (n : ℕ) (xs : List X) (i : ℕ) (x : X) → slice_get (take n xs) i ≡ Some x → (i < n) × (slice_get xs i ≡ Some x)
+pub of_first : {X : Type 0} (n : ℕ) (xs : List X) (i : ℕ) (x : X) → slice_get (take n xs) i ≡ Some x
+    → (i < n) × (slice_get xs i ≡ Some x)
 of_first zero xs i x e = absurd (cc)
 of_first (suc n) [] i x e = absurd (cc)
 of_first (suc n) (y ∷ xs) zero x e = (omega arith, e)
 of_first (suc n) (y ∷ xs) (suc i) x e = (let later = of_first n xs i x e in (omega (arith, later.0), later.1))
 
 -- writing one mark of a list keeps the others
-pub other_marked : {X : Type 0} (xs : List X) (i k : ℕ) (x d : X) → k ≢ i → slice_index_or (slice_set xs i x) k d ≡ slice_index_or xs k d
+pub other_marked : {X : Type 0} (xs : List X) (i k : ℕ) (x d : X) → k ≢ i
+    → slice_index_or (slice_set xs i x) k d ≡ slice_index_or xs k d
 other_marked [] i k x d ne = refl
 other_marked (y ∷ xs) zero zero x d ne = absurd (ne refl)
 other_marked (y ∷ xs) zero (suc k) x d ne = refl

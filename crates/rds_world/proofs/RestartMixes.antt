@@ -1,7 +1,8 @@
 -- Lemmas: a restart mixes if another text than the empty one comes first after it, for d = 1. `AAAACCC` is set in slot
 -- 1, the encoder restarts in slot 4, and `BBBBDDD` is set in slot 5, with flag 0 again. A receiver with the flag bit
 -- alone that gets each slot joins, in slot 5, the second segment of `AAAACCC` with the first of `BBBBDDD`.
-use Rattle.std.proofs.Common.{◌≡◌, ◌<◌, ◌≤◌, ℕ, zero, suc, true, false, List, [], ◌∷◌, Option, Some, None, refl, sym, ap, ◌∙◌, inl, inr, arith}
+use Rattle.std.proofs.Common.{◌≡◌, ◌<◌, ◌≤◌, ℕ, zero, suc, true, false, List, [], ◌∷◌, Option, Some, None, refl, sym}
+use Rattle.std.proofs.Common.{ap, ◌∙◌, inl, inr, arith}
 use Rattle.std.specs.FinMap.{empty, get, insert}
 use Rattle.rds_fields.specs.declared.message.Message.{Message}
 use Rattle.rds_fields.specs.declared.message.Message.TheVariants.{Text}
@@ -16,7 +17,8 @@ use Rattle.rds_safety.specs.FlagAlone.{ShowsByFlag}
 use Rattle.rds_safety.specs.Late.{CameFrom, Input, IsHeardLate, own_origins}
 use Rattle.rds_safety.proofs.Bytes.{get-put}
 use Rattle.rds_safety.proofs.Entries.{before_end}
-use Rattle.rds_safety.proofs.Least.{four, is_text, newer_text, older_text, one_byte, fifth_byte, text_of_two, three_and_end}
+use Rattle.rds_safety.proofs.Least.{four, is_text, newer_text, older_text, one_byte, fifth_byte, text_of_two}
+use Rattle.rds_safety.proofs.Least.{three_and_end}
 use Rattle.rds_safety.proofs.OnTime.{input_of, no_slot_late}
 use Rattle.rds_world.specs.declared.event.Command.{Command}
 use Rattle.rds_world.specs.declared.event.Command.TheVariants.{Quiet, Restart, SetText}
@@ -28,7 +30,8 @@ abbrev slot : Command → Event
 slot command = record { command = command; free = true; receptions = [] }
 
 abbrev events : List Event
-events = slot (SetText newer_text) ∷ slot Restart ∷ slot Quiet ∷ slot Quiet ∷ slot (SetText older_text) ∷ slot Quiet ∷ []
+events = slot (SetText newer_text) ∷ slot Restart ∷ slot Quiet ∷ slot Quiet ∷ slot (SetText older_text) ∷ slot Quiet
+    ∷ []
 
 abbrev older : Broadcast
 older = record { start = 1; end = 3; flag = false; bytes = older_text }
@@ -89,14 +92,25 @@ shows = record {
 }
 
 of_none : (k : ℕ) (b : Broadcast) → HasNumber (newer ∷ older ∷ []) k b → b.bytes ≡ mix → ⊥
-of_none k b (inl last) same = omega (arith, fifth_byte 66 68 66 67 (ap (λ (x : Broadcast). x.bytes) (sym last.1) ∙ same))
-of_none k b (inr (inl first)) same = omega (arith, one_byte _ _ _ _ (ap (λ (x : Broadcast). x.bytes) (sym first.1) ∙ same))
+of_none k b (inl last) same = omega (
+  arith,
+  fifth_byte 66 68 66 67 (ap (λ (x : Broadcast). x.bytes) (sym last.1)
+      ∙ same),
+)
+of_none k b (inr (inl first)) same = omega (
+  arith,
+  one_byte _ _ _ _ (ap (λ (x : Broadcast). x.bytes) (sym first.1)
+      ∙ same),
+)
 of_none k b (inr (inr never)) same = never
 
 pub a_restart_mixes : MixesAStation 1
 a_restart_mixes = record {
   events = events;
-  values = (is_text 66 68 (omega arith) (omega arith) refl refl, (tt, (tt, (tt, (is_text 65 67 (omega arith) (omega arith) refl refl, (tt, tt))))));
+  values = (
+    is_text 66 68 (omega arith) (omega arith) refl refl,
+    (tt, (tt, (tt, (is_text 65 67 (omega arith) (omega arith) refl refl, (tt, tt))))),
+  );
   now = 5;
   receiver = record { input = input; view = view };
   listens = record { order = late.order; past = by_now; shows = shows };
@@ -109,7 +123,8 @@ a_restart_mixes = record {
 -- ---- with the empty text between, as the premise asks
 
 abbrev with_empty : List Event
-with_empty = slot (SetText newer_text) ∷ slot Quiet ∷ slot (SetText []) ∷ slot Restart ∷ slot Quiet ∷ slot (SetText older_text) ∷ slot Quiet ∷ []
+with_empty = slot (SetText newer_text) ∷ slot Quiet ∷ slot (SetText []) ∷ slot Restart ∷ slot Quiet
+    ∷ slot (SetText older_text) ∷ slot Quiet ∷ []
 
 planned_with_empty : (plans_of 1 with_empty).text
     ≡ record { start = 6; end = 6; flag = true; bytes = newer_text }

@@ -34,7 +34,12 @@ use Rattle.rds_world.proofs.InTime.{in_time, input_reaches}
 
 -- receivers with the dwell are tuned to that of the station, and to its window
 tuned_alike : (config : Config) (input : Input) → config.kind ≡ WithDwell
-    → tuned_to config input ≡ record { programme = config.head.pi; dwell = config.dwell; window = config.premise.window; first = input.first }
+    → tuned_to config input ≡ record {
+      programme = config.head.pi;
+      dwell = config.dwell;
+      window = config.premise.window;
+      first = input.first;
+    }
 tuned_alike config input kind = λ i. record {
   programme = config.head.pi;
   dwell = dwell_of (kind i) config.dwell;
@@ -43,11 +48,14 @@ tuned_alike config input kind = λ i. record {
 }
 
 -- the view of a receiver is that of what counts of its input
-pub shows_view : (config : Config) (input : Input) (r : ReceiverState) (view : ShownView) → config.kind ≡ WithDwell → HasHeard config input r → ReceiverShows r view
+pub shows_view : (config : Config) (input : Input) (r : ReceiverState) (view : ShownView) → config.kind ≡ WithDwell
+    → HasHeard config input r → ReceiverShows r view
     → ShowsView config.dwell input.first (counted_in config.premise.window config.dwell input.first input.heard) view
 shows_view config input r view kind has shows =
-    let v = subst (λ (t : Tuning). IsView t has.groups view) (tuned_alike config input kind) (shows (tuned_to config input) has.groups has.stands) in
-    subst (λ (heard : List (Option Message)). ShowsView config.dwell input.first (counted_in config.premise.window config.dwell input.first heard) view)
+    let v = subst (λ (t : Tuning). IsView t has.groups view) (tuned_alike config input kind)
+    (shows (tuned_to config input) has.groups has.stands) in
+    subst (λ (heard : List (Option Message)). ShowsView config.dwell input.first (counted_in config.premise.window
+    config.dwell input.first heard) view)
     (same_heard config.head.pi has.groups v.0 input.heard v.1 has.spelled) v.2
 
 -- the receiver listens to the log, with or without a window
@@ -56,9 +64,11 @@ ListensIn None k m t log r = ListensTo k m t log r
 ListensIn (Some w) k m t log r = ListensConfirmed w k m t log r
 
 listens_in : (window : Option ℕ) (k m t : ℕ) (log : List (Option Message)) (input : Input) (view : ShownView)
-    → IsHeardWithWrong k log input → KeepsPremise window input → next_slot input ≡ t + 1 → ShowsView m input.first (counted_in window m input.first input.heard) view
+    → IsHeardWithWrong k log input → KeepsPremise window input → next_slot input ≡ t + 1
+    → ShowsView m input.first (counted_in window m input.first input.heard) view
     → ListensIn window k m t log record { input = counted_input window m input; view = view }
-listens_in None k m t log input view heard keeps now shows = record { late = each_is_late k log input heard keeps; now = now; shows = shows }
+listens_in None k m t log input view heard keeps now shows = record
+    { late = each_is_late k log input heard keeps; now = now; shows = shows }
 listens_in (Some w) k m t log input view heard keeps now shows = record {
   raw = input;
   heard = heard;
@@ -69,23 +79,32 @@ listens_in (Some w) k m t log input view heard keeps now shows = record {
 }
 
 pub listens : (config : Config) (e : Event) (before : List Event) (i : ℕ) (r : ReceiverState) (view : ShownView)
-    → config.kind ≡ WithDwell → AreDue config.premise.late (e ∷ before) → AreFit config.premise.window (e ∷ before) → HasHeard config (input_of (distance config) i (e ∷ before)) r → ReceiverShows r view
-    → ListensIn config.premise.window config.premise.late config.dwell (length before) (log (distance config) (e ∷ before)) record { input = input_that_counts config i (e ∷ before); view = view }
+    → config.kind ≡ WithDwell → AreDue config.premise.late (e ∷ before) → AreFit config.premise.window (e ∷ before)
+    → HasHeard config (input_of (distance config) i (e ∷ before)) r → ReceiverShows r view
+    → ListensIn config.premise.window config.premise.late config.dwell (length before)
+    (log (distance config) (e ∷ before)) record { input = input_that_counts config i (e ∷ before); view = view }
 listens config e before i r view kind due fit has shows =
     let input = input_of (distance config) i (e ∷ before) in
-    listens_in config.premise.window config.premise.late config.dwell (length before) (log (distance config) (e ∷ before)) input view
-    (in_time (distance config) config.premise.late i (e ∷ before) due) (keeps_premise (distance config) i config.premise.window (e ∷ before) fit) (input_reaches (distance config) i (e ∷ before) ∙ omega arith) (shows_view config input r view kind has shows)
+    listens_in config.premise.window config.premise.late config.dwell (length before)
+    (log (distance config) (e ∷ before)) input view
+    (in_time (distance config) config.premise.late i (e ∷ before) due) (keeps_premise (distance config) i
+    config.premise.window (e ∷ before) fit) (input_reaches (distance config) i (e ∷ before) ∙ omega arith)
+    (shows_view config input r view kind has shows)
 
-all_listen : (config : Config) (e : Event) (before : List Event) (i : ℕ) (receivers : List ReceiverState) (views : List ShownView) → config.kind ≡ WithDwell → AreDue config.premise.late (e ∷ before)
+all_listen : (config : Config) (e : Event) (before : List Event) (i : ℕ) (receivers : List ReceiverState)
+    (views : List ShownView) → config.kind ≡ WithDwell → AreDue config.premise.late (e ∷ before)
     → AreFit config.premise.window (e ∷ before)
-    → ((n : ℕ) (r : ReceiverState) → slice_get receivers n ≡ Some r → HasHeard config (input_of (distance config) (i + n) (e ∷ before)) r) → AllZip ReceiverShows receivers views
-    → AllByRecursion (ListensIn config.premise.window config.premise.late config.dwell (length before) (log (distance config) (e ∷ before))) (listeners config (e ∷ before) i views)
+    → ((n : ℕ) (r : ReceiverState) → slice_get receivers n ≡ Some r
+    → HasHeard config (input_of (distance config) (i + n) (e ∷ before)) r) → AllZip ReceiverShows receivers views
+    → AllByRecursion (ListensIn config.premise.window config.premise.late config.dwell (length before)
+    (log (distance config) (e ∷ before))) (listeners config (e ∷ before) i views)
 all_listen config e before i [] [] kind due fit has shows = tt
 all_listen config e before i [] (view ∷ views) kind due fit has shows = absurd shows
 all_listen config e before i (r ∷ receivers) [] kind due fit has shows = absurd shows
 all_listen config e before i (r ∷ receivers) (view ∷ views) kind due fit has shows =
     let here : i + 0 ≡ i = omega arith in (
-      listens config e before i r view kind due fit (subst (λ n. HasHeard config (input_of (distance config) n (e ∷ before)) r) here (has 0 r refl)) shows.0,
+      listens config e before i r view kind due fit
+          (subst (λ n. HasHeard config (input_of (distance config) n (e ∷ before)) r) here (has 0 r refl)) shows.0,
       all_listen config e before (i + 1) receivers views kind due fit
           (λ n s at.
           let next : i + suc n ≡ i + 1 + n = omega arith in
@@ -94,20 +113,27 @@ all_listen config e before i (r ∷ receivers) (view ∷ views) kind due fit has
     )
 
 -- lawful plans make each slot safe, with or without a window
-safe_in : LawfulPlansAreSafe → LawfulPlansAreSafeConfirmed → (window : Option ℕ) (k m t : ℕ) (plans : Plans) (log : List (Option Message)) (receivers : List Listener)
-    → AreLawful (m + lateness_in window k) plans log → All (ListensIn window k m t log) receivers → AreSafeViews (m + lateness_in window k) m t plans log receivers
+safe_in : LawfulPlansAreSafe → LawfulPlansAreSafeConfirmed
+    → (window : Option ℕ) (k m t : ℕ) (plans : Plans) (log : List (Option Message)) (receivers : List Listener)
+    → AreLawful (m + lateness_in window k) plans log → All (ListensIn window k m t log) receivers
+    → AreSafeViews (m + lateness_in window k) m t plans log receivers
 safe_in safe twice None k m t plans log receivers lawful all = safe m k t plans log receivers lawful all
 safe_in safe twice (Some w) k m t plans log receivers lawful all = twice w k m t plans log receivers lawful all
 
-pub safe_world : TheEncoderIsLawful → LawfulPlansAreSafe → LawfulPlansAreSafeConfirmed → (config : Config) (w : WorldState) (events : List Event) → WorldAt config w events → OnlyWhatWasOnAirIsShown config events w.receivers
+pub safe_world : TheEncoderIsLawful → LawfulPlansAreSafe → LawfulPlansAreSafeConfirmed
+    → (config : Config) (w : WorldState) (events : List Event) → WorldAt config w events
+    → OnlyWhatWasOnAirIsShown config events w.receivers
 safe_world lawful safe twice config w [] st = tt
 safe_world lawful safe twice config w (e ∷ before) st = λ kind views shows.
     let events = e ∷ before in
     let d = distance config in
     let some = st.lasts in
     let p = config.premise in
-    let all : AllByRecursion (ListensIn p.window p.late config.dwell (length before) (log d events)) (listeners config events 0 views) =
+    let all : AllByRecursion (ListensIn p.window p.late config.dwell (length before) (log d events))
+    (listeners config events 0 views) =
     all_listen config e before 0 w.receivers views kind st.due st.fit
-    (λ n r at. (let same : n ≡ 0 + n = omega arith in subst (λ i. HasHeard config (input_of d i events) r) same (st.receivers.each n r at))) shows in
-    safe_in safe twice p.window p.late config.dwell (length before) (plans_of d events) (log d events) (listeners config events 0 views) (events_are_lawful lawful d events (omega (arith, some)) st.values)
+    (λ n r at. (let same : n ≡ 0 + n = omega arith in subst (λ i. HasHeard config (input_of d i events) r) same
+    (st.receivers.each n r at))) shows in
+    safe_in safe twice p.window p.late config.dwell (length before) (plans_of d events) (log d events)
+    (listeners config events 0 views) (events_are_lawful lawful d events (omega (arith, some)) st.values)
     (All-from_recursion _ (listeners config events 0 views) all)

@@ -1,6 +1,7 @@
 -- Worked examples of due receptions, of wrong groups, of inputs, of what may come first after a restart and of the sets
 -- of a slot, calculated by hand. Lists have the newest first.
-use Rattle.std.proofs.Common.{◌≡◌, ◌-◌, ◌<◌, ℕ, zero, suc, List, [], ◌∷◌, Option, Some, None, true, false, refl, ap, inl, inr, arith}
+use Rattle.std.proofs.Common.{◌≡◌, ◌-◌, ◌<◌, ℕ, zero, suc, List, [], ◌∷◌, Option, Some, None, true, false, refl, ap}
+use Rattle.std.proofs.Common.{inl, inr, arith}
 use Rattle.rds_encoder.specs.Entries.{Move, Begin, Set, End}
 use Rattle.rds_encoder.specs.Plan.{plan_of}
 use Rattle.rds_encoder.specs.Spaced.{RestartsComeFirst}
@@ -16,9 +17,12 @@ use Rattle.rds_world.specs.Wrong.{IsFit, wrong_of}
 
 -- zero slots late, a receiver hears what is sent in the slot, and its origin is the slot
 received_now : (slot : ℕ) (newest : Option Message) (before : List (Option Message)) (input : Input)
-    → received (Got 0) slot (newest ∷ before) input ≡ record { first = input.first; heard = newest ∷ input.heard; origins = Some slot ∷ input.origins }
+    → received (Got 0) slot (newest ∷ before) input
+    ≡ record { first = input.first; heard = newest ∷ input.heard; origins = Some slot ∷ input.origins }
 received_now slot newest before input =
-    (let same : slot - 0 ≡ slot = omega arith in ap (λ (n : ℕ). record { first = input.first; heard = newest ∷ input.heard; origins = Some n ∷ input.origins }) same)
+    (let same : slot - 0 ≡ slot = omega arith in ap
+    (λ (n : ℕ). record { first = input.first; heard = newest ∷ input.heard; origins = Some n ∷ input.origins })
+    same)
 
 -- with K = 0, the slot itself is due if the last `Got` gave an earlier one
 due_now : (slot s : ℕ) → s < slot → IsDueBack 0 slot (Some s) 0
@@ -51,7 +55,8 @@ after_three two (zero, below, is) = cc
 after_three two (suc zero, below, is) = cc
 after_three two (suc (suc k), below, is) = omega (arith, below)
 
-after_restart : wrong_of 0 (record { command = Quiet; free = true; receptions = Restart ∷ [] } ∷ record { command = Quiet; free = true; receptions = Wrong wrong_segment ∷ [] } ∷ []) ≡ []
+after_restart : wrong_of 0 (record { command = Quiet; free = true; receptions = Restart ∷ [] }
+    ∷ record { command = Quiet; free = true; receptions = Wrong wrong_segment ∷ [] } ∷ []) ≡ []
 after_restart = refl
 
 -- with d = 1: a text in slot 1, and another one in slot 3, one slot before a restart
@@ -75,11 +80,13 @@ last_is_not_safe (inl (inr none)) = (cc)
 last_is_not_safe (inr long) = (let lasted = long.1 in omega (arith, lasted))
 
 -- if it lasted for two slots, each text is safe
-after_two_slots : IsSafeAfter 1 (plan_of 1 5 (Begin ∷ End true ∷ End true ∷ Set (0x42 ∷ []) ∷ End true ∷ End true ∷ Set (0x41 ∷ []) ∷ End true ∷ [])) (0x43 ∷ [])
+after_two_slots : IsSafeAfter 1 (plan_of 1 5 (Begin ∷ End true ∷ End true ∷ Set (0x42 ∷ []) ∷ End true ∷ End true
+    ∷ Set (0x41 ∷ []) ∷ End true ∷ [])) (0x43 ∷ [])
 after_two_slots = inr (refl, omega arith)
 
 -- a slot may have a restart and then two sets, and no restart after a set
-two_sets_after_a_restart : RestartsComeFirst (End true ∷ Set (0x42 ∷ []) ∷ Set (0x41 ∷ []) ∷ Begin ∷ End true ∷ Set (0x41 ∷ []) ∷ [])
+two_sets_after_a_restart : RestartsComeFirst (End true ∷ Set (0x42 ∷ []) ∷ Set (0x41 ∷ []) ∷ Begin ∷ End true
+    ∷ Set (0x41 ∷ []) ∷ [])
 two_sets_after_a_restart = (tt, tt)
 
 no_restart_after_a_set : RestartsComeFirst (End true ∷ Begin ∷ Set (0x41 ∷ []) ∷ End true ∷ []) → ⊥

@@ -16,29 +16,35 @@ use Rattle.rds_world.specs.Station.{EndsASlot, IsValid, SlotsOfAWorldAreSlots, T
 -- one service: its moves in a slot are at most one restart or set, and then the end of the slot
 pub record IsService (moves : List Entry → List Move) : Type 0 where
   pub none : moves [] ≡ []
-  pub slot : (e : Event) (before : List Event) → moves (entries (e ∷ before)) ≡ End e.free ∷ moves (commanded e.command (entries before))
-  pub longer : (c : Command) (before : List Entry) → (told : List Move) × (moves (commanded c before) ≡ told ++ moves before)
+  pub slot : (e : Event) (before : List Event)
+      → moves (entries (e ∷ before)) ≡ End e.free ∷ moves (commanded e.command (entries before))
+  pub longer : (c : Command) (before : List Entry)
+      → (told : List Move) × (moves (commanded c before) ≡ told ++ moves before)
   pub same_slot : (c : Command) (before : List Entry) → slot_of (moves (commanded c before)) ≡ slot_of (moves before)
-  pub first : (c : Command) (before : List Entry) → IsUnset (moves before) → RestartsComeFirst (moves before) → RestartsComeFirst (moves (commanded c before))
+  pub first : (c : Command) (before : List Entry) → IsUnset (moves before) → RestartsComeFirst (moves before)
+      → RestartsComeFirst (moves (commanded c before))
 
 pub text_service : IsService text_moves
 text_service = record { none = refl; slot = λ e before. refl; longer = longer; same_slot = same_slot; first = first }
   where
-    longer : (c : Command) (before : List Entry) → (told : List Move) × (text_moves (commanded c before) ≡ told ++ text_moves before)
+    longer : (c : Command) (before : List Entry)
+        → (told : List Move) × (text_moves (commanded c before) ≡ told ++ text_moves before)
     longer Quiet before = ([], refl)
     longer Restart before = (Begin ∷ [], refl)
     longer (SetText x) before = (Set x ∷ [], refl)
     longer (SetName x) before = ([], refl)
     longer (SetTags pair) before = ([], refl)
 
-    same_slot : (c : Command) (before : List Entry) → slot_of (text_moves (commanded c before)) ≡ slot_of (text_moves before)
+    same_slot : (c : Command) (before : List Entry)
+        → slot_of (text_moves (commanded c before)) ≡ slot_of (text_moves before)
     same_slot Quiet before = refl
     same_slot Restart before = refl
     same_slot (SetText x) before = refl
     same_slot (SetName x) before = refl
     same_slot (SetTags pair) before = refl
 
-    first : (c : Command) (before : List Entry) → IsUnset (text_moves before) → RestartsComeFirst (text_moves before) → RestartsComeFirst (text_moves (commanded c before))
+    first : (c : Command) (before : List Entry) → IsUnset (text_moves before) → RestartsComeFirst (text_moves before)
+        → RestartsComeFirst (text_moves (commanded c before))
     first Quiet before unset restarts = restarts
     first Restart before unset restarts = (unset, restarts)
     first (SetText x) before unset restarts = restarts
@@ -48,21 +54,24 @@ text_service = record { none = refl; slot = λ e before. refl; longer = longer; 
 pub name_service : IsService name_moves
 name_service = record { none = refl; slot = λ e before. refl; longer = longer; same_slot = same_slot; first = first }
   where
-    longer : (c : Command) (before : List Entry) → (told : List Move) × (name_moves (commanded c before) ≡ told ++ name_moves before)
+    longer : (c : Command) (before : List Entry)
+        → (told : List Move) × (name_moves (commanded c before) ≡ told ++ name_moves before)
     longer Quiet before = ([], refl)
     longer Restart before = (Begin ∷ [], refl)
     longer (SetText x) before = ([], refl)
     longer (SetName x) before = (Set x ∷ [], refl)
     longer (SetTags pair) before = ([], refl)
 
-    same_slot : (c : Command) (before : List Entry) → slot_of (name_moves (commanded c before)) ≡ slot_of (name_moves before)
+    same_slot : (c : Command) (before : List Entry)
+        → slot_of (name_moves (commanded c before)) ≡ slot_of (name_moves before)
     same_slot Quiet before = refl
     same_slot Restart before = refl
     same_slot (SetText x) before = refl
     same_slot (SetName x) before = refl
     same_slot (SetTags pair) before = refl
 
-    first : (c : Command) (before : List Entry) → IsUnset (name_moves before) → RestartsComeFirst (name_moves before) → RestartsComeFirst (name_moves (commanded c before))
+    first : (c : Command) (before : List Entry) → IsUnset (name_moves before) → RestartsComeFirst (name_moves before)
+        → RestartsComeFirst (name_moves (commanded c before))
     first Quiet before unset restarts = restarts
     first Restart before unset restarts = (unset, restarts)
     first (SetText x) before unset restarts = restarts
@@ -72,7 +81,8 @@ name_service = record { none = refl; slot = λ e before. refl; longer = longer; 
 module _ (moves : List Entry → List Move) (service : IsService moves) where
   pub reaches : (events : List Event) → slot_of (moves (entries events)) ≡ length events
   reaches [] = ap slot_of service.none
-  reaches (e ∷ before) = ap slot_of (service.slot e before) ∙ omega (arith, service.same_slot e.command (entries before), reaches before)
+  reaches (e ∷ before) = ap slot_of (service.slot e before)
+      ∙ omega (arith, service.same_slot e.command (entries before), reaches before)
 
   unset : (events : List Event) → IsUnset (moves (entries events))
   unset [] = subst IsUnset (sym service.none) tt
@@ -80,13 +90,15 @@ module _ (moves : List Entry → List Move) (service : IsService moves) where
 
   restarts_first : (events : List Event) → RestartsComeFirst (moves (entries events))
   restarts_first [] = subst RestartsComeFirst (sym service.none) tt
-  restarts_first (e ∷ before) = subst RestartsComeFirst (sym (service.slot e before)) (service.first e.command (entries before) (unset before) (restarts_first before))
+  restarts_first (e ∷ before) = subst RestartsComeFirst (sym (service.slot e before))
+      (service.first e.command (entries before) (unset before) (restarts_first before))
 
 are_valid : (events : List Event) → SetValues events → AllByRecursion IsValid (entries events)
 are_valid [] set = tt
 are_valid (e ∷ before) set = (tt, by e.command set.0 (are_valid before set.1))
   where
-    by : (c : Command) → SetsAValue c → AllByRecursion IsValid (entries before) → AllByRecursion IsValid (commanded c (entries before))
+    by : (c : Command) → SetsAValue c → AllByRecursion IsValid (entries before)
+        → AllByRecursion IsValid (commanded c (entries before))
     by Quiet value valid = valid
     by Restart value valid = (tt, valid)
     by (SetText x) value valid = (value, valid)
@@ -107,29 +119,43 @@ logged_before d (SetTags pair) before = refl
 same_log : (d : ℕ) (events : List Event) → sent_log d (entries events) ≡ log d events
 same_log d [] = refl
 same_log d (e ∷ before) =
-    let older : sent_log d (commanded e.command (entries before)) ≡ log d before = logged_before d e.command (entries before) ∙ same_log d before in
+    let older : sent_log d (commanded e.command (entries before)) ≡ log d before = logged_before d e.command
+    (entries before) ∙ same_log d before in
     rw older refl
 
 -- the plans with these numbers of slots
 abbrev plans_to : ℕ → List Event → ℕ → ℕ → Plans
-plans_to d events s t = record { text = plan_of d (s - 1) (text_moves (entries events)); name = plan_of d (t - 1) (name_moves (entries events)) }
+plans_to d events s t = record {
+  text = plan_of d (s - 1) (text_moves (entries events));
+  name = plan_of d (t - 1)
+      (name_moves (entries events));
+}
 
 same_plans : (d : ℕ) (events : List Event) → station_plans d (entries events) ≡ plans_of d events
-same_plans d events = by (slot_of (text_moves (entries events))) (slot_of (name_moves (entries events))) (reaches text_moves text_service events) (reaches name_moves name_service events)
+same_plans d events = by (slot_of (text_moves (entries events))) (slot_of (name_moves (entries events)))
+    (reaches text_moves text_service events) (reaches name_moves name_service events)
   where
     by : (s t : ℕ) → s ≡ length events → t ≡ length events → plans_to d events s t ≡ plans_of d events
     by s t p q = rw (p, q) refl
 
 pub slots_of_a_world : SlotsOfAWorldAreSlots
 slots_of_a_world d events set = record {
-  slots = record { valid = are_valid events set; ended = ends_a_slot events; texts = restarts_first text_moves text_service events; names = restarts_first name_moves name_service events };
+  slots = record {
+    valid = are_valid events set;
+    ended = ends_a_slot events;
+    texts = restarts_first text_moves
+        text_service events;
+    names = restarts_first name_moves name_service events;
+  };
   log = same_log d events;
   plans = same_plans d events;
 }
 
 -- so the encoder of a world is lawful
-pub events_are_lawful : TheEncoderIsLawful → (d : ℕ) (events : List Event) → 0 < d → SetValues events → AreLawful d (plans_of d events) (log d events)
+pub events_are_lawful : TheEncoderIsLawful → (d : ℕ) (events : List Event) → 0 < d → SetValues events
+    → AreLawful d (plans_of d events) (log d events)
 events_are_lawful lawful d events some set =
     let same = slots_of_a_world d events set in
     subst (λ (sent : List (Option Message)). AreLawful d (plans_of d events) sent) same.log
-    (subst (λ (plans : Plans). AreLawful d plans (sent_log d (entries events))) same.plans (lawful d (entries events) some same.slots))
+    (subst (λ (plans : Plans). AreLawful d plans (sent_log d (entries events))) same.plans
+    (lawful d (entries events) some same.slots))

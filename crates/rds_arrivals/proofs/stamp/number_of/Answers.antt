@@ -19,4 +19,5 @@ overflow_add-number c =
 pub returns-clause-small : goal.returns-clause-small
 returns-clause-small c =
     let few = c.requires.few in
-    twelve c.loop-place.number c.loop-place.place c.loop-place.invariant.small (omega (arith, few, c.loop-place.auto.place-end))
+    twelve c.loop-place.number c.loop-place.place c.loop-place.invariant.small
+    (omega (arith, few, c.loop-place.auto.place-end))

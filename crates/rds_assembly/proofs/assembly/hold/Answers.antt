@@ -11,6 +11,7 @@ returns c =
     let long : length c.args.segment ≡ 4 = search rules in
     let room : length bytes ≡ 64 = search rules in
     let copied : length c.copy_from_slice.new.self ≡ 4 = ap length c.copy_from_slice.ensures.after ∙ long in
-    put_held c.args.mask _ a bytes _ c.args.segment c.requires (bit_at_set_same w16 c.args.mask a (omega arith)) (bit_at_set_other w16 c.args.mask a (omega arith))
+    put_held c.args.mask _ a bytes _ c.args.segment c.requires (bit_at_set_same w16 c.args.mask a (omega arith))
+    (bit_at_set_other w16 c.args.mask a (omega arith))
     (segment_stands a _ bytes c.copy_from_slice.new.self four copied (omega arith) ∙ c.copy_from_slice.ensures.after)
     (others_stay a _ bytes c.copy_from_slice.new.self four copied (omega arith))

@@ -7,4 +7,12 @@ use Rattle.rds_charset.proofs.display.push_displayed.Goals as goal
 pub push_character-requires : goal.push_character-requires
 push_character-requires g c =
     let before = length-displayed (take c.loop-byte.byte-index c.args.text.now) in
-    (omega (arith, ap length c.loop-byte.invariant, length-append c.args.line.now (displayed (take c.loop-byte.byte-index c.args.text.now)), before, length-take c.loop-byte.byte-index c.args.text.now))
+    (omega (
+      arith,
+      ap length c.loop-byte.invariant,
+      length-append c.args.line.now
+          (displayed (take c.loop-byte.byte-index c.args.text.now)),
+      before,
+      length-take c.loop-byte.byte-index
+          c.args.text.now,
+    ))

@@ -6,11 +6,22 @@ use Rattle.rds_charset.proofs.printing.push_text.Goals as goal
 
 pub push_byte-requires : goal.push_byte-requires
 push_byte-requires g c =
-    let before = length-printed (take c.loop-byte.byte-index c.args.text.now) in
-    (search arith, omega (arith, ap length c.loop-byte.invariant, length-append c.args.line.now (printed (take c.loop-byte.byte-index c.args.text.now)), before, length-take c.loop-byte.byte-index c.args.text.now))
+    let before = length-printed (take c.loop-byte.byte-index c.args.text.now) in (
+      search arith,
+      omega (
+        arith,
+        ap length c.loop-byte.invariant,
+        length-append c.args.line.now
+            (printed (take c.loop-byte.byte-index c.args.text.now)),
+        before,
+        length-take c.loop-byte.byte-index
+            c.args.text.now,
+      ),
+    )
 
 pub returns-clause-room : goal.returns-clause-room
 returns-clause-room g c =
     let all : take c.loop-byte.byte-index c.args.text.now ≡ c.args.text.now = take_all _ _ (omega arith) in
-    let pushed : length c.loop-byte.line ≡ length (c.args.line.now ++ printed c.args.text.now) = rw all at (ap length c.loop-byte.invariant) in
+    let pushed : length c.loop-byte.line ≡ length (c.args.line.now ++ printed c.args.text.now) = rw all
+    at (ap length c.loop-byte.invariant) in
     omega (arith, pushed, length-append c.args.line.now (printed c.args.text.now), length-printed c.args.text.now)

@@ -7,6 +7,7 @@ use Rattle.rds_charset.proofs.printing.write_text.Given as goal
 abbrev pub invariant-loop-chunk : goal.invariant-loop-chunk
 invariant-loop-chunk g l = record {
   size : chunks_size l.chunk-iterator ≡ 64;
-  appended : (done : List ℕ) × (l.bytes ≡ done ++ chunks_rest l.chunk-iterator) × Appends (g.W.Write.contents l.initial.writer) (g.W.Write.contents l.writer) (printed done);
+  appended : (done : List ℕ) × (l.bytes ≡ done ++ chunks_rest l.chunk-iterator)
+      × Appends (g.W.Write.contents l.initial.writer) (g.W.Write.contents l.writer) (printed done);
   unfailed : g.W.TellingWrite.failures l.writer ≡ g.W.TellingWrite.failures l.initial.writer;
 }

@@ -1,10 +1,12 @@
 use Rattle.std.proofs.Common.{refl}
 use Rattle.clap.proofs.OnLiterals.{clap_on_literals}
-use Rattle.rds_cli.specs.CommandLine.{audit_app, decode_app, late_app, log_app, log_readers_app, sim_app, slots_app, station_app, timed_app, witness_app}
+use Rattle.rds_cli.specs.CommandLine.{audit_app, decode_app, late_app, log_app, log_readers_app, sim_app, slots_app}
+use Rattle.rds_cli.specs.CommandLine.{station_app, timed_app, witness_app}
 use Rattle.rds_cli.proofs.laws.words_of_the_examples.Goals as goal
 
 pub returns : goal.returns
-unfolding clap_on_literals log_app decode_app late_app station_app sim_app slots_app timed_app audit_app log_readers_app witness_app
+unfolding clap_on_literals log_app decode_app late_app station_app sim_app slots_app timed_app audit_app log_readers_app
+    witness_app
 returns c = record {
   decode = record { taken = refl; ask = refl };
   decode_other = record { taken = refl; ask = refl };

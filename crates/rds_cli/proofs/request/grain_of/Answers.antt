@@ -9,14 +9,16 @@ use Rattle.rds_cli.proofs.request.grain_of.Goals as goal
 pub returns-in_err-get_one : goal.returns-in_err-get_one
 returns-in_err-get_one c =
     let read : grain_in (rows_of (found_of c.args.inner.now)) ≡ option_and_then (between 0 87) c.get_one.result =
-    read_option 8 0 87 (λ bs r. ParsesUnsigned 8 10 bs r × ExplainsUnsignedError 10 bs r × HasUnsignedDigitsIfOk bs r) (found_of c.args.inner.now) (codes "grain") c.get_one.result
+    read_option 8 0 87 (λ bs r. ParsesUnsigned 8 10 bs r × ExplainsUnsignedError 10 bs r × HasUnsignedDigitsIfOk bs r)
+    (found_of c.args.inner.now) (codes "grain") c.get_one.result
     c.get_one.ensures.none c.get_one.ensures.value (λ t x g. g.0) (omega arith) in
     c.from_residual.ensures ∙ sym (read ∙ ap (option_and_then (between 0 87)) c.in_err-get_one.was)
 
 pub returns : goal.returns
 returns c =
     let read : grain_in (rows_of (found_of c.args.inner.now)) ≡ option_and_then (between 0 87) c.get_one.result =
-    read_option 8 0 87 (λ bs r. ParsesUnsigned 8 10 bs r × ExplainsUnsignedError 10 bs r × HasUnsignedDigitsIfOk bs r) (found_of c.args.inner.now) (codes "grain") c.get_one.result
+    read_option 8 0 87 (λ bs r. ParsesUnsigned 8 10 bs r × ExplainsUnsignedError 10 bs r × HasUnsignedDigitsIfOk bs r)
+    (found_of c.args.inner.now) (codes "grain") c.get_one.result
     c.get_one.ensures.none c.get_one.ensures.value (λ t x g. g.0) (omega arith) in
     place_between 87 c.in_ok-get_one.field-0 c.new.result c.new.ensures.below c.new.ensures.value
     ∙ sym (read ∙ ap (option_and_then (between 0 87)) c.in_ok-get_one.was)

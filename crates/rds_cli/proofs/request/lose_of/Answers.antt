@@ -11,8 +11,10 @@ given o = option_map_or (λ text. text) o []
 
 pub returns-in-Some : goal.returns-in-Some
 returns-in-Some c =
-    sym (ap given (sym (c.get_str.ensures ∙ first_value-rows (found_of c.args.inner.now) (codes "lose")) ∙ ap (option_map (λ s. s.now)) c.in-Some.is))
+    sym (ap given (sym (c.get_str.ensures ∙ first_value-rows (found_of c.args.inner.now) (codes "lose"))
+    ∙ ap (option_map (λ s. s.now)) c.in-Some.is))
 
 pub returns-in-None : goal.returns-in-None
 returns-in-None c =
-    sym (ap given (sym (c.get_str.ensures ∙ first_value-rows (found_of c.args.inner.now) (codes "lose")) ∙ ap (option_map (λ s. s.now)) c.in-None.is))
+    sym (ap given (sym (c.get_str.ensures ∙ first_value-rows (found_of c.args.inner.now) (codes "lose"))
+    ∙ ap (option_map (λ s. s.now)) c.in-None.is))

@@ -13,17 +13,22 @@ given_or given is_slots = option_or given (if is_slots then Some (codes "0000") 
 pub returns-in-Some : goal.returns-in-Some
 returns-in-Some c =
     let given : first_of (codes "pi") (rows_of (found_of c.args.inner.now)) ≡ Some c.in-Some.pi.now =
-    sym (c.get_str.ensures ∙ first_value-rows (found_of c.args.inner.now) (codes "pi")) ∙ ap (option_map (λ s. s.now)) c.in-Some.is in
+    sym (c.get_str.ensures ∙ first_value-rows (found_of c.args.inner.now) (codes "pi")) ∙ ap (option_map (λ s. s.now))
+    c.in-Some.is in
     sym (ap (λ (o : Option Text). given_or o (bytes_eq c.args.name.now (codes "slots"))) given)
 
 pub returns-then-eq : goal.returns-then-eq
 returns-then-eq c =
     let given : first_of (codes "pi") (rows_of (found_of c.args.inner.now)) ≡ None =
-    sym (c.get_str.ensures ∙ first_value-rows (found_of c.args.inner.now) (codes "pi")) ∙ ap (option_map (λ s. s.now)) c.in_default.is in
-    sym (ap (λ (o : Option Text). given_or o (bytes_eq c.args.name.now (codes "slots"))) given ∙ ap (given_or None) (sym c.eq.ensures ∙ c.if-eq.true))
+    sym (c.get_str.ensures ∙ first_value-rows (found_of c.args.inner.now) (codes "pi")) ∙ ap (option_map (λ s. s.now))
+    c.in_default.is in
+    sym (ap (λ (o : Option Text). given_or o (bytes_eq c.args.name.now (codes "slots"))) given ∙ ap (given_or None)
+    (sym c.eq.ensures ∙ c.if-eq.true))
 
 pub returns-else-eq : goal.returns-else-eq
 returns-else-eq c =
     let given : first_of (codes "pi") (rows_of (found_of c.args.inner.now)) ≡ None =
-    sym (c.get_str.ensures ∙ first_value-rows (found_of c.args.inner.now) (codes "pi")) ∙ ap (option_map (λ s. s.now)) c.in_default.is in
-    sym (ap (λ (o : Option Text). given_or o (bytes_eq c.args.name.now (codes "slots"))) given ∙ ap (given_or None) (sym c.eq.ensures ∙ c.if-eq.false))
+    sym (c.get_str.ensures ∙ first_value-rows (found_of c.args.inner.now) (codes "pi")) ∙ ap (option_map (λ s. s.now))
+    c.in_default.is in
+    sym (ap (λ (o : Option Text). given_or o (bytes_eq c.args.name.now (codes "slots"))) given ∙ ap (given_or None)
+    (sym c.eq.ensures ∙ c.if-eq.false))

@@ -13,14 +13,17 @@ no_text (Some task) lose dwell = refl
 pub returns-in_err-pi_of : goal.returns-in_err-pi_of
 returns-in_err-pi_of c =
     let rows = rows_of (found_of c.args.inner.now) in
-    let pi : pi_in c.args.name.now rows ≡ None = sym c.pi_of.ensures ∙ ap (option_map (λ s. s.now)) c.in_err-pi_of.was in
-    let none = ap (λ (x : Option Text). asked (task_in c.args.name.now rows) x (lose_in rows) (dwell_in rows)) pi ∙ no_text (task_in c.args.name.now rows) (lose_in rows) (dwell_in rows) in
+    let pi : pi_in c.args.name.now rows ≡ None = sym c.pi_of.ensures ∙ ap (option_map (λ s. s.now)) c.in_err-pi_of.was
+    in
+    let none = ap (λ (x : Option Text). asked (task_in c.args.name.now rows) x (lose_in rows) (dwell_in rows)) pi
+    ∙ no_text (task_in c.args.name.now rows) (lose_in rows) (dwell_in rows) in
     ap (option_map asked_by) c.from_residual-in_err-pi_of.ensures ∙ sym none
 
 pub returns : goal.returns
 returns c =
     let rows = rows_of (found_of c.args.inner.now) in
-    let pi : pi_in c.args.name.now rows ≡ Some c.in_ok-pi_of.field-0.now = sym c.pi_of.ensures ∙ ap (option_map (λ s. s.now)) c.in_ok-pi_of.was in
+    let pi : pi_in c.args.name.now rows ≡ Some c.in_ok-pi_of.field-0.now = sym c.pi_of.ensures
+    ∙ ap (option_map (λ s. s.now)) c.in_ok-pi_of.was in
     let task = sym c.task_of.ensures ∙ c.in_ok-task_of.was in
     let dwell = sym c.slots_of.ensures ∙ c.in_ok-slots_of.was in
     let lose : lose_in rows ≡ c.lose_of.result.now = sym c.lose_of.ensures in

@@ -8,15 +8,19 @@ use Rattle.rds_cli.proofs.request.slots_of.Goals as goal
 
 pub returns-in_err-get_one : goal.returns-in_err-get_one
 returns-in_err-get_one g c =
-    let read : option_slots g.row.LOW g.row.HIGH c.args.name.now (rows_of (found_of c.args.inner.now)) ≡ option_and_then (between g.row.LOW g.row.HIGH) c.get_one.result =
-    read_option 16 g.row.LOW g.row.HIGH (λ bs r. ParsesUnsigned 16 10 bs r × ExplainsUnsignedError 10 bs r × HasUnsignedDigitsIfOk bs r) (found_of c.args.inner.now) c.args.name.now c.get_one.result
+    let read : option_slots g.row.LOW g.row.HIGH c.args.name.now (rows_of (found_of c.args.inner.now))
+    ≡ option_and_then (between g.row.LOW g.row.HIGH) c.get_one.result =
+    read_option 16 g.row.LOW g.row.HIGH (λ bs r. ParsesUnsigned 16 10 bs r × ExplainsUnsignedError 10 bs r
+    × HasUnsignedDigitsIfOk bs r) (found_of c.args.inner.now) c.args.name.now c.get_one.result
     c.get_one.ensures.none c.get_one.ensures.value (λ t x g. g.0) (omega (arith, g.HIGH.fits)) in
     c.from_residual.ensures ∙ sym (read ∙ ap (option_and_then (between g.row.LOW g.row.HIGH)) c.in_err-get_one.was)
 
 pub returns : goal.returns
 returns g c =
-    let read : option_slots g.row.LOW g.row.HIGH c.args.name.now (rows_of (found_of c.args.inner.now)) ≡ option_and_then (between g.row.LOW g.row.HIGH) c.get_one.result =
-    read_option 16 g.row.LOW g.row.HIGH (λ bs r. ParsesUnsigned 16 10 bs r × ExplainsUnsignedError 10 bs r × HasUnsignedDigitsIfOk bs r) (found_of c.args.inner.now) c.args.name.now c.get_one.result
+    let read : option_slots g.row.LOW g.row.HIGH c.args.name.now (rows_of (found_of c.args.inner.now))
+    ≡ option_and_then (between g.row.LOW g.row.HIGH) c.get_one.result =
+    read_option 16 g.row.LOW g.row.HIGH (λ bs r. ParsesUnsigned 16 10 bs r × ExplainsUnsignedError 10 bs r
+    × HasUnsignedDigitsIfOk bs r) (found_of c.args.inner.now) c.args.name.now c.get_one.result
     c.get_one.ensures.none c.get_one.ensures.value (λ t x g. g.0) (omega (arith, g.HIGH.fits)) in
     slots_between g.row.LOW g.row.HIGH c.in_ok-get_one.field-0 c.new.result c.new.ensures.range c.new.ensures.value
     ∙ sym (read ∙ ap (option_and_then (between g.row.LOW g.row.HIGH)) c.in_ok-get_one.was)

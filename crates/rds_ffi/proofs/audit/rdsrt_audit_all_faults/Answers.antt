@@ -5,14 +5,22 @@ pub returns-clause-stands : goal.returns-clause-stands
 returns-clause-stands c given pi d log lies = (
   c.in-Ok.slot,
   c.in-Ok.ensures.value,
-  record { good = c.all_faults.ensures.good.0 lies.good; at = (c.all_faults.ensures.takes lies.good).stands pi d log lies.at },
+  record {
+    good = c.all_faults.ensures.good.0 lies.good;
+    at = (c.all_faults.ensures.takes lies.good).stands pi d log
+        lies.at;
+  },
 )
 
 pub returns-clause-follows : goal.returns-clause-follows
 returns-clause-follows c given pi d log lies = (
   c.in-Ok.slot,
   c.in-Ok.ensures.value,
-  record { good = c.all_faults.ensures.good.0 lies.good; at = (c.all_faults.ensures.takes lies.good).follows pi d log lies.at },
+  record {
+    good = c.all_faults.ensures.good.0 lies.good;
+    at = (c.all_faults.ensures.takes lies.good).follows pi d log
+        lies.at;
+  },
 )
 
 pub returns-clause-adds : goal.returns-clause-adds

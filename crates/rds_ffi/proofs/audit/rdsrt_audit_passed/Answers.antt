@@ -13,7 +13,9 @@ returns-clause-plans c pi d log lies =
     ((λ e. same.0 (set _ (sym c.from.ensures ∙ e))), (λ h. c.from.ensures ∙ one _ (same.1 h)))
 
 pub returns-clause-safe : goal.returns-clause-safe
-returns-clause-safe c pi d log lies m k some sum e = c.passed.ensures.safe pi d log lies.at m k some sum (set _ (sym c.from.ensures ∙ e))
+returns-clause-safe c pi d log lies m k some sum e = c.passed.ensures.safe pi d log lies.at m k some sum
+    (set _ (sym c.from.ensures ∙ e))
 
 pub returns-clause-recording : goal.returns-clause-recording
-returns-clause-recording c pi m k log lies running some e = c.passed.ensures.recording pi m k log lies.at running some (set _ (sym c.from.ensures ∙ e))
+returns-clause-recording c pi m k log lies running some e = c.passed.ensures.recording pi m k log lies.at running some
+    (set _ (sym c.from.ensures ∙ e))

@@ -11,10 +11,15 @@ returns-clause-stands c given pi d log s = (
 )
 
 pub returns-clause-which : goal.returns-clause-which
-returns-clause-which c given pi d log lies =
-    (fault_in c.slot.result, c.code_of.ensures.told, found _ _ c.slot.result ((c.slot.ensures.takes (c.slot.ensures.good.1 lies.good)).which pi d log lies.at))
+returns-clause-which c given pi d log lies = (
+  fault_in c.slot.result,
+  c.code_of.ensures.told,
+  found _ _ c.slot.result
+      ((c.slot.ensures.takes (c.slot.ensures.good.1 lies.good)).which pi d log lies.at),
+)
   where
-    found : (P : Type 0) (Q : AuditFault → Type 0) (r : Result (Unit {0}) AuditFault) → MatchResult r (λ _. P) Q → MatchOption (fault_in r) P Q
+    found : (P : Type 0) (Q : AuditFault → Type 0) (r : Result (Unit {0}) AuditFault) → MatchResult r (λ _. P) Q
+        → MatchOption (fault_in r) P Q
     found P Q (Ok done) m = m
     found P Q (Err fault) m = m
 

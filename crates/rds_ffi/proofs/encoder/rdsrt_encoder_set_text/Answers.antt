@@ -5,7 +5,8 @@ use Rattle.rds_ffi.specs.Codes.{reply_of}
 use Rattle.rds_ffi.proofs.encoder.rdsrt_encoder_set_text.Goals as goal
 
 pub returns-clause-reply : goal.returns-clause-reply
-returns-clause-reply c given station m entries s = c.plain_reply.ensures ∙ ap reply_of (c.set_text.ensures.reply station m entries s.at)
+returns-clause-reply c given station m entries s = c.plain_reply.ensures
+    ∙ ap reply_of (c.set_text.ensures.reply station m entries s.at)
 
 pub returns-clause-stands : goal.returns-clause-stands
 returns-clause-stands c given station m entries s =

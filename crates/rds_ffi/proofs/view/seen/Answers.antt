@@ -15,16 +15,21 @@ returns-clause-shown c t input is =
       record {
         text = rw c.plain_text.ensures.same text;
         name = rw c.plain_name.ensures.same (c.name.ensures.shown t input s s.heard s.are);
-        item = c.plain_item.ensures.same ∙ rw c.plain_text.ensures.same (c.item.ensures is.good t input s s.heard s.are _ text);
-        one = rw c.plain_text.ensures.same (c.plain_tag.ensures.same ∙ ap (tag_of One shown) (c.pair.ensures is.good t input s s.heard s.are));
-        two = rw c.plain_text.ensures.same (c.plain_tag-2.ensures.same ∙ ap (tag_of Two shown) (c.pair-2.ensures is.good t input s s.heard s.are));
+        item = c.plain_item.ensures.same ∙ rw c.plain_text.ensures.same (c.item.ensures is.good t input s s.heard s.are
+            _ text);
+        one = rw c.plain_text.ensures.same (c.plain_tag.ensures.same ∙ ap (tag_of One shown)
+            (c.pair.ensures is.good t input s s.heard s.are));
+        two = rw c.plain_text.ensures.same (c.plain_tag-2.ensures.same ∙ ap (tag_of Two shown)
+            (c.pair-2.ensures is.good t input s s.heard s.are));
       },
     )
 
 pub returns-clause-tags : goal.returns-clause-tags
 returns-clause-tags c t input is heard are = record {
-  one = subst (λ p. IsTagOf One p c.plain_tag.result) (c.pair.ensures is.good t input is.at heard are) c.plain_tag.ensures.of_pair;
-  two = subst (λ p. IsTagOf Two p c.plain_tag-2.result) (c.pair-2.ensures is.good t input is.at heard are) c.plain_tag-2.ensures.of_pair;
+  one = subst (λ p. IsTagOf One p c.plain_tag.result) (c.pair.ensures is.good t input is.at heard are)
+      c.plain_tag.ensures.of_pair;
+  two = subst (λ p. IsTagOf Two p c.plain_tag-2.result) (c.pair-2.ensures is.good t input is.at heard are)
+      c.plain_tag-2.ensures.of_pair;
 }
 
 pub returns-clause-plain : goal.returns-clause-plain

@@ -14,7 +14,10 @@ returns c =
     let n = spread a + 4294967296 * above_a in
     let s = shows n a above_a (omega (arith, c.element_fits.fits)) refl in
     let t = shows (n / 256 / 256 / 256 / 256) b above_b (omega (arith, c.element_fits2.fits)) s.rest in
-    let u = shows (n / 256 / 256 / 256 / 256 / 256 / 256 / 256 / 256) w above_w (omega (arith, c.element_fits3.fits)) t.rest in
-    let v = shows (n / 256 / 256 / 256 / 256 / 256 / 256 / 256 / 256 / 256 / 256 / 256 / 256) d 0 (omega (arith, c.element_fits4.fits)) (rw u.rest refl) in
+    let u = shows (n / 256 / 256 / 256 / 256 / 256 / 256 / 256 / 256) w above_w (omega (arith, c.element_fits3.fits))
+    t.rest in
+    let v = shows (n / 256 / 256 / 256 / 256 / 256 / 256 / 256 / 256 / 256 / 256 / 256 / 256) d 0
+    (omega (arith, c.element_fits4.fits)) (rw u.rest refl) in
     rw (c.from.ensures, c.from-2.ensures, c.from-3.ensures, c.from-4.ensures)
-    (λ i. s.first i ∷ s.second i ∷ s.third i ∷ s.fourth i ∷ t.first i ∷ t.second i ∷ t.third i ∷ t.fourth i ∷ u.first i ∷ u.second i ∷ u.third i ∷ u.fourth i ∷ v.first i ∷ v.second i ∷ v.third i ∷ v.fourth i ∷ [])
+    (λ i. s.first i ∷ s.second i ∷ s.third i ∷ s.fourth i ∷ t.first i ∷ t.second i ∷ t.third i ∷ t.fourth i ∷ u.first i
+    ∷ u.second i ∷ u.third i ∷ u.fourth i ∷ v.first i ∷ v.second i ∷ v.third i ∷ v.fourth i ∷ [])

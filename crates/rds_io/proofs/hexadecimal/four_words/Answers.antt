@@ -10,16 +10,28 @@ pub dot4-low : goal.dot4-low
 dot4-low c = search (rules, dot4_Fits)
 
 pub overflow_cast-result : goal.overflow_cast-result
-overflow_cast-result c = record { fits = word_fits c.args.text.now 0 (has_four c.args.text.now c.type_inv.text c.if-not-is_digit-is_letter.false).0 }
+overflow_cast-result c = record {
+  fits = word_fits c.args.text.now 0 (has_four c.args.text.now c.type_inv.text
+      c.if-not-is_digit-is_letter.false).0;
+}
 
 pub overflow_cast-result-2 : goal.overflow_cast-result-2
-overflow_cast-result-2 c = record { fits = word_fits c.args.text.now 5 (has_four c.args.text.now c.type_inv.text c.if-not-is_digit-is_letter.false).1 }
+overflow_cast-result-2 c = record {
+  fits = word_fits c.args.text.now 5 (has_four c.args.text.now c.type_inv.text
+      c.if-not-is_digit-is_letter.false).1;
+}
 
 pub overflow_cast-result-3 : goal.overflow_cast-result-3
-overflow_cast-result-3 c = record { fits = word_fits c.args.text.now 10 (has_four c.args.text.now c.type_inv.text c.if-not-is_digit-is_letter.false).2 }
+overflow_cast-result-3 c = record {
+  fits = word_fits c.args.text.now 10 (has_four c.args.text.now c.type_inv.text
+      c.if-not-is_digit-is_letter.false).2;
+}
 
 pub overflow_cast-result-4 : goal.overflow_cast-result-4
-overflow_cast-result-4 c = record { fits = word_fits c.args.text.now 15 (has_four c.args.text.now c.type_inv.text c.if-not-is_digit-is_letter.false).3 }
+overflow_cast-result-4 c = record {
+  fits = word_fits c.args.text.now 15 (has_four c.args.text.now c.type_inv.text
+      c.if-not-is_digit-is_letter.false).3;
+}
 
 pub returns-clause-first : goal.returns-clause-first
 returns-clause-first c = (has_four c.args.text.now c.type_inv.text c.if-not-is_digit-is_letter.false).0

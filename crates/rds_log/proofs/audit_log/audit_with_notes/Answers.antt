@@ -46,7 +46,8 @@ returns-clause-audits g c =
     let l = c.run-ended.new.taker in
     let none = c.passed.ensures.0 c.if-not-passed.false in
     let ended = c.in_ok-ended.ensures.runs a c.new-auditor.ensures.audited in
-    says_yes a l _ (traffic g.W.Write.contents g.W.TellingWrite.failures c.args.writer.now c.run-ended.new.writer) _ none
+    says_yes a l _ (traffic g.W.Write.contents g.W.TellingWrite.failures c.args.writer.now c.run-ended.new.writer) _
+    none
     ended (c.in_ok-write_yes.ensures c.args.writer.now (before_yes a l _ _ none ended))
 
 pub returns-clause-means : goal.returns-clause-means

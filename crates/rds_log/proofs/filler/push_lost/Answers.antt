@@ -13,8 +13,10 @@ returns-in_err-push_pairs g c start total has =
     let w = traffic g.W.Write.contents g.W.TellingWrite.failures start c.push_pairs.new.writer in
     let n = c.args.lost / 2 in
     let split = lost_split (2 * n) c.args.lost (omega arith) in
-    let all : (total ++ lost_lines (2 * n)) ++ split.0 ≡ total ++ lost_lines c.args.lost = append_assoc total (lost_lines (2 * n)) split.0 ∙ ap (λ (l : List ℕ). total ++ l) (sym split.1) in
-    rw p.1 (subst (IsLost w) all (lost_longer w (total ++ lost_lines (2 * n)) split.0 (c.in_err-push_pairs.ensures start total has)))
+    let all : (total ++ lost_lines (2 * n)) ++ split.0 ≡ total ++ lost_lines c.args.lost = append_assoc total
+    (lost_lines (2 * n)) split.0 ∙ ap (λ (l : List ℕ). total ++ l) (sym split.1) in
+    rw p.1 (subst (IsLost w) all (lost_longer w (total ++ lost_lines (2 * n)) split.0 (c.in_err-push_pairs.ensures start
+    total has)))
 
 pub returns : goal.returns
 returns g c start total has =

@@ -9,5 +9,6 @@ abbrev pub invariant-loop-put : goal.invariant-loop-put
 invariant-loop-put g l = record {
   pushed : (start : W-type g.row.W) (total : List ℕ)
       → Waits (traffic g.W.Write.contents g.W.TellingWrite.failures start l.initial.writer) l.initial.output total
-      → Waits (traffic g.W.Write.contents g.W.TellingWrite.failures start l.writer) l.output (total ++ lost_lines (2 * l._put));
+      → Waits (traffic g.W.Write.contents g.W.TellingWrite.failures start l.writer) l.output
+      (total ++ lost_lines (2 * l._put));
 }

@@ -10,5 +10,6 @@ pub returns-clause-value : goal.returns-clause-value
 returns-clause-value c =
     let long = c.if-start-lt-TIME.false in
     let test : nat_lt (length c.args.start.now) 20 ≡ false = grind (arith, nat_tests) in
-    let whole : take (length c.args.start.now - 20) (drop 20 c.args.start.now) ≡ drop 20 c.args.start.now = take_all (length c.args.start.now - 20) (drop 20 c.args.start.now) (omega (arith, length-drop 20 c.args.start.now)) in
+    let whole : take (length c.args.start.now - 20) (drop 20 c.args.start.now) ≡ drop 20 c.args.start.now = take_all
+    (length c.args.start.now - 20) (drop 20 c.args.start.now) (omega (arith, length-drop 20 c.args.start.now)) in
     rw test (c.ended_within.ensures.value ∙ ap ended_within (c.stamp_after.ensures.value ∙ ap stamp_in whole))

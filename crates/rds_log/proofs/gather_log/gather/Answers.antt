@@ -4,7 +4,9 @@ use Rattle.rds_log.proofs.gather_log.gather.Goals as goal
 
 pub loop-notes-init : goal.loop-notes-init
 loop-notes-init g c =
-    record { stands = ([], c.new-source.ensures.stands _, keeps_none c.new-slots.result.items c.new-slots.ensures.items) }
+    record {
+      stands = ([], c.new-source.ensures.stands _, keeps_none c.new-slots.result.items c.new-slots.ensures.items);
+    }
 
 pub loop-notes-preserved : goal.loop-notes-preserved
 loop-notes-preserved g c =
@@ -15,7 +17,8 @@ loop-notes-preserved g c =
       stands = (
         line ∷ lines,
         further,
-        keeps_said lines line _ c.in-Slot.group c.loop-notes.slots.items c.push.new.self.items said c.in-Slot.is had more,
+        keeps_said lines line _ c.in-Slot.group c.loop-notes.slots.items c.push.new.self.items said c.in-Slot.is had
+            more,
       );
     }
 

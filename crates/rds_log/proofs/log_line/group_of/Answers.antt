@@ -4,7 +4,8 @@ use Rattle.rds_log.specs.declared.log_line.Block.TheVariants.{Word}
 use Rattle.rds_log.proofs.log_line.group_of.Goals as goal
 
 -- a list of four is its four
-four_of : (ws : List ℕ) → length ws ≡ 4 → ws ≡ slice_index ws 0 ∷ slice_index ws 1 ∷ slice_index ws 2 ∷ slice_index ws 3 ∷ []
+four_of : (ws : List ℕ) → length ws ≡ 4 → ws ≡ slice_index ws 0 ∷ slice_index ws 1 ∷ slice_index ws 2 ∷ slice_index ws 3
+    ∷ []
 four_of [] e = absurd (omega arith)
 four_of (a ∷ []) e = absurd (omega arith)
 four_of (a ∷ b ∷ []) e = absurd (omega arith)
@@ -25,6 +26,11 @@ returns c =
         second = c.in_ok-words.ensures.second;
         third = c.in_ok-words.ensures.third;
         fourth = c.in_ok-words.ensures.fourth;
-        carried = (c.new.result, subst (λ (xs : List ℕ). AreWordsOf xs c.new.result) (four_of ws c.in_ok-words.ensures.four) c.new.ensures.words, refl);
+        carried = (
+          c.new.result,
+          subst (λ (xs : List ℕ). AreWordsOf xs c.new.result)
+              (four_of ws c.in_ok-words.ensures.four) c.new.ensures.words,
+          refl,
+        );
       },
     )

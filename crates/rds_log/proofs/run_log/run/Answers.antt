@@ -3,7 +3,8 @@ use Rattle.std.proofs.lemmas.Result.{err_from_is_err_and}
 use Rattle.rds_io.specs.Told.{traffic}
 use Rattle.rds_io.proofs.Waiting.{nothing_waits}
 use Rattle.rds_log.specs.Inside.Source.{state_of}
-use Rattle.rds_log.proofs.Runs.{ends_at_fault, ends_by_fault, ends_by_write, runs_all, runs_up_to, wrote_lines, wrote_part}
+use Rattle.rds_log.proofs.Runs.{ends_at_fault, ends_by_fault, ends_by_write, runs_all, runs_up_to, wrote_lines}
+use Rattle.rds_log.proofs.Runs.{wrote_part}
 use Rattle.rds_log.proofs.run_log.run.Goals as goal
 
 pub loop-taker-init : goal.loop-taker-init
@@ -47,7 +48,8 @@ returns-in-Ok-false-clause-runs g c how starts =
       runs_all (g.T.TakesLines.took how c.loop-taker.taker) c.next.new.self c.args.reads
           (state_of g.R.Read.remaining g.R.TellingRead.failures g.R.TellingRead.reads c.args.reader.now)
           (state_of g.R.Read.remaining g.R.TellingRead.failures g.R.TellingRead.reads c.next.new.reader)
-          (traffic g.W.Write.contents g.W.TellingWrite.failures c.args.writer.now c.loop-taker.writer) c.loop-taker.output
+          (traffic g.W.Write.contents g.W.TellingWrite.failures c.args.writer.now c.loop-taker.writer)
+          c.loop-taker.output
           lines (rw c.in-Ok-false.field-0-test at (c.in-Ok-false.ensures.gives _ _ lines stands)) (taken how starts)
           (c.loop-taker.invariant.empty none),
       c.loop-taker.invariant.wants,
@@ -59,7 +61,8 @@ returns-in_err-write-in-Err-clause-runs g c how starts =
     let has = taken how starts in
     let waits : c.loop-taker.output ≢ [] = λ e. (let fine = c.in_err-write-in-Err.ensures.nothing e in cc) in
     let some : c.loop-taker.source.line ≢ None = λ e. waits (c.loop-taker.invariant.empty e) in
-    let p = err_from_is_err_and c.from_residual-in_err-write-in-Err.result c.from_residual-in_err-write-in-Err.ensures.1 in
+    let p = err_from_is_err_and c.from_residual-in_err-write-in-Err.result c.from_residual-in_err-write-in-Err.ensures.1
+    in
     rw (p.1, p.2) (ends_at_fault (g.T.TakesLines.gives how) (g.T.TakesLines.begins how) c.loop-taker.source.line
     c.args.reads
     (state_of g.R.Read.remaining g.R.TellingRead.failures g.R.TellingRead.reads c.args.reader.now)
@@ -96,7 +99,8 @@ returns-in_err-write-clause-runs g c how starts =
     (state_of g.R.Read.remaining g.R.TellingRead.failures g.R.TellingRead.reads c.next.new.reader)
     (traffic g.W.Write.contents g.W.TellingWrite.failures c.args.writer.now c.write-then-not-wants.new.writer)
     (line ∷ lines) further
-    (wrote_part (g.T.TakesLines.begins how) (g.T.TakesLines.took how c.line.new.self) (line ∷ lines) _ _ c.line.new.output
+    (wrote_part (g.T.TakesLines.begins how) (g.T.TakesLines.took how c.line.new.self) (line ∷ lines) _ _
+    c.line.new.output
     has.total (g.met.T.TakesLines.begun how c.line.new.self (line ∷ lines)) has.took has.waits waits
     (c.in_err-write.ensures.waits _ has.total has.waits)))
 
@@ -128,7 +132,8 @@ returns-in_err-write-2-clause-runs g c how starts =
     (state_of g.R.Read.remaining g.R.TellingRead.failures g.R.TellingRead.reads c.next.new.reader)
     (traffic g.W.Write.contents g.W.TellingWrite.failures c.args.writer.now c.write-then-not-has_line.new.writer)
     (line ∷ lines) further
-    (wrote_part (g.T.TakesLines.begins how) (g.T.TakesLines.took how c.line.new.self) (line ∷ lines) _ _ c.line.new.output
+    (wrote_part (g.T.TakesLines.begins how) (g.T.TakesLines.took how c.line.new.self) (line ∷ lines) _ _
+    c.line.new.output
     has.total (g.met.T.TakesLines.begun how c.line.new.self (line ∷ lines)) has.took has.waits waits
     (c.in_err-write-2.ensures.waits _ has.total has.waits)))
 

@@ -9,6 +9,7 @@ returns g c = runs_by _ _ _ _ c.run_with_notes.result
       r = traffic g.R.Read.remaining g.R.TellingRead.failures c.args.reader c.run_with_notes.new.reader;
       starts = record { bytes_are = refl; failures_are = refl };
       fails = λ failed. ∣ (c.args.reader, c.run_with_notes.new.reader, failed) ∣₁;
-      ran = task_by (λ failed. failed) (λ rests. (rests.bytes_are, rests.failures_are)) task lose t _ _ c.run_with_notes.result ran;
+      ran = task_by (λ failed. failed) (λ rests. (rests.bytes_are, rests.failures_are)) task lose t _ _
+          c.run_with_notes.result ran;
     })
     (λ _. tt) c.run_with_notes.ensures

@@ -1,4 +1,5 @@
-use Rattle.rds_safety.proofs.LooserClocks.{one_slot_ahead, one_slot_more_between, one_slot_more_since, own_bounds_are_own}
+use Rattle.rds_safety.proofs.LooserClocks.{one_slot_ahead, one_slot_more_between, one_slot_more_since}
+use Rattle.rds_safety.proofs.LooserClocks.{own_bounds_are_own}
 use Rattle.rds_safety.proofs.laws.each_bound_is_needed.Goals as goal
 
 pub returns-clause-bounds : goal.returns-clause-bounds

@@ -2,7 +2,8 @@ use Rattle.rds_safety.proofs.Safety.{are_safe, are_safe_by_own_clocks, are_safe_
 use Rattle.rds_safety.proofs.laws.safe_by_plans.Goals as goal
 
 pub returns-clause-near : goal.returns-clause-near
-returns-clause-near c d m now plans log receivers lawful all = are_safe c.plan_laws.ensures d m now plans log lawful receivers all
+returns-clause-near c d m now plans log receivers lawful all = are_safe c.plan_laws.ensures d m now plans log lawful
+    receivers all
 
 pub returns-clause-own_clocks : goal.returns-clause-own_clocks
 returns-clause-own_clocks c = are_safe_by_own_clocks c.plan_laws.ensures

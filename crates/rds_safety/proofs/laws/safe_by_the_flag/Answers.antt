@@ -1,4 +1,5 @@
-use Rattle.rds_safety.proofs.FlagSafety.{held_by_flag, names_by_flag, names_new, names_with_a_dwell, near_sources, tags_of_text, texts_by_flag, texts_new, texts_with_a_dwell}
+use Rattle.rds_safety.proofs.FlagSafety.{held_by_flag, names_by_flag, names_new, names_with_a_dwell, near_sources}
+use Rattle.rds_safety.proofs.FlagSafety.{tags_of_text, texts_by_flag, texts_new, texts_with_a_dwell}
 use Rattle.rds_safety.proofs.laws.safe_by_the_flag.Goals as goal
 
 pub returns-clause-texts : goal.returns-clause-texts

@@ -11,5 +11,8 @@ returns-in-Some c config [] st = tt
 returns-in-Some c config (e ∷ before) st = λ views were are is.
     let n = length (map view_kept c.args.shown.now) in
     let had = subst (λ (o : Option Compared). IsCompared config n before views o) c.in-Some.is is in
-    let goes = c.push.ensures.goes_on config (e ∷ before) st views were are had.1 in
-    ((had.0, goes.0), goes.1 ∙ ap (λ (k : ReceiverKind). c.args.lines.now ++ if_alone k (air_lines config c.args.slot n e before views (map view_kept c.args.shown.now))) (sym had.0))
+    let goes = c.push.ensures.goes_on config (e ∷ before) st views were are had.1 in (
+      (had.0, goes.0),
+      goes.1 ∙ ap (λ (k : ReceiverKind). c.args.lines.now
+          ++ if_alone k (air_lines config c.args.slot n e before views (map view_kept c.args.shown.now))) (sym had.0),
+    )

@@ -1,4 +1,5 @@
-use Rattle.std.proofs.Common.{◌≡◌, ◌≢◌, ◌<◌, ◌∙◌, ◌++◌, ℕ, List, Option, Some, ap, ap₂, arith, inl, inr, length, map, refl, set, sym, subst}
+use Rattle.std.proofs.Common.{◌≡◌, ◌≢◌, ◌<◌, ◌∙◌, ◌++◌, ℕ, List, Option, Some, ap, ap₂, arith, inl, inr, length, map}
+use Rattle.std.proofs.Common.{refl, set, sym, subst}
 use Rattle.std.proofs.lemmas.Grind.{common_steps, get_or-set_at}
 use Rattle.std.proofs.lemmas.List.{get_or-map, get_or-set_other, get_or_default}
 use Rattle.rds_receiver.specs.Borrowed.{view_of}
@@ -33,34 +34,47 @@ loop-i-preserved c =
     let old = c.loop-i.kept in
     let new = set old i now in
     let within : i < length old = omega (arith, c.if-i-kept.false) in
-    let other : (j : ℕ) → j ≢ i → airings_at new j ≡ airings_at old j = λ j ne. get_or-set_other old i j now all_on_air ne in
+    let other : (j : ℕ) → j ≢ i → airings_at new j ≡ airings_at old j = λ j ne. get_or-set_other old i j now all_on_air
+    ne in
     let here : airings_at new i ≡ now = get_or-set_at old i i now all_on_air refl within in
-    let view = c.view.ensures ∙ ap view_kept c.index-shown-i.is ∙ sym (get_or-map view_kept c.args.shown.now i c.index-shown-i.result nothing_shown (omega (arith, c.loop-i-test.true))) in
+    let view = c.view.ensures ∙ ap view_kept c.index-shown-i.is
+    ∙ sym (get_or-map view_kept c.args.shown.now i c.index-shown-i.result nothing_shown
+    (omega (arith, c.loop-i-test.true))) in
     let was : airings_at old i ≡ airings_at c.args.kept.now i = c.loop-i.invariant.later i (omega arith) in
-    let kept_before : (config : Config) (events : List Event) → WorldAt config c.args.world.now events → WereKept config (length c.args.shown.now) events c.args.kept.now (map view_kept c.args.shown.now)
+    let kept_before : (config : Config) (events : List Event) → WorldAt config c.args.world.now events
+    → WereKept config (length c.args.shown.now) events c.args.kept.now (map view_kept c.args.shown.now)
     → WereBefore config events (view_of c.view.result) c.if-stays.before =
     λ config events st were. elim c.if-stays.branch [
       | then-stays w ↦ (
           let at = get_or_default old i _ all_on_air within ∙ was in
-          subst (λ (o : Option Airings). WereBefore config events (view_of c.view.result) o) (sym (w.before-is ∙ ap Some at))
+          subst (λ (o : Option Airings). WereBefore config events (view_of c.view.result) o)
+          (sym (w.before-is ∙ ap Some at))
           (subst (λ (v : ShownView). WereBefore config events v (Some (airings_at c.args.kept.now i))) (sym view)
-          (still_before config (length c.args.shown.now) i events (map view_kept c.args.shown.now) c.args.kept.now (c.stays.ensures w.if-stays.true config events st) were (omega (arith, c.loop-i-test.true))))
+          (still_before config (length c.args.shown.now) i events (map view_kept c.args.shown.now) c.args.kept.now
+          (c.stays.ensures w.if-stays.true config events st) were (omega (arith, c.loop-i-test.true))))
           )
-      | else-stays w ↦ subst (λ (o : Option Airings). WereBefore config events (view_of c.view.result) o) (sym w.before-is) (none_before config events (view_of c.view.result))
+      | else-stays w ↦ subst (λ (o : Option Airings). WereBefore config events (view_of c.view.result) o)
+          (sym w.before-is) (none_before config events (view_of c.view.result))
     ] in
-    let shown : (config : Config) (events : List Event) → WorldAt config c.args.world.now events → AirsStand config events c.args.airs.now
-    → WereKept config (length c.args.shown.now) events c.args.kept.now (map view_kept c.args.shown.now) → now ≡ airings config events (view_at (map view_kept c.args.shown.now) i) =
-    λ config events st stand were. c.airings_of-now.ensures config events stand (kept_before config events st were) ∙ ap (λ (v : ShownView). airings config events v) view in
+    let shown : (config : Config) (events : List Event) → WorldAt config c.args.world.now events
+    → AirsStand config events c.args.airs.now
+    → WereKept config (length c.args.shown.now) events c.args.kept.now (map view_kept c.args.shown.now)
+    → now ≡ airings config events (view_at (map view_kept c.args.shown.now) i) =
+    λ config events st stand were. c.airings_of-now.ensures config events stand (kept_before config events st were)
+    ∙ ap (λ (v : ShownView). airings config events v) view in
     record {
       count = grind (arith, common_steps);
       room = omega (arith, c.push_changed.ensures.room, c.loop-i.invariant.room);
-      lines = next_airings c.args.slot i c.args.lines.now c.loop-i.lines c.push_changed.new.lines (airings_at c.args.kept.now) (airings_at old) (airings_at new)
+      lines = next_airings c.args.slot i c.args.lines.now c.loop-i.lines c.push_changed.new.lines
+          (airings_at c.args.kept.now) (airings_at old) (airings_at new)
           (λ j l. sym (other j (λ e. omega (arith, e, l)))) c.loop-i.invariant.lines
           (c.push_changed.ensures.lines
-          ∙ ap₂ (λ (p q : Airings). c.loop-i.lines ++ airings_change (receiver_stamp c.args.slot i) p q) (get_or_default old i _ all_on_air within ∙ was) (sym here));
+          ∙ ap₂ (λ (p q : Airings). c.loop-i.lines ++ airings_change (receiver_stamp c.args.slot i) p q)
+          (get_or_default old i _ all_on_air within ∙ was) (sym here));
       each = λ config events st stand were j below. elim (at_last j i below) [
         | inl less ↦ other j (λ e. omega (arith, e, less)) ∙ c.loop-i.invariant.each config events st stand were j less
-        | inr same ↦ subst (λ (n : ℕ). airings_at new n ≡ airings config events (view_at (map view_kept c.args.shown.now) n)) (sym same) (here ∙ shown config events st stand were)
+        | inr same ↦ subst (λ (n : ℕ). airings_at new n ≡ airings config events
+            (view_at (map view_kept c.args.shown.now) n)) (sym same) (here ∙ shown config events st stand were)
       ];
       later = λ j l. other j (λ e. omega (arith, e, l)) ∙ c.loop-i.invariant.later j (omega (arith, l));
     }

@@ -11,6 +11,8 @@ invariant-loop-i l = record {
   count : length l.kept ≡ length l.initial.kept;
   room : length l.lines ≤ length l.initial.lines + l.i * 240;
   lines : l.lines ≡ l.initial.lines ++ airings_changes l.slot l.i (airings_at l.initial.kept) (airings_at l.kept);
-  each : WhereWorldStands l.world (λ config events. AirsStand config events l.airs → WereKept config (length l.shown) events l.initial.kept (map view_kept l.shown) → (i : ℕ) → i < l.i → airings_at l.kept i ≡ airings config events (view_at (map view_kept l.shown) i));
+  each : WhereWorldStands l.world (λ config events. AirsStand config events l.airs
+      → WereKept config (length l.shown) events l.initial.kept (map view_kept l.shown) → (i : ℕ) → i < l.i
+      → airings_at l.kept i ≡ airings config events (view_at (map view_kept l.shown) i));
   later : (i : ℕ) → l.i ≤ i → airings_at l.kept i ≡ airings_at l.initial.kept i;
 }

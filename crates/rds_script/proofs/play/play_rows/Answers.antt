@@ -44,7 +44,8 @@ pub returns-in_err-write-in-Err : goal.returns-in_err-write-in-Err
 returns-in_err-write-in-Err g c how known begun fresh =
     let (records, stands, count, played) = c.loop-turn.invariant.played how known begun fresh in
     let other : Err c.in-Err.fault ≢ Ok true = λ e. (cc) in
-    let p = err_from_is_err_and c.from_residual-in_err-write-in-Err.result c.from_residual-in_err-write-in-Err.ensures.1 in
+    let p = err_from_is_err_and c.from_residual-in_err-write-in-Err.result c.from_residual-in_err-write-in-Err.ensures.1
+    in
     rw (p.1, p.2) (ends_by_write g.R.Read.remaining how c.args.records
     (record { known = known; Failed = SomeReadFailed g.R.TellingRead.failures })
     (traffic g.W.Write.contents g.W.TellingWrite.failures c.args.writer.now c.loop-turn.writer)
@@ -84,7 +85,8 @@ returns-in_err-write g c how known begun fresh =
     rw (p.1, p.2) (ends_by_write g.R.Read.remaining how c.args.records
     (record { known = known; Failed = SomeReadFailed g.R.TellingRead.failures }) w
     (traffic g.W.Write.contents g.W.TellingWrite.failures c.args.writer.now c.write-then-not-has_next.new.writer)
-    c.play_next.new.lines c.play_next.new.script c.play_next.new.player (fields_of c.play_next.new.row ∷ records) further
+    c.play_next.new.lines c.play_next.new.script c.play_next.new.player (fields_of c.play_next.new.row ∷ records)
+    further
     (omega (arith, count, c.loop-turn-test.true)) now
     (c.in_err-write.ensures.waits c.args.writer.now now.total now.waits))
 
@@ -111,8 +113,10 @@ loop-turn-preserved g c = record {
         omega (arith, count),
         elim c.if-not-has_next.branch [
           | then-not-has_next+in_ok-write v ↦
-              rw (v.writer-is, v.lines-is) (waits_now how c.play_next.new.player (fields_of c.play_next.new.row ∷ records)
-              w (traffic g.W.Write.contents g.W.TellingWrite.failures c.args.writer.now v.write-then-not-has_next.new.writer)
+              rw (v.writer-is, v.lines-is) (waits_now how c.play_next.new.player (fields_of c.play_next.new.row
+              ∷ records)
+              w (traffic g.W.Write.contents g.W.TellingWrite.failures c.args.writer.now
+              v.write-then-not-has_next.new.writer)
               c.play_next.new.lines v.write-then-not-has_next.new.self now
               (v.in_ok-write.ensures.waits c.args.writer.now now.total now.waits))
           | else-not-has_next+else-not-has_room v ↦ rw (v.writer-is, v.lines-is) now

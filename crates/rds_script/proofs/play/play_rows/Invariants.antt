@@ -10,7 +10,9 @@ abbrev pub invariant-loop-turn : goal.invariant-loop-turn
 invariant-loop-turn g l = record {
   room : length l.lines + 17592 ≤ 65536;
   slot : l.player.slot ≡ l.turn;
-  played : (how : Playing) (known : Option (List ℕ)) → PlayerStandsAt l.initial.player (nothing_played how) → ScriptStandsAt g.R.Read.remaining known l.initial.script []
+  played : (how : Playing) (known : Option (List ℕ)) → PlayerStandsAt l.initial.player (nothing_played how)
+      → ScriptStandsAt g.R.Read.remaining known l.initial.script []
       → (records : List Record) × ScriptStandsAt g.R.Read.remaining known l.script records × (length records ≡ l.turn)
-      × PlayedSoFar how l.player records (traffic g.W.Write.contents g.W.TellingWrite.failures l.initial.writer l.writer) l.lines;
+      × PlayedSoFar how l.player records (traffic g.W.Write.contents g.W.TellingWrite.failures l.initial.writer
+      l.writer) l.lines;
 }

@@ -13,7 +13,8 @@ pub loop-i-init : goal.loop-i-init
 loop-i-init c = record {
   count = refl;
   room = omega arith;
-  lines = λ config events s. no_changes c.args.slot (whys_at c.args.form config c.args.event.now.receptions events) c.args.lines.now _ _;
+  lines = λ config events s. no_changes c.args.slot (whys_at c.args.form config c.args.event.now.receptions events)
+      c.args.lines.now _ _;
   views = λ config events s were i below. absurd (omega (arith, below));
   later = λ i l. refl;
 }
@@ -24,16 +25,25 @@ loop-i-preserved c =
     record {
       count = grind (arith, common_steps);
       room = omega (arith, c.show.ensures.room, c.loop-i.invariant.room);
-      lines = λ config events s. next_changes c.args.slot c.loop-i.i (whys_at c.args.form config c.args.event.now.receptions events) c.whys_of-whys.result
-          c.args.shown.now c.loop-i.shown c.index-shown-i.result c.show.new.shown c.args.lines.now c.loop-i.lines c.show.new.lines within
+      lines = λ config events s. next_changes c.args.slot c.loop-i.i
+          (whys_at c.args.form config c.args.event.now.receptions events) c.whys_of-whys.result
+          c.args.shown.now c.loop-i.shown c.index-shown-i.result c.show.new.shown c.args.lines.now c.loop-i.lines
+          c.show.new.lines within
           c.loop-i.invariant.later (c.loop-i.invariant.lines config events s) c.show.ensures.changes
-          (c.whys_of-whys.ensures config (input_of (distance config) c.loop-i.i events) (c.in-Some.ensures.heard config events s));
+          (c.whys_of-whys.ensures config (input_of (distance config) c.loop-i.i events) (c.in-Some.ensures.heard config
+          events s));
       views = λ config events s were i below. elim (at_last i c.loop-i.i below) [
-        | inl less ↦ subst (IsViewOfInput config (input_of (distance config) i events)) (sym (other_set c.loop-i.shown c.loop-i.i i c.show.new.shown (λ e. omega (arith, e, less)))) (c.loop-i.invariant.views config events s were i less)
-        | inr same ↦ subst (λ (n : ℕ). IsViewOfInput config (input_of (distance config) n events) (view_at (map view_kept (set c.loop-i.shown c.loop-i.i c.show.new.shown)) n)) (sym same)
-            (subst (IsViewOfInput config (input_of (distance config) c.loop-i.i events)) (sym (at_set c.loop-i.shown c.loop-i.i c.show.new.shown within)) (c.in-Some.ensures.shows config events s (view_kept c.show.new.shown) c.show.ensures.shows))
+        | inl less ↦ subst (IsViewOfInput config (input_of (distance config) i events))
+            (sym (other_set c.loop-i.shown c.loop-i.i i c.show.new.shown (λ e. omega (arith, e, less))))
+            (c.loop-i.invariant.views config events s were i less)
+        | inr same ↦ subst (λ (n : ℕ). IsViewOfInput config (input_of (distance config) n events)
+            (view_at (map view_kept (set c.loop-i.shown c.loop-i.i c.show.new.shown)) n)) (sym same)
+            (subst (IsViewOfInput config (input_of (distance config) c.loop-i.i events))
+            (sym (at_set c.loop-i.shown c.loop-i.i c.show.new.shown within)) (c.in-Some.ensures.shows config events
+            s (view_kept c.show.new.shown) c.show.ensures.shows))
       ];
-      later = λ i l. other_set c.loop-i.shown c.loop-i.i i c.show.new.shown (λ e. omega (arith, e, l)) ∙ c.loop-i.invariant.later i (omega (arith, l));
+      later = λ i l. other_set c.loop-i.shown c.loop-i.i i c.show.new.shown (λ e. omega (arith, e, l))
+          ∙ c.loop-i.invariant.later i (omega (arith, l));
     }
 
 pub loop-i-preserved-then-stays : goal.loop-i-preserved-then-stays
@@ -46,20 +56,25 @@ loop-i-preserved-then-stays c =
     record {
       count = c.loop-i.invariant.count;
       room = omega (arith, c.loop-i.invariant.room);
-      lines = λ config events s. stay_changes c.args.slot i (whys_at c.args.form config c.args.event.now.receptions events) initial now c.args.lines.now c.loop-i.lines same (c.loop-i.invariant.lines config events s);
+      lines = λ config events s. stay_changes c.args.slot i (whys_at c.args.form config c.args.event.now.receptions
+          events) initial now c.args.lines.now c.loop-i.lines same (c.loop-i.invariant.lines config events s);
       views = λ config events s were j below. elim (at_last j i below) [
         | inl less ↦ c.loop-i.invariant.views config events s were j less
-        | inr at ↦ subst (λ (n : ℕ). IsViewOfInput config (input_of (distance config) n events) (view_at now n)) (sym at)
-            (still_shown config (length c.args.shown.now) i events initial now (c.stays.ensures c.if-stays.true config events s) were within same)
+        | inr at ↦ subst (λ (n : ℕ). IsViewOfInput config (input_of (distance config) n events) (view_at now n))
+            (sym at)
+            (still_shown config (length c.args.shown.now) i events initial now (c.stays.ensures c.if-stays.true config
+            events s) were within same)
       ];
       later = λ j l. c.loop-i.invariant.later j (omega (arith, l));
     }
 
 pub returns-then-all_stay-clause-lines : goal.returns-then-all_stay-clause-lines
 returns-then-all_stay-clause-lines c same config events s =
-    none_changes c.args.slot (length c.args.shown.now) (whys_at c.args.form config c.args.event.now.receptions events) (map view_kept c.args.shown.now) c.args.lines.now
+    none_changes c.args.slot (length c.args.shown.now) (whys_at c.args.form config c.args.event.now.receptions events)
+    (map view_kept c.args.shown.now) c.args.lines.now
 
 pub returns-then-all_stay-clause-views : goal.returns-then-all_stay-clause-views
 returns-then-all_stay-clause-views c same config events s were i below =
     let views = map view_kept c.args.shown.now in
-    still_shown config (length c.args.shown.now) i events views views (c.all_stay.ensures c.if-all_stay.true config events s i (omega (arith, same, below))) were below refl
+    still_shown config (length c.args.shown.now) i events views views (c.all_stay.ensures c.if-all_stay.true config
+    events s i (omega (arith, same, below))) were below refl

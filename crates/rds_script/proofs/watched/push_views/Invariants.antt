@@ -11,7 +11,10 @@ abbrev pub invariant-loop-i : goal.invariant-loop-i
 invariant-loop-i l = record {
   count : length l.shown ≡ length l.initial.shown;
   room : length l.lines ≤ length l.initial.lines + l.i * 1720;
-  lines : WhereWorldStands l.world (λ config events. l.lines ≡ l.initial.lines ++ receiver_changes l.slot l.i (whys_at l.form config l.event.receptions events) (map view_kept l.initial.shown) (map view_kept l.shown));
-  views : WhereWorldStands l.world (λ config events. WereShown config (length l.initial.shown) events (map view_kept l.initial.shown) → (i : ℕ) → i < l.i → IsViewOfInput config (input_of (distance config) i events) (view_at (map view_kept l.shown) i));
+  lines : WhereWorldStands l.world (λ config events. l.lines ≡ l.initial.lines ++ receiver_changes l.slot l.i
+      (whys_at l.form config l.event.receptions events) (map view_kept l.initial.shown) (map view_kept l.shown));
+  views : WhereWorldStands l.world (λ config events. WereShown config (length l.initial.shown) events
+      (map view_kept l.initial.shown) → (i : ℕ) → i < l.i
+      → IsViewOfInput config (input_of (distance config) i events) (view_at (map view_kept l.shown) i));
   later : (i : ℕ) → l.i ≤ i → view_at (map view_kept l.shown) i ≡ view_at (map view_kept l.initial.shown) i;
 }

@@ -15,9 +15,11 @@ returns-clause-text g c text =
     let words : map (λ w. w.now) c.as_slice-words.result.now ≡ words_in c.args.words.now = search rules in
     rw (← words) (runs_by _ _ _ _ c.run_with_notes-status.result
     (λ task lose t ran. record {
-      r = traffic (λ given. Some (timed_inner {R = SliceReader} given).rest.now) (λ given. 0) c.new-given.result c.run_with_notes-status.new.reader;
+      r = traffic (λ given. Some (timed_inner {R = SliceReader} given).rest.now) (λ given. 0) c.new-given.result
+          c.run_with_notes-status.new.reader;
       starts = record { bytes_are = search rules; failures_are = refl };
       fails = never_fails;
-      ran = task_by none_failed (λ rests. (rests.bytes_are, rests.failures_are)) task lose t _ _ c.run_with_notes-status.result ran;
+      ran = task_by none_failed (λ rests. (rests.bytes_are, rests.failures_are)) task lose t _ _
+          c.run_with_notes-status.result ran;
     })
     (λ _. tt) c.run_with_notes-status.ensures)

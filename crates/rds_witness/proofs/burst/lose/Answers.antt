@@ -22,8 +22,10 @@ loop-slot-preserved c =
     record {
       near = inr (omega (arith, below));
       lost = λ n more to inside. elim (cases_lt n slot) [
-        | inl less ↦ get_or-set_other log slot n None None (λ same. omega (arith, same, less)) ∙ before.lost n more less inside
-        | inr other ↦ (let same : n ≡ slot = omega (arith, other, to) in rw same (get_or-set_same log slot None None within))
+        | inl less ↦ get_or-set_other log slot n None None (λ same. omega (arith, same, less)) ∙ before.lost n more less
+            inside
+        | inr other ↦ (let same : n ≡ slot = omega (arith, other, to)
+            in rw same (get_or-set_same log slot None None within))
       ];
       kept = λ n outside. get_or-set_other log slot n None None (λ same. elim outside [
         | inl less ↦ omega (arith, less, same, from)

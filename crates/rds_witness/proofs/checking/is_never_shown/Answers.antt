@@ -12,7 +12,8 @@ pub loop-n-init : goal.loop-n-init
 loop-n-init c =
     let t = tuned c.args.pi c.args.dwell in
     record {
-      stands = subst (ReceiverAt t c.new-receiver.result) (sym (got-none [] c.args.log.now)) (c.new-receiver.ensures.stands 0);
+      stands = subst (ReceiverAt t c.new-receiver.result) (sym (got-none [] c.args.log.now))
+          (c.new-receiver.ensures.stands 0);
       never = never_none t c.args.log.now (thing_of c.args.thing);
     }
 
@@ -23,16 +24,21 @@ loop-n-preserved c =
     (c.slot_blocks.ensures.stands _ _ c.loop-n.invariant.stands) in
     record {
       stands = stands;
-      never = never_more t c.args.log.now c.loop-n.n (thing_of c.args.thing) (view_of c.view.result) c.loop-n.invariant.never
-          (c.view.ensures t _ stands) (λ (shown : ViewHas (view_of c.view.result) (thing_of c.args.thing)). let yes : IsTrue c.shows.result = c.shows.ensures.1 shown in cc);
+      never = never_more t c.args.log.now c.loop-n.n (thing_of c.args.thing) (view_of c.view.result)
+          c.loop-n.invariant.never
+          (c.view.ensures t _ stands) (λ (shown : ViewHas (view_of c.view.result) (thing_of c.args.thing)). let
+          yes : IsTrue c.shows.result = c.shows.ensures.1 shown in cc);
     }
 
 pub returns-then-shows : goal.returns-then-shows
 returns-then-shows c =
     let t = tuned c.args.pi c.args.dwell in
     let stands = stands_more t c.slot_blocks.new.self [] c.args.log.now c.loop-n.n c.received.result c.received.ensures
-    (c.slot_blocks.ensures.stands _ _ c.loop-n.invariant.stands) in
-    (λ holds. absurd (cc), λ never. absurd (never c.loop-n.n (view_of c.view.result) c.loop-n-test.true (c.view.ensures t _ stands) (c.shows.ensures.0 c.if-shows.true)))
+    (c.slot_blocks.ensures.stands _ _ c.loop-n.invariant.stands) in (
+      λ holds. absurd (cc),
+      λ never. absurd (never c.loop-n.n (view_of c.view.result) c.loop-n-test.true
+          (c.view.ensures t _ stands) (c.shows.ensures.0 c.if-shows.true)),
+    )
 
 pub returns : goal.returns
 returns c = (λ holds slot view less is shown. c.loop-n.invariant.never slot view (omega arith) is shown, λ never. refl)

@@ -22,5 +22,7 @@ returns c same b held =
     let other = c.args.other.now in
     let here : bit_at one.mask a ≡ 1 = sym (shr_and_one one.mask a) ∙ c.if-not-is_held.false in
     let there : bit_at other.mask a ≡ 1 = sym (shr_and_one other.mask a) ∙ c.if-not-is_there.false in
-    let alike : segment_of one.bytes a ≡ segment_of other.bytes a = sym c.segment_at.ensures.bytes ∙ c.is_same_segment.ensures.0 same ∙ c.segment_at-2.ensures.bytes in
-    get-set other.mask other.bytes a c.requires there ∙ ap Some (sym alike) ∙ sym (get-set one.mask one.bytes a c.requires here) ∙ held
+    let alike : segment_of one.bytes a ≡ segment_of other.bytes a = sym c.segment_at.ensures.bytes
+    ∙ c.is_same_segment.ensures.0 same ∙ c.segment_at-2.ensures.bytes in
+    get-set other.mask other.bytes a c.requires there ∙ ap Some (sym alike)
+    ∙ sym (get-set one.mask one.bytes a c.requires here) ∙ held

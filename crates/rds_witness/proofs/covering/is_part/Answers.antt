@@ -23,7 +23,8 @@ loop-address-preserved c a b less held =
       | inr from ↦ (
           let here : a ≡ c.loop-address.address = omega arith in
           subst (λ (k : ℕ). get (held_cells c.args.other.now.mask c.args.other.now.bytes) k ≡ Some b) (sym here)
-          (c.has_segment.ensures c.if-not-has_segment.false b (subst (λ (k : ℕ). get (held_cells c.args.one.now.mask c.args.one.now.bytes) k ≡ Some b) here held)))
+          (c.has_segment.ensures c.if-not-has_segment.false b
+          (subst (λ (k : ℕ). get (held_cells c.args.one.now.mask c.args.one.now.bytes) k ≡ Some b) here held)))
     ]
 
 pub returns-clause-cells : goal.returns-clause-cells

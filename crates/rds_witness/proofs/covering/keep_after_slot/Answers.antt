@@ -27,8 +27,10 @@ loop-place-preserved c =
     record {
       covers = λ pi m n at kept_at.
           let so_far = c.loop-place.invariant.covers pi m n at kept_at in
-          let its : IsAt (tuned pi m) n one = subst (IsAt (tuned pi m) n) (c.receiver_at.ensures one) (at now one (omega (arith, c.loop-place-test.true))) in
-          let keeps = c.in_ok-keep.ensures.covers pi m (n + 1) so_far.at (at_next pi m n one later c.args.group.now step.stands step.good its) in
+          let its : IsAt (tuned pi m) n one = subst (IsAt (tuned pi m) n) (c.receiver_at.ensures one)
+          (at now one (omega (arith, c.loop-place-test.true))) in
+          let keeps = c.in_ok-keep.ensures.covers pi m (n + 1) so_far.at (at_next pi m n one later c.args.group.now
+          step.stands step.good its) in
           record {
             at = keeps.at;
             stays = λ input covered. keeps.stays input (so_far.stays input covered);
@@ -37,14 +39,20 @@ loop-place-preserved c =
               | inr from ↦ (
                   let here : place ≡ now = omega (arith, less, from) in
                   let covers_here : CoversInput (tuned pi m) input one =
-                  subst (CoversInput (tuned pi m) input) (c.receiver_at.ensures d) (subst (λ (p : ℕ). CoversInput (tuned pi m) input (get_or c.args.receivers.now p d)) here covers) in
-                  keeps.more (c.args.group.now ∷ input) (omega (arith, long)) (covers_next pi m one later c.args.group.now input step.stands step.good covers_here))
+                  subst (CoversInput (tuned pi m) input) (c.receiver_at.ensures d)
+                  (subst (λ (p : ℕ). CoversInput (tuned pi m) input (get_or c.args.receivers.now p d)) here covers)
+                  in
+                  keeps.more (c.args.group.now ∷ input) (omega (arith, long))
+                  (covers_next pi m one later c.args.group.now input step.stands step.good covers_here))
             ];
           };
       checked = λ pi m n k log at only checked.
-          let its : IsAt (tuned pi m) n one = subst (IsAt (tuned pi m) n) (c.receiver_at.ensures one) (at now one (omega (arith, c.loop-place-test.true))) in
-          let only_here = subst (λ (s : Lossy). ShowsOnlySeen (tuned pi m) log k (receiver_stored s.receiver)) (c.receiver_at.ensures one) (only now one (omega (arith, c.loop-place-test.true))) in
-          c.in_ok-keep.ensures.checked (tuned pi m) log k (c.loop-place.invariant.checked pi m n k log at only checked) (step.same its.stored (tuned pi m) log k its.input its.stands only_here);
+          let its : IsAt (tuned pi m) n one = subst (IsAt (tuned pi m) n) (c.receiver_at.ensures one)
+          (at now one (omega (arith, c.loop-place-test.true))) in
+          let only_here = subst (λ (s : Lossy). ShowsOnlySeen (tuned pi m) log k (receiver_stored s.receiver))
+          (c.receiver_at.ensures one) (only now one (omega (arith, c.loop-place-test.true))) in
+          c.in_ok-keep.ensures.checked (tuned pi m) log k (c.loop-place.invariant.checked pi m n k log at only checked)
+          (step.same its.stored (tuned pi m) log k its.input its.stands only_here);
     }
 
 pub returns-clause-covers : goal.returns-clause-covers
@@ -55,5 +63,6 @@ returns-clause-covers c pi m n at kept_at =
       stays = all.stays;
       more = λ input long covered.
           let there = covered.is_there in
-          all.more there.0 covered.by input (omega (arith, there.1, c.loop-place-test.false)) long (subst (CoversInput (tuned pi m) input) (sym there.2) covered.covers);
+          all.more there.0 covered.by input (omega (arith, there.1, c.loop-place-test.false)) long
+          (subst (CoversInput (tuned pi m) input) (sym there.2) covered.covers);
     }

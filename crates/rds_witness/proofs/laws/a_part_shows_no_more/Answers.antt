@@ -12,8 +12,10 @@ returns-clause-tags_stay c = tag_part_heard
 
 pub returns-clause-texts : goal.returns-clause-texts
 returns-clause-texts c m one other x part shown =
-    whole_text (cells_of (run_at text_fragment m 0 one)) (cells_of (run_at text_fragment m 0 other)) x (part_cells _ _ part) shown
+    whole_text (cells_of (run_at text_fragment m 0 one)) (cells_of (run_at text_fragment m 0 other)) x
+    (part_cells _ _ part) shown
 
 pub returns-clause-names : goal.returns-clause-names
 returns-clause-names c m one other x part shown =
-    whole_name (cells_of (run_at name_fragment m 0 one)) (cells_of (run_at name_fragment m 0 other)) x (part_cells _ _ part) shown
+    whole_name (cells_of (run_at name_fragment m 0 one)) (cells_of (run_at name_fragment m 0 other)) x
+    (part_cells _ _ part) shown

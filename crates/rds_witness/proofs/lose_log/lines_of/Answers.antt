@@ -11,9 +11,11 @@ loop-slot-init c =
     let losing = c.args.losing.now in
     let t = tuned losing.pi losing.dwell in
     let log = c.args.log.now in
-    let begins : ReceiverAt t c.new.result (got losing.lost.now log 0) = subst (ReceiverAt t c.new.result) (sym (got-none losing.lost.now log)) (c.new.ensures.stands 0) in
+    let begins : ReceiverAt t c.new.result (got losing.lost.now log 0) = subst (ReceiverAt t c.new.result)
+    (sym (got-none losing.lost.now log)) (c.new.ensures.stands 0) in
     record {
-      stands = subst (λ (r : ReceiverState). ReceiverAt t r (got losing.lost.now log 0)) (sym c.store-receiver.ensures.same) begins;
+      stands = subst (λ (r : ReceiverState). ReceiverAt t r (got losing.lost.now log 0))
+          (sym c.store-receiver.ensures.same) begins;
       stored = c.store-receiver.ensures.good;
       lines = adds_first t losing.ahead log losing.lost.now _ c.new-lines.ensures.items;
     }

@@ -7,7 +7,8 @@ use Rattle.rds_witness.proofs.lose_log.lines_of.Given as goal
 
 abbrev pub invariant-loop-slot : goal.invariant-loop-slot
 invariant-loop-slot l = record {
-  stands : ReceiverAt (tuned l.losing.pi l.losing.dwell) (receiver_stored l.receiver) (got l.losing.lost.now l.log l.slot);
+  stands : ReceiverAt (tuned l.losing.pi l.losing.dwell) (receiver_stored l.receiver)
+      (got l.losing.lost.now l.log l.slot);
   stored : IsStoredReceiver l.receiver;
   lines : AreLossLines (tuned l.losing.pi l.losing.dwell) l.losing.ahead l.log l.losing.lost.now l.slot l.lines.items;
 }

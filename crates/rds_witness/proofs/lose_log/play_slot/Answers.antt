@@ -16,25 +16,29 @@ use Rattle.rds_witness.proofs.lose_log.play_slot.Goals as goal
 pub returns-then-not-changed-clause-stands : goal.returns-then-not-changed-clause-stands
 returns-then-not-changed-clause-stands c =
     let candidate = c.args.candidate.now in
-    stands_more (tuned candidate.pi candidate.dwell) (receiver_stored c.slot-changed.new.self) candidate.lost.now candidate.log.now candidate.slot c.args.group c.requires.got
+    stands_more (tuned candidate.pi candidate.dwell) (receiver_stored c.slot-changed.new.self) candidate.lost.now
+    candidate.log.now candidate.slot c.args.group c.requires.got
     (c.slot-changed.ensures.stands c.requires.stored _ _ c.requires.stands)
 
 pub returns-then-knows_all-clause-stands : goal.returns-then-knows_all-clause-stands
 returns-then-knows_all-clause-stands c =
     let candidate = c.args.candidate.now in
-    stands_more (tuned candidate.pi candidate.dwell) (receiver_stored c.slot-changed.new.self) candidate.lost.now candidate.log.now candidate.slot c.args.group c.requires.got
+    stands_more (tuned candidate.pi candidate.dwell) (receiver_stored c.slot-changed.new.self) candidate.lost.now
+    candidate.log.now candidate.slot c.args.group c.requires.got
     (c.slot-changed.ensures.stands c.requires.stored _ _ c.requires.stands)
 
 pub returns-in_err-extend_from_slice-clause-stands : goal.returns-in_err-extend_from_slice-clause-stands
 returns-in_err-extend_from_slice-clause-stands c =
     let candidate = c.args.candidate.now in
-    stands_more (tuned candidate.pi candidate.dwell) (receiver_stored c.slot-changed.new.self) candidate.lost.now candidate.log.now candidate.slot c.args.group c.requires.got
+    stands_more (tuned candidate.pi candidate.dwell) (receiver_stored c.slot-changed.new.self) candidate.lost.now
+    candidate.log.now candidate.slot c.args.group c.requires.got
     (c.slot-changed.ensures.stands c.requires.stored _ _ c.requires.stands)
 
 pub returns-clause-stands : goal.returns-clause-stands
 returns-clause-stands c =
     let candidate = c.args.candidate.now in
-    stands_more (tuned candidate.pi candidate.dwell) (receiver_stored c.slot-changed.new.self) candidate.lost.now candidate.log.now candidate.slot c.args.group c.requires.got
+    stands_more (tuned candidate.pi candidate.dwell) (receiver_stored c.slot-changed.new.self) candidate.lost.now
+    candidate.log.now candidate.slot c.args.group c.requires.got
     (c.slot-changed.ensures.stands c.requires.stored _ _ c.requires.stands)
 
 pub returns-then-not-changed-clause-lines : goal.returns-then-not-changed-clause-lines
@@ -44,10 +48,13 @@ returns-then-not-changed-clause-lines c =
     let log = candidate.log.now in
     let lost = candidate.lost.now in
     let n = candidate.slot in
-    let next : got lost log (n + 1) ≡ c.args.group ∷ got lost log n = got-more lost log n ∙ ap (λ (g : Option Group). g ∷ got lost log n) (sym c.requires.got) in
+    let next : got lost log (n + 1) ≡ c.args.group ∷ got lost log n = got-more lost log n
+    ∙ ap (λ (g : Option Group). g ∷ got lost log n) (sym c.requires.got) in
     adds_slot t candidate.ahead log lost n c.args.lines.now.items [] c.args.lines.now.items
     (no_mixes t candidate.ahead log lost [] n
-    (stays_none t candidate.ahead log lost n (λ view is. subst (λ (l : List (Option Group)). IsView t l view) (sym next) (c.slot-changed.ensures.same c.requires.stored c.if-not-changed.true view t (got lost log n) c.requires.stands is))))
+    (stays_none t candidate.ahead log lost n (λ view is. subst (λ (l : List (Option Group)). IsView t l view) (sym next)
+    (c.slot-changed.ensures.same c.requires.stored c.if-not-changed.true view t (got lost log n) c.requires.stands
+    is))))
     (sym (append-nil c.args.lines.now.items))
 
 pub returns-then-knows_all-clause-lines : goal.returns-then-knows_all-clause-lines
@@ -62,16 +69,19 @@ returns-then-knows_all-clause-lines c =
     (c.slot-changed.ensures.stands c.requires.stored _ _ c.requires.stands) in
     adds_slot t candidate.ahead log lost n c.args.lines.now.items [] c.args.lines.now.items
     (no_mixes t candidate.ahead log lost [] n
-    (known_none t candidate.ahead log lost n before (view_of c.view-after.result) (c.view-before.ensures c.requires.stored t _ c.requires.stands)
+    (known_none t candidate.ahead log lost n before (view_of c.view-after.result)
+    (c.view-before.ensures c.requires.stored t _ c.requires.stands)
     (c.view-after.ensures (c.slot-changed.ensures.good c.requires.stored) t _ stands)
-    (λ thing has. subst (λ (k : ℕ). IsKnown t log k before thing) c.slots_until-until.ensures.value (c.knows_all.ensures c.if-knows_all.true t log c.requires.seen thing has))))
+    (λ thing has. subst (λ (k : ℕ). IsKnown t log k before thing) c.slots_until-until.ensures.value
+    (c.knows_all.ensures c.if-knows_all.true t log c.requires.seen thing has))))
     (sym (append-nil c.args.lines.now.items))
 
 pub push_mixes_of-requires-clause-around : goal.push_mixes_of-requires-clause-around
 push_mixes_of-requires-clause-around c =
     let candidate = c.args.candidate.now in
     let t = tuned candidate.pi candidate.dwell in
-    let stands = stands_more t (receiver_stored c.slot-changed.new.self) candidate.lost.now candidate.log.now candidate.slot c.args.group c.requires.got
+    let stands = stands_more t (receiver_stored c.slot-changed.new.self) candidate.lost.now candidate.log.now
+    candidate.slot c.args.group c.requires.got
     (c.slot-changed.ensures.stands c.requires.stored _ _ c.requires.stands) in
     record {
       inside = c.requires.inside;
@@ -84,6 +94,8 @@ returns-clause-lines c =
     let candidate = c.args.candidate.now in
     let t = tuned candidate.pi candidate.dwell in
     let here = c.push_mixes_of.new.lines in
-    adds_slot t candidate.ahead candidate.log.now candidate.lost.now candidate.slot c.args.lines.now.items here c.extend_from_slice.new.self.items
-    (subst (λ (words : List ℕ). AreMixLines t candidate.ahead candidate.log.now candidate.lost.now words candidate.slot here) c.requires.words c.push_mixes_of.ensures)
+    adds_slot t candidate.ahead candidate.log.now candidate.lost.now candidate.slot c.args.lines.now.items here
+    c.extend_from_slice.new.self.items
+    (subst (λ (words : List ℕ). AreMixLines t candidate.ahead candidate.log.now candidate.lost.now words candidate.slot
+    here) c.requires.words c.push_mixes_of.ensures)
     (c.in_ok-extend_from_slice.ensures.items ∙ ap (λ (l : List ℕ). c.args.lines.now.items ++ l) c.bytes.ensures)

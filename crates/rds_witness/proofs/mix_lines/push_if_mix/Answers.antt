@@ -8,7 +8,8 @@ pub returns-then-is_mix-clause-mixes : goal.returns-then-is_mix-clause-mixes
 returns-then-is_mix-clause-mixes c =
     let candidate = c.args.candidate.now in
     let around = c.requires.around in
-    adds_mix (tuned candidate.pi candidate.dwell) candidate.ahead candidate.log.now candidate.lost.now candidate.words.now candidate.slot (view_of c.args.before) (view_of c.args.after) around (thing_of c.args.thing)
+    adds_mix (tuned candidate.pi candidate.dwell) candidate.ahead candidate.log.now candidate.lost.now
+    candidate.words.now candidate.slot (view_of c.args.before) (view_of c.args.after) around (thing_of c.args.thing)
     c.args.lines.now c.push.new.self c.push_shown.new.lines c.push.ensures c.push_shown.ensures.shown c.requires.has
     record {
       inside = around.inside;
@@ -26,5 +27,7 @@ returns-then-is_mix-clause-mixes c =
 pub returns-else-is_mix-clause-mixes : goal.returns-else-is_mix-clause-mixes
 returns-else-is_mix-clause-mixes c =
     let candidate = c.args.candidate.now in
-    adds_no_mix (tuned candidate.pi candidate.dwell) candidate.ahead candidate.log.now candidate.lost.now candidate.words.now candidate.slot (view_of c.args.before) (view_of c.args.after) c.requires.around (thing_of c.args.thing)
+    adds_no_mix (tuned candidate.pi candidate.dwell) candidate.ahead candidate.log.now candidate.lost.now
+    candidate.words.now candidate.slot (view_of c.args.before) (view_of c.args.after) c.requires.around
+    (thing_of c.args.thing)
     c.args.lines.now c.requires.has (c.is_mix.ensures.no c.if-is_mix.false)

@@ -10,5 +10,6 @@ push_if_mix-requires-clause-short c = c.args.after.short.two_bytes (c.in-Some.cl
 pub returns-in_default-clause-mixes : goal.returns-in_default-clause-mixes
 returns-in_default-clause-mixes c =
     let candidate = c.args.candidate.now in
-    adds_nothing (tuned candidate.pi candidate.dwell) candidate.ahead candidate.log.now candidate.lost.now candidate.words.now candidate.slot (view_of c.args.before) (view_of c.args.after) c.requires.around 3
+    adds_nothing (tuned candidate.pi candidate.dwell) candidate.ahead candidate.log.now candidate.lost.now
+    candidate.words.now candidate.slot (view_of c.args.before) (view_of c.args.after) c.requires.around 3
     c.args.lines.now (no_two (view_of c.args.after) (ap borrowed_tag c.in_default.is))

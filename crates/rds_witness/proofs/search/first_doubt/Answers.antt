@@ -14,15 +14,20 @@ loop-place-preserved c t n log at seen checked k d less =
     let place = c.loop-place.place in
     let slots = c.args.slots in
     let one = c.receiver_at-one.result.now in
-    let stored : IsStoredReceiver one.receiver = subst (λ (s : Lossy). IsStoredReceiver s.receiver) (c.receiver_at-one.ensures one) ((at place one (omega (arith, c.loop-place-test.true))).stored) in
-    let here : ShowsOnlySeen t log slots (receiver_stored one.receiver) = c.has_all.ensures c.if-not-has_all.false stored t log seen (subst (IsChecked t log slots) (c.receiver_at-one.ensures one) (checked place one (omega (arith, c.loop-place-test.true)))) in
+    let stored : IsStoredReceiver one.receiver = subst (λ (s : Lossy). IsStoredReceiver s.receiver)
+    (c.receiver_at-one.ensures one) ((at place one (omega (arith, c.loop-place-test.true))).stored) in
+    let here : ShowsOnlySeen t log slots (receiver_stored one.receiver) = c.has_all.ensures c.if-not-has_all.false
+    stored t log seen (subst (IsChecked t log slots) (c.receiver_at-one.ensures one)
+    (checked place one (omega (arith, c.loop-place-test.true)))) in
     elim (cases_lt k place) [
       | inl before ↦ c.loop-place.invariant t n log at seen checked k d before
       | inr from ↦ (
           let same : place ≡ k = omega (arith, less, from) in
           subst (λ (p : ℕ). ShowsOnlySeen t log slots (receiver_stored (get_or receivers p d).receiver)) same
-          (subst (λ (s : Lossy). ShowsOnlySeen t log slots (receiver_stored s.receiver)) (sym (c.receiver_at-one.ensures d)) here))
+          (subst (λ (s : Lossy). ShowsOnlySeen t log slots (receiver_stored s.receiver))
+          (sym (c.receiver_at-one.ensures d)) here))
     ]
 
 pub returns : goal.returns
-returns c none t n log at seen checked k d less = c.loop-place.invariant t n log at seen checked k d (omega (arith, less, c.loop-place-test.false))
+returns c none t n log at seen checked k d less = c.loop-place.invariant t n log
+    at seen checked k d (omega (arith, less, c.loop-place-test.false))

@@ -8,5 +8,7 @@ use Rattle.rds_witness.specs.declared.covering.Lossy.{Lossy}
 use Rattle.rds_witness.proofs.search.first_doubt.Given as goal
 
 abbrev pub invariant-loop-place : goal.invariant-loop-place
-invariant-loop-place l = (t : Tuning) (n : ℕ) (log : List (Option Group)) → All (IsAt t n) l.receivers → AreSeen t log l.all → All (IsChecked t log l.slots) l.receivers
-    → (k : ℕ) (d : Lossy) → k < l.place → ShowsOnlySeen t log l.slots (receiver_stored (get_or l.receivers k d).receiver)
+invariant-loop-place l = (t : Tuning) (n : ℕ) (log : List (Option Group)) → All (IsAt t n) l.receivers
+    → AreSeen t log l.all → All (IsChecked t log l.slots) l.receivers
+    → (k : ℕ) (d : Lossy) → k < l.place
+    → ShowsOnlySeen t log l.slots (receiver_stored (get_or l.receivers k d).receiver)

@@ -9,7 +9,8 @@ loop-place-init c = read-none c.args.text.now ∙ ap Some (sym c.new-reader.ensu
 
 pub loop-place-preserved : goal.loop-place-preserved
 loop-place-preserved c =
-    read_good c.args.text.now c.loop-place.place _ c.byte.new.self c.in_ok-byte.field-0 c.loop-place.invariant c.in_ok-byte.ensures c.if-not-branch.false
+    read_good c.args.text.now c.loop-place.place _ c.byte.new.self c.in_ok-byte.field-0 c.loop-place.invariant
+    c.in_ok-byte.ensures c.if-not-branch.false
 
 pub returns-then-not-branch : goal.returns-then-not-branch
 returns-then-not-branch c =
@@ -17,4 +18,5 @@ returns-then-not-branch c =
     let text = c.args.text.now in
     let test = c.loop-place-test.true in
     sym (ap (λ (o : Option SpanReading). option_map (λ (r : SpanReading). r.spans) (option_and_then span_ended o))
-    (none_on text (n + 1) (length text) (omega (arith, test)) (read_bad text n _ c.byte.new.self c.in_ok-byte.field-0 c.loop-place.invariant c.in_ok-byte.ensures c.if-not-branch.true)))
+    (none_on text (n + 1) (length text) (omega (arith, test)) (read_bad text n _ c.byte.new.self c.in_ok-byte.field-0
+    c.loop-place.invariant c.in_ok-byte.ensures c.if-not-branch.true)))

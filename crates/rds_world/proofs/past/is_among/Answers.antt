@@ -12,8 +12,14 @@ returns-in-Some-Some c =
     let message = c.args.message.now in
     let test : eq-value.it c.in-Some-Some.before message ≡ true = sym c.eq.ensures ∙ c.if-eq.true in
     let at : slice_get c.args.wrong.now.items c.loop-i.i ≡ Some (Some message) =
-    sym c.get.ensures ∙ ap option_copied c.in-Some-Some.is ∙ ap Some c.in-Some-Some.field-0-is ∙ ap (λ (x : Message). Some (Some x)) (same_by_test c.in-Some-Some.before message test) in (
-      λ yes. (c.loop-i.i, omega (arith, c.loop-i-test.true, c.len-i-end.ensures.len), get_or_from_slice_get c.args.wrong.now.items c.loop-i.i (Some message) (Some message) at),
+    sym c.get.ensures ∙ ap option_copied c.in-Some-Some.is ∙ ap Some c.in-Some-Some.field-0-is
+    ∙ ap (λ (x : Message). Some (Some x)) (same_by_test c.in-Some-Some.before message test) in (
+      λ yes. (
+        c.loop-i.i,
+        omega (arith, c.loop-i-test.true, c.len-i-end.ensures.len),
+        get_or_from_slice_get
+            c.args.wrong.now.items c.loop-i.i (Some message) (Some message) at,
+      ),
       λ among. refl,
     )
 
@@ -23,6 +29,7 @@ returns c = (
   λ among. (
       let items = c.args.wrong.now.items in
       let (k, below, is) = among in
-      absurd (c.loop-i.invariant k (omega (arith, below, c.loop-i-test.false, c.len-i-end.ensures.len)) (slice_get_read items (length items) k (Some c.args.message.now) refl below (sym is)))
+      absurd (c.loop-i.invariant k (omega (arith, below, c.loop-i-test.false, c.len-i-end.ensures.len))
+      (slice_get_read items (length items) k (Some c.args.message.now) refl below (sym is)))
       ),
 )

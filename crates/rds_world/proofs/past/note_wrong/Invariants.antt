@@ -12,6 +12,8 @@ abbrev pub invariant-loop-i : goal.invariant-loop-i
 invariant-loop-i l = record {
   count : length l.pasts ≡ length l.fn.pasts;
   rest : (k : ℕ) → l.i ≤ k → slice_get l.pasts k ≡ slice_get l.fn.pasts k;
-  done : (window : Option ℕ) (before : List Event) → HavePasts window before l.fn.pasts → (k : ℕ) (past : Buffer (Option Message)) → k < l.i → slice_get l.pasts k ≡ Some past
-      → past ≡ buffer (take (slots_back window) (with_wrong (slice_index_or l.event.receptions k Lost) (wrong_of k before))) (slots_back window);
+  done : (window : Option ℕ) (before : List Event) → HavePasts window before l.fn.pasts
+      → (k : ℕ) (past : Buffer (Option Message)) → k < l.i → slice_get l.pasts k ≡ Some past
+      → past ≡ buffer (take (slots_back window) (with_wrong (slice_index_or l.event.receptions k Lost)
+      (wrong_of k before))) (slots_back window);
 }

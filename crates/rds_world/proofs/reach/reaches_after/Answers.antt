@@ -11,19 +11,29 @@ use Rattle.rds_world.proofs.Received.{of_first, other_kept, written}
 use Rattle.rds_world.proofs.reach.reaches_after.Goals as goal
 
 pub loop-i-init : goal.loop-i-init
-loop-i-init c = record { due = λ before have k less. absurd (omega (arith, less)); done = λ before have k reach less e. absurd (omega (arith, less)) }
+loop-i-init c = record {
+  due = λ before have k less. absurd (omega (arith, less));
+  done = λ before have k reach less e.
+      absurd (omega (arith, less));
+}
 
 pub returns-in_default-clause-due : goal.returns-in_default-clause-due
 returns-in_default-clause-due c before have =
     let i = c.loop-i.i in
     let late = c.args.late in
-    let told : c.as_slice-receptions.result.now ≡ c.args.event.now.receptions = c.as_slice-receptions.ensures.value ∙ ap (λ (e : Event). e.receptions) c.event.view_is in
+    let told : c.as_slice-receptions.result.now ≡ c.args.event.now.receptions = c.as_slice-receptions.ensures.value
+    ∙ ap (λ (e : Event). e.receptions) c.event.view_is in
     let many = ap (λ (xs : List Reception). length xs) told in
-    let at : slice_get c.args.reaches.now i ≡ Some c.index-reaches-i.result = slice_get_read c.args.reaches.now (length c.args.reaches.now) i c.index-reaches-i.result refl (omega (arith, c.loop-i-test.true, c.requires.same, many)) c.index-reaches-i.is in
+    let at : slice_get c.args.reaches.now i ≡ Some c.index-reaches-i.result = slice_get_read c.args.reaches.now
+    (length c.args.reaches.now) i c.index-reaches-i.result refl
+    (omega (arith, c.loop-i-test.true, c.requires.same, many)) c.index-reaches-i.is in
     let exact = c.after.ensures.due (length before) (last_named i before) (have.each i c.index-reaches-i.result at) in
     record {
       there = omega (arith, c.loop-i-test.true, many);
-      late = λ due. (let some = rw c.in_default.is at (exact.1 (subst (λ (r : Reception). IsDue late (length before) (last_named i before) r) (sym (same_reception c.args.event.now c.as_slice-receptions.result.now i c.index-receptions-i.result told c.loop-i-test.true c.index-receptions-i.is)) due)) in cc);
+      late = λ due. (let some = rw c.in_default.is
+          at (exact.1 (subst (λ (r : Reception). IsDue late (length before) (last_named i before) r)
+          (sym (same_reception c.args.event.now c.as_slice-receptions.result.now i c.index-receptions-i.result told
+          c.loop-i-test.true c.index-receptions-i.is)) due)) in cc);
       first = c.loop-i.invariant.due before have;
     }
 
@@ -32,36 +42,51 @@ loop-i-preserved c =
     let i = c.loop-i.i in
     let late = c.args.late in
     let new = c.in-Some.reach in
-    let told : c.as_slice-receptions.result.now ≡ c.args.event.now.receptions = c.as_slice-receptions.ensures.value ∙ ap (λ (e : Event). e.receptions) c.event.view_is in
+    let told : c.as_slice-receptions.result.now ≡ c.args.event.now.receptions = c.as_slice-receptions.ensures.value
+    ∙ ap (λ (e : Event). e.receptions) c.event.view_is in
     let many = ap (λ (xs : List Reception). length xs) told in
-    let same = same_reception c.args.event.now c.as_slice-receptions.result.now i c.index-receptions-i.result told c.loop-i-test.true c.index-receptions-i.is in
-    let at : slice_get c.args.reaches.now i ≡ Some c.index-reaches-i.result = slice_get_read c.args.reaches.now (length c.args.reaches.now) i c.index-reaches-i.result refl (omega (arith, c.loop-i-test.true, c.requires.same, many)) c.index-reaches-i.is in
+    let same = same_reception c.args.event.now c.as_slice-receptions.result.now i c.index-receptions-i.result told
+    c.loop-i-test.true c.index-receptions-i.is in
+    let at : slice_get c.args.reaches.now i ≡ Some c.index-reaches-i.result = slice_get_read c.args.reaches.now
+    (length c.args.reaches.now) i c.index-reaches-i.result refl
+    (omega (arith, c.loop-i-test.true, c.requires.same, many)) c.index-reaches-i.is in
     record {
       due = λ before have k less. elim (cases_lt k i) [
         | inl earlier ↦ c.loop-i.invariant.due before have k earlier
         | inr later ↦ (
             let here : k ≡ i = omega (arith, less, later) in
-            let exact = c.after.ensures.due (length before) (last_named i before) (have.each i c.index-reaches-i.result at) in
-            subst (λ n. IsDueTo late c.args.event.now before n) (sym here) (subst (λ (r : Reception). IsDue late (length before) (last_named i before) r) same (exact.0 (rw c.in-Some.is refl)))
+            let exact = c.after.ensures.due (length before) (last_named i before) (have.each i c.index-reaches-i.result
+            at) in
+            subst (λ n. IsDueTo late c.args.event.now before n) (sym here)
+            (subst (λ (r : Reception). IsDue late (length before) (last_named i before) r) same
+            (exact.0 (rw c.in-Some.is refl)))
             )
       ];
       done = λ before have k reach less e. elim (cases_lt k i) [
-        | inl earlier ↦ c.loop-i.invariant.done before have k reach earlier (sym (other_kept c.loop-i.next i k new (omega arith)) ∙ e)
+        | inl earlier ↦ c.loop-i.invariant.done before have k reach earlier
+            (sym (other_kept c.loop-i.next i k new (omega arith)) ∙ e)
         | inr later ↦ (
             let here : k ≡ i = omega arith in
-            let is_new : new ≡ reach = written c.loop-i.next i new reach (subst (λ n. slice_get (slice_set c.loop-i.next i new) n ≡ Some reach) here e) in
+            let is_new : new ≡ reach = written c.loop-i.next i new reach
+            (subst (λ n. slice_get (slice_set c.loop-i.next i new) n ≡ Some reach) here e) in
             let old = have.each i c.index-reaches-i.result at in
-            let next = rw c.in-Some.is at (c.after.ensures.reach (length before) (last_named i before) (named_past i before) old) in
-            let of_event : reach ≡ reach_of late (length before + 1) (named (slice_index_or c.args.event.now.receptions i Lost) (length before) (last_named i before)) =
-            sym is_new ∙ next ∙ ap (λ (r : Reception). reach_of late (length before + 1) (named r (length before) (last_named i before))) same in
-            subst (λ n. reach ≡ reach_of late (length before + 1) (named (slice_index_or c.args.event.now.receptions n Lost) (length before) (last_named n before))) (sym here) of_event
+            let next = rw c.in-Some.is at (c.after.ensures.reach (length before) (last_named i before)
+            (named_past i before) old) in
+            let of_event : reach ≡ reach_of late (length before + 1)
+            (named (slice_index_or c.args.event.now.receptions i Lost) (length before) (last_named i before)) =
+            sym is_new ∙ next ∙ ap (λ (r : Reception). reach_of late (length before + 1)
+            (named r (length before) (last_named i before))) same in
+            subst (λ n. reach ≡ reach_of late (length before + 1)
+            (named (slice_index_or c.args.event.now.receptions n Lost) (length before) (last_named n before)))
+            (sym here) of_event
             )
       ];
     }
 
 pub returns-clause-due : goal.returns-clause-due
 returns-clause-due c before have i =
-    let told : c.as_slice-receptions.result.now ≡ c.args.event.now.receptions = c.as_slice-receptions.ensures.value ∙ ap (λ (e : Event). e.receptions) c.event.view_is in
+    let told : c.as_slice-receptions.result.now ≡ c.args.event.now.receptions = c.as_slice-receptions.ensures.value
+    ∙ ap (λ (e : Event). e.receptions) c.event.view_is in
     let many = ap (λ (xs : List Reception). length xs) told in
     elim (cases_lt i (length c.args.event.now.receptions)) [
       | inl there ↦ c.loop-i.invariant.due before have i (omega (arith, there, many, c.loop-i-test.false))
@@ -70,11 +95,13 @@ returns-clause-due c before have i =
 
 pub returns-clause-reaches : goal.returns-clause-reaches
 returns-clause-reaches c before have =
-    let told : c.as_slice-receptions.result.now ≡ c.args.event.now.receptions = c.as_slice-receptions.ensures.value ∙ ap (λ (e : Event). e.receptions) c.event.view_is in
+    let told : c.as_slice-receptions.result.now ≡ c.args.event.now.receptions = c.as_slice-receptions.ensures.value
+    ∙ ap (λ (e : Event). e.receptions) c.event.view_is in
     let many = ap (λ (xs : List Reception). length xs) told in
     record {
       each = λ i reach e.
           let first = of_first (length c.args.reaches.now) c.loop-i.next i reach e in
-          c.loop-i.invariant.done before have i reach (omega (arith, first.0, many, c.requires.same, c.loop-i-test.false)) first.1
+          c.loop-i.invariant.done before have i reach
+          (omega (arith, first.0, many, c.requires.same, c.loop-i-test.false)) first.1
           ∙ reached_next c.args.late c.args.event.now before (last_named i (c.args.event.now ∷ before));
     }

@@ -1,4 +1,5 @@
-use Rattle.std.proofs.Common.{◌≡◌, ◌∷◌, [], ℕ, zero, suc, Some, false, length, sym, true, ◌∙◌, subst, arith, inl, inr, refl}
+use Rattle.std.proofs.Common.{◌≡◌, ◌∷◌, [], ℕ, zero, suc, Some, false, length, sym, true, ◌∙◌, subst, arith, inl, inr}
+use Rattle.std.proofs.Common.{refl}
 use Rattle.std.specs.Prelude.{slice_get, slice_index_or, slice_set}
 use Rattle.std.proofs.lemmas.Bool.{cases_lt}
 use Rattle.std.proofs.lemmas.List.{get_or-set_same, get_or_default, length-set}
@@ -23,7 +24,8 @@ loop-i-init c = record {
   all = λ every k below. absurd (omega (arith, below));
 }
   where
-    none_of_eight : (k : ℕ) → slice_index_or (false ∷ false ∷ false ∷ false ∷ false ∷ false ∷ false ∷ false ∷ []) k false ≡ false
+    none_of_eight : (k : ℕ) → slice_index_or (false ∷ false ∷ false ∷ false ∷ false ∷ false ∷ false ∷ false ∷ []) k
+        false ≡ false
     none_of_eight zero = refl
     none_of_eight (suc zero) = refl
     none_of_eight (suc (suc zero)) = refl
@@ -42,32 +44,49 @@ loop-i-preserved c =
     let config = c.args.config.now in
     let long : length rs ≡ length c.args.receivers.now = c.loop-i.invariant.count in
     let given : length c.args.receptions.now ≡ length c.args.receivers.now = c.requires.same in
-    let at : slice_get rs i ≡ Some c.index-receivers-i.result = slice_get_read rs (length rs) i c.index-receivers-i.result refl (omega arith) c.index-receivers-i.is in
-    let told : slice_index_or c.args.receptions.now i Lost ≡ c.index-receptions-i.result = get_or_default c.args.receptions.now i Lost c.index-receptions-i.result (omega (arith, long, given)) ∙ sym c.index-receptions-i.is in
+    let at : slice_get rs i ≡ Some c.index-receivers-i.result = slice_get_read rs (length rs) i
+    c.index-receivers-i.result refl (omega arith) c.index-receivers-i.is in
+    let told : slice_index_or c.args.receptions.now i Lost ≡ c.index-receptions-i.result = get_or_default
+    c.args.receptions.now i Lost c.index-receptions-i.result (omega (arith, long, given))
+    ∙ sym c.index-receptions-i.is in
     record {
       count = length-set _ _ _ ∙ c.loop-i.invariant.count;
       rest = λ k h. other_kept rs i k new (omega arith) ∙ c.loop-i.invariant.rest k (omega arith);
       done = λ slot sent inputs last kept due all k r h e. elim (cases_lt k i) [
-        | inl less ↦ c.loop-i.invariant.done slot sent inputs last kept due all k r less (sym (other_kept rs i k new (omega arith)) ∙ e)
+        | inl less ↦ c.loop-i.invariant.done slot sent inputs last kept due all k r less
+            (sym (other_kept rs i k new (omega arith)) ∙ e)
         | inr more ↦ (
             let here : k ≡ i = omega arith in
-            let old : HasHeard config (inputs i) c.index-receivers-i.result = all.each i c.index-receivers-i.result (sym (c.loop-i.invariant.rest i (omega arith)) ∙ at) in
-            let has = c.receive-same.ensures.heard slot sent (inputs i) (last i) kept (subst (λ (x : Reception). IsDue c.args.config.now.premise.late slot (last i) x) told (due i)) (rw (← c.index-receivers-i.is) old) in
+            let old : HasHeard config (inputs i) c.index-receivers-i.result = all.each i c.index-receivers-i.result
+            (sym (c.loop-i.invariant.rest i (omega arith)) ∙ at) in
+            let has = c.receive-same.ensures.heard slot sent (inputs i) (last i) kept
+            (subst (λ (x : Reception). IsDue c.args.config.now.premise.late slot (last i) x) told (due i))
+            (rw (← c.index-receivers-i.is) old) in
             let same : new ≡ r = written rs i new r (subst (λ n. slice_get (slice_set rs i new) n ≡ Some r) here e) in
-            subst (λ n. HasHeard config (received (slice_index_or c.args.receptions.now n Lost) slot sent (inputs n)) r) (sym here)
-            (subst (λ (x : ReceiverState). HasHeard config (received (slice_index_or c.args.receptions.now i Lost) slot sent (inputs i)) x) same
+            subst (λ n. HasHeard config (received (slice_index_or c.args.receptions.now n Lost) slot sent (inputs n)) r)
+            (sym here)
+            (subst (λ (x : ReceiverState). HasHeard config (received (slice_index_or c.args.receptions.now i Lost) slot
+            sent (inputs i)) x) same
             (subst (λ (x : Reception). HasHeard config (received x slot sent (inputs i)) new) (sym told) has))
             )
       ];
-      later = λ k h. other_marked c.loop-i.stays i k c.receive-same.result false (omega (arith, h)) ∙ c.loop-i.invariant.later k (omega (arith, h));
+      later = λ k h. other_marked c.loop-i.stays i k c.receive-same.result false (omega (arith, h))
+          ∙ c.loop-i.invariant.later k (omega (arith, h));
       stays = λ slot sent inputs last kept due all k h is. elim (cases_lt k i) [
-        | inl less ↦ c.loop-i.invariant.stays slot sent inputs last kept due all k less (sym (other_marked c.loop-i.stays i k c.receive-same.result false (omega (arith, less))) ∙ is)
+        | inl less ↦ c.loop-i.invariant.stays slot sent inputs last kept due all k less
+            (sym (other_marked c.loop-i.stays i k c.receive-same.result false (omega (arith, less))) ∙ is)
         | inr more ↦ (
             let here : k ≡ i = omega (arith, h, more) in
-            let old : HasHeard config (inputs i) c.index-receivers-i.result = all.each i c.index-receivers-i.result (sym (c.loop-i.invariant.rest i (omega arith)) ∙ at) in
-            let yes : c.receive-same.result ≡ true = marked c.loop-i.stays i c.receive-same.result (subst (λ n. slice_index_or (slice_set c.loop-i.stays i c.receive-same.result) n false ≡ true) here is) in
-            let stay = c.receive-same.ensures.stays slot sent (inputs i) (last i) kept (subst (λ (x : Reception). IsDue c.args.config.now.premise.late slot (last i) x) told (due i)) (rw (← c.index-receivers-i.is) old) yes in
-            subst (λ n. StaysShown config (inputs n) (received (slice_index_or c.args.receptions.now n Lost) slot sent (inputs n))) (sym here)
+            let old : HasHeard config (inputs i) c.index-receivers-i.result = all.each i c.index-receivers-i.result
+            (sym (c.loop-i.invariant.rest i (omega arith)) ∙ at) in
+            let yes : c.receive-same.result ≡ true = marked c.loop-i.stays i c.receive-same.result
+            (subst (λ n. slice_index_or (slice_set c.loop-i.stays i c.receive-same.result) n false ≡ true) here is)
+            in
+            let stay = c.receive-same.ensures.stays slot sent (inputs i) (last i) kept
+            (subst (λ (x : Reception). IsDue c.args.config.now.premise.late slot (last i) x) told (due i))
+            (rw (← c.index-receivers-i.is) old) yes in
+            subst (λ n. StaysShown config (inputs n) (received (slice_index_or c.args.receptions.now n Lost) slot sent
+            (inputs n))) (sym here)
             (subst (λ (x : Reception). StaysShown config (inputs i) (received x slot sent (inputs i))) (sym told) stay)
             )
       ];
@@ -75,11 +94,13 @@ loop-i-preserved c =
       all = λ every k below.
           let (before, same) = both_hold c.loop-i.all c.receive-same.result every in
           elim (cases_lt k i) [
-            | inl less ↦ other_marked c.loop-i.stays i k c.receive-same.result false (λ e. omega (arith, less, e)) ∙ c.loop-i.invariant.all before k less
+            | inl less ↦ other_marked c.loop-i.stays i k c.receive-same.result false (λ e. omega (arith, less, e))
+                ∙ c.loop-i.invariant.all before k less
             | inr more ↦ (
                 let here : i ≡ k = omega (arith, below, more) in
                 subst (λ n. slice_index_or (slice_set c.loop-i.stays i c.receive-same.result) n false ≡ true) here
-                (get_or-set_same c.loop-i.stays i c.receive-same.result false (omega (arith, c.loop-i.invariant.eight, c.requires.few, c.loop-i-test.true)) ∙ same)
+                (get_or-set_same c.loop-i.stays i c.receive-same.result false
+                (omega (arith, c.loop-i.invariant.eight, c.requires.few, c.loop-i-test.true)) ∙ same)
                 )
           ];
     }
@@ -91,4 +112,7 @@ returns-clause-stays c slot sent inputs last kept due all k is = elim (cases_lt 
 ]
 
 pub returns-clause-heard : goal.returns-clause-heard
-returns-clause-heard c slot sent inputs last kept due all = record { each = λ k r e. c.loop-i.invariant.done slot sent inputs last kept due all k r (let w = slice_get_within c.loop-i.receivers k r e in omega arith) e }
+returns-clause-heard c slot sent inputs last kept due all = record {
+  each = λ k r e. c.loop-i.invariant.done slot sent inputs last kept due all k r
+      (let w = slice_get_within c.loop-i.receivers k r e in omega arith) e;
+}

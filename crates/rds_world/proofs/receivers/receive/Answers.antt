@@ -11,34 +11,43 @@ returns-in-Got-clause-heard c slot sent input last kept due has =
     let config = c.args.config.now in
     let back = c.in-Got.back in
     let is_due = subst (λ (r : Reception). IsDue config.premise.late slot last r) c.in-Got.is due in
-    let hears : Hears config.head.pi c.back_from.result (sent_back back sent) = rw c.back_from.ensures (kept back is_due.soon) in
-    rw c.in-Got.is (hears_more config input _ _ c.back_from.result (sent_back back sent) (Some (slot - back)) hears c.slot_blocks.ensures.stands has)
+    let hears : Hears config.head.pi c.back_from.result (sent_back back sent) = rw c.back_from.ensures
+    (kept back is_due.soon) in
+    rw c.in-Got.is (hears_more config input _ _ c.back_from.result (sent_back back sent) (Some (slot - back)) hears
+    c.slot_blocks.ensures.stands has)
 
 pub returns-in-Lost-clause-heard : goal.returns-in-Lost-clause-heard
-returns-in-Lost-clause-heard c slot sent input last kept due has = rw c.in-Lost.is (hears_more c.args.config.now input _ _ None None None refl c.slot_blocks-in-Lost.ensures.stands has)
+returns-in-Lost-clause-heard c slot sent input last kept due has = rw c.in-Lost.is (hears_more c.args.config.now input _
+    _ None None None refl c.slot_blocks-in-Lost.ensures.stands has)
 
 pub returns-in-Restart-clause-heard : goal.returns-in-Restart-clause-heard
-returns-in-Restart-clause-heard c slot sent input last kept due has = rw c.in-Restart.is (heard_nothing c.args.config.now (slot + 1) _ c.new_receiver.ensures.new)
+returns-in-Restart-clause-heard c slot sent input last kept due has = rw c.in-Restart.is
+    (heard_nothing c.args.config.now (slot + 1) _ c.new_receiver.ensures.new)
 
 pub returns-in-Got-clause-stays : goal.returns-in-Got-clause-stays
 returns-in-Got-clause-stays c slot sent input last kept due has stays =
     let config = c.args.config.now in
     let back = c.in-Got.back in
     let is_due = subst (λ (r : Reception). IsDue config.premise.late slot last r) c.in-Got.is due in
-    let hears : Hears config.head.pi c.back_from.result (sent_back back sent) = rw c.back_from.ensures (kept back is_due.soon) in
+    let hears : Hears config.head.pi c.back_from.result (sent_back back sent) = rw c.back_from.ensures
+    (kept back is_due.soon) in
     let calm : c.slot_blocks.result ≡ false = search rules in
-    rw c.in-Got.is (stays_shown config input _ c.back_from.result (sent_back back sent) (Some (slot - back)) hears (c.slot_blocks.ensures.same calm) has)
+    rw c.in-Got.is (stays_shown config input _ c.back_from.result (sent_back back sent) (Some (slot - back)) hears
+    (c.slot_blocks.ensures.same calm) has)
 
 pub returns-in-Lost-clause-stays : goal.returns-in-Lost-clause-stays
 returns-in-Lost-clause-stays c slot sent input last kept due has stays =
     let calm : c.slot_blocks-in-Lost.result ≡ false = search rules in
-    rw c.in-Lost.is (stays_shown c.args.config.now input _ None None None refl (c.slot_blocks-in-Lost.ensures.same calm) has)
+    rw c.in-Lost.is (stays_shown c.args.config.now input _ None None None refl (c.slot_blocks-in-Lost.ensures.same calm)
+    has)
 
 pub returns-in-Wrong-clause-heard : goal.returns-in-Wrong-clause-heard
 returns-in-Wrong-clause-heard c slot sent input last kept due has =
-    rw c.in-Wrong.is (hears_more c.args.config.now input _ _ (Some c.blocks_of.result) (Some c.in-Wrong.message) None c.blocks_of.ensures c.slot_blocks-in-Wrong.ensures.stands has)
+    rw c.in-Wrong.is (hears_more c.args.config.now input _ _ (Some c.blocks_of.result) (Some c.in-Wrong.message) None
+    c.blocks_of.ensures c.slot_blocks-in-Wrong.ensures.stands has)
 
 pub returns-in-Wrong-clause-stays : goal.returns-in-Wrong-clause-stays
 returns-in-Wrong-clause-stays c slot sent input last kept due has stays =
     let calm : c.slot_blocks-in-Wrong.result ≡ false = search rules in
-    rw c.in-Wrong.is (stays_shown c.args.config.now input _ (Some c.blocks_of.result) (Some c.in-Wrong.message) None c.blocks_of.ensures (c.slot_blocks-in-Wrong.ensures.same calm) has)
+    rw c.in-Wrong.is (stays_shown c.args.config.now input _ (Some c.blocks_of.result) (Some c.in-Wrong.message) None
+    c.blocks_of.ensures (c.slot_blocks-in-Wrong.ensures.same calm) has)

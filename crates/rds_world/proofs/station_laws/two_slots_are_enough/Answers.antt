@@ -4,10 +4,12 @@ use Rattle.rds_world.specs.FlagStation.{TheStationSendsOneIn, WhoGetsSomeShowsTe
 use Rattle.rds_world.proofs.station_laws.two_slots_are_enough.Goals as goal
 
 sends_of : goal.After-a_station_is_safe_by_the_flag → TheStationSendsOneIn
-sends_of c = sends_one_in c.on_air_is_what_covers_the_slot.ensures.only c.on_air_from_its_start_on.ensures.began c.even_turns_are_the_texts.ensures
+sends_of c = sends_one_in c.on_air_is_what_covers_the_slot.ensures.only c.on_air_from_its_start_on.ensures.began
+    c.even_turns_are_the_texts.ensures
 
 texts_of : goal.After-a_station_is_safe_by_the_flag → WhoGetsSomeShowsTextsOfTheirSource
-texts_of c = some_are_enough c.a_station_is_safe_by_the_flag.ensures.texts (sends_of c) c.often_is_enough.ensures.in_a_row
+texts_of c = some_are_enough c.a_station_is_safe_by_the_flag.ensures.texts (sends_of c)
+    c.often_is_enough.ensures.in_a_row
 
 pub returns-clause-sends : goal.returns-clause-sends
 returns-clause-sends c = sends_of c

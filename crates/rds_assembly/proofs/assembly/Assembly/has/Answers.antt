@@ -8,4 +8,6 @@ use Rattle.rds_assembly.proofs.assembly.Assembly.has.Goals as goal
 pub returns : goal.returns
 returns g c =
     let few = g.met.S.Service.few in
-    ap (λ n. n == 1) (shr_and_one c.self.inside.mask c.args.address) ∙ sym (contains-held c.self.inside.mask c.self.inside.bytes c.args.address (omega arith)) ∙ ap (λ m. contains_key m c.args.address) c.self.view_is
+    ap (λ n. n == 1) (shr_and_one c.self.inside.mask c.args.address)
+    ∙ sym (contains-held c.self.inside.mask c.self.inside.bytes c.args.address (omega arith))
+    ∙ ap (λ m. contains_key m c.args.address) c.self.view_is

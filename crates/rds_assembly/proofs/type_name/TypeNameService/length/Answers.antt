@@ -28,8 +28,10 @@ returns-then-mask-eq3-clause-whole c =
     let long = c.told-_bytes in
     record {
       eight = length-take-le 8 c.args._bytes.now (omega arith);
-      spelled = spelled c.args.mask c.args._bytes.now 8 (omega arith) long (both_set c.args.mask (sym (and_mask c.args.mask 2) ∙ c.if-mask-eq3.true));
+      spelled = spelled c.args.mask c.args._bytes.now 8 (omega arith) long
+          (both_set c.args.mask (sym (and_mask c.args.mask 2) ∙ c.if-mask-eq3.true));
     }
 
 pub returns-else-mask-eq3-clause-none : goal.returns-else-mask-eq3-clause-none
-returns-else-mask-eq3-clause-none c x w = c.if-mask-eq3.false (and_mask c.args.mask 2 ∙ both_there c.args.mask c.args._bytes.now x w)
+returns-else-mask-eq3-clause-none c x w = c.if-mask-eq3.false (and_mask c.args.mask 2 ∙ both_there c.args.mask
+    c.args._bytes.now x w)

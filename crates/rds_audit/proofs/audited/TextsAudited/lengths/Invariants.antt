@@ -3,4 +3,5 @@ use Rattle.rds_audit.specs.Lengths.{lengths_from}
 use Rattle.rds_audit.proofs.audited.TextsAudited.lengths.Given as goal
 
 abbrev pub invariant-loop-place : goal.invariant-loop-place
-invariant-loop-place l = lengths_from (4 * l.fn.address) l.fn.bytes ≡ lengths_from (4 * l.fn.address + l.place) (drop l.place l.fn.bytes)
+invariant-loop-place l = lengths_from (4 * l.fn.address) l.fn.bytes ≡ lengths_from (4 * l.fn.address + l.place)
+    (drop l.place l.fn.bytes)

@@ -4,4 +4,5 @@ use Rattle.rds_audit.proofs.stored.StoredAudit.end_slot.Goals as goal
 
 pub returns-clause-holds : goal.returns-clause-holds
 returns-clause-holds c stored judged newest h =
-    slot_listed c.args.self.now.distance newest judged (audit_stored c.args.self.now) _ stored.some (c.grow_older.ensures stored.distance) (c.grow_older-2.ensures stored.distance) h
+    slot_listed c.args.self.now.distance newest judged (audit_stored c.args.self.now) _ stored.some
+    (c.grow_older.ensures stored.distance) (c.grow_older-2.ensures stored.distance) h

@@ -2,39 +2,50 @@ use Rattle.std.proofs.Common.{Some, ◌∙◌, inl, inr, refl, sym}
 use Rattle.rds_fields.specs.declared.message.Message.TheVariants.{Name, Tags, Text}
 use Rattle.rds_audit.specs.Stored.{audit_stored}
 use Rattle.rds_audit.proofs.ListingSteps.{names_listed, nothing_listed, text_open, texts_listed}
-use Rattle.rds_audit.proofs.Recordings.{announcement_counts, name_counts, other_counts, tags_complete, tags_count, tags_silent, text_counts}
+use Rattle.rds_audit.proofs.Recordings.{announcement_counts, name_counts, other_counts, tags_complete, tags_count}
+use Rattle.rds_audit.proofs.Recordings.{tags_silent, text_counts}
 use Rattle.rds_audit.proofs.stored.StoredAudit.hear.Goals as goal
 
 pub returns-in-Text-clause-lists : goal.returns-in-Text-clause-lists
 returns-in-Text-clause-lists c stored =
     let it = c.in-Text in
-    let lists = texts_listed (audit_stored c.args.self.now) _ (Some (Text it.flag c.get.result it.bytes)) c.take.result stored.some refl refl (λ judged h. text_counts _ judged _ _ _)
+    let lists = texts_listed (audit_stored c.args.self.now) _ (Some (Text it.flag c.get.result it.bytes)) c.take.result
+    stored.some refl refl (λ judged h. text_counts _ judged _ _ _)
     (c.take.ensures.holds stored.some stored.distance) (c.take.ensures.added stored.some stored.distance) in
     rw (it.is, ← c.get.ensures.value) lists
 
 pub returns-in-Name-clause-lists : goal.returns-in-Name-clause-lists
 returns-in-Name-clause-lists c stored =
     let it = c.in-Name in
-    let lists = names_listed (audit_stored c.args.self.now) _ (Some (Name it.flag c.get-in-Name.result it.bytes)) c.take-in-Name.result stored.some refl refl (λ judged h. name_counts _ judged _ _ _)
-    (c.take-in-Name.ensures.holds stored.some stored.distance) (c.take-in-Name.ensures.added stored.some stored.distance) in
+    let lists = names_listed (audit_stored c.args.self.now) _ (Some (Name it.flag c.get-in-Name.result it.bytes))
+    c.take-in-Name.result stored.some refl refl (λ judged h. name_counts _ judged _ _ _)
+    (c.take-in-Name.ensures.holds stored.some stored.distance) (c.take-in-Name.ensures.added stored.some
+    stored.distance) in
     rw (it.is, ← c.get-in-Name.ensures.value) lists
 
 pub returns-then-awaits_text-clause-lists : goal.returns-then-awaits_text-clause-lists
 returns-then-awaits_text-clause-lists c stored =
     let early = c.awaits_text.ensures.early c.if-awaits_text.true in
-    rw c.in-Tags.is (nothing_listed (audit_stored c.args.self.now) _ c.none.result stored.some c.none.ensures (λ judged h. tags_silent _ judged c.in-Tags.pair early.0 (sym (text_open _ judged (audit_stored c.args.self.now) h) ∙ early.1)))
+    rw c.in-Tags.is (nothing_listed (audit_stored c.args.self.now) _ c.none.result stored.some c.none.ensures
+    (λ judged h. tags_silent _ judged c.in-Tags.pair early.0
+    (sym (text_open _ judged (audit_stored c.args.self.now) h) ∙ early.1)))
 
 pub returns-else-awaits_text-clause-lists : goal.returns-else-awaits_text-clause-lists
 returns-else-awaits_text-clause-lists c stored =
-    let lists = texts_listed (audit_stored c.args.self.now) _ (Some (Tags c.in-Tags.pair)) c.take_tags.result stored.some refl refl
+    let lists = texts_listed (audit_stored c.args.self.now) _ (Some (Tags c.in-Tags.pair)) c.take_tags.result
+    stored.some refl refl
     (λ judged h. elim (c.awaits_text.ensures.begun c.if-awaits_text.false) [
       | inl complete ↦ tags_complete _ judged c.in-Tags.pair complete
-      | inr open_now ↦ tags_count _ judged c.in-Tags.pair (sym (text_open _ judged (audit_stored c.args.self.now) h) ∙ open_now)
-    ]) (c.take_tags.ensures.holds stored.some stored.distance) (c.take_tags.ensures.added stored.some stored.distance) in
+      | inr open_now ↦ tags_count _ judged c.in-Tags.pair (sym (text_open _ judged (audit_stored c.args.self.now) h)
+          ∙ open_now)
+    ]) (c.take_tags.ensures.holds stored.some stored.distance) (c.take_tags.ensures.added stored.some stored.distance)
+    in
     rw c.in-Tags.is lists
 
 pub returns-in-Announce-clause-lists : goal.returns-in-Announce-clause-lists
 returns-in-Announce-clause-lists c stored = elim c.in-Announce.is [
-  | inl (code, bits, aid, is) ↦ rw is (nothing_listed _ _ c.none-in-Announce.result stored.some c.none-in-Announce.ensures (λ judged h. announcement_counts _ judged _ _ _))
-  | inr is ↦ rw is (nothing_listed _ _ c.none-in-Announce.result stored.some c.none-in-Announce.ensures (λ judged h. other_counts _ judged))
+  | inl (code, bits, aid, is) ↦ rw is (nothing_listed _ _ c.none-in-Announce.result stored.some
+      c.none-in-Announce.ensures (λ judged h. announcement_counts _ judged _ _ _))
+  | inr is ↦ rw is (nothing_listed _ _ c.none-in-Announce.result stored.some c.none-in-Announce.ensures
+      (λ judged h. other_counts _ judged))
 ]

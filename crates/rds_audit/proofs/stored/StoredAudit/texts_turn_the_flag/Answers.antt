@@ -12,8 +12,12 @@ returns-then-passed-clause-turns c pi d log s =
     let judged = judged_as (audit_stored c.args.self.now).start d s.heard in
     let passes : LogPasses d judged = (c.passed.ensures.passes pi d log s).0 c.if-passed.true in
     let same = c.the_list_judges_the_reigns.ensures.texts d (marks text_mark judged) passes.text in
-    let turns = (log_passes d (audit_stored c.args.self.now) judged (c.passed.ensures.fault.0 c.if-passed.true) s.holds).1.text.ages.turns in
-    (λ is_so. (passes, subst AlternateFlags same (turns.0 is_so)), λ both. turns.1 (subst AlternateFlags (sym same) both.1))
+    let turns = (log_passes d (audit_stored c.args.self.now) judged (c.passed.ensures.fault.0 c.if-passed.true)
+    s.holds).1.text.ages.turns in (
+      λ is_so. (passes, subst AlternateFlags same (turns.0 is_so)),
+      λ both. turns.1 (subst AlternateFlags (sym same)
+          both.1),
+    )
 
 pub returns-then-passed-clause-safe : goal.returns-then-passed-clause-safe
 returns-then-passed-clause-safe c pi d log s turns =
@@ -30,5 +34,6 @@ returns-then-passed-clause-safe c pi d log s turns =
 pub returns-else-passed-clause-turns : goal.returns-else-passed-clause-turns
 returns-else-passed-clause-turns c pi d log s = (
   (λ e. absurd (let bad : false ≡ true = sym c.if-passed.false ∙ e in cc)),
-  (λ both. absurd (let bad : true ≡ false = sym ((c.passed.ensures.passes pi d log s).1 both.0) ∙ c.if-passed.false in cc)),
+  (λ both. absurd (let bad : true ≡ false = sym ((c.passed.ensures.passes pi d log s).1 both.0) ∙ c.if-passed.false
+      in cc)),
 )

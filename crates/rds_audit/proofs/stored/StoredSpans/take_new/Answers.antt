@@ -19,9 +19,11 @@ returns-then-not-joins-clause-holds g c pos low sent h =
     let apart : Joins c.args.distance c.args.flag (ages_stored c.args.self.now.reigns) → ⊥ = λ on.
     (let yes : c.joins.result ≡ true = c.joins.ensures.1 on in
     let not_yes = c.if-not-joins.true in absurd (cc)) in
-    let formed : IsFormed gauge.segments p = record { address = c.requires; four = search rules; fits = search rules } in
+    let formed : IsFormed gauge.segments p = record { address = c.requires; four = search rules; fits = search rules }
+    in
     subst (λ (s : SpansState). HoldsNewestSpans gauge c.args.distance (Sends p) sent s) (sym c.begin.ensures.begun)
-    (opened_follows gauge g.met.S.Audited.few c.args.distance pos sent p (spans c.args.distance sent) (spans_stored c.args.self.now) formed (in_order c.args.distance sent pos) h apart).0
+    (opened_follows gauge g.met.S.Audited.few c.args.distance pos sent p (spans c.args.distance sent)
+    (spans_stored c.args.self.now) formed (in_order c.args.distance sent pos) h apart).0
 
 pub returns-then-not-joins-clause-added : goal.returns-then-not-joins-clause-added
 returns-then-not-joins-clause-added g c pos low sent h =
@@ -30,8 +32,10 @@ returns-then-not-joins-clause-added g c pos low sent h =
     let apart : Joins c.args.distance c.args.flag (ages_stored c.args.self.now.reigns) → ⊥ = λ on.
     (let yes : c.joins.result ≡ true = c.joins.ensures.1 on in
     let not_yes = c.if-not-joins.true in absurd (cc)) in
-    let formed : IsFormed gauge.segments p = record { address = c.requires; four = search rules; fits = search rules } in
-    let follows = opened_follows gauge g.met.S.Audited.few c.args.distance pos sent p (spans c.args.distance sent) (spans_stored c.args.self.now) formed (in_order c.args.distance sent pos) h apart in
+    let formed : IsFormed gauge.segments p = record { address = c.requires; four = search rules; fits = search rules }
+    in
+    let follows = opened_follows gauge g.met.S.Audited.few c.args.distance pos sent p (spans c.args.distance sent)
+    (spans_stored c.args.self.now) formed (in_order c.args.distance sent pos) h apart in
     added_first gauge c.args.distance (Sends p) sent c.begin.result follows.1
     (c.begin.ensures.faults ∙ ap (λ (s : SpansState). s.broken) c.begin.ensures.begun ∙ follows.0.broken)
 
@@ -39,18 +43,29 @@ pub returns-then-is_err-clause-holds : goal.returns-then-is_err-clause-holds
 returns-then-is_err-clause-holds g c pos low sent h =
     let gauge = g.S.Audited.gauge in
     let p : Fragment = record { flag = c.args.flag; address = c.args.address; bytes = c.args.bytes } in
-    let formed : IsFormed gauge.segments p = record { address = c.requires; four = search rules; fits = search rules } in
-    let other : HoldsNoOther c.args.address c.args.bytes (content_stored c.args.self.now.reigns) → ⊥ = λ no_other. (let ok : IsOk c.check_unchanged.result = c.check_unchanged.ensures.same.1 no_other in absurd (search rules)) in
-    subst (λ (s : SpansState). HoldsNewestSpans gauge c.args.distance (Sends p) sent s) (sym c.begin-then-is_err.ensures.begun)
-    (changed_follows gauge g.met.S.Audited.few c.args.distance pos sent p (spans c.args.distance sent) (spans_stored c.args.self.now) formed (in_order c.args.distance sent pos) h (c.joins.ensures.0 c.if-not-joins.false) other).0
+    let formed : IsFormed gauge.segments p = record { address = c.requires; four = search rules; fits = search rules }
+    in
+    let other : HoldsNoOther c.args.address c.args.bytes (content_stored c.args.self.now.reigns)
+    → ⊥ = λ no_other. (let ok : IsOk c.check_unchanged.result = c.check_unchanged.ensures.same.1 no_other
+    in absurd (search rules)) in
+    subst (λ (s : SpansState). HoldsNewestSpans gauge c.args.distance (Sends p) sent s)
+    (sym c.begin-then-is_err.ensures.begun)
+    (changed_follows gauge g.met.S.Audited.few c.args.distance pos sent p (spans c.args.distance sent)
+    (spans_stored c.args.self.now) formed (in_order c.args.distance sent pos) h
+    (c.joins.ensures.0 c.if-not-joins.false) other).0
 
 pub returns-then-is_err-clause-added : goal.returns-then-is_err-clause-added
 returns-then-is_err-clause-added g c pos low sent h =
     let gauge = g.S.Audited.gauge in
     let p : Fragment = record { flag = c.args.flag; address = c.args.address; bytes = c.args.bytes } in
-    let formed : IsFormed gauge.segments p = record { address = c.requires; four = search rules; fits = search rules } in
-    let other : HoldsNoOther c.args.address c.args.bytes (content_stored c.args.self.now.reigns) → ⊥ = λ no_other. (let ok : IsOk c.check_unchanged.result = c.check_unchanged.ensures.same.1 no_other in absurd (search rules)) in
-    let follows = changed_follows gauge g.met.S.Audited.few c.args.distance pos sent p (spans c.args.distance sent) (spans_stored c.args.self.now) formed (in_order c.args.distance sent pos) h (c.joins.ensures.0 c.if-not-joins.false) other in
+    let formed : IsFormed gauge.segments p = record { address = c.requires; four = search rules; fits = search rules }
+    in
+    let other : HoldsNoOther c.args.address c.args.bytes (content_stored c.args.self.now.reigns)
+    → ⊥ = λ no_other. (let ok : IsOk c.check_unchanged.result = c.check_unchanged.ensures.same.1 no_other
+    in absurd (search rules)) in
+    let follows = changed_follows gauge g.met.S.Audited.few c.args.distance pos sent p (spans c.args.distance sent)
+    (spans_stored c.args.self.now) formed (in_order c.args.distance sent pos) h
+    (c.joins.ensures.0 c.if-not-joins.false) other in
     added_first gauge c.args.distance (Sends p) sent c.begin-then-is_err.result follows.1
     (c.begin-then-is_err.ensures.faults
     ∙ ap (λ (s : SpansState). s.broken) c.begin-then-is_err.ensures.begun
@@ -60,18 +75,25 @@ pub returns-clause-holds : goal.returns-clause-holds
 returns-clause-holds g c pos low sent h =
     let gauge = g.S.Audited.gauge in
     let p : Fragment = record { flag = c.args.flag; address = c.args.address; bytes = c.args.bytes } in
-    let formed : IsFormed gauge.segments p = record { address = c.requires; four = search rules; fits = search rules } in
-    let no_other : HoldsNoOther c.args.address c.args.bytes (content_stored c.args.self.now.reigns) = c.check_unchanged.ensures.same.0 (search rules) in
+    let formed : IsFormed gauge.segments p = record { address = c.requires; four = search rules; fits = search rules }
+    in
+    let no_other : HoldsNoOther c.args.address c.args.bytes (content_stored
+    c.args.self.now.reigns) = c.check_unchanged.ensures.same.0 (search rules) in
     subst (λ (s : SpansState). HoldsNewestSpans gauge c.args.distance (Sends p) sent s) (sym c.put.ensures)
-    (joined_follows gauge g.met.S.Audited.few c.args.distance pos sent p (spans c.args.distance sent) (spans_stored c.args.self.now) formed h (c.joins.ensures.0 c.if-not-joins.false) no_other).0
+    (joined_follows gauge g.met.S.Audited.few c.args.distance pos sent p (spans c.args.distance sent)
+    (spans_stored c.args.self.now) formed h (c.joins.ensures.0 c.if-not-joins.false) no_other).0
 
 pub returns-clause-added : goal.returns-clause-added
 returns-clause-added g c pos low sent h =
     let gauge = g.S.Audited.gauge in
     let p : Fragment = record { flag = c.args.flag; address = c.args.address; bytes = c.args.bytes } in
-    let formed : IsFormed gauge.segments p = record { address = c.requires; four = search rules; fits = search rules } in
-    let no_other : HoldsNoOther c.args.address c.args.bytes (content_stored c.args.self.now.reigns) = c.check_unchanged.ensures.same.0 (search rules) in
-    let follows = joined_follows gauge g.met.S.Audited.few c.args.distance pos sent p (spans c.args.distance sent) (spans_stored c.args.self.now) formed h (c.joins.ensures.0 c.if-not-joins.false) no_other in
+    let formed : IsFormed gauge.segments p = record { address = c.requires; four = search rules; fits = search rules }
+    in
+    let no_other : HoldsNoOther c.args.address c.args.bytes (content_stored
+    c.args.self.now.reigns) = c.check_unchanged.ensures.same.0 (search rules) in
+    let follows = joined_follows gauge g.met.S.Audited.few c.args.distance pos sent p (spans c.args.distance sent)
+    (spans_stored c.args.self.now) formed h (c.joins.ensures.0 c.if-not-joins.false) no_other in
     c.not_in.ensures
-    ∙ added_more gauge c.args.distance (Sends p) sent c.get-before.result c.get.result follows.1 (c.get-before.ensures ∙ h.broken)
+    ∙ added_more gauge c.args.distance (Sends p) sent c.get-before.result c.get.result follows.1 (c.get-before.ensures
+    ∙ h.broken)
     (c.get.ensures ∙ ap (λ (s : SpansState). s.broken) c.put.ensures ∙ follows.0.broken)

@@ -4,4 +4,5 @@ pub returns-clause-reply : goal.returns-clause-reply
 returns-clause-reply c station m entries st = c.set_name.ensures.reply station m entries (rw (← c.self.view_is) at st)
 
 pub returns-clause-stands : goal.returns-clause-stands
-returns-clause-stands c station m entries st = c.set_name.ensures.stands c.self.invariant station m entries (rw (← c.self.view_is) at st)
+returns-clause-stands c station m entries st = c.set_name.ensures.stands c.self.invariant station m entries
+    (rw (← c.self.view_is) at st)

@@ -3,10 +3,12 @@ use Rattle.rds_encoder.proofs.Pairs.{both_in, no_text, one_out, two_out}
 use Rattle.rds_encoder.proofs.stored.StoredEncoder.check_tags.Goals as goal
 
 pub returns-in_default-clause-reply : goal.returns-in_default-clause-reply
-returns-in_default-clause-reply c station m entries st = no_text c.args.pair _ (c.in_default.ensures.on_air station m entries st)
+returns-in_default-clause-reply c station m entries st = no_text c.args.pair _ (c.in_default.ensures.on_air station m
+    entries st)
 
 pub returns-then-not-ends_in-clause-reply : goal.returns-then-not-ends_in-clause-reply
-returns-then-not-ends_in-clause-reply c station m entries st = one_out c.args.pair _ c.in-Some.text.now (c.in-Some.ensures.on_air station m entries st) (rw c.one.ensures at (sym c.if-not-ends_in.ensures))
+returns-then-not-ends_in-clause-reply c station m entries st = one_out c.args.pair _ c.in-Some.text.now
+    (c.in-Some.ensures.on_air station m entries st) (rw c.one.ensures at (sym c.if-not-ends_in.ensures))
 
 pub returns-then-not-ends_in-2-clause-reply : goal.returns-then-not-ends_in-2-clause-reply
 returns-then-not-ends_in-2-clause-reply c station m entries st =

@@ -10,7 +10,8 @@ returns-clause-stands c station m entries st =
     let free = c.args.free in
     let has = c.has_turn.ensures station m entries st in
     let mid : AfterTurn station m free entries (encoder_stored c.if-has_turn.self) = elim c.if-has_turn.branch [
-      | then-has_turn w ↦ rw w.self-is (turn_over station m _ _ free entries st (sym has ∙ w.if-has_turn.true) w.end_turn.ensures.text w.end_turn.ensures.other)
+      | then-has_turn w ↦ rw w.self-is (turn_over station m _ _ free entries st (sym has ∙ w.if-has_turn.true)
+          w.end_turn.ensures.text w.end_turn.ensures.other)
       | else-has_turn w ↦ rw w.self-is (no_turn station m _ free entries st (sym has ∙ w.if-has_turn.false))
     ] in
     slot_over station m _ _ _ _ free entries mid c.saturating_sub-self.ensures

@@ -7,4 +7,5 @@ pub returns-clause-sent : goal.returns-clause-sent
 returns-clause-sent c stored station m entries st =
     let place : c.unwrap.result ≡ c.args.address = search rules in
     name_due c.args.address _ _ _ _ _ (c.in_ok-name.ensures.on_air station m entries st)
-    (λ air on. c.flag.ensures m (name_moves entries) air st.name.hold on) place (c.name_segment.ensures (c.in_ok-name.ensures.name stored))
+    (λ air on. c.flag.ensures m (name_moves entries) air st.name.hold on) place
+    (c.name_segment.ensures (c.in_ok-name.ensures.name stored))

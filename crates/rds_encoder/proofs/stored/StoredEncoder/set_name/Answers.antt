@@ -8,11 +8,14 @@ use Rattle.rds_encoder.proofs.stored.StoredEncoder.set_name.Goals as goal
 
 pub returns-in_err-check_silence-clause-reply : goal.returns-in_err-check_silence-clause-reply
 returns-in_err-check_silence-clause-reply c station m entries st =
-    passed_on _ _ c.from_residual.ensures.1 ∙ sym (names_in_silence m entries _ (c.in_err-check_silence.ensures.reply m (text_moves entries) st.silence))
+    passed_on _ _ c.from_residual.ensures.1 ∙ sym (names_in_silence m entries _ (c.in_err-check_silence.ensures.reply m
+    (text_moves entries) st.silence))
 
 pub returns-in_err-check_silence-clause-stands : goal.returns-in_err-check_silence-clause-stands
 returns-in_err-check_silence-clause-stands c stored station m entries st =
-    name_refused station m _ entries c.args.name st (ap is_ok (names_in_silence m entries _ (c.in_err-check_silence.ensures.reply m (text_moves entries) st.silence)))
+    name_refused station m _ entries c.args.name st
+    (ap is_ok (names_in_silence m entries _ (c.in_err-check_silence.ensures.reply m (text_moves entries)
+    st.silence)))
 
 pub returns-in_err-set-clause-reply : goal.returns-in_err-set-clause-reply
 returns-in_err-set-clause-reply c station m entries st =
@@ -21,16 +24,20 @@ returns-in_err-set-clause-reply c station m entries st =
 
 pub returns-in_err-set-clause-stands : goal.returns-in_err-set-clause-stands
 returns-in_err-set-clause-stands c stored station m entries st =
-    let reply = names_after_silence m entries (c.in_ok-check_silence.ensures.reply m (text_moves entries) st.silence) ∙ sym (c.in_err-set.ensures.reply m (name_moves entries) st.name.hold) in
+    let reply = names_after_silence m entries (c.in_ok-check_silence.ensures.reply m (text_moves entries) st.silence)
+    ∙ sym (c.in_err-set.ensures.reply m (name_moves entries) st.name.hold) in
     rw c.in_err-set.ensures.kept (name_refused station m _ entries c.args.name st (ap is_ok reply))
 
 pub returns-clause-reply : goal.returns-clause-reply
 returns-clause-reply c station m entries st =
-    c.in_ok-set.ensures.reply m (name_moves entries) st.name.hold ∙ sym (names_after_silence m entries (c.in_ok-check_silence.ensures.reply m (text_moves entries) st.silence))
+    c.in_ok-set.ensures.reply m (name_moves entries) st.name.hold
+    ∙ sym (names_after_silence m entries (c.in_ok-check_silence.ensures.reply m (text_moves entries) st.silence))
 
 pub returns-clause-stands : goal.returns-clause-stands
 returns-clause-stands c stored station m entries st =
     let ok : reply_to m (name_moves entries) ≡ Ok tt =
-    names_after_silence m entries (c.in_ok-check_silence.ensures.reply m (text_moves entries) st.silence) ∙ sym (c.in_ok-set.ensures.reply m (name_moves entries) st.name.hold) in
-    let back = rw (c.restore.ensures stored.some stored.distance ∙ st.distance) at (c.in_ok-set.ensures.hold (name_moves entries) c.args.name) in
+    names_after_silence m entries (c.in_ok-check_silence.ensures.reply m (text_moves entries) st.silence)
+    ∙ sym (c.in_ok-set.ensures.reply m (name_moves entries) st.name.hold) in
+    let back = rw (c.restore.ensures stored.some stored.distance ∙ st.distance)
+    at (c.in_ok-set.ensures.hold (name_moves entries) c.args.name) in
     name_accepted station m _ _ entries c.args.name st ok (back st.name.hold ok) c.of-self.ensures.same

@@ -7,4 +7,5 @@ pub returns-in_err-check_tags-clause-reply : goal.returns-in_err-check_tags-clau
 returns-in_err-check_tags-clause-reply c station m entries st =
     passed_on _ _ c.from_residual-in_err-check_tags.ensures.1
     ∙ c.in_err-check_tags.ensures.reply station m entries st
-    ∙ sym (silence_over m (slot_of (text_moves entries)) (restart_before (text_moves entries)) _ (sym (c.in_ok-check_silence.ensures.reply m (text_moves entries) st.silence)))
+    ∙ sym (silence_over m (slot_of (text_moves entries)) (restart_before (text_moves entries)) _
+    (sym (c.in_ok-check_silence.ensures.reply m (text_moves entries) st.silence)))

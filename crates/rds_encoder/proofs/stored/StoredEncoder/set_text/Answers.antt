@@ -8,7 +8,10 @@ use Rattle.rds_encoder.proofs.stored.StoredEncoder.set_text.Goals as goal
 pub returns-clause-stands : goal.returns-clause-stands
 returns-clause-stands c stored station m entries st =
     let ok : reply_to m (text_moves entries) ≡ Ok tt =
-    silence_over m (slot_of (text_moves entries)) (restart_before (text_moves entries)) _ (sym (c.in_ok-check_silence.ensures.reply m (text_moves entries) st.silence))
+    silence_over m (slot_of (text_moves entries)) (restart_before (text_moves entries)) _
+    (sym (c.in_ok-check_silence.ensures.reply m (text_moves entries) st.silence))
     ∙ sym (c.in_ok-set.ensures.reply m (text_moves entries) st.text.hold) in
-    let back = rw (c.restore.ensures stored.some stored.distance ∙ st.distance) at (c.in_ok-set.ensures.hold (text_moves entries) c.args.text) in
-    text_accepted station m _ _ _ entries c.args.text st ok (back st.text.hold ok) c.of-self.ensures.same c.none-self.ensures.same
+    let back = rw (c.restore.ensures stored.some stored.distance ∙ st.distance)
+    at (c.in_ok-set.ensures.hold (text_moves entries) c.args.text) in
+    text_accepted station m _ _ _ entries c.args.text st ok (back st.text.hold ok) c.of-self.ensures.same
+    c.none-self.ensures.same

@@ -9,5 +9,7 @@ returns-in_err-text-clause-sent c stored station m entries st =
 
 pub returns-clause-sent : goal.returns-clause-sent
 returns-clause-sent c stored station m entries st =
-    text_due m (text_moves entries) c.args.self.now.text _ _ _ _ _ stored.text st.text.on_air (c.in_ok-text.ensures.on_air station m entries st)
-    (λ air on. c.flag.ensures m (text_moves entries) air st.text.hold on) c.in_ok-new.ensures.value c.text_segment.ensures
+    text_due m (text_moves entries) c.args.self.now.text _ _ _ _ _ stored.text st.text.on_air
+    (c.in_ok-text.ensures.on_air station m entries st)
+    (λ air on. c.flag.ensures m (text_moves entries) air st.text.hold on) c.in_ok-new.ensures.value
+    c.text_segment.ensures

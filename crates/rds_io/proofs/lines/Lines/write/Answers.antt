@@ -12,11 +12,13 @@ returns-in_err-put-clause-waits g c start total has =
     let t = traffic g.W.Write.contents g.W.TellingWrite.failures c.args.writer.now c.put.new.writer in
     let part : AppendsPrefix t.before t.after c.args.self.now = search rules in
     let failed : HasFailed t = search rules in
-    rw p.1 (loses c.args.self.now total (g.W.Write.contents start) t.before t.after (g.W.TellingWrite.failures start) t.failures_before t.failures_after has part failed)
+    rw p.1 (loses c.args.self.now total (g.W.Write.contents start) t.before t.after (g.W.TellingWrite.failures start)
+    t.failures_before t.failures_after has part failed)
 
 pub returns-clause-waits : goal.returns-clause-waits
 returns-clause-waits g c start total has =
     let t = traffic g.W.Write.contents g.W.TellingWrite.failures c.args.writer.now c.put.new.writer in
     let none : c.clear.new.self.items ≡ [] = search rules in
     let all : Puts t c.args.self.now (Ok tt) = search rules in
-    writes c.args.self.now c.clear.new.self.items total (g.W.Write.contents start) t.before t.after (g.W.TellingWrite.failures start) t.failures_before t.failures_after has none all
+    writes c.args.self.now c.clear.new.self.items total (g.W.Write.contents start) t.before t.after
+    (g.W.TellingWrite.failures start) t.failures_before t.failures_after has none all

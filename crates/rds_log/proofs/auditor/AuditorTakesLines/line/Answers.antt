@@ -20,5 +20,8 @@ returns-else-is_empty-clause-takes g c how start lines line says starts has =
     takes_slot how c.args.self.now c.fail.new.self _ _ _ lines line c.in-Slot.group c.all_faults-found.result
     (rw c.in-Slot.is at says) has c.requires.wants
     (rw (ap (λ (a : Auditor). a.audit) kept) c.all_faults-found.ensures) c.fail.ensures.lines
-    (ap (λ (a : Auditor). a.slots) kept) (ap (λ (a : Auditor). a.stop) kept)
-    (λ yes. elim (done.0 yes) [ inl before ↦ absurd (c.requires.wants before) | inr now ↦ now ], λ now. done.1 (inr now))
+    (ap (λ (a : Auditor). a.slots) kept) (ap (λ (a : Auditor). a.stop) kept) (
+      λ yes. elim (done.0 yes) [ inl before ↦ absurd (c.requires.wants before) | inr now ↦ now ],
+      λ now. done.1
+          (inr now),
+    )

@@ -20,13 +20,15 @@ returns-then-is_empty-clause-none c begun kept =
 pub returns-clause-some : goal.returns-clause-some
 returns-clause-some c begun kept =
     let first : c.as_slice-2.result.now ≡ take 60 (begun ++ c.args.last.now) =
-    c.as_slice-2.ensures.value ∙ c.keep.ensures.kept ∙ ap (λ (l : Line). take 60 (l ++ c.args.last.now)) kept ∙ kept_of_more begun c.args.last.now in
+    c.as_slice-2.ensures.value ∙ c.keep.ensures.kept ∙ ap (λ (l : Line). take 60 (l ++ c.args.last.now)) kept
+    ∙ kept_of_more begun c.args.last.now in
     some_by_first (begun ++ c.args.last.now) c.said_by.result (rw first at c.said_by.ensures.some)
 
 pub returns-clause-none : goal.returns-clause-none
 returns-clause-none c begun kept =
     let first : c.as_slice-2.result.now ≡ take 60 (begun ++ c.args.last.now) =
-    c.as_slice-2.ensures.value ∙ c.keep.ensures.kept ∙ ap (λ (l : Line). take 60 (l ++ c.args.last.now)) kept ∙ kept_of_more begun c.args.last.now in
+    c.as_slice-2.ensures.value ∙ c.keep.ensures.kept ∙ ap (λ (l : Line). take 60 (l ++ c.args.last.now)) kept
+    ∙ kept_of_more begun c.args.last.now in
     none_by_first (begun ++ c.args.last.now) c.said_by.result (rw first at c.said_by.ensures.none)
 
 pub returns-then-is_empty-clause-kept : goal.returns-then-is_empty-clause-kept

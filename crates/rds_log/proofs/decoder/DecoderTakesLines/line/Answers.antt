@@ -8,4 +8,5 @@ returns-in-Skip-clause-takes g c how start lines line says starts has =
 
 pub returns-in-Slot-clause-takes : goal.returns-in-Slot-clause-takes
 returns-in-Slot-clause-takes g c how start lines line says starts has =
-    takes_slot how c.args.self.now _ _ _ _ lines line c.in-Slot.group (rw c.in-Slot.is at says) c.slot.ensures.change has
+    takes_slot how c.args.self.now _ _ _ _ lines line c.in-Slot.group (rw c.in-Slot.is at says) c.slot.ensures.change
+    has

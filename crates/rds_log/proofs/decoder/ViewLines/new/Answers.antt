@@ -2,4 +2,12 @@ use Rattle.std.proofs.Common.{[], refl}
 use Rattle.rds_log.proofs.decoder.ViewLines.new.Goals as goal
 
 pub returns-clause-stands : goal.returns-clause-stands
-returns-clause-stands c t begins = record { receiver = begins; says_why = refl; displays = []; are = tt; slot = refl; shown = c.new.ensures; changes = refl }
+returns-clause-stands c t begins = record {
+  receiver = begins;
+  says_why = refl;
+  displays = [];
+  are = tt;
+  slot = refl;
+  shown = c.new.ensures;
+  changes = refl;
+}

@@ -3,4 +3,5 @@ use Rattle.rds_log.specs.LogWrites.{SayWhys}
 use Rattle.rds_log.proofs.decoder.ViewLines.whys.Goals as goal
 
 pub returns-then-self : goal.returns-then-self
-returns-then-self c t input stands = subst (λ b. SayWhys b t input (Some c.whys.result)) (sym c.if-self.true) (c.whys.result, c.whys.ensures t input stands, refl)
+returns-then-self c t input stands = subst (λ b. SayWhys b t input (Some c.whys.result)) (sym c.if-self.true)
+    (c.whys.result, c.whys.ensures t input stands, refl)

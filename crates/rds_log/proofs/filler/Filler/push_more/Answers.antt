@@ -17,5 +17,6 @@ pub returns-clause-pushed : goal.returns-clause-pushed
 returns-clause-pushed g c start total has =
     let more = c.saturating_sub-more.result in
     same_pushed _ _ c.push_lost.result _ _
-    (append_assoc total (break_line c.args.why) (lost_lines more) ∙ ap (λ (n : ℕ). total ++ (break_line c.args.why ++ lost_lines n)) c.saturating_sub-more.ensures)
+    (append_assoc total (break_line c.args.why) (lost_lines more)
+    ∙ ap (λ (n : ℕ). total ++ (break_line c.args.why ++ lost_lines n)) c.saturating_sub-more.ensures)
     (c.push_lost.ensures start _ (c.in_ok-push_comment.ensures start total has))

@@ -8,11 +8,14 @@ use Rattle.rds_receiver.proofs.display.StoredDisplay.hear.Goals as goal
 
 pub returns-in-Name-clause-holds : goal.returns-in-Name-clause-holds
 returns-in-Name-clause-holds c stored m first heard st =
-    subst (λ (x : Message). HoldsAt m (first + length heard) first (display_stored (record c.args.self.now { name = c.take.new.self })) (Some x ∷ heard))
+    subst (λ (x : Message). HoldsAt m (first + length heard) first
+    (display_stored (record c.args.self.now { name = c.take.new.self })) (Some x ∷ heard))
     (ap (λ (a : ℕ). Name c.in-Name.flag a c.in-Name.bytes) c.get-in-Name.ensures.value ∙ sym c.in-Name.is)
-    (name_taken m first c.args.self.now c.take.new.self heard c.in-Name.flag _ c.in-Name.bytes c.take.ensures.same c.take.ensures.other c.take.ensures.flag
+    (name_taken m first c.args.self.now c.take.new.self heard c.in-Name.flag _ c.in-Name.bytes c.take.ensures.same
+    c.take.ensures.other c.take.ensures.flag
     (c.take.ensures.later ∙ c.later-later.ensures) st)
 
 pub returns-in-Tags-clause-holds : goal.returns-in-Tags-clause-holds
 returns-in-Tags-clause-holds c stored m first heard st =
-    subst (λ (x : Message). HoldsAt m (first + length heard) first (display_stored c.hear_tags.new.self) (Some x ∷ heard)) (sym c.in-Tags.is) (c.hear_tags.ensures.holds stored m first heard st)
+    subst (λ (x : Message). HoldsAt m (first + length heard) first (display_stored c.hear_tags.new.self)
+    (Some x ∷ heard)) (sym c.in-Tags.is) (c.hear_tags.ensures.holds stored m first heard st)

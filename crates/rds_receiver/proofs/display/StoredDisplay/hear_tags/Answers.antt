@@ -13,17 +13,22 @@ pub returns-then-eq-clause-holds : goal.returns-then-eq-clause-holds
 returns-then-eq-clause-holds c stored m first heard st =
     let r = display_stored c.args.self.now in
     let known : r.is_known ≡ true = grind (arith, nat_tests, c.if-self-ne0.true) in
-    let held = young r.dwell c.args.self.now.rest c.args.self.now.text stored.rests stored.soon (c.is_held.ensures.0 c.if-is_held.true) in
+    let held = young r.dwell c.args.self.now.rest c.args.self.now.text stored.rests stored.soon
+    (c.is_held.ensures.0 c.if-is_held.true) in
     let is_young : r.text.age < m = omega (arith, held, st.dwell) in
-    let e : r.pair ≡ Some c.args.pair = sym (c.pair.ensures stored.pair) ∙ is_held_pair c.pair.result c.args.pair (sym c.eq.ensures ∙ c.if-eq.true) in
-    subst (λ (p : Option PairFields). HoldsAt m (first + length heard) first (record r { pair = p }) (Some (Tags c.args.pair) ∷ heard)) (sym e)
+    let e : r.pair ≡ Some c.args.pair = sym (c.pair.ensures stored.pair) ∙ is_held_pair c.pair.result c.args.pair
+    (sym c.eq.ensures ∙ c.if-eq.true) in
+    subst (λ (p : Option PairFields). HoldsAt m (first + length heard) first (record r { pair = p })
+    (Some (Tags c.args.pair) ∷ heard)) (sym e)
     (tags_heard m first r heard c.args.pair known is_young st)
 
 pub returns-then-is_held-clause-holds : goal.returns-then-is_held-clause-holds
 returns-then-is_held-clause-holds c stored m first heard st =
     let r = display_stored c.args.self.now in
     let known : r.is_known ≡ true = grind (arith, nat_tests, c.if-self-ne0.true) in
-    let held = young r.dwell c.args.self.now.rest c.args.self.now.text stored.rests stored.soon (c.is_held.ensures.0 c.if-is_held.true) in
+    let held = young r.dwell c.args.self.now.rest c.args.self.now.text stored.rests stored.soon
+    (c.is_held.ensures.0 c.if-is_held.true) in
     let is_young : r.text.age < m = omega (arith, held, st.dwell) in
-    subst (λ (p : Option PairFields). HoldsAt m (first + length heard) first (record r { pair = p }) (Some (Tags c.args.pair) ∷ heard)) (sym c.of-self.ensures.same)
+    subst (λ (p : Option PairFields). HoldsAt m (first + length heard) first (record r { pair = p })
+    (Some (Tags c.args.pair) ∷ heard)) (sym c.of-self.ensures.same)
     (tags_heard m first r heard c.args.pair known is_young st)

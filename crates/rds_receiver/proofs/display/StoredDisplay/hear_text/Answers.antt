@@ -22,12 +22,17 @@ returns-clause-holds c stored m first heard st =
     ] in
     let other : c.args.flag ≢ r.text.flag → between ≡ record r { pair = None } =
     λ ne. elim c.if-not-has_flag.branch [
-      | then-not-has_flag w ↦ ap display_stored w.self-is ∙ ap (λ (p : Option PairFields). record r { pair = p }) w.none-self.ensures.same
+      | then-not-has_flag w ↦ ap display_stored w.self-is ∙ ap (λ (p : Option PairFields). record r { pair = p })
+          w.none-self.ensures.same
       | else-not-has_flag w ↦ absurd (ne (sym (c.has_flag.ensures.0 w.if-not-has_flag.false)))
     ] in
-    let age : age_stored between.dwell c.if-not-has_flag.self.rest c.take.new.self ≡ 0 = elim (equal_or_not c.args.flag r.text.flag) [
-      | inl e ↦ age_taken _ _ c.take.new.self _ _ _ (c.take.ensures.same (e ∙ ap (λ (x : DisplayState). x.text.flag) (sym (same e)))) (c.take.ensures.later ∙ c.later-later.ensures)
-      | inr ne ↦ age_taken _ _ c.take.new.self _ _ _ (c.take.ensures.other (λ e. ne (e ∙ ap (λ (x : DisplayState). x.text.flag) (other ne)))) (c.take.ensures.later ∙ c.later-later.ensures)
+    let age : age_stored between.dwell c.if-not-has_flag.self.rest c.take.new.self
+    ≡ 0 = elim (equal_or_not c.args.flag r.text.flag) [
+      | inl e ↦ age_taken _ _ c.take.new.self _ _ _ (c.take.ensures.same (e ∙ ap (λ (x : DisplayState). x.text.flag)
+          (sym (same e)))) (c.take.ensures.later ∙ c.later-later.ensures)
+      | inr ne ↦ age_taken _ _ c.take.new.self _ _ _
+          (c.take.ensures.other (λ e. ne (e ∙ ap (λ (x : DisplayState). x.text.flag) (other ne)))) (c.take.ensures.later
+          ∙ c.later-later.ensures)
     ] in
     text_heard_by m first r between _ heard c.args.flag c.args.address c.args.bytes same other
     record { same = c.take.ensures.same; other = c.take.ensures.other; flag = c.take.ensures.flag; age = age } refl st

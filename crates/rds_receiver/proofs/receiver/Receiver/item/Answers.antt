@@ -6,4 +6,5 @@ use Rattle.rds_receiver.proofs.receiver.Receiver.item.Goals as goal
 
 pub returns : goal.returns
 returns c =
-    subst (λ (r : ReceiverState). WhatItHeard r (λ m first heard. IsItemShown m first heard c.item.result)) c.self.view_is (c.item.ensures c.self.invariant)
+    subst (λ (r : ReceiverState). WhatItHeard r (λ m first heard. IsItemShown m first heard c.item.result))
+    c.self.view_is (c.item.ensures c.self.invariant)

@@ -7,4 +7,5 @@ use Rattle.rds_receiver.proofs.receiver.Receiver.name.Goals as goal
 
 pub returns-clause-shown : goal.returns-clause-shown
 returns-clause-shown c =
-    subst (λ (r : ReceiverState). WhatItHeard r (λ m first heard. IsNameShown m first heard (option_copied c.name.result))) c.self.view_is c.name.ensures.shown
+    subst (λ (r : ReceiverState). WhatItHeard r (λ m first heard. IsNameShown m first heard
+    (option_copied c.name.result))) c.self.view_is c.name.ensures.shown

@@ -6,4 +6,5 @@ use Rattle.rds_receiver.proofs.receiver.Receiver.pair.Goals as goal
 
 pub returns : goal.returns
 returns c =
-    subst (λ (r : ReceiverState). WhatItHeard r (λ m first heard. c.pair.result ≡ pair_held m first heard)) c.self.view_is (c.pair.ensures c.self.invariant)
+    subst (λ (r : ReceiverState). WhatItHeard r (λ m first heard. c.pair.result ≡ pair_held m first heard))
+    c.self.view_is (c.pair.ensures c.self.invariant)

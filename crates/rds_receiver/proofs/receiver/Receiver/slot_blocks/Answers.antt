@@ -5,4 +5,5 @@ use Rattle.rds_receiver.proofs.receiver.Receiver.slot_blocks.Goals as goal
 
 pub returns-clause-same : goal.returns-clause-same
 returns-clause-same c calm view t input st shown =
-    c.slot.ensures.same c.self.invariant calm view t input (subst (λ (r : ReceiverState). ReceiverAt t r input) (sym c.self.view_is) st) shown
+    c.slot.ensures.same c.self.invariant calm view t input (subst (λ (r : ReceiverState). ReceiverAt t r input)
+    (sym c.self.view_is) st) shown

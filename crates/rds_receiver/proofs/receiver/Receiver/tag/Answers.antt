@@ -6,5 +6,7 @@ use Rattle.rds_receiver.proofs.receiver.Receiver.tag.Goals as goal
 
 pub returns-clause-shown : goal.returns-clause-shown
 returns-clause-shown c t input s heard are text shown =
-    let same = same_text_shown t.dwell t.first (counted t heard) _ text (c.text.ensures.shown t input s heard are) shown in
-    c.shown_tag.ensures.shown ∙ ap (λ (o : Option (List ℕ)). tag_of c.args.which o c.pair.result) same ∙ ap (tag_of c.args.which text) (c.pair.ensures t input s heard are)
+    let same = same_text_shown t.dwell t.first (counted t heard) _ text (c.text.ensures.shown t input s heard are) shown
+    in
+    c.shown_tag.ensures.shown ∙ ap (λ (o : Option (List ℕ)). tag_of c.args.which o c.pair.result) same
+    ∙ ap (tag_of c.args.which text) (c.pair.ensures t input s heard are)

@@ -7,4 +7,5 @@ use Rattle.rds_receiver.proofs.receiver.Receiver.text.Goals as goal
 
 pub returns-clause-shown : goal.returns-clause-shown
 returns-clause-shown c =
-    subst (λ (r : ReceiverState). WhatItHeard r (λ m first heard. IsTextShown m first heard (option_copied c.text.result))) c.self.view_is c.text.ensures.shown
+    subst (λ (r : ReceiverState). WhatItHeard r (λ m first heard. IsTextShown m first heard
+    (option_copied c.text.result))) c.self.view_is c.text.ensures.shown

@@ -8,5 +8,6 @@ returns c t input s =
     let at = rw (← c.self.view_is) at s in (
       at.heard,
       at.are,
-      c.whys.ensures c.self.invariant.display t.dwell (newest_slot t.first (counted t at.heard)) t.first (counted t at.heard) (shows_counted t _ input at),
+      c.whys.ensures c.self.invariant.display t.dwell (newest_slot t.first (counted t at.heard)) t.first
+          (counted t at.heard) (shows_counted t _ input at),
     )

@@ -6,5 +6,7 @@ use Rattle.rds_receiver.proofs.stored.StoredReceiver.age_lasts.Goals as goal
 pub returns-clause-lasts : goal.returns-clause-lasts
 returns-clause-lasts c stored w m first heard shows st =
     grown w m first _ _ heard refl refl c.grow_older.ensures
-    (λ young. c.while_text_is_held-self.ensures.held (some_held _ _ c.args.self.now.display.text young) ∙ c.saturating_sub.ensures)
-    (λ old. c.while_text_is_held-self.ensures.none (none_held _ _ c.args.self.now.display.text stored.display.rests stored.display.soon old)) shows st
+    (λ young. c.while_text_is_held-self.ensures.held (some_held _ _ c.args.self.now.display.text young)
+    ∙ c.saturating_sub.ensures)
+    (λ old. c.while_text_is_held-self.ensures.none (none_held _ _ c.args.self.now.display.text stored.display.rests
+    stored.display.soon old)) shows st

@@ -1,11 +1,13 @@
 use Rattle.std.proofs.Common.{refl, sym}
 use Rattle.rds_receiver.proofs.ConfirmingSteps.{not_true, text_confirmed}
 use Rattle.rds_receiver.proofs.stored.StoredReceiver.confirm_text.Goals as goal
-use Rattle.rds_receiver.proofs.stored.StoredReceiver.confirm_text.Goals.{else-again-via-else-again, else-again-via-then-again+else-not-has_flag}
+use Rattle.rds_receiver.proofs.stored.StoredReceiver.confirm_text.Goals.{else-again-via-else-again}
+use Rattle.rds_receiver.proofs.stored.StoredReceiver.confirm_text.Goals.{else-again-via-then-again+else-not-has_flag}
 
 pub returns-then-not-has_flag-clause-confirms : goal.returns-then-not-has_flag-clause-confirms
 returns-then-not-has_flag-clause-confirms c w m first heard st =
-    text_confirmed w m first heard _ _ c.args.flag c.args.address c.args.bytes c.take-again.result c.requires refl refl refl c.take-again.ensures.taken c.take-again.ensures.others
+    text_confirmed w m first heard _ _ c.args.flag c.args.address c.args.bytes c.take-again.result c.requires refl refl
+    refl c.take-again.ensures.taken c.take-again.ensures.others
     c.take-again.ensures.again.0 c.take-again.ensures.again.1
     (λ e. absurd (not_true _ e c.if-again.true))
     (λ e same. absurd (not_true _ c.if-not-has_flag.true (c.has_flag.ensures.1 (sym same))))
@@ -13,7 +15,8 @@ returns-then-not-has_flag-clause-confirms c w m first heard st =
 
 pub returns-else-again-clause-confirms : goal.returns-else-again-clause-confirms
 returns-else-again-clause-confirms c w m first heard st =
-    text_confirmed w m first heard _ _ c.args.flag c.args.address c.args.bytes c.take-again.result c.requires refl refl refl c.take-again.ensures.taken c.take-again.ensures.others
+    text_confirmed w m first heard _ _ c.args.flag c.args.address c.args.bytes c.take-again.result c.requires refl refl
+    refl c.take-again.ensures.taken c.take-again.ensures.others
     c.take-again.ensures.again.0 c.take-again.ensures.again.1
     (λ e. refl)
     (λ e same. refl)

@@ -12,9 +12,11 @@ returns-in_default-clause-holds c stored = (None, hears, by)
     hears : Hears c.args.self.now.display.pi c.args.group None
     hears = rw c.in_default.is at c.heard_blocks.ensures
 
-    by : (window : Option ℕ) (m first : ℕ) (heard : List (Option Message)) → HasAged window m first (receiver_stored c.args.self.now) heard
+    by : (window : Option ℕ) (m first : ℕ) (heard : List (Option Message))
+        → HasAged window m first (receiver_stored c.args.self.now) heard
         → HoldsBy window m (first + length heard) first (receiver_stored c.args.self.now) (None ∷ heard)
-    by None m first heard aged = nothing_taken None m first heard (receiver_stored c.args.self.now) record { display = aged.display; lasts = aged.lasts }
+    by None m first heard aged = nothing_taken None m first heard (receiver_stored c.args.self.now) record
+        { display = aged.display; lasts = aged.lasts }
     by (Some w) m first heard aged = absurd (omega (arith, c.if-self-gt0.false, aged.lasts.window, aged.lasts.two))
 
 pub returns-clause-holds : goal.returns-clause-holds
@@ -23,8 +25,11 @@ returns-clause-holds c stored = (Some c.in-Some.message, hears, by)
     hears : Hears c.args.self.now.display.pi c.args.group (Some c.in-Some.message)
     hears = rw c.in-Some.is at c.heard_blocks.ensures
 
-    by : (window : Option ℕ) (m first : ℕ) (heard : List (Option Message)) → HasAged window m first (receiver_stored c.args.self.now) heard
-        → HoldsBy window m (first + length heard) first (receiver_stored record c.args.self.now { display = c.hear.new.self }) (Some c.in-Some.message ∷ heard)
-    by None m first heard aged = message_counted None m first heard _ _ c.in-Some.message refl (c.hear.ensures.holds stored.display)
+    by : (window : Option ℕ) (m first : ℕ) (heard : List (Option Message))
+        → HasAged window m first (receiver_stored c.args.self.now) heard
+        → HoldsBy window m (first + length heard) first (receiver_stored record c.args.self.now
+        { display = c.hear.new.self }) (Some c.in-Some.message ∷ heard)
+    by None m first heard aged = message_counted None m first heard _ _ c.in-Some.message refl
+        (c.hear.ensures.holds stored.display)
         (each_counts m first heard _ c.in-Some.message record { display = aged.display; lasts = aged.lasts })
     by (Some w) m first heard aged = absurd (omega (arith, c.if-self-gt0.false, aged.lasts.window, aged.lasts.two))

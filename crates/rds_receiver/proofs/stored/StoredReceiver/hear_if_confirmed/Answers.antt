@@ -14,10 +14,12 @@ returns-in_default-clause-holds c stored = (None, hears, by)
     hears : Hears c.args.self.now.display.pi c.args.group None
     hears = rw (c.in_default.is, ap (λ d. d.pi) c.age_lasts.ensures.display) at c.heard_blocks.ensures
 
-    by : (window : Option ℕ) (m first : ℕ) (heard : List (Option Message)) → HasAged window m first (receiver_stored c.args.self.now) heard
+    by : (window : Option ℕ) (m first : ℕ) (heard : List (Option Message))
+        → HasAged window m first (receiver_stored c.args.self.now) heard
         → HoldsBy window m (first + length heard) first (receiver_stored c.age_lasts.new.self) (None ∷ heard)
     by None m first heard aged = absurd (omega (arith, c.requires, aged.lasts))
-    by (Some w) m first heard aged = nothing_taken (Some w) m first heard _ (lasts_aged w m first heard _ _ (ap display_stored c.age_lasts.ensures.display) (c.age_lasts.ensures.lasts stored w m first heard) aged)
+    by (Some w) m first heard aged = nothing_taken (Some w) m first heard _ (lasts_aged w m first heard _ _
+        (ap display_stored c.age_lasts.ensures.display) (c.age_lasts.ensures.lasts stored w m first heard) aged)
 
 pub returns-then-not-confirm-clause-holds : goal.returns-then-not-confirm-clause-holds
 returns-then-not-confirm-clause-holds c stored = (Some c.in-Some.message, hears, by)
@@ -25,18 +27,23 @@ returns-then-not-confirm-clause-holds c stored = (Some c.in-Some.message, hears,
     hears : Hears c.args.self.now.display.pi c.args.group (Some c.in-Some.message)
     hears = rw (c.in-Some.is, ap (λ d. d.pi) c.age_lasts.ensures.display) at c.heard_blocks.ensures
 
-    by : (window : Option ℕ) (m first : ℕ) (heard : List (Option Message)) → HasAged window m first (receiver_stored c.args.self.now) heard
-        → HoldsBy window m (first + length heard) first (receiver_stored c.confirm.new.self) (Some c.in-Some.message ∷ heard)
+    by : (window : Option ℕ) (m first : ℕ) (heard : List (Option Message))
+        → HasAged window m first (receiver_stored c.args.self.now) heard
+        → HoldsBy window m (first + length heard) first (receiver_stored c.confirm.new.self) (Some c.in-Some.message
+        ∷ heard)
     by None m first heard aged = absurd (omega (arith, c.requires, aged.lasts))
     by (Some w) m first heard aged =
-        let before = lasts_aged w m first heard (receiver_stored c.args.self.now) (receiver_stored c.age_lasts.new.self) (ap display_stored c.age_lasts.ensures.display) (c.age_lasts.ensures.lasts stored w m first heard) aged in
+        let before = lasts_aged w m first heard (receiver_stored c.args.self.now) (receiver_stored c.age_lasts.new.self)
+        (ap display_stored c.age_lasts.ensures.display) (c.age_lasts.ensures.lasts stored w m first heard) aged in
         message_not_counted (Some w) m first heard _ c.in-Some.message
-        (subst (λ (b : Bool). Counts (Some w) m first (receiver_stored c.confirm.new.self) heard c.in-Some.message b) c.if-not-confirm.true
+        (subst (λ (b : Bool). Counts (Some w) m first (receiver_stored c.confirm.new.self) heard c.in-Some.message b)
+        c.if-not-confirm.true
         (c.confirm.ensures.confirms (c.age_lasts.ensures.good stored) w m first heard before))
 
 pub returns-then-not-confirm-clause-same : goal.returns-then-not-confirm-clause-same
 returns-then-not-confirm-clause-same c calm =
-    subst (λ d. ShowsAlike (display_stored c.args.self.now.display) (display_stored d)) (sym (c.confirm.ensures.display ∙ c.age_lasts.ensures.display)) (alike_itself _)
+    subst (λ d. ShowsAlike (display_stored c.args.self.now.display) (display_stored d))
+    (sym (c.confirm.ensures.display ∙ c.age_lasts.ensures.display)) (alike_itself _)
 
 pub returns-clause-holds : goal.returns-clause-holds
 returns-clause-holds c stored = (Some c.in-Some.message, hears, by)
@@ -44,11 +51,16 @@ returns-clause-holds c stored = (Some c.in-Some.message, hears, by)
     hears : Hears c.args.self.now.display.pi c.args.group (Some c.in-Some.message)
     hears = rw (c.in-Some.is, ap (λ d. d.pi) c.age_lasts.ensures.display) at c.heard_blocks.ensures
 
-    by : (window : Option ℕ) (m first : ℕ) (heard : List (Option Message)) → HasAged window m first (receiver_stored c.args.self.now) heard
-        → HoldsBy window m (first + length heard) first (receiver_stored record c.confirm.new.self { display = c.hear.new.self }) (Some c.in-Some.message ∷ heard)
+    by : (window : Option ℕ) (m first : ℕ) (heard : List (Option Message))
+        → HasAged window m first (receiver_stored c.args.self.now) heard
+        → HoldsBy window m (first + length heard) first (receiver_stored record c.confirm.new.self
+        { display = c.hear.new.self }) (Some c.in-Some.message ∷ heard)
     by None m first heard aged = absurd (omega (arith, c.requires, aged.lasts))
     by (Some w) m first heard aged =
-        let before = lasts_aged w m first heard (receiver_stored c.args.self.now) (receiver_stored c.age_lasts.new.self) (ap display_stored c.age_lasts.ensures.display) (c.age_lasts.ensures.lasts stored w m first heard) aged in
-        message_counted (Some w) m first heard _ _ c.in-Some.message refl (c.hear.ensures.holds (c.confirm.ensures.good (c.age_lasts.ensures.good stored)).display)
-        (subst (λ (b : Bool). Counts (Some w) m first (receiver_stored c.confirm.new.self) heard c.in-Some.message b) c.if-not-confirm.false
+        let before = lasts_aged w m first heard (receiver_stored c.args.self.now) (receiver_stored c.age_lasts.new.self)
+        (ap display_stored c.age_lasts.ensures.display) (c.age_lasts.ensures.lasts stored w m first heard) aged in
+        message_counted (Some w) m first heard _ _ c.in-Some.message refl
+        (c.hear.ensures.holds (c.confirm.ensures.good (c.age_lasts.ensures.good stored)).display)
+        (subst (λ (b : Bool). Counts (Some w) m first (receiver_stored c.confirm.new.self) heard c.in-Some.message b)
+        c.if-not-confirm.false
         (c.confirm.ensures.confirms (c.age_lasts.ensures.good stored) w m first heard before))

@@ -6,5 +6,7 @@ use Rattle.rds_receiver.proofs.stored.StoredReceiver.item.Goals as goal
 
 pub returns : goal.returns
 returns c stored t input s heard are text shown =
-    let same = same_text_shown t.dwell t.first (counted t heard) _ text (c.text.ensures.shown t input s heard are) shown in
-    c.shown_item.ensures ∙ ap (λ (o : Option (List ℕ)). item_of o c.pair.result) same ∙ ap (item_of text) (c.pair.ensures stored t input s heard are)
+    let same = same_text_shown t.dwell t.first (counted t heard) _ text (c.text.ensures.shown t input s heard are) shown
+    in
+    c.shown_item.ensures ∙ ap (λ (o : Option (List ℕ)). item_of o c.pair.result) same
+    ∙ ap (item_of text) (c.pair.ensures stored t input s heard are)

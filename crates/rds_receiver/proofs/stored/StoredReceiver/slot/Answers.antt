@@ -9,23 +9,31 @@ use Rattle.rds_receiver.proofs.stored.StoredReceiver.slot.Goals as goal
 pub returns-then-is_new-clause-stands : goal.returns-then-is_new-clause-stands
 returns-then-is_new-clause-stands c stored t input st =
     let grown = c.grow_older-aged in
-    let (entry, hears, takes) = c.hear-is_new.ensures.holds record { display = grown.ensures.good stored.display; pair = stored.pair } in
+    let (entry, hears, takes) = c.hear-is_new.ensures.holds record
+    { display = grown.ensures.good stored.display; pair = stored.pair } in
     let here : grown.new.self.pi ≡ t.programme = grown.ensures.programme ∙ st.tuned in
-    slot_stands t _ _ input c.args.group entry st (subst (λ pi. Hears pi c.args.group entry) here hears) (c.hear-is_new.ensures.programme ∙ grown.ensures.programme)
+    slot_stands t _ _ input c.args.group entry st (subst (λ pi. Hears pi c.args.group entry) here hears)
+    (c.hear-is_new.ensures.programme ∙ grown.ensures.programme)
     (takes t.window t.dwell t.first st.heard record {
-      display = display_grown t.window t.dwell t.first _ _ st.heard (grown.ensures.holds stored.display) st.holds.display;
-      lasts = with_display t.window t.dwell (newest_slot t.first st.heard) t.first (receiver_stored c.args.self.now) st.heard (display_stored grown.new.self) st.holds.lasts;
+      display = display_grown t.window t.dwell t.first _ _ st.heard (grown.ensures.holds stored.display)
+          st.holds.display;
+      lasts = with_display t.window t.dwell (newest_slot t.first st.heard) t.first (receiver_stored c.args.self.now)
+          st.heard (display_stored grown.new.self) st.holds.lasts;
     })
 
 pub returns-else-is_new-clause-stands : goal.returns-else-is_new-clause-stands
 returns-else-is_new-clause-stands c stored t input st =
     let grown = c.grow_older-aged in
-    let (entry, hears, takes) = c.hear-is_new.ensures.holds record { display = grown.ensures.good stored.display; pair = stored.pair } in
+    let (entry, hears, takes) = c.hear-is_new.ensures.holds record
+    { display = grown.ensures.good stored.display; pair = stored.pair } in
     let here : grown.new.self.pi ≡ t.programme = grown.ensures.programme ∙ st.tuned in
-    slot_stands t _ _ input c.args.group entry st (subst (λ pi. Hears pi c.args.group entry) here hears) (c.hear-is_new.ensures.programme ∙ grown.ensures.programme)
+    slot_stands t _ _ input c.args.group entry st (subst (λ pi. Hears pi c.args.group entry) here hears)
+    (c.hear-is_new.ensures.programme ∙ grown.ensures.programme)
     (takes t.window t.dwell t.first st.heard record {
-      display = display_grown t.window t.dwell t.first _ _ st.heard (grown.ensures.holds stored.display) st.holds.display;
-      lasts = with_display t.window t.dwell (newest_slot t.first st.heard) t.first (receiver_stored c.args.self.now) st.heard (display_stored grown.new.self) st.holds.lasts;
+      display = display_grown t.window t.dwell t.first _ _ st.heard (grown.ensures.holds stored.display)
+          st.holds.display;
+      lasts = with_display t.window t.dwell (newest_slot t.first st.heard) t.first (receiver_stored c.args.self.now)
+          st.heard (display_stored grown.new.self) st.holds.lasts;
     })
 
 pub returns-else-is_new-clause-same : goal.returns-else-is_new-clause-same

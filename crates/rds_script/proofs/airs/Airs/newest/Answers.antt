@@ -12,6 +12,8 @@ returns-in-Some c =
     let items = c.args.self.now.stretches.items in
     let s = c.in-Some.stretch.now in
     let i = length items - 1 in
-    let at : slice_get items i ≡ Some s = ap (λ (l : List Stretch). slice_get l (length l - 1)) (sym c.deref.ensures.value) ∙ sym c.last.ensures.value ∙ ap option_copied c.in-Some.is in
+    let at : slice_get items i ≡ Some s = ap (λ (l : List Stretch). slice_get l (length l - 1))
+    (sym c.deref.ensures.value) ∙ sym c.last.ensures.value ∙ ap option_copied c.in-Some.is in
     let within : i < length items = slice_get_within items i s at in
-    c.view.ensures ∙ sym (newest_is items i s (omega (arith, within)) ∙ ap (λ (t : Stretch). view_kept t.air) (get_or_from_slice_get items i s s at))
+    c.view.ensures ∙ sym (newest_is items i s (omega (arith, within)) ∙ ap (λ (t : Stretch). view_kept t.air)
+    (get_or_from_slice_get items i s s at))

@@ -1,4 +1,5 @@
-use Rattle.std.proofs.Common.{◌≡◌, ◌⊎◌, ◌<◌, ◌∙◌, ◌+◌, ℕ, List, None, Option, Some, ap, arith, inl, inr, length, refl, rules, subst, sym}
+use Rattle.std.proofs.Common.{◌≡◌, ◌⊎◌, ◌<◌, ◌∙◌, ◌+◌, ℕ, List, None, Option, Some, ap, arith, inl, inr, length, refl}
+use Rattle.std.proofs.Common.{rules, subst, sym}
 use Rattle.std.proofs.lemmas.Result.{err_from_is_err_and}
 use Rattle.csv.specs.Records.{fields_of}
 use Rattle.rds_world.specs.Event.{Event}
@@ -9,7 +10,8 @@ use Rattle.rds_script.specs.Outcomes.{Outcome}
 use Rattle.rds_script.specs.Rows.{IsAllowed}
 use Rattle.rds_script.specs.declared.player.Player.{Player}
 use Rattle.rds_script.specs.declared.watched.Watched.{Watched}
-use Rattle.rds_script.proofs.PlayedRows.{IsReady, as_many_rows, is_ready, names_receivers, not_taken, plays_on, refused_row, says_none}
+use Rattle.rds_script.proofs.PlayedRows.{IsReady, as_many_rows, is_ready, names_receivers, not_taken, plays_on}
+use Rattle.rds_script.proofs.PlayedRows.{refused_row, says_none}
 use Rattle.rds_script.proofs.player.Player.row.Goals as goal
 
 pub returns-in-Err-clause-refused : goal.returns-in-Err-clause-refused
@@ -25,18 +27,22 @@ returns-then-not-allows-clause-refused c played s =
     let yes_allowed = c.allows.ensures.1 here in
     let no = c.if-not-allows.true in
     cc in
-    names_receivers played.config.premise played.form (fields_of c.args.row.now) played.records c.read_event.new.event says none
+    names_receivers played.config.premise played.form (fields_of c.args.row.now) played.records c.read_event.new.event
+    says none
 
 -- there is no memory: for a world, or for what was on air
-no_memory : (played : Played) (events : List Event) (outcomes : List Outcome) (watched : Option Watched) → length played.records ≡ length events
-    → HasWatched played.config played.receivers watched events outcomes → IsFirstOrAlone watched → (length played.records ≡ 0) ⊎ (played.config.kind ≡ FlagAlone)
+no_memory : (played : Played) (events : List Event) (outcomes : List Outcome) (watched : Option Watched)
+    → length played.records ≡ length events
+    → HasWatched played.config played.receivers watched events outcomes → IsFirstOrAlone watched
+    → (length played.records ≡ 0) ⊎ (played.config.kind ≡ FlagAlone)
 no_memory played events outcomes None counted none first = inl (omega (arith, counted, ap length none))
 no_memory played events outcomes (Some w) counted has alone = inr (alone played.config played.receivers events has.1)
 
 pub returns-in_err-begin-clause-refused : goal.returns-in_err-begin-clause-refused
 returns-in_err-begin-clause-refused c played s =
     let memory = c.in_err-begin.ensures.memory in
-    let counted : length played.records ≡ length s.events = as_many_rows played.config.premise played.receivers played.records s.events s.rows in
+    let counted : length played.records ≡ length s.events = as_many_rows played.config.premise played.receivers
+    played.records s.events s.rows in
     let p = err_from_is_err_and c.from_residual.result c.from_residual.ensures.1 in
     rw (p.1, p.2, memory.0) (no_memory played s.events s.outcomes c.args.self.now.watched counted s.watched memory.1)
 
@@ -49,11 +55,15 @@ returns-in-Ok-clause-stands c played s =
     let slot = ap (λ (p : Player). p.slot) same in
     let allowed : IsAllowed c.args.self.now.form c.len-receivers.result = search rules in
     let r = subst (IsReady played s.events s.outcomes c.len-receivers.result) is
-    (is_ready c.args.self.now.watched w played c.len-receivers.result s.events s.outcomes s.allowed (rw s.form_is at allowed) s.rows s.are s.watched (rw s.config_is at begun)) in
+    (is_ready c.args.self.now.watched w played c.len-receivers.result s.events s.outcomes s.allowed (rw s.form_is
+    at allowed) s.rows s.are s.watched (rw s.config_is at begun)) in
     let all = plays_on c.play.result c.args.self.now
     record c.begin.new.self { watched = Some c.play.new.self; slot = c.begin.new.self.slot + 1; wait = c.play.new.wait }
-    played s r.receivers (views_kept c.in-Some.watched) c.play.new.self (fields_of c.args.row.now) c.read_event.new.event c.args.lines.now c.play.new.lines form (ap (λ (p : Player). p.config) same) (ap (λ n. n + 1) slot) refl
-    r.allowed r.rows c.in_default.ensures.says r.same (c.play.ensures.taken played.config r.receivers s.events r.stands) (c.play.ensures.stands played.config r.receivers s.events r.stands)
+    played s r.receivers (views_kept c.in-Some.watched) c.play.new.self (fields_of c.args.row.now)
+    c.read_event.new.event c.args.lines.now c.play.new.lines form (ap (λ (p : Player). p.config) same)
+    (ap (λ n. n + 1) slot) refl
+    r.allowed r.rows c.in_default.ensures.says r.same (c.play.ensures.taken played.config r.receivers s.events r.stands)
+    (c.play.ensures.stands played.config r.receivers s.events r.stands)
     (rw (form, s.form_is, slot) at (c.play.ensures.outcome played.config r.receivers s.events r.stands)) in
     rw c.in-Ok.is at all
 
@@ -65,10 +75,13 @@ returns-in-Err-play-clause-refused c played s =
     let allowed : IsAllowed c.args.self.now.form c.len-receivers.result = search rules in
     let asked : c.len-receivers.result ≡ length c.read_event.new.event.receptions = search rules in
     let r = subst (IsReady played s.events s.outcomes c.len-receivers.result) is
-    (is_ready c.args.self.now.watched w played c.len-receivers.result s.events s.outcomes s.allowed (rw s.form_is at allowed) s.rows s.are s.watched (rw s.config_is at begun)) in
-    refused_row c.text_is_read_one_way.ensures played.form played.config.premise r.receivers (fields_of c.args.row.now) played.records c.read_event.new.event s.events r.rows c.in_default.ensures.says
+    (is_ready c.args.self.now.watched w played c.len-receivers.result s.events s.outcomes s.allowed (rw s.form_is
+    at allowed) s.rows s.are s.watched (rw s.config_is at begun)) in
+    refused_row c.text_is_read_one_way.ensures played.form played.config.premise r.receivers (fields_of c.args.row.now)
+    played.records c.read_event.new.event s.events r.rows c.in_default.ensures.says
     (subst (λ (n : ℕ). (0 < length played.records) ⊎ (r.receivers ≡ n)) asked r.how)
-    (not_taken played.config.premise r.receivers c.read_event.new.event s.events c.in-Err-play.why (c.in-Err-play.ensures.refused played.config r.receivers s.events r.stands))
+    (not_taken played.config.premise r.receivers c.read_event.new.event s.events c.in-Err-play.why
+    (c.in-Err-play.ensures.refused played.config r.receivers s.events r.stands))
 
 pub returns-then-not-allows-clause-slot : goal.returns-then-not-allows-clause-slot
 returns-then-not-allows-clause-slot c = tt

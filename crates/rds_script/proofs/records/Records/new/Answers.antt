@@ -11,5 +11,10 @@ returns g c =
       flexible = search rules;
       ready = inr (inr (search rules, made.headers));
       config = search rules;
-      gave = λ script known. (strip_bom script, rw (c.new-2.ensures.inner, known) at made.source, record { reached = (sym made.state, refl) });
+      gave = λ script known. (
+        strip_bom script,
+        rw (c.new-2.ensures.inner, known) at made.source,
+        record
+            { reached = (sym made.state, refl) },
+      );
     }

@@ -21,4 +21,8 @@ returns-in-Err-clause-stands c config receivers events s = record {
 }
 
 pub returns-in-Err-clause-memory : goal.returns-in-Err-clause-memory
-returns-in-Err-clause-memory c = (refl, λ config receivers events s. c.in-Err.ensures.alone config receivers events (views_kept c.args.self.now) s.compared)
+returns-in-Err-clause-memory c = (
+  refl,
+  λ config receivers events s. c.in-Err.ensures.alone config receivers events
+      (views_kept c.args.self.now) s.compared,
+)

@@ -8,6 +8,7 @@ returns-in-Ok-new-clause-stands c = record {
   world = c.in-Ok-new.ensures.stands;
   count = c.in-Ok-new.ensures.count;
   kept = c.nothing_shown.ensures.count;
-  shown = λ i within. nothing_yet c.args.config i (map view_kept c.nothing_shown.result.items) (c.nothing_shown.ensures.nothing i);
+  shown = λ i within. nothing_yet c.args.config i (map view_kept c.nothing_shown.result.items)
+      (c.nothing_shown.ensures.nothing i);
   compared = c.in-Ok.ensures.stands (map view_kept c.nothing_shown.result.items) c.nothing_shown.ensures.nothing;
 }

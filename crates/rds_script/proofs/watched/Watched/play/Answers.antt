@@ -1,4 +1,5 @@
-use Rattle.std.proofs.Common.{◌≡◌, ◌<◌, ◌∙◌, ◌∷◌, ◌++◌, ℕ, List, ap, ap₂, append_assoc, arith, drop, length, map, rules, subst, sym}
+use Rattle.std.proofs.Common.{◌≡◌, ◌<◌, ◌∙◌, ◌∷◌, ◌++◌, ℕ, List, ap, ap₂, append_assoc, arith, drop, length, map, rules}
+use Rattle.std.proofs.Common.{subst, sym}
 use Rattle.std.proofs.lemmas.List.{length-map, take_at}
 use Rattle.rds_world.specs.Event.{Event}
 use Rattle.rds_world.specs.Slots.{input_of}
@@ -13,25 +14,36 @@ use Rattle.rds_view_lines.specs.declared.kept.KeptView.{KeptView}
 use Rattle.rds_script.proofs.watched.Watched.play.Goals as goal
 
 -- the views of this slot are compared with what is on air
-comparing : (c : goal.After-compare) (config : Config) (receivers : ℕ) (events : List Event) → WatchedStandsAt config receivers c.args.self.now events
+comparing : (c : goal.After-compare) (config : Config) (receivers : ℕ) (events : List Event)
+    → WatchedStandsAt config receivers c.args.self.now events
     → AreShown config receivers (c.args.event.now ∷ events) (map view_kept c.push_views.new.shown)
-    → IsCompared config receivers (c.args.event.now ∷ events) (map view_kept c.push_views.new.shown) c.compare.new.compared
+    → IsCompared config receivers (c.args.event.now ∷ events) (map view_kept c.push_views.new.shown)
+    c.compare.new.compared
     × (c.compare.new.lines ≡ c.push_views.new.lines
-    ++ compared_lines config c.args.slot (length (map view_kept c.push_views.new.shown)) c.args.event.now events (views_kept c.args.self.now) (map view_kept c.push_views.new.shown))
+    ++ compared_lines config c.args.slot (length (map view_kept c.push_views.new.shown)) c.args.event.now events
+    (views_kept c.args.self.now) (map view_kept c.push_views.new.shown))
 comparing c config receivers events s are =
     let old = c.args.self.now.shown.items in
     let new = c.push_views.new.shown in
     let world = c.in-Ok.ensures.stands config events s.world in
     let kept : length new ≡ length old = c.push_views.ensures.count ∙ ap length c.as_mut_slice.ensures.value in
-    let told : c.as_slice.result.now ≡ new = c.as_slice.ensures.value ∙ take_at new (drop (length new) old) (length old) kept in
-    let many : length (map view_kept c.as_slice.result.now) ≡ receivers = length-map c.as_slice.result.now view_kept ∙ ap length told ∙ kept ∙ s.kept in
-    let had = subst (λ (n : ℕ). IsCompared config n events (views_kept c.args.self.now) c.args.self.now.compared) (sym many) s.compared in
-    let now = subst (λ (l : List KeptView). AreShown config receivers (c.args.event.now ∷ events) (map view_kept l)) (sym told) are in
-    let (is, lines) = c.compare.ensures config (c.args.event.now ∷ events) world (views_kept c.args.self.now) (λ i l. s.shown i (omega (arith, l, many))) (λ i l. now i (omega (arith, l, many))) had in (
-      subst (λ (l : List KeptView). IsCompared config receivers (c.args.event.now ∷ events) (map view_kept l) c.compare.new.compared) told
-          (subst (λ (n : ℕ). IsCompared config n (c.args.event.now ∷ events) (map view_kept c.as_slice.result.now) c.compare.new.compared) many is),
+    let told : c.as_slice.result.now ≡ new = c.as_slice.ensures.value ∙ take_at new (drop (length new) old) (length old)
+    kept in
+    let many : length (map view_kept c.as_slice.result.now) ≡ receivers = length-map c.as_slice.result.now view_kept
+    ∙ ap length told ∙ kept ∙ s.kept in
+    let had = subst (λ (n : ℕ). IsCompared config n events (views_kept c.args.self.now) c.args.self.now.compared)
+    (sym many) s.compared in
+    let now = subst (λ (l : List KeptView). AreShown config receivers (c.args.event.now ∷ events) (map view_kept l))
+    (sym told) are in
+    let (is, lines) = c.compare.ensures config (c.args.event.now ∷ events) world (views_kept c.args.self.now)
+    (λ i l. s.shown i (omega (arith, l, many))) (λ i l. now i (omega (arith, l, many))) had in (
+      subst (λ (l : List KeptView). IsCompared config receivers (c.args.event.now ∷ events) (map view_kept l)
+          c.compare.new.compared) told
+          (subst (λ (n : ℕ). IsCompared config n (c.args.event.now ∷ events) (map view_kept c.as_slice.result.now)
+          c.compare.new.compared) many is),
       subst (λ (l : List KeptView). c.compare.new.lines ≡ c.push_views.new.lines
-          ++ compared_lines config c.args.slot (length (map view_kept l)) c.args.event.now events (views_kept c.args.self.now) (map view_kept l)) told lines,
+          ++ compared_lines config c.args.slot (length (map view_kept l)) c.args.event.now events
+          (views_kept c.args.self.now) (map view_kept l)) told lines,
     )
 
 pub returns-in-Ok-clause-stands : goal.returns-in-Ok-clause-stands
@@ -39,20 +51,24 @@ returns-in-Ok-clause-stands c config receivers events s =
     let old = c.args.self.now.shown.items in
     let new = c.push_views.new.shown in
     let world = c.in-Ok.ensures.stands config events s.world in
-    let world_count : length c.step.new.self.receivers ≡ length c.args.self.now.world.receivers = c.in-Ok.ensures.count in
+    let world_count : length c.step.new.self.receivers ≡ length c.args.self.now.world.receivers = c.in-Ok.ensures.count
+    in
     let as_many : length old ≡ length c.step.new.self.receivers = s.kept ∙ sym s.count ∙ sym world_count in
     let shared = c.as_mut_slice.ensures.value in
     let kept : length new ≡ length old = c.push_views.ensures.count ∙ ap length shared in
-    let were : WereShown config (length old) (c.args.event.now ∷ events) (map view_kept old) = λ i within. s.shown i (omega (arith, within, s.kept)) in
+    let were : WereShown config (length old) (c.args.event.now ∷ events) (map view_kept old) = λ i within. s.shown i
+    (omega (arith, within, s.kept)) in
     let back = take_at new (drop (length new) old) (length old) kept in
     let shown : AreShown config receivers (c.args.event.now ∷ events) (map view_kept new) =
-    λ i within. c.push_views.ensures.views (ap length shared ∙ as_many) config (c.args.event.now ∷ events) world (rw shared were) i (omega (arith, within, s.kept, ap length shared)) in
+    λ i within. c.push_views.ensures.views (ap length shared ∙ as_many) config (c.args.event.now ∷ events) world
+    (rw shared were) i (omega (arith, within, s.kept, ap length shared)) in
     record {
       world = world;
       count = world_count ∙ s.count;
       kept = ap length back ∙ kept ∙ s.kept;
       shown = rw (← back) at shown;
-      compared = subst (λ (l : List KeptView). IsCompared config receivers (c.args.event.now ∷ events) (map view_kept l) c.compare.new.compared) (sym back) (comparing c config receivers events s shown).0;
+      compared = subst (λ (l : List KeptView). IsCompared config receivers (c.args.event.now ∷ events) (map view_kept l)
+          c.compare.new.compared) (sym back) (comparing c config receivers events s shown).0;
     }
 
 pub returns-in-Ok-clause-taken : goal.returns-in-Ok-clause-taken
@@ -66,20 +82,30 @@ returns-in-Ok-clause-outcome c config receivers events s =
     let command : c.event.inside.command ≡ c.args.event.now.command = ap (λ (e : Event). e.command) c.event.view_is in
     let taken = c.in-Ok.ensures.refused config events s.world in
     let world = c.in-Ok.ensures.stands config events s.world in
-    let world_count : length c.step.new.self.receivers ≡ length c.args.self.now.world.receivers = c.in-Ok.ensures.count in
+    let world_count : length c.step.new.self.receivers ≡ length c.args.self.now.world.receivers = c.in-Ok.ensures.count
+    in
     let as_many : length old ≡ length c.step.new.self.receivers = s.kept ∙ sym s.count ∙ sym world_count in
     let shared = c.as_mut_slice.ensures.value in
     let kept : length new ≡ length old = c.push_views.ensures.count ∙ ap length shared in
     let shown : length views ≡ length old = length-map new view_kept ∙ kept in
-    let were : WereShown config (length old) (c.args.event.now ∷ events) (map view_kept old) = λ i within. s.shown i (omega (arith, within, s.kept)) in
+    let were : WereShown config (length old) (c.args.event.now ∷ events) (map view_kept old) = λ i within. s.shown i
+    (omega (arith, within, s.kept)) in
     let back = take_at new (drop (length new) old) (length old) kept in
     let whys = whys_at c.args.form config c.args.event.now.receptions (c.args.event.now ∷ events) in
     let answer = answer_lines c.args.form c.args.slot c.event.inside.command c.in-Ok.answer.reply c.in-Ok.answer.sent in
-    let compared = compared_lines config c.args.slot (length views) c.args.event.now events (views_kept c.args.self.now) views in
-    let now : (i : ℕ) → i < length views → IsViewOfInput config (input_of (distance config) i (c.args.event.now ∷ events)) (view_at views i) =
-    λ i within. c.push_views.ensures.views (ap length shared ∙ as_many) config (c.args.event.now ∷ events) world (rw shared were) i (omega (arith, within, shown, ap length shared)) in
+    let compared = compared_lines config c.args.slot (length views) c.args.event.now events (views_kept c.args.self.now)
+    views in
+    let now : (i : ℕ) → i < length views
+    → IsViewOfInput config (input_of (distance config) i (c.args.event.now ∷ events)) (view_at views i) =
+    λ i within. c.push_views.ensures.views (ap length shared ∙ as_many) config (c.args.event.now ∷ events) world
+    (rw shared were) i (omega (arith, within, shown, ap length shared)) in
     let answered : c.push_answer.new.lines ≡ c.args.lines.now ++ answer = search rules in (
-      record { command = c.event.inside.command; reply = c.in-Ok.answer.reply; sent = c.in-Ok.answer.sent; views = views },
+      record {
+        command = c.event.inside.command;
+        reply = c.in-Ok.answer.reply;
+        sent = c.in-Ok.answer.sent;
+        views = views;
+      },
       record {
         command = command;
         reply = c.in-Ok.ensures.reply config events s.world;
@@ -90,7 +116,11 @@ returns-in-Ok-clause-outcome c config receivers events s =
       ap (λ (l : List KeptView). map view_kept l) (sym back),
       (comparing c config receivers events s (λ i within. now i (omega (arith, within, s.kept, shown)))).1
           ∙ ap (λ (l : List ℕ). l ++ compared)
-          (rw shared at (c.push_views.ensures.lines (ap length shared ∙ as_many) config (c.args.event.now ∷ events) world) ∙ ap₂ (λ (x y : List ℕ). x ++ y) answered (ap (λ n. receiver_changes c.args.slot n whys (map view_kept old) views) (sym shown))
-          ∙ append_assoc c.args.lines.now answer (receiver_changes c.args.slot (length views) whys (map view_kept old) views))
-          ∙ append_assoc c.args.lines.now (answer ++ receiver_changes c.args.slot (length views) whys (map view_kept old) views) compared,
+          (rw shared at (c.push_views.ensures.lines (ap length shared ∙ as_many) config (c.args.event.now ∷ events)
+          world) ∙ ap₂ (λ (x y : List ℕ). x ++ y) answered
+          (ap (λ n. receiver_changes c.args.slot n whys (map view_kept old) views) (sym shown))
+          ∙ append_assoc c.args.lines.now answer (receiver_changes c.args.slot (length views) whys (map view_kept old)
+          views))
+          ∙ append_assoc c.args.lines.now (answer ++ receiver_changes c.args.slot (length views) whys
+          (map view_kept old) views) compared,
     )

@@ -6,7 +6,8 @@ pub push_quoted-requires-in-Tag-Some : goal.push_quoted-requires-in-Tag-Some
 push_quoted-requires-in-Tag-Some g c = (
   search rules,
   (
-    (subst IsShortPart c.in-Tag-Some.is c.requires.short) (c.in-Tag-Some.class, c.in-Tag-Some.piece) (rw c.in-Tag-Some.is at c.in-Tag-Some.field-0-is),
+    (subst IsShortPart c.in-Tag-Some.is c.requires.short) (c.in-Tag-Some.class, c.in-Tag-Some.piece)
+        (rw c.in-Tag-Some.is at c.in-Tag-Some.field-0-is),
     omega (arith, c.push_class.ensures.room, c.requires.room),
   ),
 )

@@ -9,7 +9,13 @@ pub returns-then-seen-slots : goal.returns-then-seen-slots
 returns-then-seen-slots c holds t log all =
     let seen = c.seen_at-seen.result.now in
     let test = c.if-place-len.false in
-    let here : Contains c.as_slice.result.now seen = (c.in-Some.place.now, omega (arith, test, c.len.ensures, c.as_slice.ensures.len), c.seen_at-seen.ensures seen) in
-    let there : Contains c.args.self.now.seen.items seen = subst (λ (l : List Seen). Contains l seen) c.as_slice.ensures.value here in
+    let here : Contains c.as_slice.result.now seen = (
+      c.in-Some.place.now,
+      omega
+          (arith, test, c.len.ensures, c.as_slice.ensures.len),
+      c.seen_at-seen.ensures seen,
+    ) in
+    let there : Contains c.args.self.now.seen.items seen = subst (λ (l : List Seen). Contains l seen)
+    c.as_slice.ensures.value here in
     let its : IsSeen t log seen = All-contains (IsSeen t log) c.args.self.now.seen.items seen all.0 there in
     c.has.ensures holds t log c.args.slots its c.if-seen-slots.true

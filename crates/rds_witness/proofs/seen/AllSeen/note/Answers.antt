@@ -16,7 +16,8 @@ returns c t log inside stored stands seen pairs =
       held = sym (c.pair.ensures stored t (got [] log n) stands stands.heard stands.are) ∙ is;
       same = refl;
     }) pairs in
-    let seen_one = c.in_ok-note_with.ensures.seen t log inside stored stands (λ held is. absurd (cc)) (subst (λ v. All (IsSeen t log) v.items) (sym c.keep_pair.ensures.seen) seen) in
+    let seen_one = c.in_ok-note_with.ensures.seen t log inside stored stands (λ held is. absurd (cc))
+    (subst (λ v. All (IsSeen t log) v.items) (sym c.keep_pair.ensures.seen) seen) in
     let pairs_one = subst (λ v. All (IsOfRun t log n) v.items) (sym c.note_with.ensures.pairs) with_pair in
     let all = c.in_ok-note_tags.ensures t log inside stored stands seen_one pairs_one in
     (all.0, all.1, (_, c.view-view.ensures stored t (got [] log n) stands))

@@ -10,15 +10,21 @@ loop-place-preserved c = record {
       let n = c.args.slot + 1 in
       let pair = c.pair_at-pair.result in
       let test = c.loop-place-test.true in
-      let same : c.as_slice.result.now ≡ c.args.self.now.pairs.items = c.as_slice.ensures.value ∙ ap (λ v. v.items) c.loop-place.invariant.pairs in
+      let same : c.as_slice.result.now ≡ c.args.self.now.pairs.items = c.as_slice.ensures.value
+      ∙ ap (λ v. v.items) c.loop-place.invariant.pairs in
       let now : All (IsOfRun t log n) c.as_slice.result.now = subst (All (IsOfRun t log n)) (sym same) pairs in
-      let its : IsOfRun t log n pair = subst (IsOfRun t log n) (c.pair_at-pair.ensures pair) (now c.loop-place.place pair (omega (arith, test, c.len-place-end.ensures, ap length same))) in
-      c.in_ok-note_with.ensures.seen t log inside stored stands (λ held is. subst (IsOfRun t log n) (some_same is) its) (c.loop-place.invariant.seen t log inside stored stands seen pairs);
+      let its : IsOfRun t log n pair = subst (IsOfRun t log n) (c.pair_at-pair.ensures pair)
+      (now c.loop-place.place pair (omega (arith, test, c.len-place-end.ensures, ap length same))) in
+      c.in_ok-note_with.ensures.seen t log inside stored stands (λ held is. subst (IsOfRun t log n) (some_same is) its)
+      (c.loop-place.invariant.seen t log inside stored stands seen pairs);
 }
   where
     some_same : {a b : PairFields} → Some a ≡ Some b → a ≡ b
     some_same is = cc
 
 pub returns : goal.returns
-returns c t log inside stored stands seen pairs =
-    (c.loop-place.invariant.seen t log inside stored stands seen pairs, subst (λ v. All (IsOfRun t log (c.args.slot + 1)) v.items) (sym c.loop-place.invariant.pairs) pairs)
+returns c t log inside stored stands seen pairs = (
+  c.loop-place.invariant.seen t log inside stored stands seen pairs,
+  subst
+      (λ v. All (IsOfRun t log (c.args.slot + 1)) v.items) (sym c.loop-place.invariant.pairs) pairs,
+)

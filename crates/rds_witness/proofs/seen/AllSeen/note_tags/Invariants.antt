@@ -10,6 +10,8 @@ use Rattle.rds_witness.proofs.seen.AllSeen.note_tags.Given as goal
 abbrev pub invariant-loop-place : goal.invariant-loop-place
 invariant-loop-place l = record {
   pairs : l.self.pairs ≡ l.fn.self.pairs;
-  seen : (t : Tuning) (log : List (Option Group)) → l.slot < length log → IsStoredReceiver l.whole → ReceiverAt t (receiver_stored l.whole) (got [] log (l.slot + 1))
-      → All (IsSeen t log) l.fn.self.seen.items → All (IsOfRun t log (l.slot + 1)) l.fn.self.pairs.items → All (IsSeen t log) l.self.seen.items;
+  seen : (t : Tuning) (log : List (Option Group)) → l.slot < length log → IsStoredReceiver l.whole
+      → ReceiverAt t (receiver_stored l.whole) (got [] log (l.slot + 1))
+      → All (IsSeen t log) l.fn.self.seen.items → All (IsOfRun t log (l.slot + 1)) l.fn.self.pairs.items
+      → All (IsSeen t log) l.self.seen.items;
 }

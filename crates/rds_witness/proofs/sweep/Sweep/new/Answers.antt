@@ -10,7 +10,8 @@ use Rattle.rds_witness.proofs.sweep.Sweep.new.Goals as goal
 pub returns-clause-stands : goal.returns-clause-stands
 returns-clause-stands c log =
     let t = tuned c.args.pi c.args.dwell in
-    let begins : ReceiverAt t c.new.result (got [] log 0) = subst (ReceiverAt t c.new.result) (sym (got-none [] log)) (c.new.ensures.stands 0) in
+    let begins : ReceiverAt t c.new.result (got [] log 0) = subst (ReceiverAt t c.new.result) (sym (got-none [] log))
+    (c.new.ensures.stands 0) in
     record {
       whole = subst (λ (r : ReceiverState). ReceiverAt t r (got [] log 0)) (sym c.store.ensures.same) begins;
       stored = c.store.ensures.good;

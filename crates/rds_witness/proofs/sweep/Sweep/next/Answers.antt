@@ -1,4 +1,5 @@
-use Rattle.std.proofs.Common.{◌≡◌, ◌∙◌, ◌∷◌, ◌+◌, ◌-◌, ◌<◌, ◌≤◌, [], All, List, None, Option, ap, arith, inl, inr, length, refl, subst, suc, sym}
+use Rattle.std.proofs.Common.{◌≡◌, ◌∙◌, ◌∷◌, ◌+◌, ◌-◌, ◌<◌, ◌≤◌, [], All, List, None, Option, ap, arith, inl, inr}
+use Rattle.std.proofs.Common.{length, refl, subst, suc, sym}
 use Rattle.std.proofs.lemmas.Bool.{cases_lt}
 use Rattle.std.proofs.lemmas.List.Elements.{All-nil}
 use Rattle.rds_block.specs.declared.group.Group.{Group}
@@ -23,71 +24,112 @@ returns-clause-stands c pi m n log is old =
     let step = c.take_slot.ensures in
     let begins = c.lose_first.new.whole in
     let loses = c.lose_first.ensures in
-    let more : got [] log (n + 1) ≡ group ∷ got [] log n = got-more [] log n ∙ ap (λ (g : Option Group). g ∷ got [] log n) (sym is) in
-    let after : ReceiverAt t (receiver_stored whole.receiver) (got [] log (n + 1)) = subst (ReceiverAt t (receiver_stored whole.receiver)) (sym more) (step.stands old.stored t (got [] log n) old.whole) in
-    let its : IsAt t (n + 1) whole = record { input = got [] log (n + 1); long = got_long [] log (n + 1); stands = after; stored = step.good old.stored } in
-    let was_at : IsAt t n was = record { input = got [] log n; long = got_long [] log n; stands = old.whole; stored = old.stored } in
-    let none : (items : List Lossy) → items ≡ [] → All (IsAt t (n + 1)) items = λ items nothing. subst (All (IsAt t (n + 1))) (sym nothing) (All-nil (IsAt t (n + 1))) in
+    let more : got [] log (n + 1) ≡ group ∷ got [] log n = got-more [] log n
+    ∙ ap (λ (g : Option Group). g ∷ got [] log n) (sym is) in
+    let after : ReceiverAt t (receiver_stored whole.receiver) (got [] log (n + 1)) = subst
+    (ReceiverAt t (receiver_stored whole.receiver)) (sym more) (step.stands old.stored t (got [] log n) old.whole)
+    in
+    let its : IsAt t (n + 1) whole = record {
+      input = got [] log (n + 1);
+      long = got_long [] log (n + 1);
+      stands = after;
+      stored = step.good old.stored;
+    } in
+    let was_at : IsAt t n was = record {
+      input = got [] log n;
+      long = got_long [] log n;
+      stands = old.whole;
+      stored = old.stored;
+    } in
+    let none : (items : List Lossy) → items ≡ []
+    → All (IsAt t (n + 1)) items = λ items nothing. subst (All (IsAt t (n + 1))) (sym nothing)
+    (All-nil (IsAt t (n + 1))) in
     let old_losing = c.args.self.now.losing.items in
     let were_hearing : c.as_slice.result.now ≡ c.args.self.now.hearing.items = c.as_slice.ensures.value in
     let were_losing : c.as_slice-2.result.now ≡ old_losing = c.as_slice-2.ensures.value in
     let still_losing : c.as_slice-3.result.now ≡ old_losing = c.as_slice-3.ensures.value in
-    let go_on = c.in_ok-keep_after_slot.ensures.covers pi m n (subst (All (IsAt t n)) (sym were_hearing) old.hearing_at) (at_first t (n + 1) whole _ its (none _ c.clear.ensures.items)) in
-    let begin = c.in_ok-keep_after_slot-2.ensures.covers pi m n (subst (All (IsAt t n)) (sym were_losing) old.losing_at) go_on.at in
-    let one_more = c.in_ok-keep.ensures.covers pi m (n + 1) (at_first t (n + 1) whole _ its (none _ c.clear-2.ensures.items)) (at_next pi m n was begins None loses.stands loses.good was_at) in
-    let lose_more = c.in_ok-keep_after_slot-3.ensures.covers pi m n (subst (All (IsAt t n)) (sym still_losing) old.losing_at) one_more.at in
+    let go_on = c.in_ok-keep_after_slot.ensures.covers pi m n (subst (All (IsAt t n)) (sym were_hearing) old.hearing_at)
+    (at_first t (n + 1) whole _ its (none _ c.clear.ensures.items)) in
+    let begin = c.in_ok-keep_after_slot-2.ensures.covers pi m n (subst (All (IsAt t n)) (sym were_losing) old.losing_at)
+    go_on.at in
+    let one_more = c.in_ok-keep.ensures.covers pi m (n + 1) (at_first t (n + 1) whole _ its
+    (none _ c.clear-2.ensures.items)) (at_next pi m n was begins None loses.stands loses.good was_at) in
+    let lose_more = c.in_ok-keep_after_slot-3.ensures.covers pi m n (subst (All (IsAt t n)) (sym still_losing)
+    old.losing_at) one_more.at in
     let hearing = c.keep_after_slot-2.new.kept.items in
     let losing = c.keep_after_slot-3.new.kept.items in
     let end_hearing : c.replace-losing.new.dest.items ≡ hearing = ap (λ v. v.items) c.replace-losing.ensures.after in
     let end_losing : c.replace.new.dest.items ≡ losing = ap (λ v. v.items) c.replace.ensures.after in
-    let lost_first : (input : List (Option Group)) → length input ≡ n → CoversInput t input was → IsCovered t (whole ∷ losing) (None ∷ input) =
-    λ input long covers. lose_more.stays (None ∷ input) (one_more.more (None ∷ input) (omega (arith, long)) (covers_next pi m was begins None input loses.stands loses.good covers)) in
-    let lost : (input : List (Option Group)) (burst : Burst) → input ≡ got (burst ∷ []) log n → burst.first ≤ n → n ≤ burst.last → IsCovered t (was ∷ old_losing) input
+    let lost_first : (input : List (Option Group)) → length input ≡ n → CoversInput t input was
+    → IsCovered t (whole ∷ losing) (None ∷ input) =
+    λ input long covers. lose_more.stays (None ∷ input) (one_more.more (None ∷ input) (omega (arith, long))
+    (covers_next pi m was begins None input loses.stands loses.good covers)) in
+    let lost : (input : List (Option Group)) (burst : Burst) → input ≡ got (burst ∷ []) log n → burst.first ≤ n
+    → n ≤ burst.last → IsCovered t (was ∷ old_losing) input
     → IsCovered t (whole ∷ c.replace.new.dest.items) (got (burst ∷ []) log (n + 1)) =
     λ input burst same from to covered.
     let long : length input ≡ n = ap length same ∙ got_long (burst ∷ []) log n in
     subst (λ (l : List Lossy). IsCovered t (whole ∷ l) (got (burst ∷ []) log (n + 1))) (sym end_losing)
-    (subst (IsCovered t (whole ∷ losing)) (ap (λ (l : List (Option Group)). None ∷ l) same ∙ lost_next burst log n from to)
+    (subst (IsCovered t (whole ∷ losing)) (ap (λ (l : List (Option Group)). None ∷ l) same ∙ lost_next burst log n from
+    to)
     (by_first t was old_losing input (IsCovered t (whole ∷ losing) (None ∷ input)) covered (lost_first input long)
-    (λ others. lose_more.more input long (subst (λ (l : List Lossy). IsCovered t l input) (sym still_losing) others)))) in
-    let heard : (burst : Burst) (set : List Lossy) → burst.last < n → IsCovered t (was ∷ set) (got (burst ∷ []) log n) → (IsCovered t set (got (burst ∷ []) log n) → IsCovered t (whole ∷ hearing) (group ∷ got (burst ∷ []) log n))
+    (λ others. lose_more.more input long (subst (λ (l : List Lossy). IsCovered t l input) (sym still_losing) others))))
+    in
+    let heard : (burst : Burst) (set : List Lossy) → burst.last < n → IsCovered t (was ∷ set) (got (burst ∷ []) log n)
+    → (IsCovered t set (got (burst ∷ []) log n) → IsCovered t (whole ∷ hearing) (group ∷ got (burst ∷ []) log n))
     → IsCovered t (whole ∷ c.replace-losing.new.dest.items) (got (burst ∷ []) log (n + 1)) =
     λ burst set behind covered others.
     let input = got (burst ∷ []) log n in
     subst (λ (l : List Lossy). IsCovered t (whole ∷ l) (got (burst ∷ []) log (n + 1))) (sym end_hearing)
     (subst (IsCovered t (whole ∷ hearing)) (heard_next burst log n group behind is)
     (by_first t was set input (IsCovered t (whole ∷ hearing) (group ∷ input)) covered
-    (λ covers. covered_first t whole hearing (group ∷ input) (covers_next pi m was whole group input step.stands step.good covers)) others)) in
+    (λ covers. covered_first t whole hearing (group ∷ input) (covers_next pi m was whole group input step.stands
+    step.good covers)) others)) in
     record {
       whole = after;
       stored = step.good old.stored;
-      losing_at = subst (All (IsAt t (n + 1))) (sym end_losing) (λ k d less. lose_more.at (suc k) d (omega (arith, less)));
-      hearing_at = subst (All (IsAt t (n + 1))) (sym end_hearing) (λ k d less. begin.at (suc k) d (omega (arith, less)));
+      losing_at = subst (All (IsAt t (n + 1))) (sym end_losing) (λ k d less. lose_more.at (suc k) d
+          (omega (arith, less)));
+      hearing_at = subst (All (IsAt t (n + 1))) (sym end_hearing) (λ k d less. begin.at (suc k) d
+          (omega (arith, less)));
       lose = λ burst order behind. elim (cases_lt burst.first n) [
         | inl before ↦ (
             let shorter : Burst = record { first = burst.first; last = n - 1 } in
-            lost (got (shorter ∷ []) log n) burst (got_together shorter burst log n refl (omega arith) (omega (arith, behind))) (omega (arith, before)) (omega (arith, behind))
+            lost (got (shorter ∷ []) log n) burst (got_together shorter burst log n refl (omega arith)
+            (omega (arith, behind))) (omega (arith, before)) (omega (arith, behind))
             (old.lose shorter (omega (arith, before)) (omega (arith, before))))
-        | inr from ↦ lost (got [] log n) burst (sym (got_before burst log n from)) (omega (arith, order, behind)) (omega (arith, behind))
+        | inr from ↦ lost (got [] log n) burst (sym (got_before burst log n from)) (omega (arith, order, behind))
+            (omega (arith, behind))
             (covered_first t was old_losing (got [] log n) (covers_itself pi m (got [] log n) was old.whole old.stored))
       ];
       hear = λ burst order behind. elim (cases_lt (burst.last + 1) n) [
         | inl before ↦ heard burst c.args.self.now.hearing.items (omega (arith, before)) (old.hear burst order before)
-            (λ others. begin.stays _ (go_on.more (got (burst ∷ []) log n) (got_long (burst ∷ []) log n) (subst (λ (l : List Lossy). IsCovered t l (got (burst ∷ []) log n)) (sym were_hearing) others)))
+            (λ others. begin.stays _ (go_on.more (got (burst ∷ []) log n) (got_long (burst ∷ []) log n)
+            (subst (λ (l : List Lossy). IsCovered t l (got (burst ∷ []) log n)) (sym were_hearing) others)))
         | inr from ↦ heard burst old_losing (omega (arith, behind)) (old.lose burst order (omega (arith, behind, from)))
-            (λ others. begin.more (got (burst ∷ []) log n) (got_long (burst ∷ []) log n) (subst (λ (l : List Lossy). IsCovered t l (got (burst ∷ []) log n)) (sym were_losing) others))
+            (λ others. begin.more (got (burst ∷ []) log n) (got_long (burst ∷ []) log n)
+            (subst (λ (l : List Lossy). IsCovered t l (got (burst ∷ []) log n)) (sym were_losing) others))
       ];
     }
 
 pub returns-clause-checked : goal.returns-clause-checked
 returns-clause-checked c pi m n k log old losing hearing =
     let t = tuned pi m in
-    let none : (items : List Lossy) → items ≡ [] → All (IsChecked t log k) items = λ items nothing. subst (All (IsChecked t log k)) (sym nothing) (All-nil (IsChecked t log k)) in
+    let none : (items : List Lossy) → items ≡ []
+    → All (IsChecked t log k) items = λ items nothing. subst (All (IsChecked t log k)) (sym nothing)
+    (All-nil (IsChecked t log k)) in
     let were_hearing = c.as_slice.ensures.value in
     let were_losing = c.as_slice-2.ensures.value in
     let still_losing = c.as_slice-3.ensures.value in
-    let go_on = c.in_ok-keep_after_slot.ensures.checked pi m n k log (subst (All (IsAt t n)) (sym were_hearing) old.hearing_at) (subst (ShowOnlySeen t log k) (sym were_hearing) hearing) (none _ c.clear.ensures.items) in
-    let begin = c.in_ok-keep_after_slot-2.ensures.checked pi m n k log (subst (All (IsAt t n)) (sym were_losing) old.losing_at) (subst (ShowOnlySeen t log k) (sym were_losing) losing) go_on in
-    let one_more = c.in_ok-keep.ensures.checked t log k (none _ c.clear-2.ensures.items) (λ alike. let changed = c.lose_first.ensures.changed in absurd (cc)) in
-    let lose_more = c.in_ok-keep_after_slot-3.ensures.checked pi m n k log (subst (All (IsAt t n)) (sym still_losing) old.losing_at) (subst (ShowOnlySeen t log k) (sym still_losing) losing) one_more in
-    (subst (All (IsChecked t log k)) (sym (ap (λ v. v.items) c.replace.ensures.after)) lose_more, subst (All (IsChecked t log k)) (sym (ap (λ v. v.items) c.replace-losing.ensures.after)) begin)
+    let go_on = c.in_ok-keep_after_slot.ensures.checked pi m n k log (subst (All (IsAt t n)) (sym were_hearing)
+    old.hearing_at) (subst (ShowOnlySeen t log k) (sym were_hearing) hearing) (none _ c.clear.ensures.items) in
+    let begin = c.in_ok-keep_after_slot-2.ensures.checked pi m n k log (subst (All (IsAt t n)) (sym were_losing)
+    old.losing_at) (subst (ShowOnlySeen t log k) (sym were_losing) losing) go_on in
+    let one_more = c.in_ok-keep.ensures.checked t log k (none _ c.clear-2.ensures.items)
+    (λ alike. let changed = c.lose_first.ensures.changed in absurd (cc)) in
+    let lose_more = c.in_ok-keep_after_slot-3.ensures.checked pi m n k log (subst (All (IsAt t n)) (sym still_losing)
+    old.losing_at) (subst (ShowOnlySeen t log k) (sym still_losing) losing) one_more in (
+      subst (All (IsChecked t log k)) (sym (ap (λ v. v.items) c.replace.ensures.after)) lose_more,
+      subst
+          (All (IsChecked t log k)) (sym (ap (λ v. v.items) c.replace-losing.ensures.after)) begin,
+    )

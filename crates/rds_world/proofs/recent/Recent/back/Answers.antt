@@ -10,11 +10,15 @@ use Rattle.rds_world.proofs.recent.Recent.back.Goals as goal
 pub returns-in_err-get : goal.returns-in_err-get
 returns-in_err-get c =
     let at : slice_get c.args.self.now.items c.args.slots ≡ None =
-    ap (λ (b : Buffer (Option Group)). slice_get b.items c.args.slots) (sym c.self.view_is) ∙ ap (slice_get c.self.inside.groups.items) (sym c.from.ensures) ∙ sym c.get.ensures ∙ ap option_copied c.in_err-get.was in
+    ap (λ (b : Buffer (Option Group)). slice_get b.items c.args.slots) (sym c.self.view_is)
+    ∙ ap (slice_get c.self.inside.groups.items) (sym c.from.ensures) ∙ sym c.get.ensures
+    ∙ ap option_copied c.in_err-get.was in
     c.from_residual.ensures ∙ sym (nothing_there c.args.self.now.items c.args.slots at)
 
 pub returns : goal.returns
 returns c =
     let at : slice_get c.args.self.now.items c.args.slots ≡ Some c.in_ok-get.field-0.now =
-    ap (λ (b : Buffer (Option Group)). slice_get b.items c.args.slots) (sym c.self.view_is) ∙ ap (slice_get c.self.inside.groups.items) (sym c.from.ensures) ∙ sym c.get.ensures ∙ ap option_copied c.in_ok-get.was in
+    ap (λ (b : Buffer (Option Group)). slice_get b.items c.args.slots) (sym c.self.view_is)
+    ∙ ap (slice_get c.self.inside.groups.items) (sym c.from.ensures) ∙ sym c.get.ensures
+    ∙ ap option_copied c.in_ok-get.was in
     sym (get_or_from_slice_get c.args.self.now.items c.args.slots c.in_ok-get.field-0.now None at)

@@ -17,16 +17,19 @@ returns-clause-stands c =
       values = tt;
       due = tt;
       fit = tt;
-      pasts = subst (λ (w : Option ℕ). HavePasts w [] c.in-Ok-new_pasts.pasts.items) c.window.ensures c.in-Ok-new_pasts.ensures.empty;
+      pasts = subst (λ (w : Option ℕ). HavePasts w [] c.in-Ok-new_pasts.pasts.items) c.window.ensures
+          c.in-Ok-new_pasts.ensures.empty;
       encoder = c.new_encoder.ensures.first;
       receivers = record {
         each = λ i r e. heard_nothing config 0 r
             (one_of_first (HeardNothing config) c.args.receivers made i r c.eight_receivers.ensures.new e);
       };
       reaches = record {
-        each = λ i reach e. one_of_first (λ n. n ≡ 1) c.args.receivers _ i reach (one, (one, (one, (one, (one, (one, (one, (one, tt)))))))) e ∙ at_first config.premise.late;
+        each = λ i reach e. one_of_first (λ n. n ≡ 1) c.args.receivers _ i reach
+            (one, (one, (one, (one, (one, (one, (one, (one, tt)))))))) e ∙ at_first config.premise.late;
       };
-      sent = subst (λ (b : Buffer (Option Group)). AreLastSent config [] b.items) (sym c.in-Ok.ensures) (λ back within. refl);
+      sent = subst (λ (b : Buffer (Option Group)). AreLastSent config [] b.items) (sym c.in-Ok.ensures)
+          (λ back within. refl);
       stay = λ i is. tt;
     }
 
