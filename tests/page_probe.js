@@ -20,7 +20,6 @@ const probe = (() => {
     };
   }
   note(Blob.prototype, "arrayBuffer");
-  note(window.SubtleCrypto?.prototype, "digest");
   note(window.Clipboard?.prototype, "writeText");
   note(ReadableStreamDefaultReader.prototype, "read");
 

@@ -21,7 +21,7 @@ class Access:
         b = self.b
         wanted = {
             "log": ["tab-log", "log-example", "log-file", "log-pi", "log-m", "log-k", "log-w", "log-running",
-                    "log-report", "log-share", "CANVAS", "log-click", "SUMMARY"],
+                    "log-share", "CANVAS", "log-click", "SUMMARY"],
             "script": ["tab-script", "script-example", "script-file", "script-m", "script-n", "script-slots", "command",
                        "free", "brush", "script-save", "script-share", "CANVAS", "SUMMARY"],
         }

@@ -1,4 +1,4 @@
-"""All faults of a log: the lane, the table and the report, by the list of the program."""
+"""All faults of a log: the lane and the table, by the list of the program."""
 import re
 
 from tests.page_support import (HI, NOTHING, YO, ChromiumCase, FirefoxCase, call, click, cursor, first_examples, of,
@@ -78,34 +78,24 @@ class Listing:
         hours = [(HI, f"{hour}:00:00.{part:02d}") for hour in ("07", "08") for part in (0, 9, 18)]
         for name, log, wanted in (
                 ("a clock", timed(*hours, (OTHER, "08:00:00.27")), ["slot 6 of 7 · 08:00:00", "",
-                 "7 slots, from 07:00:00 to 08:00:00 by its lines", "08:00:00"]),
+                 "08:00:00"]),
                 ("seconds", "".join(f"{HI} {at}\n" for at in ("0.00", "0.09", "3600.1")) + f"{OTHER} 3600.2\n",
-                 ["slot 3 of 4", "", "4 slots", ""]),
+                 ["slot 3 of 4", "", ""]),
                 ("none", f"{HI}\n" * 6 + f"{OTHER}\n",
-                 ["slot 6 of 7 · 0.53 s", "This slot is 0.53 s after the first.", "7 slots, 0.61 s", "0.53 s"])):
+                 ["slot 6 of 7 · 0.53 s", "This slot is 0.53 s after the first.", "0.53 s"])):
             opened(b, log)
             told = "".join(re.findall(r"This slot is [\d.]+ s after the first\.", text_of(b, "#verdict")))
-            click(b, "#log-report")
-            length = b.run("[...document.querySelectorAll('#report-rows dt')].find(it => it.textContent === 'Length')"
-                           ".nextSibling.textContent")
-            click(b, "#report-close")
             changed = text_of(b, "#log-changes li:last-child .time")
-            self.check(name, [text_of(b, "#log-time output"), told, length, changed], wanted, log)
+            self.check(name, [text_of(b, "#log-time output"), told, changed], wanted, log)
         first_examples(b)
 
-    def test_the_report_has_the_faults_by_kind(self):
-        """And where the list ends, if a line behind the first fault is malformed."""
+    def test_the_list_says_where_it_ends(self):
+        """If a line behind the first fault is malformed."""
         b = self.b
         opened(b, f"{FEW}bad\n", running=True)
         self.check("the answer is the first no", text_of(b, "#verdict h2 code"), "EarlyTag")
         end = 'ault line 5: "bad": it has no space; a log line looks like C201 2140 4849 0D20'
         self.check("the end", text_of(b, "#log-faults-end"), f"The list ends there. F{end}.")
-        click(b, "#log-report")
-        faults = b.run("[...[...document.querySelectorAll('#report-rows dt')].find(it => it.textContent === 'Faults')"
-                       ".nextSibling.children].map(it => it.textContent)")
-        self.check("the report", faults, ["1 of 3 texts: EarlyFlag in slot 3 (line 4)",
-                                          "1 of 3 texts: EarlyTag in slot 2 (line 3)", f"f{end}"])
-        click(b, "#report-close")
         first_examples(b)
 
     def test_many_faults_have_few_elements(self):

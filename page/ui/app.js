@@ -52,15 +52,12 @@ const SCRIPT = /^\uFEFF?(?:\r?\n)*(?:-|text|name|tags|restart|"[a-z-]+"),/;
 const LOG = /^\uFEFF?(?:(?:[<#%].*|[ \t]*)\r?\n)*(?:[\dA-Fa-f]{4}|----) (?:[\dA-Fa-f]{4}|----) /;
 const isScript = (name, text) => SCRIPT.test(text) || (/\.csv$/i.test(name) && !LOG.test(text));
 
-/* How the page reads a file that Windows wrote, and the command that does the same: the program takes plain ASCII. */
-const UTF_16 = { as: "read as UTF-16", by: "iconv -f UTF-16 -t UTF-8" };
-const MARKED = { as: "read without its byte-order mark", by: "tail -c +4" };
-/* Returns the bytes of a file in UTF-8, the same as a log without a byte-order mark, and how the log was read. */
+/* Returns the bytes of a file in UTF-8, and the same as a log without a byte-order mark. */
 function inUtf8(bytes) {
   const encoding = { "255,254": "utf-16le", "254,255": "utf-16be" }[String(bytes.subarray(0, 2))];
   const input = encoding ? new TextEncoder().encode(new TextDecoder(encoding).decode(bytes)) : bytes;
   const isMarked = String(bytes.subarray(0, 3)) === "239,187,191";
-  return { input, plain: isMarked ? bytes.subarray(3) : input, read: encoding ? UTF_16 : isMarked && MARKED };
+  return { input, plain: isMarked ? bytes.subarray(3) : input };
 }
 
 /* Asks whether edits that nobody saved may go. Until it is answered, another question gets a no. */
@@ -87,12 +84,12 @@ export async function openFile(file) {
   const refuse = () => { tab(logTab); return logTab.refuse(`The page cannot read ${file.name}.`, DEFAULTS); };
   if (!buffer) return refuse();
   const bytes = new Uint8Array(buffer);
-  const { input, plain, read } = inUtf8(bytes);
+  const { input, plain } = inUtf8(bytes);
   const it = isScript(file.name, decoder.decode(plain.subarray(0, BEGIN))) ? scriptTab : logTab;
   const options = { ...DEFAULTS, file: file.name };
   return replace(it, async () => {
     const opened = it === scriptTab ? it.open(decoder.decode(input), { ...options, input })
-      : it.open(plain, { ...options, running: true, source: { origin: file.name, bytes, read } });
+      : it.open(plain, { ...options, running: true });
     tab(it);
     // the last answer may be below the fold, with the focus in it
     /** @type {any} */ (document.activeElement)?.blur();

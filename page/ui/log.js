@@ -10,7 +10,6 @@ import { nameFor, saveAs } from "./files.js";
 import * as groups from "./groups.js";
 import * as links from "./links.js";
 import { $, counted, hex, make, number, radio, whyNoMix } from "./parts.js";
-import * as report from "./report.js";
 import { Rows } from "./rows.js";
 import { Tab } from "./tab.js";
 import * as verdict from "./verdict.js";
@@ -39,7 +38,6 @@ const empty = () => ({ view: new View(), alone: new View(), codes: new Uint8Arra
 class LogTab extends Tab {
   bytes = new Uint8Array(0);
   log = NO_LOG;
-  /** @type {any} */ source = {};
   /** @type {Set<number>} */ lost = new Set();
   /** @type {"add" | "delete" | null} */ brush = null;
   hadLost = false;
@@ -67,7 +65,6 @@ class LogTab extends Tab {
   }
 
   get no() { return this.answer?.no ?? null; }
-  get inOneLine() { return $("verdict").querySelector("h2").textContent; }
 
   goTo(slot) {
     this.timeline.move(slot);
@@ -105,11 +102,11 @@ class LogTab extends Tab {
      read the page's own bytes: a file may change while it is open. */
   /** @param {string | Uint8Array} content @param {any} [settings] */
   open(content, settings = {}) {
-    const { m, k, w, running = false, lost = [], example = "", file = "", source = {}, pi } = settings;
+    const { m, k, w, running = false, lost = [], example = "", file = "", pi } = settings;
     const bytes = typeof content === "string" ? encoder.encode(content) : content;
     // a link holds no longer text
     const text = bytes.length > links.MOST_PLAIN ? null : decoder.decode(bytes);
-    const opened = { bytes, text, source: { file, ...source }, lost: new Set(lost) };
+    const opened = { bytes, text, lost: new Set(lost) };
     Object.assign(this, empty(), { log: NO_LOG, brush: null, ...opened });
     this.hadLost = example !== "" && this.lost.size > 0;
     this.home(false);
@@ -117,7 +114,6 @@ class LogTab extends Tab {
     this.nameFile(file);
     this.setFields({ example, m, k, w: w || "" });
     $("log-running").checked = running;
-    report.take(source.bytes ?? bytes);
     for (const program of [this.display, this.judge]) program.keep(new Blob([bytes]));
     return this.look({ opens: true, pi });
   }
@@ -273,9 +269,8 @@ class LogTab extends Tab {
   async fill() {
     const { pi, m, w, running } = this.asking();
     const { bytes } = await this.display.ask("fill", { m });
-    const file = `${this.source.file || "log"}, with its lost slots`;
-    const source = { ...this.source, file, slots: `rdsrt slots --m ${m}` };
-    await this.open(bytes, { pi, m, k: this.value("k"), w, running, file, source });
+    const file = `${$("log-file-name").textContent || "log"}, with its lost slots`;
+    await this.open(bytes, { pi, m, k: this.value("k"), w, running, file });
   }
 
   /* The faults of the audit, which are red if it is no doubtful answer. */
@@ -372,7 +367,6 @@ class LogTab extends Tab {
     Object.assign(this, { display: new Program(compiled, PATIENCE), judge: new Program(compiled) });
     $("log-unlose").onclick = () => { this.lost.clear(); this.look(); };
     changes.begin();
-    report.begin(this);
   }
 }
 

@@ -1,0 +1,30 @@
+"""The page on paper: what is shown, without its controls."""
+from tests.page_support import HI, YO, ChromiumCase, call, first_examples, settle, to_tab
+
+# of a text with its ground
+CONTRAST = 4.5
+SHOWN = ("[...document.querySelectorAll('h1, button, input, canvas, figure, #verdict')]"
+         ".filter(it => it.checkVisibility()).map(it => it.tagName)")
+
+
+class Chromium(ChromiumCase):
+    def test_the_page_is_printed_without_its_controls(self):
+        """An open log has its answer, its displays and its timeline, on one page."""
+        b = self.b
+        b.run("probe.stopRoad()")
+        low = lambda: [it for it in call(b, "probe.contrasts", CONTRAST)[1] if " on " not in it]
+        # without motion no colour is on its way
+        still = [{"name": "prefers-reduced-motion", "value": "reduce"}]
+        on = lambda media: b.ask("Emulation.setEmulatedMedia", media=media, features=still)
+        on("print")
+        self.check("the start on paper", ({*b.run(SHOWN)}, low()), ({"FIGURE", "CANVAS"}, []))
+        on("screen")
+        call(b, "probe.drop", "own.log", f"{HI}\n" * 40 + f"{YO}\n" * 40)
+        settle(b)
+        on("print")
+        self.check("a log on paper", ({*b.run(SHOWN)}, low()), ({"DIV", "FIGURE", "CANVAS"}, []))
+        self.check("one page of A4", b.run("document.documentElement.scrollHeight") < 1100, True)
+        to_tab(b, "script")
+        self.check("a script on paper", ({*b.run(SHOWN)}, low()), ({"FIGURE", "CANVAS"}, []))
+        on("screen")
+        first_examples(b)
