@@ -25,7 +25,7 @@ const probe = (() => {
 
   /* Waits until the tabs have all their answers, and are drawn. */
   async function idle() {
-    const all = [logTab, scriptTab, $changes.state, road];
+    const all = [logTab, scriptTab, road];
     let work;
     do {
       work = all.map((it) => it.work);

@@ -201,7 +201,7 @@ class Chromium(Access, ChromiumCase):
             for tab in TABS[:2]:
                 to_tab(b, tab)
                 settle(b)
-                for part in (f"#{tab} .look" if tab == "log" else "#script-time", f"#{tab} .stage:not(#road *)"):
+                for part in (f"#{tab}-time", f"#{tab} .stage:not(#road *)"):
                     self.check(f"{part} in {width} px", b.run(f"{box.format(part)}.width") >= width - 60, True)
                 self.check(f"the end of {tab}'s timeline in {width} px",
                            b.run(f"scrollTo(0, 0), {box.format(f'#{tab}-time')}.bottom <= 900"), True)
@@ -227,7 +227,7 @@ class Chromium(Access, ChromiumCase):
                                       f"(document.querySelector('{query}').getBoundingClientRect())")
             (left, _, top), form = box("#verdict"), box("#log-form")
             self.check(f"its edge in {width} px", left, form[0])
-            later = [query for query in ("#log-radio", "#log-alone", "#log-time", ".lists")
+            later = [query for query in ("#log-radio", "#log-alone", "#log-time")
                      if box(query)[2] < top or box(query)[2] == top and box(query)[0] <= left]
             self.check(f"what comes before it in {width} px", later, [])
         b.size(1280, 900)

@@ -73,12 +73,10 @@ class Faults:
     def test_a_malformed_line_or_row_is_named_and_shown(self):
         b = self.b
         said = verdict_of(b, f"# note\n{HI}\nC201 <b>40 4849\n", 8)
-        self.check("a bad line is named", said.partition("Show the line")[0],
+        self.check("a bad line is named", said,
                    'Line 3 is malformedFault line 3: "C201 <b>40 4849": block 2 has 5 characters, expected 4; a log '
                    f"line looks like {HI}. The page does not show the lines after it.")
         self.check("and its text is no HTML", b.run("document.querySelectorAll('#verdict b').length"), 0)
-        b.run("[...document.querySelectorAll('#verdict button')].at(-1).click()")
-        self.check("and shown", text_of(b, "#log-rows [aria-current]"), "3C201 <b>40 4849")
         rows = [
             ("-,,1,G\n\n-,,1\n", "row 2 (line 3): expected 4 fields (COMMAND,ARGUMENT,FREE,RECEPTIONS), found 3"),
             ("-,,1,G\n-,,1,GG\n", "row 2 (line 2): RECEPTIONS: the number of receivers is 2, but the first row has 1"),

@@ -208,7 +208,7 @@ class Files:
         paste = ("(text, at) => {{ const data = new DataTransfer(); data.setData('text', text); document.querySelector(at)"
                  ".dispatchEvent(Object.assign(new Event('paste', {{ bubbles: true }}), {{ clipboardData: data }})); }}")
         in_log, in_script = ["script"], ["log"]
-        for text, at, wanted in ((EVERY_100, "h1", (in_log, EVERY_100)), (HI, "#log-find", (in_log, EVERY_100)),
+        for text, at, wanted in ((EVERY_100, "h1", (in_log, EVERY_100)), (HI, "#log-m", (in_log, EVERY_100)),
                                  (example("tunnel.csv").decode(), "h1", (in_script, EVERY_100))):
             call(b, f"({paste.format()})", text, at)
             self.check(f"pasted over {at}: {text[:9]!r}", (hidden(b), call(b, "probe.textOfLog")), wanted)

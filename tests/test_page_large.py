@@ -1,4 +1,4 @@
-"""Many slots: the page answers as the program does, and shows a long log in windows."""
+"""Many slots: the page answers as the program does."""
 import json
 
 from tests.page_support import ChromiumCase, call, first_examples, idle, move, program, settle, text_of
@@ -30,7 +30,6 @@ def give_day(b, log):
 def take_day(b):
     """Shows the first examples again."""
     b.run("window.day = null")
-    call(b, "probe.choose", "log-find", "")
     first_examples(b)
 
 
@@ -44,7 +43,7 @@ class Chromium(ChromiumCase):
             got = b.run(f"probe.run({json.dumps(words)}, {json.dumps(data.decode())})[1]")
             self.check(f"{words[0]} of many slots", got, program(words, data)[1])
 
-    def test_the_log_of_a_day_is_shown_in_windows(self):
+    def test_the_log_of_a_day_is_shown(self):
         b = self.b
         log = day_of_slots()
         give_day(b, log)
@@ -54,13 +53,9 @@ class Chromium(ChromiumCase):
         move(b, "log", 981999)
         idle(b)
         self.check("its verdict", text_of(b, "#verdict h2"), "✓ Passes with M = 100 (8.76 s)")
-        rows = b.run("[...document.querySelectorAll('#log-rows button')].map(it => it.textContent)")
-        self.check("its lines are a window around the slot", (len(rows) <= 102, rows[-1]), (True, f"982,000{log[-20:-1]}"))
         before, after = json.dumps(log[:10_000_000]), json.dumps(log[:100_000])
         b.run(f"window.day = new File([{before}, 'bad\\n', {after}], 'bad.log'); undefined")
         b.run("probe.openFile(day)")
         idle(b)
-        b.run("[...document.querySelectorAll('#verdict button')].at(-1).click()")
-        self.check("the line of a fault is shown", (text_of(b, "#verdict h2"), text_of(b, "#log-rows [aria-current]")),
-                   ("Line 500,001 is malformed", "500,001bad"))
+        self.check("the line of a fault is named", text_of(b, "#verdict h2"), "Line 500,001 is malformed")
         take_day(b)

@@ -1,4 +1,4 @@
-"""The tab that looks at a log: its verdict, its list of changes, its words and its witnesses."""
+"""The tab that looks at a log: its verdict, its words and its witnesses."""
 import random
 import re
 
@@ -62,19 +62,6 @@ def with_times(dice):
         if dice.random() < 0.1:
             lines.append(dice.choice(["", "# note", "<x>"]))
     return dice.choice(["\n", "\r\n"]).join(lines) + dice.choice(["\n", ""])
-
-
-def text_of_two_segments(slot):
-    """Returns two lines with a text of its own for this number, and the flag of every other text."""
-    second = f"C201 21{4 + slot % 2}"
-    return (f"{second}0 {0x4130 + slot // 100:04X} {0x2000 + 0x30 + slot // 10 % 10:04X}\n"
-            f"{second}1 {0x3000 + slot % 10 * 256 + 13:04X} 2020\n")
-
-
-def listed(b):
-    """Returns the rows of the list of changes: slot, time, part and text."""
-    parts = "[...it.children].map(part => part.textContent)"
-    return b.run(f"[...document.querySelectorAll('#log-changes li:not(.more) button')].map(it => {parts})")
 
 
 class LogTab:
@@ -210,7 +197,7 @@ class LogTab:
                 "The audit takes the lines as slots without a gap, so this answer may be wrong. Add the lost slots")
         self.check("an hour without a group", said in text_of(b, "#verdict") or text_of(b, "#verdict"), True)
         move(b, "log", 1)
-        self.check("the clock of a slot", "11:00:00" in text_of(b, "#log-time output") + text_of(b, "#log-changes"),
+        self.check("the clock of a slot", "11:00:00" in text_of(b, "#log-time output"),
                    True)
 
     def test_lines_are_read_as_the_program_reads_them(self):
@@ -233,44 +220,6 @@ class LogTab:
             count = sum(1 for line in before.split("\n") if line.strip("\r") and line[0] not in "<#%")
             self.check(f"seed {SEED}, slots of odd log {number}", (b.run("$log.logTab.log.count"), slots), (count, 0),
                        log)
-
-    def test_the_list_has_each_change_and_can_be_filtered(self):
-        """A row goes to its slot."""
-        b = self.b
-        call(b, "probe.choose", "log-example", 1)
-        name = {"text": "text", "name": "PTYN", "tag1": "tag", "tag2": "tag"}
-        wanted = []
-        for slot, part, rest in re.findall(r"^(\d+) (text|name|tag1|tag2) (.*)$", text_of(b, "#log-lines"), re.M):
-            if rest.split()[0] != "none":
-                kind, _, said = rest.partition(' "')
-                wanted.append([slot, name[part], said[:-1] if not kind.startswith('"') else rest[1:-1], kind])
-        got = listed(b)
-        self.check("the list of changes", [[slot, part] for slot, _, part, _ in got],
-                   [[slot, part] for slot, part, _, _ in wanted])
-        self.check("and what they are", [said in shown_there for (_, _, said, _),
-                                         (_, _, _, shown_there) in zip(wanted, got)], [True] * len(wanted))
-        call(b, "probe.choose", "log-find", "beyonc")
-        settle(b)
-        self.check("the field filters",
-                   ({"beyonc" in said.lower() for *_, said in listed(b)}, text_of(b, "#log-found")),
-                   ({True}, f"{len(listed(b))} of {len(wanted)} changes"))
-        click(b, "#log-changes li:last-child button")
-        self.check("a row goes to its slot", cursor(b, "log"), int(listed(b)[-1][0]))
-        self.check("and is marked", b.run("document.querySelector('#log-changes [aria-current] .slot').textContent"),
-                   listed(b)[-1][0])
-        call(b, "probe.choose", "log-find", "")
-        settle(b)
-        call(b, "probe.open", "log", "".join(map(text_of_two_segments, range(1000))), {"pi": "C201", "m": 8, "k": 0})
-        rows = len(listed(b))
-        move(b, "log", 900)
-        slot = b.run("document.querySelector('#log-changes [aria-current] .slot').textContent")
-        self.check("a long list is laid out in part, around the slot",
-                   (rows <= 100, len(listed(b)) <= 100, abs(int(slot.replace(",", "")) - 900) < 4), (True,) * 3)
-        row, whole = (b.run(f"(({{ top, bottom }}) => [top, bottom])({it}.getBoundingClientRect())")
-                      for it in ("document.querySelector('#log-changes [aria-current]')",
-                                 "document.querySelector('#log-changes')"))
-        self.check("its row is in sight of the list", (row[0] >= whole[0], row[1] <= whole[1]), (True, True))
-        first_examples(b)
 
     def test_the_chosen_group_is_in_words(self):
         """The words are its type, flag, segment, characters and blocks."""
@@ -337,22 +286,7 @@ class LogTab:
         call(b, "probe.choose", "log-example", 0)
         self.check("an example after it", of(b, "#log-k", "value"), "0")
 
-    def test_the_log_itself_follows_the_cursor(self):
-        """Numbered, beside the timeline, with the notes of the log left out. A click on a line chooses its slot."""
-        b = self.b
-        log = "# a note\n" + "".join(f"{HI} number {slot}\n" for slot in range(6000))
-        call(b, "probe.open", "log", log, {"pi": "C201", "m": 8, "k": 0})
-        for slot in (0, 3000, 5999):
-            move(b, "log", slot)
-            row, whole = (b.run(f"(({{ top, bottom }}) => [top, bottom])({it}.getBoundingClientRect())")
-                          for it in ("document.querySelector('#log-rows [aria-current]')",
-                                     "document.querySelector('#log-rows')"))
-            self.check(f"slot {slot}", (text_of(b, "#log-rows [aria-current]"), row[0] >= whole[0], row[1] <= whole[1]),
-                       (f"{slot + 2:,}{HI} number {slot}", True, True))
-        click(b, "#log-rows [data-row='5990'] button")
-        self.check("a click", cursor(b, "log"), 5990)
-
-    def test_five_lanes_and_the_log_itself_are_in_sight(self):
+    def test_five_lanes_are_in_sight(self):
         """Of a log with a name and tags that gets a no with a witness, in a window of 1,280 x 800."""
         b = self.b
         b.size(1280, 800)
@@ -362,8 +296,7 @@ class LogTab:
         b.run("scrollTo(0, 0)")
         top = b.run("document.querySelector('#log-time canvas').getBoundingClientRect().top")
         ends = [top + it for it in b.run("$log.logTab.timeline.lanes.map(({ top, height }) => top + height)")]
-        rows = b.run("document.querySelector('#log-rows [aria-current]').getBoundingClientRect().bottom")
-        self.check("in sight", (sum(end <= 800 for end in ends) >= 5, rows <= 800), (True, True), f"{ends} {rows}")
+        self.check("in sight", sum(end <= 800 for end in ends) >= 5, True, f"{ends}")
         b.size(1280, 900)
 
     def test_all_stations_of_a_log_are_offered(self):
@@ -398,11 +331,9 @@ class LogTab:
         wanted = ["✗ EarlyFlag with M = 128 (11.2 s)", "Keep each text on air for at least M + K slots"]
         self.check("is my encoder safe, and what to change", (used <= 4, [it for it in wanted if it not in told]),
                    (True, []))
-        used = clicks(lambda: click(b, "#tab-log"), file, lambda: call(b, "probe.choose", "log-find", "news"),
-                      lambda: click(b, "#log-changes button"))
+        used = clicks(lambda: click(b, "#tab-log"), file, lambda: click(b, "#log-time [data-do=previous]"))
         self.check("when did the text change", (used <= 4, text_of(b, "#log-time output")),
                    (True, "slot 101 of 300 · 8.85 s"))
-        call(b, "probe.choose", "log-find", "")
         first_examples(b)
 
 

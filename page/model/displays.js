@@ -85,15 +85,6 @@ export function read(output, values, tell = null) {
 export const displayOf = (output, values, count) => (read(output, values)[""] ?? new Writer(values)).packed(count);
 export const beginOf = (output) => output.length > MOST_SHOWN ? `${output.slice(0, MOST_SHOWN)}…` : output;
 
-/* Where a packed display shows something else, in order: four times the slot, and the number of the part. */
-export function changesOf(display) {
-  const keys = PARTS.flatMap((part, i) => {
-    const { starts, numbers } = display[part];
-    return [...starts.map((slot) => 4 * slot + i).filter((_, run) => numbers[run] !== NOTHING)];
-  });
-  return Int32Array.from(keys).sort();
-}
-
 /* Marks the runs of a packed display that are mixes, by the lines of `witness --lose`, which are in order. */
 const MIX = STATES.indexOf("mix");
 export function markMixes(display, printed) {

@@ -101,7 +101,7 @@ const REQUESTS = {
     logOf();
     const { view, alone, codes, values, ...shown } = asked.lost.length ? lossyOf(asked) : wholeOf(asked);
     const copies = structuredClone({ view, alone, codes });
-    return { ...shown, ...copies, values: values.packed(), changes: displays.changesOf(view) };
+    return { ...shown, ...copies, values: values.packed() };
   },
 
   /* The text that a receiver without losses shows in a slot. */

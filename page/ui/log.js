@@ -4,13 +4,11 @@ import { Marks, Texts, View } from "../model/displays.js";
 import * as lines from "../model/lines.js";
 import * as logs from "../model/slots.js";
 import { Program } from "../program/program.js";
-import * as changes from "./changes.js";
 import * as faults from "./faults.js";
 import { nameFor, saveAs } from "./files.js";
 import * as groups from "./groups.js";
 import * as links from "./links.js";
 import { $, counted, hex, make, number, radio, whyNoMix } from "./parts.js";
-import { Rows } from "./rows.js";
 import { Tab } from "./tab.js";
 import * as verdict from "./verdict.js";
 
@@ -54,7 +52,6 @@ class LogTab extends Tab {
 
   constructor() {
     super("log", "Look at a log");
-    this.rows = new Rows($("log-rows"), (i) => this.row(i));
     this.home(true);
   }
 
@@ -110,7 +107,6 @@ class LogTab extends Tab {
     Object.assign(this, empty(), { log: NO_LOG, brush: null, ...opened });
     this.hadLost = example !== "" && this.lost.size > 0;
     this.home(false);
-    this.rows.show(0);
     this.nameFile(file);
     this.setFields({ example, m, k, w: w || "" });
     $("log-running").checked = running;
@@ -127,7 +123,6 @@ class LogTab extends Tab {
     if (options.some(({ value }) => value === pi)) $("log-pi").value = pi;
     this.prepare();
     $("log").classList.toggle("without-slots", !this.log.count);
-    this.rows.show(this.log.count + (this.log.end < this.bytes.length));
   }
 
   get waitsFor() {
@@ -180,16 +175,13 @@ class LogTab extends Tab {
     Object.assign(this, { view, alone, codes: shown.codes, pi: parseInt(asked.pi, 16), w: asked.w });
     this.timeline.show(this.lanes(), this.log.count, { fit });
     this.tellLines("log", shown.command, shown.output);
-    changes.show(view, shown.changes, this);
   }
 
   async showAnswer(asked, signal) {
     const audit = await this.judge.ask("audit", asked, { signal });
     this.answer = { ...verdict.show({ ...asked, audit }, this.actions), audit };
     this.tellLines("audit", audit.command, audit.output);
-    faults.show({ ...audit, isSure: this.answer.isSure }, (slot) => this.goTo(slot));
-    // the row of the fault is red
-    this.rows.layOut(Math.max(0, this.rows.chosen));
+    faults.show({ ...audit, isSure: this.answer.isSure });
     // the faults have marks
     if (this.no && this.timeline.lanes.length) this.timeline.show(this.lanes(), this.log.count);
   }
@@ -210,7 +202,6 @@ class LogTab extends Tab {
   showProblem(problem, { isRefused = false } = {}) {
     Object.assign(this, empty());
     this.timeline.show([], this.log.count);
-    changes.show(this.view, [], this);
     faults.hide();
     if (isRefused) verdict.showNone(problem, "No log is open.", "no"); else verdict.showNone("No verdict", problem);
     for (const name of ["log", "audit"]) this.tellLines(name, "", "");
@@ -254,7 +245,6 @@ class LogTab extends Tab {
 
   actions = {
     goTo: (slot) => this.goTo(slot),
-    showFault: () => this.rows.choose(this.log.count),
     fill: () => this.working(this.fill().catch((error) => this.showProblem(`${error.message}.`))),
     stopSearch: () => this.searching.abort(),
     /* Loses these slots alone, and goes to the one in which the mix is shown. */
@@ -309,23 +299,6 @@ class LogTab extends Tab {
   }
   seconds(slot) { return this.log.clocks[slot] ?? NaN; }
 
-  /* A row of the log itself: the line of a slot, its blocks and its clock. The one behind all slots is malformed. */
-  row(slot) {
-    const { log, no, answer } = this;
-    const isSlot = slot < log.count;
-    const line = this.lineAt(isSlot ? log.starts[slot] : log.end);
-    const clock = this.clock(slot);
-    const before = slot ? log.numbers[slot - 1] : 0;
-    return {
-      className: isSlot && no?.slot === slot && answer.isSure ? "fault" : "", title: line,
-      act: () => this.goTo(Math.min(slot, log.count - 1)),
-      cells: [
-        make("span", { className: "number", textContent: number(isSlot ? log.numbers[slot] : before + 1) }),
-        make("code", { textContent: clock ? `${line.slice(0, logs.BLOCKS)} ${clock}` : line }),
-      ],
-    };
-  }
-
   showSlot(slot) {
     const { bytes, log, view, alone } = this;
     const group = logs.groupAt(bytes, log, slot);
@@ -336,8 +309,6 @@ class LogTab extends Tab {
     const other = radio($("log-alone"), "An ordinary radio", alone, slot);
     $("log-why").textContent = whyNoMix(view, alone, slot);
     $("log-group").replaceChildren(...groups.ofSlot(bytes, log, slot, this.pi));
-    this.rows.choose(slot);
-    changes.move(slot);
     this.putAddressSoon();
     return `${what}. The receiver shows ${shown}. An ordinary radio: ${other}.`;
   }
@@ -366,7 +337,6 @@ class LogTab extends Tab {
     super.begin(["pi", "m", "k", "w", "running"], () => this.look());
     Object.assign(this, { display: new Program(compiled, PATIENCE), judge: new Program(compiled) });
     $("log-unlose").onclick = () => { this.lost.clear(); this.look(); };
-    changes.begin();
   }
 }
 
