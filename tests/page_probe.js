@@ -96,15 +96,6 @@ const probe = (() => {
     if (location.hash !== hash) await new Promise((done) => { window.addEventListener("hashchange", done, { once: true }); setTimeout(done, 500); });
   }
 
-  /* Types an argument, and chooses another slot before the page can play it. */
-  function typeAndLeave(text, slot) {
-    at("argument").focus();
-    at("argument").value = text;
-    at("argument").dispatchEvent(new Event("input"));
-    scriptTab.timeline.canvas.focus();
-    scriptTab.timeline.move(slot);
-  }
-
   // ---- what the page holds
 
   const textOfLog = () => new TextDecoder("utf-8", { ignoreBOM: true }).decode(logTab.bytes);
@@ -229,7 +220,7 @@ const probe = (() => {
 
   return {
     bars, choose, colour, contrasts, displays, drop, dropAll, faint, idle, inksOf, keepBack, letGo, longestTask, pass, pick,
-    place, run, runs, stopClock, swatches, textOfLog, ticks, typeAndLeave, yardstick,
+    place, run, runs, stopClock, swatches, textOfLog, ticks, yardstick,
     isReady: () => $app.state.ready || at("no-engine").textContent !== "",
     codes: (tab, name) => [...laneOf(timelineOf(tab), name).codes],
     lanes: (tab) => timelineOf(tab).lanes.map(({ name }) => name),

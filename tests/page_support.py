@@ -8,7 +8,6 @@ import json
 import os
 import re
 import subprocess
-import time
 import unittest
 import zlib
 
@@ -178,24 +177,12 @@ def longest_task(b, does, most):
 
 
 def first_examples(b):
-    """Opens the first example of each tab. Drops edits that are not saved."""
+    """Opens the first example of each tab."""
     tab = "script" if of(b, "#log", "hidden") else "log"
     for name in ("log-example", "script-example"):
         call(b, "probe.choose", name, 0)
-        b.run("document.querySelector('#ask').open && document.querySelector('#ask-yes').click()")
         settle(b)
     to_tab(b, tab)
-
-
-def waited_for(path):
-    """Waits for a file that the browser saves. Returns its bytes."""
-    end = time.monotonic() + browser.SECONDS
-    while time.monotonic() < end:
-        if os.path.exists(path) and os.path.getsize(path):
-            with open(path, "rb") as file:
-                return file.read()
-        time.sleep(0.05)
-    return b""
 
 
 def packed(script):

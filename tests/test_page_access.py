@@ -22,8 +22,8 @@ class Access:
         wanted = {
             "log": ["tab-log", "log-example", "log-file", "log-pi", "log-m", "log-k", "log-w", "log-running",
                     "log-share", "CANVAS", "log-click", "SUMMARY"],
-            "script": ["tab-script", "script-example", "script-file", "script-m", "script-n", "script-slots", "command",
-                       "free", "brush", "script-save", "script-share", "CANVAS", "SUMMARY"],
+            "script": ["tab-script", "script-example", "script-file", "script-m", "script-k", "script-w", "script-share", "CANVAS",
+                       "SUMMARY"],
         }
         first_examples(b)
         for name in TABS:
@@ -39,9 +39,6 @@ class Access:
         b.key("ArrowRight")
         self.check("arrows choose the tab", (b.run("document.activeElement.id"), hidden(b)),
                    ("tab-script", ["log"]))
-        focus(b, "script")
-        b.key("Enter")
-        self.check("Enter goes to the command", b.run("document.activeElement.id"), "command")
 
     def test_both_tabs_have_the_legend_and_the_keys(self):
         """The key ? opens and closes the list of keys."""
@@ -63,7 +60,7 @@ class Access:
         """24 px in each direction; of a box to tick its words count too. No two buttons of the verdict have one name."""
         b = self.b
         small = """[...document.querySelectorAll('button, select, summary, input, .button')]
-            .filter(it => it.checkVisibility() && !it.matches('.button input, .brush input'))
+            .filter(it => it.checkVisibility() && !it.matches('.button input'))
             .map(it => [it, (it.closest('label.inline') ?? it).getBoundingClientRect()])
             .filter(([, { width, height }]) => width < 23.9 || height < 23.9)
             .map(([it, { width, height }]) => `${it.tagName} ${it.id} ${it.textContent.slice(0, 20)} ${width} x ${height}`)"""
@@ -118,8 +115,6 @@ class Chromium(Access, ChromiumCase):
             self.check("a display that is red", (of(b, "#log-radio", "className"), mixed != calm),
                        ("radio mixed", True))
             to_tab(b, "script")
-            first, *others = b.run(grounds.format(".brush label"))
-            self.check("the chosen brush", (first not in others, len(set(others))), (True, 1))
             for tab in TABS[:2]:
                 to_tab(b, tab)
                 settle(b)

@@ -45,9 +45,7 @@ class Faults:
                 ("log", "m", "1e2", number.format("Dwell M", 1, "65,535")),
                 ("log", "k", "1025", number.format("Late K", 0, "1,024")),
                 ("script", "m", "1e2", number.format("Dwell M", 1, "65,535")),
-                ("script", "k", "", number.format("Late K", 0, "1,024")),
-                ("script", "n", "9", number.format("Receivers", 0, 8)),
-                ("script", "slots", "0", number.format("Slots", 1, "200,000"))]
+                ("script", "k", "", number.format("Late K", 0, "1,024"))]
         for tab, field, value, told in rows:
             to_tab(b, tab)
             call(b, "probe.choose", f"{tab}-example", 0)

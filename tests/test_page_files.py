@@ -1,10 +1,7 @@
-"""Files that the page opens and saves, and edits that are not saved."""
-import os
-import tempfile
-
+"""Files that the page opens."""
 from tests.page_support import (EVERY_100, HI, NOTHING, TABS, URL, ChromiumCase, FirefoxCase, call, click, example,
-                                first_examples, hidden, idle, move, of, open_script, printed, program, run_program,
-                                settle, text_of, to_tab, verdict_of, visit, waited_for)
+                                first_examples, hidden, idle, of, open_script, printed, program, run_program, settle,
+                                text_of, to_tab, verdict_of, visit)
 
 TURNS = "\u061c\u200e\u200f\u202a\u202b\u202c\u202d\u202e\u2066\u2067\u2068\u2069"
 
@@ -44,28 +41,20 @@ class Files:
                    ("own.log", [], 5))
 
     def test_of_several_files_the_first_is_opened(self):
-        """The page says how many it left out."""
         b = self.b
         open_script(b, "")
         script = example("tunnel.csv").decode()
-        told = "The page shows one file at a time. It opened {} and left out {}."
-        for names, left, tab in ((["a.csv", "b.log"], "1 other file", "script"),
-                                 (["<b>.log", "b.csv", "c"], "2 other files", "log"),
-                                 (["a.csv"], "", "script")):
+        for names, tab in ((["a.csv", "b.log"], "script"), (["<b>.log", "b.csv", "c"], "log"), (["a.csv"], "script")):
             call(b, "probe.dropAll", [[name, script if name.endswith(".csv") else HI] for name in names])
             settle(b)
-            got = text_of(b, "#left-out"), hidden(b), text_of(b, f"#{tab}-file-name")
-            self.check(f"dropped: {names}", got,
-                       (told.format(names[0], left) if left else "", [it for it in TABS if it != tab], names[0]))
+            got = hidden(b), text_of(b, f"#{tab}-file-name")
+            self.check(f"dropped: {names}", got, ([it for it in TABS if it != tab], names[0]))
 
-    def test_a_log_is_read_in_each_encoding_and_under_each_name(self):
-        """The content decides what a file is, also if Windows wrote it in UTF-16 or with a byte-order mark."""
+    def test_the_content_decides_what_a_file_is(self):
         b = self.b
         log = f"# noted\n{HI} @2024/06/01 07:58:12.00\n{NOTHING}\n"
-        for name, data in (("plain.log", log.encode()), ("mark.log", b"\xEF\xBB\xBF" + log.encode()),
-                           ("small.txt", b"\xFF\xFE" + log.encode("utf-16-le")),
-                           ("large.txt", b"\xFE\xFF" + log.encode("utf-16-be")), ("spread.csv", log.encode())):
-            b.run(f"probe.openFile(new File([Uint8Array.from({list(data)})], '{name}'))")
+        for name in ("plain.log", "spread.csv"):
+            call(b, "probe.drop", name, log)
             settle(b)
             got = hidden(b), call(b, "probe.textOfLog"), text_of(b, "#log-lines")
             self.check(name, got, (["script"], log, '0 text "HI"\n'))
@@ -75,26 +64,17 @@ class Files:
         self.check("a script with a mark", (hidden(b), of(b, "#script-text", "value")), (["log"], script))
 
     def test_a_long_field_is_printed_nowhere(self):
-        """A fault does not quote a field of 3 MB, and the form shows its begin."""
+        """A fault does not quote a field of 3 MB."""
         b = self.b
         long = "A" * 3_000_000
-        for script, left in ((f"{long},,1,G\n", 0), (f"text,{long},1,G\n-,,1,G\n", 401), (f"-,,1,{long}\n", 0)):
+        for script in (f"{long},,1,G\n", f"text,{long},1,G\n-,,1,G\n", f"-,,1,{long}\n"):
             call(b, "probe.drop", "own.csv", script)
             settle(b)
             both = "[document.body.textContent, document.body.innerText]"
             sizes = b.run(f"{both}.map(text => text.includes('A'.repeat(500)))")
             note = run_program(["sim", "--pi", "C201"], script.encode())[2][-1]
             fault = text_of(b, "#script-fault").partition(". The rows after")[0]
-            got = fault, sizes, of(b, "#argument", "value.length")
-            self.check(f"a field of 3 MB in {script[:8]}", got, (note[:1].upper() + note[1:], [False, False], left))
-        open_script(b, f"text,{long},1,G\n-,,1,G\n", m=8, k=0)
-        move(b, "script", 0)
-        b.run("document.getElementById('free').click()")
-        row = of(b, "#script-text", "value").split("\n")[0]
-        self.check("an edit keeps it", (row, of(b, "#argument", "readOnly")), (f"text,{long},0,G", True))
-        move(b, "script", 1)
-        self.check("and a short one can be typed", (of(b, "#argument", "readOnly"), of(b, "#argument", "value")),
-                   (False, ""))
+            self.check(f"a field of 3 MB in {script[:8]}", (fault, sizes), (note[:1].upper() + note[1:], [False, False]))
         call(b, "probe.open", "log", f"{long}\n", {"m": 8})
         settle(b)
         self.check("nor is a line of 3 MB", b.run("document.body.textContent.includes('A'.repeat(100))"), False)
@@ -113,12 +93,12 @@ class Files:
         quoted = text_of(b, "#verdict bdi")
         self.check("a quoted line is isolated", (quoted[:6], set(quoted) & set(TURNS)), ('"C201 ', set()))
         for name, wanted in (("a\u202egol.csv", "a\\u202Egol.csv"), ("\u0639.csv", "\u0639.csv")):
-            call(b, "probe.dropAll", [[name, "-,,1,G\n"], ["b", ""]])
+            call(b, "probe.drop", name, "-,,1,G\n")
             settle(b)
-            got = [text_of(b, "#script-file-name bdi"), text_of(b, "#left-out bdi")]
+            got = text_of(b, "#script-file-name bdi")
             isolated = wanted if wanted.isascii() else f"\u2068{wanted}\u2069"
             self.check(f"a file's name {wanted}", (got, b.run("document.title")),
-                       ([wanted] * 2, f"{isolated} – {title}"))
+                       (wanted, f"{isolated} – {title}"))
         first_examples(b)
 
     def test_a_file_is_judged_at_the_defaults(self):
@@ -160,32 +140,28 @@ class Files:
         self.check("an example is complete", of(b, "#log-running", "checked"), False)
 
     def test_a_file_is_read_as_the_program_reads_its_bytes(self):
-        """A log loses its byte-order mark, and a file in UTF-16 becomes UTF-8."""
+        """With a byte-order mark the program refuses a log, so the page does."""
         b = self.b
         mark, log, script = b"\xef\xbb\xbf", example("hi.log"), example("tunnel.csv")
         latin = "text,Édith,1,\n".encode("latin-1")
         others = [log + b"\xff\xfe\n" + log, "# Édith\n".encode("latin-1") + log, log.replace(b"\n", b"\r\n")]
-        logs = [(mark + log, log), (log.decode().encode("utf-16"), log), *((it, it) for it in others)]
-        for data, plain in logs:
+        for data in (mark + log, log.decode().encode("utf-16"), *others):
             call(b, "probe.drop", "own.log", list(data))
             settle(b)
             for name, words in (("log", ["decode", "--pi", "C201", "--why"]), ("audit", ["audit", "--pi", "C201"])):
                 self.check(f"{words[0]} over a file that begins with {data[:12]}", text_of(b, f"#{name}-lines"),
-                           program(words, plain)[1])
+                           program(words, data)[1])
             call(b, "probe.lose", 0)
-            self.check("and once a slot is lost", text_of(b, "#audit-lines"),
-                       program(["audit", "--pi", "C201"], plain)[1])
-        self.check("the last one passes, and the program takes no mark",
-                   (text_of(b, "#verdict")[:8], program(["audit", "--pi", "C201"], logs[0][0])),
-                   ("✓ Passes", [1, "fault line 1\n"]))
+            self.check("and once a slot is lost", text_of(b, "#audit-lines"), program(["audit", "--pi", "C201"], data)[1])
+        self.check("the last one passes", text_of(b, "#verdict")[:8], "✓ Passes")
         scripts = [mark + script, latin, script + latin, script.replace(b"\n", b"\r\n\r\n")]
-        for data, plain in [(script.decode().encode("utf-16"), script), *((it, it) for it in scripts)]:
+        for data in scripts:
             call(b, "probe.drop", "own.csv", list(data))
             for m in (128, 8):
                 call(b, "probe.choose", "script-m", m)
                 settle(b)
                 self.check(f"sim over a file that begins with {data[:12]}, M {m}", printed(b),
-                           program(["sim", "--pi", "C201", "--pty", "10", "--m", str(m), "--why"], plain)[1])
+                           program(["sim", "--pi", "C201", "--pty", "10", "--m", str(m), "--why"], data)[1])
 
     def test_a_file_that_cannot_be_read_is_said(self):
         """A folder that is dropped, for example. Of two files at once the newer one is opened."""
@@ -203,7 +179,7 @@ class Files:
         self.check("two files", call(b, "probe.textOfLog"), HI)
 
     def test_what_is_pasted_is_opened(self):
-        """Unless it belongs to a field. A saved file keeps its name."""
+        """Unless it belongs to a field."""
         b = self.b
         paste = ("(text, at) => {{ const data = new DataTransfer(); data.setData('text', text); document.querySelector(at)"
                  ".dispatchEvent(Object.assign(new Event('paste', {{ bubbles: true }}), {{ clipboardData: data }})); }}")
@@ -212,8 +188,6 @@ class Files:
                                  (example("tunnel.csv").decode(), "h1", (in_script, EVERY_100))):
             call(b, f"({paste.format()})", text, at)
             self.check(f"pasted over {at}: {text[:9]!r}", (hidden(b), call(b, "probe.textOfLog")), wanted)
-        call(b, "probe.drop", "my.station.log", EVERY_100)
-        settle(b)
 
     def test_a_log_that_changes_on_the_disk_stays_as_it_was_opened(self):
         """The answer and the search for a witness are over the same bytes."""
@@ -258,18 +232,16 @@ class Files:
                 self.check(f"{tab}: an example after it", shows(), ("", title, 0))
         call(b, "probe.drop", "own.csv", example("tunnel.csv").decode())
         settle(b)
-        move(b, "script", 30)
-        call(b, "probe.choose", "command", "restart")
+        call(b, "probe.choose", "script-text", "-,,1,G\n")
+        settle(b)
         self.check("an edited file", text_of(b, "#script-file-name"), "own.csv, edited")
-        click(b, "#script-undo")
-        self.check("and undone", text_of(b, "#script-file-name"), "own.csv")
         to_tab(b, "log")
         self.check("the title is of the open tab", b.run("document.title"), title)
         first_examples(b)
 
 
 class Chromium(Files, ChromiumCase):
-    def test_files_are_dropped_and_saved(self):
+    def test_files_are_dropped(self):
         b = self.b
         rows = [("hi.log", example("hi.log").decode(), "log"), ("tunnel.csv", example("tunnel.csv").decode(), "script"),
                 ("a", f"{NOTHING}\n{HI}\n", "log"), ("tunnel.txt", example("tunnel.csv").decode(), "script")]
@@ -280,11 +252,6 @@ class Chromium(Files, ChromiumCase):
             settle(b)
             opened = of(b, "#script-text", "value") if tab == "script" else call(b, "probe.textOfLog")
             self.check(f"{name} is dropped", (hidden(b), opened), ([it for it in TABS if it != tab], text))
-        with tempfile.TemporaryDirectory() as folder:
-            b.ask("Browser.setDownloadBehavior", behavior="allow", downloadPath=folder)
-            open_script(b, example("late.csv").decode(), m=4, k=2)
-            click(b, "#script-save")
-            self.check("a saved script", waited_for(os.path.join(folder, "script.csv")), example("late.csv"))
 
 
 class Firefox(Files, FirefoxCase):

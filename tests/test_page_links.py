@@ -1,15 +1,12 @@
 """Links to a script or a log, which the page makes and opens."""
 import contextlib
-import os
 import random
 import re
-import tempfile
 import threading
 from http.server import SimpleHTTPRequestHandler, ThreadingHTTPServer
 
 from tests.page_support import (EVERY_100, FOLDER, SEED, URL, ChromiumCase, FirefoxCase, call, click, cursor, example,
-                                hidden, move, of, open_script, packed, printed, reload, settle, text_of, to_tab, visit,
-                                waited_for)
+                                hidden, move, of, open_script, packed, printed, reload, settle, text_of, to_tab, visit)
 
 
 
@@ -78,7 +75,7 @@ class Links:
         click(b, "#script-share")
         b.until("document.querySelector('#script-saved').textContent !== ''")
         self.check("a script that is too long for one", text_of(b, "#script-saved"),
-                   "This script is too long for a link: save it as a file.")
+                   "This script is too long for a link.")
 
     def test_a_link_keeps_slot_receiver_and_zoom(self):
         """It stays in the address as long as it is right, and goes with an edit."""
@@ -100,10 +97,13 @@ class Links:
             self.check("the address is the link", (b.run("location.href"), made[1:]), (link, [True, True, "1"]))
             seen = sight(b)
             self.check("it was zoomed", (seen[:2], seen[3] < 30), ([23, 1], True))
-            call(b, "probe.choose", "command", "restart")
+            script = of(b, "#script-text", "value")
+            call(b, "probe.choose", "script-text", "-,,1,G\n")
+            settle(b)
             self.check("an edit drops the link", script_link(b), ["", False, False, ""])
-            click(b, "#script-undo")
-            self.check("an undo has it in the address again", script_link(b), ["", False, True, "1"])
+            call(b, "probe.choose", "script-text", script)
+            settle(b)
+            self.check("and the text as it was has it in the address again", script_link(b), ["", False, True, "1"])
             to_tab(b, "log")
             self.check("another tab has its own address", b.run("location.hash"), "")
             visit(b, link)
@@ -160,7 +160,7 @@ class Links:
             call(b, "probe.open", "log", "".join(f"# {dice.random()}\n" for _ in range(20_000)))
             click(b, "#log-share")
             b.until("document.getElementById('log-saved').textContent !== ''")
-            self.check("a log that is too long for one", told(), "This log is too long for a link: save it as a file.")
+            self.check("a log that is too long for one", told(), "This log is too long for a link.")
 
 
     def test_the_address_holds_what_is_seen(self):
@@ -216,7 +216,7 @@ class Links:
 
 
 class Chromium(Links, ChromiumCase):
-    def test_a_page_on_a_disk_offers_to_save_the_script(self):
+    def test_a_page_on_a_disk_has_no_link_to_share(self):
         """Its links are of no use to others, and the page says so."""
         b = self.b
         visit(b, URL)
@@ -224,13 +224,7 @@ class Chromium(Links, ChromiumCase):
         click(b, "#script-share")
         b.until("document.querySelector('#script-saved').textContent !== ''")
         self.check("a link from disk", script_link(b)[:3],
-                   ["This page was opened from a disk, so its links are of no use to others. Save the file and share "
-                    "it. Save the script", False,
-                    True])
-        with tempfile.TemporaryDirectory() as saved:
-            b.ask("Browser.setDownloadBehavior", behavior="allow", downloadPath=saved)
-            click(b, "#script-saved button")
-            self.check("its script is saved", waited_for(os.path.join(saved, "script.csv")), example("late.csv"))
+                   ["This page was opened from a disk, so its links are of no use to others.", False, True])
 
 
 class Firefox(Links, FirefoxCase):

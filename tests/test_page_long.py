@@ -107,12 +107,10 @@ class Long:
         call(b, "probe.open", "script", script_of(20_000), {"m": 8, "k": 0})
         b.run("{ const it = $script.scriptTab.timeline, plain = it.show; window.shows = 0;"
               " it.show = function (...given) { window.shows++; plain.apply(it, given); }; }")
-        move(b, "script", 10)
-        b.run("['restart', 'tags', '-', 'restart'].forEach(command => probe.choose('command', command))")
-        row = of(b, "#script-text", "value").splitlines()[10]
-        self.check("the row has the last edit at once", row.split(",")[0], "restart")
-        idle(b)
-        script = of(b, "#script-text", "value")
+        script = script_of(20_001)
+        b.run(f"[9, 10, 11].forEach(m => probe.choose('script-m', m)); probe.choose('script-m', 8);"
+              f" probe.choose('script-text', {json.dumps(script)})")
+        settle(b)
         wanted = program(["sim", "--pi", "C201", "--pty", "10", "--m", "8", "--k", "0", "--why"], script.encode())[1]
         self.check("one result is shown, the last one's",
                    (b.run("window.shows"), printed(b)[:MOST_SHOWN] == wanted[:MOST_SHOWN]), (1, True))
@@ -169,12 +167,9 @@ class Chromium(Long, ChromiumCase):
         b = self.b
         to_tab(b, "script")
         b.run(f"window.long = {json.dumps(script_of(ROWS))}; undefined")
-        edit = f"(probe.move('script', 900), probe.typeAndLeave({TYPED!r}, 960))"
+        edit = f"probe.choose('script-text', long.replace('Song number 900', {TYPED!r}))"
         steps = {"opened": "probe.open('script', long, { m: 128, k: 0 })", "a letter is typed": edit,
-                 "a reception": "document.querySelector('#script-time canvas').dispatchEvent(new KeyboardEvent('keydown', { key: 'l' }))",
-                 "undone": "document.querySelector('#script-undo').click()",
-                 "another M": "probe.choose('script-m', 100)",
-                 "fewer receivers": f"probe.choose('script-n', {RECEIVERS - 1})"}
+                 "another M": "probe.choose('script-m', 100)"}
         for name, step in steps.items():
             longest = longest_task(b, step, LONGEST_TASK)
             self.check(f"{name}: no task of more than {LONGEST_TASK} ms", longest <= LONGEST_TASK or longest, True)
@@ -188,12 +183,12 @@ class Chromium(Long, ChromiumCase):
             self.check("and shown", shown(b, "script-air"), TYPED)
             waits = "document.querySelector('#script-wait').checkVisibility()"
             # a fast machine plays the script before anybody sees that
-            b.run("probe.keepBack(answer => answer.replies); probe.choose('command', 'restart')")
+            b.run("probe.keepBack(answer => answer.replies); probe.choose('script-m', 127)")
             dim = "[...document.querySelectorAll('#script .stage, #script-count, #script-time')]" \
                 ".map(it => getComputedStyle(it).opacity)"
             self.check("a line says that it is played, and the old result is pale", (b.until(waits), b.run(dim)),
                        (True, ["0.35"] * 3))
-            b.run("probe.letGo(); probe.choose('command', '-')")
+            b.run("probe.letGo(); probe.choose('script-m', 128)")
             idle(b)
             self.check("until the new one is there", (b.run(waits), b.run(dim)), (False, ["1"] * 3))
 

@@ -1,6 +1,4 @@
 """The timelines of the page: their keys, zoom and shapes."""
-import re
-
 from tests.page_support import (GROUPS, HI, NOTHING, SCHEMES, YO, ChromiumCase, FirefoxCase, call, click, cursor, focus,
                                 first_examples, move, of, settle, text_of, to_tab, verdict_of)
 
@@ -46,11 +44,6 @@ class Timeline:
                    min(it for it in changes if it > at))
         b.key("P", modifiers=8)
         self.check("Shift and P go back", cursor(b, "script"), at)
-        for key in "lgr":
-            b.key(key)
-            row = of(b, "#script-text", "value").splitlines()[at]
-            chosen = int(re.search(r"Receiver (\d+)", of(b, "#script-radio", "ariaLabel"))[1])
-            self.check(f"{key} edits a reception", row.split(",")[-1][chosen], key.upper())
         first_examples(b)
 
     def test_a_bar_moves_the_slots_in_sight(self):

@@ -2,7 +2,7 @@
 import * as rdsrt from "../program/rdsrt.js";
 import * as links from "./links.js";
 import { logTab } from "./log.js";
-import { $, counted, entitle, isolated, make } from "./parts.js";
+import { $, entitle, make } from "./parts.js";
 import { Play } from "./play.js";
 import { road } from "./road.js";
 import { scriptTab } from "./script.js";
@@ -52,65 +52,35 @@ const SCRIPT = /^\uFEFF?(?:\r?\n)*(?:-|text|name|tags|restart|"[a-z-]+"),/;
 const LOG = /^\uFEFF?(?:(?:[<#%].*|[ \t]*)\r?\n)*(?:[\dA-Fa-f]{4}|----) (?:[\dA-Fa-f]{4}|----) /;
 const isScript = (name, text) => SCRIPT.test(text) || (/\.csv$/i.test(name) && !LOG.test(text));
 
-/* Returns the bytes of a file in UTF-8, and the same as a log without a byte-order mark. */
-function inUtf8(bytes) {
-  const encoding = { "255,254": "utf-16le", "254,255": "utf-16be" }[String(bytes.subarray(0, 2))];
-  const input = encoding ? new TextEncoder().encode(new TextDecoder(encoding).decode(bytes)) : bytes;
-  const isMarked = String(bytes.subarray(0, 3)) === "239,187,191";
-  return { input, plain: isMarked ? bytes.subarray(3) : input };
-}
-
-/* Asks whether edits that nobody saved may go. Until it is answered, another question gets a no. */
-function ask() {
-  const dialog = $("ask");
-  if (dialog.open) return Promise.resolve(false);
-  dialog.returnValue = "";
-  dialog.showModal();
-  return new Promise((answer) => { dialog.onclose = () => answer(dialog.returnValue === "yes"); });
-}
-
-/* Opens something in a tab: at once if the tab has no unsaved edits, or else after a yes. */
-async function replace(it, open) {
-  if (it.isUnsaved() && !await ask()) return false;
-  $("left-out").replaceChildren();
-  return open();
-}
-
 /* Opens a file. The program gets its bytes as they are. The text that the page shows keeps a byte-order mark. */
 export async function openFile(file) {
   const number = ++state.files;
   const buffer = await file.arrayBuffer().catch(() => null);
-  if (state.files !== number) return false;
-  const refuse = () => { tab(logTab); return logTab.refuse(`The page cannot read ${file.name}.`, DEFAULTS); };
-  if (!buffer) return refuse();
+  if (state.files !== number) return;
+  if (!buffer) {
+    tab(logTab);
+    await logTab.refuse(`The page cannot read ${file.name}.`, DEFAULTS);
+    return;
+  }
   const bytes = new Uint8Array(buffer);
-  const { input, plain } = inUtf8(bytes);
-  const it = isScript(file.name, decoder.decode(plain.subarray(0, BEGIN))) ? scriptTab : logTab;
+  const it = isScript(file.name, decoder.decode(bytes.subarray(0, BEGIN))) ? scriptTab : logTab;
   const options = { ...DEFAULTS, file: file.name };
-  return replace(it, async () => {
-    const opened = it === scriptTab ? it.open(decoder.decode(input), { ...options, input })
-      : it.open(plain, { ...options, running: true });
-    tab(it);
-    // the last answer may be below the fold, with the focus in it
-    /** @type {any} */ (document.activeElement)?.blur();
-    scrollTo({ top: 0 });
-    await opened;
-    return true;
-  });
+  const opened = it === scriptTab ? scriptTab.open(decoder.decode(bytes), { ...options, input: bytes })
+    : logTab.open(bytes, { ...options, running: true });
+  tab(it);
+  // the last answer may be below the fold, with the focus in it
+  /** @type {any} */ (document.activeElement)?.blur();
+  scrollTo({ top: 0 });
+  await opened;
 }
 
-/* Opens the first of the dropped files, and says how many it left out. */
-async function openDropped(files) {
-  const [first, ...others] = files;
-  if (!first || !(await openFile(first)) || !others.length) return;
-  const left = ` and left out ${counted(others.length, "other file")}.`;
-  $("left-out").replaceChildren("The page shows one file at a time. It opened ", isolated(first.name), left);
-}
+/* Opens the first of some files. */
+function openFirst(files) { if (files.length) openFile(files[0]); }
 
 function paste({ target, clipboardData }) {
   if (target.closest("input, textarea, dialog")) return;
   const text = clipboardData.getData("text");
-  if (clipboardData.files.length) openDropped(clipboardData.files);
+  if (clipboardData.files.length) openFirst(clipboardData.files);
   else if (text.trim()) openFile(new File([text], "pasted text"));
 }
 
@@ -123,16 +93,15 @@ function drops() {
   document.ondragleave = (event) => { if (!event.relatedTarget) over(event); };
   document.ondrop = (event) => {
     over(event);
-    openDropped(event.dataTransfer.files);
+    openFirst(event.dataTransfer.files);
   };
   document.onpaste = paste;
 }
 
 /* Opens the file that is chosen in a field. An empty field hears the choice of the same file again. */
 function takeFile({ target }) {
-  const [file] = target.files;
+  openFirst(target.files);
   target.value = "";
-  if (file) openFile(file);
 }
 
 /* The examples of a tab: each is an address. */
@@ -196,7 +165,6 @@ async function openAddress() {
   const isOpen = hash === links.hashOf(it) && (it !== logTab || logTab.bytes.length > 0);
   const opens = !isOpen && (linked || example !== null);
   const wasStart = state.ready && logTab.isStart;
-  if (opens && !await replace(it === road ? logTab : it, () => true)) { tab(scriptTab); return; }
   if (it !== scriptTab) logTab.home(!isOpen && (!opens || it === road));
   if (opens) await openIn(it, hash, linked ? null : example);
   tab(it === road ? logTab : it);
@@ -225,10 +193,10 @@ async function begin() {
   $("log-numbers").open = !matchMedia(PHONE).matches;
   for (const field of all("[type=file]")) field.onchange = takeFile;
   $("skip").onclick = skip;
-  road.begin(compiled, (text, options) => replace(scriptTab, () => {
+  road.begin(compiled, (text, options) => {
     tab(scriptTab, { focus: true });
     return scriptTab.open(text, options);
-  }));
+  });
   const { text, options } = exampleOf(scriptTab, 0);
   await scriptTab.open(text, options);
   for (const form of all("form:not([method])")) form.onsubmit = (event) => event.preventDefault();
@@ -238,7 +206,6 @@ async function begin() {
   await openAddress();
   road.greet();
   window.onhashchange = openAddress;
-  window.onbeforeunload = (event) => { if (scriptTab.isUnsaved()) event.preventDefault(); };
   state.ready = true;
 }
 begin();

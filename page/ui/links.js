@@ -1,7 +1,7 @@
 /* The address: what is open, with its options, lost slots and slot. And links that hold a log or a script, with an end
    mark. */
 import * as lines from "../model/lines.js";
-import { $, make } from "./parts.js";
+import { $ } from "./parts.js";
 
 /* The most bytes of a link, and of its text: a few letters can hold many bytes. */
 const MOST = 8000;
@@ -12,8 +12,7 @@ class Refusal extends Error {}
 export const damaged = () => new Refusal("The link is damaged: an option of it is wrong.");
 /* A link without it at its end was cut, and may have lost options. */
 const END = "&end";
-const FROM_DISK = "This page was opened from a disk, so its links are of no use to others. Save the file and share "
-  + "it. ";
+const FROM_DISK = "This page was opened from a disk, so its links are of no use to others.";
 
 /* Reads the stream up to a bound, and no further. Returns null beyond it. */
 async function squeezed(bytes, by, most) {
@@ -86,7 +85,7 @@ export function keep(tab) {
   tell(tab, "");
 }
 
-export const tell = (tab, ...words) => tab.field("saved").replaceChildren(...words);
+export const tell = (tab, words) => { tab.field("saved").textContent = words; };
 
 function sightOf({ cursor, from, across, count }) {
   const zoom = across < count ? `&from=${Math.round(from)}&across=${Math.round(across)}` : "";
@@ -94,18 +93,14 @@ function sightOf({ cursor, from, across, count }) {
 }
 
 export async function give(tab) {
-  tab.settle();
   const { id, text } = tab;
   const options = tab.options();
   const packed = await pack(text);
   const isShown = packed !== null && location.protocol !== "file:";
   tab.field("link").hidden = !isShown;
-  if (packed === null) { tell(tab, `This ${id} is too long for a link: save it as a file.`); return; }
+  if (packed === null) { tell(tab, `This ${id} is too long for a link.`); return; }
   hold(tab, { text, options, hash: `${id}=${packed}&${options}&${sightOf(tab.timeline)}${tab.moreSight()}${END}` });
-  const save = make("button", { type: "button", textContent: `Save the ${id}`, onclick: () => tab.save() });
-  if (!isShown) { tell(tab, FROM_DISK, ...tab.save ? [save] : []); return; }
-  await copy(tab);
-  tab.shared(text);
+  if (isShown) await copy(tab); else tell(tab, FROM_DISK);
 }
 
 async function copy(tab) {

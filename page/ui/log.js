@@ -5,7 +5,6 @@ import * as lines from "../model/lines.js";
 import * as logs from "../model/slots.js";
 import { Program } from "../program/program.js";
 import * as faults from "./faults.js";
-import { nameFor, saveAs } from "./files.js";
 import * as groups from "./groups.js";
 import * as links from "./links.js";
 import { $, counted, hex, make, number, radio, whyNoMix } from "./parts.js";
@@ -330,8 +329,6 @@ class LogTab extends Tab {
     if (given.has("pi") && given.get("pi") !== this.value("pi")) throw links.damaged();
   }
 
-  isUnsaved() { return false; }
-  save() { saveAs(nameFor("log", ".log"), this.bytes, "text/plain"); }
 
   begin(compiled) {
     super.begin(["pi", "m", "k", "w", "running"], () => this.look());

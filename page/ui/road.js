@@ -60,7 +60,7 @@ class Road {
     const props = { className: `hue-${i % 3}`, maxLength: LONGEST, ariaLabel: `Text ${i + 1}` };
     const field = make("input", { ...props, value: row.argument });
     field.oninput = soon(() => {
-      records.edit(row, { argument: field.value });
+      row.argument = field.value;
       this.play();
     });
     return field;
@@ -152,7 +152,7 @@ class Road {
   async playNow() {
     this.isMoved = false;
     const isLost = (slot) => this.tunnels.some(({ from, to }) => from <= slot && slot < to);
-    this.rows.forEach((row, slot) => records.edit(row, { receptions: [isLost(slot) ? "L" : "G"] }));
+    for (const [slot, row] of this.rows.entries()) row.receptions = [isLost(slot) ? "L" : "G"];
     this.text = records.write(this.rows);
     if (this.link) links.keep(this);
     const played = await this.program.ask("play", { ...RDSRT_EXAMPLES.script[0], text: this.text });
@@ -214,8 +214,6 @@ class Road {
   field(name) { return $(`road-${name}`); }
   options() { return ""; }
   moreSight() { return ""; }
-  settle() {}
-  shared() {}
 
   async open(text, hash) {
     await this.take(text);

@@ -4,16 +4,13 @@ import * as lines from "../model/lines.js";
 import * as player from "../model/player.js";
 import * as records from "../model/records.js";
 import { Program } from "../program/program.js";
-import { nameFor, saveAs } from "./files.js";
 import * as links from "./links.js";
-import { $, MIXED, counted, hex, make, nodesOf, number, problemOf, radio, soon, staleAt, told, whyNoMix } from "./parts.js";
+import { $, MIXED, counted, make, nodesOf, number, radio, soon, staleAt, told, whyNoMix } from "./parts.js";
 import { Tab } from "./tab.js";
 
 const UNPLAYED = "not played";
-const LOOK = "look";
-/* The most letters of an argument that the form takes: a text has 64 characters, and an escape is four letters. */
-const LONG_ARGUMENT = 400;
-const MOST_STATES = 200;
+const MOST_RECEIVERS = 8;
+const MOST_SLOTS = 200_000;
 /* The names of lanes, each with the one on a phone. */
 const AIR = { text: ["on air", "on air"], name: ["  its name", " name"], tags: ["  its tags", " tags"] };
 const OTHERS = { name: ["  its name", "  name"], tags: ["  its tags", "  tags"] };
@@ -22,17 +19,11 @@ const ALONE = { text: ["  ordinary radio", " ordinary"], ...OTHERS };
 const unplayed = () => ({
   played: 0, air: new View(), views: [], alone: [], heard: [], codes: new Uint8Array(0), fault: null, replies: new Map(),
 });
-/** @type {() => any[]} */
-const brushes = () => [...document.querySelectorAll("[name=brush]")];
-const brushNow = () => brushes().find(({ checked }) => checked);
-/* The example of an argument of the form's command; undefined if it takes none. */
-const hintNow = () => $("command").selectedOptions[0].dataset.hint;
 const receiversOf = (rows) => rows[0]?.receptions.length ?? 0;
 
 class ScriptTab extends Tab {
   /** @type {any[]} */ rows = [];
   /** @type {any} */ opened = { text: "", input: "", file: "", example: "" };
-  /** @type {string[]} */ states = [];
   /** @type {View[]} */ views = [];
   /** @type {View[]} */ alone = [];
   /** @type {Uint8Array[]} */ heard = [];
@@ -46,16 +37,11 @@ class ScriptTab extends Tab {
   played = 0;
   chosen = 0;
   pty = "10";
-  saved = "";
-  now = -1;
 
-  constructor() {
-    super("script", "Play a script");
-    this.playedSoon = soon(() => this.edited());
-  }
+  constructor() { super("script", "Play a script"); }
 
   get waitsFor() { return "Playing the script"; }
-  get receivers() { return Number(this.value("n")); }
+  get receivers() { return receiversOf(this.rows); }
 
   /* Chooses a receiver, as far as there is one. */
   choose(receiver) {
@@ -64,114 +50,11 @@ class ScriptTab extends Tab {
     this.timeline.move(this.timeline.cursor, { keep: true });
   }
 
-  /* Edits the receptions of a stroke. Its lane shows them before the script is played. */
-  paint(lane, from, to) {
-    const letter = brushNow().value;
-    const { group } = lane ?? {};
-    if (letter === LOOK || group === undefined) return false;
-    const { codes } = this.timeline.lanes.find((it) => it.kind === "ticks" && it.group === group);
-    for (let slot = from; slot <= to; slot++) {
-      this.setReception(slot, group, letter);
-      if (slot < codes.length) codes[slot] = player.kindHeard(this.codes, this.rows[slot].receptions[group], slot);
-    }
-    this.turn.abort();
-    this.timeline.draw();
-    return true;
-  }
-
-  painted() { this.edited(); }
-
-  showBrush() {
-    const action = brushNow().dataset.does;
-    const words = `A click or a drag on a receiver makes it ${action} the slots. Escape returns to “look”.`;
-    $("brush-on").textContent = action ? words : "";
-  }
-
-  key(key, event) {
-    const { timeline, chosen, receivers } = this;
+  key(key) {
+    const { chosen, receivers } = this;
     const by = { ArrowDown: 1, ArrowUp: -1 }[key];
-    const letter = "lgr".includes(key) && key.toUpperCase();
-    if (event.ctrlKey || event.metaKey) {
-      if (key === "z" || key === "y") this.back(key === "y" || event.shiftKey ? 1 : -1);
-    } else if (key === "Enter") $("command").focus();
-    else if (!receivers || !(by || letter)) return false;
-    else if (by) this.choose((chosen + receivers + by) % receivers);
-    else {
-      this.setReception(timeline.cursor, chosen, letter);
-      this.edited();
-    }
-    return true;
-  }
-
-  /* Edits what a receiver does. A wrong group is the one of the slot with its last bit wrong, if one was sent. */
-  setReception(slot, receiver, letter) {
-    const row = this.rows[slot];
-    const group = letter === "W" && player.sentIn(this, slot);
-    const wrong = group ? `W${[group[1], group[2], group[3] ^ 1].map(hex).join("")}` : "L";
-    if (row) records.editReception(row, receiver, letter === "W" ? wrong : letter);
-  }
-
-  edited(how) {
-    this.text = records.write(this.rows);
-    this.note();
-    this.look(how);
-  }
-
-  /* Notes a state of the edits, and drops the undone ones; or begins anew with it. */
-  note({ isFirst = false } = {}) {
-    if (isFirst) this.states = [];
-    if (this.states[this.now] === this.text && !isFirst) return;
-    this.states.splice(this.now + 1, Infinity, this.text);
-    this.states = this.states.slice(-MOST_STATES);
-    this.standAt(this.states.length - 1);
-  }
-
-  standAt(now) {
-    this.now = now;
-    $("script-undo").disabled = now === 0;
-    $("script-redo").disabled = now === this.states.length - 1;
-  }
-
-  /* Goes back (-1) or forth (1) over the edits. */
-  back(by) {
-    this.settle();
-    const text = this.states[this.now + by];
-    if (text === undefined) return;
-    this.standAt(this.now + by);
-    this.take(text);
-    this.look();
-  }
-
-  settle() { this.playedSoon.now(); }
-
-  /* Writes the form's command into the row of the chosen slot, if there is one, and goes on. */
-  writeCommand(goOn) {
-    const row = this.rows[this.timeline.cursor];
-    const field = $("argument");
-    field.hidden = !hintNow();
-    if (!row) return;
-    const argument = field.readOnly ? row.argument : field.value;
-    const free = $("free").checked ? "1" : "0";
-    records.edit(row, { command: $("command").value, argument: hintNow() ? argument : "", free });
-    goOn();
-  }
-
-  /* A number of the form was changed: a script of another size is edited, and one of the same is played again. */
-  formChanged() {
-    const { rows, receivers } = this;
-    const count = Number(this.value("slots"));
-    const isSame = receivers === receiversOf(rows) && count === Math.max(1, rows.length);
-    if (isSame || problemOf(this.field("form"))) { this.look(); return; }
-    while (rows.length < count) rows.push(records.empty(receivers));
-    rows.length = count;
-    if (receivers !== receiversOf(rows)) for (const row of rows) records.editReceivers(row, receivers);
-    this.edited({ fit: true });
-  }
-
-  take(text) {
-    const rows = records.read(text);
-    Object.assign(this, { text, rows });
-    this.setFields({ n: receiversOf(rows), slots: Math.max(1, rows.length) });
+    if (receivers && by) this.choose((chosen + receivers + by) % receivers);
+    return receivers > 0 && by !== undefined;
   }
 
   /* Opens a script: its text, and the program's input for this text, which for a file is the file's bytes. Returns when
@@ -179,10 +62,8 @@ class ScriptTab extends Tab {
   /** @param {string} text @param {any} [settings] */
   async open(text, settings = {}) {
     const { m, k, w = "", pty = "10", example = "", file = "", input = text } = settings;
-    Object.assign(this, { pty, opened: { text, input, file, example }, saved: text });
+    Object.assign(this, { pty, text, opened: { text, input, file, example } });
     this.setFields({ m, k, w });
-    this.take(text);
-    this.note({ isFirst: true });
     if (!await this.look({ fit: true })) return;
     const { text: onAir } = this.air.parts;
     const behindFirst = onAir.length ? onAir.from(0) + Number(this.value("m")) : this.timeline.cursor;
@@ -192,6 +73,7 @@ class ScriptTab extends Tab {
 
   prepare() {
     const { opened, text } = this;
+    this.rows = records.read(text);
     this.setFields({ example: text === opened.text ? opened.example : "" });
     this.nameFile(opened.file, text !== opened.text);
     links.keep(this);
@@ -210,7 +92,6 @@ class ScriptTab extends Tab {
       replies: new Map(played.replies.map((reply) => [reply.slot, reply])), fault: lines.noteOf(played.notes, "fault"),
     });
     this.air.shadeTexts();
-    $("brush-wrong").hidden = !w;
     this.choose(this.chosen);
     this.timeline.show(this.lanes(), this.rows.length, { fit });
     this.tellLines("script", played.command, played.output);
@@ -221,10 +102,9 @@ class ScriptTab extends Tab {
   /* Why the page does not play these rows; empty if it does. */
   problem() {
     const receivers = receiversOf(this.rows);
-    const most = (name) => Number(this.field(name).max);
-    if (receivers > most("n")) return `The script has ${number(receivers)} receivers. The page plays at most ${most("n")}.`;
-    if (this.rows.length <= most("slots")) return super.problem();
-    return `The script has ${counted(this.rows.length, "row")}. The page plays at most ${number(most("slots"))}.`;
+    if (receivers > MOST_RECEIVERS) return `The script has ${number(receivers)} receivers. The page plays at most ${MOST_RECEIVERS}.`;
+    if (this.rows.length <= MOST_SLOTS) return super.problem();
+    return `The script has ${counted(this.rows.length, "row")}. The page plays at most ${number(MOST_SLOTS)}.`;
   }
 
   /* Shows why nothing is played, and no result of what was there before. What the page refuses is red. */
@@ -322,70 +202,27 @@ class ScriptTab extends Tab {
     const shown = radio($("script-radio"), named("with rdsrt"), view, slot, { led: got, none });
     const other = radio($("script-alone"), named("ordinary radio"), alone, slot, stale);
     $("script-why").textContent = whyNoMix(view, alone, slot);
-    this.showCommand(slot, row);
     this.putAddressSoon();
     if (!isPlayed) return `${UNPLAYED}.`;
     const received = receivers ? ` Receiver ${chosen} ${got}: ${shown}. An ordinary radio: ${other}.` : "";
     return `On air ${onAir}.${received}`;
   }
 
-  /* The field shows the begin of an argument that is far too long, and takes no letters then. */
-  showCommand(slot, { command = "-", argument = "", free = "1" } = {}) {
-    const field = $("argument");
-    const isLong = argument.length > LONG_ARGUMENT;
-    $("at-slot").textContent = `Slot ${number(slot)}`;
-    if (document.activeElement !== field || field.readOnly) {
-      $("command").value = command;
-      $("command").value ||= "-";
-      field.value = isLong ? `${argument.slice(0, LONG_ARGUMENT)}…` : argument;
-      field.readOnly = isLong;
-    }
-    field.hidden = !hintNow();
-    field.placeholder = hintNow() ?? "";
-    $("free").checked = free !== "0";
-  }
-
-  isUnsaved() {
-    this.settle();
-    return this.text !== this.saved && this.text !== this.opened.text;
-  }
-
-  save() {
-    this.settle();
-    this.saved = this.text;
-    saveAs(nameFor("script", ".csv"), this.text, "text/csv");
-  }
-
   stop() { this.turn.abort(new Error("Playing was stopped")); }
 
   options() { return `${super.options()}&pty=${this.pty}`; }
   moreSight() { return `&receiver=${this.chosen}`; }
-  shared(text) { this.saved = text; }
   settingsOf({ option }, { pty = 10 }) { return { pty: String(option("pty", 0, 31, Number(pty))) }; }
   afterLink({ within }) { this.choose(within("receiver", 0, this.receivers - 1) ?? this.chosen); }
 
   begin(compiled) {
-    super.begin(["m", "k", "w", "n", "slots"], () => this.formChanged());
+    super.begin(["m", "k", "w"], () => this.look());
     this.program = new Program(compiled);
-    $("script-text").oninput = soon(() => {
-      const area = $("script-text");
-      const at = area.selectionStart;
-      this.take(area.value);
-      this.note();
-      this.look({ fit: true });
-      area.selectionStart = area.selectionEnd = at;
-    });
-    const command = () => this.writeCommand(() => this.edited());
-    for (const id of ["command", "free"]) $(id).onchange = command;
-    for (const it of brushes()) it.onchange = () => this.showBrush();
-    // Escape puts the brush away
-    $("script").onkeydown = ({ key }) => { if (key === "Escape" && brushNow().value !== LOOK) brushes()[0].click(); };
-    // the row gets each typed letter at once: another slot may be chosen before the rows are played
-    $("argument").oninput = () => this.writeCommand(() => { this.turn.abort(); this.playedSoon(); });
-    $("command-form").addEventListener("submit", command);
-    $("script-undo").onclick = () => this.back(-1);
-    $("script-redo").onclick = () => this.back(1);
-    $("script-save").onclick = () => this.save();
+    const played = soon(() => this.look({ fit: true }));
+    $("script-text").oninput = ({ target }) => {
+      this.text = target.value;
+      played();
+    };
   }
 }
 

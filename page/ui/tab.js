@@ -1,5 +1,5 @@
 /* What the tabs of a log and of a script share. A tab has `text`, `show` for a look, `showProblem`, `settingsOf` for an
-   address, `open`, `isUnsaved`, and for its timeline `showSlot`, `paint`, `painted`. */
+   address, `open`, and for its timeline `showSlot`, `paint`, `painted`. */
 import * as lines from "../model/lines.js";
 import * as links from "./links.js";
 import { $, entitle, isolated, problemOf, soon } from "./parts.js";
@@ -95,15 +95,14 @@ export class Tab {
   elapsed(slot) { return lines.time(slot); }
   seconds() { return NaN; }
   key() { return false; }
+  paint() { return false; }
+  painted() {}
 
   options() {
     return ["m", "k", "w"].filter((name) => this.value(name)).map((name) => `${name}=${this.value(name)}`).join("&");
   }
 
   moreSight() { return ""; }
-  shared() {}
-  /* Takes what was typed last at once. */
-  settle() {}
   afterLink() {}
 
   /* Opens nothing, and says why. */

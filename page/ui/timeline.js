@@ -63,7 +63,6 @@ export class Timeline {
   listen() {
     const { canvas, scroll } = this;
     canvas.onpointerdown = (event) => this.press(event);
-    canvas.onpointermove = (event) => this.hover(event);
     canvas.onkeydown = (event) => this.key(event);
     canvas.onwheel = (event) => this.wheel(event);
     for (const button of this.root.querySelectorAll("[data-do]")) button.onclick = () => this.act(button.dataset.do);
@@ -154,9 +153,6 @@ export class Timeline {
     const y = offsetY + this.top;
     return this.lanes.find(({ top, height }) => y >= top && y < top + height);
   }
-
-  /* The pointer shows what a press would do on the lane of a receiver. */
-  hover(event) { this.canvas.classList.toggle("receiver", this.laneAt(event)?.group !== undefined); }
 
   press(event) {
     if (event.button) return;
