@@ -43,9 +43,9 @@ const probe = (() => {
     window.requestAnimationFrame = (step) => nextFrame(() => step(clock.now));
   }
 
-  /* Lets so many slots pass at this speed, and waits until they are shown. */
-  async function pass(slots, speed) {
-    clock.now += 1000 * $lines.seconds(slots) / speed;
+  /* Lets so many slots pass, and waits until they are shown. */
+  async function pass(slots) {
+    clock.now += 1000 * $lines.seconds(slots);
     for (let i = 0; i < 2; i++) await new Promise((done) => { nextFrame(done); });
   }
 

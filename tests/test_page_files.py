@@ -20,7 +20,7 @@ class Files:
         b.run("document.querySelector('#tab-log').focus()")
         reached = []
         on_road = [f"{it} tunnel, its {part}" for it in ("First", "Second") for part in ("place", "exit")]
-        on_road = ["Text 1", "Text 2", "Text 3", *on_road, "Play", "Speed", "Slot of the road", "road-share", "road-script"]
+        on_road = ["Text 1", "Text 2", "Text 3", *on_road, "Play", "Slot of the road", "road-share", "road-script"]
         for _ in range(len(on_road) + 1 + len(names)):
             b.key("Tab")
             reached.append(b.run("(e => e.id || e.ariaLabel || e.textContent)(document.activeElement)"))

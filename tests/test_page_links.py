@@ -11,14 +11,14 @@ from tests.page_support import (EVERY_100, FOLDER, SEED, URL, ChromiumCase, Fire
 
 
 def sight(b):
-    """Returns the slot of the script, its receiver by the displays, and the slots in sight."""
+    """Returns the slot of the script, and its receiver by the displays."""
     receiver = int(re.search(r"Receiver (\d+)", of(b, "#script-radio", "ariaLabel"))[1])
-    return [cursor(b, "script"), receiver, *call(b, "probe.sight", "script")]
+    return [cursor(b, "script"), receiver]
 
 
 def log_state(b):
-    """Returns the lines of the log's display, its lost slots, the slot, the slots in sight, and the options."""
-    return [text_of(b, "#log-lines"), sorted(call(b, "probe.lost")), cursor(b, "log"), *call(b, "probe.sight", "log"),
+    """Returns the lines of the log's display, its lost slots, the slot, and the options."""
+    return [text_of(b, "#log-lines"), sorted(call(b, "probe.lost")), cursor(b, "log"),
             *(of(b, f"#log-{it}", "value") for it in ("pi", "m", "k"))]
 
 
@@ -77,7 +77,7 @@ class Links:
         self.check("a script that is too long for one", text_of(b, "#script-saved"),
                    "This script is too long for a link.")
 
-    def test_a_link_keeps_slot_receiver_and_zoom(self):
+    def test_a_link_keeps_slot_and_receiver(self):
         """It stays in the address as long as it is right, and goes with an edit."""
         b = self.b
         with served(FOLDER) as url:
@@ -87,7 +87,6 @@ class Links:
             click(b, "#tab-script")
             call(b, "probe.choose", "script-example", 1)
             b.drag(*[call(b, "probe.place", "script", 1, "receiver 1")] * 2)
-            call(b, "probe.zoom", "script", 14, 32)
             move(b, "script", 23)
             click(b, "#script-share")
             b.until("document.querySelector('#script-saved').textContent !== ''")
@@ -96,7 +95,7 @@ class Links:
             link, before, made = of(b, "#script-link", "value"), printed(b), script_link(b)
             self.check("the address is the link", (b.run("location.href"), made[1:]), (link, [True, True, "1"]))
             seen = sight(b)
-            self.check("it was zoomed", (seen[:2], seen[3] < 30), ([23, 1], True))
+            self.check("slot and receiver", seen, [23, 1])
             script = of(b, "#script-text", "value")
             call(b, "probe.choose", "script-text", "-,,1,G\n")
             settle(b)
@@ -110,13 +109,12 @@ class Links:
             self.check("the link opens all that", [printed(b), sight(b), hidden(b)], [before, seen, ["log"]])
             reload(b)
             self.check("and a reload too", [printed(b), sight(b), hidden(b)], [before, seen, ["log"]])
-            for more in ("&slot=9999999&from=-1&across=0&receiver=9", "&slot=x&from=1e9&across=1e9&receiver="):
+            for more in ("&slot=9999999&receiver=9", "&slot=x&receiver="):
                 visit(b, f"{re.sub('&slot=.*', '', link)}{more}&end")
-                _, receiver, _, across = sight(b)
-                self.check(f"a link with {more}", [printed(b), across > 7 and receiver < 2], [before, True])
+                self.check(f"a link with {more}", [printed(b), sight(b)[1] < 2], [before, True])
 
     def test_a_link_of_a_log_keeps_its_options_and_lost_slots(self):
-        """It keeps the slot and the zoom too, and stays in the address."""
+        """It keeps the slot too, and stays in the address."""
         b = self.b
         told, address = lambda: text_of(b, "#log-saved"), "location.hash.includes('log=')"
         with served(FOLDER) as url:
@@ -124,7 +122,6 @@ class Links:
             to_tab(b, "log")
             call(b, "probe.open", "log", EVERY_100, {"pi": "C201", "m": 100, "k": 3, "lost": [2, 3, 4, 9, 100]})
             settle(b)
-            call(b, "probe.zoom", "log", 81, 111)
             move(b, "log", 103)
             before = log_state(b)
             click(b, "#log-share")
@@ -144,7 +141,7 @@ class Links:
             bare = re.sub("&.*", "", link)
             visit(b, f"{bare}&m=128&lost=0-9999999&end")
             state = log_state(b)
-            self.check("a link with many lost slots", (told(), state[5:], len(state[1])), ("", ["C201", "128", "0"], 200_000))
+            self.check("a link with many lost slots", (told(), state[3:], len(state[1])), ("", ["C201", "128", "0"], 200_000))
             damaged = "The link is damaged: an option of it is wrong."
             for name, broken, why in (
                     *((f"has {more}", f"{bare}{more}&end", damaged) for more in

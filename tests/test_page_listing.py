@@ -53,7 +53,7 @@ class Listing:
         b = self.b
         hours = [(HI, f"{hour}:00:00.{part:02d}") for hour in ("07", "08") for part in (0, 9, 18)]
         for name, log, wanted in (
-                ("a clock", timed(*hours, (OTHER, "08:00:00.27")), ["slot 6 of 7 · 08:00:00", ""]),
+                ("a clock", timed(*hours, (OTHER, "08:00:00.27")), ["slot 6 of 7", ""]),
                 ("seconds", "".join(f"{HI} {at}\n" for at in ("0.00", "0.09", "3600.1")) + f"{OTHER} 3600.2\n",
                  ["slot 3 of 4", ""]),
                 ("none", f"{HI}\n" * 6 + f"{OTHER}\n",

@@ -90,11 +90,9 @@ class LogTab:
         settled_verdict(b)
         click(b, "#verdict .witness button")
         idle(b)
-        click(b, "#log-click")
-        at = call(b, "probe.place", "log", 0, "received")
-        b.drag(at, at)
-        self.check("a click loses a slot", lost(b), [2, 3, 0])
-        click(b, "#log-click")
+        move(b, "log", 0)
+        click(b, "#log-lose")
+        self.check("a button loses a slot", lost(b), [2, 3, 0])
 
     def test_the_answer_is_drawn(self):
         """A bracket has the slots from the earlier one to the fault, how many it needs, and the first slot that is right."""
@@ -134,18 +132,6 @@ class LogTab:
         self.check("stopped", text_of(b, "#verdict"), "No verdictReading was stopped.")
         b.run("probe.letGo()")
         first_examples(b)
-
-    def test_a_drag_loses_a_range(self):
-        b = self.b
-        call(b, "probe.open", "log", f"{HI}\n" * 20, {"pi": "C201", "m": 8, "k": 0})
-        click(b, "#log-click")
-        slots = [call(b, "probe.place", "log", slot, "received") for slot in range(20)]
-        for first, last, left in ((3, 11, range(3, 12)), (9, 15, range(3, 9))):
-            b.drag(slots[first], slots[last])
-            idle(b)
-            self.check(f"a drag from slot {first} to {last}", sorted(lost(b)), list(left))
-        self.check("the display drops the text", text_of(b, "#log-lines"), '0 text "HI"\n')
-        click(b, "#log-click")
 
     def test_a_window_shows_what_was_heard_twice(self):
         """Display, audit and link are those of the program with --confirm, and with W - 1 more slots of lateness."""
@@ -197,8 +183,7 @@ class LogTab:
                 "The audit takes the lines as slots without a gap, so this answer may be wrong. Add the lost slots")
         self.check("an hour without a group", said in text_of(b, "#verdict") or text_of(b, "#verdict"), True)
         move(b, "log", 1)
-        self.check("the clock of a slot", "11:00:00" in text_of(b, "#log-time output"),
-                   True)
+        self.check("the time of a line", text_of(b, "#log-group").endswith(" @2026/11/26 11:00:00.00"), True)
 
     def test_lines_are_read_as_the_program_reads_them(self):
         b = self.b

@@ -2,8 +2,8 @@
 import random
 import re
 
-from tests.page_support import (EVERY_100, SEED, URL, ChromiumCase, FirefoxCase, call, click, cursor, focus, hidden,
-                                move, of, packed, program, settle, text_of, to_tab, visit)
+from tests.page_support import (EVERY_100, SEED, URL, ChromiumCase, FirefoxCase, call, click, cursor, hidden, move,
+                                of, program, settle, text_of, to_tab, visit)
 
 SLOTS, DRAGS = 96, 20
 WORDS = ["sim", "--pi", "C201", "--pty", "10", "--m", "8", "--k", "0"]
@@ -111,7 +111,7 @@ class Road:
         b.run("document.querySelector('#road-time canvas').focus()")
         b.key("End")
         self.check("the car goes to the end", b.run(CAR), SLOTS - 1)
-        b.run("document.querySelector('#road-time select').value = 32; probe.stopClock()")
+        b.run("probe.stopClock()")
         click(b, "#road-time .play")
         for slots, at, drives in ((0.5, 0, True), (10, 10, True), (40, 50, True), (60, SLOTS - 1, False), (60, SLOTS - 1, False)):
             b.run(f"probe.pass({slots}, 32)")
@@ -135,7 +135,7 @@ class Road:
         self.check("another road", b.run("location.hash"), "")
 
     def test_a_log_and_a_script_play(self):
-        """A button and the space bar run the cursor. A link with `&play` plays at once."""
+        """A button runs the cursor, and stops it."""
         b = self.b
         call(b, "probe.open", "log", EVERY_100, {"pi": "C201", "m": 8})
         settle(b)
@@ -143,24 +143,16 @@ class Road:
         for tab in ("log", "script"):
             to_tab(b, tab)
             last = int(of(b, f"#{tab}-time canvas", "ariaValueMax"))
-            after = lambda slots: (b.run(f"probe.pass({slots}, 32)"), cursor(b, tab), b.run(f"probe.plays('{tab}')"))[1:]
-            b.run(f"document.querySelector('#{tab}-time select').value = 32")
+            after = lambda slots: (b.run(f"probe.pass({slots})"), cursor(b, tab), b.run(f"probe.plays('{tab}')"))[1:]
             move(b, tab, 3)
             click(b, f"#{tab}-time .play")
             self.check(f"{tab}: it plays", [after(0.5), after(20)], [(3, True), (23, True)])
-            focus(b, tab)
-            b.key(" ")
-            self.check(f"{tab}: the space bar stops it", [after(0), after(20)], [(23, False)] * 2)
+            click(b, f"#{tab}-time .play")
+            self.check(f"{tab}: the button stops it", [after(0), after(20)], [(23, False)] * 2)
             move(b, tab, last - 8)
-            b.key(" ")
+            click(b, f"#{tab}-time .play")
             self.check(f"{tab}: it stops at the end", [after(5.5), after(20), after(20)],
                        [(last - 3, True), (last, False), (last, False)])
-        script = packed("".join(f"text,{it},1,G\n" for it in range(40)).encode())
-        visit(b, f"{URL}#script={script}&m=8&slot=4&play&end")
-        if b.run("matchMedia('(prefers-reduced-motion: reduce)').matches"):
-            self.check("but not for who wants no motion", (cursor(b, "script"), b.run("probe.plays('script')")), (4, False))
-        else:
-            self.check("a link plays", b.until("Number(document.querySelector('#script-time canvas').ariaValueNow) === 39"), True)
 
     def test_a_link_leads_over_the_road(self):
         b = self.b

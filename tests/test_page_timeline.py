@@ -35,68 +35,23 @@ class Timeline:
         b.key("n")
         self.check("N goes to the next text", cursor(b, "script"), texts[1])
         b.key("p")
-        at = cursor(b, "script")
-        self.check("P goes to the one before", at, texts[0])
-        changes = [slot for part in ("text", "name", "tag1") for which in (("air",), ("views", 0), ("views", 1), ("alone", 0), ("alone", 1))
-                   for slot in [it["from"] for it in call(b, "probe.runs", "script", which[0], part, *which[1:])]]
-        b.key("N", modifiers=8)
-        self.check("Shift and N go to the next change of any part", cursor(b, "script"),
-                   min(it for it in changes if it > at))
-        b.key("P", modifiers=8)
-        self.check("Shift and P go back", cursor(b, "script"), at)
+        self.check("P goes to the one before", cursor(b, "script"), texts[0])
         first_examples(b)
 
-    def test_a_bar_moves_the_slots_in_sight(self):
-        """It can be clicked, dragged and moved by key. A screen reader hears the slots."""
+    def test_a_drag_moves_the_slots_in_sight(self):
+        """A click chooses a slot."""
         b = self.b
         verdict_of(b, f"{HI}\n" * 1000, 8)
-        bar, first = "document.querySelector('#log-time .scroll')", lambda: call(b, "probe.sight", "log")[0]
-        self.check("all slots are in sight", b.run(f"[{bar}.max, {bar}.value, {bar}.disabled]"), ["0", "0", True])
         call(b, "probe.zoom", "log", 100, 200)
-        self.check("it shows where they are", b.run(f"[{bar}.max, {bar}.value, {bar}.disabled]"), ["900", "100", False])
-        b.run(f"{bar}.scrollIntoView()")
-        box = ("left", "top", "width", "height")
-        left, top, width, height = (b.run(f"{bar}.getBoundingClientRect().{it}") for it in box)
-        place = lambda share: (left + share * width, top + height / 2)
-        b.drag(place(0.5), place(0.5))
-        self.check("a click", abs(first() - 450) < 20, True)
-        b.drag(place(0.5), place(0.25))
-        self.check("a drag", abs(first() - 225) < 20, True)
-        before = first()
-        b.key("ArrowRight")
-        self.check("a key", first() > before, True)
-        call(b, "probe.zoom", "log", 100, 200)
-        self.check("a reader hears the slots", of(b, "#log-time .scroll", "ariaValueText"), "slots 100 to 199 of 1,000")
-        b.key("Tab", modifiers=8)
-        b.key("Tab")
-        focus = b.run(f"[document.activeElement.className, getComputedStyle({bar}).outlineStyle]")
-        # the window of a headless Firefox has no focus, so it shows none
-        self.check("the focus is to be seen", focus, ["scroll", "solid" if b.run("document.hasFocus()") else "none"])
+        first, last = (call(b, "probe.place", "log", slot, "received") for slot in (180, 130))
+        b.drag(first, last)
+        self.check("a drag", [round(it) for it in call(b, "probe.sight", "log")], [150, 100])
+        place = call(b, "probe.place", "log", 170, "received")
+        b.drag(place, place)
+        self.check("a click", (cursor(b, "log"), call(b, "probe.sight", "log")[1]), (170, 100))
         first_examples(b)
 
-    def test_wheel_and_pinch_show_fewer_and_more_slots(self):
-        """The slot under the pointer keeps its place. With all slots in sight the wheel moves the page."""
-        b = self.b
-        verdict_of(b, f"{HI}\n" * 1000, 8)
-        sight = lambda: call(b, "probe.sight", "log")
-        canvas = "const canvas = document.querySelector('#log-time canvas'); "
-        wheel = (f"(y, x = 0) => {{ {canvas} return canvas.dispatchEvent(new WheelEvent('wheel', {{ deltaY: y, deltaX: x, "
-                 "cancelable: true, clientX: probe.place('log', 249.5, 'received')[0] })); }")
-        self.check("all are in sight: the page moves", (b.run(f"({wheel})(300)"), sight()), (True, [0, 1000]))
-        b.run(f"({wheel})(-300)")
-        self.check("fewer slots", [round(it) for it in sight()], [125, 500])
-        b.run(f"({wheel})(0, 100)")
-        self.check("sideways", sight()[0] > 125, True)
-        b.run(f"({wheel})(300); ({wheel})(300)")
-        self.check("more slots", sight(), [0, 1000])
-        places = {slot: call(b, "probe.place", "log", slot - 0.5, "faults") for slot in (300, 400, 600, 700)}
-        touch = (f"(kind, pointerId, [clientX, clientY]) => {{ {canvas} canvas.setPointerCapture = () => {{}}; "
-                 "canvas.dispatchEvent(new PointerEvent(kind, { pointerId, bubbles: true, pointerType: 'touch', clientX, clientY })); }")
-        for kind, pointer, slot in (("down", 1, 400), ("down", 2, 600), ("move", 1, 300), ("move", 2, 700)):
-            b.run(f"({touch})('pointer{kind}', {pointer}, {places[slot]})")
-        self.check("a pinch", [round(it) for it in sight()], [250, 500])
-        b.run(f"({touch})('pointerup', 2, {places[700]})")
-        first_examples(b)
+
 
 class Chromium(Timeline, ChromiumCase):
     def test_kinds_of_groups_and_flags_differ_in_shape(self):

@@ -1,9 +1,9 @@
-"""Scripts by chance, and logs whose slots are lost by drags: what the page shows in each slot, tags too, beside plain receivers
+"""Scripts by chance, and logs with lost slots: what the page shows in each slot, tags too, beside plain receivers
 and the diary of what was on air, which share no code with the program."""
 import random
 
 from tests import outputs
-from tests.page_support import NOTHING, ChromiumCase, FirefoxCase, call, idle, open_script, to_tab
+from tests.page_support import NOTHING, ChromiumCase, FirefoxCase, call, open_script, to_tab
 from tests.plain_radios import Radio
 from tests.plain_witness import views as plain_views
 from tests.plain_worlds import CLASSES, SLOTS, Diary, accepted_in, encoded, random_rows, script
@@ -11,7 +11,7 @@ from tests.support import ran
 from tests.test_flag_alone import heard, on_air, word_of
 from tests.test_worlds import receptions_of
 
-SEED, SCRIPTS, LOGS, RECEIVERS, DRAGS = 20261128, 60, 60, 2, 3
+SEED, SCRIPTS, LOGS, RECEIVERS, BURSTS = 20261128, 60, 60, 2, 3
 PARTS, TAGS = ("text", "name", "tag1", "tag2"), ("tag1", "tag2")
 # how many slots and parts are red, old and calm, and show tags, at least
 LEAST = {"mix": 20, "old": 50, "replaced": 5, "on air": 1000, "tags": 300}
@@ -96,7 +96,7 @@ class Worlds:
         rare = {it: counts[it] for it, least in LEAST.items() if counts[it] <= least}
         self.check_all("each word is met", rare, {})
 
-    def test_logs_with_dragged_losses_are_shown_as_plain_receivers_show_them(self):
+    def test_logs_with_lost_slots_are_shown_as_plain_receivers_show_them(self):
         """Red is what no plain receiver without losses shows up to M - 1 slots later."""
         b, red = self.b, 0
         for number in range(LOGS):
@@ -106,14 +106,12 @@ class Worlds:
             call(b, "probe.open", "log", text, {"pi": "C201", "m": dwell, "k": 0})
             to_tab(b, "log")
             lost = set()
-            for _ in range(DRAGS):
+            for _ in range(BURSTS):
                 first, last = sorted(rng.sample(range(len(slots)), 2))
                 last = min(last, first + 14)
+                before = lost
                 lost = lost - {*range(first, last + 1)} if first in lost else lost | {*range(first, last + 1)}
-                places = [call(b, "probe.place", "log", it, "received") for it in (first, last)]
-                b.run("document.querySelector('#log-click').checked = true")
-                b.drag(*places)
-                idle(b)
+                call(b, "probe.lose", *(lost ^ before))
             name = f"log {number}, M {dwell}"
             self.check(f"{name}: the lost slots", sorted(call(b, "probe.lost")), sorted(lost), text.encode())
             heard_slots = [NOTHING if slot in lost else it for slot, it in enumerate(slots)]
@@ -129,7 +127,6 @@ class Worlds:
                 wanted = [now - known[slot] for slot, now in enumerate(plain)] if lost else [set() for _ in plain]
                 self.check(f"{name}: red of {which}", mixes, wanted, text.encode())
                 red += sum(map(len, wanted))
-        b.run("document.querySelector('#log-click').checked = false")
         self.check_all("some are red", red > 50, True)
 
 

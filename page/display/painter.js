@@ -4,7 +4,7 @@ import { lastAt } from "../model/displays.js";
 import * as lines from "../model/lines.js";
 
 /* The heights of the axis, of a lane of ticks, and of one of bars or marks. */
-export const AXIS = 36;
+export const AXIS = 24;
 const TICKS = 20;
 const BARS = 22;
 export const FONT = "system-ui, 'Noto Sans', 'DejaVu Sans', sans-serif";
@@ -20,11 +20,9 @@ const INK_OF = {
 };
 /* The modes of a page that change its colours. */
 const MODES = ["(prefers-color-scheme: dark)", "(forced-colors: active)"];
-/* The steps of the axis, in slots and in seconds, and the least pixels between two of its labels. */
+/* The steps of the axis, in slots, and the least pixels between two of its labels. */
 const STEPS = [1, 2, 5, 10, 20, 50, 100, 200, 500, 1000, 2000, 5000, 10000, 20000, 50000, 100000, 200000];
-const TIMES = [1, 2, 5, 10, 30, 60, 120, 300, 600, 1800, 3600, 7200, 14400];
 const APART = 64;
-const MINUTE = 60;
 /* Marks closer than this, in pixels, are drawn as strokes. Bars below the other length have no hue. */
 const NEAR = 12;
 const THIN = 3;
@@ -122,28 +120,16 @@ function multiples(step, from, to) {
   return Array.from({ length }, (_, i) => (first + i) * step);
 }
 
-/* A time of the day, as 07:58, and with its seconds if a step is shorter than a minute. */
-export const timeOf = (seconds, step) => new Date(1000 * seconds).toISOString().slice(11, step < MINUTE ? 19 : 16);
-
 /* The first and the last slot in sight. */
 export const ends = ({ from, across }) => [Math.floor(from), Math.ceil(from + across) - 1];
 
-function axis(ctx, sight, ink, height) {
-  const [first, last] = ends(sight);
-  const { seconds, name } = sight.times(first);
-  const [from, to] = [seconds(first), seconds(last)];
-  const step = TIMES.find((it) => it / Math.max(1, to - from) * sight.room > APART) ?? TIMES.at(-1);
-  const slotAt = (time) => first + lastAt(last - first + 1, (i) => seconds(first + i), time - 1e-6) + 1;
-  const times = multiples(step, from, to).map((time) => [slotAt(time), timeOf(time, step)]);
-  const slots = multiples(STEPS.find((it) => it / sight.across * sight.room > APART) ?? STEPS.at(-1), first, last);
+function axis(ctx, sight, ink) {
+  const slots = multiples(STEPS.find((it) => it / sight.across * sight.room > APART) ?? STEPS.at(-1), ...ends(sight));
   ctx.font = `11px ${FONT}`;
   ctx.fillStyle = ink.line;
-  for (const [slot] of times) ctx.fillRect(Math.round(sight.x(slot)), 4, 1, height - 10);
   for (const slot of slots) ctx.fillRect(Math.round(sight.x(slot)), AXIS - 18, 1, 12);
   ctx.fillStyle = ink.dim;
-  ctx.fillText(name, 4, 9);
   ctx.fillText("slot", 4, AXIS - 12);
-  labels(ctx, sight, 9, times);
   labels(ctx, sight, AXIS - 12, slots.map((slot) => [slot, slot.toLocaleString("en")]));
 }
 
@@ -316,10 +302,10 @@ export function swatch(canvas, ink) {
 }
 
 /* Draws the lanes in the colours `ink`. `sight` says what is in sight: from, across, room, gutter, width, cursor,
-   chosen, x and the times of the slots. */
+   chosen and x. */
 export function paint(ctx, lanes, sight, ink, height) {
   ctx.textBaseline = "middle";
-  axis(ctx, sight, ink, height);
+  axis(ctx, sight, ink);
   for (const lane of lanes) laneOf(ctx, lane, sight, ink);
   cursor(ctx, sight, ink, height);
 }

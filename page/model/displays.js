@@ -160,9 +160,9 @@ class List {
     return i < this.length && this.to(i) <= slot ? i + 1 : i;
   }
 
-  /* Where the nearest entry that fits begins behind the slot (1) or before it (-1); undefined if there is none. */
-  nearest(slot, by, fits) {
-    const isThere = (i) => by * (this.from(i) - slot) > 0 && fits(i);
+  /* Where the nearest entry that is shown begins behind the slot (1) or before it (-1); undefined if there is none. */
+  nearest(slot, by) {
+    const isThere = (i) => by * (this.from(i) - slot) > 0 && this.isShown(i);
     let i = Math.max(0, this.indexAt(slot));
     while (i >= 0 && i < this.length && !isThere(i)) i += by;
     return this.starts[i];

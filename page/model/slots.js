@@ -2,8 +2,7 @@
    fixed places, and no form. docs/FORMATS.md has the form of a log. */
 import * as lines from "./lines.js";
 
-const [NEWLINE, RETURN, DASH, COLON] = [..."\n\r-:"].map((letter) => letter.charCodeAt(0));
-const DAY = 86_400;
+const [NEWLINE, DASH] = [..."\n-"].map((letter) => letter.charCodeAt(0));
 /* A line that begins with one of these letters, or is empty, is no slot. */
 const SKIPPED = new Uint8Array(256);
 for (const letter of "<#%\n\r") SKIPPED[letter.charCodeAt(0)] = 1;
@@ -22,47 +21,21 @@ export function endOf(bytes, start) {
   return newline < 0 ? bytes.length : newline;
 }
 
-/* The seconds of the day in a part of a line, written as 07:58:12; NaN if it has none. */
-function clockIn(bytes, from, end) {
-  const two = (at) => DIGITS[bytes[at]] * 10 + DIGITS[bytes[at + 1]];
-  for (let i = from + 2; i + 5 < end; i++) {
-    if (bytes[i] === COLON && bytes[i + 3] === COLON) return 3600 * two(i - 2) + 60 * two(i + 1) + two(i + 4);
-  }
-  return NaN;
-}
-
-/* Goes on with the clock over lines without one, and over midnight. */
-function goOn(clocks) {
-  for (let slot = 1; slot < clocks.length; slot++) {
-    const next = clocks[slot - 1] + lines.SLOT;
-    if (Number.isNaN(clocks[slot])) clocks[slot] = next;
-    else if (!Number.isNaN(next)) clocks[slot] += DAY * Math.round((next - clocks[slot]) / DAY);
-  }
-}
-
-/* Reads a log up to a line, the first malformed one if there is one. Returns for each slot the first byte, the number and
-   the time of the day of its line. `end` is the first byte not read. */
+/* Reads a log up to a line, the first malformed one if there is one. Returns the first byte of each slot. `end` is the
+   first byte not read. */
 /** @param {(share: number) => void} tell */
 export function read(bytes, malformed = Infinity, tell = () => {}) {
   const most = Math.floor((bytes.length + 1) / (BLOCKS + 1)) + 1;
   const starts = new Uint32Array(most);
-  const numbers = new Uint32Array(most);
-  const clocks = new Float64Array(most);
   let count = 0;
   let start = 0;
   for (let number = 1; start < bytes.length && number < malformed; number++) {
     const end = endOf(bytes, start);
-    if (!SKIPPED[bytes[start]]) {
-      starts[count] = start;
-      numbers[count] = number;
-      clocks[count++] = clockIn(bytes, start + BLOCKS, end);
-    }
+    if (!SKIPPED[bytes[start]]) starts[count++] = start;
     if (Math.floor(end / PER_STEP) > Math.floor(start / PER_STEP)) tell(end / bytes.length);
     start = end + 1;
   }
-  const log = { starts: starts.slice(0, count), numbers: numbers.slice(0, count), clocks: clocks.slice(0, count) };
-  goOn(log.clocks);
-  return { ...log, count, end: Math.min(start, bytes.length) };
+  return { starts: starts.slice(0, count), count, end: Math.min(start, bytes.length) };
 }
 
 const wordAt = (bytes, at) =>

@@ -3,7 +3,6 @@ import * as rdsrt from "../program/rdsrt.js";
 import * as links from "./links.js";
 import { logTab } from "./log.js";
 import { $, entitle, make } from "./parts.js";
-import { Play } from "./play.js";
 import { road } from "./road.js";
 import { scriptTab } from "./script.js";
 
@@ -117,13 +116,6 @@ function beginStart() {
     make("li", {}, make("a", { href: `#log&example=${i}`, textContent: name, className: "button" }))));
 }
 
-function toggleKeys(event) {
-  if (event.key !== "?" || event.target.matches("input, select, textarea")) return;
-  /** @type {any} */
-  const keys = document.querySelector("[role=tabpanel]:not([hidden]) .keys");
-  if (keys) keys.open = !keys.open;
-}
-
 /* The link before all else leads over the road to the log: to its field for a file, or to its timeline. */
 function skip(event) {
   event.preventDefault();
@@ -201,8 +193,6 @@ async function begin() {
   await scriptTab.open(text, options);
   for (const form of all("form:not([method])")) form.onsubmit = (event) => event.preventDefault();
   drops();
-  document.addEventListener("keydown", toggleKeys);
-  document.addEventListener("keydown", Play.space);
   await openAddress();
   road.greet();
   window.onhashchange = openAddress;

@@ -87,11 +87,6 @@ export function keep(tab) {
 
 export const tell = (tab, words) => { tab.field("saved").textContent = words; };
 
-function sightOf({ cursor, from, across, count }) {
-  const zoom = across < count ? `&from=${Math.round(from)}&across=${Math.round(across)}` : "";
-  return `slot=${cursor}${zoom}`;
-}
-
 export async function give(tab) {
   const { id, text } = tab;
   const options = tab.options();
@@ -99,7 +94,7 @@ export async function give(tab) {
   const isShown = packed !== null && location.protocol !== "file:";
   tab.field("link").hidden = !isShown;
   if (packed === null) { tell(tab, `This ${id} is too long for a link.`); return; }
-  hold(tab, { text, options, hash: `${id}=${packed}&${options}&${sightOf(tab.timeline)}${tab.moreSight()}${END}` });
+  hold(tab, { text, options, hash: `${id}=${packed}&${options}&slot=${tab.timeline.cursor}${tab.moreSight()}${END}` });
   if (isShown) await copy(tab); else tell(tab, FROM_DISK);
 }
 
@@ -136,15 +131,6 @@ export function textOf({ id }, hash) {
   return unpack(id, new URLSearchParams(hash).get(id));
 }
 
-/* Shows the slot and the zoom of an address. A link with `&play` plays from there. */
-function look(timeline, { given, within }) {
-  const { count } = timeline;
-  const slot = within("slot", 0, count - 1) ?? timeline.cursor;
-  timeline.sight(within("from", 0, count - 1) ?? timeline.from, within("across", 1, count) ?? timeline.across);
-  timeline.move(slot, { keep: true });
-  if (given.has("play")) timeline.play.greet();
-}
-
 /* Opens what an address holds in a tab: a text with options, and else those of `defaults`. */
 export async function open(tab, hash, text, defaults) {
   const options = optionsIn(hash);
@@ -158,7 +144,7 @@ export async function open(tab, hash, text, defaults) {
   };
   await tab.open(text, { ...defaults, ...numbers, ...tab.settingsOf(options, defaults) });
   tab.afterLink(options);
-  look(tab.timeline, options);
+  tab.timeline.move(options.within("slot", 0, tab.timeline.count - 1) ?? tab.timeline.cursor, { keep: true });
   if (isLink) hold(tab, { text, options: tab.options(), hash });
 }
 

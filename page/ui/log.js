@@ -24,19 +24,17 @@ const STOPPED = "the search was stopped";
 const LANES = { text: ["text", "text"], name: ["name (PTYN)", "name"], tags: ["tags", "tags"] };
 const ALONE = { text: ["ordinary radio", "ordinary"], name: ["  its name", " name"], tags: ["  its tags", " tags"] };
 const KINDS = ["nothing", "text", "name", "tags", "other"];
-const CLOCK = /\d\d:\d\d:\d\d/;
 const LONGEST_LINE = 96;
 const encoder = new TextEncoder();
 const decoder = new TextDecoder("utf-8", { ignoreBOM: true });
 /** @type {any} */
-const NO_LOG = { count: 0, end: 0, starts: [], numbers: [], clocks: [] };
+const NO_LOG = { count: 0, end: 0, starts: [] };
 const empty = () => ({ view: new View(), alone: new View(), codes: new Uint8Array(0), answer: null, witness: null });
 
 class LogTab extends Tab {
   bytes = new Uint8Array(0);
   log = NO_LOG;
   /** @type {Set<number>} */ lost = new Set();
-  /** @type {"add" | "delete" | null} */ brush = null;
   hadLost = false;
   pi = 0;
   w = 0;
@@ -73,21 +71,6 @@ class LogTab extends Tab {
     return this.look();
   }
 
-  /* Loses the slots of a drag while it goes on, or gives them back if its first slot was lost. */
-  paint(lane, from, to, event) {
-    const isBrush = lane && (event.shiftKey || (lane.lost && $("log-click").checked));
-    if (!this.brush && !isBrush) return false;
-    this.brush ??= this.lost.has(from) ? "delete" : "add";
-    for (let slot = from; slot <= to; slot++) this.lost[this.brush](slot);
-    this.timeline.draw();
-    return true;
-  }
-
-  painted() {
-    this.brush = null;
-    this.look();
-  }
-
   key(key, event) {
     if (key !== "l" || event.ctrlKey || event.metaKey) return false;
     this.lose([this.timeline.cursor]);
@@ -103,7 +86,7 @@ class LogTab extends Tab {
     // a link holds no longer text
     const text = bytes.length > links.MOST_PLAIN ? null : decoder.decode(bytes);
     const opened = { bytes, text, lost: new Set(lost) };
-    Object.assign(this, empty(), { log: NO_LOG, brush: null, ...opened });
+    Object.assign(this, empty(), { log: NO_LOG, ...opened });
     this.hadLost = example !== "" && this.lost.size > 0;
     this.home(false);
     this.nameFile(file);
@@ -284,19 +267,12 @@ class LogTab extends Tab {
     return end === start + LONGEST_LINE ? `${text}…` : text;
   }
 
-  /* The clock time at the end of a slot's line; empty if it has none. */
-  clock(slot) {
-    if (slot >= this.log.count) return "";
-    return CLOCK.exec(this.lineAt(this.log.starts[slot]).slice(logs.BLOCKS))?.[0] ?? "";
-  }
-
   /* Empty if there is more than blocks in the line, maybe a time: slots may be missing before it. */
   elapsed(slot) {
     const { starts, count } = this.log;
     const isBare = !count || this.lineAt(starts[Math.min(slot, count - 1)]).length <= logs.BLOCKS;
     return isBare ? super.elapsed(slot) : "";
   }
-  seconds(slot) { return this.log.clocks[slot] ?? NaN; }
 
   showSlot(slot) {
     const { bytes, log, view, alone } = this;
@@ -307,7 +283,8 @@ class LogTab extends Tab {
     const shown = radio($("log-radio"), `A receiver with rdsrt${this.w ? `, W = ${this.w}` : ""}`, view, slot, { led });
     const other = radio($("log-alone"), "An ordinary radio", alone, slot);
     $("log-why").textContent = whyNoMix(view, alone, slot);
-    $("log-group").replaceChildren(...groups.ofSlot(bytes, log, slot, this.pi));
+    const rest = slot < log.count ? this.lineAt(log.starts[slot]).slice(logs.BLOCKS) : "";
+    $("log-group").replaceChildren(...groups.ofSlot(bytes, log, slot, this.pi), rest);
     this.putAddressSoon();
     return `${what}. The receiver shows ${shown}. An ordinary radio: ${other}.`;
   }
@@ -333,6 +310,7 @@ class LogTab extends Tab {
   begin(compiled) {
     super.begin(["pi", "m", "k", "w", "running"], () => this.look());
     Object.assign(this, { display: new Program(compiled, PATIENCE), judge: new Program(compiled) });
+    $("log-lose").onclick = () => this.lose([this.timeline.cursor]);
     $("log-unlose").onclick = () => { this.lost.clear(); this.look(); };
   }
 }

@@ -1,18 +1,13 @@
-/* Runs a cursor over the slots in real time, or some times as fast: by a button, a field for the speed, and the space
-   bar. It stops at the end, and when its button goes out of sight. */
+/* Runs a cursor over the slots in real time, by a button. It stops at the end, and when its button goes out of sight. */
 import * as lines from "../model/lines.js";
 
-const SPEEDS = [1, 8, 32];
-
 export class Play {
-  /* The button and the speeds are in the root. The slots have a number, a cursor, and `move`. */
+  /* The button is in the root. The slots have a number, a cursor, and `move`. */
   constructor(root, slots) {
-    const [button, speed] = [".play", ".time-bar select"].map((query) => root.querySelector(query));
+    const button = root.querySelector(".play");
     this.button = button;
-    this.speed = speed;
     this.slots = slots;
     this.frame = 0;
-    speed.replaceChildren(...SPEEDS.map((times) => new Option(`×${times}`, `${times}`)));
     button.onclick = () => { if (this.frame) this.stop(); else this.start(); };
   }
 
@@ -25,7 +20,7 @@ export class Play {
     const step = (now) => {
       // a pointer or a key moved the cursor
       if (Math.floor(slot) !== slots.cursor) slot = slots.cursor;
-      slot = Math.min(end, slot + Number(this.speed.value) * (now - last) / 1000 / lines.SLOT);
+      slot = Math.min(end, slot + (now - last) / 1000 / lines.SLOT);
       last = now;
       if (Math.floor(slot) !== slots.cursor) slots.move(Math.floor(slot));
       if (slot < end && this.button.checkVisibility()) this.frame = requestAnimationFrame(step);
@@ -49,12 +44,4 @@ export class Play {
 
   /* Starts without being asked for by a hand: not if the reader wants no motion. */
   greet(end) { if (!matchMedia("(prefers-reduced-motion: reduce)").matches) this.start(end); }
-
-  /* The space bar starts and stops what is in sight, unless it belongs to a control. */
-  static space(event) {
-    if (event.key !== " " || event.target.closest("button, input, select, textarea, summary, a, dialog")) return;
-    const button = [.../** @type {any} */ (document.querySelectorAll(".play"))].find((it) => it.checkVisibility());
-    if (button) event.preventDefault();
-    button?.click();
-  }
 }

@@ -204,11 +204,8 @@ class Road {
 
   /* What a timeline asks for. */
   choose() {}
-  paint() { return false; }
   key() { return false; }
-  clock() { return ""; }
   elapsed(slot) { return lines.time(slot); }
-  seconds() { return NaN; }
 
   /* What a link asks for. */
   field(name) { return $(`road-${name}`); }

@@ -1,5 +1,5 @@
 /* What the tabs of a log and of a script share. A tab has `text`, `show` for a look, `showProblem`, `settingsOf` for an
-   address, `open`, and for its timeline `showSlot`, `paint`, `painted`. */
+   address, `open`, and for its timeline `showSlot`. */
 import * as lines from "../model/lines.js";
 import * as links from "./links.js";
 import { $, entitle, isolated, problemOf, soon } from "./parts.js";
@@ -88,15 +88,10 @@ export class Tab {
   prepare() {}
   problem() { return problemOf(this.field("form")); }
 
-  /* What a timeline asks for: the choice of a receiver; of a slot the clock, the time since the first slot, and the
-     seconds of the day. */
+  /* What a timeline asks for: the choice of a receiver, and of a slot the time since the first slot. */
   choose() {}
-  clock() { return ""; }
   elapsed(slot) { return lines.time(slot); }
-  seconds() { return NaN; }
   key() { return false; }
-  paint() { return false; }
-  painted() {}
 
   options() {
     return ["m", "k", "w"].filter((name) => this.value(name)).map((name) => `${name}=${this.value(name)}`).join("&");

@@ -1,14 +1,12 @@
 /* A timeline of slots: which of them are in sight, the chosen one, and its buttons, keys and pointer. Its tab has the
-   words, the clock and the line of a slot, and says what a brush, a key and the choice of a receiver do. */
+   words for a slot, and says what a key and the choice of a receiver do. */
 import * as painter from "../display/painter.js";
-import * as lines from "../model/lines.js";
 import { $, number } from "./parts.js";
 import { Play } from "./play.js";
 
-/* The fewest slots in sight, the pixels that a click may move, and those of a wheel that double the slots. */
+/* The fewest slots in sight, and the pixels that a click may move. */
 const LEAST = 8;
 const STILL = 3;
-const WHEEL = 300;
 /* The width of a phone, and the room for the names of lanes on it and elsewhere. */
 const PHONE = 560;
 const GUTTERS = [74, 132];
@@ -22,10 +20,8 @@ const ACTIONS = {
   all: ["0", (it) => it.zoomTo(0, it.count)],
   earlier: ["a", (it) => it.showFrom(it.from - it.across / 4)],
   later: ["d", (it) => it.showFrom(it.from + it.across / 4)],
-  next: ["n", (it) => it.step(1, { isText: true })],
-  previous: ["p", (it) => it.step(-1, { isText: true })],
-  nextChange: ["N", (it) => it.step(1)],
-  previousChange: ["P", (it) => it.step(-1)],
+  next: ["n", (it) => it.step(1)],
+  previous: ["p", (it) => it.step(-1)],
 };
 
 export class Timeline {
@@ -39,21 +35,18 @@ export class Timeline {
   room = 0;
   /** @type {number | null} */ chosen = null;
   /** @type {Record<string, string>} */ ink = {};
-  stopping = new AbortController();
-  /** @type {PointerEvent | null} */ pressed = null;
   isWaiting = false;
 
   /* What is above `top` is not drawn: a timeline without an axis begins under it. */
   constructor(tab, top = 0) {
     const root = $(`${tab.id}-time`);
     root.append($("timeline").content.cloneNode(true));
-    const [canvas, output, scroll] = ["canvas", "output", ".scroll"].map((query) => root.querySelector(query));
+    const [canvas, output] = ["canvas", "output"].map((query) => root.querySelector(query));
     this.tab = tab;
     this.top = top;
     this.root = root;
     this.canvas = canvas;
     this.output = output;
-    this.scroll = scroll;
     canvas.ariaLabel = `Slot of the ${tab.id}`;
     this.play = new Play(root, this);
     this.listen();
@@ -61,12 +54,10 @@ export class Timeline {
   }
 
   listen() {
-    const { canvas, scroll } = this;
+    const { canvas } = this;
     canvas.onpointerdown = (event) => this.press(event);
     canvas.onkeydown = (event) => this.key(event);
-    canvas.onwheel = (event) => this.wheel(event);
     for (const button of this.root.querySelectorAll("[data-do]")) button.onclick = () => this.act(button.dataset.do);
-    scroll.oninput = () => this.showFrom(Number(scroll.value));
     new ResizeObserver(() => this.draw()).observe(canvas);
   }
 
@@ -90,12 +81,6 @@ export class Timeline {
   /* The place of a pointer in slots, with a fraction; and the slot under it. */
   slotAt({ offsetX }) { return this.from + (offsetX - this.gutter) / this.room * this.across; }
   slotUnder(event) { return Math.min(this.count - 1, Math.max(0, Math.floor(this.slotAt(event)))); }
-
-  /* The seconds of slots for the axis: by the clock of the log, or since the first slot. */
-  times(first) {
-    const seconds = (slot) => this.tab.seconds(slot);
-    return Number.isNaN(seconds(first)) ? { seconds: lines.seconds, name: "elapsed" } : { seconds, name: "clock" };
-  }
 
   /* Shows the slots from this one on, or from the nearest one from which on as many are in sight as now. */
   showFrom(from) {
@@ -122,12 +107,11 @@ export class Timeline {
     this.sight(this.from + fixed * (this.across - across), across);
   }
 
-  /* Goes to the next text, or to the next change of any part (1), or to the one before (-1). */
-  step(by, { isText = false } = {}) {
-    const lists = this.lanes.filter((lane) => lane.strong || !isText).flatMap((lane) => lane.runs ?? lane.marks ?? []);
-    const nearest = (list) => list.nearest(this.cursor, by, (i) => !isText || list.isShown(i));
-    const found = lists.map(nearest).filter((slot) => slot !== undefined);
-    if (found.length) this.move(by > 0 ? Math.min(...found) : Math.max(...found));
+  /* Goes to the next text (1), or to the one before (-1). */
+  step(by) {
+    const { runs } = this.lanes.find(({ strong }) => strong) ?? {};
+    const found = runs?.nearest(this.cursor, by);
+    if (found !== undefined) this.move(found);
   }
 
   /* Chooses a slot, and brings it into sight; if it is to keep the others in their places, not even that. */
@@ -145,8 +129,7 @@ export class Timeline {
 
   place() {
     const { cursor, tab, count } = this;
-    const words = [`slot ${number(cursor)} of ${number(count)}`, tab.elapsed(cursor), tab.clock(cursor)];
-    return words.filter(Boolean).join(" · ");
+    return [`slot ${number(cursor)} of ${number(count)}`, tab.elapsed(cursor)].filter(Boolean).join(" · ");
   }
 
   laneAt({ offsetY }) {
@@ -154,79 +137,24 @@ export class Timeline {
     return this.lanes.find(({ top, height }) => y >= top && y < top + height);
   }
 
+  /* Chooses a receiver and a slot. A drag moves the slots in sight. */
   press(event) {
-    if (event.button) return;
-    this.canvas.focus();
-    if (this.pressed && this.pressed.pointerId !== event.pointerId) { this.pinch(this.pressed, event); return; }
-    const lane = this.laneAt(event);
-    const slot = this.slotUnder(event);
-    if (lane?.group !== undefined) this.tab.choose(lane.group);
-    if (this.slotAt(event) < this.from) this.draw();
-    else if (this.tab.paint(lane, slot, slot, event)) this.brush(event, lane);
-    else this.pan(event);
-  }
-
-  /* Two fingers show more or fewer slots. The slot between them keeps its place. */
-  pinch(first, second) {
-    const at = new Map([first, second].map((it) => [it.pointerId, it.clientX]));
-    const gap = () => Math.max(LEAST, Math.abs([...at.values()].reduce((one, other) => one - other)));
-    const offsetX = second.offsetX + (first.clientX - second.clientX) / 2;
-    const middle = this.slotAt({ offsetX });
-    const before = gap() * this.across;
-    this.stopping.abort();
-    const go = ({ pointerId, clientX }) => {
-      if (at.has(pointerId)) at.set(pointerId, clientX);
-      this.zoom(before / gap() / this.across, middle);
-    };
-    this.follow(second, go, () => {});
-  }
-
-  /* The wheel shows fewer slots, or more until all are in sight. Sideways, or with Shift, it moves them. */
-  wheel(event) {
-    const { deltaX, deltaY, shiftKey } = event;
-    const isSideways = shiftKey || Math.abs(deltaX) > Math.abs(deltaY);
-    if (this.across >= this.count && (isSideways || deltaY > 0)) return;
-    event.preventDefault();
-    if (isSideways) this.showFrom(this.from + (deltaX || deltaY) / this.room * this.across);
-    else this.zoom(2 ** (deltaY / WHEEL), this.slotAt(event));
-  }
-
-  follow(event, go, end) {
-    const { canvas } = this;
-    this.stopping = new AbortController();
-    const { signal } = this.stopping;
-    const stop = (ended) => {
-      this.stopping.abort();
-      this.pressed = null;
-      end(ended);
-    };
-    this.pressed = event;
-    canvas.setPointerCapture(event.pointerId);
-    canvas.addEventListener("pointermove", go, { signal });
-    for (const kind of ["pointerup", "pointercancel"]) canvas.addEventListener(kind, stop, { signal });
-  }
-
-  brush(event, lane) {
-    let last = this.slotUnder(event);
-    const paint = (moved) => {
-      const slot = this.slotUnder(moved);
-      this.tab.paint(lane, Math.min(last, slot), Math.max(last, slot), event);
-      last = slot;
-      this.move(slot, { keep: true });
-    };
-    this.move(last, { keep: true });
-    this.follow(event, paint, () => this.tab.painted());
-  }
-
-  /* Moves the slots in sight. A click chooses a slot. */
-  pan(event) {
-    const { from } = this;
+    if (event.button || !event.isPrimary) return;
+    const { canvas, from } = this;
+    const { group } = this.laneAt(event) ?? {};
     let isDrag = false;
-    const pan = ({ clientX }) => {
+    canvas.focus();
+    canvas.setPointerCapture(event.pointerId);
+    canvas.onpointermove = ({ clientX }) => {
       isDrag ||= Math.abs(clientX - event.clientX) > STILL;
       if (isDrag) this.showFrom(from - (clientX - event.clientX) / this.room * this.across);
     };
-    this.follow(event, pan, (released) => { if (!isDrag) this.move(this.slotUnder(released), { keep: true }); });
+    canvas.onpointerup = canvas.onpointercancel = (released) => {
+      canvas.onpointermove = canvas.onpointerup = canvas.onpointercancel = null;
+      if (isDrag) return;
+      if (group !== undefined) this.tab.choose(group);
+      this.move(this.slotUnder(released), { keep: true });
+    };
   }
 
   act(name) { ACTIONS[name][1](this); }
@@ -234,9 +162,8 @@ export class Timeline {
   key(event) {
     if (event.altKey) return;
     const key = event.key.length === 1 ? event.key.toLowerCase() : event.key;
-    const own = event.shiftKey && "np".includes(key) ? key.toUpperCase() : key;
-    const by = STEPS[own];
-    const [, act] = Object.values(ACTIONS).find(([keys]) => keys.includes(own)) ?? [];
+    const by = STEPS[key];
+    const [, act] = Object.values(ACTIONS).find(([keys]) => keys.includes(key)) ?? [];
     if (!this.tab.key(key, event)) {
       if (event.ctrlKey || event.metaKey || !(by || act)) return;
       if (by) this.move(this.cursor + by); else act(this);
@@ -254,7 +181,7 @@ export class Timeline {
   }
 
   paint() {
-    const { canvas, lanes: all, scroll, from, across, count, root, top } = this;
+    const { canvas, lanes: all, root, top } = this;
     const height = painter.place(all);
     // the width is asked of the page once a frame, since each question may lay it out
     const width = canvas.clientWidth;
@@ -263,7 +190,5 @@ export class Timeline {
     if (!width) return;
     root.parentElement.style.setProperty("--gutter", `${gutter}px`);
     painter.paint(painter.sized(canvas, width, height, top), all, this, this.ink, height);
-    const ariaValueText = `slots ${painter.ends(this).map(number).join(" to ")} of ${number(count)}`;
-    Object.assign(scroll, { max: count - across, disabled: across >= count, value: from, ariaValueText });
   }
 }
