@@ -6,7 +6,7 @@ import re
 
 from tests import plain_worlds, random_scripts
 from tests.page_support import (HI, NOTHING, SCHEMES, YO, ChromiumCase, FirefoxCase, call, click, example, move, of,
-                                open_script, program, settle, settled_verdict, text_of, to_tab, verdict_of)
+                                open_script, program, settle, text_of, to_tab, verdict_of)
 
 SEED, SCRIPTS, SLOTS = 20261127, 40, 90
 # arguments of a script with the form in which the program prints them: escapes of characters in the table, and pieces that
@@ -113,19 +113,6 @@ class Colours:
         click(b, "#witness button")
         self.check("its text is red", (text_of(b, "#log-radio .lcd .text"), of(b, "#log-radio", "className")),
                    ("POP  FM", "radio mixed"))
-
-    def test_a_change_without_a_flip_is_told(self):
-        """The receiver that loses nothing shows a text that nobody sent."""
-        b = self.b
-        pieces = [text[at:at + 4] for text in ("B7: shut today\r ", "B7: open again\r ") for _ in range(12)
-                  for at in range(0, 16, 4)]
-        log = "".join(f"C201 214{number % 4} {piece[:2].encode().hex()} {piece[2:].encode().hex()}\n"
-                      for number, piece in enumerate(pieces))
-        to_tab(b, "log")
-        call(b, "probe.open", "log", log.upper(), {"pi": "C201", "m": 8, "k": 0})
-        verdict = settled_verdict(b)
-        self.check("the verdict", ("Changed" in verdict, text_of(b, "#without-loss")),
-                   (True, "Even a receiver that loses nothing shows in slot 49: B7: open today."))
 
     def in_schemes(self):
         """Gives the name of each scheme while the page has it."""

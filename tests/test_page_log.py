@@ -152,35 +152,25 @@ class LogTab:
         self.check("a window of 1", text_of(b, "#verdict"),
                    "No verdictWindow W must be a whole number from 2 to 255.")
 
-    def test_lost_slots_by_time_are_added_as_by_the_program(self):
-        """The page offers it if the program notes that the log lacks slots. Until then the verdict is neither green nor red."""
+    def test_lost_slots_by_time_are_noted_as_by_the_program(self):
+        """Then the verdict is neither green nor red."""
         b = self.b
-        dice, offered = random.Random(SEED), 0
+        dice, noted = random.Random(SEED), 0
         for number, (log, m) in self.cases((with_times(dice), dice.choice([8, 128])) for _ in range(60)):
             call(b, "probe.open", "log", log, {"pi": "C201", "m": m, "k": 0})
-            filled = program(["slots", "--m", str(m)], log.encode())[1]
             notes = run_program(["audit", "--pi", "C201", "--m", str(m), "--k", "0"], log.encode())[2]
             at = re.search(r"^slot \d+ \(line (\d+)", "\n".join(notes), re.M)
             before = "".join(log.splitlines(keepends=True)[:int(at[1])] if at else log)
             lacks = any("put rdsrt slots" in it for it in run_program(["decode", "--pi", "C201"], before.encode())[2])
-            is_offered = "Add the lost slots" in text_of(b, "#verdict")
-            self.check(f"seed {SEED}, times {number}: offered", is_offered, lacks, log)
-            if not is_offered:
-                continue
-            offered += 1
-            self.check(f"seed {SEED}, times {number}: neither green nor red", of(b, "#verdict", "className"), "verdict empty", log)
-            buttons = "[...document.querySelectorAll('#verdict button')]"
-            b.run(f"{buttons}.find(it => it.textContent === 'Add the lost slots').click()")
-            idle(b)
-            self.check(f"seed {SEED}, times {number}: added as by the program", call(b, "probe.textOfLog"), filled,
-                       log)
-            settle(b)
-            self.check(f"seed {SEED}, times {number}: offered once", "Add the lost" in text_of(b, "#verdict"), False, log)
-        self.check_all("lost slots were offered", offered > 3, True)
+            self.check(f"seed {SEED}, times {number}: noted", "rdsrt slots adds them" in text_of(b, "#verdict"), lacks, log)
+            if lacks:
+                noted += 1
+                self.check(f"seed {SEED}, times {number}: neither green nor red", of(b, "#verdict", "className"), "verdict empty", log)
+        self.check_all("lost slots were noted", noted > 3, True)
         hour = f"{HI} @2026/11/26 10:00:00.00\nC201 2150 4A4F 0D20 @2026/11/26 11:00:00.00\n"
         call(b, "probe.open", "log", hour, {"pi": "C201", "m": 128, "k": 0})
         said = ("Lost slots: The log spans 41,106 slots by its times and has 2 lines. "
-                "The audit takes the lines as slots without a gap, so this answer may be wrong. Add the lost slots")
+                "The audit takes the lines as slots without a gap, so this answer may be wrong. rdsrt slots adds them.")
         self.check("an hour without a group", said in text_of(b, "#verdict") or text_of(b, "#verdict"), True)
         move(b, "log", 1)
         self.check("the time of a line", text_of(b, "#log-group").endswith(" @2026/11/26 11:00:00.00"), True)

@@ -135,28 +135,6 @@ class Long:
         self.check("a newer M", (text_of(b, "#script-command"), text_of(b, "#script-fault"), b.run(shows)),
                    ("rdsrt sim --pi C201 --pty 10 --m 9 --k 0 --why", "", False))
 
-    def test_the_search_for_a_witness_says_how_long_it_takes_and_can_be_stopped(self):
-        """The answer of the search is kept back, for a fast machine searches a day of slots within a second."""
-        b = self.b
-        b.run("probe.keepBack(answer => answer.shown)")
-        groups = "".join(f"C201 21{flag}0 {text} 0D20\\n" * 2 for flag, text in ((4, "4849"), (5, "594F")))
-        b.run(f"probe.openFile(new File(['{groups}'.repeat({DAY // 4})], 'day.log')); undefined")
-        searches = b.until("document.querySelector('#search-stop')?.hidden === false")
-        self.check("a button stops it", searches, True)
-        told = re.fullmatch(r"Looking for lost slots that make a mix in ([\d,]+) slots, for (\d+) s …",
-                            text_of(b, "#search"))
-        self.check("its line", told is not None, True, text_of(b, "#verdict"))
-        b.run("document.querySelector('#search-stop').click()")
-        self.check("it stops at once", text_of(b, "#witness"),
-                   "No witness: the search was stopped. A no says that a rule was broken.")
-        b.run("probe.letGo()")
-        idle(b)
-        self.check("and stays so", text_of(b, "#witness"),
-                   "No witness: the search was stopped. A no says that a rule was broken.")
-        call(b, "probe.choose", "log-m", 2)
-        settle(b)
-        self.check("another M is judged", text_of(b, "#verdict h2").endswith("with M = 2 (0.18 s)"), True)
-
 
 class Chromium(Long, ChromiumCase):
     # it measures times

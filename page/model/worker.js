@@ -104,13 +104,6 @@ const REQUESTS = {
     return { ...shown, ...copies, values: values.packed() };
   },
 
-  /* The text that a receiver without losses shows in a slot. */
-  textAt({ slot, ...asked }) {
-    logOf();
-    const { view, values } = wholeOf(asked);
-    return { text: new displays.View(view, new displays.Texts(values.packed())).at("text", slot)?.value ?? null };
-  },
-
   audit,
 
   /* The slots to lose after a no and what is shown then, or the slot at which the search stopped. It takes so many slots,
@@ -120,8 +113,6 @@ const REQUESTS = {
     return found.lost || found.upto !== null || isAll ? found : { ...found, upto: slots };
   },
 
-  /* The log with a line for each slot that its times say it lacks. */
-  fill: ({ m }) => ({ bytes: rdsrt.runBytes(["slots", "--m", m], state.bytes).bytes.slice() }),
   play: player.play,
   begin: rdsrt.begin,
 };

@@ -16,10 +16,8 @@ const LONG = 100_000;
 /* How many slots after a no are searched for a witness, about a day: each takes some 41 bytes of memory. */
 const SEARCHED = 1_000_000;
 /* A display takes no longer with another M, and a new worker would have to read the log again. */
-const SECOND = 1000;
-const PATIENCE = 20 * SECOND;
-const NO_SEARCH = "the search is for a receiver without a window";
-const STOPPED = "the search was stopped";
+const PATIENCE = 20_000;
+const NO_SEARCH = { message: "the search is for a receiver without a window" };
 /* The names of the lanes of a receiver, each with the one on a phone. */
 const LANES = { text: ["text", "text"], name: ["name (PTYN)", "name"], tags: ["tags", "tags"] };
 const ALONE = { text: ["ordinary radio", "ordinary"], name: ["  its name", " name"], tags: ["  its tags", " tags"] };
@@ -43,7 +41,6 @@ class LogTab extends Tab {
   codes = new Uint8Array(0);
   /** @type {any} */ answer = null;
   /** @type {any} */ witness = null;
-  searching = new AbortController();
   /** @type {any} */ display;
   /** @type {any} */ judge;
 
@@ -147,7 +144,7 @@ class LogTab extends Tab {
     const asked = { ...this.asking(), lost: [...this.lost] };
     await Promise.all([this.showDisplay(asked, opens, signal), this.showAnswer(asked, signal)]);
     if (opens) this.timeline.move(this.firstSlot(), { keep: true });
-    this.working(this.searchMore(asked, signal));
+    this.working(this.search(asked, signal));
   }
 
   async showDisplay(asked, fit, signal) {
@@ -189,46 +186,21 @@ class LogTab extends Tab {
     for (const name of ["log", "audit"]) this.tellLines(name, "", "");
   }
 
-  /* What takes longer after a no: what a receiver without losses shows, and a witness. */
-  async searchMore(asked, signal) {
-    const { no, answer } = this;
+  /* Looks for a witness after a no, which takes longer. */
+  async search({ pi, m, k, w }, signal) {
+    const { no, answer, log } = this;
     if (!no || !answer.isSure) return;
-    const textAt = async () => {
-      const { text } = await this.display.ask("textAt", { ...asked, slot: no.slot }, { signal });
-      if (text !== null) verdict.showWithoutLoss(no, text);
-    };
-    const all = [no.fault === "Changed" && textAt(), this.search(asked, signal)];
-    await Promise.all(all).catch(({ message }) => { if (!signal.aborted) this.showProblem(`${message}.`); });
-    if (this.log.count > LONG && !signal.aborted) this.judge.stop();
-  }
-
-  /* Looks for a witness after a no. Says each second how long, and in how many slots. */
-  async search(asked, signal) {
-    const { no, log } = this;
-    const { pi, m, k, w } = asked;
-    const from = performance.now();
     const slots = Math.min(log.count, no.slot + SEARCHED);
     const given = { pi, m, slots, end: log.starts[slots] ?? this.bytes.length, isAll: slots === log.count };
-    let failure = NO_SEARCH;
-    let found = null;
-    const say = () => verdict.showSearch({ slots, seconds: Math.round((performance.now() - from) / SECOND) });
-    const timer = setInterval(say, SECOND);
-    this.searching = new AbortController();
-    const { any } = /** @type {any} */ (AbortSignal);
-    const ends = any.call(AbortSignal, [signal, this.searching.signal]);
-    try {
-      if (!w) found = await this.judge.ask("witness", given, { signal: ends });
-    } catch (error) { failure = this.searching.signal.aborted ? STOPPED : error.message; }
-    clearInterval(timer);
+    const failed = ({ message }) => ({ lost: null, shown: [], failure: message });
+    this.witness = w ? failed(NO_SEARCH) : await this.judge.ask("witness", given, { signal }).catch(failed);
     if (signal.aborted) return;
-    this.witness = found ?? { lost: null, shown: [], failure };
     verdict.showWitness({ ...this.witness, k }, this.actions);
+    if (log.count > LONG) this.judge.stop();
   }
 
   actions = {
     goTo: (slot) => this.goTo(slot),
-    fill: () => this.working(this.fill().catch((error) => this.showProblem(`${error.message}.`))),
-    stopSearch: () => this.searching.abort(),
     /* Loses these slots alone, and goes to the one in which the mix is shown. */
     lose: async (slot, first, last) => {
       this.lost = new Set(Array.from({ length: last - first + 1 }, (_, i) => first + i));
@@ -236,14 +208,6 @@ class LogTab extends Tab {
       this.goTo(slot);
     },
   };
-
-  /* Opens the log with a line for each slot that its times say it lacks. */
-  async fill() {
-    const { pi, m, w, running } = this.asking();
-    const { bytes } = await this.display.ask("fill", { m });
-    const file = `${$("log-file-name").textContent || "log"}, with its lost slots`;
-    await this.open(bytes, { pi, m, k: this.value("k"), w, running, file });
-  }
 
   /* The faults of the audit, which are red if it is no doubtful answer. */
   marks() {

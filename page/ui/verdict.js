@@ -26,17 +26,17 @@ function drawn({ slot, earlier, needed }) {
 }
 
 /* What the card of a no shows. A line with a time says itself when it was: slots may be missing before it. */
-function shownOf(no, { goTo, stopSearch }) {
+function shownOf(no, { goTo }) {
   const { fault, slot, time, text } = no;
   return {
-    fault, place: `slot ${number(slot)}`, goTo: () => goTo(slot), stopSearch, rule: told(grouped(text)), bracket: drawn(no),
+    fault, place: `slot ${number(slot)}`, goTo: () => goTo(slot), rule: told(grouped(text)), bracket: drawn(no),
     cure: filled(fault === "NotOneText" && no.of === "name" ? "NotOneName" : fault, {}), time: !time && lines.time(slot),
   };
 }
 
-function faulty({ line, text }, actions) {
+function faulty({ line, text }) {
   if (!line) return filled("no-answer", { title: "No verdict", words: nodesOf(told(text)) });
-  return filled("malformed", { line: number(line), reason: nodesOf(told(text)), ...actions });
+  return filled("malformed", { line: number(line), reason: nodesOf(told(text)) });
 }
 
 /* The kind of the card and its elements. The card is grey if the program notes that the log does not show enough. */
@@ -47,10 +47,10 @@ function answer({ audit, m, k, w }, actions) {
   const late = k ? ` and K ${w ? "+ W - 1 " : ""}= ${number(k)}` : "";
   const dwell = `M = ${number(m)} (${lines.time(m)})${late}`;
   const words = (note) => note && told(grouped(note.text));
-  const doubts = filled("doubts", { lack: words(lack), few: words(few), ...actions });
+  const doubts = filled("doubts", { lack: words(lack), few: words(few) });
   const card = no && filled(lack ? "doubted" : "refused", { ...shownOf(no, actions), dwell });
   if (no) return [lack ? "empty" : "no", ...card, ...doubts];
-  if (fault) return ["fault", ...faulty(fault, actions)];
+  if (fault) return ["fault", ...faulty(fault)];
   if (nothing ?? none) return ["empty", ...filled("nothing", { note: words(nothing ?? none) }), ...doubts];
   const covered = words(judged);
   if (lack ?? few) return ["empty", ...filled("unsure", { dwell, covered }), ...doubts];
@@ -66,16 +66,6 @@ export function show(given, actions) {
   const spacing = `M + K${w ? " + W - 1" : ""} = ${m + k} slots (${lines.time(m + k)})`;
   showCard(kind, ...elements, ...filled("about", { spacing: kind !== "fault" && spacing, running }));
   return { no: lines.noteOf(audit.first, "no") ?? null, isSure: kind === "" || kind === "no" };
-}
-
-export const showWithoutLoss = ({ slot }, text) =>
-  $("without-loss").replaceWith(...filled("without-losses", { place: `slot ${number(slot)}`, text }));
-
-/* Says in how many slots and for how long a witness was searched, and shows the button that stops the search. */
-export function showSearch({ slots, seconds }) {
-  if (!$("searched")) return;
-  $("searched").textContent = ` in ${counted(slots, "slot")}, for ${seconds} s`;
-  $("search-stop").hidden = false;
 }
 
 /* Shows the lost slots that make a mix, or why there are none. */
