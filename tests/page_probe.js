@@ -201,7 +201,7 @@ const probe = (() => {
     const own = [...e.childNodes].some((node) => node.nodeType === Node.TEXT_NODE && node.data.trim());
     return (own || ["INPUT", "SELECT", "TEXTAREA"].includes(e.tagName)) && e.checkVisibility();
   }
-  const SHADES = ["text", "name", "tags"].flatMap((kind) => [0, 1, 2].map((shade) => `shade-${kind}-${shade}`));
+  const SHADES = ["text-0", "text-1", "text-2", "name-0", "tags-0"].map((shade) => `shade-${shade}`);
   /* Pairs of colours that the canvas draws on each other, with a text, and without one. */
   const PAIRS = [
     ...SHADES.map((shade) => ["on-bar", shade]), ["on-wrong", "wrong"], ["dim", "card"], ["dim", "lane"],

@@ -8,8 +8,8 @@ export const AXIS = 24;
 const TICKS = 20;
 const BARS = 22;
 export const FONT = "system-ui, 'Noto Sans', 'DejaVu Sans', sans-serif";
-/* Each kind has three shades. */
-const SHADES = ["text", "name", "tags"].flatMap((kind) => [0, 1, 2].map((shade) => `shade-${kind}-${shade}`));
+/* Texts have three shades. */
+const SHADES = ["text-0", "text-1", "text-2", "name-0", "tags-0"].map((shade) => `shade-${shade}`);
 const INKS = [
   "card", "text", "dim", "line", "lane", "chosen", "bad", "wrong", "cursor", "stale", "stale-text", "on-bar",
   "on-wrong", "other", ...SHADES,
@@ -23,9 +23,8 @@ const MODES = ["(prefers-color-scheme: dark)", "(forced-colors: active)"];
 /* The steps of the axis, in slots, and the least pixels between two of its labels. */
 const STEPS = [1, 2, 5, 10, 20, 50, 100, 200, 500, 1000, 2000, 5000, 10000, 20000, 50000, 100000, 200000];
 const APART = 64;
-/* Marks closer than this, in pixels, are drawn as strokes. Bars below the other length have no hue. */
+/* Marks closer than this, in pixels, are drawn as strokes. */
 const NEAR = 12;
-const THIN = 3;
 /* The heights [from, to] of a tick by the code of its slot: kinds differ in shape as well as in colour. */
 const TALL = 16;
 const SHAPES = {
@@ -163,22 +162,9 @@ function narrowTicks(ctx, { codes, top }, sight, ink) {
   }
 }
 
-function hatch(ctx, x, { top, height }, width, end, ink) {
-  clipped(ctx, [x, top + 1, width, height - 2], () => {
-    Object.assign(ctx, { strokeStyle: ink.lane, globalAlpha: 0.45, lineWidth: 2 });
-    ctx.beginPath();
-    for (let at = x - height; at < Math.min(x + width, end); at += 8) {
-      ctx.moveTo(at, top + height);
-      ctx.lineTo(at + height, top);
-    }
-    ctx.stroke();
-  });
-}
-
-/* Draws a bar without its label: filled, an outline of dashes if it is old, hatched if it is a mix. */
-function ground(ctx, piece, x, width, { top, height }, end, ink) {
+/* Draws a bar without its label: filled, or an outline of dashes if it is old. */
+function ground(ctx, piece, x, width, { top, height }, ink) {
   const { mix, old, kind, shade } = piece;
-  const calm = width < THIN ? "other" : `shade-${kind}-${shade}`;
   ctx.beginPath();
   if (old && !mix && width > 4) {
     Object.assign(ctx, { strokeStyle: ink.stale, lineWidth: 1.5 });
@@ -188,16 +174,15 @@ function ground(ctx, piece, x, width, { top, height }, end, ink) {
     ctx.setLineDash([]);
     return;
   }
-  ctx.fillStyle = ink[mix ? "wrong" : calm];
+  ctx.fillStyle = ink[mix ? "wrong" : `shade-${kind}-${shade}`];
   if (width > 8) ctx.roundRect(x, top + 1, width, height - 2, 4);
   else ctx.rect(Math.round(x), top + 1, Math.max(1, Math.round(width)), height - 2);
   ctx.fill();
-  if (mix && width > THIN) hatch(ctx, x, { top, height }, width, end, ink);
 }
 
 function bar(ctx, piece, x, end, lane, sight, ink) {
   const width = Math.max(1, end - x - (end - x > 6 ? 1 : 0));
-  ground(ctx, piece, x, width, lane, sight.width, ink);
+  ground(ctx, piece, x, width, lane, ink);
   if (width <= 22) return;
   const start = Math.max(x, sight.gutter) + 6;
   const room = Math.min(x + width, sight.gutter + sight.room) - 4 - start;
@@ -297,7 +282,7 @@ export function swatch(canvas, ink) {
   const sight = { from: 0, across: 1, room: width, gutter: 0, width, x: (slot) => slot * width };
   const lane = { top: 0, height: TICKS, codes: [Number(shows)], lost: new Set(shows === "lost" ? [0] : []) };
   const isBar = shows === "mix" || shows === "old";
-  if (isBar) ground(ctx, { mix: shows === "mix", old: true }, 0, width, lane, width, ink);
+  if (isBar) ground(ctx, { mix: shows === "mix", old: true }, 0, width, lane, ink);
   else wideTicks(ctx, lane, sight, ink);
 }
 

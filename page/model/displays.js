@@ -1,7 +1,7 @@
 /* Displays over time. A worker reads them from the output of `decode` and of `sim` and packs them into typed arrays, since
    the log of a day may change its display a million times. The page reads these, and draws what is in sight. */
 
-/* The kind of each part. A kind has three shades. */
+/* The kind of each part. Texts have three shades. */
 export const KIND_OF = { text: "text", name: "name", tag1: "tags", tag2: "tags" };
 export const PARTS = Object.keys(KIND_OF);
 const SHADES = 3;
@@ -24,11 +24,11 @@ export class Values {
   }
 
   /* All values as one text, which is handed over faster than many; and for each where it ends in the text, and a shade:
-     those of its kind, in turn. */
+     those of texts in turn. */
   packed() {
     const all = [...this.numbers.keys()];
-    const counts = { text: 0, name: 0, tags: 0 };
-    const shadeOf = (value) => counts[value.slice(0, value.indexOf(" "))]++ % SHADES;
+    let texts = 0;
+    const shadeOf = (value) => value.startsWith("text ") ? texts++ % SHADES : 0;
     let end = 0;
     const ends = Int32Array.from(all, ({ length }) => end += length);
     return { text: all.join(""), ends, shades: Uint8Array.from(all, shadeOf) };
