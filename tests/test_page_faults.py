@@ -24,11 +24,6 @@ def results(b, tab):
     return found(".lcd .text:not(.none)"), len(found(".mixed")), lanes, text_of(b, f"#{tab}-lines")
 
 
-def chosen_line(b):
-    """Returns the part of the script's text that is chosen."""
-    return b.run("(it => it.value.slice(it.selectionStart, it.selectionEnd))(document.getElementById('script-text'))")
-
-
 def json_notes(words, log):
     """Returns the notes of the program over a log as objects."""
     done = subprocess.run([PROGRAM, *words.split(), "--json-notes"], input=log.encode(), capture_output=True, check=False)
@@ -84,9 +79,7 @@ class Faults:
         for text, why in rows:
             open_script(b, text, m=8, k=0)
             self.check(f"a bad row is named: {why}", text_of(b, "#script-fault"),
-                       f"Fault {why}. The rows after it are not played. Show the line")
-        click(b, "#script-fault button")
-        self.check("and shown", chosen_line(b), "text,\u2603,1,G")
+                       f"Fault {why}. The rows after it are not played.")
         open_script(b, "text,HI,1,G\n" * 5 + "text,\u2603,1,G\n" + "-,,1,G\n" * 6, m=1, k=0)
         move(b, "script", 3)
         self.check("a text is shown before a bad row", (shown(b, "script-radio"), shown(b, "script-alone")),
@@ -115,12 +108,8 @@ class Faults:
             open_script(b, script, m=128, k=0)
             got = BAD_ROW.search(text_of(b, "#script-fault"))
             self.check(f"seed {SEED}, the row of script {number}", got and got[1], told and told[1], script)
-            if not told or not got:
-                continue
-            click(b, "#script-fault button")
-            self.check(f"seed {SEED}, the line of script {number}", chosen_line(b),
-                       plain.split("\n")[int(told[2]) - 1], script)
-            seen.add(plain.split("\n")[int(told[2]) - 1])
+            if told:
+                seen.add(plain.split("\n")[int(told[2]) - 1])
         self.check_all("several kinds of bad rows", len(seen) > 4 or seen, True)
 
     def test_an_empty_yes_has_a_warning(self):

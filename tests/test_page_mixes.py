@@ -27,7 +27,7 @@ class Mixes:
         log = "".join(f"{sent.get(str(slot), NOTHING)}\n" for slot in range(48))
         call(b, "probe.open", "log", log, {"pi": "C201", "m": 8, "k": 0, "lost": lost})
         for tab, led, text, words in (("script", "tag: mix", ", old", "mix"),
-                                      ("log", "nobody sent this tag", "", "which nobody sent")):
+                                      ("log", "tag: mix", "", "mix")):
             to_tab(b, tab)
             move(b, tab, 47)
             self.check(f"{tab}: a mix of tags is red",

@@ -24,7 +24,7 @@ class Timeline:
         move(b, "script", 29)
         call(b, "probe.zoom", "script", 20, 40)
         focus(b, "script")
-        for key, wanted in (("d", [25, 20]), ("a", [20, 20]), ("w", [24.75, 10]), ("s", [20, 20]), ("0", [0, count])):
+        for key, wanted in (("w", [24.75, 10]), ("s", [20, 20]), ("0", [0, count])):
             b.key(key)
             self.check(f"the key {key}", sight(), wanted)
         call(b, "probe.zoom", "script", 30, 31)

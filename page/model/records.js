@@ -20,17 +20,17 @@ function letters(receptions) {
   return receptions.match(/G\d*|L|R|W[0-9A-Fa-f]{12}/g) ?? [];
 }
 
-/* A row of a script: where it begins, and its fields. */
-/** @type {(start: number, fields: string[]) => any} */
-const rowOf = (start, [command = "", argument = "", free = "", receptions = ""]) =>
-  ({ start, command, argument, free, receptions: letters(receptions) });
+/* A row of a script. */
+/** @type {(fields: string[]) => any} */
+const rowOf = ([command = "", argument = "", free = "", receptions = ""]) =>
+  ({ command, argument, free, receptions: letters(receptions) });
 
 /* Reads the rows of a script. Empty lines make no row. */
 export function read(text) {
   const rows = [];
   for (let at = text.charCodeAt(0) === 0xFEFF ? 1 : 0, record; at < text.length; at = record.end) {
     record = recordAt(text, at);
-    if (text[at] !== "\n" && text[at] !== "\r") rows.push(rowOf(at, record.fields));
+    if (text[at] !== "\n" && text[at] !== "\r") rows.push(rowOf(record.fields));
   }
   return rows;
 }

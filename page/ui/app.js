@@ -2,7 +2,7 @@
 import * as rdsrt from "../program/rdsrt.js";
 import * as links from "./links.js";
 import { logTab } from "./log.js";
-import { $, entitle, make } from "./parts.js";
+import { $, make } from "./parts.js";
 import { road } from "./road.js";
 import { scriptTab } from "./script.js";
 
@@ -26,7 +26,6 @@ export function tab(it, { focus = false } = {}) {
   $(it.id).querySelector(".explains").append($("legend"));
   $("legend").hidden = false;
   links.putAddress(it);
-  entitle();
   for (const { timeline } of [it, road]) timeline.draw();
 }
 

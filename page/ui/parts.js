@@ -29,13 +29,13 @@ export function filled(id, given) {
 
 export const hex = (n) => n.toString(16).toUpperCase().padStart(4, "0");
 export const counted = (n, one) => `${number(n)} ${one}${n === 1 ? "" : "s"}`;
-/* Delays a call until no further one comes. Its `now` makes a delayed call at once. */
+/* Delays a call until no further one comes. */
 export const soon = (what) => {
   let timer = 0;
-  const run = () => { timer = 0; what(); };
-  const later = () => { clearTimeout(timer); timer = setTimeout(run, 120); };
-  later.now = () => { if (timer) { clearTimeout(timer); run(); } };
-  return later;
+  return () => {
+    clearTimeout(timer);
+    timer = setTimeout(what, 120);
+  };
 };
 
 /* Names the first number of the form that is no whole number within its bounds; empty if all are. */
@@ -61,21 +61,9 @@ export function nodesOf(note) {
   return quoted ? [before, isolated(quoted), escaped(after)] : [escaped(note)];
 }
 
-const TITLE = document.title;
-export function entitle() {
-  const name = document.querySelector("[role=tabpanel]:not([hidden]) .file-name")?.textContent;
-  // the title has no elements, so two characters isolate a name of other letters
-  const isolated = /^[ -~]*$/.test(name) ? name : `\u2068${name}\u2069`;
-  document.title = name ? `${isolated} – ${TITLE}` : TITLE;
-}
-
 const WORDS = {
   text: (text) => `“${text}”`, name: (name) => `name ${name.trim()}`, tag1: wordsOfTag, tag2: wordsOfTag,
 };
-/* The words for what a display shows that was never on air: in a script, where the program says so, and in a log. */
-export const MIXED = { led: (which) => which ? `${which}: mix` : "mix", words: "mix" };
-const NOBODY = { led: (which) => `nobody sent this ${which}`.trim(), words: "which nobody sent" };
-
 const partsAt = (view, slot) => Object.entries(WORDS).map(([part, words]) => {
   const { value = null, state = "" } = view?.at(part, slot) ?? {};
   return { name: part.replace(/\d$/, ""), value, state, words: value !== null && words(value) };
@@ -95,23 +83,23 @@ function lettersOf(view, slot, origins) {
 /* Shows a display as a car has it: the name, the text and its tags in a slot. Parts that nobody sent make it red. What
    stands in place of a text is why, if the program says so. `origins` returns the hues of a mix, four letters each.
    Returns the display in words. */
-/** @param {{ led?: string, none?: string, mixed?: typeof NOBODY, origins?: () => number[] }} how */
+/** @param {{ led?: string, none?: string, origins?: () => number[] }} how */
 export function radio(root, caption, view, slot, how = {}) {
-  const { led: calm = "", none: other, mixed = NOBODY, origins = () => [] } = how;
+  const { led: calm = "", none: other, origins = () => [] } = how;
   const all = partsAt(view, slot);
   const [text, name, ...tags] = all;
   const none = other ?? (view?.at("text", slot)?.why || "no text");
   const mixes = namesOf(all.filter(({ state }) => state === "mix"));
   const pieces = tags.map(({ value }) => value).filter(Boolean).map((tag) =>
     make("span", {}, make("b", { textContent: kindOf(tag) }), tag.text));
-  const led = mixes.length ? mixed.led(mixes.includes("text") ? "" : mixes.join(" and ")) : calm;
+  const mixed = mixes.includes("text") ? "mix" : `${mixes.join(" and ")}: mix`;
+  const led = mixes.length ? mixed : calm;
   const letters = text.value === null ? `— ${none} —` : lettersOf(view, slot, origins);
   root.replaceChildren(...filled("display", { caption, led, name: name.value ?? " ", text: letters, tags: pieces }));
   root.querySelector(".text").classList.toggle("none", text.value === null);
   root.classList.toggle("mixed", mixes.length > 0);
   root.ariaLabel = caption;
-  const word = (it) => it.state === "mix" ? mixed.words : isStale(it) && it.state;
-  const inWords = (it) => [it.words, word(it)].filter(Boolean).join(", ");
+  const inWords = (it) => it.state === "on air" ? it.words : `${it.words}, ${it.state}`;
   return [...text.value === null ? [none] : [], ...all.filter(({ words }) => words).map(inWords)].join(", ");
 }
 

@@ -7,7 +7,7 @@ import * as player from "../model/player.js";
 import * as records from "../model/records.js";
 import { Program } from "../program/program.js";
 import * as links from "./links.js";
-import { $, MIXED, filled, make, nodesOf, radio, soon, told, whyNoMix } from "./parts.js";
+import { $, filled, make, nodesOf, radio, soon, told, whyNoMix } from "./parts.js";
 import { Timeline } from "./timeline.js";
 
 /* The slots [from, to) of the first tunnels, and the letters of a text that a car gets whole between two of them. */
@@ -182,7 +182,7 @@ class Road {
     const origins = () => player.originsOf(played, sourceOf, slot).map((at) => air.shadeAt(at));
     const onAir = radio($("road-air"), "On air", air, slot, { none: "silence" });
     const shown = radio($("road-dwell"), "A receiver with rdsrt", dwell, slot);
-    const other = radio($("road-alone"), "An ordinary radio", alone, slot, { mixed: MIXED, origins });
+    const other = radio($("road-alone"), "An ordinary radio", alone, slot, { origins });
     this.car.style.left = this.percent(slot + 0.5);
     this.tell(slot);
     return `On air ${onAir}. A receiver with rdsrt: ${shown}. An ordinary radio: ${other}`;

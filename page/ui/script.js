@@ -5,7 +5,7 @@ import * as player from "../model/player.js";
 import * as records from "../model/records.js";
 import { Program } from "../program/program.js";
 import * as links from "./links.js";
-import { $, MIXED, counted, make, nodesOf, number, radio, soon, staleAt, told, whyNoMix } from "./parts.js";
+import { $, counted, nodesOf, number, radio, soon, staleAt, told, whyNoMix } from "./parts.js";
 import { Tab } from "./tab.js";
 
 const UNPLAYED = "not played";
@@ -154,24 +154,10 @@ class ScriptTab extends Tab {
     return `Ordinary radios show ${word}: ${kinds.join(" and ")}. With rdsrt none does.`;
   }
 
-  /* A fault of the script, by the program's note; and a button to a bad row in the text that was played. */
+  /* A fault of the script, by the program's note. */
   faultInNodes() {
-    const { fault, text } = this;
-    if (!fault) return [];
-    const bad = records.read(text)[fault.row - 1];
-    const button = make("button", { type: "button", textContent: "Show the line", onclick: () => this.showRow(bad) });
-    return [...nodesOf(told(fault.text)), ...bad ? [" The rows after it are not played. ", button] : []];
-  }
-
-  /* Opens the text and chooses the line in which a row begins. Each line end is one letter of the field. */
-  showRow({ start }) {
-    const area = $("script-text");
-    const before = this.text.slice(0, start).replace(/\r\n?/g, "\n");
-    const end = before.length + area.value.slice(before.length).search(/$/m);
-    area.closest("details").open = true;
-    area.focus();
-    area.setSelectionRange(before.length, end);
-    area.scrollTop = Math.max(0, (before.split("\n").length - 4) * parseFloat(getComputedStyle(area).lineHeight));
+    if (!this.fault) return [];
+    return [...nodesOf(told(this.fault.text)), " The rows after it are not played."];
   }
 
   /* The slot whose group a receiver got in a slot; -1 if it got none. */
@@ -197,7 +183,7 @@ class ScriptTab extends Tab {
     const got = orUnplayed(this.receptionInWords(row?.receptions[chosen] ?? "", slot));
     const sent = reply ? `${reply.what} ${reply.reply}` : orUnplayed(player.sentIn(this, slot) ? "sends" : "");
     const origins = () => player.originsOf(this, (at) => this.sourceOf(at, chosen), slot).map((at) => air.shadeAt(at));
-    const stale = { led: orUnplayed(staleAt(alone, slot)), none, mixed: MIXED, origins };
+    const stale = { led: orUnplayed(staleAt(alone, slot)), none, origins };
     const onAir = radio($("script-air"), "On air", air, slot, { led: sent, none: orUnplayed("silence") });
     const shown = radio($("script-radio"), named("with rdsrt"), view, slot, { led: got, none });
     const other = radio($("script-alone"), named("ordinary radio"), alone, slot, stale);

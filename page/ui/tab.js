@@ -2,7 +2,7 @@
    address, `open`, and for its timeline `showSlot`. */
 import * as lines from "../model/lines.js";
 import * as links from "./links.js";
-import { $, entitle, isolated, problemOf, soon } from "./parts.js";
+import { $, isolated, problemOf, soon } from "./parts.js";
 import { Timeline } from "./timeline.js";
 
 /* The milliseconds after which a tab shows that it waits. */
@@ -33,7 +33,6 @@ export class Tab {
   /* Shows which file the tab holds, and whether it was edited; nothing if it holds none. */
   nameFile(name, isEdited = false) {
     this.field("file-name").replaceChildren(...name ? [isolated(name), isEdited ? ", edited" : ""] : []);
-    entitle();
   }
 
   /* Shows what a command prints. */

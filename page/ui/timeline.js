@@ -18,8 +18,6 @@ const ACTIONS = {
   in: ["+=w", (it) => it.zoom(0.5)],
   out: ["-s", (it) => it.zoom(2)],
   all: ["0", (it) => it.zoomTo(0, it.count)],
-  earlier: ["a", (it) => it.showFrom(it.from - it.across / 4)],
-  later: ["d", (it) => it.showFrom(it.from + it.across / 4)],
   next: ["n", (it) => it.step(1)],
   previous: ["p", (it) => it.step(-1)],
 };

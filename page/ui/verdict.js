@@ -61,11 +61,9 @@ function answer({ audit, m, k, w }, actions) {
 
 /* Shows the answer over a log. Returns the note of a no, and whether the card says yes or no: a grey card says neither. */
 export function show(given, actions) {
-  const { audit, m, k, w, running } = given;
   const [kind, ...elements] = answer(given, actions);
-  const spacing = `M + K${w ? " + W - 1" : ""} = ${m + k} slots (${lines.time(m + k)})`;
-  showCard(kind, ...elements, ...filled("about", { spacing: kind !== "fault" && spacing, running }));
-  return { no: lines.noteOf(audit.first, "no") ?? null, isSure: kind === "" || kind === "no" };
+  showCard(kind, ...elements);
+  return { no: lines.noteOf(given.audit.first, "no") ?? null, isSure: kind === "" || kind === "no" };
 }
 
 /* Shows the lost slots that make a mix, or why there are none. */
