@@ -211,12 +211,10 @@ function bars(ctx, lane, sight, ink) {
   }
 }
 
-/* Draws a mark: a flag, or a diamond on a pole for a refused command or a fault. Red is for a fault alone. */
-function mark(ctx, x, kind, { top, height }, ink) {
+/* Draws a mark: a diamond on a pole. Red is for a fault that is sure. */
+function mark(ctx, x, isSure, { top, height }, ink) {
   const middle = top + height / 2;
-  const half = height / 2 - 3;
-  ctx.fillStyle = kind === "no" ? ink.bad : ink.text;
-  if (kind === "") { fillPoints(ctx, [x, middle - half], [x + 7, middle], [x, middle + half]); return; }
+  ctx.fillStyle = isSure ? ink.bad : ink.text;
   ctx.fillRect(x - 1, top + 1, 2, height - 2);
   fillPoints(ctx, [x, middle], [x + 5, middle - 6], [x + 10, middle], [x + 5, middle + 6]);
 }
@@ -230,16 +228,16 @@ function marks(ctx, lane, sight, ink) {
   const isNear = (i) => Math.min(at(i) - at(i - 1), at(i + 1) - at(i)) < NEAR * slots;
   ctx.font = `11px ${FONT}`;
   for (let i = all.firstBehind(sight.from - 1); i < all.length && at(i) <= sight.from + sight.across;) {
-    const { label, kind } = all.piece(i);
+    const { label, isSure } = all.piece(i);
     const x = sight.x(at(i));
     if (isNear(i)) {
-      rect(ctx, kind === "no" ? ink.bad : ink.dim, [Math.floor(x), lane.top + 6, 1, lane.height - 9]);
+      rect(ctx, isSure ? ink.bad : ink.dim, [Math.floor(x), lane.top + 6, 1, lane.height - 9]);
       i = Math.max(i + 1, all.firstBehind(at(i) + slots, i));
       continue;
     }
-    const start = x + (kind ? 13 : 10);
+    const start = x + 13;
     const room = Math.min(sight.x(at(i + 1)) - 4, sight.gutter + sight.room) - start;
-    mark(ctx, x, kind, lane, ink);
+    mark(ctx, x, isSure, lane, ink);
     ctx.fillStyle = ink.dim;
     if (ctx.measureText(label).width <= room) ctx.fillText(label, start, lane.top + lane.height / 2 + 0.5);
     i++;

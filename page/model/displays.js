@@ -135,7 +135,7 @@ export function lastAt(length, slotOf, slot) {
 }
 
 /* What a lane draws: entries in order of their slots. `piece(i)` makes what is drawn of an entry: a bar with from, to,
-   value, label, kind, shade, mix and old, or a mark with from, label and kind. */
+   value, label, kind, shade, mix and old, or a mark with from, label and isSure. */
 class List {
   end = 0;
 
@@ -226,10 +226,9 @@ class TagRuns extends List {
   }
 }
 
-/* Marks at slots. Each has the number of one of the labels, { label, kind }. The kind is "no" for a fault, "refused" for a
-   command, and empty for others. */
+/* Marks at slots, for faults. Each has the number of one of the labels, { label, isSure }. */
 export class Marks extends List {
-  /** @param {Int32Array} starts @param {ArrayLike<number>} numbers @param {{ label: string, kind: string }[]} labels */
+  /** @param {Int32Array} starts @param {ArrayLike<number>} numbers @param {{ label: string, isSure: boolean }[]} labels */
   constructor(starts, numbers, labels) {
     super(starts);
     this.numbers = numbers;
@@ -238,9 +237,6 @@ export class Marks extends List {
 
   to(i) { return this.starts[i] + 1; }
   piece(i) { return { from: this.starts[i], ...this.labels[this.numbers[i]] }; }
-
-  /* Marks of a few slots, each { slot, label, kind }. */
-  static of(all) { return new Marks(Int32Array.from(all.map(({ slot }) => slot)), Int32Array.from(all.keys()), all); }
 }
 
 const NO_RUNS = { starts: new Int32Array(0), numbers: new Int32Array(0), states: new Uint8Array(0), end: 0 };

@@ -212,8 +212,7 @@ class LogTab extends Tab {
   /* The faults of the audit, which are red if it is no doubtful answer. */
   marks() {
     const { slots, numbers, kinds } = this.answer?.audit.list ?? { slots: [], numbers: [], kinds: [] };
-    const kind = this.answer?.isSure ? "no" : "refused";
-    return new Marks(slots, numbers, kinds.map((label) => ({ label, kind })));
+    return new Marks(slots, numbers, kinds.map((label) => ({ label, isSure: this.answer.isSure })));
   }
 
   lanes() {

@@ -1,5 +1,5 @@
 /* The tab of a script: a station and up to eight receivers, each beside one with the flag bit alone. */
-import { Marks, Texts, View } from "../model/displays.js";
+import { Texts, View } from "../model/displays.js";
 import * as lines from "../model/lines.js";
 import * as player from "../model/player.js";
 import * as records from "../model/records.js";
@@ -122,21 +122,13 @@ class ScriptTab extends Tab {
     $("script-fault").classList.toggle("no", isRefused);
   }
 
-  marks() {
-    return Marks.of([...this.replies.values()].flatMap(({ slot, what, reply }) => {
-      if (what !== "restart" && reply !== "ok") return [{ slot, label: `${what} ${reply}`, kind: "refused" }];
-      return what === "restart" || what === "tags" ? [{ slot, label: what, kind: "" }] : [];
-    }));
-  }
-
   lanes() {
     const receivers = this.heard.flatMap((codes, group) => [
       { name: `receiver ${group}`, kind: "ticks", codes, losses: true, group, gap: 14 },
       ...this.views[group].lanes(DWELL, { group, gap: 2 }), ...this.alone[group].lanes(ALONE, { group, gap: 2 }),
     ]);
     const sent = { name: "sent", kind: "ticks", codes: this.codes };
-    const station = { name: "station", kind: "marks", marks: this.marks() };
-    return [sent, station, ...this.air.lanes(AIR, {}, { strong: true, gap: 8 }), ...receivers];
+    return [sent, ...this.air.lanes(AIR, {}, { strong: true, gap: 8 }), ...receivers];
   }
 
   /* How many texts, names and tags are mixes. That no receiver with rdsrt shows one is proved. */
