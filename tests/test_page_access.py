@@ -22,8 +22,8 @@ class Access:
         wanted = {
             "log": ["tab-log", "log-example", "log-file", "log-pi", "log-m", "log-k", "log-w", "log-running",
                     "log-share", "log-lose", "CANVAS", "SUMMARY"],
-            "script": ["tab-script", "script-example", "script-file", "script-m", "script-k", "script-w", "script-share", "CANVAS",
-                       "SUMMARY"],
+            "script": ["tab-script", "script-example", "script-file", "script-m", "script-k", "script-w",
+                       "script-share", "CANVAS", "SUMMARY"],
         }
         first_examples(b)
         for name in TABS:

@@ -74,7 +74,8 @@ class Files:
             sizes = b.run(f"{both}.map(text => text.includes('A'.repeat(500)))")
             note = run_program(["sim", "--pi", "C201"], script.encode())[2][-1]
             fault = text_of(b, "#script-fault").partition(". The rows after")[0]
-            self.check(f"a field of 3 MB in {script[:8]}", (fault, sizes), (note[:1].upper() + note[1:], [False, False]))
+            wanted = note[:1].upper() + note[1:]
+            self.check(f"a field of 3 MB in {script[:8]}", (fault, sizes), (wanted, [False, False]))
         call(b, "probe.open", "log", f"{long}\n", {"m": 8})
         settle(b)
         self.check("nor is a line of 3 MB", b.run("document.body.textContent.includes('A'.repeat(100))"), False)
@@ -149,7 +150,8 @@ class Files:
                 self.check(f"{words[0]} over a file that begins with {data[:12]}", text_of(b, f"#{name}-lines"),
                            program(words, data)[1])
             call(b, "probe.lose", 0)
-            self.check("and once a slot is lost", text_of(b, "#audit-lines"), program(["audit", "--pi", "C201"], data)[1])
+            self.check("and once a slot is lost", text_of(b, "#audit-lines"),
+                       program(["audit", "--pi", "C201"], data)[1])
         self.check("the last one passes", text_of(b, "#verdict")[:8], "✓ Passes")
         scripts = [mark + script, latin, script + latin, script.replace(b"\n", b"\r\n\r\n")]
         for data in scripts:

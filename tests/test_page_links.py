@@ -141,7 +141,8 @@ class Links:
             bare = re.sub("&.*", "", link)
             visit(b, f"{bare}&m=128&lost=0-9999999&end")
             state = log_state(b)
-            self.check("a link with many lost slots", (told(), state[3:], len(state[1])), ("", ["C201", "128", "0"], 200_000))
+            self.check("a link with many lost slots", (told(), state[3:], len(state[1])),
+                       ("", ["C201", "128", "0"], 200_000))
             damaged = "The link is damaged: an option of it is wrong."
             for name, broken, why in (
                     *((f"has {more}", f"{bare}{more}&end", damaged) for more in

@@ -1,8 +1,8 @@
 """All faults of a log: the lane and the list, by the list of the program."""
 import re
 
-from tests.page_support import (HI, YO, ChromiumCase, FirefoxCase, call, first_examples, of, run_program, settle, text_of,
-                                to_tab, verdict_of)
+from tests.page_support import (HI, YO, ChromiumCase, FirefoxCase, call, first_examples, of, run_program, settle,
+                                text_of, to_tab, verdict_of)
 
 TAGS = "C201 B148 2002 0000"
 OTHER = "C201 2140 594F 0D20"
@@ -33,7 +33,8 @@ class Listing:
         b = self.b
         late = "".join(f"{group}\n" for group in [HI] * 8 + [YO] * 8 + [HI])
         cases = [("one of each", FEW), ("first and last", f"{HI}\n{OTHER}\n{HI}\n"),
-                 ("a name", "C201 A140 504F 5020\nC201 A140 0148 4949\n"), ("tags before the first text", f"{TAGS}\n{HI}\n{TAGS}\n"),
+                 ("a name", "C201 A140 504F 5020\nC201 A140 0148 4949\n"),
+                 ("tags before the first text", f"{TAGS}\n{HI}\n{TAGS}\n"),
                  ("a malformed line behind a fault", f"{FEW}bad\n"), ("a yes", late)]
         for name, log in cases:
             opened(b, log, running=True)

@@ -162,10 +162,12 @@ class LogTab:
             at = re.search(r"^slot \d+ \(line (\d+)", "\n".join(notes), re.M)
             before = "".join(log.splitlines(keepends=True)[:int(at[1])] if at else log)
             lacks = any("put rdsrt slots" in it for it in run_program(["decode", "--pi", "C201"], before.encode())[2])
-            self.check(f"seed {SEED}, times {number}: noted", "rdsrt slots adds them" in text_of(b, "#verdict"), lacks, log)
+            said = text_of(b, "#verdict")
+            self.check(f"seed {SEED}, times {number}: noted", "rdsrt slots adds them" in said, lacks, log)
             if lacks:
                 noted += 1
-                self.check(f"seed {SEED}, times {number}: neither green nor red", of(b, "#verdict", "className"), "verdict empty", log)
+                self.check(f"seed {SEED}, times {number}: neither green nor red", of(b, "#verdict", "className"),
+                           "verdict empty", log)
         self.check_all("lost slots were noted", noted > 3, True)
         hour = f"{HI} @2026/11/26 10:00:00.00\nC201 2150 4A4F 0D20 @2026/11/26 11:00:00.00\n"
         call(b, "probe.open", "log", hour, {"pi": "C201", "m": 128, "k": 0})

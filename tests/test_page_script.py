@@ -1,6 +1,6 @@
 """The tab that plays a script: its text, its receivers, and the lanes of names and tags."""
-from tests.page_support import (ChromiumCase, FirefoxCase, call, click, example, focus, of, open_script, printed, program,
-                                settle, shown, text_of)
+from tests.page_support import (ChromiumCase, FirefoxCase, call, click, example, focus, of, open_script, printed,
+                                program, settle, shown, text_of)
 
 
 class ScriptTab:
@@ -18,7 +18,8 @@ class ScriptTab:
             settle(b)
             options = ["sim", "--pi", "C201", "--m", "8", "--pty", "10", "--why"]
             self.check("it is played", printed(b), program(options, script.encode())[1])
-            self.check("as it was typed", (of(b, "#script-text", "value"), of(b, "#script-example", "value")), (script, ""))
+            held = of(b, "#script-text", "value"), of(b, "#script-example", "value")
+            self.check("as it was typed", held, (script, ""))
         self.check("a fault", "row 2 (line 3)" in text_of(b, "#script-fault"), True, text_of(b, "#script-fault"))
 
     def test_up_and_down_choose_a_receiver(self):

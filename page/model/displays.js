@@ -228,7 +228,7 @@ class TagRuns extends List {
 
 /* Marks at slots, for faults. Each has the number of one of the labels, { label, isSure }. */
 export class Marks extends List {
-  /** @param {Int32Array} starts @param {ArrayLike<number>} numbers @param {{ label: string, isSure: boolean }[]} labels */
+  /** @param {Int32Array} starts @param {Uint8Array} numbers @param {{ label: string, isSure: boolean }[]} labels */
   constructor(starts, numbers, labels) {
     super(starts);
     this.numbers = numbers;

@@ -56,12 +56,10 @@ export function hashOf(tab) {
   return example ? `${id}&example=${example}&${tab.options()}&slot=${tab.timeline.cursor}` : id;
 }
 
-/* The hash of the start: nothing, or the link of its road. */
-const hashOfStart = ({ link }) => link?.isNow ? link.hash : "";
-
-/* Puts what a tab holds into the address. Back leads to what was open before. */
+/* Puts what a tab holds into the address, or the link of the road. Back leads to what was open before. */
 export function putAddress(tab) {
-  const hash = tab.isStart ? hashOfStart(tab.road) : hashOf(tab);
+  const { link } = tab.isStart ? tab.road : tab;
+  const hash = tab.isStart ? link?.isNow && link.hash || "" : hashOf(tab);
   if ($(tab.id).hidden || now() === hash) return;
   const isSame = nameOf(now()) === nameOf(hash) || (now() !== "" && hash.startsWith(now()));
   // some browsers refuse it to a file

@@ -82,8 +82,7 @@ class LogTab extends Tab {
     const bytes = typeof content === "string" ? encoder.encode(content) : content;
     // a link holds no longer text
     const text = bytes.length > links.MOST_PLAIN ? null : decoder.decode(bytes);
-    const opened = { bytes, text, lost: new Set(lost) };
-    Object.assign(this, empty(), { log: NO_LOG, ...opened });
+    Object.assign(this, empty(), { log: NO_LOG, bytes, text, lost: new Set(lost) });
     this.hadLost = example !== "" && this.lost.size > 0;
     this.home(false);
     this.nameFile(file);

@@ -1,4 +1,4 @@
-/* Runs a cursor over the slots in real time, by a button. It stops at the end, and when its button goes out of sight. */
+/* Runs a cursor over the slots in real time. It stops at the end, and when its button goes out of sight. */
 import * as lines from "../model/lines.js";
 
 export class Play {

@@ -19,7 +19,6 @@ const ALONE = { text: ["  ordinary radio", " ordinary"], ...OTHERS };
 const unplayed = () => ({
   played: 0, air: new View(), views: [], alone: [], heard: [], codes: new Uint8Array(0), fault: null, replies: new Map(),
 });
-const receiversOf = (rows) => rows[0]?.receptions.length ?? 0;
 
 class ScriptTab extends Tab {
   /** @type {any[]} */ rows = [];
@@ -41,7 +40,7 @@ class ScriptTab extends Tab {
   constructor() { super("script", "Play a script"); }
 
   get waitsFor() { return "Playing the script"; }
-  get receivers() { return receiversOf(this.rows); }
+  get receivers() { return this.rows[0]?.receptions.length ?? 0; }
 
   /* Chooses a receiver, as far as there is one. */
   choose(receiver) {
@@ -101,10 +100,11 @@ class ScriptTab extends Tab {
 
   /* Why the page does not play these rows; empty if it does. */
   problem() {
-    const receivers = receiversOf(this.rows);
-    if (receivers > MOST_RECEIVERS) return `The script has ${number(receivers)} receivers. The page plays at most ${MOST_RECEIVERS}.`;
-    if (this.rows.length <= MOST_SLOTS) return super.problem();
-    return `The script has ${counted(this.rows.length, "row")}. The page plays at most ${number(MOST_SLOTS)}.`;
+    const { receivers, rows } = this;
+    const isWide = receivers > MOST_RECEIVERS;
+    if (!isWide && rows.length <= MOST_SLOTS) return super.problem();
+    const has = isWide ? counted(receivers, "receiver") : counted(rows.length, "row");
+    return `The script has ${has}. The page plays at most ${number(isWide ? MOST_RECEIVERS : MOST_SLOTS)}.`;
   }
 
   /* Shows why nothing is played, and no result of what was there before. What the page refuses is red. */
@@ -154,8 +154,8 @@ class ScriptTab extends Tab {
 
   /* The slot whose group a receiver got in a slot; -1 if it got none. */
   sourceOf(slot, receiver) {
-    const [letter, rest] = [this.rows[slot].receptions[receiver][0], this.rows[slot].receptions[receiver].slice(1)];
-    return letter === "G" ? slot - Number(rest) : -1;
+    const reception = this.rows[slot]?.receptions[receiver] ?? "L";
+    return reception[0] === "G" ? slot - Number(reception.slice(1)) : -1;
   }
 
   receptionInWords(letter, slot) {
