@@ -188,8 +188,6 @@ function bar(ctx, piece, x, end, lane, sight, ink) {
   const room = Math.min(x + width, sight.gutter + sight.room) - 4 - start;
   const label = fitted(ctx, (piece.mix ? "⚠ " : "") + piece.label, room);
   clipped(ctx, [x, lane.top, width - 3, lane.height], () => {
-    const wide = ctx.measureText(label).width + 8;
-    if (piece.mix) rect(ctx, ink.wrong, [start - 4, lane.top + 4, wide, lane.height - 8]);
     const calm = piece.old ? "stale-text" : "on-bar";
     ctx.fillStyle = ink[piece.mix ? "on-wrong" : calm];
     ctx.fillText(label, start, lane.top + lane.height / 2 + 0.5);
