@@ -1,7 +1,7 @@
 //! The note of the fault that no test of the program can bring about: 2^32 reads or rows take hours.
 
-use crate::note_lines::print_notes;
 use crate::notes::{End, Options, RunNotes};
+use crate::printing::print_notes;
 use rds_cli::Task;
 use rds_fields::Dwell;
 use rds_io::{LogFault, Told};
