@@ -22,9 +22,22 @@ use Rattle.rds_safety.specs.Safe.{AreSafeViews, RunWasOnAir}
 use Rattle.rds_view_lines.specs.Output.{item_content, none_content, quoted, tag_content, text_content, why_name}
 use Rattle.rds_view_lines.specs.Output.{why_text}
 use Rattle.rds_view_lines.specs.ViewParts.{IsNothing, Item, Name, Part, Tag1, Tag2, Text, part_content}
-use Rattle.rds_wire.specs.Safe.{AreSafe, IsOfPair, StationPlans, WentWith, WereOnAir}
+use Rattle.rds_wire.specs.Safe.{AreSafe, IsOfPair, StationPlans, WasOnAir, WentWith, WereOnAir}
 
 -- ---- texts and names
+
+-- the content of a run that was on air was on air
+on_air_so : (d t : ℕ) (plan : List Broadcast) (i : Input) (r : List Segment) (a x : List ℕ) → x ≡ quoted a
+    → (run : RunWasOnAir d t plan i r a) → WasOnAir d t plan x run.number
+on_air_so d t plan i r a x is run = record {
+  broadcast = run.broadcast;
+  planned = run.source.planned;
+  says = is ∙ ap quoted (sym run.bytes);
+  slot = run.slot;
+  covers = run.covers;
+  past = run.past;
+  recent = run.recent;
+}
 
 -- texts or names that two receivers show were on air
 pub were : (d t : ℕ) (plan : List Broadcast) (i j : Input) (r q : List Segment) (o w : Option (List ℕ))
@@ -36,24 +49,8 @@ were d t plan i j r q (Some a) None x y v u ex ey one other near = inr (inl (u, 
 were d t plan i j r q (Some a) (Some b) x y v u ex ey one other near = inr (inr (record {
   k = one.number;
   l = other.number;
-  first = record {
-    broadcast = one.broadcast;
-    planned = one.source.planned;
-    says = ex ∙ ap quoted (sym one.bytes);
-    slot = one.slot;
-    covers = one.covers;
-    past = one.past;
-    recent = one.recent;
-  };
-  second = record {
-    broadcast = other.broadcast;
-    planned = other.source.planned;
-    says = ey ∙ ap quoted (sym other.bytes);
-    slot = other.slot;
-    covers = other.covers;
-    past = other.past;
-    recent = other.recent;
-  };
+  first = on_air_so d t plan i r a x ex one;
+  second = on_air_so d t plan j q b y ey other;
   near = near one.number other.number one.broadcast other.broadcast one.source other.source;
 }))
 
