@@ -75,7 +75,7 @@ HoldsNewestSpans g d newest before s =
 
 -- this holds of all marks that the state holds
 abbrev pub WhereSpansHold : Gauge → ℕ → SpansState → (List Mark → Type 0) → Type 0
-WhereSpansHold g d s Holds = 0 < d → d ≤ 66559 → (sent : List Mark) → HoldsSpans g d sent s → Holds sent
+WhereSpansHold g d s Holds = 0 < d → d ≤ 66813 → (sent : List Mark) → HoldsSpans g d sent s → Holds sent
 
 -- the state of both services follows from this log, in the slot after it
 pub record HoldsLog (d : ℕ) (judged : List (Option Message)) (a : AuditState) : Type 0 where

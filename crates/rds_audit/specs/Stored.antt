@@ -89,7 +89,7 @@ pub record AreBits (f : StoredFaults) : Type 0 where
 -- the numbers are valid
 pub record IsStoredAudit (l : StoredAudit) : Type 0 where
   pub some : 0 < l.distance
-  pub distance : l.distance ≤ 66559
+  pub distance : l.distance ≤ 66813
 
 -- what stays the same while an audit takes the group of a slot
 pub record KeepsLog (old new : StoredAudit) : Type 0 where

@@ -44,7 +44,7 @@ impl StoredReigns {
 
     /// Ages the reigns by one slot.
     pub(crate) fn grow_older(&mut self, distance: u32)
-        ensures { distance ≤ 66559 → reigns_stored self.new
+        ensures { distance ≤ 66813 → reigns_stored self.new
             ≡ record (reigns_stored self.old) { ages = aged distance (ages_stored self.old) } }
     {
         let limit = distance.wrapping_mul(2);

@@ -94,7 +94,7 @@ impl StoredSpans {
 
     /// Ages the spans by one slot.
     pub(crate) fn grow_older(&mut self, distance: u32)
-        ensures { distance ≤ 66559 → spans_stored self.new ≡ aged_in distance (spans_stored self.old) }
+        ensures { distance ≤ 66813 → spans_stored self.new ≡ aged_in distance (spans_stored self.old) }
     {
         self.reigns.grow_older(distance);
     }

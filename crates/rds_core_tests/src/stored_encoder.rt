@@ -50,6 +50,6 @@ fn restores_any_numbers(rt: HostRuntime) -> Result<(), Fail> {
     same(&rt, (encoder.text(), encoder.name()), (None, None));
     let again = encoder.store();
     let numbers = (again.pty, again.round, again.distance);
-    same(&rt, numbers, (0, 0, 66559));
+    same(&rt, numbers, (0, 0, 66813));
     Ok(())
 }

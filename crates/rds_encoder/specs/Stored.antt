@@ -54,7 +54,7 @@ IsStoredName n = IsTrue (is_set n.is_on_air) → IsName n.bytes
 pub record IsStoredEncoder (e : StoredEncoder) : Type 0 where
   pub pty : e.pty < 32
   pub some : 0 < e.distance
-  pub distance : e.distance ≤ 66559
+  pub distance : e.distance ≤ 66813
   pub round : e.round < 8
   pub text : IsStoredText e.text
   pub name : IsStoredName e.name

@@ -50,7 +50,15 @@ impl Encoder {
         ensures again { (entries : List Entry)
             → EncoderAt head (dwell + late) result (Restart ∷ entries) }
     {
-        let distance = Distance::new(dwell, late).get();
+        Encoder::spaced(head, Distance::new(dwell, late))
+    }
+
+    /// Makes an encoder at a restart with this spacing, in place of M + K slots.
+    pub fn spaced(head: Head, distance: Distance) -> Encoder
+        ensures first { EncoderAt head distance result [] }
+        ensures again { (entries : List Entry) → EncoderAt head distance result (Restart ∷ entries) }
+    {
+        let distance = distance.get();
         Encoder {
             state: StoredEncoder {
                 distance,

@@ -1,11 +1,12 @@
-//! The spacing d of a station: the dwell plus the lateness.
+//! The spacing d of a station.
 ghost use Rattle.std.specs.Prelude.{◌≡◌, ◌+◌, ◌<◌, ◌≤◌};
 
 use crate::{Dwell, Late};
 use std::marker::Model;
 
-/// The spacing d of a station, in slots: the dwell M of its receivers plus the lateness K, 1 to 66559. No receiver
-/// joins a segment to the one before it if they were sent d slots or more apart (this project's own rule).
+/// The spacing d of a station, 1 to 66813 slots: the dwell M of its receivers plus the lateness K, and W - 1 slots more
+/// if they show only what they heard twice within W slots. No receiver joins a segment to the one before it if they were
+/// sent d slots or more apart (this project's own rule).
 #[derive(Clone, Copy)]
 pub struct Distance {
     slots: u32,
@@ -18,13 +19,13 @@ impl Model for Distance {
 
     ghost view = { λ s. s.slots };
 
-    ghost invariant = { λ s. (0 < s.slots) × (s.slots ≤ 66559) };
+    ghost invariant = { λ s. (0 < s.slots) × (s.slots ≤ 66813) };
 
     ghost inverse = { λ n. record { slots = n } };
 }
 
 impl Distance {
-    /// Makes the distance for this dwell and this lateness.
+    /// Makes the distance for this dwell and this lateness, without a window.
     pub fn new(dwell: Dwell, late: Late) -> Distance
         ensures { result ≡ dwell + late }
     {
@@ -33,12 +34,12 @@ impl Distance {
         }
     }
 
-    /// Makes the distance of this many slots. Less than 1 gives 1, and more than 66559 gives 66559.
+    /// Makes the distance of this many slots. Less than 1 gives 1, and more than 66813 gives 66813.
     pub fn restore(slots: u32) -> Distance
-        ensures { 0 < slots → slots ≤ 66559 → result ≡ slots }
+        ensures { 0 < slots → slots ≤ 66813 → result ≡ slots }
     {
         Distance {
-            slots: slots.clamp(1, 66559),
+            slots: slots.clamp(1, 66813),
         }
     }
 
@@ -46,7 +47,7 @@ impl Distance {
     pub fn get(self) -> u32
         ensures value { result ≡ self }
         ensures some { 0 < result }
-        ensures most { result ≤ 66559 }
+        ensures most { result ≤ 66813 }
     {
         self.slots
     }

@@ -1,14 +1,14 @@
-use Rattle.std.proofs.Common.{◌+◌, ◌≡◌, arith}
+use Rattle.std.proofs.Common.{◌+◌, arith}
 use Rattle.rds_encoder.specs.Entries.{name_moves, slot_of, text_moves}
 use Rattle.rds_encoder.specs.Sent.{is_free}
 use Rattle.rds_encoder.proofs.Groups.{head_back}
 use Rattle.rds_encoder.proofs.Turns.{none_yet}
-use Rattle.rds_encoder.proofs.encoder.Encoder.new.Goals as goal
+use Rattle.rds_encoder.proofs.encoder.Encoder.spaced.Goals as goal
 
 pub returns-clause-first : goal.returns-clause-first
 returns-clause-first c =
-    let d = c.args.dwell + c.args.late in
-    let distance : c.get-distance.result ≡ d = omega (arith, c.get-distance.ensures.value, c.new.ensures) in
+    let d = c.args.distance in
+    let distance = c.get-distance.ensures.value in
     record {
       head = head_back c.args.head c.from.result c.get.result c.from.ensures c.get.ensures.value;
       distance = distance;
@@ -21,8 +21,8 @@ returns-clause-first c =
 
 pub returns-clause-again : goal.returns-clause-again
 returns-clause-again c entries =
-    let d = c.args.dwell + c.args.late in
-    let distance : c.get-distance.result ≡ d = omega (arith, c.get-distance.ensures.value, c.new.ensures) in
+    let d = c.args.distance in
+    let distance = c.get-distance.ensures.value in
     record {
       head = head_back c.args.head c.from.result c.get.result c.from.ensures c.get.ensures.value;
       distance = distance;
