@@ -7,8 +7,8 @@ use rds_assembly::{Name, Text};
 use rds_block::Place;
 use rds_fields::{Dwell, Head, Late};
 use rds_world::{
-    Answer, Command, Config, PlayRefused, Premise, ReceiverKind, Reception, Reply, SlotEvent,
-    StepRefused, World, WorldRefused, play,
+    Answer, Command, Config, PlayRefused, ReceiverKind, Reception, Reply, SlotEvent, StepRefused,
+    World, WorldRefused, play,
 };
 use std::alloc::Global;
 use std::process::Abort;
@@ -192,7 +192,7 @@ pub(crate) fn config() -> Result<Config, Fail> {
     Ok(Config {
         head,
         dwell: Dwell::new(4).ok_or("dwell")?,
-        premise: Premise::once(Late::new(0).ok_or("late")?),
+        late: Late::new(0).ok_or("late")?,
         kind: ReceiverKind::WithDwell,
     })
 }
@@ -200,7 +200,7 @@ pub(crate) fn config() -> Result<Config, Fail> {
 /// The same with groups that come up to so many slots late.
 fn late_config(slots: u16) -> Result<Config, Fail> {
     Ok(Config {
-        premise: Premise::once(Late::new(slots).ok_or("late")?),
+        late: Late::new(slots).ok_or("late")?,
         ..config()?
     })
 }

@@ -6,9 +6,9 @@ use crate::worlds::{
 };
 use rds_assembly::Text;
 use rds_block::Place;
-use rds_fields::{Late, Message};
+use rds_fields::{Dwell, Late, Message};
 use rds_receiver::Window;
-use rds_world::{Command, Config, PlayRefused, Premise, Reception, Reply, StepRefused};
+use rds_world::{Command, Config, PlayRefused, ReceiverKind, Reception, Reply, StepRefused};
 use std::test::Fail;
 
 /// The text `HI` with flag 0.
@@ -16,9 +16,9 @@ const HI: [u16; 4] = [0xC201, 0x2140, 0x4849, 0x0D20];
 
 /// A dwell of four slots and a window of three: the spacing is six slots.
 fn window_config() -> Result<Config, Fail> {
-    let late = Late::new(0).ok_or("late")?;
+    let window = Window::new(3).ok_or("window")?;
     Ok(Config {
-        premise: Premise::new(late, Window::new(3)).ok_or("premise")?,
+        kind: ReceiverKind::Confirming(window),
         ..config()?
     })
 }
@@ -46,13 +46,25 @@ fn shown_when_heard_twice(rt: HostRuntime) -> Result<(), Fail> {
     step_rows(&rt, &mut world, 1, &rows)
 }
 
-/// K + W - 1 is at most 1024 slots.
+/// The spacing is M + K, and M + K + W - 1 with a window, whoever listens.
 #[test]
-fn lateness_and_window(rt: HostRuntime) -> Result<(), Fail> {
-    let late = Late::new(1000).ok_or("late")?;
-    assert!(rt; Premise::new(late, Window::new(25)).is_some());
-    assert!(rt; Premise::new(late, Window::new(26)).is_none());
-    assert!(rt; Premise::new(Late::new(1024).ok_or("late")?, None).is_some());
+fn the_window_adds_to_the_spacing(rt: HostRuntime) -> Result<(), Fail> {
+    let window = Window::new(255).ok_or("window")?;
+    let kinds = [
+        (ReceiverKind::WithDwell, 66559),
+        (ReceiverKind::Confirming(window), 66813),
+        (ReceiverKind::FlagAlone(None), 66559),
+        (ReceiverKind::FlagAlone(Some(window)), 66813),
+    ];
+    for (kind, spacing) in kinds {
+        let config = Config {
+            dwell: Dwell::longest(),
+            late: Late::new(1024).ok_or("late")?,
+            kind,
+            ..config()?
+        };
+        same(&rt, config.distance().get(), spacing);
+    }
     Ok(())
 }
 
@@ -95,11 +107,12 @@ fn wrong_confirmed(rt: HostRuntime) -> Result<(), Fail> {
 /// Slots that are played in one call are refused so too.
 #[test]
 fn wrong_confirmed_not_played(rt: HostRuntime) -> Result<(), Fail> {
+    let config = window_config()?;
     let events = [
         slot_event(Command::Quiet, true, &[wrong()?])?,
         slot_event(Command::Quiet, true, &[wrong()?])?,
     ];
-    let refused = not_played(rt.alloc(), window_config()?, 1, &events);
+    let refused = not_played(rt.alloc(), config, 1, &events);
     same(&rt, refused, Some(PlayRefused::WrongConfirmed(1, 0)));
     Ok(())
 }

@@ -7,7 +7,7 @@ use rds_block::Place;
 use rds_fields::{Dwell, Head, Late};
 use rds_io::{LogFault, Told};
 use rds_script::{encode, encode_within, simulate, simulate_within};
-use rds_world::{Config, Premise, ReceiverKind};
+use rds_world::{Config, ReceiverKind};
 use std::alloc::{AllocError, Global};
 use std::cell::Cell;
 use std::io::{self, ErrorKind, Read, Write};
@@ -37,7 +37,7 @@ pub(crate) fn config(dwell: u16) -> Result<Config, Fail> {
             pty: Place::new(10).ok_or("pty")?,
         },
         dwell: Dwell::new(dwell).ok_or("dwell")?,
-        premise: Premise::once(Late::new(0).ok_or("late")?),
+        late: Late::new(0).ok_or("late")?,
         kind: ReceiverKind::WithDwell,
     })
 }

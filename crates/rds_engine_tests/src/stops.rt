@@ -6,7 +6,7 @@ use rds_fields::{Dwell, Head, Late};
 use rds_io::{LogFault, TellingRead, Told};
 use rds_log::audit;
 use rds_script::{encode, simulate};
-use rds_world::{Config, Premise, ReceiverKind};
+use rds_world::{Config, ReceiverKind};
 use std::alloc::Global;
 use std::cell::Cell;
 use std::io::{self, Read};
@@ -41,7 +41,7 @@ fn config(pi: u16, dwell: u16, late: u16) -> Result<Config, Fail> {
             pty: Place::new(31).ok_or("pty")?,
         },
         dwell: Dwell::new(dwell).ok_or("dwell")?,
-        premise: Premise::once(Late::new(late).ok_or("late")?),
+        late: Late::new(late).ok_or("late")?,
         kind: ReceiverKind::WithDwell,
     })
 }
@@ -98,7 +98,7 @@ fn audited(alloc: Global, log: &[u8]) -> Result<(Result<bool, LogFault>, usize),
         &mut writer,
         0xC201,
         station.dwell,
-        station.premise.late(),
+        station.late,
     );
     Ok((answer, left.get()))
 }

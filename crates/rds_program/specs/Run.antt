@@ -2,7 +2,7 @@
 -- with the reader, w its traffic with the writer.
 use Rattle.std.specs.Prelude.{◌≡◌, ◌⊎◌, ◌*◌, ◌^◌, ◌++◌, []}
 use Rattle.std.specs.Prelude.{ℕ, Bool, false, true, List, codes, decimal, None, Some, Option, Ok, Err, Result}
-use Rattle.std.specs.Prelude.{if◌then◌else◌, nat_le, option_map}
+use Rattle.std.specs.Prelude.{if◌then◌else◌, nat_le}
 use Rattle.clap.specs.Words.{kind_of}
 use Rattle.clap.specs.declared.error.Error.{Error}
 use Rattle.clap.specs.declared.error.kind.ErrorKind.{ErrorKind}
@@ -11,10 +11,9 @@ use Rattle.rds_io.specs.Puts.{Puts}
 use Rattle.rds_io.specs.Told.{HasFailed, IsCalm, PutsNothing, Traffic, traffic}
 use Rattle.rds_io.specs.declared.told.WriteFault.{WriteFault}
 use Rattle.rds_receiver.specs.Receipts.{Tuning}
-use Rattle.rds_world.specs.Premise.{Premise, lateness_in}
-use Rattle.rds_world.specs.ReceiverKind.{dwell_of}
+use Rattle.rds_world.specs.ReceiverKind.{dwell_of, lateness_of}
 use Rattle.rds_world.specs.declared.receiver_kind.ReceiverKind.{ReceiverKind}
-use Rattle.rds_world.specs.declared.receiver_kind.ReceiverKind.TheVariants.{FlagAlone, WithDwell}
+use Rattle.rds_world.specs.declared.receiver_kind.ReceiverKind.TheVariants.{Confirming, FlagAlone, WithDwell}
 use Rattle.rds_world.specs.declared.world.Config.{Config}
 use Rattle.rds_audit.specs.AuditState.{start_if}
 use Rattle.rds_log.specs.Decode.{Decodes}
@@ -130,34 +129,26 @@ pub record EngineRuns {X : Type 0} (Engine : Traffic → Result X LogFault → T
   pub ran : Engine (record w { after = mid; failures_after = failures }) outcome
   pub ended : EndsWith status_of task outcome (record w { before = mid; failures_before = failures }) status
 
--- at most this lateness, for receivers without a window
-abbrev pub once : ℕ → Premise
-once late = record { late = late; window = None }
+-- the kind of the receivers of a simulation, which confirm within this window or none, or follow the flag bit alone
+abbrev pub kind_for : Option ℕ → Bool → ReceiverKind
+kind_for None false = WithDwell
+kind_for (Some w) false = Confirming w
+kind_for window true = FlagAlone window
 
--- the same for receivers with this window or none; there is none such if the lateness of what counts is above 1024
--- slots
-abbrev pub premise_of : ℕ → Option ℕ → Option Premise
-premise_of late window =
-    if nat_le (lateness_in window late) 1024 then Some (record { late = late; window = window }) else None
-
--- the receivers of a simulation have the dwell of the station, or follow the flag bit alone
-abbrev pub kind_for : Bool → ReceiverKind
-kind_for false = WithDwell
-kind_for true = FlagAlone
-
--- the station for receivers that are tuned so, for a programme and this premise, and the kind of its receivers
-abbrev pub tuned_station : Tuning → Programme → Premise → ReceiverKind → Config
-tuned_station t programme premise kind = record {
+-- the station for receivers that are tuned so, for a programme, this lateness, and this kind of receivers
+abbrev pub tuned_station : Tuning → Programme → ℕ → ReceiverKind → Config
+tuned_station t programme late kind = record {
   head = record { pi = t.programme; tp = programme.tp; pty = programme.pty };
   dwell = t.dwell;
-  premise = premise;
+  late = late;
   kind = kind;
 }
 
--- the station of a simulation, which serves receivers with this window or none; with the flag, others listen to it
+-- the station of a simulation; there is none if the lateness of what counts is above 1024 slots
 abbrev pub simulated_station : Tuning → Programme → ℕ → Option ℕ → Bool → Option Config
 simulated_station t programme late window alone =
-    option_map (λ premise. tuned_station t programme premise (kind_for alone)) (premise_of late window)
+    if nat_le (lateness_of (kind_for window alone) late) 1024
+    then Some (tuned_station t programme late (kind_for window alone)) else None
 
 -- how `decode` decodes a log: with this window or none, and with reasons or without
 abbrev pub decoding_of : Tuning → Option ℕ → Bool → Decoding
@@ -182,7 +173,7 @@ filling_of t grain only =
 
 -- the receiver that loses given slots has this dwell, or follows the flag bit alone
 abbrev pub lossy : Bool → Tuning → Tuning
-lossy alone t = record t { dwell = dwell_of (kind_for alone) t.dwell }
+lossy alone t = record t { dwell = dwell_of (kind_for None alone) t.dwell }
 
 -- the bytes of the reader of a script, and the fact that one of its reads failed
 abbrev pub script_in : ReaderOver → Reading
@@ -226,7 +217,7 @@ abbrev pub TaskRuns : Task → List ℕ → Tuning → ReaderOver → Traffic �
 TaskRuns (Decode window why) lose t r w status =
     EngineRuns (Decodes (decoding_of t window why) (2 ^ 32) r.traffic) done (Decode window why) w status
 TaskRuns (Encode programme late) lose t r w status =
-    EngineRuns (Plays (with_form Log (tuned_station t programme (once late) WithDwell)) (2 ^ 32) (script_in r)) done
+    EngineRuns (Plays (with_form Log (tuned_station t programme late WithDwell)) (2 ^ 32) (script_in r)) done
     (Encode programme late) w status
 TaskRuns (Simulate programme late window alone why) lose t r w status =
     SimulationRuns why (simulated_station t programme late window alone) (Simulate programme late window alone why) r w

@@ -17,7 +17,7 @@ use Rattle.rds_witness.specs.declared.burst.Burst.{Burst}
 use Rattle.rds_cli.specs.declared.request.Task.{Task}
 use Rattle.rds_cli.specs.declared.request.Task.TheVariants.{Audit, Decode, Encode, Lose, Simulate, Slots, Witness}
 use Rattle.rds_program.specs.Run.{LossRuns, NoMemory, EngineRuns, RunsWords, SimulationRuns, TaskRuns}
-use Rattle.rds_program.specs.Run.{done, lossy, once, simulated_station, tuned_station}
+use Rattle.rds_program.specs.Run.{done, simulated_station, tuned_station}
 
 -- a run of engines that do more, with another statement for the case that no engine ran
 pub runs_by : {Rests Rested : Type 0} (words : List (List ℕ)) (Engine Weaker : Task → List ℕ → Tuning → Type 0)
@@ -91,7 +91,7 @@ task_by says rests (Lose alone) lose t r w status ran =
     loss_by _ _ rests (bursts_in lose) alone t r w status ran
 task_by says rests (Slots grain only) lose t r w status ran = ran
 task_by says rests (Encode programme late) lose t r w status ran =
-    script_by says (with_form Log (tuned_station t programme (once late) WithDwell)) (Encode programme late) r.before w
+    script_by says (with_form Log (tuned_station t programme late WithDwell)) (Encode programme late) r.before w
     status ran
 task_by says rests (Simulate programme late window alone why) lose t r w status ran =
     simulation_by says rests why (simulated_station t programme late window alone)

@@ -32,7 +32,7 @@ use rds_log::{
 use rds_receiver::Window;
 use rds_script::{Form, MOST_RECORDS, Playing, play_script};
 use rds_witness::{Losing, bursts_of, lose_with_notes, witness_with_notes};
-use rds_world::{Config, Premise, ReceiverKind};
+use rds_world::{Config, ReceiverKind};
 use std::alloc::Global;
 use std::io::Write;
 
@@ -189,10 +189,9 @@ fn run_task<R: TellingRead, W: TellingWrite>(
             end_with(asked, decoded, writer, &mut notes.end)
         }
         Task::Encode(programme, late) => {
-            let premise = Premise::once(late);
             let playing = Playing {
                 form: Form::Log,
-                config: station_of(pi, dwell, programme, premise, ReceiverKind::WithDwell),
+                config: station_of(pi, dwell, programme, late, ReceiverKind::WithDwell),
             };
             let encoded = run_script(playing, alloc, reader, writer, notes);
             end_with(asked, encoded, writer, &mut notes.end)
@@ -280,7 +279,7 @@ fn lose<R: TellingRead, W: TellingWrite>(
 
 /// Returns the dwell of a receiver that loses given slots.
 fn dwell_for(alone: bool, dwell: Dwell) -> Dwell
-    ensures { result ≡ dwell_of (specs.kind_for alone) dwell }
+    ensures { result ≡ dwell_of (specs.kind_for None alone) dwell }
 {
     if alone { Dwell::longest() } else { dwell }
 }
@@ -331,14 +330,8 @@ fn run_script<R: TellingRead, W: TellingWrite>(
 }
 
 /// Returns the station of these options.
-fn station_of(
-    pi: u16,
-    dwell: Dwell,
-    programme: Programme,
-    premise: Premise,
-    kind: ReceiverKind,
-) -> Config
-    ensures { result ≡ specs.tuned_station (tuned pi dwell) programme premise kind }
+fn station_of(pi: u16, dwell: Dwell, programme: Programme, late: Late, kind: ReceiverKind) -> Config
+    ensures { result ≡ specs.tuned_station (tuned pi dwell) programme late kind }
 {
     Config {
         head: Head {
@@ -347,19 +340,21 @@ fn station_of(
             pty: programme.pty,
         },
         dwell,
-        premise,
+        late,
         kind,
     }
 }
 
 /// Returns the kind of the receivers of a simulation.
-fn kind_for(alone: bool) -> ReceiverKind
-    ensures { result ≡ specs.kind_for alone }
+fn kind_for(window: Option<Window>, alone: bool) -> ReceiverKind
+    ensures { result ≡ specs.kind_for window alone }
 {
     if alone {
-        ReceiverKind::FlagAlone
-    } else {
-        ReceiverKind::WithDwell
+        return ReceiverKind::FlagAlone(window);
+    }
+    match window {
+        Some(window) => ReceiverKind::Confirming(window),
+        None => ReceiverKind::WithDwell,
     }
 }
 
@@ -374,9 +369,11 @@ fn simulated_station(
 ) -> Option<Config>
     ensures { result ≡ specs.simulated_station (tuned pi dwell) programme late window alone }
 {
-    let premise = Premise::new(late, window)?;
-    let kind = kind_for(alone);
-    Some(station_of(pi, dwell, programme, premise, kind))
+    let kind = kind_for(window, alone);
+    if kind.lateness(late) > 1024 {
+        return None;
+    }
+    Some(station_of(pi, dwell, programme, late, kind))
 }
 
 /// Returns how `slots` fills a log: with `only`, it leaves out the lines of other programmes.

@@ -5,6 +5,7 @@ use Rattle.rds_receiver.specs.Shown.{ShownView}
 use Rattle.rds_view_lines.specs.Output.{air_stamp, change, receiver_stamp}
 use Rattle.rds_world.specs.Event.{Event}
 use Rattle.rds_world.specs.OnAir.{air_of}
+use Rattle.rds_world.specs.ReceiverKind.{is_flag_alone}
 use Rattle.rds_world.specs.declared.world.Config.{Config}
 use Rattle.rds_world.specs.Slots.{input_of}
 use Rattle.rds_world.specs.WorldAt.{ShowsStill}
@@ -53,7 +54,7 @@ pub compared_alike : (config : Config) (slot other n : ℕ) (e : Event) (before 
     → compared_lines config slot n e before kept shown ≡ compared_lines config other n e before older shown
 compared_alike config slot other n e before kept older shown at same =
     ap (λ (s : ℕ). compared_lines config s n e before kept shown) at
-    ∙ ap (λ (l : List ℕ). if_alone config.kind (change (air_stamp other) None (air_of config before)
+    ∙ ap (λ (l : List ℕ). if_alone (is_flag_alone config.kind) (change (air_stamp other) None (air_of config before)
     (air_of config (e ∷ before)) ++ l))
     (airings_alike other n (λ i. airings config before (view_at kept i)) (λ i. airings config before (view_at older i))
     (λ i. airings config (e ∷ before) (view_at shown i)) (λ i. airings config (e ∷ before) (view_at shown i))

@@ -7,7 +7,7 @@ use Rattle.rds_assembly.specs.Body.{name_body}
 use Rattle.rds_world.specs.declared.event.Command.{Command}
 use Rattle.rds_world.specs.declared.event.Command.TheVariants.{Quiet, Restart, SetText, SetName, SetTags}
 use Rattle.rds_world.specs.Event.{Event}
-use Rattle.rds_world.specs.Premise.{Premise}
+use Rattle.rds_world.specs.declared.world.Config.{Config}
 use Rattle.rds_script.specs.Rows.{AreRows, IsNameArgument, Record, SaysCommand, SaysEvent, free_field, numbers_of_pair}
 use Rattle.rds_script.specs.Receptions.{AreReceptions}
 use Rattle.rds_script.proofs.Receptions.{same_receptions}
@@ -120,14 +120,14 @@ same_event one row e f p q =
     λ i. record { command = command i; free = free i; receptions = receptions i }
 
 pub same_events : TextIsReadOneWay
-    → (premise : Premise) (n other_n : ℕ) (records : List Record) (events other : List Event)
-    → AreRows premise n records events → AreRows premise other_n records other → events ≡ other
-same_events one premise n k [] [] [] p q = refl
-same_events one premise n k [] [] (f ∷ other) p q = absurd q
-same_events one premise n k [] (e ∷ events) other p q = absurd p
-same_events one premise n k (row ∷ records) [] other p q = absurd p
-same_events one premise n k (row ∷ records) (e ∷ events) [] p q = absurd q
-same_events one premise n k (row ∷ records) (e ∷ events) (f ∷ other) p q =
+    → (config : Config) (n other_n : ℕ) (records : List Record) (events other : List Event)
+    → AreRows config n records events → AreRows config other_n records other → events ≡ other
+same_events one config n k [] [] [] p q = refl
+same_events one config n k [] [] (f ∷ other) p q = absurd q
+same_events one config n k [] (e ∷ events) other p q = absurd p
+same_events one config n k (row ∷ records) [] other p q = absurd p
+same_events one config n k (row ∷ records) (e ∷ events) [] p q = absurd q
+same_events one config n k (row ∷ records) (e ∷ events) (f ∷ other) p q =
     let head : e ≡ f = same_event one row e f p.0 q.0 in
-    let tail : events ≡ other = same_events one premise n k records events other p.2 q.2 in
+    let tail : events ≡ other = same_events one config n k records events other p.2 q.2 in
     (cc)

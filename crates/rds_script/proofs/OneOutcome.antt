@@ -94,7 +94,7 @@ same_outcomes one config (e ∷ before) (o ∷ outcomes) (o' ∷ other) p q =
 pub same_written : TextIsReadOneWay → OneGroup → (how : Playing) (records : List Record) (written other : List ℕ)
     → RowsWrite how records written → RowsWrite how records other → written ≡ other
 same_written text one how records written other p q =
-    let events : p.events ≡ q.events = same_events text how.config.premise p.say.receivers q.say.receivers records
+    let events : p.events ≡ q.events = same_events text how.config p.say.receivers q.say.receivers records
     p.events q.events p.say.rows q.say.rows in
     let outcomes : p.write.outcomes ≡ q.write.outcomes = same_outcomes one how.config q.events p.write.outcomes
     q.write.outcomes (subst (λ (l : List Event). AreOutcomes how.config l p.write.outcomes) events p.write.are)

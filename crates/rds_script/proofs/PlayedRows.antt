@@ -3,13 +3,12 @@ use Rattle.std.proofs.Common.{◌≡◌, ◌⊎◌, ◌<◌, ◌≤◌, ◌+◌,
 use Rattle.std.proofs.Common.{ap, ap₂, arith, inl, inr, length, refl, subst, sym}
 use Rattle.std.specs.Prelude.{Err, Ok, OnOk, Result}
 use Rattle.rds_world.specs.Event.{Event}
-use Rattle.rds_world.specs.Premise.{Premise}
 use Rattle.rds_world.specs.State.{distance}
 use Rattle.rds_receiver.specs.Shown.{ShownView}
 use Rattle.rds_script.proofs.Changes.{changes_same}
 use Rattle.rds_script.proofs.AiringLines.{compared_alike}
 use Rattle.rds_view_lines.specs.NoChange.{view_of_none}
-use Rattle.rds_world.specs.Slots.{entries, input_of}
+use Rattle.rds_world.specs.Slots.{input_of}
 use Rattle.rds_world.specs.WorldAt.{IsViewOfInput, ShowsStill, tuned_to}
 use Rattle.rds_script.specs.Outcomes.{AreOutcomes, IsOutcome, Outcome, answer_lines, compared_lines, lines_of}
 use Rattle.rds_script.specs.Outcomes.{newest_views, receiver_changes, slot_lines, view_at, whys_at}
@@ -19,7 +18,7 @@ use Rattle.rds_script.specs.Inside.Watched.{AreKept, WatchedStandsAt, WereShown,
 use Rattle.rds_script.specs.declared.player.Player.{Player}
 use Rattle.rds_script.specs.declared.watched.Watched.{Watched}
 use Rattle.rds_charset.specs.Laws.{TextIsReadOneWay}
-use Rattle.rds_world.specs.Replies.{CanBeTaken, IsStepRefused, reply_at}
+use Rattle.rds_world.specs.Replies.{CanBeTaken, IsStepRefused}
 use Rattle.rds_world.specs.declared.reply.StepRefused.{StepRefused}
 use Rattle.rds_world.specs.declared.reply.StepRefused.TheVariants as step
 use Rattle.rds_script.specs.Receptions.{AreReceptions}
@@ -32,7 +31,7 @@ use Rattle.rds_world.specs.declared.event.TheConstants.{MOST_RECEIVERS}
 use Rattle.rds_world.specs.declared.world.Config.{Config}
 
 -- a record, an event and an outcome for each slot
-pub as_many_rows : (k : Premise) (receivers : ℕ) (records : List Record) (events : List Event)
+pub as_many_rows : (k : Config) (receivers : ℕ) (records : List Record) (events : List Event)
     → AreRows k receivers records events → length records ≡ length events
 as_many_rows k receivers [] [] are = refl
 as_many_rows k receivers [] (e ∷ older) are = absurd are
@@ -51,7 +50,7 @@ same_count row e f p q =
     fourth e = (cc)
 
 -- a row with more receivers than its script may name
-pub names_receivers : (k : Premise) (form : Form) (row : Record) (records : List Record) (e : Event) → SaysEvent row e
+pub names_receivers : (k : Config) (form : Form) (row : Record) (records : List Record) (e : Event) → SaysEvent row e
     → (IsAllowed form (length e.receptions) → ⊥) → AreNoRows k form (row ∷ records)
 names_receivers k form row records e says none [] say = say.rows
 names_receivers k form row records e says none (f ∷ older) say = none
@@ -62,14 +61,14 @@ few_allowed : (form : Form) (n : ℕ) → IsAllowed form n → n ≤ MOST_RECEIV
 few_allowed (Simulation why) n allowed = allowed
 few_allowed Log n allowed = omega (arith, allowed)
 
-pub says_none : (k : Premise) (form : Form) (row : Record) (records : List Record)
+pub says_none : (k : Config) (form : Form) (row : Record) (records : List Record)
     → ((e : Event) → length e.receptions ≤ MOST_RECEIVERS → SaysEvent row e → ⊥) → AreNoRows k form (row ∷ records)
 says_none k form row records none [] say = say.rows
 says_none k form row records none (e ∷ older) say = none e (let few = few_allowed form say.receivers say.allowed
     in omega (arith, few, say.rows.1.count)) say.rows.0
 
 -- rows of one script have one number of receivers
-same_receivers : (k : Premise) (n other : ℕ) (records : List Record) (events older : List Event)
+same_receivers : (k : Config) (n other : ℕ) (records : List Record) (events older : List Event)
     → AreRows k n records events → AreRows k other records older → 0 < length records → n ≡ other
 same_receivers k n other [] events older p q some = absurd (omega (arith, some))
 same_receivers k n other (row ∷ records) [] older p q some = absurd p
@@ -98,7 +97,7 @@ slot_written form config slot kept e events o older written lines had now same g
     changes) compared)
 
 -- before the first slot any number of receivers will do, and no outcome shows a thing
-pub none_played : (k : Premise) (receivers other : ℕ) (records : List Record) (events : List Event)
+pub none_played : (k : Config) (receivers other : ℕ) (records : List Record) (events : List Event)
     → AreRows k receivers records events → events ≡ [] → AreRows k other records events
 none_played k receivers other [] [] rows none = tt
 none_played k receivers other [] (e ∷ older) rows none = absurd rows
@@ -117,7 +116,7 @@ pub record IsReady (played : Played) (events : List Event) (outcomes : List Outc
   where
     pub receivers : ℕ
     pub allowed : IsAllowed played.form receivers
-    pub rows : AreRows played.config.premise receivers played.records events
+    pub rows : AreRows played.config receivers played.records events
     pub stands : WatchedStandsAt played.config receivers w events
     pub same : AreKept (views_kept w) (newest_views outcomes)
     pub room : HasRoom w.compared
@@ -125,13 +124,13 @@ pub record IsReady (played : Played) (events : List Event) (outcomes : List Outc
 
 pub is_ready : (before : Option Watched) (w : Watched) (played : Played) (asked : ℕ) (events : List Event)
     (outcomes : List Outcome) → IsAllowed played.form played.receivers → IsAllowed played.form asked
-    → AreRows played.config.premise played.receivers played.records events → AreOutcomes played.config events outcomes
+    → AreRows played.config played.receivers played.records events → AreOutcomes played.config events outcomes
     → HasWatched played.config played.receivers before events outcomes
     → IsBegun played.config asked before w → IsReady played events outcomes asked w
 is_ready None w played asked events outcomes had allowed rows are none begun = record {
   receivers = asked;
   allowed = allowed;
-  rows = none_played played.config.premise played.receivers asked played.records events rows none;
+  rows = none_played played.config played.receivers asked played.records events rows none;
   stands = rw none begun.0;
   same = rw (none_shown played.config events outcomes are none) begun.1;
   room = begun.2;
@@ -144,7 +143,7 @@ is_ready (Some before) w played asked events outcomes had allowed rows are has b
   stands = begun.0 played.config played.receivers events has.1;
   same = λ i. ap (λ (views : List ShownView). view_at views i) begun.1 ∙ has.2 i;
   room = begun.2;
-  how = inl (let counted = as_many_rows played.config.premise played.receivers played.records events rows
+  how = inl (let counted = as_many_rows played.config played.receivers played.records events rows
       in omega (arith, has.0, counted));
 }
 
@@ -162,9 +161,9 @@ pub plays_on : {T E : Type 0} (r : Result T E) (before now : Player) (played : P
     (old new : List ℕ)
     → now.form ≡ before.form → now.config ≡ before.config → now.slot ≡ before.slot + 1 → now.watched ≡ Some w
     → IsAllowed played.form receivers
-    → AreRows played.config.premise receivers played.records s.events → SaysEvent row e
+    → AreRows played.config receivers played.records s.events → SaysEvent row e
     → AreKept kept (newest_views s.outcomes)
-    → OnOk r (CanBeTaken played.config.premise receivers e s.events)
+    → OnOk r (CanBeTaken played.config receivers e s.events)
     → OnOk r (WatchedStandsAt played.config receivers w (e ∷ s.events))
     → OnOk r ((o : Outcome) × IsOutcome played.config e s.events o × (o.views ≡ views_kept w)
     × (new ≡ old ++ (slot_lines played.form played.config before.slot e s.events kept o
@@ -198,7 +197,7 @@ plays_on (Ok done) before now played s receivers kept w row e old new form confi
     )
 
 -- a record whose event was refused, after rows or as the first one
-pub refused_row : TextIsReadOneWay → (form : Form) (k : Premise) (receivers : ℕ) (row : Record) (records : List Record)
+pub refused_row : TextIsReadOneWay → (form : Form) (k : Config) (receivers : ℕ) (row : Record) (records : List Record)
     (e : Event) (events : List Event) → AreRows k receivers records events → SaysEvent row e
     → (0 < length records) ⊎ (receivers ≡ length e.receptions) → (CanBeTaken k receivers e events → ⊥)
     → AreNoRows k form (row ∷ records)
@@ -214,7 +213,7 @@ refused_row one form k receivers row records e events rows says how none (g ∷ 
     same (subst (λ (l : List Event). CanBeTaken k say.receivers g l) before say.rows.1)))
 
 -- a slot that is refused can't be taken
-pub not_taken : (k : Premise) (receivers : ℕ) (e : Event) (before : List Event) (why : StepRefused)
+pub not_taken : (k : Config) (receivers : ℕ) (e : Event) (before : List Event) (why : StepRefused)
     → IsStepRefused k receivers e before why → CanBeTaken k receivers e before → ⊥
 not_taken k receivers e before step.ReceiverCount refused taken = refused taken.count
 not_taken k receivers e before (step.Late r) refused taken = refused.late.late (taken.due r)

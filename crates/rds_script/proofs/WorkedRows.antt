@@ -67,7 +67,7 @@ second_tag = refl
 
 -- a station with a dwell of m slots
 abbrev station : ℕ → Head → Config
-station m head = record { head = head; dwell = m; premise = record { late = 0; window = None }; kind = FlagAlone }
+station m head = record { head = head; dwell = m; late = 0; kind = FlagAlone None }
 
 abbrev slot : Command → Event
 slot command = record { command = command; free = true; receptions = [] }

@@ -4,7 +4,7 @@
 -- as a line of a log. This is the project's own format. Lists have the newest first, so the slot of an outcome is the
 -- number of outcomes behind it.
 use Rattle.std.specs.Prelude.{◌≡◌, ◌<◌, ◌++◌, [], ◌∷◌}
-use Rattle.std.specs.Prelude.{ℕ, zero, suc, true, false, List, Option, Some, None}
+use Rattle.std.specs.Prelude.{ℕ, zero, suc, Bool, true, false, List, Option, Some, None}
 use Rattle.std.specs.Prelude.{bytes_eq, codes, decimal, length, slice_index_or}
 use Rattle.rds_block.specs.declared.group.Group.{Group}
 use Rattle.rds_block.specs.Words.{second_word_of}
@@ -37,8 +37,7 @@ use Rattle.rds_io.specs.Digits.{word_digits}
 use Rattle.rds_view_lines.specs.Output.{air_stamp, change, line_of, nothing_shown}
 use Rattle.rds_view_lines.specs.Output.{receiver_stamp, slot_stamp, unless_same}
 use Rattle.rds_world.specs.OnAir.{air_of}
-use Rattle.rds_world.specs.declared.receiver_kind.ReceiverKind.{ReceiverKind}
-use Rattle.rds_world.specs.declared.receiver_kind.ReceiverKind.TheVariants.{FlagAlone, WithDwell}
+use Rattle.rds_world.specs.ReceiverKind.{is_flag_alone}
 use Rattle.rds_script.specs.OnAir.{airings}
 use Rattle.rds_script.specs.declared.airing.Airing.{Airing}
 use Rattle.rds_script.specs.declared.airing.Airing.TheVariants.{Mix, Old, OnAir, Replaced}
@@ -198,9 +197,9 @@ airings_changes slot (suc i) before now =
     airings_changes slot i before now ++ airings_change (receiver_stamp slot i) (before i) (now i)
 
 -- lines that are written for radios with the flag bit alone
-abbrev pub if_alone : ReceiverKind → List ℕ → List ℕ
-if_alone WithDwell lines = []
-if_alone FlagAlone lines = lines
+abbrev pub if_alone : Bool → List ℕ → List ℕ
+if_alone false lines = []
+if_alone true lines = lines
 
 -- how n views of a slot compare with what was on air: what changed on air, and which parts of the views are something
 -- else than before
@@ -212,7 +211,7 @@ air_lines config slot n e before shown_before shown =
 
 abbrev pub compared_lines : Config → ℕ → ℕ → Event → List Event → List ShownView → List ShownView → List ℕ
 compared_lines config slot n e before shown_before shown =
-    if_alone config.kind (air_lines config slot n e before shown_before shown)
+    if_alone (is_flag_alone config.kind) (air_lines config slot n e before shown_before shown)
 
 -- the lines of all slots, the oldest first
 abbrev pub lines_of : Form → Config → List Event → List Outcome → List ℕ

@@ -41,7 +41,7 @@ HasAllRecords known records = (script : List ℕ) → known ≡ Some script
 -- the records are rows, and this is their output
 pub record RowsWrite (how : Playing) (records : List Record) (written : List ℕ) : Type 0 where
   pub events : List Event
-  pub say : RowsSay how.config.premise how.form records events
+  pub say : RowsSay how.config how.form records events
   pub write : EventsWrite how.form how.config events written
 
 -- this is the output of the bytes of a script, all of whose records are rows
@@ -66,7 +66,7 @@ pub record PlayStopsAtBadRow (how : Playing) (known : Option (List ℕ)) (w : Tr
   pub bad : List (List ℕ)
   pub wrote : WroteRows how known w records
   pub begins : HasRecords known (bad ∷ records)
-  pub none : AreNoRows how.config.premise how.form (bad ∷ records)
+  pub none : AreNoRows how.config how.form (bad ∷ records)
   pub number : n ≡ length records + 1
 
 -- the writer failed: some first part of the output of these records, at most as many as the bound, was written

@@ -11,7 +11,7 @@ use Rattle.rds_world.specs.declared.event.Command.{Command}
 use Rattle.rds_world.specs.declared.event.Command.TheVariants.{Quiet, Restart, SetText, SetName, SetTags}
 use Rattle.rds_world.specs.declared.event.TheConstants.{MOST_RECEIVERS}
 use Rattle.rds_world.specs.Event.{Event}
-use Rattle.rds_world.specs.Premise.{Premise}
+use Rattle.rds_world.specs.declared.world.Config.{Config}
 use Rattle.rds_world.specs.Replies.{CanBeTaken}
 use Rattle.rds_script.specs.Receptions.{AreReceptions}
 use Rattle.rds_assembly.specs.Body.{space}
@@ -93,19 +93,19 @@ IsAllowed Log receivers = receivers ≡ 0
 
 -- the records are rows with these events and this number of receivers, and each slot can be taken: a group comes at
 -- most K slots late, and in the order of sending
-abbrev pub AreRows : Premise → ℕ → List Record → List Event → Type 0
-AreRows p receivers [] [] = Unit {0}
-AreRows p receivers [] (e ∷ older) = ⊥
-AreRows p receivers (row ∷ before) [] = ⊥
-AreRows p receivers (row ∷ before) (e ∷ older) =
-    SaysEvent row e × CanBeTaken p receivers e older × AreRows p receivers before older
+abbrev pub AreRows : Config → ℕ → List Record → List Event → Type 0
+AreRows config receivers [] [] = Unit {0}
+AreRows config receivers [] (e ∷ older) = ⊥
+AreRows config receivers (row ∷ before) [] = ⊥
+AreRows config receivers (row ∷ before) (e ∷ older) =
+    SaysEvent row e × CanBeTaken config receivers e older × AreRows config receivers before older
 
 -- the records are rows: the first of them fixes the number of receivers
-pub record RowsSay (p : Premise) (form : Form) (records : List Record) (events : List Event) : Type 0 where
+pub record RowsSay (config : Config) (form : Form) (records : List Record) (events : List Event) : Type 0 where
   pub receivers : ℕ
   pub allowed : IsAllowed form receivers
-  pub rows : AreRows p receivers records events
+  pub rows : AreRows config receivers records events
 
 -- not all of the records are rows
-abbrev pub AreNoRows : Premise → Form → List Record → Type 0
-AreNoRows p form records = (events : List Event) → RowsSay p form records events → ⊥
+abbrev pub AreNoRows : Config → Form → List Record → Type 0
+AreNoRows config form records = (events : List Event) → RowsSay config form records events → ⊥

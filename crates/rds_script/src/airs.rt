@@ -60,9 +60,8 @@ impl Airs {
         ensures stands { IfOk result (AirsStand config.now []) }
         ensures room { IfOk result AirsHaveRoom }
     {
-        let dwell = u64::from(config.dwell.get());
         Ok(Airs {
-            spacing: dwell + u64::from(config.premise.lateness().get()),
+            spacing: u64::from(config.distance().get()),
             stretches: Vec::with_capacity(alloc, 1)?,
         })
     }

@@ -6,8 +6,8 @@
 use crate::row_cause::{RowCause, TagNumber};
 use rds_assembly::{LONGEST_TEXT, NAME_LENGTH, TextRefused};
 use rds_charset::{Stop, measure_text};
-use rds_fields::Which;
-use rds_world::{Premise, Reception, SlotEvent, StepRefused};
+use rds_fields::{Late, Which};
+use rds_world::{Reception, SlotEvent, StepRefused};
 
 /// The numbers that `tags` takes, and the most that each may be.
 const TAG_NUMBERS: [(TagNumber, u8); 8] = [
@@ -108,7 +108,7 @@ pub(crate) fn reception_cause(letter: u8, place: usize) -> RowCause {
 #[inline(never)]
 pub(crate) fn refused_cause(
     why: StepRefused,
-    premise: Premise,
+    most: Late,
     slot: u64,
     first: usize,
     event: &SlotEvent,
@@ -120,7 +120,7 @@ pub(crate) fn refused_cause(
             first,
         },
         StepRefused::Late(receiver) => {
-            late_cause(receiver, lateness_at(receptions, receiver), premise, slot)
+            late_cause(receiver, lateness_at(receptions, receiver), most, slot)
         }
         StepRefused::Wrong(receiver) => RowCause::Wrong(receiver),
         StepRefused::WrongConfirmed(receiver) => RowCause::WrongConfirmed(receiver),
@@ -135,9 +135,10 @@ fn lateness_at(receptions: &[Reception], receiver: usize) -> u16 {
     }
 }
 
-/// Returns the cause for a receiver that asks for a group, `late` slots late, that is not due to it.
-fn late_cause(receiver: usize, late: u16, premise: Premise, slot: u64) -> RowCause {
-    let most = premise.late().get();
+/// Returns the cause for a receiver that asks for a group, `late` slots late, that is not due to it. Groups may come at
+/// most `most` slots late.
+fn late_cause(receiver: usize, late: u16, most: Late, slot: u64) -> RowCause {
+    let most = most.get();
     if late > most {
         RowCause::Late {
             receiver,

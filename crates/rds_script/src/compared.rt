@@ -1,5 +1,5 @@
 //! Whether what radios with the flag bit alone show was on air.
-ghost use Rattle.std.specs.Prelude.{◌≡◌, ◌≤◌, ◌<◌, ◌+◌, ◌*◌, ◌++◌, [], ℕ, IfOk, List, OnErr, OnOk, length, map};
+ghost use Rattle.std.specs.Prelude.{◌≡◌, ◌≤◌, ◌<◌, ◌+◌, ◌*◌, ◌++◌, [], ℕ, IfOk, List, OnErr, OnOk, length, map, true};
 ghost use Rattle.rds_receiver.specs.Shown.{ShownView};
 ghost use Rattle.rds_view_lines.specs.KeptView.{view_kept};
 ghost use Rattle.rds_view_lines.specs.Output.{line_of, nothing_shown as none_shown, unless_same};
@@ -8,7 +8,7 @@ ghost use Rattle.rds_view_lines.specs.declared.change.TheConstants.{SLOT_ROOM};
 ghost use Rattle.rds_world.specs.WorldAt.{WhereWorldStands};
 ghost use Rattle.rds_world.specs.declared.event.TheConstants.{MOST_RECEIVERS};
 ghost use Rattle.rds_world.specs.Event.{Event};
-ghost use Rattle.rds_world.specs.declared.receiver_kind.ReceiverKind.TheVariants.{FlagAlone};
+ghost use Rattle.rds_world.specs.ReceiverKind.{is_flag_alone};
 ghost use Rattle.rds_world.specs.declared.world.Config.{Config};
 ghost use Rattle.rds_script.specs.Inside.Compared.{AirsHaveRoom, AirsStand, Compares, GoesOnCompared, HasRoom};
 ghost use Rattle.rds_script.specs.Inside.Compared.{IsCompared, WereKept, airings_at, all_on_air};
@@ -22,7 +22,7 @@ use crate::airs::Airs;
 use crate::watched::RowLines;
 use arrayvec::ArrayVec;
 use rds_view_lines::{KeptView, SLOT_ROOM, Stamp};
-use rds_world::{Config, MOST_RECEIVERS, ReceiverKind, World};
+use rds_world::{Config, MOST_RECEIVERS, World};
 use std::alloc::{AllocError, Global};
 
 /// The most bytes of the lines that say what the parts of a view are: one line for each of four parts.
@@ -95,9 +95,10 @@ pub(crate) fn new_compared(
         → IsCompared config.now receivers [] views o) }
     ensures room { IfOk result HasRoom }
 {
-    match config.kind {
-        ReceiverKind::WithDwell => Ok(None),
-        ReceiverKind::FlagAlone => Ok(Some(Compared::new(alloc, config, receivers)?)),
+    if config.kind.is_flag_alone() {
+        Ok(Some(Compared::new(alloc, config, receivers)?))
+    } else {
+        Ok(None)
     }
 }
 
@@ -111,7 +112,7 @@ pub(crate) fn make_room(compared: &mut Option<Compared>) -> Result<(), AllocErro
     ensures stands { (config : Config) (n : ℕ) (events : List Event) (views : List ShownView)
         → IsCompared config n events views compared.old → IsCompared config n events views compared.new }
     ensures alone { OnErr result ((config : Config) (n : ℕ) (events : List Event) (views : List ShownView)
-        → IsCompared config n events views compared.old → config.kind ≡ FlagAlone) }
+        → IsCompared config n events views compared.old → is_flag_alone config.kind ≡ true) }
 {
     match compared {
         Some(compared) => compared.airs.make_room(),

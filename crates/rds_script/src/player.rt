@@ -84,7 +84,7 @@ impl Player {
                     Ok(()) => Ok(()),
                     Err(why) => Err(RowRefused::NoRow(refused_cause(
                         why,
-                        self.config.premise,
+                        self.config.late,
                         slot,
                         watched.receivers(),
                         &event,

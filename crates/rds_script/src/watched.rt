@@ -1,6 +1,6 @@
 //! A world, and the changes of its receivers' views.
 ghost use Rattle.std.specs.Prelude.{◌≡◌, ◌≤◌, ◌<◌, ◌+◌, ◌*◌, ◌++◌, ◌∷◌, [], ℕ, IfErr, IfOk, OnErr, OnOk, length, map};
-ghost use Rattle.std.specs.Prelude.{slice_index_or};
+ghost use Rattle.std.specs.Prelude.{slice_index_or, true};
 ghost use Rattle.rds_safety.specs.Late.{Input};
 ghost use Rattle.rds_world.specs.declared.event.Reception.TheVariants.{Lost};
 ghost use Rattle.rds_world.specs.declared.event.TheConstants.{MOST_RECEIVERS};
@@ -9,7 +9,7 @@ ghost use Rattle.rds_world.specs.State.{distance};
 ghost use Rattle.rds_world.specs.Slots.{entries, input_of};
 ghost use Rattle.rds_world.specs.Replies.{CanBeTaken, IsStepRefused, reply_at};
 ghost use Rattle.rds_world.specs.WorldAt.{HasHeard, IsViewOfInput, WhereWorldStands, tuned_to};
-ghost use Rattle.rds_world.specs.declared.receiver_kind.ReceiverKind.TheVariants.{FlagAlone};
+ghost use Rattle.rds_world.specs.ReceiverKind.{is_flag_alone};
 ghost use Rattle.rds_view_lines.specs.KeptView.{view_kept};
 ghost use Rattle.rds_script.specs.Inside.Compared.{HasRoom};
 ghost use Rattle.rds_script.specs.Inside.Watched.{AreKept, WereShown};
@@ -90,7 +90,7 @@ impl Watched {
             WatchedStandsAt config receivers self.new events) }
         ensures views { views_kept self.new ≡ views_kept self.old }
         ensures memory { IfErr result (λ why. (why ≡ refused.Memory)
-            × WhereWatchedStands self.old (λ config _ _. config.kind ≡ FlagAlone)) }
+            × WhereWatchedStands self.old (λ config _ _. is_flag_alone config.kind ≡ true)) }
     {
         match make_room(&mut self.compared) {
             Ok(()) => Ok(()),
@@ -112,13 +112,13 @@ impl Watched {
         ensures stands { WhereWatchedStands self.old (λ config receivers events.
             OnOk result (WatchedStandsAt config receivers self.new (event.now ∷ events))) }
         ensures taken { WhereWatchedStands self.old (λ config receivers events.
-            OnOk result (CanBeTaken config.premise receivers event.now events)) }
+            OnOk result (CanBeTaken config receivers event.now events)) }
         ensures outcome { WhereWatchedStands self.old (λ config receivers events.
             OnOk result ((o : Outcome) × IsOutcome config event.now events o × (o.views ≡ views_kept self.new)
             × (lines.new ≡ lines.old ++ (slot_lines form config slot event.now events (views_kept self.old) o
             ++ compared_lines config slot (length o.views) event.now events (views_kept self.old) o.views)))) }
         ensures refused { WhereWatchedStands self.old (λ config receivers events.
-            IfErr result (IsStepRefused config.premise receivers event.now events)) }
+            IfErr result (IsStepRefused config receivers event.now events)) }
         ensures kept { OnErr result (self.new ≡ self.old) }
         ensures no_lines { OnErr result (lines.new ≡ lines.old) }
     {

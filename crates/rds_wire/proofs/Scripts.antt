@@ -19,7 +19,6 @@ use Rattle.rds_safety.specs.Plans.{AreLawful, Plans}
 use Rattle.rds_script.specs.Outcomes.{AreOutcomes, Outcome}
 use Rattle.rds_script.specs.Rows.{AreRows, Record, SaysCommand}
 use Rattle.rds_world.specs.Event.{Event}
-use Rattle.rds_world.specs.Premise.{Premise}
 use Rattle.rds_world.specs.Slots.{SetValues, SetsAValue, commanded, entries, log, plans_of, sent_at}
 use Rattle.rds_world.specs.State.{distance}
 use Rattle.rds_world.specs.Station.{SlotsOfAWorldAreSlots, TheEncoderIsLawful}
@@ -68,22 +67,22 @@ sets word argument (SetName x) says = subst IsName (sym says.1.padded) (name_giv
 sets word argument (SetTags pair) says = tt
 
 -- rows set values
-pub rows_set : (p : Premise) (n : ℕ) (records : List Record) (events : List Event) → AreRows p n records events
+pub rows_set : (config : Config) (n : ℕ) (records : List Record) (events : List Event) → AreRows config n records events
     → SetValues events
-rows_set p n [] [] are = tt
-rows_set p n [] (e ∷ older) are = absurd are
-rows_set p n (row ∷ before) [] are = absurd are
-rows_set p n (row ∷ before) (e ∷ older) are =
-    (sets are.0.word are.0.argument e.command are.0.command, rows_set p n before older are.2)
+rows_set config n [] [] are = tt
+rows_set config n [] (e ∷ older) are = absurd are
+rows_set config n (row ∷ before) [] are = absurd are
+rows_set config n (row ∷ before) (e ∷ older) are =
+    (sets are.0.word are.0.argument e.command are.0.command, rows_set config n before older are.2)
 
 -- rows without receptions name no receiver
-pub rows_name_none : (p : Premise) (n : ℕ) (records : List Record) (events : List Event) → n ≡ 0
-    → AreRows p n records events → HasNoReceivers events
-rows_name_none p n [] [] none are = tt
-rows_name_none p n [] (e ∷ older) none are = absurd are
-rows_name_none p n (row ∷ before) [] none are = absurd are
-rows_name_none p n (row ∷ before) (e ∷ older) none are =
-    (are.1.count ∙ none, rows_name_none p n before older none are.2)
+pub rows_name_none : (config : Config) (n : ℕ) (records : List Record) (events : List Event) → n ≡ 0
+    → AreRows config n records events → HasNoReceivers events
+rows_name_none config n [] [] none are = tt
+rows_name_none config n [] (e ∷ older) none are = absurd are
+rows_name_none config n (row ∷ before) [] none are = absurd are
+rows_name_none config n (row ∷ before) (e ∷ older) none are =
+    (are.1.count ∙ none, rows_name_none config n before older none are.2)
 
 -- ---- outcomes
 

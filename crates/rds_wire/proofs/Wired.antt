@@ -19,7 +19,6 @@ use Rattle.rds_safety.specs.OwnClock.{ListensByOwnClock}
 use Rattle.rds_safety.specs.Plans.{AreLawful}
 use Rattle.rds_safety.specs.Safe.{Listener}
 use Rattle.rds_world.specs.Event.{Event}
-use Rattle.rds_world.specs.Premise.{Premise}
 use Rattle.rds_world.specs.Slots.{plans_of}
 use Rattle.rds_world.specs.Slots.{log as log_of}
 use Rattle.rds_world.specs.Station.{SlotsOfAWorldAreSlots, TheEncoderIsLawful}
@@ -226,14 +225,14 @@ log_of_script encoder head m k script log is_head some encoded =
     let outcomes = encoded.write.write.outcomes in
     let are = encoded.write.write.are in
     let say = encoded.write.say in
-    let premise : Premise = record { late = k; window = None } in
-    let none = rows_name_none premise say.receivers encoded.records events say.allowed say.rows in
+    let config = station_of head m k in
+    let none = rows_name_none config say.receivers encoded.records events say.allowed say.rows in
     record {
       sent = groups_sent outcomes;
       cut = encoded_cut head m k events outcomes log is_head none are encoded.write.write.lines;
       heard = groups_are_heard (station_of head m k) events outcomes are;
       lawful = log_is_lawful encoder.lawful encoder.slots (m + k) events (omega (arith, some))
-          (rows_set premise say.receivers encoded.records events say.rows);
+          (rows_set config say.receivers encoded.records events say.rows);
     }
 
 -- the law of scripts

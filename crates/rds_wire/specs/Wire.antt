@@ -53,7 +53,7 @@ abbrev pub station_of : Head → ℕ → ℕ → Config
 station_of head m k = record {
   head = head;
   dwell = m;
-  premise = record { late = k; window = None };
+  late = k;
   kind = WithDwell;
 }
 

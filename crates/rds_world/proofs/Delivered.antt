@@ -2,7 +2,7 @@
 -- receiver
 -- of a station does.
 use Rattle.std.proofs.Common.{◌≡◌, ◌+◌, ◌-◌, ◌≤◌, ℕ, inl, inr, Bool, true, false, List, [], ◌∷◌, ◌++◌, length-append}
-use Rattle.std.proofs.Common.{Option, Some, None, refl, sym, ap, ◌∙◌, subst, arith, length}
+use Rattle.std.proofs.Common.{Option, Some, refl, sym, ap, ◌∙◌, subst, arith, length}
 use Rattle.std.specs.Prelude.{slice_index_or}
 use Rattle.rds_fields.specs.declared.head.Head.{Head}
 use Rattle.rds_fields.specs.declared.message.Message.{Message}
@@ -137,17 +137,10 @@ came_in_own d i (e ∷ recent) before gets s since (inl here) =
 
 -- the configuration of a world without a window
 abbrev plain : Head → ℕ → ℕ → Config
-plain head m k = record { head = head; dwell = m; premise = record { late = k; window = None }; kind = WithDwell }
+plain head m k = record { head = head; dwell = m; late = k; kind = WithDwell }
 
-is_plain : (config : Config) → config.premise.window ≡ None → config.kind ≡ WithDwell
-    → plain config.head config.dwell config.premise.late ≡ config
-is_plain config once kind = sym (λ i. record {
-  head = config.head;
-  dwell = config.dwell;
-  premise = record
-      { late = config.premise.late; window = once i };
-  kind = kind i;
-})
+is_plain : (config : Config) → config.kind ≡ WithDwell → plain config.head config.dwell config.late ≡ config
+is_plain config kind = sym (λ i. record { head = config.head; dwell = config.dwell; late = config.late; kind = kind i })
 
 module _ (head : Head) (m k : ℕ) (e : Event) (recent before : List Event) (view : ShownView)
     (gets : GotRecently (plain head m k) (e ∷ recent) before view) where
@@ -223,8 +216,8 @@ for_each : (plan : Plans → List Broadcast) (part : ShownView → Option (List 
     → ((head : Head) (m k : ℕ) → IsShownIn plan part recent before view b (plain head m k)) → (config : Config)
     → IsShownIn plan part recent before view b config
 for_each plan part recent before view b shown config gets lies =
-    subst (IsShownIn plan part recent before view b) (is_plain config gets.once gets.kind)
-    (shown config.head config.dwell config.premise.late) gets lies
+    subst (IsShownIn plan part recent before view b) (is_plain config gets.kind)
+    (shown config.head config.dwell config.late) gets lies
 
 -- a broadcast of texts has segments, so some slots are recent
 pub text_delivered : AStationDeliversAText → ATextIsDelivered

@@ -35,11 +35,11 @@ named_past i (e ∷ before) = by (slice_index_or e.receptions i Lost) (last_name
 pub one_more_sent : (config : Config) (sent : Option Message) (group : Option Group) (before : List (Option Message))
     (groups : List (Option Group)) → IsSent config.head sent group
     → AreLastSent config before groups
-    → AreLastSent config (sent ∷ before) (take (config.premise.late + 1) (group ∷ groups))
-one_more_sent config sent group before groups now kept back within = rw (get_or-take (config.premise.late + 1)
+    → AreLastSent config (sent ∷ before) (take (config.late + 1) (group ∷ groups))
+one_more_sent config sent group before groups now kept back within = rw (get_or-take (config.late + 1)
     (group ∷ groups) back None (omega (arith, within))) (by back within)
   where
-    by : (back : ℕ) → back ≤ config.premise.late
+    by : (back : ℕ) → back ≤ config.late
         → Hears config.head.pi (slice_index_or (group ∷ groups) back None) (sent_back back (sent ∷ before))
     by zero within = hears_sent config sent group now
     by (suc back) within = kept back (omega (arith, within))

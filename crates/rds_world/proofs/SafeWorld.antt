@@ -1,5 +1,6 @@
 -- Lemmas: the receivers of a world listen to its encoder, so their views are safe.
-use Rattle.std.proofs.Common.{◌≡◌, ◌+◌, ℕ, suc, List, [], ◌∷◌, Option, Some, None, refl, ◌∙◌, subst, arith, length}
+use Rattle.std.proofs.Common.{◌≡◌, ◌+◌, ℕ, suc, false, List, [], ◌∷◌, Option, Some, None, refl, ◌∙◌, subst, arith}
+use Rattle.std.proofs.Common.{length}
 use Rattle.std.specs.List.{All, AllByRecursion, AllZip}
 use Rattle.std.specs.Prelude.{slice_get}
 use Rattle.std.proofs.lemmas.List.Elements.{All-from_recursion}
@@ -8,12 +9,12 @@ use Rattle.rds_receiver.specs.OneView.{same_heard}
 use Rattle.rds_receiver.specs.Receipts.{Tuning}
 use Rattle.rds_receiver.specs.Shown.{IsView, ShowsView, ShownView}
 use Rattle.rds_receiver.specs.Confirmed.{counted_in}
-use Rattle.rds_world.specs.ReceiverKind.{dwell_of, window_of}
+use Rattle.rds_world.specs.ReceiverKind.{counted_input, dwell_of, is_flag_alone, lateness_in, own_window, window_of}
 use Rattle.rds_receiver.specs.State.{ReceiverState}
-use Rattle.rds_world.specs.declared.receiver_kind.ReceiverKind.TheVariants.{WithDwell}
+use Rattle.rds_world.specs.declared.receiver_kind.ReceiverKind.{ReceiverKind}
+use Rattle.rds_world.specs.declared.receiver_kind.ReceiverKind.TheVariants.{Confirming, FlagAlone, WithDwell}
 use Rattle.rds_world.specs.Due.{AreDue}
 use Rattle.rds_world.specs.Event.{Event}
-use Rattle.rds_world.specs.Premise.{counted_input, lateness_in}
 use Rattle.rds_safety.specs.Late.{Input}
 use Rattle.rds_safety.specs.Laws.{LawfulPlansAreSafe}
 use Rattle.rds_safety.specs.OwnClock.{next_slot}
@@ -32,29 +33,39 @@ use Rattle.rds_world.proofs.NoneWrong.{each_is_late, keeps_premise}
 use Rattle.rds_world.proofs.WorldSlots.{events_are_lawful}
 use Rattle.rds_world.proofs.InTime.{in_time, input_reaches}
 
--- receivers with the dwell are tuned to that of the station, and to its window
-tuned_alike : (config : Config) (input : Input) → config.kind ≡ WithDwell
+-- receivers with the dwell have that of the station, and its window
+own_dwell : (kind : ReceiverKind) (m : ℕ) → is_flag_alone kind ≡ false → dwell_of kind m ≡ m
+own_dwell WithDwell m has = refl
+own_dwell (Confirming w) m has = refl
+own_dwell (FlagAlone window) m has = absurd (cc)
+
+same_window : (kind : ReceiverKind) → is_flag_alone kind ≡ false → own_window kind ≡ window_of kind
+same_window WithDwell has = refl
+same_window (Confirming w) has = refl
+same_window (FlagAlone window) has = absurd (cc)
+
+tuned_alike : (config : Config) (input : Input) → is_flag_alone config.kind ≡ false
     → tuned_to config input ≡ record {
       programme = config.head.pi;
       dwell = config.dwell;
-      window = config.premise.window;
+      window = window_of config.kind;
       first = input.first;
     }
-tuned_alike config input kind = λ i. record {
+tuned_alike config input has = λ i. record {
   programme = config.head.pi;
-  dwell = dwell_of (kind i) config.dwell;
-  window = window_of (kind i) config.premise.window;
+  dwell = own_dwell config.kind config.dwell has i;
+  window = same_window config.kind has i;
   first = input.first;
 }
 
 -- the view of a receiver is that of what counts of its input
-pub shows_view : (config : Config) (input : Input) (r : ReceiverState) (view : ShownView) → config.kind ≡ WithDwell
+pub shows_view : (config : Config) (input : Input) (r : ReceiverState) (view : ShownView) → is_flag_alone config.kind ≡ false
     → HasHeard config input r → ReceiverShows r view
-    → ShowsView config.dwell input.first (counted_in config.premise.window config.dwell input.first input.heard) view
+    → ShowsView config.dwell input.first (counted_in (window_of config.kind) config.dwell input.first input.heard) view
 shows_view config input r view kind has shows =
     let v = subst (λ (t : Tuning). IsView t has.groups view) (tuned_alike config input kind)
     (shows (tuned_to config input) has.groups has.stands) in
-    subst (λ (heard : List (Option Message)). ShowsView config.dwell input.first (counted_in config.premise.window
+    subst (λ (heard : List (Option Message)). ShowsView config.dwell input.first (counted_in (window_of config.kind)
     config.dwell input.first heard) view)
     (same_heard config.head.pi has.groups v.0 input.heard v.1 has.spelled) v.2
 
@@ -79,24 +90,24 @@ listens_in (Some w) k m t log input view heard keeps now shows = record {
 }
 
 pub listens : (config : Config) (e : Event) (before : List Event) (i : ℕ) (r : ReceiverState) (view : ShownView)
-    → config.kind ≡ WithDwell → AreDue config.premise.late (e ∷ before) → AreFit config.premise.window (e ∷ before)
+    → is_flag_alone config.kind ≡ false → AreDue config.late (e ∷ before) → AreFit (window_of config.kind) (e ∷ before)
     → HasHeard config (input_of (distance config) i (e ∷ before)) r → ReceiverShows r view
-    → ListensIn config.premise.window config.premise.late config.dwell (length before)
+    → ListensIn (window_of config.kind) config.late config.dwell (length before)
     (log (distance config) (e ∷ before)) record { input = input_that_counts config i (e ∷ before); view = view }
 listens config e before i r view kind due fit has shows =
     let input = input_of (distance config) i (e ∷ before) in
-    listens_in config.premise.window config.premise.late config.dwell (length before)
+    listens_in (window_of config.kind) config.late config.dwell (length before)
     (log (distance config) (e ∷ before)) input view
-    (in_time (distance config) config.premise.late i (e ∷ before) due) (keeps_premise (distance config) i
-    config.premise.window (e ∷ before) fit) (input_reaches (distance config) i (e ∷ before) ∙ omega arith)
+    (in_time (distance config) config.late i (e ∷ before) due) (keeps_premise (distance config) i
+    (window_of config.kind) (e ∷ before) fit) (input_reaches (distance config) i (e ∷ before) ∙ omega arith)
     (shows_view config input r view kind has shows)
 
 all_listen : (config : Config) (e : Event) (before : List Event) (i : ℕ) (receivers : List ReceiverState)
-    (views : List ShownView) → config.kind ≡ WithDwell → AreDue config.premise.late (e ∷ before)
-    → AreFit config.premise.window (e ∷ before)
+    (views : List ShownView) → is_flag_alone config.kind ≡ false → AreDue config.late (e ∷ before)
+    → AreFit (window_of config.kind) (e ∷ before)
     → ((n : ℕ) (r : ReceiverState) → slice_get receivers n ≡ Some r
     → HasHeard config (input_of (distance config) (i + n) (e ∷ before)) r) → AllZip ReceiverShows receivers views
-    → AllByRecursion (ListensIn config.premise.window config.premise.late config.dwell (length before)
+    → AllByRecursion (ListensIn (window_of config.kind) config.late config.dwell (length before)
     (log (distance config) (e ∷ before))) (listeners config (e ∷ before) i views)
 all_listen config e before i [] [] kind due fit has shows = tt
 all_listen config e before i [] (view ∷ views) kind due fit has shows = absurd shows
@@ -128,12 +139,12 @@ safe_world lawful safe twice config w (e ∷ before) st = λ kind views shows.
     let events = e ∷ before in
     let d = distance config in
     let some = st.lasts in
-    let p = config.premise in
-    let all : AllByRecursion (ListensIn p.window p.late config.dwell (length before) (log d events))
+    let window = window_of config.kind in
+    let all : AllByRecursion (ListensIn window config.late config.dwell (length before) (log d events))
     (listeners config events 0 views) =
     all_listen config e before 0 w.receivers views kind st.due st.fit
     (λ n r at. (let same : n ≡ 0 + n = omega arith in subst (λ i. HasHeard config (input_of d i events) r) same
     (st.receivers.each n r at))) shows in
-    safe_in safe twice p.window p.late config.dwell (length before) (plans_of d events) (log d events)
+    safe_in safe twice window config.late config.dwell (length before) (plans_of d events) (log d events)
     (listeners config events 0 views) (events_are_lawful lawful d events (omega (arith, some)) st.values)
     (All-from_recursion _ (listeners config events 0 views) all)

@@ -15,6 +15,7 @@ use Rattle.rds_world.specs.Due.{IsDueToAll}
 use Rattle.rds_world.specs.Event.{Event}
 use Rattle.rds_world.specs.Slots.{SetsAValue, entries, input_of, log, received}
 use Rattle.rds_world.specs.WorldAt.{AllHaveHeard, AreLastSent, HavePasts, HaveReaches, IsViewOfInput, ReceiverShows}
+use Rattle.rds_world.specs.ReceiverKind.{window_of}
 use Rattle.rds_world.specs.WorldAt.{ShowsStill, WorldAt, tuned_to}
 use Rattle.rds_world.specs.State.{WorldState, distance}
 use Rattle.rds_world.specs.Wrong.{IsFitToAll}
@@ -35,12 +36,12 @@ by_own config w events st = subst (λ (c : Config). WorldAt c w events) (sym st.
 -- the encoder and the receivers took the slot
 pub stepped : (config : Config) (old new : WorldState) (events : List Event) (e : Event) → WorldAt config old events
     → new.config ≡ old.config
-    → SetsAValue e.command → IsDueToAll old.config.premise.late e events → IsFitToAll old.config.premise.window e events
+    → SetsAValue e.command → IsDueToAll old.config.late e events → IsFitToAll (window_of old.config.kind) e events
     → EncoderAt old.config.head (distance old.config) new.encoder (entries (e ∷ events))
     → AllHaveHeard old.config (λ i. received (slice_index_or e.receptions i Lost) (length events)
     (log (distance old.config) (e ∷ events)) (input_of (distance old.config) i events)) new.receivers
-    → HaveReaches old.config.premise.late (e ∷ events) new.reaches
-    → HavePasts old.config.premise.window (e ∷ events) new.pasts
+    → HaveReaches old.config.late (e ∷ events) new.reaches
+    → HavePasts (window_of old.config.kind) (e ∷ events) new.pasts
     → AreLastSent old.config (log (distance old.config) (e ∷ events)) new.sent
     → ((i : ℕ) → slice_index_or new.stays i false ≡ true → ShowsStill old.config i (e ∷ events))
     → WorldAt config new (e ∷ events)

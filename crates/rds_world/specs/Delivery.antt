@@ -2,7 +2,7 @@
 -- some slots of a broadcast, enough of them and at most M slots, shows that broadcast. The laws about a world are cases
 -- of those about a station. Lists have the newest first.
 use Rattle.std.specs.Prelude.{◌≡◌, ◌+◌, ◌-◌, ◌*◌, ◌<◌, ◌≤◌, [], ◌∷◌, ◌++◌}
-use Rattle.std.specs.Prelude.{ℕ, Bool, true, false, List, None, Some, length, slice_get, slice_index_or}
+use Rattle.std.specs.Prelude.{ℕ, Bool, true, false, List, Some, length, slice_get, slice_index_or}
 use Rattle.std.specs.List.{AllByRecursion}
 use Rattle.rds_assembly.specs.Body.{segment_count, text_body}
 use Rattle.rds_encoder.specs.Delivery.{free_in}
@@ -54,7 +54,6 @@ pub record LieIn (plan : List Broadcast) (recent before : List Event) (b : Broad
 -- in a world of receivers with the dwell and without a window, which stands at the slots before and the recent ones, a
 -- receiver got on time each free one of the recent slots, at most M, and shows this view
 pub record GotRecently (config : Config) (recent before : List Event) (view : ShownView) : Type 0 where
-  pub once : config.premise.window ≡ None
   pub kind : config.kind ≡ WithDwell
   pub world : WorldState
   pub stands : WorldAt config world (recent ++ before)

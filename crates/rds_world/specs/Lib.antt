@@ -2,7 +2,6 @@
 -- a world, Station and ConfirmedStation those of a station with any number of sets in a slot, and FlagStation those of
 -- such a station to receivers with the flag bit alone.
 pub mod Event
-pub mod Premise
 pub mod ReceiverKind
 pub mod Due
 pub mod Wrong

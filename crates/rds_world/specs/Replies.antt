@@ -18,8 +18,9 @@ use Rattle.rds_world.specs.declared.slots.PlayRefused.TheVariants.{TooManyReceiv
 use Rattle.rds_world.specs.declared.slots.PlayRefused.TheVariants.{WrongConfirmed}
 use Rattle.rds_world.specs.Due.{IsDueToAll, IsFirstLate}
 use Rattle.rds_world.specs.Event.{Event}
-use Rattle.rds_world.specs.Premise.{Premise}
+use Rattle.rds_world.specs.ReceiverKind.{window_of}
 use Rattle.rds_world.specs.Wrong.{IsFirstWrong, IsFitToAll}
+use Rattle.rds_world.specs.declared.world.Config.{Config}
 
 -- the encoder's reply as the reply of the world
 abbrev pub answered : encoder.Reply → Reply
@@ -36,10 +37,10 @@ reply_at d (SetTags pair) before = answered (tags_reply d pair before)
 
 -- the slot can be taken after those before: it has one reception for each receiver, each is due, and each keeps the
 -- premise about wrong groups
-pub record CanBeTaken (p : Premise) (receivers : ℕ) (e : Event) (before : List Event) : Type 0 where
+pub record CanBeTaken (config : Config) (receivers : ℕ) (e : Event) (before : List Event) : Type 0 where
   pub count : length e.receptions ≡ receivers
-  pub due : IsDueToAll p.late e before
-  pub fit : IsFitToAll p.window e before
+  pub due : IsDueToAll config.late e before
+  pub fit : IsFitToAll (window_of config.kind) e before
 
 -- the slot has one reception for each receiver, and r is the first receiver whose reception is not due
 pub record IsLateTo (k receivers : ℕ) (e : Event) (before : List Event) (r : ℕ) : Type 0 where
@@ -55,42 +56,46 @@ IsUnfit window e before (step.Wrong r) = (window ≡ None) × IsFirstWrong windo
 IsUnfit window e before (step.WrongConfirmed r) = IsSome window × IsFirstWrong window e before r
 
 -- the slot has one reception for each receiver, each is due, and this is why it breaks the premise about wrong groups
-pub record IsWrong (p : Premise) (receivers : ℕ) (e : Event) (before : List Event) (why : StepRefused) : Type 0 where
+pub record IsWrong (config : Config) (receivers : ℕ) (e : Event) (before : List Event) (why : StepRefused)
+    : Type 0 where
   pub count : length e.receptions ≡ receivers
-  pub due : IsDueToAll p.late e before
-  pub unfit : IsUnfit p.window e before why
+  pub due : IsDueToAll config.late e before
+  pub unfit : IsUnfit (window_of config.kind) e before why
 
 -- why a slot is refused after those before
-abbrev pub IsStepRefused : Premise → ℕ → Event → List Event → StepRefused → Type 0
-IsStepRefused p receivers e before step.ReceiverCount = length e.receptions ≢ receivers
-IsStepRefused p receivers e before (step.Late r) = IsLateTo p.late receivers e before r
-IsStepRefused p receivers e before (step.Wrong r) = IsWrong p receivers e before (step.Wrong r)
-IsStepRefused p receivers e before (step.WrongConfirmed r) = IsWrong p receivers e before (step.WrongConfirmed r)
+abbrev pub IsStepRefused : Config → ℕ → Event → List Event → StepRefused → Type 0
+IsStepRefused config receivers e before step.ReceiverCount = length e.receptions ≢ receivers
+IsStepRefused config receivers e before (step.Late r) = IsLateTo config.late receivers e before r
+IsStepRefused config receivers e before (step.Wrong r) = IsWrong config receivers e before (step.Wrong r)
+IsStepRefused config receivers e before (step.WrongConfirmed r) =
+    IsWrong config receivers e before (step.WrongConfirmed r)
 
 -- the event at this place can be taken after those before it; the oldest event is the first of this list
-abbrev pub IsTaken : Premise → ℕ → List Event → ℕ → Type 0
-IsTaken p receivers events place =
-    IfSome (slice_get events place) (λ e. CanBeTaken p receivers e (reverse (take place events)))
+abbrev pub IsTaken : Config → ℕ → List Event → ℕ → Type 0
+IsTaken config receivers events place =
+    IfSome (slice_get events place) (λ e. CanBeTaken config receivers e (reverse (take place events)))
 
 -- the slots can be played: there are at most eight receivers, and each slot can be taken
-pub record CanBePlayed (p : Premise) (receivers : ℕ) (events : List Event) : Type 0 where
+pub record CanBePlayed (config : Config) (receivers : ℕ) (events : List Event) : Type 0 where
   pub few : receivers ≤ MOST_RECEIVERS
-  pub each : (place : ℕ) → place < length events → IsTaken p receivers events place
+  pub each : (place : ℕ) → place < length events → IsTaken config receivers events place
 
 -- there are at most eight receivers, the event at this place is the first that is refused, and this is why
-pub record IsFirstRefused (p : Premise) (receivers : ℕ) (events : List Event) (place : ℕ) (why : StepRefused)
+pub record IsFirstRefused (config : Config) (receivers : ℕ) (events : List Event) (place : ℕ) (why : StepRefused)
     : Type 0 where
   pub few : receivers ≤ MOST_RECEIVERS
-  pub refused : IfSome (slice_get events place) (λ e. IsStepRefused p receivers e (reverse (take place events)) why)
+  pub refused : IfSome (slice_get events place)
+      (λ e. IsStepRefused config receivers e (reverse (take place events)) why)
   pub there : place < length events
-  pub first : (before : ℕ) → before < place → IsTaken p receivers events before
+  pub first : (before : ℕ) → before < place → IsTaken config receivers events before
 
 -- why slots cannot be played: for too many receivers exactly if there are more than eight
-abbrev pub IsPlayRefused : Premise → ℕ → List Event → PlayRefused → Type 0
-IsPlayRefused p receivers events TooManyReceivers = MOST_RECEIVERS < receivers
-IsPlayRefused p receivers events Memory = receivers ≤ MOST_RECEIVERS
-IsPlayRefused p receivers events (ReceiverCount place) = IsFirstRefused p receivers events place step.ReceiverCount
-IsPlayRefused p receivers events (Late place r) = IsFirstRefused p receivers events place (step.Late r)
-IsPlayRefused p receivers events (Wrong place r) = IsFirstRefused p receivers events place (step.Wrong r)
-IsPlayRefused p receivers events (WrongConfirmed place r) =
-    IsFirstRefused p receivers events place (step.WrongConfirmed r)
+abbrev pub IsPlayRefused : Config → ℕ → List Event → PlayRefused → Type 0
+IsPlayRefused config receivers events TooManyReceivers = MOST_RECEIVERS < receivers
+IsPlayRefused config receivers events Memory = receivers ≤ MOST_RECEIVERS
+IsPlayRefused config receivers events (ReceiverCount place) =
+    IsFirstRefused config receivers events place step.ReceiverCount
+IsPlayRefused config receivers events (Late place r) = IsFirstRefused config receivers events place (step.Late r)
+IsPlayRefused config receivers events (Wrong place r) = IsFirstRefused config receivers events place (step.Wrong r)
+IsPlayRefused config receivers events (WrongConfirmed place r) =
+    IsFirstRefused config receivers events place (step.WrongConfirmed r)

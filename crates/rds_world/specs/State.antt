@@ -6,14 +6,14 @@ use Rattle.circular_buffer.specs.Buffer.{Buffer}
 use Rattle.rds_block.specs.declared.group.Group.{Group}
 use Rattle.rds_fields.specs.declared.message.Message.{Message}
 use Rattle.rds_encoder.specs.State.{EncoderState}
-use Rattle.rds_world.specs.Premise.{lateness}
+use Rattle.rds_world.specs.ReceiverKind.{lateness_of}
 use Rattle.rds_receiver.specs.State.{ReceiverState}
 use Rattle.rds_world.specs.declared.world.Config.{Config}
 
 -- the spacing d of the station, in slots: the dwell M plus the lateness of what counts. It is M + K, and M + K + W - 1
 -- with a window of W slots
 abbrev pub distance : Config → ℕ
-distance config = config.dwell + lateness config.premise
+distance config = config.dwell + lateness_of config.kind config.late
 
 pub record WorldState : Type 0 where
   pub config : Config

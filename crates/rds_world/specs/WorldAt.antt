@@ -10,7 +10,7 @@ use Rattle.rds_receiver.specs.Shown.{IsView, ShownView}
 use Rattle.rds_receiver.specs.ReceiverAt.{ReceiverAt, WhereReceiverStands}
 use Rattle.rds_world.specs.declared.event.Reception.{Reception}
 use Rattle.rds_world.specs.declared.event.Reception.TheVariants.{Lost}
-use Rattle.rds_world.specs.ReceiverKind.{dwell_of, window_of}
+use Rattle.rds_world.specs.ReceiverKind.{dwell_of, own_window, window_of}
 use Rattle.rds_receiver.specs.State.{ReceiverState}
 use Rattle.rds_world.specs.Due.{AreDue, IsDue, last_named, reach_of}
 use Rattle.rds_world.specs.Event.{Event}
@@ -26,7 +26,7 @@ abbrev pub tuned_to : Config → Input → Tuning
 tuned_to config input = record {
   programme = config.head.pi;
   dwell = dwell_of config.kind config.dwell;
-  window = window_of config.kind config.premise.window;
+  window = own_window config.kind;
   first = input.first;
 }
 
@@ -50,7 +50,7 @@ pub record AllHaveHeard (config : Config) (inputs : ℕ → Input) (receivers : 
 -- log from them
 abbrev pub AreLastSent : Config → List (Option Message) → List (Option Group) → Type 0
 AreLastSent config sent groups =
-    (back : ℕ) → back ≤ config.premise.late
+    (back : ℕ) → back ≤ config.late
     → Hears config.head.pi (slice_index_or groups back None) (sent_back back sent)
 
 -- the inputs of all receivers after one more slot, with the log up to this slot
@@ -63,7 +63,7 @@ abbrev pub WhereTheyListen : Config → List Reception → List (Option Group) �
     → (ℕ → List (Option Message) → (ℕ → Input) → Type 0) → Type 0
 WhereTheyListen config receptions kept receivers Holds =
     (slot : ℕ) (sent : List (Option Message)) (inputs : ℕ → Input) (last : ℕ → Option ℕ) → AreLastSent config sent kept
-    → ((i : ℕ) → IsDue config.premise.late slot (last i) (slice_index_or receptions i Lost))
+    → ((i : ℕ) → IsDue config.late slot (last i) (slice_index_or receptions i Lost))
     → AllHaveHeard config inputs receivers → Holds slot sent inputs
 
 -- each receiver has the reach that follows from the slots
@@ -97,12 +97,12 @@ pub record WorldAt (config : Config) (w : WorldState) (events : List Event) : Ty
   pub is_set : w.config ≡ config
   pub lasts : 0 < config.dwell
   pub values : SetValues events
-  pub due : AreDue config.premise.late events
-  pub fit : AreFit config.premise.window events
+  pub due : AreDue config.late events
+  pub fit : AreFit (window_of config.kind) events
   pub encoder : EncoderAt config.head (distance config) w.encoder (entries events)
   pub receivers : AllHaveHeard config (λ i. input_of (distance config) i events) w.receivers
-  pub reaches : HaveReaches config.premise.late events w.reaches
-  pub pasts : HavePasts config.premise.window events w.pasts
+  pub reaches : HaveReaches config.late events w.reaches
+  pub pasts : HavePasts (window_of config.kind) events w.pasts
   pub sent : AreLastSent config (log (distance config) events) w.sent
   pub stay : (i : ℕ) → slice_index_or w.stays i false ≡ true → ShowsStill config i events
 

@@ -7,7 +7,6 @@
 
 mod event;
 mod past;
-mod premise;
 mod reach;
 mod receiver_kind;
 mod receivers;
@@ -19,7 +18,6 @@ mod station_laws;
 mod world;
 
 pub use event::{Command, MOST_RECEIVERS, Reception, SlotEvent};
-pub use premise::Premise;
 pub use receiver_kind::ReceiverKind;
 pub use reply::{Answer, Reply, StepRefused, WorldRefused};
 pub use slots::{PlayRefused, play};

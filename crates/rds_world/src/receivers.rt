@@ -41,9 +41,8 @@ fn new_receiver(config: &Config) -> Receiver
     ensures new { HeardNothing config.now result }
     ensures some { 0 < config.now.dwell }
 {
-    let kind = config.kind;
-    let dwell = kind.dwell(config.dwell);
-    Receiver::tuned(config.head.pi, dwell, kind.window(config.premise.window()))
+    let dwell = config.kind.dwell(config.dwell);
+    Receiver::tuned(config.head.pi, dwell, config.kind.own_window())
 }
 
 /// Which receivers show what they showed before a slot.
@@ -111,12 +110,12 @@ fn receive(
     requires { newest.now ≡ slice_index_or recent.now.items 0 None }
     ensures heard { (slot : ℕ) (sent : List (Option Message)) (input : Input) (last : Option ℕ)
         → AreLastSent config.now sent recent.now.items
-        → IsDue config.now.premise.late slot last reception
+        → IsDue config.now.late slot last reception
         → HasHeard config.now input receiver.old
         → HasHeard config.now (received reception slot sent input) receiver.new }
     ensures stays { (slot : ℕ) (sent : List (Option Message)) (input : Input) (last : Option ℕ)
         → AreLastSent config.now sent recent.now.items
-        → IsDue config.now.premise.late slot last reception
+        → IsDue config.now.late slot last reception
         → HasHeard config.now input receiver.old → IsTrue result
         → StaysShown config.now input (received reception slot sent input) }
 {

@@ -51,8 +51,8 @@ pub fn play(
     ensures count { IfOk result (λ w. length w.receivers ≡ receivers) }
     ensures safe { IfOk result (λ w.
         OnlyWhatWasOnAirIsShown config (reverse events.now) w.receivers) }
-    ensures taken { IsOk result → CanBePlayed config.premise receivers events.now }
-    ensures refused { IfErr result (IsPlayRefused config.premise receivers events.now) }
+    ensures taken { IsOk result → CanBePlayed config receivers events.now }
+    ensures refused { IfErr result (IsPlayRefused config receivers events.now) }
 {
     let mut world = match World::new(alloc, config, receivers) {
         Ok(world) => world,

@@ -9,13 +9,13 @@ ghost use Rattle.rds_world.specs.State.{distance};
 use crate::{Command, Config, Reply};
 use rds_encoder::{Encoder, Refusal};
 
-/// Makes the encoder at a restart: its spacing is the dwell plus the lateness of what counts.
+/// Makes the encoder at a restart.
 pub(crate) fn new_encoder(config: &Config) -> Encoder
     ensures first { EncoderAt config.now.head (distance config.now) result [] }
     ensures again { (entries : List Entry)
         → EncoderAt config.now.head (distance config.now) result (Restart ∷ entries) }
 {
-    Encoder::new(config.head, config.dwell, config.premise.lateness())
+    Encoder::spaced(config.head, config.distance())
 }
 
 /// Gives the command to the encoder and returns the reply.

@@ -20,24 +20,34 @@ use crate::receivers::{Stays, eight_receivers, hand_out};
 use crate::recent::Recent;
 use crate::station::{new_encoder, obey};
 use crate::{
-    Answer, MOST_RECEIVERS, Premise, ReceiverKind, SlotEvent, StepRefused, WorldRefused,
+    Answer, MOST_RECEIVERS, ReceiverKind, SlotEvent, StepRefused, WorldRefused,
     only_what_was_on_air_is_shown,
 };
 use rds_block::Blocks;
 use rds_encoder::Encoder;
-use rds_fields::{Dwell, Head};
+use rds_fields::{Distance, Dwell, Head, Late};
 use rds_receiver::{Receiver, View};
 use std::alloc::Global;
 use std::marker::Model;
 
 /// The configuration of a world: the head of each group that the station sends, the dwell M of the receivers that it
-/// serves, in slots, how groups may reach them, and which kind of receivers listens.
+/// serves, the lateness K of their groups, and which kind of receivers listens.
 #[derive(Clone, Copy)]
 pub struct Config {
     pub head: Head,
     pub dwell: Dwell,
-    pub premise: Premise,
+    pub late: Late,
     pub kind: ReceiverKind,
+}
+
+impl Config {
+    /// Returns the spacing d of the station: M + K slots, and M + K + W - 1 with a window of W slots.
+    pub fn distance(&self) -> Distance
+        ensures { result ≡ distance self.now }
+    {
+        let late = u32::from(self.kind.lateness(self.late));
+        Distance::restore(u32::from(self.dwell.get()) + late)
+    }
 }
 
 /// One encoder and up to eight receivers of its programme.
@@ -78,7 +88,7 @@ impl Model for World {
     } };
 
     ghost invariant = { λ w. (w.count ≤ MOST_RECEIVERS) × (length w.receivers ≡ MOST_RECEIVERS)
-        × (length w.reaches ≡ MOST_RECEIVERS) × (w.recent.capacity ≡ w.config.premise.late + 1)
+        × (length w.reaches ≡ MOST_RECEIVERS) × (w.recent.capacity ≡ w.config.late + 1)
         × (length w.pasts.items ≡ w.count)
         × (w.stays.all ≡ true → (i : ℕ) → i < w.count → slice_index_or w.stays.each i false ≡ true) };
 }
@@ -97,10 +107,10 @@ impl World {
         if receivers > MOST_RECEIVERS {
             return Err(WorldRefused::TooManyReceivers);
         }
-        let Ok(recent) = Recent::new(alloc, config.premise.late()) else {
+        let Ok(recent) = Recent::new(alloc, config.late) else {
             return Err(WorldRefused::Memory);
         };
-        let Ok(pasts) = new_pasts(alloc, config.premise.window(), receivers) else {
+        let Ok(pasts) = new_pasts(alloc, config.kind.window(), receivers) else {
             return Err(WorldRefused::Memory);
         };
         Ok(World {
@@ -125,8 +135,8 @@ impl World {
         ensures counted { IsErrOf result StepRefused.ReceiverCount
             ↔ (length event.now.receptions ≢ length self.old.receivers) }
         ensures refused { WhereWorldStands self.old (λ config events. MatchResult result
-            (λ _. CanBeTaken config.premise (length self.old.receivers) event.now events)
-            (IsStepRefused config.premise (length self.old.receivers) event.now events)) }
+            (λ _. CanBeTaken config (length self.old.receivers) event.now events)
+            (IsStepRefused config (length self.old.receivers) event.now events)) }
         ensures kept { OnErr result (self.new ≡ self.old) }
         ensures count { length self.new.receivers ≡ length self.old.receivers }
         ensures reply { WhereWorldStands self.old (λ config events. IfOk result (λ answer.
@@ -144,15 +154,11 @@ impl World {
         if receptions.len() != self.count {
             return Err(StepRefused::ReceiverCount);
         }
-        let reaches = match reaches_after(
-            &self.reaches[..self.count],
-            self.config.premise.late(),
-            event,
-        ) {
+        let reaches = match reaches_after(&self.reaches[..self.count], self.config.late, event) {
             Ok(reaches) => reaches,
             Err(receiver) => return Err(StepRefused::Late(receiver)),
         };
-        check_wrong(self.pasts.as_slice(), self.config.premise.window(), event)?;
+        check_wrong(self.pasts.as_slice(), self.config.kind.window(), event)?;
         let reply = obey(&mut self.encoder, &self.config, &event.command);
         let sent = self.encoder.tick(event.free);
         // Prover: a `Copy` value is copied by a new name before its second use (docs/PROVER.md, "Workarounds").
@@ -165,11 +171,7 @@ impl World {
             &self.recent,
         );
         self.reaches = reaches;
-        note_wrong(
-            self.pasts.as_mut_slice(),
-            self.config.premise.window(),
-            event,
-        );
+        note_wrong(self.pasts.as_mut_slice(), self.config.kind.window(), event);
         Ok(Answer { reply, sent })
     }
 

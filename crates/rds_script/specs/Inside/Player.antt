@@ -6,7 +6,7 @@ use Rattle.csv.specs.Reading.{Ready, default_config, is_flexible, reader_config,
 use Rattle.csv.specs.declared.reader.Trim.TheVariants.{None as untrimmed}
 use Rattle.rds_io.specs.Told.{Traffic}
 use Rattle.rds_io.specs.Waits.{Waits}
-use Rattle.rds_world.specs.declared.receiver_kind.ReceiverKind.TheVariants.{FlagAlone}
+use Rattle.rds_world.specs.ReceiverKind.{is_flag_alone}
 use Rattle.rds_world.specs.declared.world.Config.{Config}
 use Rattle.rds_world.specs.Event.{Event}
 use Rattle.rds_script.specs.Inside.FailureFlag.{asked_bytes}
@@ -76,7 +76,7 @@ pub record PlayerStandsAt (p : Player) (played : Played) : Type 0 where
   pub config_is : p.config ≡ played.config
   pub allowed : IsAllowed played.form played.receivers
   pub events : List Event
-  pub rows : AreRows played.config.premise played.receivers played.records events
+  pub rows : AreRows played.config played.receivers played.records events
   pub outcomes : List Outcome
   pub are : AreOutcomes played.config events outcomes
   pub slot : p.slot ≡ length outcomes
@@ -107,19 +107,19 @@ IsBegun config receivers (Some before) w =
 -- there was no world, or its receivers are radios with the flag bit alone
 abbrev pub IsFirstOrAlone : Option Watched → Type 0
 IsFirstOrAlone None = Unit {0}
-IsFirstOrAlone (Some before) = WhereWatchedStands before (λ config n events. config.kind ≡ FlagAlone)
+IsFirstOrAlone (Some before) = WhereWatchedStands before (λ config n events. is_flag_alone config.kind ≡ true)
 
 -- the reason why a record is not played after these: they are not all rows; or there is no memory: for a world, if it
 -- is the first, or for what was on air, if the receivers are radios with the flag bit alone
 abbrev pub IsRowRefused : Played → Record → RowRefused → Type 0
-IsRowRefused played row (NoRow cause) = AreNoRows played.config.premise played.form (row ∷ played.records)
-IsRowRefused played row refused.Memory = (length played.records ≡ 0) ⊎ (played.config.kind ≡ FlagAlone)
+IsRowRefused played row (NoRow cause) = AreNoRows played.config played.form (row ∷ played.records)
+IsRowRefused played row refused.Memory = (length played.records ≡ 0) ⊎ (is_flag_alone played.config.kind ≡ true)
 
 -- after the records that were played, this one, which is number n, is not a row
 pub record IsBadRecord (known : Option (List ℕ)) (played : Played) (row : Record) (number n : ℕ) : Type 0 where
   pub number_is : n ≡ number
   pub begins : HasRecords known (row ∷ played.records)
-  pub none : AreNoRows played.config.premise played.form (row ∷ played.records)
+  pub none : AreNoRows played.config played.form (row ∷ played.records)
 
 -- the next record of a script: true if it is a row and the player played it, false if the script has no more records.
 -- It has this number; ReadFailed says that a read of the reader failed

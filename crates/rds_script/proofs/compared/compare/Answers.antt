@@ -1,6 +1,5 @@
-use Rattle.std.proofs.Common.{◌∙◌, ◌∷◌, ◌++◌, [], Option, ap, length, map, subst, sym}
+use Rattle.std.proofs.Common.{◌∙◌, ◌∷◌, ◌++◌, [], Bool, Option, ap, length, map, subst, sym}
 use Rattle.rds_view_lines.specs.KeptView.{view_kept}
-use Rattle.rds_world.specs.declared.receiver_kind.ReceiverKind.{ReceiverKind}
 use Rattle.rds_script.specs.Inside.Compared.{IsCompared}
 use Rattle.rds_script.specs.Outcomes.{air_lines, if_alone}
 use Rattle.rds_script.specs.declared.compared.Compared.{Compared}
@@ -13,6 +12,6 @@ returns-in-Some c config (e ∷ before) st = λ views were are is.
     let had = subst (λ (o : Option Compared). IsCompared config n before views o) c.in-Some.is is in
     let goes = c.push.ensures.goes_on config (e ∷ before) st views were are had.1 in (
       (had.0, goes.0),
-      goes.1 ∙ ap (λ (k : ReceiverKind). c.args.lines.now
-          ++ if_alone k (air_lines config c.args.slot n e before views (map view_kept c.args.shown.now))) (sym had.0),
+      goes.1 ∙ ap (λ (alone : Bool). c.args.lines.now
+          ++ if_alone alone (air_lines config c.args.slot n e before views (map view_kept c.args.shown.now))) (sym had.0),
     )

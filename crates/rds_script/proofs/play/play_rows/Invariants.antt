@@ -1,4 +1,4 @@
-use Rattle.std.proofs.Common.{◌≡◌, ◌+◌, ◌≤◌, [], List, None, length}
+use Rattle.std.proofs.Common.{◌≡◌, ◌+◌, ◌≤◌, [], List, length}
 use Rattle.rds_io.specs.Told.{traffic}
 use Rattle.std.specs.Prelude.{ℕ, Option}
 use Rattle.rds_script.specs.declared.play.Playing.{Playing}

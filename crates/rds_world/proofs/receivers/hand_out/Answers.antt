@@ -60,7 +60,7 @@ loop-i-preserved c =
             let old : HasHeard config (inputs i) c.index-receivers-i.result = all.each i c.index-receivers-i.result
             (sym (c.loop-i.invariant.rest i (omega arith)) ∙ at) in
             let has = c.receive-same.ensures.heard slot sent (inputs i) (last i) kept
-            (subst (λ (x : Reception). IsDue c.args.config.now.premise.late slot (last i) x) told (due i))
+            (subst (λ (x : Reception). IsDue c.args.config.now.late slot (last i) x) told (due i))
             (rw (← c.index-receivers-i.is) old) in
             let same : new ≡ r = written rs i new r (subst (λ n. slice_get (slice_set rs i new) n ≡ Some r) here e) in
             subst (λ n. HasHeard config (received (slice_index_or c.args.receptions.now n Lost) slot sent (inputs n)) r)
@@ -83,7 +83,7 @@ loop-i-preserved c =
             (subst (λ n. slice_index_or (slice_set c.loop-i.stays i c.receive-same.result) n false ≡ true) here is)
             in
             let stay = c.receive-same.ensures.stays slot sent (inputs i) (last i) kept
-            (subst (λ (x : Reception). IsDue c.args.config.now.premise.late slot (last i) x) told (due i))
+            (subst (λ (x : Reception). IsDue c.args.config.now.late slot (last i) x) told (due i))
             (rw (← c.index-receivers-i.is) old) yes in
             subst (λ n. StaysShown config (inputs n) (received (slice_index_or c.args.receptions.now n Lost) slot sent
             (inputs n))) (sym here)

@@ -15,14 +15,14 @@ invariant-loop-i l = record {
   rest : (k : ℕ) → l.i ≤ k → slice_get l.receivers k ≡ slice_get l.fn.receivers k;
   done : (slot : ℕ) (sent : List (Option Message)) (inputs : ℕ → Input) (last : ℕ → Option ℕ)
       → AreLastSent l.config sent l.recent.items
-      → ((k : ℕ) → IsDue l.config.premise.late slot (last k) (slice_index_or l.receptions k Lost))
+      → ((k : ℕ) → IsDue l.config.late slot (last k) (slice_index_or l.receptions k Lost))
       → AllHaveHeard l.config inputs l.fn.receivers
       → (k : ℕ) (r : ReceiverState) → k < l.i → slice_get l.receivers k ≡ Some r
       → HasHeard l.config (received (slice_index_or l.receptions k Lost) slot sent (inputs k)) r;
   later : (k : ℕ) → l.i ≤ k → slice_index_or l.stays k false ≡ false;
   stays : (slot : ℕ) (sent : List (Option Message)) (inputs : ℕ → Input) (last : ℕ → Option ℕ)
       → AreLastSent l.config sent l.recent.items
-      → ((k : ℕ) → IsDue l.config.premise.late slot (last k) (slice_index_or l.receptions k Lost))
+      → ((k : ℕ) → IsDue l.config.late slot (last k) (slice_index_or l.receptions k Lost))
       → AllHaveHeard l.config inputs l.fn.receivers
       → (k : ℕ) → k < l.i → slice_index_or l.stays k false ≡ true
       → StaysShown l.config (inputs k) (received (slice_index_or l.receptions k Lost) slot sent (inputs k));

@@ -10,7 +10,7 @@ pub returns-in-Got-clause-heard : goal.returns-in-Got-clause-heard
 returns-in-Got-clause-heard c slot sent input last kept due has =
     let config = c.args.config.now in
     let back = c.in-Got.back in
-    let is_due = subst (λ (r : Reception). IsDue config.premise.late slot last r) c.in-Got.is due in
+    let is_due = subst (λ (r : Reception). IsDue config.late slot last r) c.in-Got.is due in
     let hears : Hears config.head.pi c.back_from.result (sent_back back sent) = rw c.back_from.ensures
     (kept back is_due.soon) in
     rw c.in-Got.is (hears_more config input _ _ c.back_from.result (sent_back back sent) (Some (slot - back)) hears
@@ -28,7 +28,7 @@ pub returns-in-Got-clause-stays : goal.returns-in-Got-clause-stays
 returns-in-Got-clause-stays c slot sent input last kept due has stays =
     let config = c.args.config.now in
     let back = c.in-Got.back in
-    let is_due = subst (λ (r : Reception). IsDue config.premise.late slot last r) c.in-Got.is due in
+    let is_due = subst (λ (r : Reception). IsDue config.late slot last r) c.in-Got.is due in
     let hears : Hears config.head.pi c.back_from.result (sent_back back sent) = rw c.back_from.ensures
     (kept back is_due.soon) in
     let calm : c.slot_blocks.result ≡ false = search rules in

@@ -4,11 +4,11 @@ use Rattle.std.proofs.lemmas.List.{reverse-append, take_more}
 use Rattle.std.proofs.lemmas.Option.{slice_get_read}
 use Rattle.std.specs.Prelude.{◌≤◌, slice_get, slice_index_or}
 use Rattle.rds_world.specs.Event.{Event}
-use Rattle.rds_world.specs.Premise.{Premise}
 use Rattle.rds_world.specs.Replies.{CanBeTaken, IsFirstRefused, IsStepRefused, IsTaken}
 use Rattle.rds_world.specs.SafeSlots.{OnlyWhatWasOnAirIsShown}
 use Rattle.rds_world.specs.WorldAt.{WorldAt}
 use Rattle.rds_world.specs.declared.reply.StepRefused.{StepRefused}
+use Rattle.rds_world.specs.declared.world.Config.{Config}
 use Rattle.rds_world.proofs.slots.play.Goals as goal
 
 one_later : (xs : List Event) (i : ℕ) (x : Event) → i < length xs → x ≡ slice_index_or xs i x
@@ -18,7 +18,7 @@ one_later xs i x h e =
     (sym e) in
     sym (ap (λ (ys : List Event). reverse ys) more ∙ reverse-append (take i xs) (x ∷ []))
 
-first_refused : (p : Premise) (count receivers : ℕ) (events : List Event) (i : ℕ) (e : Event) (why : StepRefused)
+first_refused : (p : Config) (count receivers : ℕ) (events : List Event) (i : ℕ) (e : Event) (why : StepRefused)
     → receivers ≤ 8 → count ≡ receivers → i < length events
     → e ≡ slice_index_or events i e → ((place : ℕ) → place < i → IsTaken p receivers events place)
     → IsStepRefused p count e (reverse (take i events)) why → IsFirstRefused p receivers events i why
@@ -41,8 +41,8 @@ loop-i-preserved c =
     let e = c.index-events-i.result in
     let later = one_later events i e c.loop-i-test.true c.index-events-i.is in
     let step = c.in-Ok-step.ensures in
-    let taken : CanBeTaken config.premise c.args.receivers e before =
-    subst (λ (n : ℕ). CanBeTaken config.premise n e before) c.loop-i.invariant.count
+    let taken : CanBeTaken config c.args.receivers e before =
+    subst (λ (n : ℕ). CanBeTaken config n e before) c.loop-i.invariant.count
     (step.refused config before c.loop-i.invariant.stands) in
     let at : slice_get events i ≡ Some e = slice_get_read events (length events) i e refl c.loop-i-test.true
     c.index-events-i.is in
@@ -60,7 +60,7 @@ pub returns-in-Err-Late-clause-refused : goal.returns-in-Err-Late-clause-refused
 returns-in-Err-Late-clause-refused c =
     let at = c.loop-i.invariant in
     rw (c.in-Err-Late.field-0-is, ← c.in-Err-Late.receiver-is)
-    at (first_refused c.args.config.premise _ _ c.args.events.now c.loop-i.i c.index-events-i.result _ at.few
+    at (first_refused c.args.config _ _ c.args.events.now c.loop-i.i c.index-events-i.result _ at.few
     at.count c.loop-i-test.true c.index-events-i.is at.good
     (c.in-Err-Late.ensures.refused c.args.config (reverse (take c.loop-i.i c.args.events.now)) at.stands))
 
@@ -68,7 +68,7 @@ pub returns-in-Err-Wrong-clause-refused : goal.returns-in-Err-Wrong-clause-refus
 returns-in-Err-Wrong-clause-refused c =
     let at = c.loop-i.invariant in
     rw (c.in-Err-Wrong.field-0-is, ← c.in-Err-Wrong.receiver-is)
-    at (first_refused c.args.config.premise _ _ c.args.events.now c.loop-i.i c.index-events-i.result _ at.few
+    at (first_refused c.args.config _ _ c.args.events.now c.loop-i.i c.index-events-i.result _ at.few
     at.count c.loop-i-test.true c.index-events-i.is at.good
     (c.in-Err-Wrong.ensures.refused c.args.config (reverse (take c.loop-i.i c.args.events.now)) at.stands))
 
@@ -76,6 +76,6 @@ pub returns-in-Err-WrongConfirmed-clause-refused : goal.returns-in-Err-WrongConf
 returns-in-Err-WrongConfirmed-clause-refused c =
     let at = c.loop-i.invariant in
     rw (c.in-Err-WrongConfirmed.field-0-is, ← c.in-Err-WrongConfirmed.receiver-is)
-    at (first_refused c.args.config.premise _ _ c.args.events.now c.loop-i.i c.index-events-i.result _ at.few
+    at (first_refused c.args.config _ _ c.args.events.now c.loop-i.i c.index-events-i.result _ at.few
     at.count c.loop-i-test.true c.index-events-i.is at.good
     (c.in-Err-WrongConfirmed.ensures.refused c.args.config (reverse (take c.loop-i.i c.args.events.now)) at.stands))

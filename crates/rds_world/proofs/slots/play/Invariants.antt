@@ -10,5 +10,5 @@ invariant-loop-i l = record {
   safe : OnlyWhatWasOnAirIsShown l.fn.config (reverse (take l.i l.events)) l.world.receivers;
   count : length l.world.receivers ≡ l.fn.receivers;
   few : l.fn.receivers ≤ 8;
-  good : (place : ℕ) → place < l.i → IsTaken l.fn.config.premise l.fn.receivers l.events place;
+  good : (place : ℕ) → place < l.i → IsTaken l.fn.config l.fn.receivers l.events place;
 }

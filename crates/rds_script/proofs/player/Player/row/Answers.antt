@@ -1,9 +1,9 @@
 use Rattle.std.proofs.Common.{◌≡◌, ◌⊎◌, ◌<◌, ◌∙◌, ◌+◌, ℕ, List, None, Option, Some, ap, arith, inl, inr, length, refl}
-use Rattle.std.proofs.Common.{rules, subst, sym}
+use Rattle.std.proofs.Common.{rules, subst, sym, true}
 use Rattle.std.proofs.lemmas.Result.{err_from_is_err_and}
 use Rattle.csv.specs.Records.{fields_of}
 use Rattle.rds_world.specs.Event.{Event}
-use Rattle.rds_world.specs.declared.receiver_kind.ReceiverKind.TheVariants.{FlagAlone}
+use Rattle.rds_world.specs.ReceiverKind.{is_flag_alone}
 use Rattle.rds_script.specs.Inside.Player.{HasWatched, IsFirstOrAlone, Played}
 use Rattle.rds_script.specs.Inside.Watched.{views_kept}
 use Rattle.rds_script.specs.Outcomes.{Outcome}
@@ -16,7 +16,7 @@ use Rattle.rds_script.proofs.player.Player.row.Goals as goal
 
 pub returns-in-Err-clause-refused : goal.returns-in-Err-clause-refused
 returns-in-Err-clause-refused c played s =
-    says_none played.config.premise played.form (fields_of c.args.row.now) played.records c.in-Err.ensures.none
+    says_none played.config played.form (fields_of c.args.row.now) played.records c.in-Err.ensures.none
 
 pub returns-then-not-allows-clause-refused : goal.returns-then-not-allows-clause-refused
 returns-then-not-allows-clause-refused c played s =
@@ -27,21 +27,21 @@ returns-then-not-allows-clause-refused c played s =
     let yes_allowed = c.allows.ensures.1 here in
     let no = c.if-not-allows.true in
     cc in
-    names_receivers played.config.premise played.form (fields_of c.args.row.now) played.records c.read_event.new.event
+    names_receivers played.config played.form (fields_of c.args.row.now) played.records c.read_event.new.event
     says none
 
 -- there is no memory: for a world, or for what was on air
 no_memory : (played : Played) (events : List Event) (outcomes : List Outcome) (watched : Option Watched)
     → length played.records ≡ length events
     → HasWatched played.config played.receivers watched events outcomes → IsFirstOrAlone watched
-    → (length played.records ≡ 0) ⊎ (played.config.kind ≡ FlagAlone)
+    → (length played.records ≡ 0) ⊎ (is_flag_alone played.config.kind ≡ true)
 no_memory played events outcomes None counted none first = inl (omega (arith, counted, ap length none))
 no_memory played events outcomes (Some w) counted has alone = inr (alone played.config played.receivers events has.1)
 
 pub returns-in_err-begin-clause-refused : goal.returns-in_err-begin-clause-refused
 returns-in_err-begin-clause-refused c played s =
     let memory = c.in_err-begin.ensures.memory in
-    let counted : length played.records ≡ length s.events = as_many_rows played.config.premise played.receivers
+    let counted : length played.records ≡ length s.events = as_many_rows played.config played.receivers
     played.records s.events s.rows in
     let p = err_from_is_err_and c.from_residual.result c.from_residual.ensures.1 in
     rw (p.1, p.2, memory.0) (no_memory played s.events s.outcomes c.args.self.now.watched counted s.watched memory.1)
@@ -77,10 +77,10 @@ returns-in-Err-play-clause-refused c played s =
     let r = subst (IsReady played s.events s.outcomes c.len-receivers.result) is
     (is_ready c.args.self.now.watched w played c.len-receivers.result s.events s.outcomes s.allowed (rw s.form_is
     at allowed) s.rows s.are s.watched (rw s.config_is at begun)) in
-    refused_row c.text_is_read_one_way.ensures played.form played.config.premise r.receivers (fields_of c.args.row.now)
+    refused_row c.text_is_read_one_way.ensures played.form played.config r.receivers (fields_of c.args.row.now)
     played.records c.read_event.new.event s.events r.rows c.in_default.ensures.says
     (subst (λ (n : ℕ). (0 < length played.records) ⊎ (r.receivers ≡ n)) asked r.how)
-    (not_taken played.config.premise r.receivers c.read_event.new.event s.events c.in-Err-play.why
+    (not_taken played.config r.receivers c.read_event.new.event s.events c.in-Err-play.why
     (c.in-Err-play.ensures.refused played.config r.receivers s.events r.stands))
 
 pub returns-then-not-allows-clause-slot : goal.returns-then-not-allows-clause-slot

@@ -26,7 +26,7 @@ returns-clause-stands c =
       };
       reaches = record {
         each = λ i reach e. one_of_first (λ n. n ≡ 1) c.args.receivers _ i reach
-            (one, (one, (one, (one, (one, (one, (one, (one, tt)))))))) e ∙ at_first config.premise.late;
+            (one, (one, (one, (one, (one, (one, (one, (one, tt)))))))) e ∙ at_first config.late;
       };
       sent = subst (λ (b : Buffer (Option Group)). AreLastSent config [] b.items) (sym c.in-Ok.ensures)
           (λ back within. refl);

@@ -10,6 +10,7 @@ use Rattle.rds_world.specs.declared.event.Reception.TheVariants.{Lost}
 use Rattle.rds_world.specs.Due.{IsDue, IsDueToAll, last_named}
 use Rattle.rds_world.specs.Event.{Event}
 use Rattle.rds_safety.specs.Late.{Input}
+use Rattle.rds_world.specs.ReceiverKind.{window_of}
 use Rattle.rds_world.specs.Slots.{commanded, entries, input_of, log, received, sent_at}
 use Rattle.rds_world.specs.WorldAt.{AllHaveHeard, AreLastSent, HavePasts, HaveReaches, WorldAt}
 use Rattle.rds_world.specs.State.{WorldState, distance}
@@ -25,7 +26,7 @@ returns-clause-stands c config events st =
     let own = by_own config _ events at in
     let world = c.self.inside in
     let set = world.config in
-    let late = set.premise.late in
+    let late = set.late in
     let apart = distance set in
     let before = entries events in
     let e : Event = c.args.event.now in
@@ -35,10 +36,7 @@ returns-clause-stands c config events st =
       receptions = c.event.inside.receptions.items;
     } in
     let same : now ≡ e = c.event.view_is in
-    let had : HaveReaches c.late.result events (take world.count world.reaches) = subst (λ (n : ℕ). HaveReaches n events
-    (take world.count world.reaches)) (sym c.late.ensures) own.reaches in
-    let due : IsDueToAll late e events = subst (λ (n : ℕ). IsDueToAll n e events) c.late.ensures
-    (c.in-Ok.ensures.due events had) in
+    let due : IsDueToAll late e events = c.in-Ok.ensures.due events own.reaches in
     let due_now : IsDueToAll late now events = subst (λ (x : Event). IsDueToAll late x events) (sym same) due in
     let done = c.obey-reply.ensures.stands before own.encoder in
     let ticked = c.tick-sent.ensures.stands set.head apart (commanded now.command before) done in
@@ -55,7 +53,7 @@ returns-clause-stands c config events st =
     → IsDue late (length events) (last_named i events) (slice_index_or xs i Lost)) told due_now in
     let heard = c.hand_out-self-inside.ensures.heard (length events) all_sent (λ i. input_of apart i events)
     (λ i. last_named i events) kept due_told own.receivers in
-    let window = set.premise.window in
+    let window = window_of set.kind in
     let kept_wrong : HavePasts c.window.result events c.as_slice.result.now =
     subst (λ (w : Option ℕ). HavePasts w events c.as_slice.result.now) (sym c.window.ensures)
     (subst (λ (xs : List (Buffer (Option Message))). HavePasts window events xs) (sym c.as_slice.ensures.value)
@@ -106,8 +104,7 @@ returns-clause-stands c config events st =
     let reaches : HaveReaches late (now ∷ events) new.reaches =
     subst (λ (x : Event). HaveReaches late (x ∷ events) new.reaches) (sym same)
     (subst (λ (n : ℕ). HaveReaches late (e ∷ events) (take n c.in-Ok.reaches)) many
-    (subst (λ (n : ℕ). HaveReaches n (e ∷ events) (take (length (take world.count world.reaches)) c.in-Ok.reaches))
-    c.late.ensures (c.in-Ok.ensures.reaches events had))) in
+    (c.in-Ok.ensures.reaches events own.reaches)) in
     let stay = rw c.as_slice-receptions.ensures.value at (c.hand_out-self-inside.ensures.stays (length events) all_sent
     (λ i. input_of apart i events) (λ i. last_named i events) kept due_told own.receivers) in
     subst (λ (x : Event). WorldAt config new (x ∷ events)) same
