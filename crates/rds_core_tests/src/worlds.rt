@@ -162,8 +162,7 @@ pub(crate) fn assert_text(
 
 /// Compares the text and the name on air with these.
 fn assert_on_air(rt: &impl Abort, world: &World, wanted: (Option<&[u8]>, Option<&[u8]>)) {
-    let air = world.on_air();
-    same(rt, (air.text, air.name), wanted);
+    same(rt, world.on_air(), wanted);
 }
 
 pub(crate) fn slot_event(

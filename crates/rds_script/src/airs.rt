@@ -90,7 +90,7 @@ impl Airs {
             (newest_of (airs_in self.old.stretches.items)) (air_of config events)) }
         ensures room { length lines.new ≤ length lines.old + SLOT_ROOM }
     {
-        let now = world.on_air();
+        let now = view_on_air(world);
         push_changes(Stamp::OnAir(slot), None, self.newest(), now, lines);
         self.push(now);
     }
@@ -215,4 +215,12 @@ fn either(one: Parts, other: Parts) -> Parts
         one: one.one || other.one,
         two: one.two || other.two,
     }
+}
+
+/// Returns all that is on air, as a receiver would show it.
+fn view_on_air(world: &World) -> View<'_>
+    ensures { WhereWorldStands world.now (λ config events. view_of result ≡ air_of config events) }
+{
+    let (text, name) = world.on_air();
+    View::of(text, name, world.tags_on_air())
 }

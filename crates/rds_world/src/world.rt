@@ -3,10 +3,10 @@ ghost use Rattle.std.specs.Prelude.{◌≡◌, ◌≢◌, ◌+◌, ◌<◌, ◌�
 ghost use Rattle.std.specs.Prelude.{IsErrOf, IsOk, IsSome, IsTrue, IfOk, IfSome};
 ghost use Rattle.std.specs.Prelude.{MatchResult, OnErr, OnOk, length, slice_get};
 ghost use Rattle.std.specs.Option.{option_copied};
+ghost use Rattle.rds_assembly.specs.Value.{IsName, IsText};
 ghost use Rattle.rds_encoder.specs.Sent.{IsSent};
-ghost use Rattle.rds_receiver.specs.Borrowed.{view_of};
 ghost use Rattle.rds_receiver.specs.Shown.{ShownView};
-ghost use Rattle.rds_world.specs.OnAir.{air_of};
+ghost use Rattle.rds_world.specs.OnAir.{name_on_air, tags_on_air, text_on_air};
 ghost use Rattle.rds_world.specs.Replies.{CanBeTaken, IsStepRefused, reply_at};
 ghost use Rattle.rds_world.specs.SafeSlots.{OnlyWhatWasOnAirIsShown};
 ghost use Rattle.rds_world.specs.Slots.{entries, input_of, sent_at};
@@ -25,8 +25,8 @@ use crate::{
 };
 use rds_block::Blocks;
 use rds_encoder::Encoder;
-use rds_fields::{Distance, Dwell, Head, Late};
-use rds_receiver::{Receiver, View};
+use rds_fields::{Distance, Dwell, Head, Late, TagPair};
+use rds_receiver::Receiver;
 use std::alloc::Global;
 use std::marker::Model;
 
@@ -175,16 +175,23 @@ impl World {
         Ok(Answer { reply, sent })
     }
 
-    /// Returns what is on air, borrowed from the encoder: the text, the name, and the tags of the text, even if they
-    /// have not been sent yet.
-    pub fn on_air(&self) -> View<'_>
-        ensures { WhereWorldStands self.now (λ config events. view_of result ≡ air_of config events) }
+    /// Returns the text and the name on air, borrowed from the encoder. `None` for each of them that is not on air.
+    pub fn on_air(&self) -> (Option<&[u8]>, Option<&[u8]>)
+        ensures text { WhereWorldStands self.now (λ config events.
+            option_copied result.0 ≡ text_on_air config events) }
+        ensures name { WhereWorldStands self.now (λ config events.
+            option_copied result.1 ≡ name_on_air config events) }
+        ensures is_text { IfSome result.0 (λ x. IsText x.now) }
+        ensures is_name { IfSome result.1 (λ x. IsName x.now) }
     {
-        View::of(
-            self.encoder.text(),
-            self.encoder.name(),
-            self.encoder.tags(),
-        )
+        (self.encoder.text(), self.encoder.name())
+    }
+
+    /// Returns the tags of the text on air, even if they have not been sent yet. `None` if it has none.
+    pub fn tags_on_air(&self) -> Option<TagPair>
+        ensures { WhereWorldStands self.now (λ config events. result ≡ tags_on_air config events) }
+    {
+        self.encoder.tags()
     }
 
     /// Returns receiver i, counted from 0, borrowed from the world. `None` if there are no more than i receivers.
