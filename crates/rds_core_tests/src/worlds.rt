@@ -242,7 +242,11 @@ fn refused_memory(rt: HostRuntime) -> Result<(), Fail> {
     let events = [slot_event(Command::Quiet, true, &[LOST])?];
     let made = not_made(rt.alloc(), late_config(2)?, 1);
     assert!(rt; made.is_none_or(|why| why == WorldRefused::Memory));
-    let played = not_played(rt.alloc(), late_config(2)?, 1, &events);
+    let config = late_config(2)?;
+    // Prover: variables of the types that `Config` holds, for the borrow checker (docs/PROVER.md, "Workarounds").
+    let _late = config.late;
+    let _kind = config.kind;
+    let played = not_played(rt.alloc(), config, 1, &events);
     assert!(rt; played.is_none_or(|why| why == PlayRefused::Memory));
     Ok(())
 }
@@ -325,7 +329,11 @@ fn late_group_refused(rt: HostRuntime) -> Result<(), Fail> {
 #[test]
 fn late_group_not_played(rt: HostRuntime) -> Result<(), Fail> {
     let events = [slot_event(Command::Restart, true, &[GOT, Reception::Got(3)])?];
-    let refused = not_played(rt.alloc(), late_config(2)?, 2, &events);
+    let config = late_config(2)?;
+    // Prover: as in `refused_memory`.
+    let _late = config.late;
+    let _kind = config.kind;
+    let refused = not_played(rt.alloc(), config, 2, &events);
     same(&rt, refused, Some(PlayRefused::Late(0, 1)));
     Ok(())
 }
@@ -384,7 +392,11 @@ fn slots_not_played(rt: HostRuntime) -> Result<(), Fail> {
         (2, PlayRefused::ReceiverCount(1)),
     ];
     for (receivers, why) in refusals.iter() {
-        let refused = not_played(rt.alloc(), config()?, *receivers, &events);
+        let config = late_config(0)?;
+        // Prover: as in `refused_memory`.
+        let _late = config.late;
+        let _kind = config.kind;
+        let refused = not_played(rt.alloc(), config, *receivers, &events);
         same(&rt, refused, Some(*why));
     }
     Ok(())

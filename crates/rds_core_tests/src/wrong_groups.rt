@@ -107,11 +107,14 @@ fn wrong_confirmed(rt: HostRuntime) -> Result<(), Fail> {
 /// Slots that are played in one call are refused so too.
 #[test]
 fn wrong_confirmed_not_played(rt: HostRuntime) -> Result<(), Fail> {
-    let config = window_config()?;
     let events = [
         slot_event(Command::Quiet, true, &[wrong()?])?,
         slot_event(Command::Quiet, true, &[wrong()?])?,
     ];
+    let config = window_config()?;
+    // Prover: variables of the types that `Config` holds, for the borrow checker (docs/PROVER.md, "Workarounds").
+    let _late = config.late;
+    let _kind = config.kind;
     let refused = not_played(rt.alloc(), config, 1, &events);
     same(&rt, refused, Some(PlayRefused::WrongConfirmed(1, 0)));
     Ok(())

@@ -7,7 +7,9 @@ use rds_audit::LogStart;
 use rds_fields::{Dwell, Late};
 use rds_io::{LogFault, Told};
 use rds_log::{Auditing, LogNotes, MOST_READS, Stop, audit, audit_with_notes, decode};
+use rds_receiver::Window;
 use rds_script::{encode, simulate};
+use rds_world::ReceiverKind;
 use std::alloc::Global;
 use std::cell::Cell;
 use std::io::{self, ErrorKind, Write};
@@ -110,11 +112,19 @@ fn listed_to(writer: Stubborn) -> Result<Result<(), LogFault>, Fail> {
 }
 
 fn simulated_to(alloc: Global, writer: Stubborn) -> Result<Result<(), LogFault>, Fail> {
+    // Prover: variables of the types that `Config` holds, for the borrow checker (docs/PROVER.md, "Workarounds").
+    let _dwell = Dwell::longest();
+    let _kind = ReceiverKind::WithDwell;
+    let _window: Option<Window> = None;
     let reader = Told::new(SIMULATED);
     Ok(simulate(alloc, reader, &mut Told::new(writer), config(1)?))
 }
 
 fn encoded_to(alloc: Global, writer: Stubborn) -> Result<Result<(), LogFault>, Fail> {
+    // Prover: as in `simulated_to`.
+    let _dwell = Dwell::longest();
+    let _kind = ReceiverKind::WithDwell;
+    let _window: Option<Window> = None;
     let reader = Told::new(ENCODED);
     Ok(encode(alloc, reader, &mut Told::new(writer), config(1)?))
 }

@@ -6,6 +6,7 @@ use arrayvec::ArrayVec;
 use rds_block::Place;
 use rds_fields::{Dwell, Head, Late};
 use rds_io::{LogFault, Told};
+use rds_receiver::Window;
 use rds_script::{encode, encode_within, simulate, simulate_within};
 use rds_world::{Config, ReceiverKind};
 use std::alloc::{AllocError, Global};
@@ -45,6 +46,10 @@ pub(crate) fn config(dwell: u16) -> Result<Config, Fail> {
 /// As many records as the bound are too many, whether or not the script ends there.
 #[test]
 fn too_long(rt: HostRuntime) -> Result<(), Fail> {
+    // Prover: variables of the types that `Config` holds, for the borrow checker (docs/PROVER.md, "Workarounds").
+    let _dwell = Dwell::longest();
+    let _kind = ReceiverKind::WithDwell;
+    let _window: Option<Window> = None;
     let wanted: [&[u8]; 4] = [
         b"",
         b"# 0 text silent 1\n---- ---- ---- ----\n",
@@ -103,6 +108,10 @@ impl Read for Lasting<'_> {
 
 #[test]
 fn endless_script(rt: HostRuntime) -> Result<(), Fail> {
+    // Prover: as in `too_long`.
+    let _dwell = Dwell::longest();
+    let _kind = ReceiverKind::WithDwell;
+    let _window: Option<Window> = None;
     let reads = Cell::new(0);
     let mut output = Vec::new(rt.alloc());
     let done = simulate_within(
@@ -127,6 +136,10 @@ fn endless_script(rt: HostRuntime) -> Result<(), Fail> {
 /// Each read fails in turn: the output of the rows that were read is there, and nothing more is read.
 #[test]
 fn reader_fails(rt: HostRuntime) -> Result<(), Fail> {
+    // Prover: as in `too_long`.
+    let _dwell = Dwell::longest();
+    let _kind = ReceiverKind::WithDwell;
+    let _window: Option<Window> = None;
     for (error, fault) in [
         (ErrorKind::Other, LogFault::Read),
         (ErrorKind::OutOfMemory, LogFault::Read),
@@ -232,6 +245,10 @@ impl Write for Counting<'_> {
 /// All complete rows are answered before the next read, however the script is cut.
 #[test]
 fn answered_before_the_next_read(rt: HostRuntime) -> Result<(), Fail> {
+    // Prover: as in `too_long`.
+    let _dwell = Dwell::longest();
+    let _kind = ReceiverKind::WithDwell;
+    let _window: Option<Window> = None;
     for script in QUIET {
         for most in 1..40 {
             let written = Cell::new(0);
@@ -300,6 +317,10 @@ fn ends_whole_or_for_memory(
 
 #[test]
 fn refused_memory_in_a_simulation(rt: HostRuntime) -> Result<(), Fail> {
+    // Prover: as in `too_long`.
+    let _dwell = Dwell::longest();
+    let _kind = ReceiverKind::WithDwell;
+    let _window: Option<Window> = None;
     let mut page = Page::new();
     let reader = Told::new(SIMULATED);
     let done = simulate(rt.alloc(), reader, &mut Told::new(&mut page), config(1)?);
@@ -309,6 +330,10 @@ fn refused_memory_in_a_simulation(rt: HostRuntime) -> Result<(), Fail> {
 
 #[test]
 fn refused_memory_in_a_log(rt: HostRuntime) -> Result<(), Fail> {
+    // Prover: as in `too_long`.
+    let _dwell = Dwell::longest();
+    let _kind = ReceiverKind::WithDwell;
+    let _window: Option<Window> = None;
     let mut page = Page::new();
     let done = encode(
         rt.alloc(),
@@ -323,6 +348,10 @@ fn refused_memory_in_a_log(rt: HostRuntime) -> Result<(), Fail> {
 /// A script of 200,000 rows whose first line of output can't be written is not read to its end.
 #[test]
 fn writes_row_by_row(rt: HostRuntime) -> Result<(), Fail> {
+    // Prover: as in `too_long`.
+    let _dwell = Dwell::longest();
+    let _kind = ReceiverKind::WithDwell;
+    let _window: Option<Window> = None;
     let mut script = Vec::from_slice(rt.alloc(), b"text,HI,1,G\n")?;
     for _ in 1..200_000 {
         script.extend_from_slice(b"-,,1,G\n")?;

@@ -5,6 +5,7 @@ use rds_block::Place;
 use rds_fields::{Dwell, Head, Late};
 use rds_io::{LogFault, TellingRead, Told};
 use rds_log::audit;
+use rds_receiver::Window;
 use rds_script::{encode, simulate};
 use rds_world::{Config, ReceiverKind};
 use std::alloc::Global;
@@ -74,6 +75,10 @@ fn ended_line_by_line(
     alloc: Global,
     script: &[u8],
 ) -> Result<(Result<(), LogFault>, usize), Fail> {
+    // Prover: variables of the types that `Config` holds, for the borrow checker (docs/PROVER.md, "Workarounds").
+    let _dwell = Dwell::longest();
+    let _kind = ReceiverKind::WithDwell;
+    let _window: Option<Window> = None;
     let left = Cell::new(0);
     let reader = LineByLine {
         bytes: script,
@@ -85,6 +90,10 @@ fn ended_line_by_line(
 
 /// The answer to a log whose lines come so, and how many bytes of it are left.
 fn audited(alloc: Global, log: &[u8]) -> Result<(Result<bool, LogFault>, usize), Fail> {
+    // Prover: as in `ended_line_by_line`.
+    let _dwell = Dwell::longest();
+    let _kind = ReceiverKind::WithDwell;
+    let _window: Option<Window> = None;
     let station = config(0xC201, 4, 0)?;
     let left = Cell::new(0);
     let mut reader = Told::new(LineByLine {
@@ -186,6 +195,10 @@ fn ended_for(
 /// A reader that doesn't fail: rows of every command end well, for any station.
 #[test]
 fn no_read_fails(rt: HostRuntime) -> Result<(), Fail> {
+    // Prover: as in `ended_line_by_line`.
+    let _dwell = Dwell::longest();
+    let _kind = ReceiverKind::WithDwell;
+    let _window: Option<Window> = None;
     for (pi, dwell, late) in [(0, 1, 0), (0xFFFF, 65535, 1024), (0x1234, 1, 1024)] {
         let station = config(pi, dwell, late)?;
         for receptions in RECEPTIONS {
