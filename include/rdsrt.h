@@ -63,7 +63,7 @@
  * rdsrt::static. It needs memcpy, memset, memmove and memcmp at most.
  *
  * STACK. A call takes at most this many bytes of stack, the first number on x86-64, the second on 64-bit Arm. The numbers
- * come from the machine code of the library (tools/stack), rounded up for other versions of the compiler. The stack of
+ * come from the machine code of the library (tests/stack), rounded up for other versions of the compiler. The stack of
  * memcpy and memset comes on top.
  *
  *     rdsrt_version                     32   32    rdsrt_encoder_wait                32   32

@@ -51,7 +51,7 @@ def stack(check, at, prefix, column):
     """Checks the bytes of stack of each call in the header: in column 1 for x86-64, in column 2 for 64-bit Arm. No call
     takes more, and none has far too many there. How many it takes is the compiler's."""
     written = {it[0]: int(it[column]) for it in re.findall(r"(rdsrt_\w+) +(\d+) +(\d+)", text_of(HEADER))}
-    status, lines = output([path("tools/stack"), at, f"{prefix}objdump"])
+    status, lines = output([path("tests/stack"), at, f"{prefix}objdump"])
     taken = {name: int(count) for name, count in (line.split() for line in lines.decode().splitlines())}
     check(f"calls with a stack, column {column}", (status, set(taken)), (0, set(written)))
     wrong = {it: (taken[it], written[it]) for it in written if not taken[it] <= written[it] <= 2 * taken[it] + 64}

@@ -1,8 +1,8 @@
 """docs/TRUST.md: its reading lists have each definition and each file that the headlines reach, and no other one."""
 import re
 
+from tests import reading
 from tests.support import Case, text_of
-import reading
 
 STEP = "rds_world/src/world.rt"
 

@@ -1,17 +1,14 @@
 #!/usr/bin/env python3
 """Follows names: which definitions a statement reaches. docs/TRUST.md has the lists, and test_trust compares them.
 
-usage: tools/reading.py   prints the definitions of the headline by their files, how many they are, how many the law of
-                          audits adds, and the files of the headline of a world
+usage: python3 tests/reading.py   prints the definitions of the headline by their files, how many they are, how many the
+                                  law of audits adds, and the files of the headline of a world
 """
 import functools
 import os
 import re
-import sys
 
-sys.dont_write_bytecode = True
-from crates import ROOT
-
+ROOT = os.path.dirname(os.path.dirname(os.path.abspath(__file__)))
 USE = re.compile(r"^use Rattle\.(rds_\w+)\.specs\.([\w.]+?)(?:\.\{([^}]*)\}| as (\w+))$", re.M)
 HEAD = re.compile(r"^(?:(?:abbrev|unfoldable|record|data) )*(?:pub )?(?:(?:abbrev|unfoldable|record|data) )?(\S+)")
 # the laws from bytes to bytes, of scripts and of audits
