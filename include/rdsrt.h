@@ -110,7 +110,7 @@ extern "C" {
 
 /* The version of this header. rdsrt_version() returns the version of the linked library. */
 #define RDSRT_VERSION_MAJOR 0
-#define RDSRT_VERSION_MINOR 1
+#define RDSRT_VERSION_MINOR 2
 #define RDSRT_VERSION_PATCH 0
 
 /* The default dwell of the program rdsrt, in slots: about 11 s. */

@@ -106,7 +106,7 @@ class Scripts(Case):
 
     def setUp(self):
         self.programs = temporary_folder(self)
-        for name in ("bash", "cat", "dirname", "env", "sed"):
+        for name in ("bash", "cat", "dirname", "env", "python3", "sed"):
             os.symlink(shutil.which(name), os.path.join(self.programs, name))
 
     def test_rdsrt_prints_the_help_of_the_program(self):
@@ -116,7 +116,7 @@ class Scripts(Case):
             self.check(f"./rdsrt {words}", self.asked("rdsrt", *words), (status, text_of(f"tests/shown/{name}.txt"), ""))
 
     def test_other_scripts_print_how_they_are_called(self):
-        scripts = {"test": "usage: ./test", "install": "./install PREFIX", "tools/release": "usage: tools/release OUT"}
+        scripts = {"test": "usage: ./test", "install": "./install PREFIX", "tools/release": "usage: tools/release [--snapshot] OUT"}
         for script, call in scripts.items():
             for word in ("-h", "--help"):
                 status, printed, errors = self.asked(script, word)

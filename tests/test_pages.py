@@ -4,13 +4,11 @@ import os
 import re
 import subprocess
 
-from tests import c_library
-from tests.support import PROGRAM, ROOT, SECONDS, Case, text_of
+from tests.support import PROGRAM, ROOT, SECONDS, Case, script, text_of
 from tests.test_commands import MANUAL, manual
 from shipped import anchors
 
 HEADER, CURES = "include/rdsrt.h", "page/index.html"
-PACKAGE = "python/src/rdsrt/__init__.py"
 FAULTS = {"EarlyFlag", "Changed", "NotOneText", "EarlyTag", "TagOutside"}
 REPLIES = ("ok", "silent", "held", "notext", "outoftext")
 FAULT_LINES = ("fault line", "fault row", "fault read", "fault too long", "fault memory", "fault pi",
@@ -95,20 +93,13 @@ class Pages(Case):
             self.check(f"'{time}' is in one page", [sum(text.count(time) for text in texts.values())], [1])
 
     def test_each_version_is_that_of_the_program(self):
-        """The program has the version, and the other files repeat it. tests/c/calls.c compares the library with the
-        header."""
+        """tools/release asks the same. tests/c/calls.c compares the library with the header."""
         version = subprocess.run([PROGRAM, "--version"], capture_output=True, text=True,
                                  timeout=SECONDS).stdout.split()[1]
-        found = {
-            "ABOUT": re.findall(r"^version: (.*)$", text_of("ABOUT"), re.M)[0],
-            "CHANGELOG.md": re.findall(r"^## (\d\S+)", text_of("CHANGELOG.md"), re.M)[0],
-            "README.md": re.findall(r"Version (\S+?):", text_of("README.md"))[0],
-            MANUAL: re.findall(r'"rdsrt (\S+)"', text_of(MANUAL))[0],
-            HEADER: c_library.header_version(),
-            PACKAGE: re.findall(r'^__version__ = "(.*)"', text_of(PACKAGE), re.M)[0],
-        }
-        for path, it in found.items():
-            self.check(f"version in {path}", it, version)
+        release = script("tools/release")
+        self.check("version in ABOUT", re.findall(r"^version: (.*)$", text_of("ABOUT"), re.M), [version])
+        for path in release.PLACES:
+            self.check(f"version in {path}", release.version_in(path), version)
 
     def test_the_contracts_in_trust_are_in_the_sources(self):
         """The lines of the contracts that TRUST shows are in the sources."""

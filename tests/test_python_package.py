@@ -107,7 +107,7 @@ class PythonPackage(PackageCase):
                 packed.extractall(inside)
             inner = os.path.join(inside, f"rdsrt/librdsrt.so.{c_library.ABI}")
             self.check("the library in the wheel", os.path.exists(inner), True)
-            with open(os.path.join(inside, "rdsrt-0.1.0.dist-info/WHEEL"), encoding="utf-8") as file:
+            with open(os.path.join(inside, f"rdsrt-{c_library.header_version()}.dist-info/WHEEL"), encoding="utf-8") as file:
                 said = file.read()
             self.check("its kind", re.findall(r"^(?:Root-Is-Purelib|Tag): (.*)$", said, re.M),
                        ["false", "py3-none-manylinux_2_17_x86_64"])

@@ -7,12 +7,13 @@ import shutil
 import subprocess
 import zipfile
 
-from tests import shipped_pages
+from tests import c_library, shipped_pages
 from tests.support import (ARCHIVE, PROGRAM, ROOT, SECONDS, Case, build_archive, commit, needs, output, path,
                            temporary_folder, text_of)
 
 SHIPPED = path("tools/shipped.py")
 FIELDS = ("version", "homepage", "reports")
+VERSION = c_library.header_version()
 
 
 def played(tree):
@@ -98,7 +99,7 @@ class About(Case):
             else:
                 shutil.copy(path(name), tree)
         with open(os.path.join(tree, "ABOUT"), "w", encoding="utf-8") as file:
-            file.write("# a comment\nversion: 0.1.0\n" + "".join(f"{it}: {address.get(it, '')}\n" for it in FIELDS[1:]))
+            file.write(f"# a comment\nversion: {VERSION}\n" + "".join(f"{it}: {address.get(it, '')}\n" for it in FIELDS[1:]))
         for name, built in (("rdsrt/out/x86_64/rdsrt", PROGRAM), ("rds_ffi/out/x86_64/librds_ffi.a", ARCHIVE)):
             at = os.path.join(tree, "crates", name)
             os.makedirs(os.path.dirname(at))
@@ -111,9 +112,9 @@ class About(Case):
         build_archive()
         for address in ({}, self.ADDRESS):
             tree, out = self.repository(address), temporary_folder(self)
-            self.check("tools/about", [about(it, tree) for it in FIELDS], ["0.1.0", *(address.get(it, "") for it in FIELDS[1:])])
+            self.check("tools/about", [about(it, tree) for it in FIELDS], [VERSION, *(address.get(it, "") for it in FIELDS[1:])])
             self.check("tools/deb", output([f"{tree}/tools/deb", "x86_64", out])[0], 0)
-            deb = os.path.join(out, "rdsrt_0.1.0-0upstream1_amd64.deb")
+            deb = os.path.join(out, f"rdsrt_{VERSION}-0upstream1_amd64.deb")
             self.check("Homepage", output(["dpkg-deb", "-f", deb, "Homepage"])[1].decode().split(),
                        [*address.values()][:1])
             self.assertEqual(output(["dpkg-deb", "-x", deb, out])[0], 0)
@@ -135,9 +136,30 @@ class About(Case):
             words = [f"{tree}/python/wheel", f"{tree}/crates/rds_ffi/out/x86_64/librds_ffi.a", "x86_64", out]
             self.check("python/wheel", output(words)[0], 0)
             with zipfile.ZipFile(glob.glob(f"{out}/*.whl")[0]) as wheel:
-                metadata = wheel.read("rdsrt-0.1.0.dist-info/METADATA").decode()
+                metadata = wheel.read(f"rdsrt-{VERSION}.dist-info/METADATA").decode()
             urls = re.findall(r"^(?:Home-page|Project-URL): (?:\w+, )?(.*)$", metadata, re.M)
             self.check("METADATA", urls, [*address.values()])
+
+    @needs("dpkg-deb", "x86_64-linux-gnu-gcc", package="gcc binutils")
+    def test_a_snapshot_sorts_below_its_version(self):
+        """The Debian packages, and the wheel as pip compares versions."""
+        build_archive()
+        tree, out = self.repository({}), temporary_folder(self)
+        names = {**os.environ, "RDSRT_SNAPSHOT": "20261129101530.g9058da50"}
+        self.check("tools/deb", output([f"{tree}/tools/deb", "x86_64", out], env=names)[0], 0)
+        found = {output(["dpkg-deb", "-f", it, "Version"])[1].decode().strip() for it in glob.glob(f"{out}/*.deb")}
+        self.check("Debian", found, {f"{VERSION}~20261129101530.g9058da50-0upstream1"})
+        self.check("dpkg", output(["dpkg", "--compare-versions", *found, "lt", f"{VERSION}-0upstream1"])[0], 0)
+        python = output([path("python/wheel"), "--python"])
+        if python[0]:
+            self.skipTest("no Python that makes wheels here")
+        words = [f"{tree}/python/wheel", f"{tree}/crates/rds_ffi/out/x86_64/librds_ffi.a", "x86_64", out]
+        self.check("python/wheel", output(words, env=names)[0], 0)
+        version = os.path.basename(glob.glob(f"{out}/*.whl")[0]).split("-")[1]
+        self.check("the wheel", version, f"{VERSION}.dev0+20261129101530.g9058da50")
+        code = ("import sys; from pip._vendor.packaging.version import Version; "
+                "sys.exit(not Version(sys.argv[1]) < Version(sys.argv[2]))")
+        self.check("pip", output([python[1].decode().strip(), "-c", code, version, VERSION])[0], 0)
 
     def test_readme_has_the_address(self):
         for field in FIELDS[1:]:

@@ -216,7 +216,7 @@ C201 A150 4A0D 5A5A
     ("slots of another programme", "decode --pi C201 --m 2", 0,
      HI + b"F000 2150 594F 0D20\nF000 2140 594F 0D20\n", b'0 text "HI"\n2 text none\n'),
     ("greatest dwell", "decode --pi C201 --m 65535", 0, ONE_TEXT, b'0 text "HI"\n'),
-    ("version", "--version", 0, ONE_TEXT, b"rdsrt 0.1.0\n"),
+    ("version", "--version", 0, ONE_TEXT, b"rdsrt 0.2.0\n"),
     ("end of input", DECODE, 1, b"C201 2140 4849 0D2", b"fault line 1\n"),
     ("no line end", DECODE, 0, b"C201 2140 4849 0D20", b'0 text "HI"\n'),
     ("carriage return at the end", DECODE, 0, b"C201 2140 4849 0D20\r", b'0 text "HI"\n'),

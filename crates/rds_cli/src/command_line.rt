@@ -505,7 +505,7 @@ fn top<'a>(alloc: Global) -> Command<'a>
     ensures { app_of result ≡ top_app }
 {
     Command::new(alloc, "rdsrt")
-        .version("0.1.0")
+        .version("0.2.0")
         .about(
             "Checks RDS encoders, and sends and receives RadioText so that lost groups mix no texts\n\
              Each command reads standard input and writes standard output.\n\

@@ -17,12 +17,12 @@ pub struct RdsrtVersion {
 /// Returns the number of this interface and the version.
 #[unsafe(no_mangle)]
 pub extern "C" fn rdsrt_version() -> RdsrtVersion
-    ensures { result ≡ record { abi = RDSRT_ABI; major = 0; minor = 1; patch = 0 } }
+    ensures { result ≡ record { abi = RDSRT_ABI; major = 0; minor = 2; patch = 0 } }
 {
     RdsrtVersion {
         abi: codes::ABI,
         major: 0,
-        minor: 1,
+        minor: 2,
         patch: 0,
     }
 }

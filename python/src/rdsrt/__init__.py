@@ -29,4 +29,4 @@ __all__ = ["Audit", "ContentType", "DEFAULT_DWELL", "Encoder", "Fault", "Group",
            "MalformedLine", "NoLibrary", "NoText", "OutOfText", "Receiver", "Refused", "Segments", "Silent", "Tag",
            "View", "Wait", "closest", "closest_name", "format_group", "library_version", "read_log", "read_timed",
            "slot_time", "slots", "timed_slots", "type_name"]
-__version__ = "0.1.0"
+__version__ = "0.2.0"
