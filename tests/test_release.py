@@ -13,6 +13,8 @@ from unittest import mock
 from tests import c_library
 from tests.support import PROMPT, SECONDS, Case, commit, missing, needs, output, path, script, temporary_folder, text_of
 
+import crates
+
 FILES = ("ABOUT", "README.md", "CHANGELOG.md", "docs/man", "include", "python", "tools",
          "crates/rds_cli/src/command_line.rt", "crates/rds_ffi/src/version.rt")
 RELEASE = script("tools/release")
@@ -160,3 +162,24 @@ class Bytes(Repository):
             os.umask(self.umask)
         self.check("the bytes", before == after, True)
         self.check("ends of lines", b"\r\n" in gzip.decompress(after), False)
+
+
+class Proof(Case):
+    def test_a_changed_binary_is_found(self):
+        made, proof = os.path.join(temporary_folder(self), "rdsrt"), script("tools/proof")
+        for name in (made, f"{made}-static"):
+            with open(name, "wb") as file:
+                file.write(b"code")
+        crates.record_verdict(made, "logic=proved functions=1\n")
+        lines = proof.verdict(made)
+        # sha256sum of "code"
+        known = "5694d08a2e53ffcae0c3103e5ad6f6076abd960eb1f8a56577040bc1028f702b"
+        sums = [f"sha256={known} {it}" for it in ("rdsrt", "rdsrt-static")]
+        self.check("the lines", lines, [*sums, "logic=proved functions=1"])
+        for name in (made, f"{made}-static"):
+            with open(name, "wb") as file:
+                file.write(b"cods")
+            with self.assertRaisesRegex(SystemExit, "changed after its check"):
+                proof.verdict(made)
+            with open(name, "wb") as file:
+                file.write(b"code")

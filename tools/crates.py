@@ -1,7 +1,9 @@
 """Reads crates.txt: the crates with their layers and libraries. Knows where their files are, which of these are stale, and
 how to call the kit's compiler for a crate, or for many side by side.
 """
+import hashlib
 import os
+import pathlib
 import re
 import shutil
 import sys
@@ -107,10 +109,17 @@ def verdict_of(made):
 
 
 def record_verdict(made, printed):
-    """Keeps these lines of what the kit printed. Of the axioms it keeps those that the code reaches."""
+    """Keeps these lines of what the kit printed, below the sums of the built file. Of the axioms it keeps those that the code
+    reaches."""
     kept = [it for it in printed.splitlines() if it.startswith(("axioms ", "logic=")) or it.endswith(" reached")]
     with open(verdict_of(made), "w", encoding="utf-8") as file:
-        file.writelines(f"{it}\n" for it in kept)
+        file.writelines(f"{it}\n" for it in (*sums(made), *kept))
+
+
+def sums(made):
+    """Returns a line with the sum of a built file, and one for the static program beside it."""
+    return [f"sha256={hashlib.sha256(pathlib.Path(it).read_bytes()).hexdigest()} {os.path.basename(it)}"
+            for it in (made, f"{made}-static") if os.path.exists(it)]
 
 
 def record_of(name, made):
