@@ -7,6 +7,7 @@ import select
 import signal
 import subprocess
 import sys
+import threading
 import time
 
 from tests.package import PackageCase
@@ -106,6 +107,7 @@ class Monitor(PackageCase):
         self.check("no audit", [it for it in values if it[0] == "rdsrt_faults_total"], [])
         self.check("when it was written", time.time() - values["rdsrt_written_seconds", ""] < SECONDS, True)
         self.check("types", types, {"rdsrt_written_seconds": "gauge", "rdsrt_text_shown": "gauge",
+                                    "rdsrt_unknown_total": "counter",
                                     **{f"rdsrt_{it}_total": "counter" for it in (*counts, "faults")},
                                     "rdsrt_text_age_seconds": "gauge"})
         self.check("the new file is renamed", sorted(os.listdir(self.folder)), ["rdsrt.prom", "stations"])
@@ -155,7 +157,8 @@ class Monitor(PackageCase):
 
     def test_wrong_tables_and_arguments_are_refused(self):
         for table in ("A\n", "A C201 0\n", "A C20G\n", "A C201 8 9\n", "A C201\nA C201\n", "A 1C201\n",
-                      "A C201 audit 8\n"):
+                      "A C201 audit 8\n", "A +C20\n", "A C_20\n", "A 0xC2\n", "A C2\n", "A \u0663\u0662\u0661\u0660\n",
+                      "A C201 +8\n", "A C201 1_2\n"):
             status, objects, errors = ran(self.folder, self.names, table, f"A {HI}\n")
             line = table.count("\n")
             self.check(f"refused {table!r}", (status, objects, f"line {line} is not" in errors), (2, [], True))
@@ -203,6 +206,94 @@ class Monitor(PackageCase):
             self.check("texts", [values["rdsrt_text_shown", name] for name in "ABC"], [1, 0, 0])
             program.stdin.close()
             self.check("status", program.wait(SECONDS), 0)
+
+    def test_a_line_over_4_KiB_is_malformed(self):
+        """A line of 4,096 bytes is taken."""
+        metrics, comment = os.path.join(self.folder, "rdsrt.prom"), "A # "
+        lines = [comment + "x" * (4096 - len(comment)), f"A {HI}", comment + "x" * (4097 - len(comment)),
+                 f"A {HI}{'x' * 200_000}", f"A {HI}"]
+        for end in ("\n", ""):
+            ran(self.folder, self.names, "A C201\n", "\n".join(lines) + end, "--metrics", metrics)
+            values, _ = series(metrics)
+            got = [values[f"rdsrt_{it}_total", "A"] for it in ("slots", "malformed", "lost", "changes")]
+            self.check(f"slots, malformed, lost, changes, {end!r} at the end", got, [4, 2, 2, 1])
+
+    def test_a_line_without_an_end_takes_no_memory_and_little_time(self):
+        piece = b"A" * (1 << 20)
+        with self.live("A C201\n") as program:
+            self.object_after(program, f"A {HI}\n")
+            before = self.peak(program)
+            for _ in range(40):
+                program.stdin.write(piece)
+            self.object_after(program, f"\nA {HI.replace('2140', '2150')}\nA {NAME[0]}\nA {NAME[1]}\n")
+            self.check("KiB more", self.peak(program) - before < 4096, True)
+            with open(f"/proc/{program.pid}/stat", encoding="ascii") as file:
+                ticks = sum(map(int, file.read().rpartition(")")[2].split()[11:13]))
+            self.check("seconds of the processor", ticks / os.sysconf("SC_CLK_TCK") < 5, True)
+            program.stdin.close()
+            self.check("a name of no station", program.stderr.read(), f"monitor: no station {'A' * 40}\n".encode())
+
+    def test_a_reader_that_stalls_stops_neither_metrics_nor_term(self):
+        """When it reads on, it gets each object."""
+        metrics = os.path.join(self.folder, "rdsrt.prom")
+        other = HI.replace("2140 4849", "2150 4841")
+        lines = "".join(f"A {other if slot % 2 else HI}\n" for slot in range(20_000)).encode()
+        for is_read in (False, True):
+            with self.live("A C201 1\n", "--metrics", metrics, "--every", "0.1") as program:
+                feed = threading.Thread(target=self.feed, args=(program, lines))
+                feed.start()
+                slots = self.stalled(metrics)
+                self.check("slots before the stall", 0 < slots < 20_000, True)
+                written = self.written(metrics)
+                self.check("later metrics", self.later(metrics, written) > written, True)
+                if is_read:
+                    objects = [json.loads(it)["slot"] for it in program.stdout]
+                    self.check("all objects", objects, list(range(20_000)))
+                else:
+                    written = self.written(metrics)
+                    program.send_signal(signal.SIGTERM)
+                self.check("the status", program.wait(PROMPT), 0)
+                feed.join(SECONDS)
+        self.check("the last metrics", self.written(metrics) > written, True)
+
+    def test_unknown_names_are_counted(self):
+        metrics = os.path.join(self.folder, "rdsrt.prom")
+        lines = "".join(f"S{number % 50} {HI}\n" for number in range(100)) + "\n \n"
+        status, objects, errors = ran(self.folder, self.names, "A C201\n", lines, "--metrics", metrics)
+        told = [f"monitor: no station S{number}" for number in range(10)]
+        told[-1] += "; other names are only counted"
+        self.check("the first names", (status, objects, errors.splitlines()), (0, [], told))
+        self.check("their lines", series(metrics)[0]["rdsrt_unknown_total", ""], 100)
+
+    def feed(self, program, lines):
+        """Writes the lines, and closes standard input."""
+        with contextlib.suppress(BrokenPipeError, ValueError):
+            program.stdin.write(lines)
+            program.stdin.close()
+
+    def peak(self, program):
+        """Returns the most memory that a process had, in KiB."""
+        return int(re.search(r"^VmHWM:\s+(\d+) kB$", text_of(f"/proc/{program.pid}/status"), re.M)[1])
+
+    def written(self, metrics):
+        """Returns when the metrics were written."""
+        return series(metrics)[0]["rdsrt_written_seconds", ""]
+
+    def later(self, metrics, than):
+        """Returns when the metrics were written, once it is later or time is up."""
+        end = time.monotonic() + PROMPT
+        while (found := self.written(metrics)) <= than and time.monotonic() < end:
+            time.sleep(0.05)
+        return found
+
+    def stalled(self, metrics):
+        """Returns the number of slots, once it stays for a second."""
+        counts, end = [0], time.monotonic() + PROMPT
+        while (len(counts) < 20 or len({*counts[-20:]}) > 1 or not counts[-1]) and time.monotonic() < end:
+            time.sleep(0.05)
+            with contextlib.suppress(OSError):
+                counts.append(series(metrics)[0]["rdsrt_slots_total", "A"])
+        return counts[-1]
 
     def live(self, table, *words):
         """Returns a monitor of these stations that waits for lines."""
@@ -258,3 +349,6 @@ class Monitor(PackageCase):
         done = subprocess.run(["systemd-analyze", "verify", place], stdout=subprocess.PIPE, stderr=subprocess.STDOUT,
                               timeout=SECONDS)
         self.check("messages", [it for it in done.stdout.decode().splitlines() if "rdsrt-monitor" in it], [])
+        words = ["systemd-analyze", "security", "--offline=true", "--threshold=39", place]
+        done = subprocess.run(words, stdout=subprocess.PIPE, stderr=subprocess.STDOUT, timeout=SECONDS)
+        self.check("an exposure below 4", done.returncode, 0, done.stdout[-200:])
