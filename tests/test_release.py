@@ -143,7 +143,7 @@ class Bytes(Repository):
         with mock.patch.dict(os.environ, {**os.environ, "HOME": home, **more}, clear=True):
             release = script(os.path.join(self.tree, "tools/release"))
             with mock.patch.dict(os.environ, release.plain_environment(), clear=True):
-                release.write_source(release.cloned(out), VERSION, out)
+                release.write_source(release.cloned(out), f"rdsrt-{VERSION}", out)
         with open(os.path.join(out, f"rdsrt-{VERSION}-source.tar.gz"), "rb") as file:
             return file.read()
 
