@@ -58,12 +58,16 @@ def stack(check, at, prefix, column):
     check(f"stack of each call, column {column}: taken and written", wrong, {})
 
 
+def declared():
+    """Returns the calls of the header."""
+    return {*re.findall(r"\b(rdsrt_\w+)\(", re.sub(r"/\*.*?\*/", "", text_of(HEADER), flags=re.S))}
+
+
 def archive(check, at=ARCHIVE, prefix=""):
     """Checks the exported and needed symbols of the archive, and that it has no writable data."""
     symbols = output([f"{prefix}nm", at])[1].decode()
     exported = set(re.findall(r" T (\w+)$", symbols, re.M))
-    declared = set(re.findall(r"\b(rdsrt_\w+)\(", re.sub(r"/\*.*?\*/", "", text_of(HEADER), flags=re.S)))
-    check("calls of the header", declared, exported)
+    check("calls of the header", declared(), exported)
     needed = set(re.findall(r" U (\w+)$", symbols, re.M))
     check("what the archive needs", needed - LIBC, set())
     # name, flags and the rest; tables of pointers are read-only once they are loaded

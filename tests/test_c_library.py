@@ -30,6 +30,24 @@ class Archive(Case):
     def test_the_header_has_the_stack_of_each_call(self):
         c_library.stack(self.check, ARCHIVE, "", 1)
 
+    def test_each_call_gets_any_bytes(self):
+        tried = re.findall(r"\b(rdsrt_\w+)\(", text_of("tests/c/any_bytes.c"))
+        self.check("calls without a try", c_library.declared() - {*tried}, set())
+
+    @needs("clang")
+    def test_the_line_of_security_runs_a_fuzzer(self):
+        folder = temporary_folder(self)
+        line, = re.findall(r"^    (clang .*) && \./fuzz$", text_of("SECURITY.md"), re.M)
+        *words, name = line.split()
+        self.check("what it makes", name, "fuzz")
+        fuzzer = os.path.join(folder, name)
+        with_none = [*words[:words.index("-Iinclude")], "-x", "c", "-", "-o", fuzzer]
+        if output(with_none, b"int LLVMFuzzerTestOneInput(void) { return 0; }")[0]:
+            self.skipTest("no libFuzzer of clang here (apt-get install libclang-rt-dev)")
+        self.check("it is built", output([*words, fuzzer], cwd=path(".")), (0, b""))
+        status, said = output([fuzzer, "-seed=1", "-runs=100000", "-timeout=20"], cwd=folder)
+        self.check("no call does harm", (status, b"\nDone 100000 runs" in said), (0, True), said)
+
 
 class Compilers(Case):
     """The programs of C do what rdsrt does, as each compiler builds them."""
@@ -79,6 +97,14 @@ class Install(Case):
         self.check("./install", (self.status, self.status and self.printed), (0, 0))
         self.check("what is installed", self.files, c_library.INSTALLED)
         self.check("what lies beside the prefix", self.beside, ["prefix"])
+
+    @needs("nm")
+    def test_the_shared_library_exports_the_calls_of_the_list(self):
+        listed = re.findall(r"^ +(rdsrt_\w+);$", text_of("include/rdsrt.map"), re.M)
+        self.check("the list has the calls of the header", sorted(listed), sorted(c_library.declared()))
+        symbols = output(["nm", "-D", "--defined-only", os.path.join(self.prefix, "lib/librdsrt.so")])[1].decode()
+        exported = sorted(it.split()[1:] for it in symbols.splitlines())
+        self.check("what is exported", exported, sorted(["T", it] for it in listed))
 
     def test_the_program_decodes(self):
         words = [os.path.join(self.prefix, "bin/rdsrt"), "decode", "--pi", "C201"]

@@ -111,6 +111,10 @@ class PythonPackage(PackageCase):
                 said = file.read()
             self.check("its kind", re.findall(r"^(?:Root-Is-Purelib|Tag): (.*)$", said, re.M),
                        ["false", "py3-none-manylinux_2_17_x86_64"])
+            self.check("it has its types", os.path.exists(os.path.join(inside, "rdsrt/py.typed")), True)
+            with open(os.path.join(os.path.dirname(file.name), "METADATA"), encoding="utf-8") as file:
+                kinds = re.findall("^Classifier: (.*)$", file.read(), re.M)
+            self.check("its kinds", {"Typing :: Typed", "Operating System :: POSIX :: Linux"} - {*kinds}, set())
             alone = {name: it for name, it in self.names.items() if name != "RDSRT_LIBRARY"}
             code = ("import rdsrt\nreceiver = rdsrt.Receiver(0xC201)\nreceiver.slot((0xC201, 0x2140, 0x4849, 0x0D20))\n"
                     "print(receiver.view.text)")

@@ -14,8 +14,8 @@ from typing import NamedTuple
 
 ROOT = os.path.dirname(os.path.dirname(os.path.abspath(__file__)))
 MANUAL = "docs/man/rdsrt.1"
-DOCS = ("docs/AIR.md", "docs/DEFINITIONS.md", "docs/FORMATS.md", "docs/GUIDE.md", "docs/PROMISES.md", "docs/TRUST.md",
-        "CHANGELOG.md")
+DOCS = ("docs/AIR.md", "docs/COMPATIBILITY.md", "docs/DEFINITIONS.md", "docs/FORMATS.md", "docs/GUIDE.md", "docs/PROMISES.md",
+        "docs/TRUST.md", "CHANGELOG.md")
 LINK = re.compile(r"!?\[([^\]]*)\]\(([^)\s#]*)(?:#([^)\s]*))?\)")
 
 

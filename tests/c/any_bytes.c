@@ -1,6 +1,7 @@
 /* Random bytes in every struct and array, wrong counts, and NULL where the number beside it is 0: each call keeps to what
  * it is given, answers its codes and lengths that lead nowhere else, and changes nothing where it answers an error. Each
- * block is of just its size, so that sanitizers and valgrind see a step outside.   ./any_bytes ROUNDS */
+ * block is of just its size, so that sanitizers and valgrind see a step outside.   ./any_bytes ROUNDS
+ * With -DRDSRT_FUZZ it is a target of libFuzzer, which chooses the bytes (SECURITY.md). */
 #include <rdsrt.h>
 
 #include <stdbool.h>
@@ -8,6 +9,15 @@
 #include <stdlib.h>
 #include <string.h>
 
+#ifdef RDSRT_FUZZ
+static const uint8_t *next, *end;
+
+static unsigned roll(unsigned sides) {
+    unsigned number = next < end ? *next++ : 0;
+    if (sides > 256) number = number << 8 | (next < end ? *next++ : 0);
+    return number % sides;
+}
+#else
 static uint64_t state = 88172645463325252u;
 
 static unsigned roll(unsigned sides) {
@@ -16,6 +26,7 @@ static unsigned roll(unsigned sides) {
     state ^= state << 17;
     return (unsigned)(state >> 33) % sides;
 }
+#endif
 
 #define CHECK(fact) do { if (!(fact)) { fprintf(stderr, "line %d: %s\n", __LINE__, #fact); exit(1); } } while (0)
 
@@ -151,7 +162,8 @@ static void audit(void) {
     struct rdsrt_audit *a = (struct rdsrt_audit *)any(sizeof *a);
     unsigned dwell = roll(3), late = roll(1200);
     if (roll(4) == 0) {
-        uint32_t code = rdsrt_audit_init(a, 0xC201, (uint16_t)dwell, (uint16_t)late);
+        uint32_t code = roll(2) ? rdsrt_audit_init(a, 0xC201, (uint16_t)dwell, (uint16_t)late)
+                                : rdsrt_audit_init_running(a, 0xC201, (uint16_t)dwell, (uint16_t)late);
         CHECK(code == (dwell && late <= 1024 ? RDSRT_OK : RDSRT_BAD_ARGUMENT));
     }
     for (int i = 0; i < 8; i++) {
@@ -206,14 +218,59 @@ static void texts(void) {
     free(back);
 }
 
+static uint64_t any_number(void) {
+    uint64_t number = 0;
+    for (unsigned bytes = roll(9); bytes; bytes--) number = number << 8 | roll(256);
+    return number;
+}
+
+static void times(void) {
+    static const uint64_t day = UINT64_C(86400000000);
+    size_t length = roll(60);
+    uint8_t *text = (uint8_t *)any(length);
+    uint64_t time = 7, earlier = any_number(), later = roll(2) ? earlier + any_number() % (2 * day) : any_number();
+    uint32_t code = rdsrt_time_in(length ? text : NULL, length, &time), grain = roll(2) ? roll(100) : 87500 + roll(200);
+    CHECK(code == RDSRT_OK || (code == RDSRT_UNKNOWN && time == 7));
+    code = rdsrt_lost_slots(earlier, later, grain);
+    CHECK((code == RDSRT_UNKNOWN) == (later < earlier || later - earlier > day || grain >= 87579));
+    CHECK(code == RDSRT_UNKNOWN || code == 0 || rdsrt_slot_time(code) < later - earlier);
+    free(text);
+}
+
+static bool is_label(const struct rdsrt_label *label) {
+    for (size_t i = 0; i < sizeof label->bytes; i++) {
+        if ((label->bytes[i] != 0) != (i < label->length)) return false;
+    }
+    return label->length <= 30;
+}
+
+static void names(void) {
+    struct rdsrt_label *label = (struct rdsrt_label *)any(sizeof *label);
+    rdsrt_type_name((uint8_t)roll(256), label);
+    CHECK(is_label(label));
+    rdsrt_code_name(roll(2) ? roll(30) : (uint32_t)any_number(), label);
+    CHECK(is_label(label));
+    CHECK(rdsrt_version().abi == RDSRT_ABI);
+    free(label);
+}
+
+static void (*const CALLS[])(void) = {receiver, encoder, audit, texts, times, names};
+enum { COUNT = sizeof CALLS / sizeof *CALLS };
+
+#ifdef RDSRT_FUZZ
+int LLVMFuzzerTestOneInput(const uint8_t *bytes, size_t size) {
+    next = bytes;
+    end = bytes + size;
+    CALLS[roll(COUNT)]();
+    return 0;
+}
+#else
 int main(int count, char **words) {
     long rounds = count > 1 ? atol(words[1]) : 10000;
     for (long i = 0; i < rounds; i++) {
-        receiver();
-        encoder();
-        audit();
-        texts();
+        for (int it = 0; it < COUNT; it++) CALLS[it]();
     }
     puts("ok");
     return 0;
 }
+#endif
