@@ -1,4 +1,4 @@
-"""The signal chain of examples/fm, for test_fm, bench/radio and bench/rtl_fm: encode, transmit, noise and fades, receive.
+"""The signal chain of examples/fm, for test_fm and bench/radio: encode, transmit, noise and fades, receive.
 
 Noise and fades come from fixed seeds: tests/air adds them to the multiplex, and tests/dongle at radio frequency.
 """

@@ -1,12 +1,16 @@
 """Lines of any length, and bytes of any value."""
+import fcntl
 import os
 import random
 import re
+import struct
 import subprocess
 import tempfile
+import termios
+import time
 
 from tests.calls import DECODE, ENCODE, SHOWS_HI, SIM
-from tests.support import PROGRAM, SECONDS, ProgramCase, ran
+from tests.support import PROGRAM, SECONDS, Case, ProgramCase, ran
 from tests.worked_rows import HI
 
 SEED = 20261122
@@ -81,3 +85,28 @@ class Scripts(ProgramCase):
             status, output = ran(words, rows + b"-,,1\n" + rows)
             last = output.splitlines()[-1]
             self.check(f"{name}, seed {SEED}", (status, last), (1, mark + b"fault row 100001"))
+
+
+class LongRuns(Case):
+    def peak(self, words, rows):
+        """Returns the most memory of the program, in KiB, once it waits for rows after these."""
+        with subprocess.Popen([PROGRAM, *words], stdin=subprocess.PIPE, stdout=subprocess.DEVNULL) as program:
+            program.stdin.write(rows)
+            program.stdin.flush()
+            end = time.monotonic() + SECONDS
+            while struct.unpack("i", fcntl.ioctl(program.stdin, termios.FIONREAD, bytes(4)))[0] and time.monotonic() < end:
+                time.sleep(0.05)
+            with open(f"/proc/{program.pid}/status", encoding="ascii") as file:
+                found = re.search(r"^VmHWM:\s+(\d+) kB$", file.read(), re.M)
+            program.stdin.close()
+            self.check(f"{words[0]}: the status", program.wait(SECONDS), 0)
+        return int(found[1])
+
+    def test_ten_times_the_rows_take_no_more_memory(self):
+        roll, kinds = random.Random(SEED), (b"-,,1,", b"-,,0,", b"restart,,0,", b"text,HI,1,", b"name,JAZZ FM,0,")
+        for words, receptions in ((ENCODE, [b""]), ([*SIM, "--confirm", "64"], [b"GG", b"GL", b"LG", b"LR"])):
+            drawn = zip(roll.choices(kinds, (40, 40, 1, 5, 5), k=30_000), roll.choices(receptions, k=30_000))
+            rows = b"".join(kind + heard + b"\n" for kind, heard in drawn)
+            few, many = (self.peak(words, rows * times) for times in (1, 10))
+            # the system brings in some pages early or late
+            self.check(f"{words[0]}: KiB more", many - few < 256, True)

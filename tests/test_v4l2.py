@@ -1,7 +1,7 @@
 """examples/v4l2: the blocks that a radio of Linux gives become lines with times, and `rdsrt slots` counts their slots.
 
 The radios here are computed: their drivers drop blocks, give wrong ones and corrected ones, and the program reads late at
-times. `bench/v4l2` plays the virtual radio of the kernel (vivid).
+times.
 """
 import errno
 import importlib.machinery
@@ -17,7 +17,7 @@ import time
 from tests.slot import SLOT
 from tests.support import PROGRAM, PROMPT, SECONDS, Case, path, temporary_folder
 
-V4L2, BENCH = path("examples/v4l2"), path("bench/v4l2")
+V4L2 = path("examples/v4l2")
 CORRECTED, ERROR, INVALID = 0x40, 0x80, 7
 RADIOS, GROUPS = 60, 400
 STEP = 0.005                                                 # seconds between two reads
@@ -177,5 +177,3 @@ class V4l2(Case):
                                     (["--frequency", "x", "/dev/null"], 2, "--frequency")]:
             done = subprocess.run([V4L2, *words], capture_output=True, text=True, timeout=SECONDS)
             self.check(f"{words}", (done.returncode, said in done.stderr), (status, True))
-        done = subprocess.run([BENCH, "/dev/radio-none"], capture_output=True, text=True, timeout=SECONDS)
-        self.check("bench/v4l2 without a radio", (done.returncode, "modprobe vivid" in done.stderr), (1, True))
