@@ -83,7 +83,7 @@ class Obstacles(Repository):
                 file.write(before)
 
     def test_a_release_needs_a_date_a_tag_and_a_commit(self):
-        self.change("CHANGELOG.md", r"^## .*$", f"## {VERSION} (not released)")
+        self.change("CHANGELOG.md", r"^## .*$", f"## {VERSION} (2026-12-24, not released)")
         self.commit(tag=False)
         self.check("a snapshot", self.obstacles(True), [])
         self.check("a release", self.obstacles(), [f"CHANGELOG.md does not begin with ## {VERSION} (YYYY-MM-DD)",
