@@ -1,10 +1,9 @@
-"""Reads crates.txt: the crates with their layers and libraries. Knows where their files are, which of these are stale, and
-how to call the kit's compiler for a crate, or for many side by side.
+"""Reads crates.txt: the crates with their libraries. Knows where their files are and which of these are stale. Calls the
+kit's compiler for a crate, or for many side by side.
 """
 import hashlib
 import os
 import pathlib
-import re
 import shutil
 import sys
 from concurrent.futures import ThreadPoolExecutor
@@ -33,28 +32,6 @@ def static_libraries():
     with open(LIST, encoding="utf-8") as file:
         heads = [line.partition("#")[0].partition(":")[0].split() for line in file]
     return {head[0] for head in heads if head[1:] == ["staticlib"]}
-
-
-def layers():
-    """Returns the crates under each heading of crates.txt. A heading is a comment `# LAYER: WHAT IT IS`."""
-    found, under = {}, []
-    with open(LIST, encoding="utf-8") as file:
-        for line in file:
-            heading = re.match(r"# (\w+): ", line)
-            if heading:
-                found[heading.group(1)] = under = []
-            elif line.strip() and not line.startswith("#"):
-                under.append(line.partition(":")[0].split()[0])
-    return found
-
-
-def unnamed(name, uses):
-    """Returns the libraries that the crate lists and never names: its code has none of them before `::` or a dot."""
-    code = ""
-    for at in sources_of(name):
-        with open(at, encoding="utf-8") as source:
-            code += re.sub("(//|--).*", "", source.read())
-    return [it for it in uses[name] if not re.search(rf"\b{it}(::|\.)", code)]
 
 
 def below(name, uses):

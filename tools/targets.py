@@ -20,12 +20,11 @@ PARTS = ("crtbeginS.o", "crtendS.o", "libgcc.a", "libgcc_s.so.1", "Scrt1.o", "cr
 
 
 class Target(NamedTuple):
-    """A target: the name that the kit has for it, its processor, the start of the names of its C tools, Debian's name."""
+    """A target: the name that the kit has for it, its processor, and the start of the names of its C tools."""
     name: str
     triple: str
     cpu: str
     prefix: str
-    debian: str
 
     def place_of(self, part):
         """Returns where the target's gcc finds a file of its C library. Ends the script if it finds none."""
@@ -58,6 +57,6 @@ class Target(NamedTuple):
 
 
 ALL = {it.name: it for it in (
-    Target("x86_64", "x86_64-unknown-linux-gnu", "x86-64", "x86_64-linux-gnu-", "amd64"),
-    Target("aarch64", "aarch64-unknown-linux-gnu", "generic", "aarch64-linux-gnu-", "arm64"),
+    Target("x86_64", "x86_64-unknown-linux-gnu", "x86-64", "x86_64-linux-gnu-"),
+    Target("aarch64", "aarch64-unknown-linux-gnu", "generic", "aarch64-linux-gnu-"),
 )}
