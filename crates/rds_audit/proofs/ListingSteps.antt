@@ -20,14 +20,14 @@ use Rattle.rds_audit.specs.declared.log_start.LogStart.{LogStart}
 use Rattle.rds_audit.specs.declared.log_start.LogStart.TheVariants.{Complete, Running}
 use Rattle.rds_audit.specs.Ages.{Ages, HasCurrent}
 use Rattle.rds_audit.specs.Judging.{judged_step}
-use Rattle.rds_audit.specs.Lengths.{Gauge, name_gauge, text_gauge}
-use Rattle.rds_audit.specs.Listing.{IsFaultOf, SentFragment, Span, added, both, broken_newest, first_fault, first_of}
-use Rattle.rds_audit.specs.Listing.{joined, newest_at, none_broken, or_else, same_bytes, slot_adds, spans, spans_after}
+use Rattle.rds_audit.specs.Lengths.{Gauge, name_gauge, sent_last, text_gauge}
+use Rattle.rds_audit.specs.Listing.{IsFaultOf, Span, added, both, broken_newest, first_fault, first_of}
+use Rattle.rds_audit.specs.Listing.{joined, none_broken, or_else, reigns_of, same_bytes, slot_adds, spans, spans_after}
 use Rattle.rds_audit.specs.Listing.{spans_tagged}
 use Rattle.std.specs.List.{AllByRecursion}
 use Rattle.rds_audit.specs.ListingLaws.{IsFormedMessage}
 use Rattle.rds_audit.specs.AuditAt.{AuditAt, EndsSlot, FollowsLog, HasJudged, HoldsLog, HoldsNewestSpans, HoldsSlot}
-use Rattle.rds_audit.specs.AuditAt.{HoldsSpans, ListsGroup, ListsMessage, TakesAll, AuditTakesSlot, reigns_of}
+use Rattle.rds_audit.specs.AuditAt.{HoldsSpans, ListsGroup, ListsMessage, TakesAll, AuditTakesSlot}
 use Rattle.rds_audit.specs.Stored.{IsStoredAudit, audit_stored}
 use Rattle.rds_audit.specs.declared.stored.StoredAudit.{StoredAudit}
 use Rattle.rds_audit.specs.AuditState.{AuditState, aged_in}
@@ -236,18 +236,18 @@ abbrev is_begun : List Span → Bool
 is_begun [] = false
 is_begun (r ∷ older) = true
 
-begun_by_joining : (d slot : ℕ) (p : Fragment) (o : Option SentFragment) (r : Span) (older : List Span)
+begun_by_joining : (d slot : ℕ) (p : Fragment) (o : Option (List ℕ)) (r : Span) (older : List Span)
     → is_begun (joined d slot p o r older) ≡ true
 begun_by_joining d slot p None r older = refl
-begun_by_joining d slot p (Some s) r older = cond_both (same_bytes p.bytes s.fragment.bytes) _ _
+begun_by_joining d slot p (Some bytes) r older = cond_both (same_bytes p.bytes bytes) _ _
     (λ (rs : List Span). is_begun rs ≡ true) (λ _. refl) (λ _. refl)
 
 begun_by_fragment : (d slot : ℕ) (p : Fragment) (rs : List Span) → is_begun (spans_after d slot p rs) ≡ true
 begun_by_fragment d slot p [] = refl
 begun_by_fragment d slot p (r ∷ older) =
-    cond_both (is_same r.flag p.flag) _ _ (λ (rs : List Span). is_begun rs ≡ true)
-    (λ _. cond_both (nat_lt slot (r.last + d)) _ _ (λ (rs : List Span). is_begun rs ≡ true)
-    (λ _. begun_by_joining d slot p (newest_at p.address r.fragments) r older) (λ _. refl))
+    cond_both (is_same r.reign.flag p.flag) _ _ (λ (rs : List Span). is_begun rs ≡ true)
+    (λ _. cond_both (nat_lt slot (r.reign.last + d)) _ _ (λ (rs : List Span). is_begun rs ≡ true)
+    (λ _. begun_by_joining d slot p (sent_last p.address r.reign.fragments) r older) (λ _. refl))
     (λ _. refl)
 
 begun_by_tags : (slot : ℕ) (pair : PairFields) (rs : List Span) → is_begun (spans_tagged slot pair rs) ≡ is_begun rs

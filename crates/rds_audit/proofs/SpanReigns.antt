@@ -1,6 +1,5 @@
--- Lemmas: up to the first fault of a service, its spans are its reigns and break no rule; marks that add nothing to its
--- list
--- pass.
+-- Lemmas: up to the first fault of a service, its spans have its reigns and break no rule; marks that add nothing to its
+-- list pass.
 use Rattle.std.proofs.Common.{◌≡◌, ◌≢◌, ◌⊎◌, ◌+◌, ◌<◌, ◌≤◌, ◌&&◌, ◌||◌, not, max, ℕ, Bool, true, false, nat_eq, nat_lt}
 use Rattle.std.proofs.Common.{List, [], ◌∷◌, Option, Some, None, length, cond, refl, sym, ap, ◌∙◌, subst, inl, inr}
 use Rattle.std.proofs.Common.{arith}
@@ -15,18 +14,17 @@ use Rattle.rds_safety.specs.Lawful.{Kind}
 use Rattle.rds_safety.specs.Marks.{Mark, Nothing, Sends, Tagged}
 use Rattle.rds_audit.specs.declared.fault_set.FaultSet.{FaultSet}
 use Rattle.rds_audit.specs.Lengths.{Gauge, IsExact, IsFormed, lengths_of, sent_last, tags_end}
-use Rattle.rds_audit.specs.Listing.{SentFragment, Span, added, broken_by, broken_newest, first_of_span, fits}
-use Rattle.rds_audit.specs.Listing.{fragments_in, joined, newest_at, none_broken, not_before, past_span, same_bytes}
-use Rattle.rds_audit.specs.Listing.{span_with, spans, spans_after, spans_tagged, turned}
+use Rattle.rds_audit.specs.Listing.{Span, added, broken_by, broken_newest, due_after, first_of_span, fits, joined}
+use Rattle.rds_audit.specs.Listing.{none_broken, not_before, reigns_of, same_bytes, span_with, spans, spans_after, spans_tagged}
+use Rattle.rds_audit.specs.Listing.{turned}
 use Rattle.rds_audit.specs.ListingLaws.{IsFormedMark}
-use Rattle.rds_audit.specs.AuditAt.{first_slot, reign_of, reigns_of}
 use Rattle.rds_audit.specs.Reigns.{Reign, SentTags, after_fragment, after_tags, joins, past_newest, reigns}
-use Rattle.rds_audit.specs.Reigns.{with_fragment, opened_by}
+use Rattle.rds_audit.specs.Reigns.{opened_by, opened_from, with_fragment, with_tags}
 use Rattle.rds_audit.specs.Rules.{AreUnchanged, CanBeBroadcast, HaveOneValue, IsAfterFragment, Passes}
 use Rattle.rds_audit.proofs.Keeping.{AreKept, Keeps, keeps}
 use Rattle.rds_audit.proofs.Sending.{TagsAreAfter, after_later, early, fragment_is_marked, sent_before}
 use Rattle.rds_audit.proofs.SentCells.{are_unchanged, holds_unchanged, unchanged_by}
-use Rattle.rds_audit.proofs.SpanOrder.{bytes_at, bytes_of, bytes_same, same_bytes_are}
+use Rattle.rds_audit.proofs.SpanOrder.{bytes_same, same_bytes_are}
 use Rattle.rds_audit.proofs.SpanSteps.{sets_are}
 
 -- ---- a service that passes passed before its newest mark
@@ -117,18 +115,18 @@ tagged_some d kind pair before (r ∷ older) k passes e = (cc)
 
 -- ---- the rules that a span breaks
 
-each_fits : (g : Gauge) (sent : List SentFragment)
-    → AllByRecursion (λ (p : Fragment). is_some (g.allowed p.address p.bytes) ≡ true) (fragments_in sent)
-    → list_all (λ (s : SentFragment). is_some (g.allowed s.fragment.address s.fragment.bytes)) sent ≡ true
+each_fits : (g : Gauge) (sent : List Fragment)
+    → AllByRecursion (λ (p : Fragment). is_some (g.allowed p.address p.bytes) ≡ true) sent
+    → list_all (λ (p : Fragment). is_some (g.allowed p.address p.bytes)) sent ≡ true
 each_fits g [] all = refl
-each_fits g (s ∷ older) all = and_from _ _ all.0 (each_fits g older all.1)
+each_fits g (p ∷ older) all = and_from _ _ all.0 (each_fits g older all.1)
 
-fits_each : (g : Gauge) (sent : List SentFragment)
-    → list_all (λ (s : SentFragment). is_some (g.allowed s.fragment.address s.fragment.bytes)) sent ≡ true
-    → AllByRecursion (λ (p : Fragment). is_some (g.allowed p.address p.bytes) ≡ true) (fragments_in sent)
+fits_each : (g : Gauge) (sent : List Fragment)
+    → list_all (λ (p : Fragment). is_some (g.allowed p.address p.bytes)) sent ≡ true
+    → AllByRecursion (λ (p : Fragment). is_some (g.allowed p.address p.bytes) ≡ true) sent
 fits_each g [] e = tt
-fits_each g (s ∷ older) e = (let parts = and_parts (is_some (g.allowed s.fragment.address s.fragment.bytes)) _ e
-    in (parts.0, fits_each g older parts.1))
+fits_each g (p ∷ older) e =
+    let parts = and_parts (is_some (g.allowed p.address p.bytes)) _ e in (parts.0, fits_each g older parts.1)
 
 none_early : (d start : ℕ) (tags : List SentTags) → AllByRecursion (λ (s : SentTags). start + d ≤ s.slot) tags
     → list_any (λ (s : SentTags). nat_lt s.slot (start + d)) tags ≡ false
@@ -137,33 +135,35 @@ none_early d start (s ∷ older) all = or_from _ _ (le-ltb s.slot (start + d) al
 
 module _ (g : Gauge) (exact : IsExact g) (d : ℕ) where
   -- fragments of one value fit it
-  one_fits : (r : Span) (tags : List SentTags) → HaveOneValue g.kind (fragments_in r.fragments) tags → fits g r ≡ true
-  one_fits r tags one =
-      let m = exact.measured (fragments_in r.fragments) tags one in
-      and_from _ _ (each_fits g r.fragments m.each) (le-leb _ _ m.room)
+  one_fits : (r : Span) → HaveOneValue g.kind r.reign.fragments r.reign.tags → fits g r ≡ true
+  one_fits r one =
+      let m = exact.measured r.reign.fragments r.reign.tags one in
+      and_from _ _ (each_fits g r.reign.fragments m.each) (le-leb _ _ m.room)
 
-  fits_one : (r : Span) (tags : List SentTags) → AllByRecursion (IsFormed g.segments) (fragments_in r.fragments)
-      → AreUnchanged (fragments_in r.fragments) → fits g r ≡ true
-      → tags_end tags ≤ (lengths_of g.allowed g.longest (fragments_in r.fragments)).most
-      → HaveOneValue g.kind (fragments_in r.fragments) tags
-  fits_one r tags formed unchanged fit ends =
-      let parts = and_parts (list_all (λ (s : SentFragment). is_some (g.allowed s.fragment.address s.fragment.bytes))
-      r.fragments) _ fit in
-      exact.one (fragments_in r.fragments) tags formed record
-      { unchanged = unchanged; each = fits_each g r.fragments parts.0; room = leb-true _ _ parts.1; ends = ends }
+  fits_one : (r : Span) → AllByRecursion (IsFormed g.segments) r.reign.fragments → AreUnchanged r.reign.fragments
+      → fits g r ≡ true → tags_end r.reign.tags ≤ (lengths_of g.allowed g.longest r.reign.fragments).most
+      → HaveOneValue g.kind r.reign.fragments r.reign.tags
+  fits_one r formed unchanged fit ends =
+      let parts = and_parts (list_all (λ (p : Fragment). is_some (g.allowed p.address p.bytes)) r.reign.fragments) _
+      fit in
+      exact.one r.reign.fragments r.reign.tags formed record {
+        unchanged = unchanged;
+        each = fits_each g r.reign.fragments parts.0;
+        room = leb-true _ _ parts.1;
+        ends = ends;
+      }
 
   -- a span that can be a broadcast breaks no rule
-  breaks_none : (r : Span) → CanBeBroadcast d g.kind (reign_of r) → r.is_changed ≡ false → r.is_early ≡ false
+  breaks_none : (r : Span) → CanBeBroadcast d g.kind r.reign → r.is_changed ≡ false → r.is_early ≡ false
       → broken_by g d r ≡ none_broken
   breaks_none r can changed early =
-      sets_are _ _ changed early (ap not (one_fits r r.tags can.one)) (none_early d r.start r.tags can.lasted)
-      (le-ltb _ _ (exact.measured (fragments_in r.fragments) r.tags can.one).ends)
+      sets_are _ _ changed early (ap not (one_fits r can.one)) (none_early d r.reign.start r.reign.tags can.lasted)
+      (le-ltb _ _ (exact.measured r.reign.fragments r.reign.tags can.one).ends)
 
   -- a span that breaks no rule has one value
-  quiet_one : (r : Span) → AllByRecursion (IsFormed g.segments) (fragments_in r.fragments)
-      → AreUnchanged (fragments_in r.fragments) → broken_by g d r ≡ none_broken
-      → HaveOneValue g.kind (fragments_in r.fragments) r.tags
-  quiet_one r formed unchanged none = fits_one r r.tags formed unchanged
+  quiet_one : (r : Span) → AllByRecursion (IsFormed g.segments) r.reign.fragments → AreUnchanged r.reign.fragments
+      → broken_by g d r ≡ none_broken → HaveOneValue g.kind r.reign.fragments r.reign.tags
+  quiet_one r formed unchanged none = fits_one r formed unchanged
       (holds (fits g r) (ap (λ (f : FaultSet). f.not_one_text) none))
       (ltb-false _ _ (ap (λ (f : FaultSet). f.tag_outside) none))
     where
@@ -173,92 +173,51 @@ module _ (g : Gauge) (exact : IsExact g) (d : ℕ) where
 
 -- ---- spans and reigns after one more fragment
 
--- the span has a fragment
-abbrev pub HasFragments : List SentFragment → Type 0
-HasFragments [] = ⊥
-HasFragments (s ∷ older) = Unit {0}
-
-first_stays : (s : SentFragment) (older : List SentFragment) → HasFragments older
-    → first_slot older ≡ first_slot (s ∷ older)
-first_stays s [] h = absurd h
-first_stays s (t ∷ older) h = refl
-
-with_reign : (slot : ℕ) (p : Fragment) (r : Span) → HasFragments r.fragments
-    → with_fragment slot p (reign_of r) ≡ reign_of (span_with slot p r)
-with_reign slot p r h = ap (λ (n : ℕ). record {
-  start = r.start;
-  opened = n;
-  last = slot;
-  flag = r.flag;
-  fragments = p
-      ∷ fragments_in r.fragments;
-  tags = r.tags;
-}) (first_stays record { slot = slot; fragment = p } r.fragments h)
-
-past_same : (d : ℕ) (older : List Span) → past_newest d (reigns_of older) ≡ past_span d older
-past_same d [] = refl
-past_same d (q ∷ rest) = refl
-
 -- what a fragment makes of spans, beside what it makes of their reigns: it joins; or it joins the reign, which it
--- changes;
--- or it opens one in time; or it opens one too early
+-- changes; or it opens one in time; or it opens one too early
 module _ (Q : List Span → List Reign → Type 0) (d slot : ℕ) (p : Fragment) (r : Span) (older : List Span)
-    (joins_it : AreUnchanged (p ∷ fragments_in r.fragments)
-    → Q (span_with slot p r ∷ older) (with_fragment slot p (reign_of r) ∷ reigns_of older))
-    (changes_it : (AreUnchanged (p ∷ fragments_in r.fragments) → ⊥)
-    → Q (turned d slot p true r older) (with_fragment slot p (reign_of r) ∷ reigns_of older))
+    (joins_it : AreUnchanged (p ∷ r.reign.fragments)
+    → Q (span_with slot p r ∷ older) (with_fragment slot p r.reign ∷ reigns_of older))
+    (changes_it : (AreUnchanged (p ∷ r.reign.fragments) → ⊥)
+    → Q (turned d slot p true r older) (with_fragment slot p r.reign ∷ reigns_of older))
     (opens_late : (start : ℕ) → start ≤ slot
-    → Q (first_of_span slot p start false false ∷ r ∷ older) (reigns_of (first_of_span slot p start false false ∷ r
-    ∷ older)))
+    → Q (first_of_span slot p start false false ∷ r ∷ older) (opened_from start slot p ∷ reigns_of (r ∷ older)))
     (opens_early : (start late : ℕ) → slot < late
-    → Q (first_of_span slot p start false true ∷ r ∷ older) (reign_of (first_of_span slot p late false true)
-    ∷ reigns_of (r ∷ older))) where
-  by_address : AreUnchanged (fragments_in r.fragments) → (o : Option SentFragment) → newest_at p.address r.fragments ≡ o
-      → Q (joined d slot p o r older) (with_fragment slot p (reign_of r) ∷ reigns_of older)
-  by_address u None e = joins_it (unchanged_by p (fragments_in r.fragments) u
-      (inl (bytes_at p.address r.fragments ∙ ap bytes_of e)))
-  by_address u (Some t) e =
-      let sent : sent_last p.address (fragments_in r.fragments) ≡ Some t.fragment.bytes = bytes_at p.address r.fragments
-      ∙ ap bytes_of e in
-      cond_both (same_bytes p.bytes t.fragment.bytes) _ _ (λ (rs : List Span). Q rs (with_fragment slot p (reign_of r)
+    → Q (first_of_span slot p start false true ∷ r ∷ older) (opened_from late slot p ∷ reigns_of (r ∷ older))) where
+  by_address : AreUnchanged r.reign.fragments → (o : Option (List ℕ)) → sent_last p.address r.reign.fragments ≡ o
+      → Q (joined d slot p o r older) (with_fragment slot p r.reign ∷ reigns_of older)
+  by_address u None e = joins_it (unchanged_by p r.reign.fragments u (inl e))
+  by_address u (Some bytes) e =
+      cond_both (same_bytes p.bytes bytes) _ _ (λ (rs : List Span). Q rs (with_fragment slot p r.reign
       ∷ reigns_of older))
-      (λ same. joins_it (unchanged_by p (fragments_in r.fragments) u
-      (inr (sent ∙ ap Some (sym (same_bytes_are _ _ same))))))
-      (λ other. changes_it (λ u. elim (holds_unchanged p (fragments_in r.fragments) u) [
+      (λ same. joins_it (unchanged_by p r.reign.fragments u (inr (e ∙ ap Some (sym (same_bytes_are _ _ same))))))
+      (λ other. changes_it (λ u. elim (holds_unchanged p r.reign.fragments u) [
         | inl none ↦ (let none = none in absurd (cc))
         | inr some ↦
-            let bytes : p.bytes ≡ t.fragment.bytes = cc in
-            let same : same_bytes p.bytes t.fragment.bytes ≡ true = bytes_same _ _ bytes in
+            let equal : p.bytes ≡ bytes = cc in
+            let same : same_bytes p.bytes bytes ≡ true = bytes_same _ _ equal in
             absurd (cc)
       ]))
 
-  pub by_fragment : AreUnchanged (fragments_in r.fragments)
+  pub by_fragment : AreUnchanged r.reign.fragments
       → Q (spans_after d slot p (r ∷ older)) (after_fragment d slot p (reigns_of (r ∷ older)))
-  by_fragment u = by (same_or_other r.flag p.flag)
+  by_fragment u = by (same_or_other r.reign.flag p.flag)
     where
-      by : (r.flag ≡ p.flag) ⊎ (r.flag ≢ p.flag)
+      by : (r.reign.flag ≡ p.flag) ⊎ (r.reign.flag ≢ p.flag)
           → Q (spans_after d slot p (r ∷ older)) (after_fragment d slot p (reigns_of (r ∷ older)))
       by (inl e) =
-          elim (cases_lt slot (r.last + d)) [
-            | inl near ↦ rw (is_same_flag r.flag p.flag e, lt-ltb slot (r.last + d) near)
-                (by_address u (newest_at p.address r.fragments) refl)
-            | inr far ↦ rw (is_same_flag r.flag p.flag e, le-ltb slot (r.last + d) far) (opens_late (r.last + d) far)
+          elim (cases_lt slot (r.reign.last + d)) [
+            | inl near ↦ rw (is_same_flag r.reign.flag p.flag e, lt-ltb slot (r.reign.last + d) near)
+                (by_address u (sent_last p.address r.reign.fragments) refl)
+            | inr far ↦ rw (is_same_flag r.reign.flag p.flag e, le-ltb slot (r.reign.last + d) far)
+                (opens_late (r.reign.last + d) far)
           ]
       by (inr ne) =
-          elim (cases_lt slot (max (r.last + 1) (past_span d older))) [
-            | inl early ↦ rw (
-              is_other_flag r.flag p.flag ne,
-              past_same d older,
-              lt-ltb slot
-                  (max (r.last + 1) (past_span d older)) early,
-            )
-                (opens_early (r.last + 1) (max (r.last + 1) (past_span d older)) early)
-            | inr late ↦ rw (
-              is_other_flag r.flag p.flag ne,
-              past_same d older,
-              le-ltb slot
-                  (max (r.last + 1) (past_span d older)) late,
-            ) (opens_late (max (r.last + 1) (past_span d older)) late)
+          elim (cases_lt slot (due_after d r older)) [
+            | inl early ↦ rw (is_other_flag r.reign.flag p.flag ne, lt-ltb slot (due_after d r older) early)
+                (opens_early (r.reign.last + 1) (due_after d r older) early)
+            | inr late ↦ rw (is_other_flag r.reign.flag p.flag ne, le-ltb slot (due_after d r older) late)
+                (opens_late (due_after d r older) late)
           ]
 
 -- ---- up to the first fault
@@ -266,7 +225,6 @@ module _ (Q : List Span → List Reign → Type 0) (d slot : ℕ) (p : Fragment)
 -- these spans are these reigns, and the newest one breaks no rule
 pub record AreReigns (g : Gauge) (d : ℕ) (sent : List Mark) (rs : List Span) (regs : List Reign) : Type 0 where
   pub same : reigns_of rs ≡ regs
-  pub some : AllByRecursion (λ (r : Span). HasFragments r.fragments) rs
   pub none : broken_newest g d sent rs ≡ none_broken
 
 module _ (g : Gauge) (exact : IsExact g) (d : ℕ) where
@@ -279,31 +237,23 @@ module _ (g : Gauge) (exact : IsExact g) (d : ℕ) where
       → AreReigns g d before rs (reigns_of rs)
       → AreReigns g d (Sends p ∷ before) (spans_after d (length before) p rs) (after_fragment d (length before) p
       (reigns_of rs))
-  fragment_reigns p before [] was all h = record {
-    same = refl;
-    some = (tt, tt);
-    none = breaks_none g exact d (first_of_span (length before) p 0 false false) all.0
-        refl refl;
-  }
+  fragment_reigns p before [] was all h =
+      record { same = refl; none = breaks_none g exact d (first_of_span (length before) p 0 false false) all.0 refl refl }
   fragment_reigns p before (r ∷ older) was all h =
       by_fragment (λ (rs : List Span) (regs : List Reign). AllByRecursion (CanBeBroadcast d g.kind) regs
       → AreReigns g d (Sends p ∷ before) rs regs) d (length before) p r older
       (λ u all. record {
-        same = ap (λ (q : Reign). q ∷ reigns_of older) (sym (with_reign (length before) p r h.some.0));
-        some = (tt, h.some.1);
-        none = breaks_none g exact d (span_with (length before) p r) (subst (CanBeBroadcast d g.kind)
-            (with_reign (length before) p r h.some.0) all.0) (ap (λ (f : FaultSet). f.changed) h.none)
+        same = refl;
+        none = breaks_none g exact d (span_with (length before) p r) all.0 (ap (λ (f : FaultSet). f.changed) h.none)
             (ap (λ (f : FaultSet). f.early_flag) h.none);
       })
-      (λ other all. absurd (other (can_be_unchanged (with_fragment (length before) p (reign_of r)) all.0)))
+      (λ other all. absurd (other (can_be_unchanged (with_fragment (length before) p r.reign) all.0)))
       (λ start late all. record {
         same = refl;
-        some = (tt, h.some);
-        none = breaks_none g exact d
-            (first_of_span (length before) p start false false) all.0 refl refl;
+        none = breaks_none g exact d (first_of_span (length before) p start false false) all.0 refl refl;
       })
       (λ start late less all. absurd (omega (arith, all.0.begun, less)))
-      (can_be_unchanged (reign_of r) was.0) all
+      (can_be_unchanged r.reign was.0) all
 
   tags_reigns : (pair : PairFields) (before : List Mark) (rs : List Span) → (reigns_of rs ≡ [] → ⊥)
       → AllByRecursion (CanBeBroadcast d g.kind) (after_tags (length before) pair (reigns_of rs))
@@ -313,21 +263,17 @@ module _ (g : Gauge) (exact : IsExact g) (d : ℕ) where
   tags_reigns pair before [] some all h = absurd (some refl)
   tags_reigns pair before (r ∷ older) some all h = record {
     same = refl;
-    some = h.some;
-    none = breaks_none g exact d (record r {
-      last = length before;
-      tags = record { slot = length before; pair = pair }
-          ∷ r.tags;
-    }) all.0 (ap (λ (f : FaultSet). f.changed) h.none) (ap (λ (f : FaultSet). f.early_flag) h.none);
+    none = breaks_none g exact d (record r { reign = with_tags (length before) pair r.reign }) all.0
+        (ap (λ (f : FaultSet). f.changed) h.none) (ap (λ (f : FaultSet). f.early_flag) h.none);
   }
 
   nothing_reigns : (before : List Mark) (rs : List Span) (regs : List Reign) → AreReigns g d before rs regs
       → AreReigns g d (Nothing ∷ before) rs regs
-  nothing_reigns before [] regs h = record { same = h.same; some = h.some; none = h.none }
-  nothing_reigns before (r ∷ older) regs h = record { same = h.same; some = h.some; none = h.none }
+  nothing_reigns before [] regs h = record { same = h.same; none = h.none }
+  nothing_reigns before (r ∷ older) regs h = record { same = h.same; none = h.none }
 
   pub are_reigns : (sent : List Mark) → Passes d g.kind sent → AreReigns g d sent (spans d sent) (reigns d sent)
-  are_reigns [] passes = record { same = refl; some = tt; none = refl }
+  are_reigns [] passes = record { same = refl; none = refl }
   are_reigns (Nothing ∷ before) passes = nothing_reigns before (spans d before) (reigns d before)
       (are_reigns before (service_passed_before d g.kind Nothing before passes))
   are_reigns (Sends p ∷ before) passes =
@@ -338,7 +284,7 @@ module _ (g : Gauge) (exact : IsExact g) (d : ℕ) where
       (fragment_reigns p before (spans d before) (subst (AllByRecursion (CanBeBroadcast d g.kind)) (sym h.same)
       passed.reigns)
       (subst (λ (regs : List Reign). AllByRecursion (CanBeBroadcast d g.kind) (after_fragment d (length before) p regs))
-      (sym h.same) passes.reigns) record { same = refl; some = h.some; none = h.none })
+      (sym h.same) passes.reigns) record { same = refl; none = h.none })
   are_reigns (Tagged pair ∷ before) passes =
       let passed = service_passed_before d g.kind (Tagged pair) before passes in
       let h = are_reigns before passed in
@@ -348,7 +294,7 @@ module _ (g : Gauge) (exact : IsExact g) (d : ℕ) where
       (spans d before)) (after_tags (length before) pair regs)) h.same
       (tags_reigns pair before (spans d before) some
       (subst (λ (regs : List Reign). AllByRecursion (CanBeBroadcast d g.kind) (after_tags (length before) pair regs))
-      (sym h.same) passes.reigns) record { same = refl; some = h.some; none = h.none })
+      (sym h.same) passes.reigns) record { same = refl; none = h.none })
 
   -- ---- at the first fault
 
@@ -398,7 +344,7 @@ module _ (g : Gauge) (exact : IsExact g) (d : ℕ) where
           begun = was.0.begun;
           lasted = was.0.lasted;
           one = quiet_one g exact d (span_with (length before) p r)
-              (formed, exact.formed (fragments_in r.fragments) r.tags was.0.one) u none;
+              (formed, exact.formed r.reign.fragments r.reign.tags was.0.one) u none;
         },
         was.1,
       ))
@@ -413,7 +359,7 @@ module _ (g : Gauge) (exact : IsExact g) (d : ℕ) where
         was,
       ))
       (λ start late less none. absurd (let bad : true ≡ false = ap (λ (f : FaultSet). f.early_flag) none in cc))
-      (can_be_unchanged (reign_of r) was.0) none
+      (can_be_unchanged r.reign was.0) none
 
   can_be_tagged : (pair : PairFields) (before : List Mark) (rs : List Span)
       → AllByRecursion (CanBeBroadcast d g.kind) (reigns_of rs)
@@ -428,12 +374,8 @@ module _ (g : Gauge) (exact : IsExact g) (d : ℕ) where
       record {
         begun = was.0.begun;
         lasted = (late, was.0.lasted);
-        one = quiet_one g exact d record r {
-          last = length before;
-          tags = record { slot = length before; pair = pair }
-              ∷ r.tags;
-        } (exact.formed (fragments_in r.fragments) r.tags was.0.one) (can_be_unchanged (reign_of r) was.0)
-            none;
+        one = quiet_one g exact d (record r { reign = with_tags (length before) pair r.reign })
+            (exact.formed r.reign.fragments r.reign.tags was.0.one) (can_be_unchanged r.reign was.0) none;
       },
       was.1,
     ),
@@ -443,8 +385,8 @@ module _ (g : Gauge) (exact : IsExact g) (d : ℕ) where
       not_first true y e = absurd (let bad : true ≡ false = e in cc)
       not_first false y e = refl
 
-      late : r.start + d ≤ length before
-      late = ltb-false _ _ (not_first (nat_lt (length before) (r.start + d)) _ (ap (λ (f : FaultSet). f.early_tag)
+      late : r.reign.start + d ≤ length before
+      late = ltb-false _ _ (not_first (nat_lt (length before) (r.reign.start + d)) _ (ap (λ (f : FaultSet). f.early_tag)
           none))
 
   -- a mark that adds nothing to marks that pass: they pass with it too

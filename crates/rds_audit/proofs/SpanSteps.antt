@@ -16,13 +16,13 @@ use Rattle.rds_audit.specs.declared.log_start.LogStart.{LogStart}
 use Rattle.rds_audit.specs.declared.log_start.LogStart.TheVariants.{Complete, Running}
 use Rattle.rds_audit.specs.declared.fault_set.FaultSet.{FaultSet}
 use Rattle.rds_audit.specs.Ages.{Ages, HoldsAges, Joins, age_at, age_of_newest, aged, ages_at}
-use Rattle.rds_audit.specs.AuditAt.{FollowsFrom, HoldsContent, HoldsNewestSpans, HoldsSpans, first_slot, reign_of}
-use Rattle.rds_audit.specs.AuditAt.{reigns_of}
+use Rattle.rds_audit.specs.AuditAt.{FollowsFrom, HoldsContent, HoldsNewestSpans, HoldsSpans}
+use Rattle.rds_audit.specs.Reigns.{opened_from}
 use Rattle.rds_audit.specs.ReignsState.{ContentState, HoldsNoOther, ReignsState, cell_at, no_content}
-use Rattle.rds_audit.specs.Lengths.{Gauge, IsFormed, lengths_of, narrowed, pair_end, tags_end}
-use Rattle.rds_audit.specs.Listing.{SentFragment, Span, added, broken_by, broken_newest, first_of_span, fragments_in}
-use Rattle.rds_audit.specs.Listing.{has_early_tags, is_tagged, joined, newest_at, none_broken, not_before, past_span}
-use Rattle.rds_audit.specs.Listing.{same_bytes, span_with, spans, spans_after, spans_tagged, turned}
+use Rattle.rds_audit.specs.Lengths.{Gauge, IsFormed, lengths_of, narrowed, pair_end, sent_last, tags_end}
+use Rattle.rds_audit.specs.Listing.{Span, added, broken_by, broken_newest, due_after, first_of_span, has_early_tags, is_tagged}
+use Rattle.rds_audit.specs.Listing.{joined, none_broken, not_before, reigns_of, same_bytes, span_with, spans}
+use Rattle.rds_audit.specs.Listing.{spans_after, spans_tagged, turned}
 use Rattle.rds_audit.specs.AuditState.{SpansState, are_early, began_before, comes_early, is_turned, judged_ends}
 use Rattle.rds_audit.specs.AuditState.{judged_fragment, opened_in, put_in, repeated_in, tagged_in}
 use Rattle.rds_audit.specs.Recording.{silent_as}
@@ -30,7 +30,7 @@ use Rattle.rds_audit.proofs.AgeSteps.{AreOver, ages_begun, ages_later, ages_rene
 use Rattle.rds_audit.proofs.ContentSteps.{empty_content, taken_content, tagged_content}
 use Rattle.rds_audit.proofs.HeldAgain.{set_held}
 use Rattle.rds_audit.proofs.Recordings.{silent_length}
-use Rattle.rds_audit.proofs.SpanOrder.{AreInOrder, bytes_at, bytes_of, bytes_same, in_order, same_bytes_are}
+use Rattle.rds_audit.proofs.SpanOrder.{AreInOrder, bytes_same, in_order, same_bytes_are}
 
 -- ---- the rules that a span breaks
 
@@ -76,65 +76,57 @@ ends_past o l n = by (nat_lt l.most n) refl (narrower o)
 
 -- the rules that a span breaks with one more fragment
 broken_with : (g : Gauge) (d now : ℕ) (p : Fragment) (r : Span)
-    → judged_fragment (g.allowed p.address p.bytes) (lengths_of g.allowed g.longest (fragments_in r.fragments))
-    (tags_end r.tags) (broken_by g d r) ≡ broken_by g d (span_with now p r)
+    → judged_fragment (g.allowed p.address p.bytes) (lengths_of g.allowed g.longest r.reign.fragments)
+    (tags_end r.reign.tags) (broken_by g d r) ≡ broken_by g d (span_with now p r)
 broken_with g d now p r =
-    let l : Lengths = lengths_of g.allowed g.longest (fragments_in r.fragments) in
+    let l : Lengths = lengths_of g.allowed g.longest r.reign.fragments in
     let o : Option Lengths = g.allowed p.address p.bytes in
     sets_are _ _ refl refl
-    (not_one (is_some o) (list_all (λ (s : SentFragment). is_some (g.allowed s.fragment.address s.fragment.bytes))
-    r.fragments) (nat_le l.least l.most) (nat_le (narrowed o l).least (narrowed o l).most) (no_more_room o l))
-    refl (ends_past o l (tags_end r.tags))
+    (not_one (is_some o) (list_all (λ (p : Fragment). is_some (g.allowed p.address p.bytes))
+    r.reign.fragments) (nat_le l.least l.most) (nat_le (narrowed o l).least (narrowed o l).most) (no_more_room o l))
+    refl (ends_past o l (tags_end r.reign.tags))
 
 -- the same by the state
 broken_put : (g : Gauge) (d now : ℕ) (p : Fragment) (r : Span) (c : ContentState) (f : FaultSet)
-    → HoldsContent g (fragments_in r.fragments) r.tags c → f ≡ broken_by g d r
+    → HoldsContent g r.reign.fragments r.reign.tags c → f ≡ broken_by g d r
     → judged_fragment (g.allowed p.address p.bytes) c.lengths c.tags_end f ≡ broken_by g d (span_with now p r)
 broken_put g d now p r c f h e =
     ap (λ (l : Lengths). judged_fragment (g.allowed p.address p.bytes) l c.tags_end f) h.lengths
     ∙ ap (λ (n : ℕ). judged_fragment (g.allowed p.address p.bytes) (lengths_of g.allowed g.longest
-    (fragments_in r.fragments)) n f) h.ends
+    r.reign.fragments) n f) h.ends
     ∙ ap (λ (x : FaultSet). judged_fragment (g.allowed p.address p.bytes) (lengths_of g.allowed g.longest
-    (fragments_in r.fragments)) (tags_end r.tags) x) e
+    r.reign.fragments) (tags_end r.reign.tags) x) e
     ∙ broken_with g d now p r
 
 -- a span without fragments
+abbrev no_fragment : ℕ → ℕ → Bool → Bool → Bool → Span
+no_fragment start now flag is_changed is_early = record {
+  reign = record { start = start; opened = now; last = now; flag = flag; fragments = []; tags = [] };
+  is_changed = is_changed;
+  is_early = is_early;
+}
+
 empty_broken : (g : Gauge) (d start now : ℕ) (flag is_changed is_early : Bool)
-    → record none_broken { changed = is_changed; early_flag = is_early } ≡ broken_by g d record {
-      start = start;
-      last = now;
-      flag = flag;
-      fragments = [];
-      tags = [];
-      is_changed = is_changed;
-      is_early = is_early;
-    }
+    → record none_broken { changed = is_changed; early_flag = is_early }
+    ≡ broken_by g d (no_fragment start now flag is_changed is_early)
 empty_broken g d start now flag is_changed is_early = sets_are _ _ refl refl
     (ap not (sym (le-leb 0 g.longest (omega arith)))) refl (sym (le-ltb g.longest 0 (omega arith)))
 
--- a fragment at the address of the newest one there, with its bytes, narrows nothing
-pub newest_place : (a : ℕ) (sent : List SentFragment) (t : SentFragment) → newest_at a sent ≡ Some t
-    → t.fragment.address ≡ a
-newest_place a [] t e = absurd (cc)
-newest_place a (u ∷ older) t e = by (nat_eq a u.fragment.address) refl e (newest_place a older t)
+-- a test that all fragments pass is passed by the last bytes that were sent at an address
+sent_passes : (test : ℕ → List ℕ → Bool) (a : ℕ) (sent : List Fragment) (bytes : List ℕ)
+    → list_all (λ (p : Fragment). test p.address p.bytes) sent ≡ true → sent_last a sent ≡ Some bytes
+    → test a bytes ≡ true
+sent_passes test a [] bytes all e = absurd (cc)
+sent_passes test a (q ∷ older) bytes all e =
+    let parts = and_parts (test q.address q.bytes) _ all in
+    by (nat_eq a q.address) refl e (sent_passes test a older bytes parts.1) parts.0
   where
-    by : (v : Bool) → nat_eq a u.fragment.address ≡ v → cond v (Some u) (newest_at a older) ≡ Some t
-        → (newest_at a older ≡ Some t → t.fragment.address ≡ a) → t.fragment.address ≡ a
-    by true n e rest = (let same : u ≡ t = cc in sym (eqb-true a u.fragment.address n
-        ∙ ap (λ (s : SentFragment). s.fragment.address) same))
-    by false n e rest = rest e
-
-newest_passes : (test : SentFragment → Bool) (a : ℕ) (sent : List SentFragment) (t : SentFragment)
-    → list_all test sent ≡ true → newest_at a sent ≡ Some t → test t ≡ true
-newest_passes test a [] t all e = absurd (cc)
-newest_passes test a (u ∷ older) t all e =
-    let parts = and_parts (test u) (list_all test older) all in
-    by (nat_eq a u.fragment.address) e (newest_passes test a older t parts.1)
-  where
-    by : (v : Bool) → cond v (Some u) (newest_at a older) ≡ Some t → (newest_at a older ≡ Some t → test t ≡ true)
-        → test t ≡ true
-    by true e rest = (let same : u ≡ t = cc in ap test (sym same) ∙ (and_parts (test u) (list_all test older) all).0)
-    by false e rest = rest e
+    by : (v : Bool) → nat_eq a q.address ≡ v → cond v (Some q.bytes) (sent_last a older) ≡ Some bytes
+        → (sent_last a older ≡ Some bytes → test a bytes ≡ true) → test q.address q.bytes ≡ true → test a bytes ≡ true
+    by true n e rest first =
+        let same : q.bytes ≡ bytes = cc in
+        ap (test a) (sym same) ∙ ap (λ x. test x q.bytes) (eqb-true a q.address n) ∙ first
+    by false n e rest first = rest e
 
 narrowed_twice : (o : Option Lengths) (l : Lengths) → narrowed o (narrowed o l) ≡ narrowed o l
 narrowed_twice None l = refl
@@ -151,31 +143,26 @@ narrowed_swap (Some o) (Some k) l =
     let most : min (min l.most k.most) o.most ≡ min (min l.most o.most) k.most = omega arith in
     λ i. record { least = least i; most = most i }
 
-narrowed_again : (allowed : ℕ → List ℕ → Option Lengths) (longest a : ℕ) (sent : List SentFragment) (t : SentFragment)
-    → newest_at a sent ≡ Some t
-    → narrowed (allowed t.fragment.address t.fragment.bytes) (lengths_of allowed longest (fragments_in sent))
-    ≡ lengths_of allowed longest (fragments_in sent)
-narrowed_again allowed longest a [] t e = absurd (cc)
-narrowed_again allowed longest a (u ∷ older) t e = by (nat_eq a u.fragment.address) e (narrowed_again allowed longest a
-    older t)
+-- the last bytes that were sent at an address narrow nothing again
+narrowed_again : (allowed : ℕ → List ℕ → Option Lengths) (longest a : ℕ) (sent : List Fragment) (bytes : List ℕ)
+    → sent_last a sent ≡ Some bytes
+    → narrowed (allowed a bytes) (lengths_of allowed longest sent) ≡ lengths_of allowed longest sent
+narrowed_again allowed longest a [] bytes e = absurd (cc)
+narrowed_again allowed longest a (q ∷ older) bytes e =
+    by (nat_eq a q.address) refl e (narrowed_again allowed longest a older bytes)
   where
-    by : (v : Bool) → cond v (Some u) (newest_at a older) ≡ Some t
-        → (newest_at a older ≡ Some t
-        → narrowed (allowed t.fragment.address t.fragment.bytes) (lengths_of allowed longest (fragments_in older))
-        ≡ lengths_of allowed longest (fragments_in older))
-        → narrowed (allowed t.fragment.address t.fragment.bytes) (narrowed (allowed u.fragment.address u.fragment.bytes)
-        (lengths_of allowed longest (fragments_in older)))
-        ≡ narrowed (allowed u.fragment.address u.fragment.bytes) (lengths_of allowed longest (fragments_in older))
-    by true e rest =
-        let same : u ≡ t = cc in
-        subst (λ (x : SentFragment). narrowed (allowed x.fragment.address x.fragment.bytes)
-        (narrowed (allowed u.fragment.address u.fragment.bytes) (lengths_of allowed longest (fragments_in older)))
-        ≡ narrowed (allowed u.fragment.address u.fragment.bytes) (lengths_of allowed longest (fragments_in older)))
-        same (narrowed_twice (allowed u.fragment.address u.fragment.bytes)
-        (lengths_of allowed longest (fragments_in older)))
-    by false e rest = narrowed_swap (allowed t.fragment.address t.fragment.bytes)
-        (allowed u.fragment.address u.fragment.bytes) (lengths_of allowed longest (fragments_in older))
-        ∙ ap (narrowed (allowed u.fragment.address u.fragment.bytes)) (rest e)
+    by : (v : Bool) → nat_eq a q.address ≡ v → cond v (Some q.bytes) (sent_last a older) ≡ Some bytes
+        → (sent_last a older ≡ Some bytes → narrowed (allowed a bytes) (lengths_of allowed longest older) ≡ (lengths_of allowed longest older))
+        → narrowed (allowed a bytes) (narrowed (allowed q.address q.bytes) (lengths_of allowed longest older))
+        ≡ narrowed (allowed q.address q.bytes) (lengths_of allowed longest older)
+    by true n e rest =
+        let same : q.bytes ≡ bytes = cc in
+        let mine : allowed a bytes ≡ allowed q.address q.bytes = ap (allowed a) (sym same)
+        ∙ ap (λ x. allowed x q.bytes) (eqb-true a q.address n) in
+        ap (λ o. narrowed o (narrowed (allowed q.address q.bytes) (lengths_of allowed longest older))) mine
+        ∙ narrowed_twice (allowed q.address q.bytes) (lengths_of allowed longest older)
+    by false n e rest = narrowed_swap (allowed a bytes) (allowed q.address q.bytes) (lengths_of allowed longest older)
+        ∙ ap (narrowed (allowed q.address q.bytes)) (rest e)
 
 both_fit : (some each : Bool) → (each ≡ true → some ≡ true) → (some && each) ≡ each
 both_fit true each h = refl
@@ -184,19 +171,19 @@ both_fit false true h = absurd (let bad : false ≡ true = h refl in cc)
 
 -- so the span breaks the same rules with it
 broken_again : (g : Gauge) (d now : ℕ) (p : Fragment) (r : Span)
-    → narrowed (g.allowed p.address p.bytes) (lengths_of g.allowed g.longest (fragments_in r.fragments))
-    ≡ lengths_of g.allowed g.longest (fragments_in r.fragments)
-    → (list_all (λ (s : SentFragment). is_some (g.allowed s.fragment.address s.fragment.bytes)) r.fragments ≡ true
+    → narrowed (g.allowed p.address p.bytes) (lengths_of g.allowed g.longest r.reign.fragments)
+    ≡ lengths_of g.allowed g.longest r.reign.fragments
+    → (list_all (λ (p : Fragment). is_some (g.allowed p.address p.bytes)) r.reign.fragments ≡ true
     → is_some (g.allowed p.address p.bytes) ≡ true) → broken_by g d (span_with now p r) ≡ broken_by g d r
 broken_again g d now p r again fit =
-    let all : Bool = list_all (λ (s : SentFragment). is_some (g.allowed s.fragment.address s.fragment.bytes))
-    r.fragments in
+    let all : Bool = list_all (λ (p : Fragment). is_some (g.allowed p.address p.bytes))
+    r.reign.fragments in
     sets_are _ _ refl refl
     (ap (λ (l : Lengths). not ((is_some (g.allowed p.address p.bytes) && all) && nat_le l.least l.most)) again
-    ∙ ap (λ b. not (b && nat_le (lengths_of g.allowed g.longest (fragments_in r.fragments)).least
-    (lengths_of g.allowed g.longest (fragments_in r.fragments)).most))
+    ∙ ap (λ b. not (b && nat_le (lengths_of g.allowed g.longest r.reign.fragments).least
+    (lengths_of g.allowed g.longest r.reign.fragments).most))
     (both_fit (is_some (g.allowed p.address p.bytes)) all fit))
-    refl (ap (λ (l : Lengths). nat_lt l.most (tags_end r.tags)) again)
+    refl (ap (λ (l : Lengths). nat_lt l.most (tags_end r.reign.tags)) again)
 
 -- an end past each length is not within by a further end
 further_past : (most end more : ℕ) → end ≤ more → (nat_lt most end || nat_lt most more) ≡ nat_lt most more
@@ -221,25 +208,30 @@ module _ (g : Gauge) (few : g.segments ≤ 16) (d : ℕ) (pos : 0 < d) (sent : L
   -- a fragment is put into a span
   put_follows : (p : Fragment) (r : Span) (older : List Span) (s : SpansState) → IsFormed g.segments p
       → HoldsAges d now (reigns_of (span_with now p r ∷ older)) record s.reigns.ages { since_last = 0 }
-      → HoldsContent g (fragments_in r.fragments) r.tags s.reigns.content
+      → HoldsContent g r.reign.fragments r.reign.tags s.reigns.content
       → s.count ≡ min (suc (length older)) (2 ^ 64 - 1) → s.broken ≡ broken_by g d r
       → FollowsFrom g d now (Sends p ∷ sent) (span_with now p r ∷ older) (put_in (g.allowed p.address p.bytes) p.address
       p.bytes s)
   put_follows p r older s formed ages content count broken = record {
     ages = ages;
-    content = taken_content g few p (fragments_in r.fragments) r.tags s.reigns.content content formed;
+    content = taken_content g few p r.reign.fragments r.reign.tags s.reigns.content content formed;
     count = count;
     broken = broken_put g d now p r s.reigns.content s.broken content broken;
   }
 
+  -- the content holds what was sent last at the address of a fragment
+  held : (p : Fragment) (r : Span) (c : ContentState) → IsFormed g.segments p
+      → HoldsContent g r.reign.fragments r.reign.tags c → sent_last p.address r.reign.fragments ≡ cell_at p.address c
+  held p r c formed h = (let address = formed.address in sym (h.cells p.address (omega arith)))
+
   -- what joins the newest span joins it by the definition too
   is_joined : (Q : List Span → Type 0) (p : Fragment) (r : Span) (older : List Span) (a : Ages)
       → HoldsAges d now (reigns_of (r ∷ older)) a → Joins d p.flag a
-      → Q (joined d now p (newest_at p.address r.fragments) r older) → Q (spans_after d now p (r ∷ older))
+      → Q (joined d now p (sent_last p.address r.reign.fragments) r older) → Q (spans_after d now p (r ∷ older))
   is_joined Q p r older a h on q =
-      let near = joins_near d now p.flag (reign_of r) (reigns_of older) a h on in
-      let same : is_same r.flag p.flag ≡ true = is_same_flag r.flag p.flag near.0 in
-      let here : nat_lt now (r.last + d) ≡ true = lt-ltb now (r.last + d) near.1 in
+      let near = joins_near d now p.flag r.reign (reigns_of older) a h on in
+      let same : is_same r.reign.flag p.flag ≡ true = is_same_flag r.reign.flag p.flag near.0 in
+      let here : nat_lt now (r.reign.last + d) ≡ true = lt-ltb now (r.reign.last + d) near.1 in
       rw (same, here) q
 
   pub joined_follows : (p : Fragment) (rs : List Span) (s : SpansState) → IsFormed g.segments p
@@ -250,60 +242,51 @@ module _ (g : Gauge) (few : g.segments ≤ 16) (d : ℕ) (pos : 0 < d) (sent : L
   joined_follows p (r ∷ older) s formed h on no_other =
       is_joined (λ (rs : List Span). FollowsFrom g d now (Sends p ∷ sent) rs (put_in (g.allowed p.address p.bytes)
       p.address p.bytes s) × (length rs ≡ suc (length older))) p r older s.reigns.ages h.ages on
-      (by (newest_at p.address r.fragments) refl no_other)
+      (elim no_other [
+        | inl none ↦ rw (held p r _ formed h.content ∙ none) (follows, refl)
+        | inr some ↦ rw (held p r _ formed h.content ∙ some, bytes_same p.bytes p.bytes refl) (follows, refl)
+      ])
     where
       follows : FollowsFrom g d now (Sends p ∷ sent) (span_with now p r ∷ older) (put_in (g.allowed p.address p.bytes)
           p.address p.bytes s)
       follows =
-          put_follows p r older s formed (ages_renewed d now (first_slot (record { slot = now; fragment = p }
-          ∷ r.fragments)) (p ∷ fragments_in r.fragments) r.tags (reign_of r) (reigns_of older) s.reigns.ages h.ages)
+          put_follows p r older s formed (ages_renewed d now r.reign.opened (p ∷ r.reign.fragments) r.reign.tags r.reign
+          (reigns_of older) s.reigns.ages h.ages)
           h.content h.count h.broken
 
-      by : (o : Option SentFragment) → newest_at p.address r.fragments ≡ o
-          → HoldsNoOther p.address p.bytes s.reigns.content
-          → FollowsFrom g d now (Sends p ∷ sent) (joined d now p o r older) (put_in (g.allowed p.address p.bytes)
-          p.address p.bytes s) × (length (joined d now p o r older) ≡ suc (length older))
-      by None e no_other = (follows, refl)
-      by (Some t) e no_other =
-          let address = formed.address in
-          let is : cell_at p.address s.reigns.content ≡ Some t.fragment.bytes = h.content.cells p.address (omega arith)
-          ∙ bytes_at p.address r.fragments ∙ ap bytes_of e in
-          let same : p.bytes ≡ t.fragment.bytes = elim no_other [ inl none ↦ absurd (cc) | inr some ↦ cc ] in
-          rw (bytes_same p.bytes t.fragment.bytes same) (follows, refl)
-
   -- the test of an early span
-  early_same : (r : Span) (older : List Span) (since_before : ℕ) → r.last < now
+  early_same : (r : Span) (older : List Span) (since_before : ℕ) → r.reign.last < now
       → since_before ≡ age_of_newest d now (reigns_of older)
-      → nat_lt since_before d ≡ nat_lt now (max (r.last + 1) (past_span d older))
+      → nat_lt since_before d ≡ nat_lt now (due_after d r older)
   early_same r [] since_before over e = le-ltb since_before d (omega (arith, e))
-      ∙ sym (le-ltb now (max (r.last + 1) 0) (omega arith))
+      ∙ sym (le-ltb now (max (r.reign.last + 1) 0) (omega arith))
   early_same r (q ∷ rest) since_before over e =
-      elim (cases_lt now (max (r.last + 1) (q.last + d))) [
-        | inl early ↦ lt-ltb since_before d (omega arith) ∙ sym (lt-ltb now (max (r.last + 1) (q.last + d)) early)
-        | inr late ↦ le-ltb since_before d (omega arith) ∙ sym (le-ltb now (max (r.last + 1) (q.last + d)) late)
+      elim (cases_lt now (max (r.reign.last + 1) (q.reign.last + d))) [
+        | inl early ↦ lt-ltb since_before d (omega arith) ∙ sym (lt-ltb now (max (r.reign.last + 1) (q.reign.last + d)) early)
+        | inr late ↦ le-ltb since_before d (omega arith) ∙ sym (le-ltb now (max (r.reign.last + 1) (q.reign.last + d)) late)
       ]
 
   -- the start of a span that turned
   turned_start : (r : Span) (older : List Span) (since_last since_before : ℕ) → AreInOrder now (r ∷ older)
-      → since_last ≡ min (now - r.last) (2 * d) → since_before ≡ age_of_newest d now (reigns_of older)
+      → since_last ≡ min (now - r.reign.last) (2 * d) → since_before ≡ age_of_newest d now (reigns_of older)
       → cond (nat_lt since_before d) (since_last - 1) (min (since_last - 1) (since_before - d))
-      ≡ min (now - cond (nat_lt now (max (r.last + 1) (past_span d older))) (r.last + 1)
-      (max (r.last + 1) (past_span d older))) d
+      ≡ min (now - cond (nat_lt now (due_after d r older)) (r.reign.last + 1)
+      (due_after d r older)) d
   turned_start r older since_last since_before order last before = rw (early_same r older since_before order.0.over
       before) (by older order before)
     where
       by : (rest : List Span) → AreInOrder now (r ∷ rest) → since_before ≡ age_of_newest d now (reigns_of rest)
-          → cond (nat_lt now (max (r.last + 1) (past_span d rest))) (since_last - 1)
+          → cond (nat_lt now (due_after d r rest)) (since_last - 1)
           (min (since_last - 1) (since_before - d))
-          ≡ min (now - cond (nat_lt now (max (r.last + 1) (past_span d rest))) (r.last + 1)
-          (max (r.last + 1) (past_span d rest))) d
-      by [] order before = rw (le-ltb now (max (r.last + 1) 0) (omega (arith, order.0.over)))
+          ≡ min (now - cond (nat_lt now (due_after d r rest)) (r.reign.last + 1)
+          (due_after d r rest)) d
+      by [] order before = rw (le-ltb now (max (r.reign.last + 1) 0) (omega (arith, order.0.over)))
           (omega (arith, order.0.over))
       by (q ∷ rest) order before =
-          elim (cases_lt now (max (r.last + 1) (q.last + d))) [
-            | inl early ↦ rw (lt-ltb now (max (r.last + 1) (q.last + d)) early)
+          elim (cases_lt now (max (r.reign.last + 1) (q.reign.last + d))) [
+            | inl early ↦ rw (lt-ltb now (max (r.reign.last + 1) (q.reign.last + d)) early)
                 (omega (arith, order.0.over, order.0.after, order.0.begun))
-            | inr late ↦ rw (le-ltb now (max (r.last + 1) (q.last + d)) late)
+            | inr late ↦ rw (le-ltb now (max (r.reign.last + 1) (q.reign.last + d)) late)
                 (omega (arith, order.0.over, order.1.0.over))
           ]
 
@@ -315,17 +298,8 @@ module _ (g : Gauge) (few : g.segments ≤ 16) (d : ℕ) (pos : 0 < d) (sent : L
       → FollowsFrom g d now (Sends p ∷ sent) (first_of_span now p start is_changed is_early ∷ rs)
       (put_in (g.allowed p.address p.bytes) p.address p.bytes (opened_in d g.longest is_changed p.flag s))
   begins p rs start is_changed is_early s formed ages began early count =
-      put_follows p record {
-        start = start;
-        last = now;
-        flag = p.flag;
-        fragments = [];
-        tags = [];
-        is_changed = is_changed;
-        is_early = is_early;
-      } rs (opened_in d g.longest is_changed p.flag s) formed
-      (ages_begun d now _ (reign_of (first_of_span now p start is_changed is_early)) (reigns_of rs) s.reigns.ages refl
-      began ages)
+      put_follows p (no_fragment start now p.flag is_changed is_early) rs (opened_in d g.longest is_changed p.flag s) formed
+      (ages_begun d now _ (opened_from start now p) (reigns_of rs) s.reigns.ages refl began ages)
       (empty_content g) (omega arith)
       (ap (λ (e : Bool). record none_broken { changed = is_changed; early_flag = e }) early ∙ empty_broken g d start now
       p.flag is_changed is_early)
@@ -338,8 +312,8 @@ module _ (g : Gauge) (few : g.segments ≤ 16) (d : ℕ) (pos : 0 < d) (sent : L
       → FollowsFrom g d now (Sends p ∷ sent) (turned d now p is_changed r older) (put_in (g.allowed p.address p.bytes)
       p.address p.bytes (opened_in d g.longest is_changed p.flag s))
   turns p r older is_changed s formed order ages is count =
-      begins p (r ∷ older) (cond (nat_lt now (max (r.last + 1) (past_span d older))) (r.last + 1)
-      (max (r.last + 1) (past_span d older))) is_changed (nat_lt now (max (r.last + 1) (past_span d older))) s
+      begins p (r ∷ older) (cond (nat_lt now (due_after d r older)) (r.reign.last + 1)
+      (due_after d r older)) is_changed (nat_lt now (due_after d r older)) s
       formed ages
       (rw is (turned_start r older s.reigns.ages.since_last s.reigns.ages.since_before order ages.newest ages.second))
       (rw is (early_same r older s.reigns.ages.since_before order.0.over ages.second)) count
@@ -353,23 +327,15 @@ module _ (g : Gauge) (few : g.segments ≤ 16) (d : ℕ) (pos : 0 < d) (sent : L
   changed_follows p (r ∷ older) s formed order h on other =
       is_joined (λ (rs : List Span). FollowsFrom g d now (Sends p ∷ sent) rs (put_in (g.allowed p.address p.bytes)
       p.address p.bytes (opened_in d g.longest true p.flag s)) × (length rs ≡ suc (suc (length older))))
-      p r older s.reigns.ages h.ages on (by (newest_at p.address r.fragments) refl)
+      p r older s.reigns.ages h.ages on (rw (held p r _ formed h.content) (by (cell_at p.address s.reigns.content) refl))
     where
-      by : (o : Option SentFragment) → newest_at p.address r.fragments ≡ o
+      by : (o : Option (List ℕ)) → cell_at p.address s.reigns.content ≡ o
           → FollowsFrom g d now (Sends p ∷ sent) (joined d now p o r older) (put_in (g.allowed p.address p.bytes)
           p.address p.bytes (opened_in d g.longest true p.flag s)) × (length (joined d now p o r older)
           ≡ suc (suc (length older)))
-      by None e =
-          let address = formed.address in
-          let is : cell_at p.address s.reigns.content ≡ None = h.content.cells p.address (omega arith)
-          ∙ bytes_at p.address r.fragments ∙ ap bytes_of e in
-          absurd (other (inl is))
-      by (Some t) e =
-          let address = formed.address in
-          let small : p.address < 16 = omega arith in
-          let is : cell_at p.address s.reigns.content ≡ Some t.fragment.bytes = h.content.cells p.address small
-          ∙ bytes_at p.address r.fragments ∙ ap bytes_of e in
-          let not_same : same_bytes p.bytes t.fragment.bytes ≡ false = false_from_ne_true _
+      by None is = absurd (other (inl is))
+      by (Some bytes) is =
+          let not_same : same_bytes p.bytes bytes ≡ false = false_from_ne_true _
           (λ same. other (inr (is ∙ ap Some (sym (same_bytes_are _ _ same))))) in
           rw not_same (turns p r older true s formed order h.ages refl h.count, refl)
 
@@ -387,29 +353,29 @@ module _ (g : Gauge) (few : g.segments ≤ 16) (d : ℕ) (pos : 0 < d) (sent : L
     where
       late : nat_lt s.reigns.ages.since_before d ≡ false
       late = le-ltb s.reigns.ages.since_before d (omega (arith, h.ages.second))
-  opened_follows p (r ∷ older) s formed order h apart = by (same_or_other r.flag p.flag)
+  opened_follows p (r ∷ older) s formed order h apart = by (same_or_other r.reign.flag p.flag)
     where
-      by : (r.flag ≡ p.flag) ⊎ (r.flag ≢ p.flag)
+      by : (r.reign.flag ≡ p.flag) ⊎ (r.reign.flag ≢ p.flag)
           → FollowsFrom g d now (Sends p ∷ sent) (spans_after d now p (r ∷ older)) (put_in (g.allowed p.address p.bytes)
           p.address p.bytes (opened_in d g.longest false p.flag s)) × (length (spans_after d now p (r ∷ older))
           ≡ suc (suc (length older)))
       by (inl e) =
-          let same : is_same r.flag p.flag ≡ true = is_same_flag r.flag p.flag e in
+          let same : is_same r.reign.flag p.flag ≡ true = is_same_flag r.reign.flag p.flag e in
           let mine : is_same p.flag s.reigns.ages.flag ≡ true = is_same_flag p.flag s.reigns.ages.flag
           (sym (h.ages.current.1 ∙ e)) in
-          let away : r.last + d ≤ now = elim (cases_lt now (r.last + d)) [
-            | inl near ↦ absurd (apart (near_joins d now p.flag (reign_of r) (reigns_of older) s.reigns.ages pos
+          let away : r.reign.last + d ≤ now = elim (cases_lt now (r.reign.last + d)) [
+            | inl near ↦ absurd (apart (near_joins d now p.flag r.reign (reigns_of older) s.reigns.ages pos
                 h.ages e near))
             | inr far ↦ far
           ] in
-          rw (same, le-ltb now (r.last + d) away) (
-            begins p (r ∷ older) (r.last + d) false false s formed h.ages
+          rw (same, le-ltb now (r.reign.last + d) away) (
+            begins p (r ∷ older) (r.reign.last + d) false false s formed h.ages
                 (rw mine (omega (arith, h.ages.newest)))
                 (rw mine refl) h.count,
             refl,
           )
       by (inr ne) =
-          let other : is_same r.flag p.flag ≡ false = is_other_flag r.flag p.flag ne in
+          let other : is_same r.reign.flag p.flag ≡ false = is_other_flag r.reign.flag p.flag ne in
           let mine : is_same p.flag s.reigns.ages.flag ≡ false = is_other_flag p.flag s.reigns.ages.flag
           (λ e. ne (sym h.ages.current.1 ∙ sym e)) in
           rw other (turns p r older false s formed order h.ages (rw mine refl) h.count, refl)
@@ -419,54 +385,36 @@ module _ (g : Gauge) (few : g.segments ≤ 16) (d : ℕ) (pos : 0 < d) (sent : L
       → FollowsFrom g d now (Sends p ∷ sent) (spans_after d now p rs) (repeated_in s) × (length (spans_after d now p rs)
       ≡ length rs)
   repeated_follows p [] s formed h on is = absurd (none_joins d now p.flag s.reigns.ages h.ages on)
-  repeated_follows p (r ∷ older) s formed h on is = by (newest_at p.address r.fragments) refl
-    where
-      by : (o : Option SentFragment) → newest_at p.address r.fragments ≡ o
-          → FollowsFrom g d now (Sends p ∷ sent) (spans_after d now p (r ∷ older)) (repeated_in s)
-          × (length (spans_after d now p (r ∷ older)) ≡ suc (length older))
-      by None e =
-          let address = formed.address in
-          let none : cell_at p.address s.reigns.content ≡ None = h.content.cells p.address (omega arith)
-          ∙ bytes_at p.address r.fragments ∙ ap bytes_of e in
-          absurd (cc)
-      by (Some t) e =
-          let address = formed.address in
-          let some : cell_at p.address s.reigns.content ≡ Some t.fragment.bytes = h.content.cells p.address
-          (omega arith) ∙ bytes_at p.address r.fragments ∙ ap bytes_of e in
-          let bytes : t.fragment.bytes ≡ p.bytes = cc in
-          let place : t.fragment.address ≡ p.address = newest_place p.address r.fragments t e in
-          let allowed : g.allowed t.fragment.address t.fragment.bytes ≡ g.allowed p.address p.bytes = ap
-          (λ a. g.allowed a t.fragment.bytes) place ∙ ap (g.allowed p.address) bytes in
-          let again : narrowed (g.allowed p.address p.bytes) (lengths_of g.allowed g.longest (fragments_in r.fragments))
-          ≡ lengths_of g.allowed g.longest (fragments_in r.fragments) =
-          ap (λ o. narrowed o (lengths_of g.allowed g.longest (fragments_in r.fragments))) (sym allowed)
-          ∙ narrowed_again g.allowed g.longest p.address r.fragments t e in
-          let fit : list_all (λ (s : SentFragment). is_some (g.allowed s.fragment.address s.fragment.bytes)) r.fragments
-          ≡ true → is_some (g.allowed p.address p.bytes) ≡ true =
-          λ all. ap is_some (sym allowed) ∙ newest_passes (λ (s : SentFragment). is_some
-          (g.allowed s.fragment.address s.fragment.bytes)) p.address r.fragments t all e in
-          let cells : set s.reigns.content.cells p.address (Some p.bytes) ≡ s.reigns.content.cells = set_held
-          s.reigns.content.cells p.address (Some p.bytes) None (omega (arith, h.content.long)) is in
-          let lengths : narrowed (g.allowed p.address p.bytes) s.reigns.content.lengths ≡ s.reigns.content.lengths = ap
-          (narrowed (g.allowed p.address p.bytes)) h.content.lengths ∙ again ∙ sym h.content.lengths in
-          let broken : judged_fragment (g.allowed p.address p.bytes) s.reigns.content.lengths s.reigns.content.tags_end
-          s.broken ≡ s.broken =
-          broken_put g d now p r s.reigns.content s.broken h.content h.broken ∙ broken_again g d now p r again fit
-          ∙ sym h.broken in
-          let same : put_in (g.allowed p.address p.bytes) p.address p.bytes s ≡ repeated_in s = λ i. record {
-            count = s.count;
-            reigns = record {
-              ages = record s.reigns.ages { since_last = 0 };
-              content = record
-                  { cells = cells i; lengths = lengths i; tags_end = s.reigns.content.tags_end };
-            };
-            broken = broken i;
-          } in
-          let follows = joined_follows p (r ∷ older) s formed h on (inr is) in (
-            subst (λ (x : SpansState). FollowsFrom g d now (Sends p ∷ sent) (spans_after d now p (r ∷ older)) x) same
-                follows.0,
-            follows.1,
-          )
+  repeated_follows p (r ∷ older) s formed h on is =
+      let last : sent_last p.address r.reign.fragments ≡ Some p.bytes = held p r _ formed h.content ∙ is in
+      let again : narrowed (g.allowed p.address p.bytes) (lengths_of g.allowed g.longest r.reign.fragments)
+      ≡ lengths_of g.allowed g.longest r.reign.fragments = narrowed_again g.allowed g.longest p.address r.reign.fragments
+      p.bytes last in
+      let fit : list_all (λ (p : Fragment). is_some (g.allowed p.address p.bytes)) r.reign.fragments ≡ true
+      → is_some (g.allowed p.address p.bytes) ≡ true =
+      λ all. sent_passes (λ a b. is_some (g.allowed a b)) p.address r.reign.fragments p.bytes all last in
+      let cells : set s.reigns.content.cells p.address (Some p.bytes) ≡ s.reigns.content.cells = set_held
+      s.reigns.content.cells p.address (Some p.bytes) None (omega (arith, h.content.long)) is in
+      let lengths : narrowed (g.allowed p.address p.bytes) s.reigns.content.lengths ≡ s.reigns.content.lengths = ap
+      (narrowed (g.allowed p.address p.bytes)) h.content.lengths ∙ again ∙ sym h.content.lengths in
+      let broken : judged_fragment (g.allowed p.address p.bytes) s.reigns.content.lengths s.reigns.content.tags_end
+      s.broken ≡ s.broken =
+      broken_put g d now p r s.reigns.content s.broken h.content h.broken ∙ broken_again g d now p r again fit
+      ∙ sym h.broken in
+      let same : put_in (g.allowed p.address p.bytes) p.address p.bytes s ≡ repeated_in s = λ i. record {
+        count = s.count;
+        reigns = record {
+          ages = record s.reigns.ages { since_last = 0 };
+          content = record
+              { cells = cells i; lengths = lengths i; tags_end = s.reigns.content.tags_end };
+        };
+        broken = broken i;
+      } in
+      let follows = joined_follows p (r ∷ older) s formed h on (inr is) in (
+        subst (λ (x : SpansState). FollowsFrom g d now (Sends p ∷ sent) (spans_after d now p (r ∷ older)) x) same
+            follows.0,
+        follows.1,
+      )
 
   pub tags_follow : (pair : PairFields) (rs : List Span) (s : SpansState) → FollowsFrom g d now sent rs s
       → FollowsFrom g d now (Tagged pair ∷ sent) (spans_tagged now pair rs) (tagged_in d pair s)
@@ -484,35 +432,34 @@ module _ (g : Gauge) (few : g.segments ≤ 16) (d : ℕ) (pos : 0 < d) (sent : L
   tags_follow pair (r ∷ older) s h = (
     cond_both s.reigns.ages.is_open _ _ (λ (x : SpansState). FollowsFrom g d now (Tagged pair ∷ sent)
         (spans_tagged now pair (r ∷ older)) x) (λ _. record {
-          ages = ages_renewed d now (first_slot r.fragments) (fragments_in r.fragments)
-              (record { slot = now; pair = pair }
-              ∷ r.tags) (reign_of r) (reigns_of older) s.reigns.ages h.ages;
-          content = tagged_content g now pair (fragments_in r.fragments) r.tags s.reigns.content h.content;
+          ages = ages_renewed d now r.reign.opened r.reign.fragments (record { slot = now; pair = pair }
+              ∷ r.reign.tags) r.reign (reigns_of older) s.reigns.ages h.ages;
+          content = tagged_content g now pair r.reign.fragments r.reign.tags s.reigns.content h.content;
           count = h.count;
           broken =
               ap (λ (l : Lengths). judged_ends l (max s.reigns.content.tags_end (pair_end pair)) record s.broken
               { early_tag = s.broken.early_tag || are_early d s.reigns.ages }) h.content.lengths
-              ∙ ap (λ (n : ℕ). judged_ends (lengths_of g.allowed g.longest (fragments_in r.fragments))
+              ∙ ap (λ (n : ℕ). judged_ends (lengths_of g.allowed g.longest r.reign.fragments)
               (max n (pair_end pair)) record s.broken { early_tag = s.broken.early_tag || are_early d s.reigns.ages })
               h.content.ends
-              ∙ ap (λ (f : FaultSet). judged_ends (lengths_of g.allowed g.longest (fragments_in r.fragments))
-              (max (tags_end r.tags) (pair_end pair)) record f { early_tag = f.early_tag || are_early d s.reigns.ages })
+              ∙ ap (λ (f : FaultSet). judged_ends (lengths_of g.allowed g.longest r.reign.fragments)
+              (max (tags_end r.reign.tags) (pair_end pair)) record f { early_tag = f.early_tag || are_early d s.reigns.ages })
               h.broken
               ∙ sets_are _ _ refl refl refl
               (ap (λ b. has_early_tags d r || b) (early_tags r s.reigns.ages.since_start h.ages.current.2)
-              ∙ or_swap (has_early_tags d r) (nat_lt now (r.start + d)))
-              (further_past (lengths_of g.allowed g.longest (fragments_in r.fragments)).most (tags_end r.tags)
-              (max (tags_end r.tags) (pair_end pair)) (omega arith));
+              ∙ or_swap (has_early_tags d r) (nat_lt now (r.reign.start + d)))
+              (further_past (lengths_of g.allowed g.longest r.reign.fragments).most (tags_end r.reign.tags)
+              (max (tags_end r.reign.tags) (pair_end pair)) (omega arith));
         }) (λ f. let wide = h.ages.current.0 in absurd (cc)),
     refl,
   )
     where
-      early_tags : (r : Span) (since_start : ℕ) → since_start ≡ min (now - r.start) d
-          → not (nat_le d since_start) ≡ nat_lt now (r.start + d)
+      early_tags : (r : Span) (since_start : ℕ) → since_start ≡ min (now - r.reign.start) d
+          → not (nat_le d since_start) ≡ nat_lt now (r.reign.start + d)
       early_tags r since_start e =
-          elim (cases_lt now (r.start + d)) [
-            | inl short ↦ ap not (lt-leb d since_start (omega (arith, e))) ∙ sym (lt-ltb now (r.start + d) short)
-            | inr long ↦ ap not (le-leb d since_start (omega (arith, e))) ∙ sym (le-ltb now (r.start + d) long)
+          elim (cases_lt now (r.reign.start + d)) [
+            | inl short ↦ ap not (lt-leb d since_start (omega (arith, e))) ∙ sym (lt-ltb now (r.reign.start + d) short)
+            | inr long ↦ ap not (le-leb d since_start (omega (arith, e))) ∙ sym (le-ltb now (r.reign.start + d) long)
           ]
 
   pub nothing_follows : (rs : List Span) (s : SpansState) → FollowsFrom g d now sent rs s

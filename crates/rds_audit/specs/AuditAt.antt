@@ -8,46 +8,25 @@ use Rattle.rds_audit.specs.declared.audit.AuditFault.{AuditFault}
 use Rattle.rds_audit.specs.declared.fault_set.FaultSet.{FaultSet}
 use Rattle.rds_audit.specs.Ages.{HoldsAges}
 use Rattle.rds_audit.specs.Lengths.{Gauge, lengths_of, name_gauge, sent_last, tags_end, text_gauge}
-use Rattle.rds_audit.specs.Listing.{IsFaultOf, SentFragment, Span, broken_newest, first_of, fragments_in, slot_adds}
-use Rattle.rds_audit.specs.Listing.{spans}
+use Rattle.rds_audit.specs.Listing.{IsFaultOf, Span, broken_newest, first_of, reigns_of, slot_adds, spans}
 use Rattle.rds_audit.specs.AuditState.{AuditState, SpansState}
 use Rattle.rds_audit.specs.ReignsState.{ContentState, cell_at}
 use Rattle.rds_audit.specs.Recording.{counted_as, judged_as}
-use Rattle.rds_audit.specs.Reigns.{Reign, SentTags}
+use Rattle.rds_audit.specs.Reigns.{SentTags}
 use Rattle.rds_audit.specs.Stored.{IsStoredAudit, audit_stored}
 use Rattle.rds_audit.specs.declared.stored.StoredAudit.{StoredAudit}
 use Rattle.rds_audit.specs.Rules.{LogPasses}
 use Rattle.rds_safety.specs.Marks.{Mark, marks, name_mark, text_mark}
 
--- the slot of the oldest of these fragments
-abbrev pub first_slot : List SentFragment → ℕ
-first_slot [] = 0
-first_slot (s ∷ []) = s.slot
-first_slot (s ∷ t ∷ older) = first_slot (t ∷ older)
-
--- the span as a reign
-abbrev pub reign_of : Span → Reign
-reign_of r = record {
-  start = r.start;
-  opened = first_slot r.fragments;
-  last = r.last;
-  flag = r.flag;
-  fragments = fragments_in r.fragments;
-  tags = r.tags;
-}
-
-abbrev pub reigns_of : List Span → List Reign
-reigns_of rs = map reign_of rs
-
 -- the fragments of the newest span
-abbrev pub fragments_now : List Span → List SentFragment
+abbrev pub fragments_now : List Span → List Fragment
 fragments_now [] = []
-fragments_now (r ∷ older) = r.fragments
+fragments_now (r ∷ older) = r.reign.fragments
 
 -- the tags of the newest span
 abbrev pub tags_now : List Span → List SentTags
 tags_now [] = []
-tags_now (r ∷ older) = r.tags
+tags_now (r ∷ older) = r.reign.tags
 
 -- the content follows from these fragments and tags
 pub record HoldsContent (g : Gauge) (fragments : List Fragment) (tags : List SentTags) (c : ContentState) : Type 0 where
@@ -60,7 +39,7 @@ pub record HoldsContent (g : Gauge) (fragments : List Fragment) (tags : List Sen
 pub record FollowsFrom (g : Gauge) (d now : ℕ) (sent : List Mark) (rs : List Span)
     (s : SpansState) : Type 0 where
   pub ages : HoldsAges d now (reigns_of rs) s.reigns.ages
-  pub content : HoldsContent g (fragments_in (fragments_now rs)) (tags_now rs) s.reigns.content
+  pub content : HoldsContent g (fragments_now rs) (tags_now rs) s.reigns.content
   pub count : s.count ≡ min (length rs) (2 ^ 64 - 1)
   pub broken : s.broken ≡ broken_newest g d sent rs
 

@@ -1,6 +1,6 @@
--- The list of all faults of a log (this project's own rule). It judges spans. A span is like a reign, with one
--- difference: other bytes at an address of the current span begin a span too, as though the flag had turned. Each span
--- has each fault at most once, in the first slot in which it breaks the rule. Lists have the newest first.
+-- The list of all faults of a log (this project's own rule). It judges spans. A span is a reign with two marks. Other
+-- bytes at an address of the current span begin a span too, as though the flag had turned. Each span has each fault at
+-- most once, in the first slot in which it breaks the rule. Lists have the newest first.
 use Rattle.std.specs.Prelude.{◌≡◌, ◌+◌, ◌==◌, ◌&&◌, ◌||◌, [], ◌∷◌, ℕ, Bool, true, false, List, Option, Some, None}
 use Rattle.std.specs.Prelude.{is_some, length, map, max, nat_le, nat_lt, not, if◌then◌else◌}
 use Rattle.std.specs.List.{list_all, list_any}
@@ -13,33 +13,21 @@ use Rattle.rds_audit.specs.declared.audit.AuditFault.TheVariants.{Changed, NotOn
 use Rattle.rds_audit.specs.declared.audit.AuditFault.TheVariants.{EarlyTag, TagOutside}
 use Rattle.rds_audit.specs.declared.audited.Lengths.{Lengths}
 use Rattle.rds_audit.specs.declared.fault_set.FaultSet.{FaultSet}
-use Rattle.rds_audit.specs.Lengths.{Gauge, lengths_of, name_gauge, tags_end, text_gauge}
-use Rattle.rds_audit.specs.Reigns.{SentTags}
+use Rattle.rds_audit.specs.Lengths.{Gauge, lengths_of, name_gauge, sent_last, tags_end, text_gauge}
+use Rattle.rds_audit.specs.Reigns.{Reign, SentTags, opened_from, past_newest, with_fragment, with_tags}
 use Rattle.rds_safety.specs.Marks.{Mark, Nothing, Sends, Tagged, marks, name_mark, text_mark}
 
 -- ---- spans
 
--- a fragment, with the slot in which it was sent
-pub record SentFragment : Type 0 where
-  pub slot : ℕ
-  pub fragment : Fragment
-
--- a span: the first slot in which its text can have started, the last slot of its fragments and tags, its flag, its
--- fragments and its tags; whether it began with other bytes at an address of the span before it, and whether it began
--- too early after the span before that
+-- a span: its reign, whether it began with other bytes at an address of the span before it, and whether it began too
+-- early after the span before that
 pub record Span : Type 0 where
-  pub start : ℕ
-  pub last : ℕ
-  pub flag : Bool
-  pub fragments : List SentFragment
-  pub tags : List SentTags
+  pub reign : Reign
   pub is_changed : Bool
   pub is_early : Bool
 
--- the newest fragment at an address
-abbrev pub newest_at : ℕ → List SentFragment → Option SentFragment
-newest_at a [] = None
-newest_at a (s ∷ older) = if a == s.fragment.address then Some s else newest_at a older
+abbrev pub reigns_of : List Span → List Reign
+reigns_of rs = map (λ (r : Span). r.reign) rs
 
 abbrev pub same_bytes : List ℕ → List ℕ → Bool
 same_bytes [] [] = true
@@ -47,58 +35,46 @@ same_bytes [] (c ∷ cs) = false
 same_bytes (b ∷ bs) [] = false
 same_bytes (b ∷ bs) (c ∷ cs) = b == c && same_bytes bs cs
 
--- d slots after the last slot of the newest of these spans; 0 without a span
-abbrev pub past_span : ℕ → List Span → ℕ
-past_span d [] = 0
-past_span d (r ∷ older) = r.last + d
-
 -- the span that a fragment opens, which can have started in the slot `start`
 abbrev pub first_of_span : ℕ → Fragment → ℕ → Bool → Bool → Span
-first_of_span slot p start is_changed is_early = record {
-  start = start;
-  last = slot;
-  flag = p.flag;
-  fragments = record { slot = slot; fragment = p } ∷ [];
-  tags = [];
-  is_changed = is_changed;
-  is_early = is_early;
-}
+first_of_span slot p start is_changed is_early =
+    record { reign = opened_from start slot p; is_changed = is_changed; is_early = is_early }
 
 -- the span with one more fragment
 abbrev pub span_with : ℕ → Fragment → Span → Span
-span_with slot p r =
-    record r { last = slot; fragments = record { slot = slot; fragment = p } ∷ r.fragments }
+span_with slot p r = record r { reign = with_fragment slot p r.reign }
 
--- these spans and one that turned the flag, or counts so. It starts after r, and d slots after the span before r. If
--- that is still to come, it is too early, and starts after r
+-- the first slot in which a span that turned the flag of r is not too early: after r, and d slots after the one before
+abbrev pub due_after : ℕ → Span → List Span → ℕ
+due_after d r older = max (r.reign.last + 1) (past_newest d (reigns_of older))
+
+-- these spans and one that turned the flag, or counts so. If it is too early, it starts after r
 abbrev pub turned : ℕ → ℕ → Fragment → Bool → Span → List Span → List Span
 turned d slot p is_changed r older =
-    let from = max (r.last + 1) (past_span d older) in
-    let is_early = nat_lt slot from in
-    first_of_span slot p (if is_early then r.last + 1 else from) is_changed is_early ∷ r ∷ older
+    let is_early = nat_lt slot (due_after d r older) in
+    first_of_span slot p (if is_early then r.reign.last + 1 else due_after d r older) is_changed is_early ∷ r ∷ older
 
 -- these spans after a fragment with the flag of r, less than d slots after r: it joins r, except if r has other bytes
 -- at its address
-abbrev pub joined : ℕ → ℕ → Fragment → Option SentFragment → Span → List Span → List Span
+abbrev pub joined : ℕ → ℕ → Fragment → Option (List ℕ) → Span → List Span → List Span
 joined d slot p None r older = span_with slot p r ∷ older
-joined d slot p (Some s) r older =
-    if same_bytes p.bytes s.fragment.bytes then span_with slot p r ∷ older
+joined d slot p (Some bytes) r older =
+    if same_bytes p.bytes bytes then span_with slot p r ∷ older
     else turned d slot p true r older
 
 -- these spans after one more fragment
 abbrev pub spans_after : ℕ → ℕ → Fragment → List Span → List Span
 spans_after d slot p [] = first_of_span slot p 0 false false ∷ []
 spans_after d slot p (r ∷ older) =
-    if is_same r.flag p.flag
-    then (if nat_lt slot (r.last + d) then joined d slot p (newest_at p.address r.fragments) r older
-    else first_of_span slot p (r.last + d) false false ∷ r ∷ older)
+    if is_same r.reign.flag p.flag
+    then (if nat_lt slot (r.reign.last + d) then joined d slot p (sent_last p.address r.reign.fragments) r older
+    else first_of_span slot p (r.reign.last + d) false false ∷ r ∷ older)
     else turned d slot p false r older
 
 -- these spans after one more pair of tags
 abbrev pub spans_tagged : ℕ → PairFields → List Span → List Span
 spans_tagged slot pair [] = []
-spans_tagged slot pair (r ∷ older) =
-    record r { last = slot; tags = record { slot = slot; pair = pair } ∷ r.tags } ∷ older
+spans_tagged slot pair (r ∷ older) = record r { reign = with_tags slot pair r.reign } ∷ older
 
 -- these spans after one more mark
 abbrev pub spans_marked : ℕ → ℕ → Mark → List Span → List Span
@@ -113,22 +89,19 @@ spans d (mark ∷ before) = spans_marked d (length before) mark (spans d before)
 
 -- ---- what a span breaks
 
-abbrev pub fragments_in : List SentFragment → List Fragment
-fragments_in sent = map (λ (s : SentFragment). s.fragment) sent
-
 -- the lengths that the fragments of a span leave. A fragment that fits no text leaves them as they are
 abbrev pub lengths_in : Gauge → Span → Lengths
-lengths_in g r = lengths_of g.allowed g.longest (fragments_in r.fragments)
+lengths_in g r = lengths_of g.allowed g.longest r.reign.fragments
 
 -- each fragment fits some text, and they leave a length
 abbrev pub fits : Gauge → Span → Bool
 fits g r =
-    list_all (λ (s : SentFragment). is_some (g.allowed s.fragment.address s.fragment.bytes)) r.fragments
+    list_all (λ (p : Fragment). is_some (g.allowed p.address p.bytes)) r.reign.fragments
     && nat_le (lengths_in g r).least (lengths_in g r).most
 
 -- tags came less than d slots after the start
 abbrev pub has_early_tags : ℕ → Span → Bool
-has_early_tags d r = list_any (λ (s : SentTags). nat_lt s.slot (r.start + d)) r.tags
+has_early_tags d r = list_any (λ (s : SentTags). nat_lt s.slot (r.reign.start + d)) r.reign.tags
 
 -- the rules that a span breaks
 abbrev pub broken_by : Gauge → ℕ → Span → FaultSet
@@ -137,7 +110,7 @@ broken_by g d r = record {
   early_flag = r.is_early;
   not_one_text = not (fits g r);
   early_tag = has_early_tags d r;
-  tag_outside = nat_lt (lengths_in g r).most (tags_end r.tags);
+  tag_outside = nat_lt (lengths_in g r).most (tags_end r.reign.tags);
 }
 
 -- ---- the list

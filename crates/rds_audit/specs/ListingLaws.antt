@@ -4,8 +4,7 @@ use Rattle.std.specs.Prelude.{◌≡◌, ◌∷◌, ℕ, List, Option, None}
 use Rattle.std.specs.List.{AllByRecursion}
 use Rattle.rds_fields.specs.declared.message.Message.{Message}
 use Rattle.rds_audit.specs.Lengths.{Gauge, IsFormed, name_gauge, text_gauge}
-use Rattle.rds_audit.specs.Listing.{first_fault, none_broken, slot_adds, spans}
-use Rattle.rds_audit.specs.AuditAt.{reigns_of}
+use Rattle.rds_audit.specs.Listing.{first_fault, none_broken, reigns_of, slot_adds, spans}
 use Rattle.rds_safety.specs.Lawful.{Kind}
 use Rattle.rds_safety.specs.Marks.{Mark, Nothing, Sends, Tagged, name_mark, text_mark}
 use Rattle.rds_audit.specs.Reigns.{reigns}

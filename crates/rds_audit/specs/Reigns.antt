@@ -37,17 +37,14 @@ abbrev pub start_after : ℕ → Bool → List Reign → ℕ
 start_after d flag [] = 0
 start_after d flag (r ∷ older) = if is_same r.flag flag then r.last + d else max (r.last + 1) (past_newest d older)
 
+-- the reign that a fragment opens, whose broadcast can have started in the slot `start`
+abbrev pub opened_from : ℕ → ℕ → Fragment → Reign
+opened_from start slot p =
+    record { start = start; opened = slot; last = slot; flag = p.flag; fragments = p ∷ []; tags = [] }
+
 -- the reign that the fragment opens after these
 abbrev pub opened_by : ℕ → ℕ → Fragment → List Reign → Reign
-opened_by d slot p older =
-    record {
-      start = start_after d p.flag older;
-      opened = slot;
-      last = slot;
-      flag = p.flag;
-      fragments = p ∷ [];
-      tags = [];
-    }
+opened_by d slot p older = opened_from (start_after d p.flag older) slot p
 
 -- the reign with one more fragment
 abbrev pub with_fragment : ℕ → Fragment → Reign → Reign

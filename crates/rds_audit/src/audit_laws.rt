@@ -33,20 +33,14 @@ pub fn what_passes_is_safe()
 }
 
 /// States that plans which are lawful for what the audit judges of a recording make the views of all receivers of the
-/// recording safe.
-pub fn recordings_are_safe_by_plans()
-    ensures { PlansOfARecordingAreSafe }
-{
-    safe_by_plans();
-}
-
-/// States that the views of all receivers of a recording that passes are safe. They are receivers of the log as it is:
-/// they may hear the tags before its first text segment.
+/// recording safe, and that a recording that passes has such plans. They are receivers of the log as it is: they may hear
+/// the tags before its first text segment.
 pub fn what_passes_as_a_recording_is_safe()
-    ensures { WhatPassesAsARecordingIsSafe }
+    ensures by_plans { PlansOfARecordingAreSafe }
+    ensures passes { WhatPassesAsARecordingIsSafe }
 {
     passes_by_plans();
-    recordings_are_safe_by_plans();
+    safe_by_plans();
     own_clocks();
 }
 

@@ -16,9 +16,8 @@ mod stored;
 
 pub use audit::{Audit, AuditFault};
 pub use audit_laws::{
-    broadcasts_are_the_reigns, passes_by_plans, passes_without_a_fault,
-    recordings_are_safe_by_plans, the_list_judges_the_reigns, what_passes_as_a_recording_is_safe,
-    what_passes_is_safe, what_passes_is_safe_by_the_flag,
+    broadcasts_are_the_reigns, passes_by_plans, passes_without_a_fault, the_list_judges_the_reigns,
+    what_passes_as_a_recording_is_safe, what_passes_is_safe, what_passes_is_safe_by_the_flag,
 };
 pub use fault_set::FaultSet;
 pub use log_start::LogStart;

@@ -7,9 +7,7 @@ ghost use Rattle.rds_wire.specs.Twice.{WhatIsEncodedIsSafeIfHeardTwice};
 ghost use Rattle.rds_wire.specs.Wire.{WhatIsEncodedIsSafeOnTheWire, WhatPassesIsSafeOnTheWire};
 
 use rds_arrivals::filled_logs_are_own_clocks;
-use rds_audit::{
-    recordings_are_safe_by_plans, what_passes_as_a_recording_is_safe, what_passes_is_safe,
-};
+use rds_audit::{what_passes_as_a_recording_is_safe, what_passes_is_safe};
 use rds_encoder::sent_is_of_what_is_on_air;
 use rds_log::filled_texts_are_logs;
 use rds_safety::{one_source, own_clocks, safe_by_plans, safe_if_confirmed};
@@ -23,7 +21,7 @@ pub fn what_is_encoded_is_safe_on_the_wire()
     own_clocks();
     one_source();
     safe_by_plans();
-    recordings_are_safe_by_plans();
+    what_passes_as_a_recording_is_safe();
     a_station_is_safe();
     the_encoder_is_lawful();
     sent_is_of_what_is_on_air();
@@ -37,7 +35,6 @@ pub fn what_passes_is_safe_on_the_wire()
     own_clocks();
     one_source();
     safe_by_plans();
-    recordings_are_safe_by_plans();
     what_passes_is_safe();
     what_passes_as_a_recording_is_safe();
 }

@@ -6,10 +6,10 @@ returns c = passed_is_safe
     record {
       clocks = record { late = c.own_clocks.ensures.late; slow = c.own_clocks.ensures.slow };
       safe = c.safe_by_plans.ensures.own_clocks;
-      recording = c.recordings_are_safe_by_plans.ensures;
+      recording = c.what_passes_as_a_recording_is_safe.ensures.by_plans;
       source = c.one_source.ensures;
     }
     record {
       complete = c.what_passes_is_safe.ensures;
-      running = c.what_passes_as_a_recording_is_safe.ensures;
+      running = c.what_passes_as_a_recording_is_safe.ensures.passes;
     }

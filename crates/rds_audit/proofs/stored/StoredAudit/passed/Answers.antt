@@ -26,5 +26,5 @@ returns-clause-safe c pi d log s m k pos same is_so =
 
 pub returns-clause-recording : goal.returns-clause-recording
 returns-clause-recording c pi m k log s running pos passed =
-    safe_as_it_is c.what_passes_as_a_recording_is_safe.ensures m k _ s.heard running pos
+    safe_as_it_is c.what_passes_as_a_recording_is_safe.ensures.passes m k _ s.heard running pos
     ((returns-clause-passes c pi (m + k) log s).0 passed)
