@@ -254,7 +254,7 @@ uint32_t rdsrt_time_in(const uint8_t *text, size_t length, uint64_t *time);
  * time between them less the grain, in slots and rounded up, less one; at least 0. The grain
  * is how far the times may be off, in microseconds. If the delays of the groups vary by less than a slot less the
  * grain, the number is never too small. End as many slots without a group before the slot of the later group.
- * Returns RDSRT_UNKNOWN if the later time is before the earlier one, or more than a day after it, or if the grain is
+ * Returns RDSRT_UNKNOWN if the later time is before the earlier one, or more than an hour after it, or if the grain is
  * 87,579 or more. Nobody knows then how many slots were lost. End as many as the dwell: the receiver drops all it
  * holds. */
 uint32_t rdsrt_lost_slots(uint64_t earlier, uint64_t later, uint32_t grain);

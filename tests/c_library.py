@@ -36,8 +36,8 @@ target_link_libraries(static PRIVATE rdsrt::static)
 """
 ROWS, PIECES, ROUNDS = 100_000, 60, 3000
 DWELL, LATE, WINDOW = "16", "3", "64"
-# microseconds of examples/c/radio.h's grain, of a day, and from 1970 to a day of 2023
-GRAIN, DAY, EPOCH = 20_000, 86_400_000_000, 1_700_000_000_000_000
+# microseconds of examples/c/radio.h's grain, of an hour, and from 1970 to a day of 2023
+GRAIN, HOUR, EPOCH = 20_000, 3_600_000_000, 1_700_000_000_000_000
 LOST = b"---- ---- ---- ----\n"
 
 
@@ -149,7 +149,7 @@ def timed(seed, log, most):
             continue
         lost = lost_slots(time - last) if groups else 0
         if groups and roll.random() < 0.005:
-            jump = roll.choice([-10_000_000, DAY + 1])
+            jump = roll.choice([-10_000_000, HOUR + 1])
             ahead, time, lost = ahead + jump, time + jump, told + most
         groups += b"%d %s\n" % (time, line[:19])
         slots += LOST * lost + line[:19] + b"\n"
@@ -191,11 +191,13 @@ def received():
              (128, 11_210_105, b""), (20, -1, b"")]
     # the text goes in slot 20; after a break there are 20 slots without a group
     again = b'0 text "HI"\n20 text none\n%d text "HI"\n'
-    repeated = [(DAY, again % 986_539), (DAY + 1, again % 21), (-1, again % 21)]
+    repeated = [(HOUR, again % 41_106), (HOUR + 1, again % 21), (-1, again % 21)]
     timers = [(1_771_578, b'0 text "HI"\n'), (1_771_579, b'0 text "HI"\n20 text none\n')]
     for begins in (NINETEEN_SLOTS, EPOCH):
         for dwell, later, shown in pairs:
             yield dwell, one % begins + two % (begins + later), shown
+        # an hour after a time without a group, and more than an hour after the last group
+        yield 20, one % begins + b"%d\n" % (begins + 10 ** 6) + two % (begins + 10 ** 6 + HOUR), b""
         for later, shown in repeated:
             yield 20, whole % begins + whole % (begins + later), shown
         for later, shown in timers:

@@ -14,7 +14,7 @@ from tests.support import PROGRAM, SECONDS, ProgramCase, bytes_of, ran
 
 HI = "C201 2140 4849 0D20"
 LOST = "---- ---- ---- ----"
-DAY, M = 86_400_000_000, 128
+HOUR, M = 3_600_000_000, 128
 SEED = 20261123
 JUNE = "@2024/06/01 {}".format
 # name, times of groups, and how many lost slots come before each group
@@ -39,12 +39,12 @@ CALENDAR = [
     ("a leap second", ["@2016/12/31 23:59:59.00", "@2016/12/31 23:59:60.00"], [0, 11]),
     ("the same moment in two zones", ["2024-06-01T07:58:12.25Z", "2024-06-01T09:58:12.25+02:00"], [0, 0]),
     ("a second later in another zone", ["2024-06-01T07:58:12Z", "2024-06-01 02:58:13-0500"], [0, 11]),
-    ("exactly a day", [JUNE("00:00:00.00"), "@2024/06/02 00:00:00.00"], [0, 986_538]),
+    ("exactly an hour", [JUNE("00:00:00.00"), JUNE("01:00:00.00")], [0, 41_105]),
 ]
 JUMPS = [
     ("an hour back", ["@2024/10/27 02:59:59.00", "@2024/10/27 02:00:00.00", "@2024/10/27 02:00:00.09"], [0, M, 0]),
     ("a hundredth back", ["9", "8.99", "9.08"], [0, M, 0]),
-    ("more than a day on", [JUNE("00:00:00.00"), "@2024/06/02 00:00:00.01"], [0, M]),
+    ("more than an hour on", [JUNE("00:00:00.00"), JUNE("01:00:00.01")], [0, M]),
 ]
 SKIPPED = ["", "# note", '<recorder="balcony">', "% end"]
 UNTIMED = ["", " soon", " @2024/13/01 00:00:00.00", " @2024/06/01 24:00:00.00", " @2024/02/30 00:00:00.00", " -1",
@@ -63,7 +63,7 @@ def filled(lines, *words):
 def lost(earlier, later, grain=20_000):
     """Returns how many slots are lost between two times in microseconds, by the rule above. M after a break."""
     apart = later - earlier
-    return max(0, -(-19 * (apart - grain) // NINETEEN_SLOTS) - 1) if 0 <= apart <= DAY else M
+    return max(0, -(-19 * (apart - grain) // NINETEEN_SLOTS) - 1) if 0 <= apart <= HOUR else M
 
 
 class Worked(ProgramCase):
@@ -146,7 +146,7 @@ class Worked(ProgramCase):
         self.check("no group", filled([f"{HI} 9", f"{LOST} 1"], "--m", "2")[1:], ([f"{HI} 9", LOST, LOST], [], ""))
         _, _, comments, notes = filled([f"{HI} {time}" for time in (5, 4, 3, 2)], "--m", "2")
         self.check("three breaks have one note and a count", (len(comments), notes.count("\n")), (3, 2), notes)
-        self.check("the count", "3 times went back, or on by more than a day" in notes, True, notes)
+        self.check("the count", "3 times went back, or on by more than an hour" in notes, True, notes)
 
     def test_a_line_without_a_whole_group_only_tells_the_time(self):
         """Slots 1 to 11 are over after 1 s, less the grain. The next group changes none of them."""
@@ -202,7 +202,7 @@ class ByChance(ProgramCase):
                 last = time
                 time += 10_000 * rng.choice([0, 8, 9, 10, 20, rng.randrange(300), rng.randrange(9000)])
                 if rng.random() < 0.05:
-                    time = max(0, time + rng.choice([-10_000, -DAY, DAY + 10_000]))
+                    time = max(0, time + rng.choice([-10_000, -HOUR, HOUR + 10_000]))
             found = filled(lines, "--grain", str(grain))
             self.check(f"seed {SEED}, log {number}, grain {grain}", found[1], wanted, "\n".join(lines))
 
@@ -255,7 +255,7 @@ class Live(ProgramCase):
         with subprocess.Popen([PROGRAM, "slots"], stdin=subprocess.PIPE, stdout=subprocess.DEVNULL,
                               stderr=subprocess.PIPE, bufsize=0) as program:
             program.stdin.write(f"{HI} 1.0\n".encode())
-            for time, why in (("0.5", b"time went back"), ("90000", b"more than a day passed")):
+            for time, why in (("0.5", b"time went back"), ("9000", b"more than an hour passed")):
                 program.stdin.write(f"{HI} {time}\n".encode())
                 is_there = select.select([program.stderr], [], [], SECONDS)[0]
                 self.check(f"a break at {time}", program.stderr.readline() if is_there else None, told % why)
@@ -317,12 +317,12 @@ class Live(ProgramCase):
             self.check(f"slots --pi C201 of {log}", done.returncode, wanted)
 
     def test_coarse_times_have_a_cause(self):
-        """A clock that was set one hour on, and a line without a group that came too early."""
-        times = [number * NINETEEN_SLOTS / 19e6 + 3600 * (number >= 150) + number % 2 / 100
+        """A clock that was set half an hour on, and a line without a group that came too early."""
+        times = [number * NINETEEN_SLOTS / 19e6 + 1800 * (number >= 150) + number % 2 / 100
                  for number in range(300)]
         jump = "".join(f"{HI} {time:.3f}\n" for time in times)
-        # line 151 comes 3600.078 s after line 150: 41106.6 slots, rounded up less one are lost
-        cause = "The longest gap has 41106 lost slots, before line 151: if a clock was set there, cut the log in two"
+        # line 151 comes 1800.078 s after line 150: 20553.8 slots, rounded up less one are lost
+        cause = "The longest gap has 20553 lost slots, before line 151: if a clock was set there, cut the log in two"
         for name, log, words, wanted in (
                 ("a clock that was set", jump, ["--grain", "0"], cause),
                 ("whole seconds", f"{HI} 7\n{HI} 7\n{HI} 8\n", [], None),

@@ -58,10 +58,10 @@ static inline void begin_at(struct radio *radio, uint64_t now) {
     radio->lost = 0;
 }
 
-/* Returns whether the time went back, or on by more than a day. Then nobody knows how many slots passed. */
+/* Returns whether the time went back, or on by more than an hour. Then nobody knows how many slots passed. */
 static inline bool is_break(const struct radio *radio, uint64_t now) {
     if (now < radio->latest) return now < radio->last || radio->latest - now > GRAIN;
-    return rdsrt_lost_slots(radio->latest, now, GRAIN) == RDSRT_UNKNOWN;
+    return rdsrt_lost_slots(radio->last, now, GRAIN) == RDSRT_UNKNOWN;
 }
 
 /* No group came up to this time: makes the calls of the slots that ended. After a break it makes as many as the dwell or
@@ -74,10 +74,6 @@ static inline void radio_time(struct radio *radio, uint64_t now) {
         begin_at(radio, now);
     }
     lost = rdsrt_lost_slots(radio->last, now, GRAIN);
-    if (lost == RDSRT_UNKNOWN) { /* a day without a group */
-        begin_at(radio, now);
-        lost = 0;
-    }
     for (; radio->lost < lost; radio->lost++) end_slot(radio, NULL);
     if (now > radio->latest) radio->latest = now;
 }

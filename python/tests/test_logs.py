@@ -10,7 +10,7 @@ from rdsrt import (MalformedLine, Receiver, format_group, read_log, read_timed, 
 SLOT = slot_time(19_000_000) / 19e6
 
 HI = (0xC201, 0x2140, 0x4849, 0x0D20)
-DAY = 86_400
+HOUR = 3_600
 
 
 class OfFour(tuple):
@@ -101,7 +101,7 @@ class Times(unittest.TestCase):
         self.assertEqual(list(slots([(0.0, HI), (0.1076, HI)])), [HI, None, HI])
         self.assertEqual(list(slots([(0.0, HI), (0.08, HI), (0.1, HI)], grain=0)), [HI] * 3)
         self.assertEqual(list(slots([(5.0, HI), (1.0, HI)], dwell=3)), [HI, None, None, None, HI])
-        self.assertEqual(list(slots([(0.0, HI), (DAY + 1, HI)], dwell=3)), [HI, None, None, None, HI])
+        self.assertEqual(list(slots([(0.0, HI), (HOUR + 1, HI)], dwell=3)), [HI, None, None, None, HI])
         self.assertEqual(list(slots([(9.0, None), (9.5, HI)])), [None] * 5 + [HI])
         for grain in (-0.1, SLOT):
             with self.assertRaises(ValueError):
@@ -135,9 +135,9 @@ class Times(unittest.TestCase):
         # a group that came just before the time that was given first
         self.assertEqual(list(slots([(0.0, HI), (0.2, None), (0.19, HI), (0.28, HI)])), [HI, None, None, HI, HI])
         self.assertEqual(list(slots([(0.0, HI), (0.2, None), (0.17, HI)], dwell=3)), [HI] + [None] * 5 + [HI])
-        # more than a day without a group
-        count = sum(1 for _ in slots((n * DAY / 2, None) for n in range(4)))
-        self.assertEqual(count, math.ceil((DAY * 1.5 - 0.02) / SLOT) - 1)
+        # more than an hour without a group
+        count = sum(1 for _ in slots(((n * HOUR / 2, None) for n in range(4)), dwell=3))
+        self.assertEqual(count, math.ceil((HOUR - 0.02) / SLOT) - 1 + 3)
 
     def test_times_without_a_group_change_no_slot(self):
         rng = random.Random(3)

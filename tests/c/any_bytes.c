@@ -225,14 +225,14 @@ static uint64_t any_number(void) {
 }
 
 static void times(void) {
-    static const uint64_t day = UINT64_C(86400000000);
+    static const uint64_t hour = UINT64_C(3600000000);
     size_t length = roll(60);
     uint8_t *text = (uint8_t *)any(length);
-    uint64_t time = 7, earlier = any_number(), later = roll(2) ? earlier + any_number() % (2 * day) : any_number();
+    uint64_t time = 7, earlier = any_number(), later = roll(2) ? earlier + any_number() % (2 * hour) : any_number();
     uint32_t code = rdsrt_time_in(length ? text : NULL, length, &time), grain = roll(2) ? roll(100) : 87500 + roll(200);
     CHECK(code == RDSRT_OK || (code == RDSRT_UNKNOWN && time == 7));
     code = rdsrt_lost_slots(earlier, later, grain);
-    CHECK((code == RDSRT_UNKNOWN) == (later < earlier || later - earlier > day || grain >= 87579));
+    CHECK((code == RDSRT_UNKNOWN) == (later < earlier || later - earlier > hour || grain >= 87579));
     CHECK(code == RDSRT_UNKNOWN || code == 0 || rdsrt_slot_time(code) < later - earlier);
     free(text);
 }

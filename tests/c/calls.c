@@ -264,7 +264,7 @@ static void all_faults(void) {
 }
 
 static void times(void) {
-    const uint64_t day = 86400000000;
+    const uint64_t hour = 3600000000;
     /* 19 slots have 1,664,000 us */
     CHECK(rdsrt_slot_time(0) == 0);
     CHECK(rdsrt_slot_time(1) == 87578);
@@ -276,8 +276,8 @@ static void times(void) {
     CHECK(rdsrt_lost_slots(0, 1684001, 20000) == 19);
     CHECK(rdsrt_lost_slots(7, 7, 20000) == 0);
     CHECK(rdsrt_lost_slots(7, 6, 20000) == RDSRT_UNKNOWN);
-    CHECK(rdsrt_lost_slots(0, day, 0) == 986538);
-    CHECK(rdsrt_lost_slots(0, day + 1, 0) == RDSRT_UNKNOWN);
+    CHECK(rdsrt_lost_slots(0, hour, 0) == 41105);
+    CHECK(rdsrt_lost_slots(0, hour + 1, 0) == RDSRT_UNKNOWN);
     CHECK(rdsrt_lost_slots(0, UINT64_MAX, 0) == RDSRT_UNKNOWN);
     CHECK(rdsrt_lost_slots(0, 1, 87578) == 0);
     CHECK(rdsrt_lost_slots(0, 1, 87579) == RDSRT_UNKNOWN);

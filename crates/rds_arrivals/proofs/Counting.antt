@@ -2,7 +2,7 @@
 use Rattle.std.proofs.Common.{◌≡◌, ◌⊎◌, ◌+◌, ◌-◌, ◌*◌, ◌/◌, ◌<◌, ◌≤◌, ℕ, true, false, refl, inl, inr, arith}
 use Rattle.std.proofs.lemmas.Bool.{cases_lt}
 use Rattle.std.proofs.lemmas.Bool.Decides.{nat_tests}
-use Rattle.rds_arrivals.specs.Arrivals.{AreLost, IsBreak, day, is_break, lost_between, lost_within, nineteen_slots}
+use Rattle.rds_arrivals.specs.Arrivals.{AreLost, IsBreak, hour, is_break, lost_between, lost_within, nineteen_slots}
 
 -- the quotient of a number is the n whose multiple is not above it
 divided : (x : ℕ) → (nineteen_slots * (x / nineteen_slots) ≤ x) × (x < nineteen_slots * (x / nineteen_slots + 1))
@@ -27,7 +27,7 @@ one_count grain apart n k p q = omega (arith, p.passed, p.no_more, q.passed, q.n
 
 pub break_cases : (earlier later : ℕ)
     → ((is_break earlier later ≡ true) × IsBreak earlier later) ⊎ ((is_break earlier later ≡ false) × (earlier ≤ later)
-    × (later ≤ earlier + day))
+    × (later ≤ earlier + hour))
 break_cases earlier later = grind (arith, nat_tests)
 
 -- the two cases of the rule
@@ -37,11 +37,11 @@ pub record IsAcross (grain m earlier later : ℕ) : Type 0 where
 
 pub record IsWithin (grain m earlier later : ℕ) : Type 0 where
   pub after : earlier ≤ later
-  pub in_a_day : later ≤ earlier + day
+  pub in_an_hour : later ≤ earlier + hour
   pub lost : lost_between grain m earlier later ≡ lost_within grain (later - earlier)
 
 pub between_cases : (grain m earlier later : ℕ) → IsAcross grain m earlier later ⊎ IsWithin grain m earlier later
 between_cases grain m earlier later = elim (break_cases earlier later) [
   | inl b ↦ inl (record { is = b.1; lost = rw b.0 refl })
-  | inr w ↦ inr (record { after = w.1; in_a_day = w.2; lost = rw w.0 refl })
+  | inr w ↦ inr (record { after = w.1; in_an_hour = w.2; lost = rw w.0 refl })
 ]

@@ -9,7 +9,7 @@ use Rattle.rds_safety.specs.OwnClock.{IsHeardByOwnClock}
 use Rattle.rds_safety.proofs.Entries.{before_end}
 use Rattle.rds_safety.proofs.OnTime.{nothing_in_order, one_more_in_order}
 use Rattle.rds_safety.proofs.OwnClocks.{true_clock}
-use Rattle.rds_arrivals.specs.Arrivals.{IsBreak, and_lost, day, filled, is_break, lost_before, lost_between, lost_until}
+use Rattle.rds_arrivals.specs.Arrivals.{IsBreak, and_lost, filled, hour, is_break, lost_before, lost_between, lost_until}
 use Rattle.rds_arrivals.specs.Arrivals.{lost_within, nineteen_slots}
 use Rattle.rds_arrivals.specs.Coarse.{AreCoarse, IsCoarse, begun_at, followed_by, newest_stretch}
 use Rattle.rds_arrivals.specs.declared.stretch.Stretch.{Stretch}
@@ -120,7 +120,7 @@ keeps_up grain spread m d e before wide pace = by (between_cases grain m e.arriv
         → KeepsPace spread d e
         → (m ≤ lost_at grain m (e ∷ before) d) ⊎ (d.slot ≤ e.slot + lost_at grain m (e ∷ before) d + 1)
     by (inl across) p = inl (omega (arith, least, across.lost))
-    by (inr within) (inl b) = absurd (omega (arith, within.after, within.in_a_day, b))
+    by (inr within) (inl b) = absurd (omega (arith, within.after, within.in_an_hour, b))
     by (inr within) (inr p) =
         let lost = are_lost grain (d.arrival.time - e.arrival.time) in
         inr (omega (arith, least, within.after, within.lost, p, wide, lost.no_more))
@@ -390,7 +390,7 @@ ends_with {X} grain spread m least ahead d (e ∷ before) wide small later ways 
         → IsOnItsWay least ahead spread e
         → ((is_break e.arrival.time d.arrival.time ≡ true) × IsBreak e.arrival.time d.arrival.time)
         ⊎ ((is_break e.arrival.time d.arrival.time ≡ false) × (e.arrival.time ≤ d.arrival.time)
-        × (d.arrival.time ≤ e.arrival.time + day))
+        × (d.arrival.time ≤ e.arrival.time + hour))
         → EndsWith least ahead spread d (followed_by grain (Some s) d.arrival.told d.arrival.time)
     goes_on s older way way_before (inl b) = rw (older.last, b.0) (begins_with least ahead spread d way)
     goes_on s older way way_before (inr w) =

@@ -35,12 +35,12 @@ and_a_microsecond = refl
 a_minute : lost_within 20000 60000000 ≡ 684
 a_minute = refl
 
--- a day has 986,538 and a part
-a_day : lost_between 20000 128 0 86400000000 ≡ 986538
-a_day = refl
+-- an hour has 41,105.77 slots, and less the grain 41,105.54
+an_hour : lost_between 20000 128 0 3600000000 ≡ 41105
+an_hour = refl
 
-more_than_a_day : lost_between 20000 128 0 86400000001 ≡ 128
-more_than_a_day = refl
+more_than_an_hour : lost_between 20000 128 0 3600000001 ≡ 128
+more_than_an_hour = refl
 
 back : lost_between 20000 128 9000000 8999999 ≡ 128
 back = refl

@@ -7,8 +7,8 @@ use Rattle.std.specs.Prelude.{Some, None, max, nat_lt, if◌then◌else◌}
 abbrev pub nineteen_slots : ℕ
 nineteen_slots = 1664000
 
-abbrev pub day : ℕ
-day = 86400000000
+abbrev pub hour : ℕ
+hour = 3600000000
 
 -- a group with its time. `told` lost slots before it were known before it came: by then a later time had been given, or
 -- more than one, at which no group had come
@@ -27,12 +27,12 @@ pub record AreLost (grain apart n : ℕ) : Type 0 where
 abbrev pub lost_within : ℕ → ℕ → ℕ
 lost_within grain apart = (19 * (apart - grain) - 1) / nineteen_slots
 
--- nobody knows how many slots passed: the time went back, or on by more than a day
+-- nobody knows how many slots passed: the time went back, or on by more than an hour
 abbrev pub IsBreak : ℕ → ℕ → Type 0
-IsBreak earlier later = (later < earlier) ⊎ (earlier + day < later)
+IsBreak earlier later = (later < earlier) ⊎ (earlier + hour < later)
 
 abbrev pub is_break : ℕ → ℕ → Bool
-is_break earlier later = nat_lt later earlier || nat_lt (earlier + day) later
+is_break earlier later = nat_lt later earlier || nat_lt (earlier + hour) later
 
 -- the lost slots between two times: m of them after a break, so that a receiver of this dwell drops everything
 abbrev pub lost_between : ℕ → ℕ → ℕ → ℕ → ℕ

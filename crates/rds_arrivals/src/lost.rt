@@ -8,16 +8,16 @@ use crate::grain::Grain;
 /// The microseconds of 19 slots.
 pub(crate) const NINETEEN_SLOTS: u64 = 1_664_000;
 
-/// The microseconds of a day.
-const DAY: u64 = 86_400_000_000;
+/// The microseconds of an hour.
+const HOUR: u64 = 3_600_000_000;
 
 /// Why nobody knows how many slots passed from one time to the next.
 #[derive(Clone, Copy)]
 pub enum Break {
     /// The time went back.
     Back,
-    /// The time went on by more than a day.
-    Day,
+    /// The time went on by more than an hour.
+    Hour,
 }
 
 /// Returns how many whole slots this many microseconds have. More than 30,000 years count as fewer.
@@ -39,7 +39,7 @@ pub fn time_of(slots: u32) -> u64
 ///
 /// # Errors
 ///
-/// The time went back, or on by more than a day.
+/// The time went back, or on by more than an hour.
 pub fn lost_between(earlier: u64, later: u64, grain: Grain) -> Result<u32, Break>
     ensures lost { MatchResult result
         (λ lost. (IsBreak earlier later → ⊥) × (lost ≡ lost_within grain (later - earlier)))
@@ -49,8 +49,8 @@ pub fn lost_between(earlier: u64, later: u64, grain: Grain) -> Result<u32, Break
         return Err(Break::Back);
     }
     let apart = later - earlier;
-    if apart > DAY {
-        return Err(Break::Day);
+    if apart > HOUR {
+        return Err(Break::Hour);
     }
     let passed = 19 * apart.saturating_sub(u64::from(grain.get()));
     Ok((passed.saturating_sub(1) / NINETEEN_SLOTS) as u32)

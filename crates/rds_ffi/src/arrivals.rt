@@ -23,7 +23,7 @@ pub extern "C" fn rdsrt_slot_time(slots: u32) -> u64
 ///
 /// # Errors
 ///
-/// `RDSRT_UNKNOWN` if the time went back, or on by more than a day, or if the grain is a slot or more.
+/// `RDSRT_UNKNOWN` if the time went back, or on by more than an hour, or if the grain is a slot or more.
 #[unsafe(no_mangle)]
 pub extern "C" fn rdsrt_lost_slots(earlier: u64, later: u64, grain: u32) -> u32
     ensures lost { result ≢ RDSRT_UNKNOWN → result ≡ lost_within grain (later - earlier) }

@@ -15,7 +15,7 @@ use Rattle.rds_io.proofs.Waiting.{lost_longer}
 use Rattle.rds_arrivals.specs.Arrivals.{Arrival, IsBreak, lost_between, lost_until, lost_within}
 use Rattle.rds_arrivals.specs.Breaks.{IsBreakOf, break_of}
 use Rattle.rds_arrivals.specs.declared.lost.Break.{Break}
-use Rattle.rds_arrivals.specs.declared.lost.Break.TheVariants.{Back, Day}
+use Rattle.rds_arrivals.specs.declared.lost.Break.TheVariants.{Back, Hour}
 use Rattle.rds_arrivals.specs.declared.stamp.Stamp.{Stamp}
 use Rattle.rds_log.specs.LogLines.{Line}
 use Rattle.rds_log.specs.LineSays.{LineSays, deciding}
@@ -96,7 +96,7 @@ gap_across f came last told time why is = (let (some, m) = a_break last time f.g
     a_break : (last time grain m : ℕ) (why : Break) → IsBreakOf last time why
         → (break_of last time ≡ Some why) × (lost_between grain m last time ≡ m)
     a_break last time grain m Back is = grind (arith, nat_tests)
-    a_break last time grain m Day is = grind (arith, nat_tests)
+    a_break last time grain m Hour is = grind (arith, nat_tests)
 
 -- the lost slots are those from the newest group
 pub told_is : (f : Filling) (came : List (Arrival Group)) (told time : ℕ)

@@ -15,7 +15,7 @@ use Rattle.rds_arrivals.specs.Breaks.{break_of}
 use Rattle.rds_arrivals.specs.Delivered.{arrivals}
 use Rattle.rds_arrivals.specs.Stamps.{stamp_in}
 use Rattle.rds_arrivals.specs.declared.lost.Break.{Break}
-use Rattle.rds_arrivals.specs.declared.lost.Break.TheVariants.{Back, Day}
+use Rattle.rds_arrivals.specs.declared.lost.Break.TheVariants.{Back, Hour}
 use Rattle.rds_arrivals.specs.declared.stamp.Stamp.{Stamp}
 use Rattle.rds_log.specs.Fill.{AreFilled, SoFar, break_line, ended_within, gap_lines, lost_lines, more_lines}
 use Rattle.rds_log.specs.Fill.{newest_time, time_of}
@@ -146,8 +146,8 @@ with_break : (why : Option Break) (text : List ℕ) (slots : List (Option Group)
 with_break None text slots had = same_text text (text ++ []) slots (sym (append-nil text)) had
 with_break (Some Back) text slots had = with_comment text (codes "# time went back") slots had
     (feedless (codes "# time went back") refl) (inr (inr (inl refl)))
-with_break (Some Day) text slots had = with_comment text (codes "# more than a day passed") slots had
-    (feedless (codes "# more than a day passed") refl) (inr (inr (inl refl)))
+with_break (Some Hour) text slots had = with_comment text (codes "# more than an hour passed") slots had
+    (feedless (codes "# more than an hour passed") refl) (inr (inr (inl refl)))
 
 more_and_lost : {X : Type 0} (n k sum : ℕ) (slots : List (Option X)) → n + k ≡ sum
     → and_lost n (and_lost k slots) ≡ and_lost sum slots

@@ -12,7 +12,7 @@ use Rattle.rds_arrivals.specs.Breaks.{break_of}
 use Rattle.rds_arrivals.specs.Coarse.{AreCoarse}
 use Rattle.rds_arrivals.specs.Stamps.{stamp_in}
 use Rattle.rds_arrivals.specs.declared.lost.Break.{Break}
-use Rattle.rds_arrivals.specs.declared.lost.Break.TheVariants.{Back, Day}
+use Rattle.rds_arrivals.specs.declared.lost.Break.TheVariants.{Back, Hour}
 use Rattle.rds_arrivals.specs.declared.stamp.Stamp.{Stamp}
 use Rattle.rds_log.specs.LogLines.{AreLines, Line}
 use Rattle.rds_log.specs.LineSays.{LineSays, deciding}
@@ -53,7 +53,7 @@ lost_lines (suc n) = lost_lines n ++ codes "---- ---- ---- ----\n"
 abbrev pub break_line : Option Break → List ℕ
 break_line None = []
 break_line (Some Back) = codes "# time went back\n"
-break_line (Some Day) = codes "# more than a day passed\n"
+break_line (Some Hour) = codes "# more than an hour passed\n"
 
 -- the output when `lost` slots are lost since the last group and `told` of them are written: the comment of a break,
 -- and the lost slots that are not written

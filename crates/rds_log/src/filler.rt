@@ -423,6 +423,6 @@ pub fn comment_of(why: Break) -> &'static [u8]
 {
     match why {
         Break::Back => b"# time went back",
-        Break::Day => b"# more than a day passed",
+        Break::Hour => b"# more than an hour passed",
     }
 }

@@ -25,7 +25,7 @@ pub struct Breaks<W, N> {
 #[derive(Clone, Copy)]
 struct Left {
     back: bool,
-    day: bool,
+    hour: bool,
 }
 
 impl Left {
@@ -33,7 +33,7 @@ impl Left {
     fn take(&mut self, why: Break) -> bool {
         match why {
             Break::Back => mem::take(&mut self.back),
-            Break::Day => mem::take(&mut self.day),
+            Break::Hour => mem::take(&mut self.hour),
         }
     }
 }
@@ -50,7 +50,7 @@ impl<W, N: TellingWrite> Breaks<W, N> {
             form: NoteForm::of(words),
             left: Left {
                 back: tells,
-                day: tells,
+                hour: tells,
             },
         }
     }
@@ -66,7 +66,7 @@ impl<W: Write, N: TellingWrite> Write for Breaks<W, N> {
 
     fn write(&mut self, buf: &[u8]) -> io::Result<usize> {
         let written = self.writer.write(buf)?;
-        if self.left.back || self.left.day {
+        if self.left.back || self.left.hour {
             note_breaks(&buf[..written], self.form, &mut self.left, &mut self.screen);
         }
         Ok(written)
@@ -92,7 +92,7 @@ fn note_breaks<N: TellingWrite>(bytes: &[u8], form: NoteForm, left: &mut Left, s
 /// Returns the break whose comment begins at this place, as far as the bytes go.
 pub(crate) fn break_at(bytes: &[u8], place: usize) -> Option<Break> {
     let rest = bytes.get(place..)?;
-    [Break::Back, Break::Day]
+    [Break::Back, Break::Hour]
         .into_iter()
         .find(|why| begin_alike(rest, comment_of(*why)))
 }

@@ -240,7 +240,7 @@ fn push_text(name: &str, text: &[u8], line: &mut Line) {
 fn break_name(why: Break) -> &'static [u8] {
     match why {
         Break::Back => b"back",
-        Break::Day => b"day",
+        Break::Hour => b"hour",
     }
 }
 

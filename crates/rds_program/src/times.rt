@@ -44,7 +44,7 @@ pub struct LogTimes {
     last: ArrayVec<u8, LONGEST>,
     /// The bytes of the log so far.
     bytes: usize,
-    /// Whether `slots` told a break, or a time went back or on by more than a day from one read to the next. Then only
+    /// Whether `slots` told a break, or a time went back or on by more than an hour from one read to the next. Then only
     /// the first bytes before it are compared.
     is_broken: bool,
     /// The lines in the first bytes, and the last time in them.
@@ -146,7 +146,7 @@ impl LogTimes {
     }
 }
 
-/// Returns whether the time goes back, or on by more than a day.
+/// Returns whether the time goes back, or on by more than an hour.
 fn is_break_between(earlier: Option<u64>, later: Option<u64>) -> bool {
     match (earlier, later) {
         (Some(earlier), Some(later)) => {

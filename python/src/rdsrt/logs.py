@@ -150,8 +150,8 @@ def slots(timed: Iterable[Tuple[float, Optional[Group]]], grain: float = 0.02,
 
     `rdsrt_lost_slots` of the C library counts the lost slots. `grain` is how far the times can be off, in seconds: a
     group may come that much earlier than a time without a group before it. If a time is earlier than that, earlier than
-    the last group, or more than a day later than the time before it, `dwell` lost slots come: after them a receiver
-    with this dwell has dropped everything."""
+    the last group, or more than an hour later than it, `dwell` lost slots come: after them a receiver with this dwell
+    has dropped everything."""
     return (group for _, group in timed_slots(timed, grain, dwell))
 
 
@@ -177,12 +177,10 @@ def timed_slots(timed: Iterable[Tuple[float, Optional[Group]]], grain: float = 0
         reached = max(time, latest)
         if last is None:
             last = latest = reached = time
-        elif time < last or latest - time > fine or lost_between(latest, reached) is None:
+        elif time < last or latest - time > fine or lost_between(last, reached) is None:
             yield from ((latest / 1e6 + slot_time(number), None) for number in range(1, dwell + 1))
             last, latest, reached, lost = time, time, time, 0
-        count = lost_between(last, reached)
-        if count is None:               # a day without a group
-            last, count, lost = latest, lost_between(latest, reached) or 0, 0
+        count = lost_between(last, reached) or 0
         yield from ((last / 1e6 + slot_time(number), None) for number in range(lost + 1, count + 1))
         lost, latest = count, reached
         if group is not None:
