@@ -52,7 +52,7 @@ def refused_words(rng, command, asked):
     numbers += [("--confirm", "1"), ("--confirm", "256")]
     return rng.choice((
         [command],
-        [*good, "--nothing"], [*good, "-x"], [*good, ""], [*good, "C201"], [*good, "--", "C201"], [*good, *good],
+        [*good, "--nothing"], [*good, "-x"], [*good, "", ""], [*good, "a", "b"], [*good, "--", "a", "b"], [*good, *good],
         [*good, "--pi", "C201"], [*good, "--pi"], [*good, "--tp", "--tp"], [*good, "--tp=1"],
         [f" {command}", *good[1:]], [command.upper(), *good[1:]], ["", *good], [*good[1:], command],
         *([command, "--pi", "C201", name, number] for name, number in numbers),

@@ -32,21 +32,21 @@ OTHER = f"{HI}\nC201 3156 1234 ABCD\nC201 B140 2008 1234\nc201 b148 2002 0000\n{
 FAULTY = [HI, YO, HA, YO, *[LOST] * 200, HI, HA, *[LOST] * 200, YO, HI, YO.replace("594F", "4142")]
 # the first words of a command in a page, the files and programs of the reader, its output, and a file that it writes
 RUN = [
-    ("./rdsrt slots < spy.log > station.log", {"spy.log": SPY}, {}, "", ("station.log", SLOTS)),
-    ("./rdsrt audit --running --pi C201 < spy.log", {"spy.log": SPY.replace(".176", ".088")}, {},
+    ("./rdsrt slots spy.log > station.log", {"spy.log": SPY}, {}, "", ("station.log", SLOTS)),
+    ("./rdsrt audit --running --pi C201 spy.log", {"spy.log": SPY.replace(".176", ".088")}, {},
      "yes 2\nrdsrt: judged in 2 slots: 2 texts, 0 names, 0 pairs of tags\n", None),
     ("capture | redsea ", {}, {"capture": "true", "redsea": f"printf '{SPY}'"}, "", ("station.log", SLOTS)),
     ("sed -E 's/^([0-9A-Fa-f]{4} [Bb]", {"station.log": OTHER}, {},
      "yes 5\nrdsrt: judged in 5 slots, 3 without a group: 1 text, 0 names, 0 pairs of tags\n", None),
-    ("./rdsrt audit --all --running --pi C201 < station.log > faults.txt",
+    ("./rdsrt audit --all --running --pi C201 station.log > faults.txt",
      {"station.log": "# time went back\n" + "".join(f"{it} {at}.0\n" for at, it in enumerate(FAULTY))}, {},
      "rdsrt: 1 of 9 texts: Changed in slot 205 (line 207, 205.0)\n"
      "rdsrt: 3 of 9 texts: EarlyFlag, first in slot 2 (line 4, 2.0), last in slot 408 (line 410, 408.0)\n"
      "rdsrt: judged in 409 slots, 400 without a group: 9 texts, 0 names, 0 pairs of tags\n",
      ("faults.txt", "no 2 EarlyFlag\nno 3 EarlyFlag\nno 205 Changed\nno 408 EarlyFlag\n")),
-    ("./rdsrt decode --pi C201 < station.log | examples/json", {"station.log": f"{HI}\n" + f"{LOST}\n" * 128}, {},
+    ("./rdsrt decode --pi C201 station.log | examples/json", {"station.log": f"{HI}\n" + f"{LOST}\n" * 128}, {},
      "HI\nnull\n", None),
-    ("rdsrt decode --pi C201 < received.log | json --pi C201", {"received.log": f"{HI}\n" + f"{LOST}\n" * 128}, {},
+    ("rdsrt decode --pi C201 received.log | json --pi C201", {"received.log": f"{HI}\n" + f"{LOST}\n" * 128}, {},
      "HI\n", None),
 ]
 # a command, and the test or the script that runs it
@@ -55,15 +55,15 @@ RUN_BY = [
     (r"parallel -k --tag ", "test_guide.Guide.test_the_lines_of_parallel"),
     (r"(?:examples/)?station --m 128 now.txt .*send HOST:PORT$", "test_send.Send.test_the_line_of_the_page"),
     (r"(?:examples/)?station --m 128 ", "test_guide.Guide.test_the_pipe_of_a_station"),
-    (r"\./rdsrt audit --all --running --pi C201 < station.log$|rdsrt: 447 of 449 texts: ",
+    (r"\./rdsrt audit --all --running --pi C201 station.log$|rdsrt: 447 of 449 texts: ",
      "test_guide.Guide.test_the_counts_of_a_station_with_short_texts"),
     (r"awk ", "test_guide.Guide.test_each_fault_has_the_time_of_its_line"),
     (r"split -n l/2 stations|feed \| monitor ", "test_monitor"),
-    (r"rdsrt encode --pi C201 < script \| transmit ", "test_fm"),
-    (r"\./rdsrt encode --pi C201 --pty 10 --m 8 < examples/chanson.csv \| examples/fm/transmit ",
+    (r"rdsrt encode --pi C201 script \| transmit ", "test_fm"),
+    (r"\./rdsrt encode --pi C201 --pty 10 --m 8 examples/chanson.csv \| examples/fm/transmit ",
      "test_fm.Pages.test_the_trial_without_hardware"),
     (r"rtl_fm .* examples/fm/receive --live \|\n", "test_fm.Pages.test_the_pi_that_is_heard_is_passed_on"),
-    (r"\./rdsrt decode --pi C201 < station.log$", "test_fm.EndToEnd"),
+    (r"\./rdsrt decode --pi C201 station.log$", "test_fm.EndToEnd"),
     (r"export PKG_CONFIG_PATH=~/rdsrt/lib/pkgconfig\ncc hi\.c", "test_c_library.Install.test_pkg_config_finds_the_library"),
     (r"export PKG_CONFIG_PATH=~/rdsrt/lib/pkgconfig\ncc (?!hi)\w+\.c",
      "test_c_library.Install.test_the_lines_of_each_example_build_and_run_it"),
@@ -78,9 +78,9 @@ RUN_BY = [
     (r"tools/static_library ", "test_c_library.Archive"),
     (r"clang -g .* && \./fuzz$", "test_c_library.Archive.test_the_line_of_security_runs_a_fuzzer"),
     (r"rdsrt slots \| head -c ", "test_pipes"),
-    (r"\./rdsrt (?:decode|audit|witness|encode|sim) .* < examples/[\w.]+$", "test_examples"),
+    (r"\./rdsrt (?:decode|audit|witness|encode|sim) .* examples/[\w.]+$", "test_examples"),
     (r"rdsrt slots$|rdsrt \.\. \| head$", "test_pipes"),
-    (r"rdsrt audit spy.log$", "test_notes"),
+    (r"rdsrt audit --pi C201 station.log$", "test_input_files"),
 ]
 # a command that nothing runs here, and the reason
 NOT_HERE = [

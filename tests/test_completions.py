@@ -1,7 +1,9 @@
 """The completions for bash, zsh and fish beside the help of the program: they offer the same commands and options."""
 import os
 import re
+import shutil
 import subprocess
+import tempfile
 
 from tests.support import PROGRAM, SECONDS, Case, needs, path, text_of
 
@@ -20,10 +22,10 @@ _arguments() {
 setopt extendedglob; ASKED=$2; words=($@[3,-1]); source $1; true"""
 
 
-def lines(words):
-    """Returns the lines that these words print."""
+def lines(words, folder=None):
+    """Returns the lines that these words print in a folder."""
     done = subprocess.run(words, stdout=subprocess.PIPE, text=True, check=True, timeout=SECONDS,
-                          stdin=subprocess.DEVNULL)
+                          stdin=subprocess.DEVNULL, cwd=folder)
     return {*done.stdout.split("\n")} - {""}
 
 
@@ -59,12 +61,15 @@ def by_zsh(command):
     return lines([*words, *command]) - (set() if not command else {"-V", "--version"})
 
 
-def by_fish(command):
-    """Returns the commands and options that fish offers."""
-    found = set()
+def by_fish(command, files=()):
+    """Returns the commands and options that fish offers, and the files of a folder that has these."""
+    found, folder = set(), tempfile.mkdtemp()
+    for name in files:
+        open(os.path.join(folder, name), "w").close()
     for begun in ("", "-", "--"):
         call = f"source {os.path.join(FOLDER, FILES['fish'])}; complete -C '{' '.join(['rdsrt', *command, begun])}'"
-        found |= {it.split("\t")[0] for it in lines(["fish", "--no-config", "-c", call])}
+        found |= {it.split("\t")[0] for it in lines(["fish", "--no-config", "-c", call], folder)}
+    shutil.rmtree(folder)
     return found
 
 
@@ -93,6 +98,16 @@ class Completions(Case):
     @needs("fish")
     def test_fish_offers_the_commands_and_options(self):
         self.compare("fish", by_fish)
+
+    @needs("bash", "fish")
+    def test_each_command_takes_a_file(self):
+        script = os.path.join(FOLDER, FILES["bash"])
+        for command in {*summaries()} - {"help"}:
+            # bash offers files by itself where its function offers nothing
+            self.check(f"bash after {command}", lines(["bash", "-c", BASH, "bash", script, command, ""]), set())
+            self.check(f"fish after {command}", "it.log" in by_fish([command], ["it.log"]), True)
+            zsh = re.search(rf"^ +{command}\) _arguments .*\$file ;;$", text_of("tools/completions/_rdsrt"), re.M)
+            self.check(f"zsh after {command}", bool(zsh), True)
 
     def test_zsh_and_fish_describe_each_command(self):
         self.describe("zsh")

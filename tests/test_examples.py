@@ -47,7 +47,7 @@ class Examples(Case):
     def test_each_command_plays_its_file_and_prints_the_line_to_look_for(self):
         for name, command, line in rows()[1]:
             got, output = ran(command)
-            is_of_file = command.startswith("./rdsrt ") and command.endswith(f" < examples/{name}")
+            is_of_file = command.startswith("./rdsrt ") and command.endswith(f" examples/{name}")
             self.check(f"{command}: its file", is_of_file, True)
             self.check(f"{command}: status", got, status_of(line))
             self.check(f"{command}: refused sets", REFUSED.findall(output), [])

@@ -37,16 +37,16 @@ SHOWN = [
     ("wrong_subcommand", ["sing", "--pi", "C201"], 2),
     ("no_programme", ["decode"], 2),
     ("no_value", ["decode", "--pi"], 2),
-    ("extra_word", ["decode", "--pi", "C201", "C201"], 2),
+    ("second_file", ["decode", "--pi", "C201", "one.log", "two.log"], 2),
     ("no_dwell", ["decode", "--pi", "C201", "--m", "0"], 2),
     ("small_window", ["decode", "--pi", "C201", "--confirm", "1"], 2),
     ("large_programme_type", ["encode", "--pi", "C201", "--pty", "32"], 2),
 ]
 # arguments that decide alone, and the status
 DECIDED = [
-    ([], 2), (["sing"], 2), (["decode"], 2), ([*DECODE, "--m", "0"], 2), ([*DECODE, ""], 2), (["", *DECODE], 2),
-    ([""], 2), ([" decode", "--pi", "C201"], 2), ([*DECODE, "--m", " 8"], 2), ([*ALL_OPTIONS, "C201"], 2),
-    ([*ALL_OPTIONS, "--", "C201"], 2), ([*ALL_OPTIONS, "--tp"], 2), (["--"] * 40, 2),
+    ([], 2), (["sing"], 2), (["decode"], 2), ([*DECODE, "--m", "0"], 2), ([*DECODE, ""], 1), (["", *DECODE], 2),
+    ([""], 2), ([" decode", "--pi", "C201"], 2), ([*DECODE, "--m", " 8"], 2), ([*ALL_OPTIONS, "no.csv"], 1),
+    ([*ALL_OPTIONS, "--", "no.csv", "no.csv"], 2), ([*ALL_OPTIONS, "--tp"], 2), (["--"] * 40, 2),
     ([*DECODE, "-m", "0"], 2), ([*DECODE, "-k", "1"], 2), ([*DECODE, "--quiet", "--quiet"], 2),
     ([*DECODE, *["C201"] * 1000], 2), (["help", "nonsense"], 2), (["help", "--pi"], 2),
     (["--help"], 0), (["-h"], 0), (["help"], 0), (["--version"], 0), (["-V"], 0), ([*DECODE, "--help"], 0),
@@ -116,7 +116,8 @@ class Scripts(Case):
             self.check(f"./rdsrt {words}", self.asked("rdsrt", *words), (status, text_of(f"tests/shown/{name}.txt"), ""))
 
     def test_other_scripts_print_how_they_are_called(self):
-        scripts = {"test": "usage: ./test", "install": "./install PREFIX", "tools/release": "usage: tools/release [--snapshot] OUT"}
+        scripts = {"test": "usage: ./test", "install": "./install PREFIX", "page/build": "usage: page/build [OUT]",
+                   "tools/release": "usage: tools/release [--snapshot] OUT"}
         for script, call in scripts.items():
             for word in ("-h", "--help"):
                 status, printed, errors = self.asked(script, word)

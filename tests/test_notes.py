@@ -17,7 +17,6 @@ LOST = worked_rows.NO_GROUP
 DECODE, AUDIT, WITNESS = (f"{it} --pi C201" for it in ("decode", "audit", "witness"))
 ENCODE, SIM = "encode --pi C201 --m 1", "sim --pi C201 --m 1"
 LOOKS = "; a log line looks like C201 2140 4849 0D20"
-NEXT = ". To look for lost slots that make a mix: rdsrt witness --pi C201 --m "
 RUNNING = ". If the station was on air before the log began: --running"
 # a malformed line of a log, and the cause; blocks are counted from 1
 LINES = [
@@ -136,6 +135,13 @@ def noted(words, given, **more):
 def note(text):
     """Returns a note as the program prints it."""
     return f"rdsrt: {text}\n"
+
+
+def next_commands(m, k):
+    """Returns the commands that a no proposes for a log on standard input."""
+    late = f" --k {k}" if k else ""
+    return (f". To list all faults: rdsrt audit --all{late} --pi C201 --m {m}"
+            f". To look for lost slots that make a mix: rdsrt witness --pi C201 --m {m}")
 
 
 def where_of(fault, texts):
@@ -306,7 +312,7 @@ class Warnings(ProgramCase):
     def test_a_no_names_its_slot_its_line_and_the_rule(self):
         for log, slot, line, m, k, rule in NOES:
             got = noted(f"{AUDIT} --m {m} --k {k}", log)
-            told = f"slot {slot} (line {line}): {rule}{NEXT}{m}"
+            told = f"slot {slot} (line {line}): {rule}{next_commands(m, k)}"
             may_be_old = "RT+ tags came" in rule and rule.endswith(("in slot 0", "any text"))
             self.check(f"note on a no: {rule}", (got[0], got[2]), (1, note(told + RUNNING * may_be_old)))
         running = noted(f"{AUDIT} --m 8 --running", worked_rows.FLAG_AFTER_FIVE)[2]
@@ -317,7 +323,7 @@ class Warnings(ProgramCase):
         name = b"C201 A540 504F 5020\n"
         changed = noted(f"{AUDIT} --m 4", name + name.replace(b"504F", b"4A41"))[2]
         self.check("note on a no of a name", changed,
-                   note(f"slot 1 (line 2): a name (PTYN) changed without a flip of the A/B flag{NEXT}4"))
+                   note(f"slot 1 (line 2): a name (PTYN) changed without a flip of the A/B flag{next_commands(4, 0)}"))
 
     def test_the_slots_of_a_no_are_those_of_the_plain_audit(self):
         """The earlier slot of a no, the first group of its text, and a pause before it, on logs by chance."""
@@ -339,7 +345,7 @@ class Warnings(ProgramCase):
                                                               "rdsrt: no 2A")), True, log)
                 continue
             fault, is_name, slot, where = wanted
-            rule = re.fullmatch(r"rdsrt: slot (\d+) \(line \d+\): (.*?)(, in slot .*)?\. To look .*?\n", told)
+            rule = re.fullmatch(r"rdsrt: slot (\d+) \(line \d+\): (.*?)(, in slot .*)?\. To list .*?\n", told)
             may_be_old = fault == "EarlyTag" and (not where or where.startswith(", in slot 0"))
             got = rule and (int(rule[1]), rule[3] or "", "name (PTYN)" in rule[2], told.endswith(RUNNING + "\n"))
             self.check(f"{name}: {fault}", got, (slot, where, is_name, may_be_old), log)
@@ -508,14 +514,6 @@ class WhereNotesGo(ProgramCase):
             os.close(ours)
             self.check(f"a refusal on a terminal goes there alone: {words}", done.stderr, b"")
         self.check("help goes to standard output alone", noted("--help", b"")[2], "")
-
-    def test_a_name_of_a_file_gets_a_hint(self):
-        for words, command, name in (("audit spy.log", "audit", "spy.log"), ("sim --pi C201 ../a b.csv", "sim", "../a")):
-            got = noted(words, b"")
-            hint = f"rdsrt: {command} reads standard input: rdsrt {command} .. < {name}\n"
-            self.check(f"{words}: status and standard error", (got[0], got[2]), (2, got[1].decode() + hint))
-        for words in ("decode C201", "audit --runing.now", "sing spy.log"):
-            self.check(f"{words}: no hint", "reads standard input" in noted(words, b"")[2], False)
 
     def test_quiet_drops_warnings_and_standard_output_never_changes(self):
         """Warnings go, faults stay, and standard output does not change whatever becomes of standard error."""

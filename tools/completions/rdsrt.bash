@@ -17,6 +17,8 @@ _rdsrt() {
         encode) offered='--pi --m --k --pty --tp --quiet --json-notes --help' ;;
         sim) offered='--pi --m --k --pty --tp --confirm --flag-alone --why --quiet --json-notes --help' ;;
     esac
+    # a word that begins no option is the file to read, which bash completes
+    case $command:$word in :* | help:* | *:-*) ;; *) return ;; esac
     mapfile -t COMPREPLY < <(compgen -W "$offered" -- "$word")
 }
 complete -o default -F _rdsrt rdsrt

@@ -2,7 +2,7 @@
 set -l commands decode audit witness slots encode sim help
 set -l first "not __fish_seen_subcommand_from $commands"
 set -l no_help "not __fish_seen_subcommand_from help; and __fish_seen_subcommand_from"
-complete -c rdsrt -f
+complete -c rdsrt -n "not __fish_seen_subcommand_from decode audit witness slots encode sim" -f
 complete -c rdsrt -n $first -a decode -d 'Reads a log of received groups and prints what a receiver shows'
 complete -c rdsrt -n $first -a audit -d 'Reads a log of all groups that a station sent and says whether it keeps the rules'
 complete -c rdsrt -n $first -a witness -d 'Reads a log of all groups that a station sent and looks for lost slots that make a mix'

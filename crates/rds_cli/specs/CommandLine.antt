@@ -102,10 +102,15 @@ quiet_rule = flag_rule (codes "quiet")
 abbrev pub json_notes_rule : Rule
 json_notes_rule = flag_rule (codes "json-notes")
 
+-- `FILE`, which may be given
+abbrev pub file_rule : Rule
+file_rule = record (new_rule (codes "file")) { value_names = 1 }
+
 -- a subcommand that reads a log
 unfoldable pub log_app : Text → App
 log_app name =
-    with_rule (with_rule (with_rule (with_rule (new_app name) pi_rule) dwell_rule) quiet_rule) json_notes_rule
+    with_rule (with_rule (with_rule (with_rule (with_rule (new_app name) pi_rule) dwell_rule) file_rule) quiet_rule)
+    json_notes_rule
 
 -- `--confirm W`, from 2 to 255, which may be given
 abbrev pub confirm_rule : Rule
@@ -137,7 +142,7 @@ grain_rule = number_rule (codes "grain") (Signed (pos 0) (pos 87)) (codes "20")
 
 -- a subcommand that reads a log with times
 unfoldable pub timed_app : Text → App
-timed_app name = with_rule (with_rule (new_app name) own_pi_rule) grain_rule
+timed_app name = with_rule (with_rule (with_rule (new_app name) own_pi_rule) file_rule) grain_rule
 
 -- the subcommand that fills a log with times
 unfoldable pub slots_app : Text → App
@@ -181,14 +186,14 @@ TakesWords words = takes whole_app words ≡ true
 
 -- ---- the request of the arguments
 
--- the task, the argument of `--pi`, that of `--lose` or nothing, and the dwell in slots. `--quiet` and `--json-notes`
--- are
--- about notes alone
+-- the task, the argument of `--pi`, that of `--lose` or nothing, the dwell in slots, and the file to read if it is not
+-- standard input. `--quiet` and `--json-notes` are about notes alone
 pub record Requested : Type 0 where
   pub task : Task
   pub pi : Text
   pub lose : Text
   pub dwell : ℕ
+  pub file : Option Text
 
 -- four hexadecimal digits of either case, and the programme identification that they spell
 pub record IsPi (given : Text) (pi : ℕ) : Type 0 where
@@ -253,6 +258,11 @@ window_in rows =
 abbrev pub lose_in : List Row → Text
 lose_in rows = option_map_or (λ text. text) (first_of (codes "lose") rows) []
 
+-- the file to read; none is given by `-`, which names standard input
+abbrev pub file_in : List Row → Option Text
+file_in rows =
+    option_and_then (λ text. if bytes_eq text (codes "-") then None else Some text) (first_of (codes "file") rows)
+
 -- the task of `witness`: with `--lose` or `--flag-alone` the slots to lose are given
 abbrev pub witness_in : List Row → Task
 witness_in rows =
@@ -280,9 +290,10 @@ task_in name rows =
     then option_map (λ grain. Slots grain (has_value (codes "pi") rows)) (grain_in rows)
     else None
 
-abbrev pub asked : Option Task → Option Text → Text → Option ℕ → Option Requested
-asked (Some task) (Some pi) lose (Some dwell) = Some (record { task = task; pi = pi; lose = lose; dwell = dwell })
-asked _ _ _ _ = None
+abbrev pub asked : Option Task → Option Text → Text → Option ℕ → Option Text → Option Requested
+asked (Some task) (Some pi) lose (Some dwell) file =
+    Some (record { task = task; pi = pi; lose = lose; dwell = dwell; file = file })
+asked _ _ _ _ _ = None
 
 -- the argument of `--pi`; the task of `slots` says whether it is given, and 0000 stands for none
 abbrev pub pi_in : Text → List Row → Option Text
@@ -291,7 +302,7 @@ pi_in name rows =
 
 -- the request of a subcommand and its options
 abbrev pub asked_of : Text × List Row → Option Requested
-asked_of p = asked (task_in p.0 p.1) (pi_in p.0 p.1) (lose_in p.1) (dwell_in p.1)
+asked_of p = asked (task_in p.0 p.1) (pi_in p.0 p.1) (lose_in p.1) (dwell_in p.1) (file_in p.1)
 
 -- the request of the arguments, as `clap`'s definition reads them
 abbrev pub asked_in : List Text → Option Requested

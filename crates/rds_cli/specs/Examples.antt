@@ -25,16 +25,16 @@ pub record CallForHelp (words : List Text) : Type 0 where
   pub kinds : fault_of whole_app words ≡ DisplayHelp ∷ InvalidSubcommand ∷ []
 
 abbrev pub decoding : Text → ℕ → Requested
-decoding pi dwell = record { task = Decode None false; pi = pi; lose = []; dwell = dwell }
+decoding pi dwell = record { task = Decode None false; pi = pi; lose = []; dwell = dwell; file = None }
 
 -- the same of what was heard twice within a window
 abbrev pub confirming : ℕ → ℕ → Requested
 confirming dwell window =
-    record { task = Decode (Some window) false; pi = codes "C201"; lose = []; dwell = dwell }
+    record { task = Decode (Some window) false; pi = codes "C201"; lose = []; dwell = dwell; file = None }
 
 -- the same with reasons, without a window
 abbrev pub decoding_why : ℕ → Requested
-decoding_why dwell = record { task = Decode None true; pi = codes "C201"; lose = []; dwell = dwell }
+decoding_why dwell = record { task = Decode None true; pi = codes "C201"; lose = []; dwell = dwell; file = None }
 
 abbrev pub encoding : ℕ → ℕ → Requested
 encoding dwell pty =
@@ -43,6 +43,7 @@ encoding dwell pty =
       pi = codes "C201";
       lose = [];
       dwell = dwell;
+      file = None;
     }
 
 abbrev pub simulating : ℕ → ℕ → Bool → ℕ → Requested
@@ -51,6 +52,7 @@ simulating dwell pty tp late = record {
   pi = codes "C201";
   lose = [];
   dwell = dwell;
+  file = None;
 }
 
 -- the same with a window, without these options
@@ -60,6 +62,7 @@ simulating_confirmed dwell window = record {
   pi = codes "C201";
   lose = [];
   dwell = dwell;
+  file = None;
 }
 
 -- the simulation of radios that follow the flag bit alone, with reasons or without
@@ -69,31 +72,36 @@ simulating_flag_alone dwell why = record {
   pi = codes "C201";
   lose = [];
   dwell = dwell;
+  file = None;
 }
 
 abbrev pub witnessing : ℕ → Requested
-witnessing dwell = record { task = Witness; pi = codes "C201"; lose = []; dwell = dwell }
+witnessing dwell = record { task = Witness; pi = codes "C201"; lose = []; dwell = dwell; file = None }
 
 -- the mixes of a receiver that loses these slots; with the flag it follows the flag bit alone
 abbrev pub losing : Text → ℕ → Bool → Requested
-losing lose dwell alone = record { task = Lose alone; pi = codes "C201"; lose = lose; dwell = dwell }
+losing lose dwell alone = record { task = Lose alone; pi = codes "C201"; lose = lose; dwell = dwell; file = None }
 
 abbrev pub auditing : ℕ → ℕ → Requested
 auditing dwell late =
-    record { task = Audit late false false; pi = codes "C201"; lose = []; dwell = dwell }
+    record { task = Audit late false false; pi = codes "C201"; lose = []; dwell = dwell; file = None }
 
 -- the audit of the log of a running station
 abbrev pub auditing_running : ℕ → Requested
 auditing_running dwell =
-    record { task = Audit 0 true false; pi = codes "C201"; lose = []; dwell = dwell }
+    record { task = Audit 0 true false; pi = codes "C201"; lose = []; dwell = dwell; file = None }
 
 -- the list of all faults of such a log
 abbrev pub listing_running : ℕ → Requested
-listing_running dwell = record { task = Audit 0 true true; pi = codes "C201"; lose = []; dwell = dwell }
+listing_running dwell = record { task = Audit 0 true true; pi = codes "C201"; lose = []; dwell = dwell; file = None }
 
 abbrev pub filling : ℕ → ℕ → Requested
-filling dwell grain = record { task = Slots grain false; pi = codes "0000"; lose = []; dwell = dwell }
+filling dwell grain = record { task = Slots grain false; pi = codes "0000"; lose = []; dwell = dwell; file = None }
 
 -- the same of the lines of one programme
 abbrev pub filling_one : Text → ℕ → ℕ → Requested
-filling_one pi dwell grain = record { task = Slots grain true; pi = pi; lose = []; dwell = dwell }
+filling_one pi dwell grain = record { task = Slots grain true; pi = pi; lose = []; dwell = dwell; file = None }
+
+-- the log in this file
+abbrev pub from_file : Text → Requested → Requested
+from_file file asked = record asked { file = Some file }

@@ -2,8 +2,8 @@
 ghost use Rattle.std.specs.Prelude.{◌≡◌, IfOk, codes, false};
 ghost use Rattle.clap.specs.Words.{App, app_of, new_app, rule_of, with_rule, with_subcommand};
 ghost use Rattle.clap.specs.declared.builder.command.Command.TheViews.{out-Command};
-ghost use Rattle.rds_cli.specs.CommandLine.{audit_app, confirm_rule, decode_app, dwell_rule, flag_rule, grain_rule};
-ghost use Rattle.rds_cli.specs.CommandLine.{all_rule, flag_alone_rule, late_app, late_rule};
+ghost use Rattle.rds_cli.specs.CommandLine.{audit_app, confirm_rule, decode_app, dwell_rule, file_rule};
+ghost use Rattle.rds_cli.specs.CommandLine.{all_rule, flag_alone_rule, flag_rule, grain_rule, late_app, late_rule};
 ghost use Rattle.rds_cli.specs.CommandLine.{json_notes_rule, log_app, number_rule, own_pi_rule, pi_rule};
 ghost use Rattle.rds_cli.specs.CommandLine.{pty_rule, quiet_rule};
 ghost use Rattle.rds_cli.specs.CommandLine.{running_rule, sim_app, slots_app, station_app, timed_app, top_app, tp_rule};
@@ -257,6 +257,16 @@ fn quiet<'a>(alloc: Global) -> Arg<'a>
     flag(alloc, "quiet", help).display_order(100)
 }
 
+/// Makes the argument for the file to read.
+fn file<'a>(alloc: Global) -> Arg<'a>
+    ensures rule { rule_of result ≡ file_rule }
+    ensures local { result.global ≡ false }
+{
+    Arg::new(alloc, "file")
+        .value_name("FILE")
+        .help("File to read; without it, or with -, standard input")
+}
+
 /// Makes the flag `--json-notes`. Help lists it last.
 fn json_notes<'a>(alloc: Global) -> Arg<'a>
     ensures rule { rule_of result ≡ json_notes_rule }
@@ -297,6 +307,7 @@ fn log_reader<'a>(alloc: Global, name: &'a str, page: Page<'a>) -> Result<Comman
     ensures local { IfOk result (λ c. (out-Command c).has_globals ≡ false) }
 {
     tuned(alloc, name, page)?
+        .arg(file(alloc))?
         .arg(quiet(alloc))?
         .arg(json_notes(alloc))
 }
@@ -367,7 +378,7 @@ fn audit<'a>(alloc: Global) -> Result<Command<'a>, AllocError>
                                the tags after their text.\n\
                  Names (PTYN) have the first three faults too.\n\n\
                  Example:\n  \
-                   $ rdsrt audit --pi C201 --m 8 < examples/flags.log\n  \
+                   $ rdsrt audit --pi C201 --m 8 examples/flags.log\n  \
                    no 4 EarlyFlag",
     };
     late_reader(alloc, "audit", page)?
@@ -393,9 +404,9 @@ fn witness<'a>(alloc: Global) -> Result<Command<'a>, AllocError>
                  With --lose, prints the line of `decode` for each mix of a receiver that loses these\n\
                  slots, status 1, or `no mix with these slots lost`, status 0.\n\n\
                  Example:\n  \
-                   $ rdsrt witness --pi C201 --m 8 < examples/flags.log\n  \
+                   $ rdsrt witness --pi C201 --m 8 examples/flags.log\n  \
                    lose 2-3: 4 text \"POP  FM\"\n  \
-                   $ rdsrt witness --pi C201 --m 8 --lose 2-3 < examples/flags.log\n  \
+                   $ rdsrt witness --pi C201 --m 8 --lose 2-3 examples/flags.log\n  \
                    4 text \"POP  FM\"",
     };
     log_reader(alloc, "witness", page)?
@@ -413,6 +424,7 @@ fn timed_reader<'a>(alloc: Global, name: &'a str, page: Page<'a>) -> Result<Comm
         .about(page.about)
         .after_long_help(page.ending)
         .arg(own_pi(alloc))?
+        .arg(file(alloc))?
         .arg(grain(alloc))
 }
 
@@ -429,13 +441,13 @@ fn slots<'a>(alloc: Global) -> Result<Command<'a>, AllocError>
                  A time stands after the group: @2024/06/01 07:58:12.08, 2024-06-01T07:58:12.08Z, or\n\
                  seconds such as 12.5. A group without a time is left out. A line with a time and a\n\
                  lost block says that no group came until then. If a group's time is earlier than\n\
-                 that of the group before it, or more than a day later, a comment and at least M lost\n\
+                 that of the group before it, or more than an hour later, a comment and at least M lost\n\
                  slots are added.\n\n\
                  No slot is missing if the delay of the groups varies by less than a slot (87.5 ms)\n\
                  less the grain. None is added in vain if it varies by at most the grain. If more are\n\
                  counted than a station sends in that time, the times are too coarse: status 1.\n\n\
                  Example:\n  \
-                   $ rdsrt slots < spy.log | rdsrt decode --pi C201",
+                   $ rdsrt slots spy.log | rdsrt decode --pi C201",
     };
     timed_reader(alloc, "slots", page)?
         .arg(dwell(alloc))?
@@ -508,7 +520,7 @@ fn top<'a>(alloc: Global) -> Command<'a>
         .version("0.2.0")
         .about(
             "Checks RDS encoders, and sends and receives RadioText so that lost groups mix no texts\n\
-             Each command reads standard input and writes standard output.\n\
+             Each command reads a file or standard input and writes standard output.\n\
              Beside RadioText it handles the programme type name (PTYN, group 10A), here called\n\
              name, and RT+ tags. It does not handle the station name (PS).",
         )

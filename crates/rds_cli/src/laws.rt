@@ -2,12 +2,12 @@
 ghost use Rattle.std.specs.Prelude.{[], codes, false, true};
 ghost use Rattle.rds_cli.specs.CommandLine.{AskFor, AskForHelp, default_dwell};
 ghost use Rattle.rds_cli.specs.Examples.{AreNotTaken, CallForHelp, auditing, auditing_running, confirming, decoding};
-ghost use Rattle.rds_cli.specs.Examples.{decoding_why, encoding, filling, filling_one, listing_running, losing};
+ghost use Rattle.rds_cli.specs.Examples.{decoding_why, encoding, filling, filling_one, from_file, listing_running, losing};
 ghost use Rattle.rds_cli.specs.Examples.{simulating, simulating_flag_alone, simulating_confirmed, typed, witnessing};
 
 /// Shows the definition at work. The arguments of README's examples are taken and ask for these tasks. A dwell of 0
 /// slots, a window of 1 or 256 slots, a programme type of 32, an option of another subcommand, a subcommand without a
-/// programme and a missing subcommand are refused. Help and the version are answered. `help` followed by a command is
+/// programme, a second file and a missing subcommand are refused. Help and the version are answered. `help` followed by a command is
 /// not taken, and the definition leaves open whether that gives help or is refused.
 pub fn words_of_the_examples()
     ensures decode { AskFor (typed (codes "rdsrt decode --pi C201")) (decoding (codes "C201") default_dwell) }
@@ -46,6 +46,13 @@ pub fn words_of_the_examples()
     ensures decode_json_notes { AskFor (typed (codes "rdsrt decode --pi C201 --json-notes"))
         (decoding (codes "C201") default_dwell) }
     ensures decode_confirm { AskFor (typed (codes "rdsrt decode --pi C201 -m 64 --confirm 65")) (confirming 64 65) }
+    ensures decode_file { AskFor (typed (codes "rdsrt decode --pi C201 -m 8 station.log"))
+        (from_file (codes "station.log") (decoding (codes "C201") 8)) }
+    ensures decode_standard_input { AskFor (typed (codes "rdsrt decode --pi C201 -m 8 -"))
+        (decoding (codes "C201") 8) }
+    ensures slots_file { AskFor (typed (codes "rdsrt slots -- --m.log"))
+        (from_file (codes "--m.log") (filling default_dwell 20)) }
+    ensures two_files { AreNotTaken (typed (codes "rdsrt decode --pi C201 one.log two.log")) }
     ensures decode_why { AskFor (typed (codes "rdsrt decode --pi C201 --m 8 --why")) (decoding_why 8) }
     ensures audit_why { AreNotTaken (typed (codes "rdsrt audit --pi C201 --why")) }
     ensures small_window { AreNotTaken (typed (codes "rdsrt decode --pi C201 --confirm 1")) }

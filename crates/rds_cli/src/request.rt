@@ -3,7 +3,7 @@ ghost use Rattle.std.specs.Prelude.{◌≡◌, ◌⊎◌, ℕ, IfErr, IfNone, If
 ghost use Rattle.clap.specs.Words.{FailsBy, fault_of, found_of, kind_of, rows_of};
 ghost use Rattle.rds_cli.specs.Asks.{asked_by};
 ghost use Rattle.rds_cli.specs.CommandLine.{AreRefused, AskForHelp, IsPi, TakesWords, asked_in, asked_of};
-ghost use Rattle.rds_cli.specs.CommandLine.{flag_in, grain_in, has_value, is_shown, lose_in, pi_in};
+ghost use Rattle.rds_cli.specs.CommandLine.{file_in, flag_in, grain_in, has_value, is_shown, lose_in, pi_in};
 ghost use Rattle.rds_cli.specs.CommandLine.{programme_in, option_slots, task_in, whole_app, window_in, witness_in};
 
 use crate::command_line::whole;
@@ -76,6 +76,8 @@ pub struct Request<'a> {
     /// The argument of `--lose`, unchecked. Empty if there is none.
     pub lose: &'a str,
     pub dwell: Dwell,
+    /// The file to read. `None` for standard input.
+    pub file: Option<&'a str>,
     /// Whether warnings are left out. No contract speaks of it.
     pub quiet: bool,
     /// Whether notes are JSON objects instead of sentences. No contract speaks of it.
@@ -130,6 +132,7 @@ fn request_of<'a>(name: &'a str, inner: &ArgMatches<'a>) -> Option<Request<'a>>
         pi: pi_of(name, inner)?,
         lose: lose_of(inner),
         dwell: slots_of(inner, "m")?,
+        file: file_of(inner),
         quiet: is_given(inner, "quiet"),
         json_notes: is_given(inner, "json-notes"),
     })
@@ -184,6 +187,14 @@ fn lose_of<'a>(inner: &ArgMatches<'a>) -> &'a str
         Some(text) => text,
         None => "",
     }
+}
+
+/// Reads the file to read. `None` if it is standard input, which `-` names too.
+fn file_of<'a>(inner: &ArgMatches<'a>) -> Option<&'a str>
+    ensures { option_map (λ s. s.now) result ≡ file_in (rows_of (found_of inner.now)) }
+{
+    let file = inner.get_str("file")?;
+    if file == "-" { None } else { Some(file) }
 }
 
 /// Reads the task of `witness`.

@@ -2,3 +2,4 @@ pub mod Run
 pub mod RunsBy
 pub mod Timing
 pub mod Breaks
+pub mod Source

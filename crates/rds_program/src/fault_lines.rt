@@ -5,6 +5,7 @@ use crate::note_lines::{Line, push, push_count};
 use crate::notes::RunNotes;
 use rds_audit::AuditFault;
 use rds_cli::Task;
+use rds_fields::Dwell;
 use rds_log::{FaultCount, FaultPlace, NoNote, SegmentCause, fault_name};
 use std::io::Write;
 
@@ -56,13 +57,54 @@ pub(crate) fn push_no(no: NoNote, run: &RunNotes, line: &mut Line) {
     push_place(no.at, line);
     let _ = write!(line, ": ");
     push_rule(no, line);
+    let _ = write!(line, ". To list all faults: rdsrt audit --all");
+    push_audit_options(options.task, line);
+    push_input(run, options.dwell, line);
     let _ = write!(
         line,
-        ". To look for lost slots that make a mix: rdsrt witness --pi "
+        ". To look for lost slots that make a mix: rdsrt witness"
     );
-    push(run.pi.as_slice(), line);
-    let _ = write!(line, " --m {}", options.dwell.get());
+    push_input(run, options.dwell, line);
     push_running(no, options.task, line);
+}
+
+/// Appends the options of this audit that are not the default: the lateness and the start of the log.
+fn push_audit_options(task: Task, line: &mut Line) {
+    let Task::Audit { late, running, .. } = task else {
+        return;
+    };
+    if late.get() > 0 {
+        let _ = write!(line, " --k {}", late.get());
+    }
+    if running {
+        let _ = write!(line, " --running");
+    }
+}
+
+/// Appends the programme, the dwell and the file of a proposed command.
+fn push_input(run: &RunNotes, dwell: Dwell, line: &mut Line) {
+    let _ = write!(line, " --pi ");
+    push(run.pi.as_slice(), line);
+    let _ = write!(line, " --m {}", dwell.get());
+    let name = run.file.as_slice();
+    if name.is_empty() {
+        return;
+    }
+    let _ = write!(line, " ");
+    let is_whole = run.file.remaining_capacity() > 0;
+    push(
+        if is_whole && name.iter().all(is_plain) {
+            name
+        } else {
+            b"FILE"
+        },
+        line,
+    );
+}
+
+/// Returns whether a shell takes this byte of a file's name as it is.
+fn is_plain(byte: &u8) -> bool {
+    byte.is_ascii_alphanumeric() || b"-./_+,:=@%".contains(byte)
 }
 
 /// Appends the option for a recording if the fault goes with it: tags that came before any text, or soon after slot 0

@@ -208,7 +208,7 @@ fn push_breaks(breaks: u64, line: &mut Line) {
     push_count(breaks, "time", "times", line);
     let _ = write!(
         line,
-        " went back, or on by more than a day: M lost slots stand for each"
+        " went back, or on by more than an hour: M lost slots stand for each"
     );
 }
 
@@ -288,8 +288,11 @@ fn push_fault(fault: LogFault, run: &RunNotes, reason: Option<&io::Error>, line:
     match fault {
         LogFault::BadLine(number) => push_bad_line(number, bad_of(run), line),
         LogFault::BadRow(number) => push_bad_row(number, run, line),
-        LogFault::Read => push_failed("fault read: reading standard input failed", reason, line),
-        LogFault::Write => push_failed("writing standard output failed", reason, line),
+        LogFault::Read => push_unread(run, reason, line),
+        LogFault::Write => {
+            let _ = write!(line, "writing standard output failed");
+            push_reason(reason, line);
+        }
         LogFault::TooLong => push_too_long(run, line),
         LogFault::Memory => push_no_memory(run, line),
     }
@@ -303,9 +306,21 @@ fn bad_of(run: &RunNotes) -> &Option<BadStart> {
     &run.log.bad
 }
 
-/// Appends a failure with the system's reason.
-fn push_failed(what: &str, reason: Option<&io::Error>, line: &mut Line) {
-    let _ = write!(line, "{what}");
+/// Appends that a read failed, of what, and why.
+fn push_unread(run: &RunNotes, reason: Option<&io::Error>, line: &mut Line) {
+    let _ = write!(line, "fault read: reading ");
+    let name = run.file.as_slice();
+    if name.is_empty() {
+        let _ = write!(line, "standard input");
+    } else {
+        push_shown(name, line);
+    }
+    let _ = write!(line, " failed");
+    push_reason(reason, line);
+}
+
+/// Appends the system's reason of a failure.
+fn push_reason(reason: Option<&io::Error>, line: &mut Line) {
     if let Some(error) = reason {
         let _ = write!(line, ": {error}");
     }

@@ -14,6 +14,9 @@ const REFUSED_ROOM: usize = 4096;
 /// The most bytes that are kept of a PI code that was given.
 const PI_ROOM: usize = 60;
 
+/// The most bytes that are kept of the name of a file.
+const FILE_ROOM: usize = 256;
+
 /// How a run ended (this project's own rule).
 #[derive(Clone, Copy)]
 pub enum End {
@@ -50,6 +53,8 @@ pub struct RunNotes {
     pub options: Option<Options>,
     /// The first bytes of the argument that was given as PI code.
     pub pi: ArrayVec<u8, PI_ROOM>,
+    /// The first bytes of the name of the file to read. Empty for standard input.
+    pub file: ArrayVec<u8, FILE_ROOM>,
     /// The first bytes of the reason why the arguments were refused.
     pub refused: ArrayVec<u8, REFUSED_ROOM>,
     /// Notes on the log of `decode`, `audit` and `witness`.
@@ -69,6 +74,7 @@ impl RunNotes {
             end: End::NotRun,
             options: None,
             pi: ArrayVec::new(),
+            file: ArrayVec::new(),
             refused: ArrayVec::new(),
             log: LogNotes::new(),
             times: None,

@@ -2,20 +2,13 @@
 //! a JSON object.
 
 use crate::note::{Note, notes_of};
-use crate::note_lines::{Line, begun, push, push_note};
+use crate::note_lines::{Line, begun, push_note};
 use crate::note_objects::push_object;
 use crate::notes::RunNotes;
 use crate::times::Lack;
-use memchr::memchr;
 use rds_arrivals::Break;
 use rds_io::{TellingWrite, put};
 use std::io::{self, ErrorKind, Write};
-
-/// The beginning of `clap`'s text on a word that no option takes.
-const NO_OPTION: &[u8] = b"error: unexpected argument '";
-
-/// The most bytes of such a word in a note.
-const LONGEST_NAME: usize = 200;
 
 /// How notes are printed.
 #[derive(Clone, Copy)]
@@ -41,38 +34,6 @@ impl NoteForm {
 /// Prints why the arguments were refused, as `clap` says it.
 pub fn print_refusal<N: TellingWrite>(notes: &RunNotes, screen: &mut N) {
     let _ = put(notes.refused.as_slice(), screen);
-}
-
-/// Prints how a command takes a file, if its arguments were refused because of the name of one.
-pub fn print_input<N: TellingWrite>(notes: &RunNotes, words: &[&str], screen: &mut N) {
-    let Some(command) = words.get(1) else {
-        return;
-    };
-    let refused = notes.refused.as_slice();
-    if !refused.starts_with(NO_OPTION) {
-        return;
-    }
-    let name = match refused.get(NO_OPTION.len()..) {
-        Some(rest) => name_in(rest),
-        None => return,
-    };
-    // a PI without its option, or an option that does not exist
-    if memchr(b'.', name).is_none() || name.starts_with(b"-") {
-        return;
-    }
-    let mut line = begun();
-    let _ = write!(
-        line,
-        "{command} reads standard input: rdsrt {command} .. < "
-    );
-    push(name, &mut line);
-    print_line(line, screen);
-}
-
-/// Returns the bytes before a quotation mark, up to `LONGEST_NAME` of them.
-fn name_in(quoted: &[u8]) -> &[u8] {
-    let end = memchr(b'\'', quoted).unwrap_or(quoted.len());
-    &quoted[..end.min(LONGEST_NAME)]
 }
 
 /// Prints the notes of a run. `reason` is the system's error of a failed read or write.

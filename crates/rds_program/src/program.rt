@@ -153,6 +153,9 @@ fn answer<R: TellingRead, W: TellingWrite>(
         json_notes: request.json_notes,
     });
     let _ = notes.pi.write(request.pi.as_bytes());
+    if let Some(file) = request.file {
+        let _ = notes.file.write(file.as_bytes());
+    }
     let Some(pi) = identification_of(request.pi) else {
         notes.end = End::BadPi;
         write_fault_text(request.task, b"fault pi", writer);

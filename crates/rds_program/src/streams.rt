@@ -8,7 +8,7 @@ ghost use Rattle.rds_program.specs.Timing.{timed_inner as timed};
 
 use crate::breaks::Breaks;
 use crate::notes::RunNotes;
-use crate::printing::{print_input, print_notes, print_refusal};
+use crate::printing::{print_notes, print_refusal};
 use crate::program::run_with_notes;
 use crate::times::Timing;
 use rds_io::{Prompting, Reasoned, TellingWrite, Told, prompt_for};
@@ -75,7 +75,6 @@ pub fn run_over<R: Read, W: Write, N: TellingWrite>(
     if explains {
         print_refusal(&notes, screen);
     }
-    print_input(&notes, words, screen);
     let reason = output
         .inner()
         .inner()

@@ -1,7 +1,8 @@
 //! `rdsrt` encodes, decodes, simulates and audits the text services of RDS.
 //!
-//! The program is the crate `rds_program`. `main` passes it the arguments of the command line, standard input and
-//! standard output. The contract of `run_over` says what it writes. Notes for a person go to standard error.
+//! The program is the crate `rds_program`. `main` passes it the arguments of the command line, the file that they name
+//! or standard input, and standard output. The contract of `run_over` says what it writes. Notes for a person go to
+//! standard error.
 //!
 //! ```text
 //! rdsrt decode --pi C201
@@ -9,7 +10,7 @@
 #![tactic(auto)]
 
 use rds_io::Told;
-use rds_program::{input_of, no_words, output_of, run_over, texts, words_of};
+use rds_program::{file_of, input_of, no_words, output_of, run_over, source_of, texts, words_of};
 use std::io::{ErrorKind, IsTerminal, Stderr};
 use std::process::ExitCode;
 
@@ -28,10 +29,14 @@ fn main(rt: HostRuntime) -> ExitCode {
     ExitCode::from(status)
 }
 
-/// Runs the program over its arguments and the standard streams.
+/// Runs the program over its arguments, the file that they name and the standard streams.
 fn run(rt: &HostRuntime, words: &[&str]) -> u8 {
-    let types = rt.stdin().is_terminal();
-    let mut input = input_of(rt.stdin(), types, words, notes(rt), notes(rt));
+    let Ok(file) = file_of(rt.alloc(), words) else {
+        return no_words(true, rt.stdout(), rt.stderr());
+    };
+    let types = file.is_none() && rt.stdin().is_terminal();
+    let source = source_of(rt, rt.stdin(), file);
+    let mut input = input_of(source, types, words, notes(rt), notes(rt));
     let mut output = output_of(rt.stdout(), words, notes(rt));
     // A terminal shows the reason for refused arguments already: it is standard output.
     let explains = !rt.stdout().is_terminal();

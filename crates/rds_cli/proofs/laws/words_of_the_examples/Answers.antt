@@ -35,6 +35,10 @@ returns c = record {
   decode_quiet = record { taken = refl; ask = refl };
   decode_json_notes = record { taken = refl; ask = refl };
   decode_confirm = record { taken = refl; ask = refl };
+  decode_file = record { taken = refl; ask = refl };
+  decode_standard_input = record { taken = refl; ask = refl };
+  slots_file = record { taken = refl; ask = refl };
+  two_files = record { taken = refl; refused = refl };
   decode_why = record { taken = refl; ask = refl };
   audit_why = record { taken = refl; refused = refl };
   small_window = record { taken = refl; refused = refl };

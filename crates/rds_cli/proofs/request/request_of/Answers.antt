@@ -2,21 +2,22 @@ use Rattle.std.proofs.Common.{◌≡◌, ◌∙◌, Option, None, Some, ap, refl
 use Rattle.std.specs.Prelude.{ℕ, option_map}
 use Rattle.clap.specs.Words.{Text, found_of, rows_of}
 use Rattle.rds_cli.specs.Asks.{asked_by}
-use Rattle.rds_cli.specs.CommandLine.{asked, dwell_in, lose_in, pi_in, task_in}
+use Rattle.rds_cli.specs.CommandLine.{asked, dwell_in, file_in, lose_in, pi_in, task_in}
 use Rattle.rds_cli.specs.declared.request.Task.{Task}
 use Rattle.rds_cli.proofs.request.request_of.Goals as goal
 
-no_text : (task : Option Task) (lose : Text) (dwell : Option ℕ) → asked task None lose dwell ≡ None
-no_text None lose dwell = refl
-no_text (Some task) lose dwell = refl
+no_text : (task : Option Task) (lose : Text) (dwell : Option ℕ) (file : Option Text)
+    → asked task None lose dwell file ≡ None
+no_text None lose dwell file = refl
+no_text (Some task) lose dwell file = refl
 
 pub returns-in_err-pi_of : goal.returns-in_err-pi_of
 returns-in_err-pi_of c =
     let rows = rows_of (found_of c.args.inner.now) in
     let pi : pi_in c.args.name.now rows ≡ None = sym c.pi_of.ensures ∙ ap (option_map (λ s. s.now)) c.in_err-pi_of.was
     in
-    let none = ap (λ (x : Option Text). asked (task_in c.args.name.now rows) x (lose_in rows) (dwell_in rows)) pi
-    ∙ no_text (task_in c.args.name.now rows) (lose_in rows) (dwell_in rows) in
+    let none = ap (λ (x : Option Text). asked (task_in c.args.name.now rows) x (lose_in rows) (dwell_in rows) (file_in rows)) pi
+    ∙ no_text (task_in c.args.name.now rows) (lose_in rows) (dwell_in rows) (file_in rows) in
     ap (option_map asked_by) c.from_residual-in_err-pi_of.ensures ∙ sym none
 
 pub returns : goal.returns
@@ -27,4 +28,5 @@ returns c =
     let task = sym c.task_of.ensures ∙ c.in_ok-task_of.was in
     let dwell = sym c.slots_of.ensures ∙ c.in_ok-slots_of.was in
     let lose : lose_in rows ≡ c.lose_of.result.now = sym c.lose_of.ensures in
-    sym (rw (task, pi, lose, dwell) refl)
+    let file : file_in rows ≡ option_map (λ s. s.now) c.file_of.result = sym c.file_of.ensures in
+    sym (rw (task, pi, lose, dwell, file) refl)
