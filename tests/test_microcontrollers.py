@@ -1,5 +1,6 @@
 """The C library on 32-bit processors, as experiments/microcontrollers compiles it, under emulators."""
 import os
+import re
 import sys
 import unittest
 
@@ -35,6 +36,13 @@ UNKNOWN = ["@other = global i32 0, align 4", "@static.9 = private constant [1 x 
            "  %x = getelementptr ptr, ptr %y, i64 1", "  %x = nonsense i32 %y"]
 
 
+def ran_on(board, program, argument="", given=b""):
+    """Returns the status and the output of a program on a board of the emulator."""
+    arguments = f"enable=on,target=native,arg={os.path.basename(program)},arg={argument}"
+    return output(["qemu-system-arm", "-M", board, "-display", "none", "-monitor", "none", "-serial", "none",
+                   "-semihosting-config", arguments, "-kernel", program], given)
+
+
 @unittest.skipIf(missing(*TOOLS), missing(*TOOLS))
 class Microcontrollers(Case):
     def built(self, target):
@@ -53,16 +61,21 @@ class Microcontrollers(Case):
         (compiler, library), (board, top) = self.built(target), BOARDS[target]
         folder = temporary_folder(self)
         for source, argument, given, wanted in PROGRAMS:
-            name = os.path.basename(source)[:-2]
-            program = os.path.join(folder, name)
-            words = [*compiler, *(it for it in WARNINGS if it != "-pthread"), *BARE, f"-Wl,--defsym=top_of_stack={top}",
-                     os.path.join(FOLDER, "board.c"), path(source), library, "-o", program]
-            self.check(f"{name}.c is built", output(words), (0, b""))
-            arguments = f"enable=on,target=native,arg={name},arg={argument}"
-            words = ["qemu-system-arm", "-M", board, "-display", "none", "-monitor", "none", "-serial", "none",
-                     "-semihosting-config", arguments, "-kernel", program]
-            self.check(name, output(words, given), (0, wanted))
+            program = self.for_board(compiler, library, top, folder, source)
+            self.check(source, ran_on(board, program, argument, given), (0, wanted))
         self.check(f"flash of a receiver alone for {target}, in KB", self.flash(compiler, library, folder), 6)
+        said = re.search(r"(\d+) bytes on a Cortex-M4, (\d+) on an M0\+", text_of("docs/GUIDE.md"))
+        room = int(said[1 + (target != "cortex-m4")])
+        taken = int(ran_on(board, self.for_board(compiler, library, top, folder, "tests/c/stack.c"))[1])
+        self.check(f"stack of a call for {target}", (taken <= room, taken), (True, taken))
+
+    def for_board(self, compiler, library, top, folder, source):
+        """Builds a C program for a board. Returns its path."""
+        program = os.path.join(folder, os.path.basename(source)[:-2])
+        words = [*compiler, *(it for it in WARNINGS if it != "-pthread"), *BARE, f"-Wl,--defsym=top_of_stack={top}",
+                 os.path.join(FOLDER, "board.c"), path(source), library, "-o", program]
+        self.check(f"{source} is built", output(words), (0, b""))
+        return program
 
     def flash(self, compiler, library, folder):
         """Returns how much flash a receiver alone takes, as docs/GUIDE.md says it."""
