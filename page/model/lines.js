@@ -24,6 +24,8 @@ export function spansOf(slots) {
   return spans.map(([first, last]) => first === last ? `${first}` : `${first}-${last}`);
 }
 
+/* A block or a PI as four digits. */
+export const hex = (n) => n.toString(16).toUpperCase().padStart(4, "0");
 export const groupIn = (line) => line.split(" ").map((word) => parseInt(word, 16));
 
 /* The first note of this kind; undefined if there is none. */

@@ -21,13 +21,6 @@ function arraysIn(value) {
 
 const run = (words, bytes = state.bytes) => rdsrt.ask(words, bytes);
 
-/* The slots of the log, up to the line that the program finds malformed. */
-function logOf(tell) {
-  if (state.log) return state.log;
-  const fault = lines.noteOf(run(["decode", "--pi", "0000"]).notes, "fault");
-  return state.log = logs.read(state.bytes, fault?.line, tell);
-}
-
 const decoding = ({ pi, m, w }) => ["decode", "--pi", pi, "--m", m, ...rdsrt.windowWords(w), "--why"];
 
 /* What a receiver shows of the log as it is now. */
@@ -38,29 +31,50 @@ function shownBy(asked, values) {
   return { command: rdsrt.command(words), output: displays.beginOf(output), view };
 }
 
+/* Keeps what a receiver with the flag bit alone shows that loses nothing. */
+function keepAlone(pi, { output }) {
+  const values = new displays.Values();
+  const view = displays.displayOf(output, values, state.log.count);
+  state.alone = { pi, values, view, codes: logs.codes(state.bytes, state.log, parseInt(pi, 16)) };
+}
+
+/* Reads the slots of the log and its programmes, and runs the program for one of these: this one, or that with the most
+   groups. If it finds a line malformed, the slots end there. */
+function openFor(pi, tell) {
+  const read = (malformed) => {
+    state.log = logs.read(state.bytes, malformed, tell);
+    return logs.programmes(state.bytes, state.log);
+  };
+  const all = read();
+  const [most = 0] = all[0] ?? [];
+  const own = all.some(([code]) => lines.hex(code) === pi) ? pi : lines.hex(most);
+  const ran = run(decoding({ pi: own, m: LONGEST_DWELL }));
+  const fault = lines.noteOf(ran.notes, "fault");
+  const programmes = fault?.line ? read(fault.line) : all;
+  keepAlone(own, ran);
+  return programmes;
+}
+
 /* What receivers show that lose nothing, with the dwell and with the flag bit alone. The last answer is kept: it is
    asked for at each change of the lost slots. */
 function wholeOf(asked) {
   const { pi, m, w } = asked;
   const key = `${pi} ${m} ${w}`;
-  if (state.alone?.pi !== pi) {
-    const values = new displays.Values();
-    const { view } = shownBy({ pi, m: LONGEST_DWELL }, values);
-    state.alone = { pi, values, view, codes: logs.codes(state.bytes, state.log, parseInt(pi, 16)) };
-  }
+  if (state.alone?.pi !== pi) keepAlone(pi, run(decoding({ pi, m: LONGEST_DWELL })));
   if (state.whole?.key !== key) state.whole = { key, ...shownBy(asked, state.alone.values) };
   return { ...state.whole, values: state.alone.values, alone: state.alone.view, codes: state.alone.codes.slice() };
 }
 
-/* What receivers show that lose these slots, and what of it is a mix, as `witness` says: it knows no window. */
+/* What receivers show that lose these slots, and what of it is a mix, as `witness` says: it knows no window. Of a log that
+   passes the audit, a receiver with the dwell shows no mix, whatever it loses. */
 function lossyOf(asked) {
-  const { pi, m, w, lost } = asked;
+  const { pi, m, w, lost, passes } = asked;
   const { values, codes } = wholeOf(asked);
   const shown = logs.whileLost(state.bytes, state.log, lost, () => {
     return { ...shownBy(asked, values), alone: shownBy({ pi, m: LONGEST_DWELL }, values).view };
   });
   const losing = ["witness", "--pi", pi, "--m", m, "--lose", lines.spansOf(lost).join(",")];
-  if (!w) displays.markMixes(shown.view, run(losing).output);
+  if (!w && !passes) displays.markMixes(shown.view, run(losing).output);
   displays.markMixes(shown.alone, run([...losing, "--flag-alone"]).output);
   for (const slot of lost) if (slot < codes.length) codes[slot] = lines.NOTHING;
   return { ...shown, values, codes };
@@ -92,13 +106,13 @@ const REQUESTS = {
   async keep({ blob }) { Object.assign(state, { bytes: new Uint8Array(await blob.arrayBuffer()), ...NOTHING_READ }); },
 
   /* The slots of the log and its programmes. */
-  open(_, tell) {
-    const log = structuredClone(logOf(tell));
-    return { log, programmes: logs.programmes(state.bytes, log) };
+  open({ pi }, tell) {
+    const programmes = openFor(pi, tell);
+    return { log: structuredClone(state.log), programmes };
   },
 
   decode(asked) {
-    logOf();
+    if (!state.log) openFor(asked.pi);
     const { view, alone, codes, values, ...shown } = asked.lost.length ? lossyOf(asked) : wholeOf(asked);
     const copies = structuredClone({ view, alone, codes });
     return { ...shown, ...copies, values: values.packed() };

@@ -2,7 +2,7 @@
 import * as lines from "../model/lines.js";
 import * as logs from "../model/slots.js";
 import * as rdsrt from "../program/rdsrt.js";
-import { hex, make } from "./parts.js";
+import { make } from "./parts.js";
 
 const TYPES = {
   "0A": "station name (PS), not read", "0B": "station name (PS), not read", "2A": "RadioText",
@@ -20,7 +20,7 @@ const part = (meaning, textContent) => make("span", { className: meaning, textCo
 
 /* The characters of two blocks, as the program prints them; empty if they fit no text. */
 function characters(pi, third, fourth) {
-  const text = `${pi} 2140 ${hex(third)} ${hex(fourth)}\n${pi} 2141 0D20 2020\n`;
+  const text = `${pi} 2140 ${lines.hex(third)} ${lines.hex(fourth)}\n${pi} 2141 0D20 2020\n`;
   return SHOWN.exec(rdsrt.run(["decode", "--pi", pi], text).output)?.[1] ?? "";
 }
 
@@ -28,10 +28,10 @@ function characters(pi, third, fourth) {
 function details(words, type) {
   const [pi, second, third, fourth] = words;
   const service = second & SERVICE;
-  const aid = `AID ${hex(fourth)}${fourth === RADIOTEXT_PLUS ? " (RadioText Plus)" : ""}`;
+  const aid = `AID ${lines.hex(fourth)}${fourth === RADIOTEXT_PLUS ? " (RadioText Plus)" : ""}`;
   if (type === "3A") return [`${aid} in group ${service >> 1}${service & 1 ? "B" : "A"}`];
   if (!(type in SEGMENTS)) return [];
-  const shown = characters(hex(pi), third, fourth);
+  const shown = characters(lines.hex(pi), third, fourth);
   const flag = part("flag", `flag ${second & lines.FLAG_BIT ? "B" : "A"}`);
   return [flag, part("segment", `segment ${second & SEGMENTS[type]}`), ...shown ? [part("letters", `“${shown}”`)] : []];
 }
@@ -39,7 +39,7 @@ function details(words, type) {
 /* The blocks in hexadecimal. In the second one of a text or a name, the first digit has the type, the third one the flag,
    and the last one the segment. */
 function blocksOf(words, type) {
-  const [pi, second, ...others] = words.map((word) => word === null ? "----" : hex(word));
+  const [pi, second, ...others] = words.map((word) => word === null ? "----" : lines.hex(word));
   const [first, version, flag, segment] = second;
   const isRead = type in SEGMENTS;
   const parts = isRead ? [part("type", first), version, part("flag", flag), part("segment", segment)] : [second];

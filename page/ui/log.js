@@ -7,7 +7,7 @@ import { Program } from "../program/program.js";
 import * as faults from "./faults.js";
 import * as groups from "./groups.js";
 import * as links from "./links.js";
-import { $, counted, hex, make, number, radio, whyNoMix } from "./parts.js";
+import { $, counted, make, number, radio, whyNoMix } from "./parts.js";
 import { Tab } from "./tab.js";
 import * as verdict from "./verdict.js";
 
@@ -94,8 +94,8 @@ class LogTab extends Tab {
 
   async read(pi, signal) {
     const tell = (share) => { $("log-progress").value = share; };
-    const { programmes, ...read } = await this.display.ask("open", undefined, { signal, tell });
-    const options = programmes.map(([code, count]) => new Option(`${hex(code)} (${counted(count, "group")})`, hex(code)));
+    const { programmes, ...read } = await this.display.ask("open", { pi }, { signal, tell });
+    const options = programmes.map(([code, count]) => new Option(`${lines.hex(code)} (${counted(count, "group")})`, lines.hex(code)));
     Object.assign(this, read);
     $("log-pi").replaceChildren(...options.length ? options : [new Option("no group", "C201")]);
     if (options.some(({ value }) => value === pi)) $("log-pi").value = pi;
@@ -139,11 +139,16 @@ class LogTab extends Tab {
   async show(signal, { opens = false, pi }) {
     if (this.log === NO_LOG) await this.read(pi, signal);
     links.keep(this);
-    this.answer = null;
-    const asked = { ...this.asking(), lost: [...this.lost] };
-    await Promise.all([this.showDisplay(asked, opens, signal), this.showAnswer(asked, signal)]);
+    const asked = this.asking();
+    const { answer } = this;
+    // lost slots change nothing of what was sent
+    const isAnswered = answer?.of === JSON.stringify(asked);
+    if (!isAnswered) Object.assign(this, { answer: null, witness: null });
+    const passes = isAnswered && answer.isSure && !answer.no;
+    const shown = this.showDisplay({ ...asked, lost: [...this.lost], passes }, opens, signal);
+    await Promise.all([shown, isAnswered || this.showAnswer(asked, signal)]);
     if (opens) this.timeline.move(this.firstSlot(), { keep: true });
-    this.working(this.search(asked, signal));
+    if (!this.witness) this.working(this.search(asked, signal));
   }
 
   async showDisplay(asked, fit, signal) {
@@ -157,7 +162,7 @@ class LogTab extends Tab {
 
   async showAnswer(asked, signal) {
     const audit = await this.judge.ask("audit", asked, { signal });
-    this.answer = { ...verdict.show({ ...asked, audit }, this.actions), audit };
+    this.answer = { ...verdict.show({ ...asked, audit }, this.actions), audit, of: JSON.stringify(asked) };
     this.tellLines("audit", audit.command, audit.output);
     faults.show({ ...audit, isSure: this.answer.isSure });
     // the faults have marks

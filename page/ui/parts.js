@@ -1,5 +1,6 @@
 /* What the tabs share: elements, words, and displays. */
 import { kindOf, wordsOfTag } from "../model/displays.js";
+import { hex } from "../model/lines.js";
 
 export const number = (n) => n.toLocaleString("en");
 /* A note with commas in its long numbers. Those of a time stay as they are. */
@@ -27,7 +28,6 @@ export function filled(id, given) {
   return [...copy.children];
 }
 
-export const hex = (n) => n.toString(16).toUpperCase().padStart(4, "0");
 export const counted = (n, one) => `${number(n)} ${one}${n === 1 ? "" : "s"}`;
 /* Delays a call until no further one comes. */
 export const soon = (what) => {
