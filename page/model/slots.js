@@ -9,33 +9,18 @@ for (const letter of "<#%\n\r") SKIPPED[letter.charCodeAt(0)] = 1;
 /* The bytes of four blocks with spaces between them, and where each block begins. */
 export const BLOCKS = 19;
 const PLACES = [0, 5, 10, 15];
-/* The bytes after which the reader says again how far it is. */
-const PER_STEP = 1 << 21;
+/* The lines after which the reader says again how far it is. */
+const PER_STEP = 100_000;
 const LOST = new TextEncoder().encode(lines.LOST);
 
 const DIGITS = new Uint8Array(256);
 for (const digit of "0123456789abcdefABCDEF") DIGITS[digit.charCodeAt(0)] = parseInt(digit, 16);
 
 export function endOf(bytes, start) {
-  const newline = bytes.indexOf(NEWLINE, start);
-  return newline < 0 ? bytes.length : newline;
-}
-
-/* Reads a log up to a line, the first malformed one if there is one. Returns the first byte of each slot. `end` is the
-   first byte not read. */
-/** @param {(share: number) => void} tell */
-export function read(bytes, malformed = Infinity, tell = () => {}) {
-  const most = Math.floor((bytes.length + 1) / (BLOCKS + 1)) + 1;
-  const starts = new Uint32Array(most);
-  let count = 0;
-  let start = 0;
-  for (let number = 1; start < bytes.length && number < malformed; number++) {
-    const end = endOf(bytes, start);
-    if (!SKIPPED[bytes[start]]) starts[count++] = start;
-    if (Math.floor(end / PER_STEP) > Math.floor(start / PER_STEP)) tell(end / bytes.length);
-    start = end + 1;
-  }
-  return { starts: starts.slice(0, count), count, end: Math.min(start, bytes.length) };
+  let end = start;
+  // a call of indexOf for each line takes twice as long
+  while (end < bytes.length && bytes[end] !== NEWLINE) end++;
+  return end;
 }
 
 const wordAt = (bytes, at) =>
@@ -46,33 +31,47 @@ const isMissing = (bytes, at) => bytes[at] === DASH;
 export const blocksAt = (bytes, start) =>
   PLACES.map((place) => isMissing(bytes, start + place) ? null : wordAt(bytes, start + place));
 
+/* Whether a line has all four blocks. A list of the places would take longer than all else. */
+function isWhole(bytes, at) {
+  const isFirstHalf = !isMissing(bytes, at) && !isMissing(bytes, at + 5);
+  return isFirstHalf && !isMissing(bytes, at + 10) && !isMissing(bytes, at + 15);
+}
+
+/* Reads a log up to a line, the first malformed one if there is one. Returns the first byte of each slot, and the
+   programmes with their numbers of groups, those with the most groups first. */
+/** @param {(share: number) => void} tell */
+export function read(bytes, malformed = Infinity, tell = () => {}) {
+  const most = Math.floor((bytes.length + 1) / (BLOCKS + 1)) + 1;
+  const starts = new Uint32Array(most);
+  const counts = new Uint32Array(1 << 16);
+  let count = 0;
+  let start = 0;
+  for (let number = 1; start < bytes.length && number < malformed; number++) {
+    const isSlot = !SKIPPED[bytes[start]];
+    if (isSlot) starts[count++] = start;
+    if (isSlot && isWhole(bytes, start)) counts[wordAt(bytes, start)]++;
+    // the line of a slot is no shorter than its blocks
+    const end = endOf(bytes, isSlot ? start + BLOCKS : start);
+    if (number % PER_STEP === 0) tell(end / bytes.length);
+    start = end + 1;
+  }
+  const programmes = [...counts.entries()].filter((it) => it[1] > 0).sort((one, other) => other[1] - one[1]);
+  return { starts: starts.slice(0, count), count, malformed, programmes };
+}
+
 /* Returns the group of a slot; null if a block is missing. */
 export function groupAt(bytes, { starts, count }, slot) {
   const blocks = slot < count ? blocksAt(bytes, starts[slot]) : [null];
   return blocks.includes(null) ? null : blocks;
 }
 
-/* Calls for each slot with all four blocks: with its number and its first two blocks. */
-function eachGroup(bytes, starts, call) {
-  for (let slot = 0; slot < starts.length; slot++) {
-    const at = starts[slot];
-    // a list of the places would take longer than all else
-    const isFirstHalf = !isMissing(bytes, at) && !isMissing(bytes, at + 5);
-    if (isFirstHalf && !isMissing(bytes, at + 10) && !isMissing(bytes, at + 15)) call(slot, wordAt(bytes, at), wordAt(bytes, at + 5));
-  }
-}
-
-/* Returns the programmes of a log with their numbers of groups, those with the most groups first. */
-export function programmes(bytes, { starts }) {
-  const counts = new Map();
-  eachGroup(bytes, starts, (_, pi) => counts.set(pi, (counts.get(pi) ?? 0) + 1));
-  return [...counts].sort((one, other) => other[1] - one[1]);
-}
-
 /* Returns the kind of group in each slot. */
 export function codes(bytes, { starts, count }, pi) {
   const all = new Uint8Array(count);
-  eachGroup(bytes, starts, (slot, first, second) => { all[slot] = lines.markedCodeOf([first, second], pi); });
+  for (let slot = 0; slot < count; slot++) {
+    const at = starts[slot];
+    if (isWhole(bytes, at)) all[slot] = lines.markedCodeOf([wordAt(bytes, at), wordAt(bytes, at + 5)], pi);
+  }
   return all;
 }
 

@@ -7,8 +7,8 @@ import * as logs from "./slots.js";
 import * as player from "./player.js";
 
 /* The bytes of the log, and what is known of it and does not depend on M: it is read when somebody asks for it. */
-const NOTHING_READ = { log: null, alone: null, whole: null };
-const state = { bytes: new Uint8Array(0), ...NOTHING_READ };
+/** @type {any} */
+const state = { bytes: new Uint8Array(0) };
 /* A receiver with this dwell is one with the flag bit alone, as radios of today are, unless no segment comes for as
    many slots (the_flag_alone_is_a_long_dwell of rds_safety). */
 const LONGEST_DWELL = "65535";
@@ -21,63 +21,47 @@ function arraysIn(value) {
 
 const run = (words, bytes = state.bytes) => rdsrt.ask(words, bytes);
 
-const decoding = ({ pi, m, w }) => ["decode", "--pi", pi, "--m", m, ...rdsrt.windowWords(w), "--why"];
+const decoding = (pi, m, w = 0) => ["decode", "--pi", pi, "--m", m, ...rdsrt.windowWords(w), "--why"];
 
-/* What a receiver shows of the log as it is now. */
-function shownBy(asked, values) {
-  const words = decoding(asked);
-  const { output } = run(words);
-  const view = displays.displayOf(output, values, state.log.count);
-  return { command: rdsrt.command(words), output: displays.beginOf(output), view };
-}
-
-/* Keeps what a receiver with the flag bit alone shows that loses nothing. */
-function keepAlone(pi, { output }) {
-  const values = new displays.Values();
-  const view = displays.displayOf(output, values, state.log.count);
-  state.alone = { pi, values, view, codes: logs.codes(state.bytes, state.log, parseInt(pi, 16)) };
-}
-
-/* Reads the slots of the log and its programmes, and runs the program for one of these: this one, or that with the most
-   groups. If it finds a line malformed, the slots end there. */
-function openFor(pi, tell) {
-  const read = (malformed) => {
-    state.log = logs.read(state.bytes, malformed, tell);
-    return logs.programmes(state.bytes, state.log);
-  };
-  const all = read();
-  const [most = 0] = all[0] ?? [];
-  const own = all.some(([code]) => lines.hex(code) === pi) ? pi : lines.hex(most);
-  const ran = run(decoding({ pi: own, m: LONGEST_DWELL }));
-  const fault = lines.noteOf(ran.notes, "fault");
-  const programmes = fault?.line ? read(fault.line) : all;
-  keepAlone(own, ran);
-  return programmes;
+/* What a receiver shows of the log as it is now. The slots end at a line that the program finds malformed. */
+function shownBy(words, values) {
+  const { output, notes } = run(words);
+  const malformed = lines.noteOf(notes, "fault")?.line ?? Infinity;
+  if (state.log.malformed !== malformed) state.log = logs.read(state.bytes, malformed);
+  return { words, output, view: displays.displayOf(output, values, state.log.count) };
 }
 
 /* What receivers show that lose nothing, with the dwell and with the flag bit alone. The last answer is kept: it is
    asked for at each change of the lost slots. */
-function wholeOf(asked) {
-  const { pi, m, w } = asked;
-  const key = `${pi} ${m} ${w}`;
-  if (state.alone?.pi !== pi) keepAlone(pi, run(decoding({ pi, m: LONGEST_DWELL })));
-  if (state.whole?.key !== key) state.whole = { key, ...shownBy(asked, state.alone.values) };
-  return { ...state.whole, values: state.alone.values, alone: state.alone.view, codes: state.alone.codes.slice() };
+function wholeOf({ pi, m, w }) {
+  const words = decoding(pi, m, w);
+  if (state.pi !== pi) {
+    const values = new displays.Values();
+    const alone = shownBy(decoding(pi, LONGEST_DWELL), values);
+    const codes = logs.codes(state.bytes, state.log, parseInt(pi, 16));
+    Object.assign(state, { pi, values, alone, codes, whole: null });
+  }
+  if (`${state.whole?.words}` !== `${words}`) state.whole = shownBy(words, state.values);
+  return { whole: state.whole, alone: state.alone, codes: state.codes.slice() };
 }
 
 /* What receivers show that lose these slots, and what of it is a mix, as `witness` says: it knows no window. Of a log that
-   passes the audit, a receiver with the dwell shows no mix, whatever it loses. */
-function lossyOf(asked) {
-  const { pi, m, w, lost, passes } = asked;
-  const { values, codes } = wholeOf(asked);
-  const shown = logs.whileLost(state.bytes, state.log, lost, () => {
-    return { ...shownBy(asked, values), alone: shownBy({ pi, m: LONGEST_DWELL }, values).view };
-  });
+   passes the audit, a receiver with the dwell shows no mix, whatever it loses. Nor does one that shows what a receiver
+   shows that loses nothing. */
+function lossyOf({ pi, m, w, lost, passes }) {
+  const { codes, ...kept } = wholeOf({ pi, m, w });
+  const { values } = state;
+  const again = ({ words }) => shownBy(words, values);
+  const shown = logs.whileLost(state.bytes, state.log, lost, () => ({ whole: again(kept.whole), alone: again(kept.alone) }));
   const losing = ["witness", "--pi", pi, "--m", m, "--lose", lines.spansOf(lost).join(",")];
-  if (!w && !passes) displays.markMixes(shown.view, run(losing).output);
-  displays.markMixes(shown.alone, run([...losing, "--flag-alone"]).output);
+  const mark = (which, ...more) => {
+    if (shown[which].output === kept[which].output) return;
+    displays.markMixes(shown[which].view, run([...losing, ...more]).output);
+  };
+  if (!w && !passes) mark("whole");
+  mark("alone", "--flag-alone");
   for (const slot of lost) if (slot < codes.length) codes[slot] = lines.NOTHING;
-  return { ...shown, values, codes };
+  return { ...shown, codes };
 }
 
 const auditing = ({ pi, m, k, running }, ...more) =>
@@ -102,20 +86,25 @@ function audit(asked) {
 }
 
 const REQUESTS = {
-  /* Takes the bytes of a log. A blob is handed over without a copy. */
-  async keep({ blob }) { Object.assign(state, { bytes: new Uint8Array(await blob.arrayBuffer()), ...NOTHING_READ }); },
+  /* Takes the bytes of a log. */
+  keep({ bytes }) { Object.assign(state, { bytes, log: null, pi: "" }); },
 
   /* The slots of the log and its programmes. */
-  open({ pi }, tell) {
-    const programmes = openFor(pi, tell);
-    return { log: structuredClone(state.log), programmes };
+  open(_, tell) {
+    state.log = logs.read(state.bytes, Infinity, tell);
+    return structuredClone(state.log);
   },
 
+  /* What receivers show. `log` has the slots if they are others than before. */
   decode(asked) {
-    if (!state.log) openFor(asked.pi);
-    const { view, alone, codes, values, ...shown } = asked.lost.length ? lossyOf(asked) : wholeOf(asked);
-    const copies = structuredClone({ view, alone, codes });
-    return { ...shown, ...copies, values: values.packed() };
+    const before = state.log;
+    state.log ??= logs.read(state.bytes);
+    const { whole, alone, codes } = asked.lost.length ? lossyOf(asked) : wholeOf(asked);
+    const { words, output, view } = whole;
+    return {
+      command: rdsrt.command(words), output: displays.beginOf(output), values: state.values.packed(), codes,
+      ...structuredClone({ view, alone: alone.view, log: state.log === before ? null : state.log }),
+    };
   },
 
   audit,

@@ -9,7 +9,7 @@ const PATIENCE = 300;
 
 export class Program {
   /** @type {Worker | null} */ worker = null;
-  /** @type {{ blob: Blob } | null} */ input = null;
+  /** @type {Uint8Array | null} */ input = null;
   /** @type {Question | null} */ asked = null;
   /** @type {Question[]} */ queue = [];
 
@@ -19,11 +19,15 @@ export class Program {
     this.patience = patience;
   }
 
-  /* Takes the bytes of another log, and drops all questions on the one before. */
-  keep(blob) {
-    this.end(new DOMException("another log was opened", "AbortError"));
-    this.input = { blob };
+  /* Takes the bytes of another log, and drops all questions on the one before. A worker without a log takes this one. */
+  keep(bytes) {
+    if (this.input) this.end(new DOMException("another log was opened", "AbortError"));
+    this.input = bytes;
+    if (this.worker) this.queue.push(this.first("keep", { bytes }));
+    this.next();
   }
+
+  first(call, given) { return { call, given, resolve() {}, reject: (error) => this.end(error) }; }
 
   /* The worker comes from a text of the page: a page that was opened from a disk may load no script for it. */
   start() {
@@ -33,9 +37,8 @@ export class Program {
     URL.revokeObjectURL(url);
     worker.onmessage = ({ data }) => { if (worker === this.worker) this.hear(data); };
     worker.onerror = ({ message }) => this.end(new Error(`a worker of the page stopped: ${message}`));
-    const reject = (error) => this.end(error);
-    const first = (call, given) => ({ call, given, resolve() {}, reject });
-    this.queue.unshift(first("begin", this.compiled), ...this.input ? [first("keep", this.input)] : []);
+    if (this.input) this.queue.unshift(this.first("keep", { bytes: this.input }));
+    this.queue.unshift(this.first("begin", this.compiled));
   }
 
   /* Ends the worker, which frees its memory. Whoever waits gets the error. The next question starts another worker. */

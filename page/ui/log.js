@@ -88,15 +88,19 @@ class LogTab extends Tab {
     this.nameFile(file);
     this.setFields({ example, m, k, w: w || "" });
     $("log-running").checked = running;
-    for (const program of [this.display, this.judge]) program.keep(new Blob([bytes]));
+    for (const program of [this.display, this.judge]) program.keep(bytes);
     return this.look({ opens: true, pi });
   }
 
   async read(pi, signal) {
     const tell = (share) => { $("log-progress").value = share; };
-    const { programmes, ...read } = await this.display.ask("open", { pi }, { signal, tell });
-    const options = programmes.map(([code, count]) => new Option(`${lines.hex(code)} (${counted(count, "group")})`, lines.hex(code)));
-    Object.assign(this, read);
+    this.take(await this.display.ask("open", {}, { signal, tell }), pi);
+  }
+
+  /* Takes the slots of a log and its programmes, and chooses one of these: this one, or that with the most groups. */
+  take(log, pi) {
+    const options = log.programmes.map(([code, count]) => new Option(`${lines.hex(code)} (${counted(count, "group")})`, lines.hex(code)));
+    this.log = log;
     $("log-pi").replaceChildren(...options.length ? options : [new Option("no group", "C201")]);
     if (options.some(({ value }) => value === pi)) $("log-pi").value = pi;
     this.prepare();
@@ -153,6 +157,10 @@ class LogTab extends Tab {
 
   async showDisplay(asked, fit, signal) {
     const shown = await this.display.ask("decode", asked, { signal });
+    if (shown.log) this.take(shown.log, asked.pi);
+    // the slots before a malformed line may be those of another programme
+    if (this.value("pi") !== asked.pi) this.look({ opens: fit });
+    signal.throwIfAborted();
     const values = new Texts(shown.values);
     const [view, alone] = [shown.view, shown.alone].map((packed) => new View(packed, values));
     Object.assign(this, { view, alone, codes: shown.codes, pi: parseInt(asked.pi, 16), w: asked.w });
@@ -277,6 +285,8 @@ class LogTab extends Tab {
   begin(compiled) {
     super.begin(["pi", "m", "k", "w", "running"], () => this.look());
     Object.assign(this, { display: new Program(compiled, PATIENCE), judge: new Program(compiled) });
+    // a log finds its workers ready
+    for (const program of [this.display, this.judge]) program.next();
     $("log-lose").onclick = () => this.lose([this.timeline.cursor]);
     $("log-unlose").onclick = () => { this.lost.clear(); this.look(); };
   }
