@@ -169,12 +169,14 @@ const probe = (() => {
     return Object.fromEntries(inks.map((ink) => [ink, count(rgba(colour(ink)))]));
   }
 
-  /* The shapes of the swatches of a legend, and of the slots of a timeline's first lane: # where the colour is another one. */
+  /* The shapes of the slots of a timeline's first lane: # where the colour is another one. And those of the legend. */
   function column(canvas, x, top) {
     const colours = Array.from({ length: 20 }, (_, y) => String(pixels(canvas, x, top + y + 0.5, 1, 1).slice(0, 4)));
     return colours.map((it) => it === colours[0] ? "." : "#").join("");
   }
-  const swatches = () => [...document.querySelectorAll(".legend canvas")].map((it) => column(it, 7, 0));
+  const fills = (rect, y) => y >= rect.y.baseVal.value && y < rect.y.baseVal.value + rect.height.baseVal.value;
+  const swatch = (it) => Array.from({ length: 20 }, (_, y) => [...it.children].some((rect) => fills(rect, y)) ? "#" : ".").join("");
+  const swatches = () => [...document.querySelectorAll(".legend svg")].map(swatch);
   function ticks(tab, count) {
     const timeline = timelineOf(tab);
     timeline.paint();

@@ -113,7 +113,7 @@ class Chromium(Access, ChromiumCase):
                 settle(b)
                 low = [it for it in call(b, "probe.contrasts", CONTRAST)[1] if " on " not in it]
                 self.check(f"contrast of {tab} in forced colours, {scheme}", low, [])
-                drawn = b.run(f"[...document.querySelectorAll('#{tab} .legend canvas')].map(it => it.toDataURL())")
+                drawn = b.run(f"[...document.querySelectorAll('#{tab} .legend svg')].map(it => it.outerHTML)")
                 self.check(f"the swatches of {tab}", (len(drawn), len(set(drawn))), (9, 9))
         edges = []
         for log in (f"{HI}\n", f"{HI}\n{GROUPS[2]}\n", "", "bad\n"):

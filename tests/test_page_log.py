@@ -7,9 +7,9 @@ from tests.page_support import (EVERY_100, GROUPS, HI, NOTHING, SEED, YO, Chromi
                                 settled_verdict, shown, text_of, to_tab, verdict_of)
 
 GROUP_WORDS = [
-    ("C201 2140 4849 0D20", "2A RadioText · flag A · segment 0 · “HI” · C201 2140 4849 0D20"),
-    ("C201 2153 6E63 8220", "2A RadioText · flag B · segment 3 · “ncé ” · C201 2153 6E63 8220"),
-    ("C201 A151 4D49 5820", "10A programme type name (PTYN) · flag B · segment 1 · “MIX ” · C201 A151 4D49 5820"),
+    ("C201 2140 4849 0D20", "2A RadioText · flag A · segment 0 · C201 2140 4849 0D20"),
+    ("C201 2153 6E63 8220", "2A RadioText · flag B · segment 3 · C201 2153 6E63 8220"),
+    ("C201 A151 4D49 5820", "10A programme type name (PTYN) · flag B · segment 1 · C201 A151 4D49 5820"),
     ("C201 3156 0000 4BD7",
      "3A announcement of a data service · AID 4BD7 (RadioText Plus) in group 11A · C201 3156 0000 4BD7"),
     ("C201 0548 1234 5649", "0A station name (PS), not read · C201 0548 1234 5649"),
@@ -116,8 +116,8 @@ class LogTab:
         verdict_of(b, f"{HI}\n", 8)
         parts = b.run("[...document.querySelectorAll('#log-group span')].map(it => [it.className, it.textContent])")
         self.check("words and blocks", parts, [["type", "2A RadioText"], ["flag", "flag A"], ["segment", "segment 0"],
-                                               ["letters", "“HI”"], ["pi", "C201"], ["type", "2"], ["flag", "4"],
-                                               ["segment", "0"], ["letters", "4849"], ["letters", "0D20"]])
+                                               ["pi", "C201"], ["type", "2"], ["flag", "4"], ["segment", "0"],
+                                               ["letters", "4849"], ["letters", "0D20"]])
         colours = b.run("[...new Set([...document.querySelectorAll('#log-group span')].map(it => getComputedStyle(it).color))].length")
         self.check("five colours", colours, 5)
         first_examples(b)
@@ -199,7 +199,7 @@ class LogTab:
                        log)
 
     def test_the_chosen_group_is_in_words(self):
-        """The words are its type, flag, segment, characters and blocks."""
+        """The words are its type, flag, segment and blocks."""
         b = self.b
         call(b, "probe.open", "log", "".join(f"{line}\n" for line, _ in GROUP_WORDS), {"pi": "C201", "m": 8, "k": 0})
         for slot, (line, words) in enumerate(GROUP_WORDS):

@@ -35,7 +35,7 @@ class ScriptTab:
         b = self.b
         open_script(b, "".join(f"{line}GG\n" for line in example("chanson.csv").decode().splitlines()), m=8, k=0)
         names = [it.strip() for it in call(b, "probe.lanes", "script")]
-        self.check("names and tags have lanes", (names.count("its name"), names.count("its tags")), (5, 5))
+        self.check("names and tags have lanes", [names.count(f"its {it}") for it in ("name", "tag 1", "tag 2")], [5, 5, 5])
         last = [call(b, "probe.runs", "script", which, "tag1", receiver)[-1]["value"]["text"]
                 for which in ("alone", "views") for receiver in (0, 1)]
         self.check("tags of both kinds of receivers", last, ["Édith Piaf"] * 4)

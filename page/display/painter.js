@@ -1,14 +1,11 @@
-/* Draws the lanes of a timeline on a canvas, and nothing out of sight: a frame costs what its pixels do. A lane is
-   { name, short, kind, group, gap, strong } with the codes of "ticks", or runs of "bars" or marks, those of displays.js. */
+/* Draws the lanes of a timeline, and nothing out of sight: a frame costs what its pixels do. */
 import { lastAt } from "../model/displays.js";
 import * as lines from "../model/lines.js";
 
-/* The heights of the axis, of a lane of ticks, and of one of bars or marks. */
 export const AXIS = 24;
 const TICKS = 20;
 const BARS = 22;
 export const FONT = "system-ui, 'Noto Sans', 'DejaVu Sans', sans-serif";
-/* Texts have three shades. */
 const SHADES = ["text-0", "text-1", "text-2", "name-0", "tags-0"].map((shade) => `shade-${shade}`);
 const INKS = [
   "card", "text", "dim", "line", "lane", "chosen", "bad", "wrong", "cursor", "stale", "stale-text", "on-bar",
@@ -18,12 +15,9 @@ const INK_OF = {
   [lines.TEXT]: "shade-text-0", [lines.TEXT | lines.FLAG]: "shade-text-2", [lines.NAME]: "shade-name-0",
   [lines.TAGS]: "shade-tags-0", [lines.OTHER]: "other", [lines.NOTHING]: "dim",
 };
-/* The modes of a page that change its colours. */
 const MODES = ["(prefers-color-scheme: dark)", "(forced-colors: active)"];
-/* The steps of the axis, in slots, and the least pixels between two of its labels. */
 const STEPS = [1, 2, 5, 10, 20, 50, 100, 200, 500, 1000, 2000, 5000, 10000, 20000, 50000, 100000, 200000];
 const APART = 64;
-/* Marks closer than this, in pixels, are drawn as strokes. */
 const NEAR = 12;
 /* The heights [from, to] of a tick by the code of its slot: kinds differ in shape as well as in colour. */
 const TALL = 16;
@@ -47,13 +41,12 @@ function inks(root) {
   return all;
 }
 
-/* Hands over the colours of the page, now and whenever they change. */
 export function watchInks(root, take) {
   for (const mode of MODES) matchMedia(mode).addEventListener("change", () => take(inks(root)));
   take(inks(root));
 }
 
-/* Sizes a canvas in pixels of the screen, and returns its clean context. What is above `top` is out of sight. */
+/* Sizes a canvas in pixels of the screen. What is above `top` is out of sight. */
 export function sized(canvas, width, height, top = 0) {
   const scale = devicePixelRatio || 1;
   const [across, down] = [width, height - top].map((length) => Math.round(length * scale));
@@ -65,7 +58,6 @@ export function sized(canvas, width, height, top = 0) {
   return ctx;
 }
 
-/* Places the lanes one under the other. Returns the height of all. */
 export function place(lanes) {
   let top = AXIS;
   for (const lane of lanes) {
@@ -75,7 +67,6 @@ export function place(lanes) {
   return top + 6;
 }
 
-/* Fills a place, which is [x, y, width, height]. */
 function rect(ctx, color, place, alpha = 1) {
   Object.assign(ctx, { fillStyle: color, globalAlpha: alpha });
   ctx.fillRect(...place);
@@ -104,7 +95,6 @@ function fitted(ctx, text, room) {
   return count ? `${text.slice(0, count).trimEnd()}…` : "";
 }
 
-/* The labels of a row of the axis: each is at a slot. Those that would pass the edge are left out. */
 function labels(ctx, sight, y, all) {
   for (const [slot, text] of all) {
     const x = Math.round(sight.x(slot)) + 3;
@@ -112,14 +102,12 @@ function labels(ctx, sight, y, all) {
   }
 }
 
-/* The multiples of a step from one number to another. */
 function multiples(step, from, to) {
   const first = Math.ceil(from / step);
   const length = Math.max(0, Math.floor(to / step) - first + 1);
   return Array.from({ length }, (_, i) => (first + i) * step);
 }
 
-/* The first and the last slot in sight. */
 export const ends = ({ from, across }) => [Math.floor(from), Math.ceil(from + across) - 1];
 
 function axis(ctx, sight, ink) {
@@ -132,13 +120,12 @@ function axis(ctx, sight, ink) {
   labels(ctx, sight, AXIS - 12, slots.map((slot) => [slot, slot.toLocaleString("en")]));
 }
 
-/* The shape of a slot: lost, without a group, or of its code. A lane of groups that were sent has only the last. */
+/* A lane of groups that were sent has no shape for a slot without one. */
 function shapeOf({ lost, losses }, slot, code) {
   if (lost?.has(slot) || (losses && code === lines.NOTHING)) return LOST;
   return code === lines.NOTHING && !lost ? [] : SHAPES[code];
 }
 
-/* Draws slots that are two pixels wide, or wider. */
 function wideTicks(ctx, lane, sight, ink) {
   const each = sight.room / sight.across;
   const width = Math.max(1, each > 4 ? each - 1 : each);
@@ -162,7 +149,6 @@ function narrowTicks(ctx, { codes, top }, sight, ink) {
   }
 }
 
-/* Draws a bar without its label: filled, or an outline of dashes if it is old. */
 function ground(ctx, piece, x, width, { top, height }, ink) {
   const { mix, old, kind, shade } = piece;
   ctx.beginPath();
@@ -209,7 +195,6 @@ function bars(ctx, lane, sight, ink) {
   }
 }
 
-/* Draws a mark: a diamond on a pole. Red is for a fault that is sure. */
 function mark(ctx, x, isSure, { top, height }, ink) {
   const middle = top + height / 2;
   ctx.fillStyle = isSure ? ink.bad : ink.text;
@@ -217,8 +202,7 @@ function mark(ctx, x, isSure, { top, height }, ink) {
   fillPoints(ctx, [x, middle], [x + 5, middle - 6], [x + 10, middle], [x + 5, middle + 6]);
 }
 
-/* Draws marks, and the labels that have room before the next mark. Marks that are too close for their shapes are
-   strokes, one a pixel. */
+/* Marks that are too close for their shapes are strokes, one a pixel. */
 function marks(ctx, lane, sight, ink) {
   const all = lane.marks;
   const slots = sight.across / sight.room;
@@ -251,8 +235,7 @@ function laneOf(ctx, lane, sight, ink) {
   if (isChosen) rect(ctx, ink.cursor, [gutter - 4, top, 3, height]);
   ctx.font = `${lane.strong ? "600 " : ""}12px ${FONT}`;
   ctx.fillStyle = isChosen || lane.strong ? ink.text : ink.dim;
-  const name = gutter < 100 ? lane.short ?? lane.name : lane.name;
-  ctx.fillText(fitted(ctx, name, gutter - 10), 4, top + height / 2);
+  ctx.fillText(fitted(ctx, lane.name, gutter - 10), 4, top + height / 2);
   clipped(ctx, [gutter, top, room, height], () => ({ ticks, bars, marks })[lane.kind](ctx, lane, sight, ink));
 }
 
@@ -266,24 +249,6 @@ function cursor(ctx, sight, ink, height) {
   fillPoints(ctx, [x - 5, AXIS - 9], [x + 5, AXIS - 9], [x, AXIS - 2]);
 }
 
-/* Draws a swatch of a legend: a tick by its code, a bar that is a "mix" or "old", or a slot that is "lost". */
-export function swatch(canvas, ink) {
-  const { shows } = canvas.dataset;
-  const width = 14;
-  const scale = 2;
-  const ctx = canvas.getContext("2d");
-  Object.assign(canvas, { width: width * scale, height: TICKS * scale });
-  ctx.scale(scale, scale);
-  rect(ctx, ink.lane, [0, 0, width, TICKS]);
-  const sight = { from: 0, across: 1, room: width, gutter: 0, width, x: (slot) => slot * width };
-  const lane = { top: 0, height: TICKS, codes: [Number(shows)], lost: new Set(shows === "lost" ? [0] : []) };
-  const isBar = shows === "mix" || shows === "old";
-  if (isBar) ground(ctx, { mix: shows === "mix", old: true }, 0, width, lane, ink);
-  else wideTicks(ctx, lane, sight, ink);
-}
-
-/* Draws the lanes in the colours `ink`. `sight` says what is in sight: from, across, room, gutter, width, cursor,
-   chosen and x. */
 export function paint(ctx, lanes, sight, ink, height) {
   ctx.textBaseline = "middle";
   axis(ctx, sight, ink);

@@ -4,8 +4,7 @@ const LINE = /^no (\d+) (\w+)$/gm;
 const LOSE = /^lose (\d+)(?:-(\d+))?: ((\d+) .*)$/gm;
 const UP_TO = / up to slot (\d+)$/m;
 
-/* Returns the names of the kinds, and for each fault its slot and the number of its kind. A log of a day may have
-   hundreds of thousands of faults, so they are in typed arrays. */
+/* A log of a day may have hundreds of thousands of faults, so they are in typed arrays. */
 export function read(output) {
   const kinds = [];
   const slots = [];
@@ -18,8 +17,6 @@ export function read(output) {
   return { kinds, slots: Int32Array.from(slots), numbers: Uint8Array.from(numbers) };
 }
 
-/* Returns the slots that a receiver has to lose to show what a receiver that loses nothing does not show, the slot of
-   the mix, and its lines of `decode`; or the slot at which the search stopped. */
 export function witness(output) {
   const [found, ...more] = output.matchAll(LOSE);
   const stopped = UP_TO.exec(output);

@@ -1,5 +1,5 @@
-/* Displays over time. A worker reads them from the output of `decode` and of `sim` and packs them into typed arrays, since
-   the log of a day may change its display a million times. The page reads these, and draws what is in sight. */
+/* Displays over time. A worker packs them into typed arrays, since the log of a day may change its display a million
+   times. The page draws what is in sight. */
 
 /* The kind of each part. Texts have three shades. */
 export const KIND_OF = { text: "text", name: "name", tag1: "tags", tag2: "tags" };
@@ -10,10 +10,9 @@ export const NOTHING = -1;
 const STATES = ["on air", "mix", "old", "replaced"];
 /* Why a run shows nothing, as the program says. Nothing was shown before the first one. */
 const WHYS = ["", "incomplete", "dropped", "restarted"];
-/* The most letters of an output that a page shows. */
 const MOST_SHOWN = 400_000;
 
-/* The distinct values of some displays, each with a number: its kind and what the program prints. */
+/* The distinct values of some displays, each with a number. */
 export class Values {
   constructor() { this.numbers = new Map(); }
 
@@ -23,8 +22,7 @@ export class Values {
     return this.numbers.get(value);
   }
 
-  /* All values as one text, which is handed over faster than many; and for each where it ends in the text, and a shade:
-     those of texts in turn. */
+  /* One text is handed over faster than many. Texts have their shades in turn. */
   packed() {
     const all = [...this.numbers.keys()];
     let texts = 0;
@@ -35,8 +33,6 @@ export class Values {
   }
 }
 
-/* Writes a display over time: for each part the slots from which it shows another value, with the number of the value
-   and its state, or with NOTHING and the reason. */
 class Writer {
   parts = Object.fromEntries(PARTS.map((part) => [part, { starts: [], numbers: [], states: [], state: 0 }]));
 
@@ -48,7 +44,6 @@ class Writer {
     [starts[at], numbers[at], states[at]] = [slot, number, state];
   }
 
-  /* Takes what a line says of a part: its value, or its state. */
   write(part, slot, said) {
     const runs = this.parts[part];
     const state = STATES.indexOf(said);
@@ -66,8 +61,7 @@ class Writer {
   }
 }
 
-/* Reads the lines of an output. Gives the displays by who shows them: "r0", or "air" for the station, or nobody's name
-   in the output of `decode`. `tell` hears the other lines of `sim`. */
+/* Gives the displays by who shows them: "r0", "air", or nobody's name. `tell` hears the other lines of `sim`. */
 const LINE = /^(\d+) (?:(r\d|air) )?(\w+) ?(.*)$/;
 export function read(output, values, tell = null) {
   const displays = {};
@@ -85,7 +79,7 @@ export function read(output, values, tell = null) {
 export const displayOf = (output, values, count) => (read(output, values)[""] ?? new Writer(values)).packed(count);
 export const beginOf = (output) => output.length > MOST_SHOWN ? `${output.slice(0, MOST_SHOWN)}…` : output;
 
-/* Marks the runs of a packed display that are mixes, by the lines of `witness --lose`, which are in order. */
+/* Marks mixes by the lines of `witness --lose`, which are in order. */
 const MIX = STATES.indexOf("mix");
 export function markMixes(display, printed) {
   const from = {};
@@ -107,7 +101,6 @@ export function labelOf(value) {
   return value && wordsOfTag(value);
 }
 
-/* The values of displays: strings, and tags as { kind, text }. */
 export class Texts {
   /** @param {{ text: string, ends: Int32Array, shades: Uint8Array }} packed */
   constructor({ text, ends, shades }) {
@@ -123,7 +116,7 @@ export class Texts {
   }
 }
 
-/* The last of `length` places whose slot is this one or before; -1 if there is none. */
+/* The last of `length` places whose slot is this one or before, or -1. */
 export function lastAt(length, slotOf, slot) {
   let low = 0;
   let high = length;
@@ -134,8 +127,7 @@ export function lastAt(length, slotOf, slot) {
   return low - 1;
 }
 
-/* What a lane draws: entries in order of their slots. `piece(i)` makes what is drawn of an entry: a bar with from, to,
-   value, label, kind, shade, mix and old, or a mark with from, label and isSure. */
+/* What a lane draws: entries in order of their slots. `piece(i)` makes what is drawn of an entry. */
 class List {
   end = 0;
 
@@ -148,7 +140,6 @@ class List {
   isShown(i) { return i < this.length; }
   indexAt(slot) { return lastAt(this.length, (i) => this.starts[i], slot); }
 
-  /* The first entry from this one on that fits; -1 if none does. */
   find(fits, from = 0) {
     for (let i = from; i < this.length; i++) if (fits(i)) return i;
     return -1;
@@ -160,7 +151,6 @@ class List {
     return i < this.length && this.to(i) <= slot ? i + 1 : i;
   }
 
-  /* Where the nearest entry that is shown begins behind the slot (1) or before it (-1); undefined if there is none. */
   nearest(slot, by) {
     const isThere = (i) => by * (this.from(i) - slot) > 0 && this.isShown(i);
     let i = Math.max(0, this.indexAt(slot));
@@ -201,32 +191,6 @@ class Runs extends List {
   }
 }
 
-/* Both tags of a display as one lane. */
-class TagRuns extends List {
-  /** @param {Runs[]} both */
-  constructor(both) {
-    super(Int32Array.from(new Set(both.flatMap((runs) => [...runs.starts]))).sort());
-    this.both = both;
-    this.end = Math.max(...both.map((runs) => runs.end));
-  }
-
-  /* The pieces of the tags that an entry shows. */
-  tagsIn(i) {
-    const all = this.both.map((runs) => ({ runs, at: runs.indexAt(this.from(i)) }));
-    return all.filter(({ runs, at }) => at >= 0 && runs.isShown(at)).map(({ runs, at }) => runs.piece(at));
-  }
-
-  isShown(i) { return this.tagsIn(i).length > 0; }
-
-  piece(i) {
-    const tags = this.tagsIn(i);
-    const label = tags.map((tag) => tag.label).join(" · ") || null;
-    const is = (what) => tags.some((tag) => tag[what]);
-    return { ...tags[0], from: this.from(i), to: this.to(i), label, kind: "tags", mix: is("mix"), old: is("old") };
-  }
-}
-
-/* Marks at slots, for faults. Each has the number of one of the labels, { label, isSure }. */
 export class Marks extends List {
   /** @param {Int32Array} starts @param {Uint8Array} numbers @param {{ label: string, isSure: boolean }[]} labels */
   constructor(starts, numbers, labels) {
@@ -241,7 +205,6 @@ export class Marks extends List {
 
 const NO_RUNS = { starts: new Int32Array(0), numbers: new Int32Array(0), states: new Uint8Array(0), end: 0 };
 
-/* A display over time: the runs of each part. */
 export class View {
   constructor(packed = {}, values = null) {
     const runsOf = (part) => new Runs(packed[part] ?? NO_RUNS, values, KIND_OF[part]);
@@ -263,13 +226,10 @@ export class View {
   /* The shade of the text in a slot. */
   shadeAt(slot) { return this.parts.text.piece(this.parts.text.indexAt(slot)).shade; }
 
-  /* The lanes of all that this display shows; the first one is of its text. `names` has a name and one for a phone of
-     each. All lanes have what is in `more`, and the first one what is in `first` too. */
-  lanes(names, more, first) {
-    const { text, name, tag1, tag2 } = this.parts;
-    const lane = ([long, short], runs) => ({ name: long, short, kind: "bars", runs, gap: 3, ...more });
-    const others = [lane(names.name, name), lane(names.tags, new TagRuns([tag1, tag2]))];
+  lanes(text, more, first) {
+    const names = { text, name: "  its name", tag1: "  its tag 1", tag2: "  its tag 2" };
+    const lane = (part) => ({ name: names[part], kind: "bars", runs: this.parts[part], gap: 3, ...more });
     const isShown = ({ runs }) => runs.find((i) => runs.isShown(i)) >= 0;
-    return [{ ...lane(names.text, text), ...first }, ...others.filter(isShown)];
+    return [{ ...lane("text"), ...first }, ...["name", "tag1", "tag2"].map(lane).filter(isShown)];
   }
 }

@@ -14,7 +14,6 @@ export function time(slots) {
   return minutes < 60 ? short : `${Math.floor(minutes / 60)} h ${short}`;
 }
 
-/* Slots as spans, in order: 2-4 and 9 are 2, 3, 4 and 9. */
 export function spansOf(slots) {
   const spans = [];
   for (const slot of [...slots].sort((one, other) => one - other)) {
@@ -24,11 +23,9 @@ export function spansOf(slots) {
   return spans.map(([first, last]) => first === last ? `${first}` : `${first}-${last}`);
 }
 
-/* A block or a PI as four digits. */
 export const hex = (n) => n.toString(16).toUpperCase().padStart(4, "0");
 export const groupIn = (line) => line.split(" ").map((word) => parseInt(word, 16));
 
-/* The first note of this kind; undefined if there is none. */
 export const noteOf = (notes, kind) => notes.find((note) => note.kind === kind);
 
 /* The second block has the group type with its version, and for a text its A/B flag and the address of its segment. */

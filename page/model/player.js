@@ -1,15 +1,12 @@
-/* Plays a script: what is on air, and what each receiver gets and shows, beside one with the flag bit alone. The program
-   says what is shown and what is on air. */
+/* Plays a script: what is on air, and what each receiver gets and shows, beside one with the flag bit alone. */
 import * as rdsrt from "../program/rdsrt.js";
 import * as displays from "./displays.js";
 import * as lines from "./lines.js";
 import * as records from "./records.js";
 
-/* The station of a script. */
 export const PI = "C201";
 
-/* The kind of what a receiver gets in a slot: a wrong group, one of this slot, or a late one. `codes` has the code of
-   each slot's group. A group that has nothing to do with texts is not printed. */
+/* The kind of what a receiver gets in a slot. A group that has nothing to do with texts is not printed. */
 export function kindHeard(codes, reception = "L", slot) {
   const [letter, rest] = [reception[0], reception.slice(1)];
   const source = slot - Number(rest);
@@ -17,7 +14,6 @@ export function kindHeard(codes, reception = "L", slot) {
   return letter === "G" && source >= 0 ? codes[source] & ~lines.FLAG || lines.OTHER : lines.NOTHING;
 }
 
-/* Reads the output of `sim`: the displays, the words of all groups, the kind of each slot's group, and the replies. */
 function read({ output: text, notes }, count, values) {
   const words = new Uint16Array(4 * count);
   const codes = new Uint8Array(count);
@@ -37,7 +33,6 @@ function read({ output: text, notes }, count, values) {
 /* The group that was sent in a slot, or null. */
 export const sentIn = ({ words, codes }, slot) => codes[slot] ? [...words.subarray(4 * slot, 4 * slot + 4)] : null;
 
-/* Plays a script with its receivers, and with radios in their places. `input` is what the program gets. */
 export function play({ text, input = text, pty, m, k, w }) {
   const words = ["sim", "--pi", PI, "--pty", pty, "--m", m, "--k", k, ...rdsrt.windowWords(w), "--why"];
   const simulated = rdsrt.ask(words, input);
@@ -56,8 +51,8 @@ export function play({ text, input = text, pty, m, k, w }) {
   };
 }
 
-/* Where each four letters of a radio's text in a slot come from: the slot of the last group that the radio got with this
-   place and the flag of the newest one. `sourceOf` returns the slot whose group the radio got in a slot, -1 for none. */
+/* Where each four letters of a radio's text come from: the slot of the last group that it got with this place and the
+   flag of the newest one. `sourceOf` returns the slot whose group it got in a slot, or -1. */
 export function originsOf(played, sourceOf, slot) {
   const origins = [];
   let newest = null;

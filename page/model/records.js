@@ -1,9 +1,7 @@
-/* The records of a script, as its definition reads them. */
 
 /* A field and what ends it, as the program reads them. Quotation marks within a field are letters of it. */
 const FIELD = /(?:"([^"]*(?:""[^"]*)*)"?)?([^,\r\n]*)(,|\r\n|[\r\n]|$)/y;
 
-/* Reads the record that begins at `at`: its fields, and the end behind its line end. */
 function recordAt(text, at) {
   const fields = [];
   let end = ",";
@@ -20,7 +18,6 @@ function letters(receptions) {
   return receptions.match(/G\d*|L|R|W[0-9A-Fa-f]{12}/g) ?? [];
 }
 
-/* A row of a script. */
 /** @type {(fields: string[]) => any} */
 const rowOf = ([command = "", argument = "", free = "", receptions = ""]) =>
   ({ command, argument, free, receptions: letters(receptions) });

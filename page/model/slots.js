@@ -1,15 +1,12 @@
-/* The places of the slots in the bytes of a log. The program says which line is malformed: of a slot line the page reads
-   fixed places, and no form. docs/FORMATS.md has the form of a log. */
+/* The places of the slots in the bytes of a log. The program says which line is malformed: the page reads fixed places. */
 import * as lines from "./lines.js";
 
 const [NEWLINE, DASH] = [..."\n-"].map((letter) => letter.charCodeAt(0));
 /* A line that begins with one of these letters, or is empty, is no slot. */
 const SKIPPED = new Uint8Array(256);
 for (const letter of "<#%\n\r") SKIPPED[letter.charCodeAt(0)] = 1;
-/* The bytes of four blocks with spaces between them, and where each block begins. */
 export const BLOCKS = 19;
 const PLACES = [0, 5, 10, 15];
-/* The lines after which the reader says again how far it is. */
 const PER_STEP = 100_000;
 const LOST = new TextEncoder().encode(lines.LOST);
 
@@ -27,7 +24,6 @@ const wordAt = (bytes, at) =>
   DIGITS[bytes[at]] << 12 | DIGITS[bytes[at + 1]] << 8 | DIGITS[bytes[at + 2]] << 4 | DIGITS[bytes[at + 3]];
 const isMissing = (bytes, at) => bytes[at] === DASH;
 
-/* The four blocks of a line, each a number, or null if it was not received. */
 export const blocksAt = (bytes, start) =>
   PLACES.map((place) => isMissing(bytes, start + place) ? null : wordAt(bytes, start + place));
 
@@ -37,8 +33,7 @@ function isWhole(bytes, at) {
   return isFirstHalf && !isMissing(bytes, at + 10) && !isMissing(bytes, at + 15);
 }
 
-/* Reads a log up to a line, the first malformed one if there is one. Returns the first byte of each slot, and the
-   programmes with their numbers of groups, those with the most groups first. */
+/* Reads a log up to a malformed line: the first byte of each slot, and the programmes, by their numbers of groups. */
 /** @param {(share: number) => void} tell */
 export function read(bytes, malformed = Infinity, tell = () => {}) {
   const most = Math.floor((bytes.length + 1) / (BLOCKS + 1)) + 1;
@@ -65,7 +60,6 @@ export function groupAt(bytes, { starts, count }, slot) {
   return blocks.includes(null) ? null : blocks;
 }
 
-/* Returns the kind of group in each slot. */
 export function codes(bytes, { starts, count }, pi) {
   const all = new Uint8Array(count);
   for (let slot = 0; slot < count; slot++) {
@@ -75,7 +69,7 @@ export function codes(bytes, { starts, count }, pi) {
   return all;
 }
 
-/* Returns what a call returns while the bytes of the log are those of a receiver that loses these slots. */
+/* Calls while the bytes of the log are those of a receiver that loses these slots. */
 export function whileLost(bytes, { starts, count }, lost, call) {
   const places = lost.filter((slot) => slot < count).map((slot) => starts[slot]);
   const kept = places.map((at) => bytes.slice(at, at + BLOCKS));

@@ -1,4 +1,4 @@
-/* Runs the program over a log or a script, so that the page never waits for it. A message is a request by its name. */
+/* Runs the program, so that the page never waits for it. A message is a request by its name. */
 import * as rdsrt from "../program/rdsrt.js";
 import * as answers from "./answers.js";
 import * as displays from "./displays.js";
@@ -6,14 +6,11 @@ import * as lines from "./lines.js";
 import * as logs from "./slots.js";
 import * as player from "./player.js";
 
-/* The bytes of the log, and what is known of it and does not depend on M: it is read when somebody asks for it. */
 /** @type {any} */
 const state = { bytes: new Uint8Array(0) };
-/* A receiver with this dwell is one with the flag bit alone, as radios of today are, unless no segment comes for as
-   many slots (the_flag_alone_is_a_long_dwell of rds_safety). */
+/* A receiver with this dwell is one with the flag bit alone (the_flag_alone_is_a_long_dwell of rds_safety). */
 const LONGEST_DWELL = "65535";
 
-/* The typed arrays in an answer. They are handed over without a copy. */
 function arraysIn(value) {
   if (ArrayBuffer.isView(value)) return [value];
   return value !== null && typeof value === "object" ? Object.values(value).flatMap(arraysIn) : [];
@@ -31,8 +28,7 @@ function shownBy(words, values) {
   return { words, output, view: displays.displayOf(output, values, state.log.count) };
 }
 
-/* What receivers show that lose nothing, with the dwell and with the flag bit alone. The last answer is kept: it is
-   asked for at each change of the lost slots. */
+/* What receivers show that lose nothing. It is asked for at each change of the lost slots, and kept. */
 function wholeOf({ pi, m, w }) {
   const words = decoding(pi, m, w);
   if (state.pi !== pi) {
@@ -45,14 +41,14 @@ function wholeOf({ pi, m, w }) {
   return { whole: state.whole, alone: state.alone, codes: state.codes.slice() };
 }
 
-/* What receivers show that lose these slots, and what of it is a mix, as `witness` says: it knows no window. Of a log that
-   passes the audit, a receiver with the dwell shows no mix, whatever it loses. Nor does one that shows what a receiver
-   shows that loses nothing. */
+/* What receivers show that lose these slots, with the mixes that `witness` names: it knows no window. No receiver with
+   the dwell shows a mix of a log that passes the audit, and none that shows the same as one that loses nothing. */
 function lossyOf({ pi, m, w, lost, passes }) {
   const { codes, ...kept } = wholeOf({ pi, m, w });
   const { values } = state;
   const again = ({ words }) => shownBy(words, values);
-  const shown = logs.whileLost(state.bytes, state.log, lost, () => ({ whole: again(kept.whole), alone: again(kept.alone) }));
+  const both = () => ({ whole: again(kept.whole), alone: again(kept.alone) });
+  const shown = logs.whileLost(state.bytes, state.log, lost, both);
   const losing = ["witness", "--pi", pi, "--m", m, "--lose", lines.spansOf(lost).join(",")];
   const mark = (which, ...more) => {
     if (shown[which].output === kept[which].output) return;
@@ -67,15 +63,13 @@ function lossyOf({ pi, m, w, lost, passes }) {
 const auditing = ({ pi, m, k, running }, ...more) =>
   ["audit", ...more, "--pi", pi, "--m", m, "--k", k, ...running ? ["--running"] : []];
 
-/* The first so many lines of the log. */
 function head(count) {
   let end = 0;
   for (let i = 0; i < count && end < state.bytes.length; i++) end = logs.endOf(state.bytes, end) + 1;
   return state.bytes.subarray(0, end);
 }
 
-/* All faults of the log. `first` has the notes of the audit over the lines up to the first fault: its rule, and whether
-   these lines lack slots. */
+/* `first` has the notes of the audit up to the first fault: its rule, and whether the lines up to it lack slots. */
 function audit(asked) {
   const words = auditing(asked, "--all");
   const { output, notes } = run(words);
@@ -86,10 +80,8 @@ function audit(asked) {
 }
 
 const REQUESTS = {
-  /* Takes the bytes of a log. */
   keep({ bytes }) { Object.assign(state, { bytes, log: null, pi: "" }); },
 
-  /* The slots of the log and its programmes. */
   open(_, tell) {
     state.log = logs.read(state.bytes, Infinity, tell);
     return structuredClone(state.log);
@@ -109,8 +101,7 @@ const REQUESTS = {
 
   audit,
 
-  /* The slots to lose after a no and what is shown then, or the slot at which the search stopped. It takes so many slots,
-     which end at a byte, and may not be all. */
+  /* It takes so many slots, which end at a byte, and may not be all. */
   witness({ pi, m, slots, end, isAll }) {
     const found = answers.witness(run(["witness", "--pi", pi, "--m", m], state.bytes.subarray(0, end)).output);
     return found.lost || found.upto !== null || isAll ? found : { ...found, upto: slots };

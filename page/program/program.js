@@ -1,7 +1,6 @@
-/* Asks a worker to run the program, one question at a time. If the signal of a question aborts, it is dropped. A worker
-   that is still at it after some time ends, and a new one takes its place. */
+/* Asks a worker to run the program, one question at a time. A worker that is still at a question for which nobody waits
+   ends, and a new one takes its place. */
 
-/* The milliseconds of this time, if nobody names others. */
 const PATIENCE = 300;
 
 /** @typedef {{ call: string, given: any, tell?: Function, resolve: Function, reject: Function,
@@ -19,7 +18,6 @@ export class Program {
     this.patience = patience;
   }
 
-  /* Takes the bytes of another log, and drops all questions on the one before. A worker without a log takes this one. */
   keep(bytes) {
     if (this.input) this.end(new DOMException("another log was opened", "AbortError"));
     this.input = bytes;
@@ -29,7 +27,7 @@ export class Program {
 
   first(call, given) { return { call, given, resolve() {}, reject: (error) => this.end(error) }; }
 
-  /* The worker comes from a text of the page: a page that was opened from a disk may load no script for it. */
+  /* The worker comes from a text: a page that was opened from a disk may load no script for it. */
   start() {
     const url = URL.createObjectURL(new Blob([RDSRT_WORKER], { type: "text/javascript" }));
     const worker = new Worker(url);
@@ -41,7 +39,7 @@ export class Program {
     this.queue.unshift(this.first("begin", this.compiled));
   }
 
-  /* Ends the worker, which frees its memory. Whoever waits gets the error. The next question starts another worker. */
+  /* Ends the worker, which frees its memory. The next question starts another one. */
   end(error) {
     const waiting = [this.asked, ...this.queue].filter(Boolean);
     this.stop();
@@ -80,7 +78,6 @@ export class Program {
     }
   }
 
-  /* Ends a worker that is still at a question for which nobody waits. */
   tire(question) {
     if (this.asked !== question) return;
     this.stop();

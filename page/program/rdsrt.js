@@ -1,4 +1,3 @@
-/* The program itself: words and input in, status, output and notes out. */
 
 const HEAP = 1 << 20;
 const ROOM = 1 << 16;
@@ -27,7 +26,6 @@ export async function begin(compiled) {
   module = instance.exports;
 }
 
-/* Places words, input, output, notes and heap of one run in memory, after the module's own. */
 function layout(words, input, room, heap) {
   const up = (place) => 16 * Math.ceil(place / 16);
   const ended = up(Number(module.__heap_base.value));
@@ -62,15 +60,13 @@ function call(words, input, room, heap) {
   return { at, length, failures, noted, status: ended.getUint8(24) };
 }
 
-const bytesAt = (at, length) => new Uint8Array(module.memory.buffer, at, length);
-const textAt = (at, length) => decoder.decode(bytesAt(at, length));
+const textAt = (at, length) => decoder.decode(new Uint8Array(module.memory.buffer, at, length));
 
-/* The notes of a run, one a line: objects with --json-notes, else sentences. A last line without room is left out. */
+/* A last note without room is left out. */
 const notesOf = (text) => text.split("\n").slice(0, -1).map((line) => line.startsWith("{") ? JSON.parse(line) : line);
 
-/* Runs the program. Where there was no memory, or no room for the output, it runs again with more. The output is
-   bytes in the program's memory, up to the next run. The notes are those that have room. */
-export function runBytes(words, input) {
+/* Runs the program, and again with more memory or room if it lacked them. */
+export function run(words, input) {
   const given = encoder.encode(["rdsrt", ...words].join("\n"));
   const bytes = typeof input === "string" ? encoder.encode(input) : input;
   let room = ROOM + 4 * bytes.length;
@@ -82,17 +78,10 @@ export function runBytes(words, input) {
     else if (length > room) {
       room = length;
       heap = Math.max(heap, HEAP + 2 * room);
-    } else return { status, bytes: bytesAt(at.output, length), notes: notesOf(textAt(at.notes, Math.min(noted, NOTES))) };
+    } else return { status, output: textAt(at.output, length), notes: notesOf(textAt(at.notes, Math.min(noted, NOTES))) };
   }
 }
 
-/* Runs the program, whose output becomes a text. */
-export function run(words, input) {
-  const { bytes, ...ended } = runBytes(words, input);
-  return { ...ended, output: decoder.decode(bytes) };
-}
-
-/* Runs a command, whose notes become objects. */
 export const ask = (words, input) => run([...words, "--json-notes"], input);
 
 export const windowWords = (window) => window ? ["--confirm", window] : [];

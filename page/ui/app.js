@@ -1,4 +1,3 @@
-/* The page: its tabs, its address, the files that are dropped on it, and its begin. */
 import * as rdsrt from "../program/rdsrt.js";
 import * as links from "./links.js";
 import { logTab } from "./log.js";
@@ -12,7 +11,6 @@ export const state = { ready: false, files: 0 };
 /* The M and the K of a file: those that the program takes without options. */
 const DEFAULTS = { m: 128, k: 0 };
 const decoder = new TextDecoder("utf-8", { ignoreBOM: true });
-/* The bytes of a file by which a script is told from a log, and the width up to which a form is closed at first. */
 const BEGIN = 10_000;
 const PHONE = "(max-width: 600px)";
 
@@ -29,19 +27,16 @@ export function tab(it, { focus = false } = {}) {
   for (const { timeline } of [it, road]) timeline.draw();
 }
 
-/* Makes the row of tabs, which arrow keys go along. */
 function beginTabs() {
   for (const it of TABS) {
-    const { id, title } = it;
-    const onkeydown = (event) => {
+    const button = $(`tab-${it.id}`);
+    button.onclick = () => tab(it);
+    button.onkeydown = (event) => {
       const to = { ArrowRight: 1, ArrowLeft: -1, Home: -TABS.indexOf(it), End: -1 - TABS.indexOf(it) }[event.key];
       if (to === undefined) return;
       event.preventDefault();
       tab(TABS.at((TABS.indexOf(it) + to) % TABS.length), { focus: true });
     };
-    const props = { type: "button", role: "tab", id: `tab-${id}`, textContent: title, onclick: () => tab(it), onkeydown };
-    $("tabs").append(make("button", props));
-    $(`tab-${id}`).setAttribute("aria-controls", id);
   }
 }
 
@@ -50,7 +45,7 @@ const SCRIPT = /^\uFEFF?(?:\r?\n)*(?:-|text|name|tags|restart|"[a-z-]+"),/;
 const LOG = /^\uFEFF?(?:(?:[<#%].*|[ \t]*)\r?\n)*(?:[\dA-Fa-f]{4}|----) (?:[\dA-Fa-f]{4}|----) /;
 const isScript = (name, text) => SCRIPT.test(text) || (/\.csv$/i.test(name) && !LOG.test(text));
 
-/* Opens a file. The program gets its bytes as they are. The text that the page shows keeps a byte-order mark. */
+/* The program gets the bytes of a file as they are. The text that the page shows keeps a byte-order mark. */
 export async function openFile(file) {
   const number = ++state.files;
   const buffer = await file.arrayBuffer().catch(() => null);
@@ -72,7 +67,6 @@ export async function openFile(file) {
   await opened;
 }
 
-/* Opens the first of some files. */
 function openFirst(files) { if (files.length) openFile(files[0]); }
 
 function paste({ target, clipboardData }) {
@@ -96,13 +90,12 @@ function drops() {
   document.onpaste = paste;
 }
 
-/* Opens the file that is chosen in a field. An empty field hears the choice of the same file again. */
+/* An empty field hears the choice of the same file again. */
 function takeFile({ target }) {
   openFirst(target.files);
   target.value = "";
 }
 
-/* The examples of a tab: each is an address. */
 function beginExamples({ id }) {
   const select = $(`${id}-example`);
   const options = RDSRT_EXAMPLES[id].map(({ name }, i) => new Option(name, `${i}`));
@@ -115,21 +108,18 @@ function beginStart() {
     make("li", {}, make("a", { href: `#log&example=${i}`, textContent: name, className: "button" }))));
 }
 
-/* The link before all else leads over the road to the log: to its field for a file, or to its timeline. */
 function skip(event) {
   event.preventDefault();
   tab(logTab);
   [$("log-start-file"), logTab.timeline.canvas].find((it) => it.checkVisibility()).focus();
 }
 
-/* The text and the options of an example. */
 function exampleOf(it, number) {
   const example = RDSRT_EXAMPLES[it.id][number];
   const text = example.from ? rdsrt.run(example.from, example.text).output : example.text;
   return { text, options: { ...DEFAULTS, ...example, example: number } };
 }
 
-/* Opens what a link or the number of an example names in a tab, or says why not. */
 async function openIn(it, hash, example) {
   try {
     const linked = async () => ({ text: await links.textOf(it, hash), options: DEFAULTS });

@@ -1,10 +1,8 @@
-/* All faults of a log, in the words of the program. The lane "faults" of the timeline has their places. */
 import { $, grouped, make, nodesOf, told } from "./parts.js";
 
 /* A quoted line keeps its digits as they are. */
 const item = (kind, text) => make("li", {}, ...nodesOf(told(kind === "fault" ? text : grouped(text))));
 
-/* Shows the notes on each kind of fault, and where the list ends. Those of a doubtful no are not red. */
 export function show({ list, notes, isSure }) {
   const said = notes.filter(({ kind }) => kind === "faults" || kind === "fault");
   $("log-faults").hidden = list.slots.length === 0;

@@ -1,5 +1,4 @@
-/* The address: what is open, with its options, lost slots and slot. And links that hold a log or a script, with an end
-   mark. */
+/* The address: what is open, with its options, lost slots and slot. And links that hold a log or a script. */
 import * as lines from "../model/lines.js";
 import { $ } from "./parts.js";
 
@@ -10,11 +9,11 @@ export const MOST_PLAIN = 4_000_000;
 const MOST_SLOTS = MOST_PLAIN / 20;
 class Refusal extends Error {}
 export const damaged = () => new Refusal("The link is damaged: an option of it is wrong.");
-/* A link without it at its end was cut, and may have lost options. */
+/* A link without it at its end was cut. */
 const END = "&end";
 const FROM_DISK = "This page was opened from a disk, so its links are of no use to others.";
 
-/* Reads the stream up to a bound, and no further. Returns null beyond it. */
+/* Reads no further than the bound. Returns null beyond it. */
 async function squeezed(bytes, by, most) {
   const pieces = [];
   let length = 0;
@@ -28,7 +27,6 @@ async function squeezed(bytes, by, most) {
   return new Uint8Array(await new Blob(pieces).arrayBuffer());
 }
 
-/* Returns a text as letters; null if it is too long. */
 async function pack(text) {
   const plain = new TextEncoder().encode(text ?? "");
   const isLong = text === null || plain.length > MOST_PLAIN;
@@ -66,7 +64,6 @@ export function putAddress(tab) {
   try { history[isSame ? "replaceState" : "pushState"](null, "", `#${hash}`); } catch { /* the address stays */ }
 }
 
-/* Notes the link of a tab: the text and the options that it holds, and its hash. */
 function hold(tab, link) {
   tab.link = { ...link, isNow: true };
   putAddress(tab);
@@ -107,8 +104,7 @@ async function copy(tab) {
   } catch { tell(tab, "This is the link: copy it."); }
 }
 
-/* Reads the options of an address. `within` gives a number within bounds or undefined, `option` one without which the link
-   is damaged, unless it has another one to take in its place. */
+/* `within` gives a number within bounds or undefined. `option` gives one without which the link is damaged. */
 export function optionsIn(hash) {
   const given = new URLSearchParams(hash);
   const within = (name, low, high) => {
@@ -123,13 +119,11 @@ export function optionsIn(hash) {
   return { given, option, within };
 }
 
-/* The text of a link. */
 export function textOf({ id }, hash) {
   if (!hash.endsWith(END)) throw new Refusal("The link was cut: copy the whole link.");
   return unpack(id, new URLSearchParams(hash).get(id));
 }
 
-/* Opens what an address holds in a tab: a text with options, and else those of `defaults`. */
 export async function open(tab, hash, text, defaults) {
   const options = optionsIn(hash);
   const { option } = options;
@@ -149,7 +143,6 @@ export async function open(tab, hash, text, defaults) {
 /* Slots as a link has them: 2-4.9 is 2, 3, 4 and 9. */
 export const inLetters = (slots) => lines.spansOf(slots).join(".");
 
-/* The slots of these letters, as far as a log may have them. Throws at other letters, and if they do not ascend. */
 export function slotsOf(letters) {
   const all = new Set();
   let next = 0;

@@ -1,5 +1,4 @@
-/* The tab of a log: the receiver's display, the audit's answer, the log itself, and the lost slots. One worker shows
-   what receivers show, another one judges. */
+/* The tab of a log. One worker shows what receivers show, another one judges. */
 import { Marks, Texts, View } from "../model/displays.js";
 import * as lines from "../model/lines.js";
 import * as logs from "../model/slots.js";
@@ -18,9 +17,6 @@ const SEARCHED = 1_000_000;
 /* A display takes no longer with another M, and a new worker would have to read the log again. */
 const PATIENCE = 20_000;
 const NO_SEARCH = { message: "the search is for a receiver without a window" };
-/* The names of the lanes of a receiver, each with the one on a phone. */
-const LANES = { text: ["text", "text"], name: ["name (PTYN)", "name"], tags: ["tags", "tags"] };
-const ALONE = { text: ["ordinary radio", "ordinary"], name: ["  its name", " name"], tags: ["  its tags", " tags"] };
 const KINDS = ["nothing", "text", "name", "tags", "other"];
 const LONGEST_LINE = 96;
 const encoder = new TextEncoder();
@@ -45,11 +41,10 @@ class LogTab extends Tab {
   /** @type {any} */ judge;
 
   constructor() {
-    super("log", "Look at a log");
+    super("log");
     this.home(true);
   }
 
-  /* Shows the start, or the log that is open. */
   home(isStart) {
     this.isStart = isStart;
     $("log").classList.toggle("unopened", isStart);
@@ -62,7 +57,6 @@ class LogTab extends Tab {
     this.timeline.canvas.focus();
   }
 
-  /* Loses these slots, or gives back those that are lost. */
   lose(slots) {
     for (const slot of slots) if (!this.lost.delete(slot)) this.lost.add(slot);
     return this.look();
@@ -74,8 +68,7 @@ class LogTab extends Tab {
     return true;
   }
 
-  /* Opens a log: its text, or the bytes of its file. Returns when its display and its verdict are shown. The workers
-     read the page's own bytes: a file may change while it is open. */
+  /* Returns when display and verdict are shown. The workers read the page's own bytes: the file may change. */
   /** @param {string | Uint8Array} content @param {any} [settings] */
   open(content, settings = {}) {
     const { m, k, w, running = false, lost = [], example = "", file = "", pi } = settings;
@@ -97,9 +90,9 @@ class LogTab extends Tab {
     this.take(await this.display.ask("open", {}, { signal, tell }), pi);
   }
 
-  /* Takes the slots of a log and its programmes, and chooses one of these: this one, or that with the most groups. */
   take(log, pi) {
-    const options = log.programmes.map(([code, count]) => new Option(`${lines.hex(code)} (${counted(count, "group")})`, lines.hex(code)));
+    const optionOf = (code, count) => new Option(`${code} (${counted(count, "group")})`, code);
+    const options = log.programmes.map(([code, count]) => optionOf(lines.hex(code), count));
     this.log = log;
     $("log-pi").replaceChildren(...options.length ? options : [new Option("no group", "C201")]);
     if (options.some(({ value }) => value === pi)) $("log-pi").value = pi;
@@ -121,7 +114,6 @@ class LogTab extends Tab {
     faults.hide();
   }
 
-  /* Ends what the workers do. */
   stop() {
     this.turn.abort(new Error("Reading was stopped"));
     for (const program of [this.display, this.judge]) program.stop();
@@ -189,7 +181,7 @@ class LogTab extends Tab {
     return last === undefined ? 0 : text.from(last);
   }
 
-  /* Shows why nothing is decoded, and no result of what was there before. What the page refuses is red. */
+  /* What the page refuses is red. */
   showProblem(problem, { isRefused = false } = {}) {
     Object.assign(this, empty());
     this.timeline.show([], this.log.count);
@@ -213,7 +205,6 @@ class LogTab extends Tab {
 
   actions = {
     goTo: (slot) => this.goTo(slot),
-    /* Loses these slots alone, and goes to the one in which the mix is shown. */
     lose: async (slot, first, last) => {
       this.lost = new Set(Array.from({ length: last - first + 1 }, (_, i) => first + i));
       await this.look();
@@ -221,7 +212,6 @@ class LogTab extends Tab {
     },
   };
 
-  /* The faults of the audit, which are red if it is no doubtful answer. */
   marks() {
     const { slots, numbers, kinds } = this.answer?.audit.list ?? { slots: [], numbers: [], kinds: [] };
     return new Marks(slots, numbers, kinds.map((label) => ({ label, isSure: this.answer.isSure })));
@@ -232,7 +222,7 @@ class LogTab extends Tab {
     return [
       // a slot without a group may have been silent: it is not drawn as lost
       { name: "received", kind: "ticks", codes, lost }, { name: "faults", kind: "marks", marks: this.marks() },
-      ...view.lanes(LANES, {}, { strong: true, gap: 10 }), ...alone.lanes(ALONE, {}, { gap: 12 }),
+      ...view.lanes("text", {}, { strong: true, gap: 10 }), ...alone.lanes("ordinary radio", {}, { gap: 12 }),
     ];
   }
 

@@ -1,4 +1,3 @@
-/* What the tabs share: elements, words, and displays. */
 import { kindOf, wordsOfTag } from "../model/displays.js";
 import { hex } from "../model/lines.js";
 
@@ -17,7 +16,7 @@ export const make = (tag, props = {}, ...inside) => {
   element.append(...inside);
   return element;
 };
-/* Copies a template. `given` has the words or nodes of elements, what buttons do, and whether elements are there. */
+/* Copies a template. `given` has the words or nodes of elements, what buttons do, and which elements are there. */
 /** @type {(id: string, given: Record<string, any>) => any[]} */
 export function filled(id, given) {
   const copy = $(id).content.cloneNode(true);
@@ -29,7 +28,6 @@ export function filled(id, given) {
 }
 
 export const counted = (n, one) => `${number(n)} ${one}${n === 1 ? "" : "s"}`;
-/* Delays a call until no further one comes. */
 export const soon = (what) => {
   let timer = 0;
   return () => {
@@ -38,7 +36,6 @@ export const soon = (what) => {
   };
 };
 
-/* Names the first number of the form that is no whole number within its bounds; empty if all are. */
 export function problemOf(form) {
   // a browser takes 1e2 too, and the program does not
   const isBad = ({ validity, value }) => !validity.valid || /\D/.test(value);
@@ -48,14 +45,12 @@ export function problemOf(form) {
   return `${name} must be a whole number from ${number(Number(bad.min))} to ${number(Number(bad.max))}.`;
 }
 
-/* A text of a file for a sentence of the page. Characters that control or turn the direction become escapes. */
+/* Characters that control or turn the direction become escapes. */
 const CONTROLS = /[\u0000-\u001F\u007F-\u009F\u061C\u200E\u200F\u2028-\u202E\u2066-\u2069\uFEFF]/g;
 const escaped = (text) => text.replace(CONTROLS, (c) => `\\u${hex(c.charCodeAt(0))}`);
 
-/* Such a text as an element that cannot reorder the words around it. */
 export const isolated = (text) => make("bdi", { textContent: escaped(text) });
 
-/* Splits a note of the program into nodes, and isolates its quoted part. */
 export function nodesOf(note) {
   const [, before, quoted, after] = /^([^"']*)(".*"|'.*')?(.*)$/s.exec(note);
   return quoted ? [before, isolated(quoted), escaped(after)] : [escaped(note)];
@@ -80,9 +75,7 @@ function lettersOf(view, slot, origins) {
   return pieces.map((textContent, i) => make("span", { className: `hue-${mix ? hues[i] ?? "" : shade}`, textContent }));
 }
 
-/* Shows a display as a car has it: the name, the text and its tags in a slot. Parts that nobody sent make it red. What
-   stands in place of a text is why, if the program says so. `origins` returns the hues of a mix, four letters each.
-   Returns the display in words. */
+/* Shows a display as a car has it, and returns it in words. `origins` returns the hues of a mix, four letters each. */
 /** @param {{ led?: string, none?: string, origins?: () => number[] }} how */
 export function radio(root, caption, view, slot, how = {}) {
   const { led: calm = "", none: other, origins = () => [] } = how;
@@ -103,7 +96,6 @@ export function radio(root, caption, view, slot, how = {}) {
   return [...text.value === null ? [none] : [], ...all.filter(({ words }) => words).map(inWords)].join(", ");
 }
 
-/* What a display shows that was on air before, with the names of the parts if its text is on air now. */
 export function staleAt(view, slot) {
   const stale = partsAt(view, slot).filter(isStale);
   if (stale[0]?.name === "text") return stale[0].state;

@@ -2,7 +2,6 @@
 import * as lines from "../model/lines.js";
 
 export class Play {
-  /* The button is in the root. The slots have a number, a cursor, and `move`. */
   constructor(root, slots) {
     const button = root.querySelector(".play");
     this.button = button;
@@ -11,7 +10,6 @@ export class Play {
     button.onclick = () => { if (this.frame) this.stop(); else this.start(); };
   }
 
-  /* Goes on up to a slot. From there it begins anew. */
   start(end = this.slots.count - 1) {
     this.stop();
     const { slots } = this;

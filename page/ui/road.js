@@ -1,5 +1,4 @@
-/* The first screen: a car on a road with tunnels, over the slots of the first example. In a tunnel its receivers get
-   nothing. The program says what they show: the page only moves the tunnels and the car, and takes other texts. */
+/* The first screen: a car on a road with tunnels, in which its receivers get nothing. The program says what they show. */
 import { AXIS } from "../display/painter.js";
 import { Texts, View } from "../model/displays.js";
 import * as lines from "../model/lines.js";
@@ -10,7 +9,7 @@ import * as links from "./links.js";
 import { $, filled, make, nodesOf, radio, soon, told, whyNoMix } from "./parts.js";
 import { Timeline } from "./timeline.js";
 
-/* The slots [from, to) of the first tunnels, and the letters of a text that a car gets whole between two of them. */
+/* The first tunnels [from, to), and the letters of a text that a car gets whole between two of them. */
 const TUNNELS = [[26, 47], [55, 71]];
 const LONGEST = 24;
 const STEPS = { ArrowRight: 1, ArrowLeft: -1, ArrowUp: 1, ArrowDown: -1, Home: -Infinity, End: Infinity };
@@ -40,7 +39,6 @@ class Road {
   get count() { return this.rows.length; }
   percent(slot) { return `${100 * slot / this.count}%`; }
 
-  /* Takes a script with one receiver: the slots that it loses are the tunnels. */
   take(text, tunnels = null) {
     this.rows = records.read(text);
     const isLost = (slot) => this.rows[slot]?.receptions[0] === "L";
@@ -55,7 +53,6 @@ class Road {
     return this.play();
   }
 
-  /* A field for a text of the station. */
   fieldOf(row, i) {
     const props = { className: `hue-${i % 3}`, maxLength: LONGEST, ariaLabel: `Text ${i + 1}` };
     const field = make("input", { ...props, value: row.argument });
@@ -78,8 +75,7 @@ class Road {
     return it;
   }
 
-  /* Moves a tunnel to a slot, or one of its ends, as near as the tunnels before and behind it let it. One slot stays
-     between two tunnels. */
+  /* Moves a tunnel or one of its ends as near to a slot as the other tunnels let it. One slot stays between two. */
   moveTunnel(i, what, slot) {
     const it = this.tunnels[i];
     const { from, to } = it;
@@ -135,7 +131,6 @@ class Road {
     };
   }
 
-  /* Plays the road in the worker, and again if something moved meanwhile. */
   play() {
     this.isMoved = true;
     if (!this.isPlaying) this.work = this.playMoves();
@@ -165,12 +160,11 @@ class Road {
   }
 
   lanes() {
-    const lane = (name, short, view) => ({ name, short, kind: "bars", runs: view.parts.text, strong: true });
-    return [lane("on air", "on air", this.air), lane("with rdsrt", "with rdsrt", this.dwell),
-      lane("ordinary radio", "ordinary", this.alone)];
+    const { air, dwell, alone } = this;
+    const lane = (name, view) => ({ name, kind: "bars", runs: view.parts.text, strong: true });
+    return [lane("on air", air), lane("with rdsrt", dwell), lane("ordinary radio", alone)];
   }
 
-  /* The mix that the radio shows for the longest time, as the program says; undefined if it shows none. */
   longestMix() {
     const { text } = this.alone.parts;
     return text.mixes().map((i) => text.at(i)).sort((one, other) => other.to - other.from - (one.to - one.from))[0];
@@ -188,7 +182,6 @@ class Road {
     return `On air ${onAir}. A receiver with rdsrt: ${shown}. An ordinary radio: ${other}`;
   }
 
-  /* Says in a sentence what the displays show, if it is worth one. */
   tell(slot) {
     const { dwell, alone, played } = this;
     if (!played) return;
@@ -202,12 +195,10 @@ class Road {
     $("road-says").replaceChildren(...words);
   }
 
-  /* What a timeline asks for. */
   choose() {}
   key() { return false; }
   elapsed(slot) { return lines.time(slot); }
 
-  /* What a link asks for. */
   field(name) { return $(`road-${name}`); }
   options() { return ""; }
   moreSight() { return ""; }
@@ -217,7 +208,6 @@ class Road {
     this.link = { text: this.text, options: this.options(), hash, isNow: true };
   }
 
-  /* Begins with the compiled program. `open` opens a script in its tab. */
   begin(compiled, open) {
     const { text, m, k, pty } = RDSRT_EXAMPLES.script[0];
     this.program = new Program(compiled);
@@ -229,7 +219,6 @@ class Road {
     return this.take(text, TUNNELS);
   }
 
-  /* Drives up to the longest mix, once. Who wants no motion sees the car there at once. */
   async greet() {
     await this.work;
     const mix = this.played && this.longestMix();

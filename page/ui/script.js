@@ -11,11 +11,6 @@ import { Tab } from "./tab.js";
 const UNPLAYED = "not played";
 const MOST_RECEIVERS = 8;
 const MOST_SLOTS = 200_000;
-/* The names of lanes, each with the one on a phone. */
-const AIR = { text: ["on air", "on air"], name: ["  its name", " name"], tags: ["  its tags", " tags"] };
-const OTHERS = { name: ["  its name", "  name"], tags: ["  its tags", "  tags"] };
-const DWELL = { text: ["  with rdsrt", " rdsrt"], ...OTHERS };
-const ALONE = { text: ["  ordinary radio", " ordinary"], ...OTHERS };
 const unplayed = () => ({
   played: 0, air: new View(), views: [], alone: [], heard: [], codes: new Uint8Array(0), fault: null, replies: new Map(),
 });
@@ -37,12 +32,11 @@ class ScriptTab extends Tab {
   chosen = 0;
   pty = "10";
 
-  constructor() { super("script", "Play a script"); }
+  constructor() { super("script"); }
 
   get waitsFor() { return "Playing the script"; }
   get receivers() { return this.rows[0]?.receptions.length ?? 0; }
 
-  /* Chooses a receiver, as far as there is one. */
   choose(receiver) {
     this.chosen = Math.max(0, Math.min(receiver, this.receivers - 1));
     this.timeline.chosen = this.receivers ? this.chosen : null;
@@ -56,8 +50,7 @@ class ScriptTab extends Tab {
     return receivers > 0 && by !== undefined;
   }
 
-  /* Opens a script: its text, and the program's input for this text, which for a file is the file's bytes. Returns when
-     it is played, or when another one is. */
+  /* `input` is what the program gets: of a file its bytes. */
   /** @param {string} text @param {any} [settings] */
   async open(text, settings = {}) {
     const { m, k, w = "", pty = "10", example = "", file = "", input = text } = settings;
@@ -98,7 +91,6 @@ class ScriptTab extends Tab {
     this.tell(this.mixesInWords(), wait ? told(wait.text) : "", this.faultInNodes());
   }
 
-  /* Why the page does not play these rows; empty if it does. */
   problem() {
     const { receivers, rows } = this;
     const isWide = receivers > MOST_RECEIVERS;
@@ -107,7 +99,6 @@ class ScriptTab extends Tab {
     return `The script has ${has}. The page plays at most ${number(isWide ? MOST_RECEIVERS : MOST_SLOTS)}.`;
   }
 
-  /* Shows why nothing is played, and no result of what was there before. What the page refuses is red. */
   showProblem(problem, { isRefused = false } = {}) {
     Object.assign(this, unplayed());
     this.timeline.show([], this.rows.length);
@@ -125,13 +116,14 @@ class ScriptTab extends Tab {
   lanes() {
     const receivers = this.heard.flatMap((codes, group) => [
       { name: `receiver ${group}`, kind: "ticks", codes, losses: true, group, gap: 14 },
-      ...this.views[group].lanes(DWELL, { group, gap: 2 }), ...this.alone[group].lanes(ALONE, { group, gap: 2 }),
+      ...this.views[group].lanes("  with rdsrt", { group, gap: 2 }),
+      ...this.alone[group].lanes("  ordinary radio", { group, gap: 2 }),
     ]);
     const sent = { name: "sent", kind: "ticks", codes: this.codes };
-    return [sent, ...this.air.lanes(AIR, {}, { strong: true, gap: 8 }), ...receivers];
+    return [sent, ...this.air.lanes("on air", {}, { strong: true, gap: 8 }), ...receivers];
   }
 
-  /* How many texts, names and tags are mixes. That no receiver with rdsrt shows one is proved. */
+  /* That no receiver with rdsrt shows a mix is proved. */
   mixesInWords() {
     const mixes = this.alone.flatMap((view, receiver) => Object.entries(view.parts).flatMap(([part, runs]) =>
       runs.mixes().map((i) => ({ receiver, slot: runs.from(i), part: part.replace(/[12]$/, "") }))));
@@ -146,13 +138,11 @@ class ScriptTab extends Tab {
     return `Ordinary radios show ${word}: ${kinds.join(" and ")}. With rdsrt none does.`;
   }
 
-  /* A fault of the script, by the program's note. */
   faultInNodes() {
     if (!this.fault) return [];
     return [...nodesOf(told(this.fault.text)), " The rows after it are not played."];
   }
 
-  /* The slot whose group a receiver got in a slot; -1 if it got none. */
   sourceOf(slot, receiver) {
     const reception = this.rows[slot]?.receptions[receiver] ?? "L";
     return reception[0] === "G" ? slot - Number(reception.slice(1)) : -1;

@@ -1,11 +1,9 @@
-/* What the tabs of a log and of a script share. A tab has `text`, `show` for a look, `showProblem`, `settingsOf` for an
-   address, `open`, and for its timeline `showSlot`. */
+/* What the tabs of a log and of a script share. */
 import * as lines from "../model/lines.js";
 import * as links from "./links.js";
 import { $, isolated, problemOf, soon } from "./parts.js";
 import { Timeline } from "./timeline.js";
 
-/* The milliseconds after which a tab shows that it waits. */
 const PATIENCE = 150;
 
 export class Tab {
@@ -16,9 +14,8 @@ export class Tab {
   /** @type {any} */ link = null;
   timer = 0;
 
-  constructor(id, title) {
+  constructor(id) {
     this.id = id;
-    this.title = title;
     this.putAddressSoon = soon(() => links.putAddress(this));
     this.timeline = new Timeline(this);
   }
@@ -30,21 +27,18 @@ export class Tab {
     for (const [name, value] of Object.entries(values)) if (value !== undefined) this.field(name).value = value;
   }
 
-  /* Shows which file the tab holds, and whether it was edited; nothing if it holds none. */
   nameFile(name, isEdited = false) {
     this.field("file-name").replaceChildren(...name ? [isolated(name), isEdited ? ", edited" : ""] : []);
   }
 
-  /* Shows what a command prints. */
   tellLines(name, command, text) {
     $(`${name}-lines`).textContent = text;
     $(`${name}-command`).textContent = command;
   }
 
-  /* Notes what is in work, so that a test can wait for it. */
   working(promise) { return this.work = promise; }
 
-  /* Looks at what the form holds now. Drops the look before. Returns whether the result is shown. */
+  /* Drops the look before. Returns whether the result is shown. */
   look(how = {}) { return this.working(this.lookNow(how)); }
   async lookNow(how) {
     this.turn.abort();
@@ -75,7 +69,6 @@ export class Tab {
     if (isWaiting) this.field("waits").textContent = this.waitsFor;
   }
 
-  /* What each tab has of its own. */
   get waitsFor() { return ""; }
   /** @param {AbortSignal} signal @param {any} how @returns {Promise<any>} */
   async show(signal, how) { signal.throwIfAborted(); return how; }
@@ -87,7 +80,6 @@ export class Tab {
   prepare() {}
   problem() { return problemOf(this.field("form")); }
 
-  /* What a timeline asks for: the choice of a receiver, and of a slot the time since the first slot. */
   choose() {}
   elapsed(slot) { return lines.time(slot); }
   key() { return false; }
@@ -99,7 +91,6 @@ export class Tab {
   moreSight() { return ""; }
   afterLink() {}
 
-  /* Opens nothing, and says why. */
   async refuse(why, defaults) {
     await this.open("", defaults);
     this.showProblem(why, { isRefused: true });

@@ -1,18 +1,14 @@
-/* A timeline of slots: which of them are in sight, the chosen one, and its buttons, keys and pointer. Its tab has the
-   words for a slot, and says what a key and the choice of a receiver do. */
+/* A timeline of slots. Its tab has the words for a slot, and says what a key and the choice of a receiver do. */
 import * as painter from "../display/painter.js";
 import { $, number } from "./parts.js";
 import { Play } from "./play.js";
 
-/* The fewest slots in sight, and the pixels that a click may move. */
 const LEAST = 8;
 const STILL = 3;
-/* The width of a phone, and the room for the names of lanes on it and elsewhere. */
 const PHONE = 560;
 const GUTTERS = [74, 132];
 
 const STEPS = { ArrowRight: 1, ArrowLeft: -1, PageDown: 16, PageUp: -16, Home: -Infinity, End: Infinity };
-/* What buttons do by their names, and keys. */
 /** @type {Record<string, [string, (it: Timeline) => void]>} */
 const ACTIONS = {
   in: ["+=w", (it) => it.zoom(0.5)],
@@ -48,7 +44,10 @@ export class Timeline {
     canvas.ariaLabel = `Slot of the ${tab.id}`;
     this.play = new Play(root, this);
     this.listen();
-    painter.watchInks(root, (ink) => this.recolour(ink));
+    painter.watchInks(root, (ink) => {
+      this.ink = ink;
+      this.draw();
+    });
   }
 
   listen() {
@@ -59,14 +58,6 @@ export class Timeline {
     new ResizeObserver(() => this.draw()).observe(canvas);
   }
 
-  /* Draws the lanes and the swatches of the legend in the colours of the page. */
-  recolour(ink) {
-    this.ink = ink;
-    for (const canvas of document.querySelectorAll(".legend canvas")) painter.swatch(canvas, ink);
-    this.draw();
-  }
-
-  /* Shows these lanes. All slots come into sight if their number is another one. */
   show(lanes, count, { fit = false } = {}) {
     const before = this.count;
     Object.assign(this, { lanes, count: Math.max(1, count) });
@@ -76,11 +67,9 @@ export class Timeline {
 
   x(slot) { return this.gutter + (slot - this.from) / this.across * this.room; }
 
-  /* The place of a pointer in slots, with a fraction; and the slot under it. */
   slotAt({ offsetX }) { return this.from + (offsetX - this.gutter) / this.room * this.across; }
   slotUnder(event) { return Math.min(this.count - 1, Math.max(0, Math.floor(this.slotAt(event)))); }
 
-  /* Shows the slots from this one on, or from the nearest one from which on as many are in sight as now. */
   showFrom(from) {
     this.from = Math.min(Math.max(0, this.count - this.across), Math.max(0, from));
     this.draw();
@@ -91,13 +80,12 @@ export class Timeline {
     this.showFrom(from);
   }
 
-  /* Shows these slots as large as possible. */
   zoomTo(from, to) {
     const across = Math.min(this.count, Math.max(LEAST, to - from));
     this.sight((from + to - across) / 2, across);
   }
 
-  /* Shows more or fewer slots by this factor. The slot `at` keeps its place if it is in sight, and else the middle. */
+  /* The slot `at` keeps its place if it is in sight, and else the middle. */
   zoom(by, at = this.cursor + 0.5) {
     const share = (at - this.from) / this.across;
     const fixed = share >= 0 && share <= 1 ? share : 0.5;
@@ -105,14 +93,13 @@ export class Timeline {
     this.sight(this.from + fixed * (this.across - across), across);
   }
 
-  /* Goes to the next text (1), or to the one before (-1). */
   step(by) {
     const { runs } = this.lanes.find(({ strong }) => strong) ?? {};
     const found = runs?.nearest(this.cursor, by);
     if (found !== undefined) this.move(found);
   }
 
-  /* Chooses a slot, and brings it into sight; if it is to keep the others in their places, not even that. */
+  /* Chooses a slot, and brings it into sight unless the others keep their places. */
   move(slot, { keep = false } = {}) {
     this.cursor = Math.min(this.count - 1, Math.max(0, slot));
     if (!keep && this.cursor < this.from) this.from = this.cursor - this.across / 8;
@@ -135,7 +122,6 @@ export class Timeline {
     return this.lanes.find(({ top, height }) => y >= top && y < top + height);
   }
 
-  /* Chooses a receiver and a slot. A drag moves the slots in sight. */
   press(event) {
     if (event.button || !event.isPrimary) return;
     const { canvas, from } = this;

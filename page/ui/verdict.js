@@ -1,5 +1,4 @@
-/* The answer of the audit: passes, breaks a rule, or cannot say. The facts and the sentences are those of the program's
-   notes, the other words are templates of index.html. `actions` is what their buttons do. */
+/* The answer of the audit. Its sentences are those of the program's notes, the other words are templates of index.html. */
 import * as lines from "../model/lines.js";
 import { $, counted, filled, grouped, nodesOf, number, told } from "./parts.js";
 
@@ -12,7 +11,6 @@ function showCard(kind, ...elements) {
 
 export const showNone = (title, words, kind = "fault") => showCard(kind, ...filled("no-answer", { title, words }));
 
-/* Draws the two slots of a rule: how far they are apart, how far they have to be, and the first slot that is right. */
 function drawn({ slot, earlier, needed }) {
   if (earlier === undefined) return [];
   const right = number(earlier + needed);
@@ -25,7 +23,7 @@ function drawn({ slot, earlier, needed }) {
   return [bracket];
 }
 
-/* What the card of a no shows. A line with a time says itself when it was: slots may be missing before it. */
+/* A line with a time says itself when it was: slots may be missing before it. */
 function shownOf(no, { goTo }) {
   const { fault, slot, time, text } = no;
   return {
@@ -39,7 +37,7 @@ function faulty({ line, text }) {
   return filled("malformed", { line: number(line), reason: nodesOf(told(text)) });
 }
 
-/* The kind of the card and its elements. The card is grey if the program notes that the log does not show enough. */
+/* The card is grey if the program notes that the log does not show enough. */
 /** @returns {any[]} */
 function answer({ audit, m, k, w }, actions) {
   const [no, lack, few, judged, fault, nothing, none] =
@@ -59,14 +57,13 @@ function answer({ audit, m, k, w }, actions) {
   return ["", ...filled("passed", { dwell, keeps, texts, covered, missing: judged.empty > 0 })];
 }
 
-/* Shows the answer over a log. Returns the note of a no, and whether the card says yes or no: a grey card says neither. */
+/* Returns the note of a no, and whether the card says yes or no. */
 export function show(given, actions) {
   const [kind, ...elements] = answer(given, actions);
   showCard(kind, ...elements);
   return { no: lines.noteOf(given.audit.first, "no") ?? null, isSure: kind === "" || kind === "no" };
 }
 
-/* Shows the lost slots that make a mix, or why there are none. */
 export function showWitness({ slot, lost, shown, upto = null, failure = "", k = 0 }, actions) {
   if (!lost || !shown.length) {
     const given = { failure, upto: upto !== null && number(upto), isNone: !failure && upto === null, late: !failure && k };
