@@ -50,7 +50,9 @@ export function read(bytes, malformed = Infinity, tell = () => {}) {
     if (number % PER_STEP === 0) tell(end / bytes.length);
     start = end + 1;
   }
-  const programmes = [...counts.entries()].filter((it) => it[1] > 0).sort((one, other) => other[1] - one[1]);
+  const programmes = [];
+  counts.forEach((groups, pi) => { if (groups) programmes.push([pi, groups]); });
+  programmes.sort((one, other) => other[1] - one[1]);
   return { starts: starts.slice(0, count), count, malformed, programmes };
 }
 

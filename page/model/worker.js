@@ -21,8 +21,9 @@ const run = (words, bytes = state.bytes) => rdsrt.ask(words, bytes);
 const decoding = (pi, m, w = 0) => ["decode", "--pi", pi, "--m", m, ...rdsrt.windowWords(w), "--why"];
 
 /* What a receiver shows of the log as it is now. The slots end at a line that the program finds malformed. */
-function shownBy(words, values) {
+function shownBy(words, values, before = null) {
   const { output, notes } = run(words);
+  if (output === before?.output) return before;
   const malformed = lines.noteOf(notes, "fault")?.line ?? Infinity;
   if (state.log.malformed !== malformed) state.log = logs.read(state.bytes, malformed);
   return { words, output, view: displays.displayOf(output, values, state.log.count) };
@@ -46,13 +47,12 @@ function wholeOf({ pi, m, w }) {
 function lossyOf({ pi, m, w, lost, passes }) {
   const { codes, ...kept } = wholeOf({ pi, m, w });
   const { values } = state;
-  const again = ({ words }) => shownBy(words, values);
+  const again = (it) => shownBy(it.words, values, it);
   const both = () => ({ whole: again(kept.whole), alone: again(kept.alone) });
   const shown = logs.whileLost(state.bytes, state.log, lost, both);
   const losing = ["witness", "--pi", pi, "--m", m, "--lose", lines.spansOf(lost).join(",")];
   const mark = (which, ...more) => {
-    if (shown[which].output === kept[which].output) return;
-    displays.markMixes(shown[which].view, run([...losing, ...more]).output);
+    if (shown[which] !== kept[which]) displays.markMixes(shown[which].view, run([...losing, ...more]).output);
   };
   if (!w && !passes) mark("whole");
   mark("alone", "--flag-alone");
