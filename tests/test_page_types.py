@@ -31,3 +31,13 @@ class Scripts(Case):
             several = re.findall(r"^ *(?:const|let) (?:[\w$]+|\{[^=]*\}|\[[^=]*\]) = [^;]*?, \w+ = .*$", text_of(file), re.M)
             wrong = [it for it in several if not re.search(r"[({\[]", it.split("=", 1)[1].split(",")[0])]
             self.check(os.path.relpath(file, path("page")), wrong, [])
+
+    def test_scripts_and_style_stay_small(self):
+        """At most 2,900 lines of JavaScript, 800 of CSS, and 130,000 bytes of both."""
+        scripts = "".join(text_of(file) for folder in FOLDERS for file in glob.glob(path(f"page/{folder}/*.js")))
+        style = text_of("page/style.css")
+        lines = [it.count("\n") for it in (scripts, style)]
+        self.check("lines of JavaScript", lines[0] if lines[0] > 2900 else "fit", "fit")
+        self.check("lines of CSS", lines[1] if lines[1] > 800 else "fit", "fit")
+        size = len((scripts + style).encode())
+        self.check("bytes", size if size > 130_000 else "fit", "fit")
