@@ -8,6 +8,7 @@ use Rattle.rds_arrivals.specs.Arrivals.{AreLost, IsBreak, hour, is_break, lost_b
 divided : (x : ℕ) → (nineteen_slots * (x / nineteen_slots) ≤ x) × (x < nineteen_slots * (x / nineteen_slots + 1))
 divided x = (omega arith, omega arith)
 
+-- the number of lost slots is the one of the definition
 pub are_lost : (grain apart : ℕ) → AreLost grain apart (lost_within grain apart)
 are_lost grain apart =
     let d = divided (19 * (apart - grain) - 1) in
@@ -22,9 +23,11 @@ are_lost grain apart =
       no_more = omega (arith, high);
     }
 
+-- the definition has one number
 pub one_count : (grain apart n k : ℕ) → AreLost grain apart n → AreLost grain apart k → n ≡ k
 one_count grain apart n k p q = omega (arith, p.passed, p.no_more, q.passed, q.no_more)
 
+-- two times are a break, or the later one comes within an hour
 pub break_cases : (earlier later : ℕ)
     → ((is_break earlier later ≡ true) × IsBreak earlier later) ⊎ ((is_break earlier later ≡ false) × (earlier ≤ later)
     × (later ≤ earlier + hour))
@@ -40,6 +43,7 @@ pub record IsWithin (grain m earlier later : ℕ) : Type 0 where
   pub in_an_hour : later ≤ earlier + hour
   pub lost : lost_between grain m earlier later ≡ lost_within grain (later - earlier)
 
+-- the lost slots between two times are those of a break, or those of the time between them
 pub between_cases : (grain m earlier later : ℕ) → IsAcross grain m earlier later ⊎ IsWithin grain m earlier later
 between_cases grain m earlier later = elim (break_cases earlier later) [
   | inl b ↦ inl (record { is = b.1; lost = rw b.0 refl })

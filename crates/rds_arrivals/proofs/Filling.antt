@@ -217,6 +217,7 @@ between {X} grain spread m first (d ∷ before) wide some later pace t u r s p q
     )
     by (inr a) (inr b) older = older a b
 
+-- a receiver of a filled log hears by a clock of its own that counts no slot too few
 pub own_clock : {X : Type 0} (grain spread m first lost : ℕ) (log : List (Option X)) (d : Delivery X)
     (before : List (Delivery X)) → AreBelowASlot grain spread → 0 < m
     → AreDelivered spread log (d ∷ before)
@@ -325,6 +326,7 @@ true_slots {X} grain spread m least ahead d (e ∷ before) wide small later whol
     by (inl a) next older = omega (arith, a.0, a.1, next)
     by (inr a) next older = older a
 
+-- if the delays vary by no more than the grain, a receiver of the filled log is on time
 pub on_time : {X : Type 0} (grain spread m least ahead : ℕ) (log : List (Option X)) (d : Delivery X)
     (before : List (Delivery X)) → AreBelowASlot grain spread → spread ≤ grain
     → AreOf log (d ∷ before) → EachTwo IsLater (d ∷ before) → EachTwo IsUnbroken (d ∷ before)
@@ -343,6 +345,7 @@ on_time grain spread m least ahead log d before wide small of later whole ways t
 
 -- ---- even delays
 
+-- if the delays vary by no more than the spread, the times keep pace
 pub keep_pace : {X : Type 0} (least ahead spread : ℕ) (given : List (Delivery X))
     → All (IsOnItsWay least ahead spread) given → EachTwo (KeepsPace spread) given
 keep_pace least ahead spread [] ways = tt
@@ -424,6 +427,7 @@ not_coarse grain spread least ahead d s small way ends coarse = omega (
   coarse,
 )
 
+-- if the delays vary by no more than the grain, the times are not coarse
 pub fine : {X : Type 0} (grain spread m least ahead : ℕ) (given : List (Delivery X)) → AreBelowASlot grain spread
     → spread ≤ grain → EachTwo IsLater given
     → All (IsOnItsWay least ahead spread) given → AreToldInTime grain m given → AreCoarse grain (arrivals given) → ⊥
@@ -437,6 +441,7 @@ fine {X} grain spread m least ahead (d ∷ before) wide small later ways told (i
 
 -- ---- the bound is needed: 19 slots are 1,664,000 µs; the first of two groups is late by the spread
 
+-- if grain and spread are a slot or more together, fewer slots may be counted than passed
 pub too_few : (grain spread m : ℕ) → nineteen_slots ≤ 19 * (grain + spread) → spread ≤ nineteen_slots
     → lost_between grain m spread nineteen_slots + 1 < 19
 too_few grain spread m narrow early = by (between_cases grain m spread nineteen_slots)

@@ -31,6 +31,7 @@ leads [] (suc n) = rw (not_empty n) refl
 leads (b ∷ rest) zero = rw (has_one (length rest)) (at_front (is_digit b) (b - 48) (leading_digits rest))
 leads (b ∷ rest) (suc n) = rw (same_test n (length rest)) (leads rest n)
 
+-- a digit leads one digit more than what follows it
 pub digit_leads : (text : List ℕ) (n digit : ℕ) → digit_at text n ≡ Some digit
     → leading_digits (drop n text) ≡ suc (leading_digits (drop (n + 1) text))
 digit_leads text n digit is =
@@ -38,6 +39,7 @@ digit_leads text n digit is =
     leads text n ∙ ap (λ (o : Option ℕ). option_map_or (λ _. suc (leading_digits (drop (suc n) text))) o 0) is
     ∙ ap (λ (k : ℕ). suc (leading_digits (drop k text))) next
 
+-- where no digit stands, none leads
 pub none_leads : (text : List ℕ) (n : ℕ) → digit_at text n ≡ None → leading_digits (drop n text) ≡ 0
 none_leads text n is = leads text n ∙ ap (λ (o : Option ℕ). option_map_or
     (λ _. suc (leading_digits (drop (suc n) text))) o 0) is
@@ -53,6 +55,7 @@ weight (suc (suc (suc (suc zero)))) = 10
 weight (suc (suc (suc (suc (suc zero))))) = 1
 weight (suc (suc (suc (suc (suc (suc i)))))) = 0
 
+-- each place weighs a tenth of the one before
 pub next_weight : (i : ℕ) → weight i / 10 ≡ weight (suc i)
 next_weight zero = refl
 next_weight (suc zero) = refl
@@ -62,6 +65,7 @@ next_weight (suc (suc (suc (suc zero)))) = refl
 next_weight (suc (suc (suc (suc (suc zero))))) = refl
 next_weight (suc (suc (suc (suc (suc (suc i)))))) = refl
 
+-- a digit weighs at most 900,000 microseconds
 pub light : (i digit : ℕ) → digit ≤ 9 → weight i * digit ≤ 900000
 light zero digit h = omega (arith, h)
 light (suc zero) digit h = omega (arith, h)
@@ -128,6 +132,7 @@ one_digit text p first i k digit here is = elim (cases_lt k i) [
 abbrev More : List ℕ → ℕ → ℕ → ℕ → ℕ → ℕ → Type 0
 More text first p k digit i = digit_before text p (first + suc i) ≡ digit_before text p (first + i) + at k i digit
 
+-- a fraction with one digit more
 pub more_fraction : (text : List ℕ) (first i digit : ℕ) → digit_at text (first + i) ≡ Some digit
     → fraction text first (first + suc i) ≡ fraction text first (first + i) + weight i * digit
 more_fraction text first i digit is = by i
@@ -163,6 +168,7 @@ no_fraction text first =
 small : (text : List ℕ) (p end : ℕ) → digit_before text p end ≤ 9
 small text p end = grind (arith, nat_tests)
 
+-- a fraction is below a second
 pub below_a_second : (text : List ℕ) (first end : ℕ) → fraction text first end ≤ 999999
 below_a_second text first end =
     let a = small text first end in

@@ -50,6 +50,7 @@ date_same t p long =
       has_same t p (p + 7) 7 45 refl (omega arith) long,
     ) refl
 
+-- the minute of a text is that of its sixteen bytes at the place
 pub minute_same : (t : List ℕ) (p : ℕ) → p + 16 ≤ length t → minute_at t p ≡ minute_at (sixteen t p) 0
 minute_same t p long =
     rw (

@@ -22,6 +22,7 @@ same false = refl
 no_second : (text : List ℕ) (place : ℕ) → length text ≤ place + 2 → second_at text place ≡ None
 no_second text place short = rw (no_two text (place + 1) (omega (arith, short))) (same (has text place 58))
 
+-- a text that is too short has no date
 pub no_date : (text : List ℕ) → length text < (if has text 0 64 then 1 else 0) + 19 → dated text ≡ None
 no_date text short =
     let at = if has text 0 64 then 1 else 0 in

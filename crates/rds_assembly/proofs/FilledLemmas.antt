@@ -14,6 +14,7 @@ rest_long n k = ap length (drop-replicate n k 0) ∙ length-replicate (k - n) 0
 joined : (a b n m : ℕ) → a ≡ n → b ≡ m - n → n ≤ m → a + b ≡ m
 joined a b n m e f h = omega arith
 
+-- a text with zeros behind it is filled so
 pub written : (n : ℕ) (x : List ℕ) → length x ≡ n → IsText x → IsZeroFilled n (x ++ drop n (replicate 64 0))
 written n x e t =
     let within : n ≤ 64 = (let long = t.at_most in omega arith) in

@@ -69,12 +69,14 @@ past_all : (mask : ℕ) (bytes : List ℕ) (a : ℕ) → 16 ≤ a → get (held_
 unfolding held_cells
 past_all mask bytes a h = above 16 mask bytes a h
 
+-- a set bit gives the segment at its address
 pub get-set : (mask : ℕ) (bytes : List ℕ) (a : ℕ) → a < 16 → bit_at mask a ≡ 1
     → get (held_cells mask bytes) a ≡ Some (segment_of bytes a)
 get-set mask bytes a h on =
     let on' : (bit_at mask a == 1) ≡ true = rw on refl in
     get-held mask bytes a h ∙ ap (λ b. cond b (Some (segment_of bytes a)) None) on'
 
+-- a bit that is not set gives no segment
 pub get-unset : (mask : ℕ) (bytes : List ℕ) (a : ℕ) → a < 16 → bit_at mask a ≡ 0 → get (held_cells mask bytes) a ≡ None
 get-unset mask bytes a h off =
     let off' : (bit_at mask a == 1) ≡ false = rw off refl in
@@ -95,6 +97,7 @@ byte_in mask bytes i h on =
 abbrev pub AreSetBelow : ℕ → ℕ → Type 0
 AreSetBelow mask n = (i : ℕ) → i < n → bit_at mask (i / 4) ≡ 1
 
+-- cells whose bits are set below n spell the first n bytes
 pub spelled : (mask : ℕ) (bytes : List ℕ) (n : ℕ) → n ≤ 64 → length bytes ≡ 64 → AreSetBelow mask n
     → IsSpelled (held_cells mask bytes) (take n bytes)
 spelled mask bytes n h long on =
@@ -109,6 +112,7 @@ none_set : (n : ℕ) (bytes : List ℕ) → cells_below n 0 bytes ≡ empty
 none_set zero bytes = refl
 none_set (suc a) bytes = (let off : (bit_at 0 a == 1) ≡ false = rw (bit_at-zero a) refl in rw off (none_set a bytes))
 
+-- an empty mask holds no cell
 pub nothing_held : (bytes : List ℕ) → held_cells 0 bytes ≡ empty
 unfolding held_cells
 nothing_held bytes = none_set 16 bytes
@@ -167,6 +171,7 @@ others_stay a k bytes segment e long room q apart =
       ]
     ]
 
+-- a segment that is put at its address stands there
 pub segment_stands : (a k : ℕ) (bytes segment : List ℕ) → k ≡ 4 → length segment ≡ 4 → 4 * a + 4 ≤ length bytes →
     segment_of (put_mid (4 * a) k bytes segment) a ≡ segment
 segment_stands a k bytes segment e long room =
@@ -188,6 +193,7 @@ contained_set mask bytes a h there =
     let set : (bit_at mask a == 1) ≡ true = sym (contains-held mask bytes a h) ∙ there in
     grind (arith, nat_tests)
 
+-- a byte that is held has the bit of its segment
 pub byte_set : (mask : ℕ) (bytes : List ℕ) (i b : ℕ) → i < 64 → HasByte (held_cells mask bytes) i b
     → bit_at mask (i / 4) ≡ 1
 byte_set mask bytes i b h byte = contained_set mask bytes (i / 4) (omega arith) (ap is_some byte.held)

@@ -17,6 +17,7 @@ one_or_zero : (b : Bool) → cond b 1 0 ≡ from_bool b
 one_or_zero true = refl
 one_or_zero false = refl
 
+-- a bit of the mask tells whether its byte is a carriage return
 pub bit_at-mask : (bytes : List ℕ) (i : ℕ)
     → bit_at (mask_l (map (λ b. eqb b 13) bytes)) i ≡ from_bool (eqb (get_or bytes i 0) 13)
 bit_at-mask bytes i =
@@ -174,5 +175,6 @@ wide_below (suc n) mask h l =
           (wide_below n (mask - 2 ^ n) (omega arith) rest)))
     ]
 
+-- a bit of the wide mask is that of its segment
 pub spread_all : (mask : ℕ) → mask < 65536 → (i : ℕ) → bit_at (wide mask) i ≡ bit_at mask (i / 4)
 spread_all mask fits = wide_below 16 mask (omega arith) fits

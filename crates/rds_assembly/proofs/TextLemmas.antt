@@ -142,6 +142,7 @@ found_whole mask bytes held returns lanes h =
     let least = and_le_r returns held in
     upto mask bytes held returns _ _ lanes (first (bit_and returns held) (omega arith)) (gap held wide) h
 
+-- cells without a carriage return in their held part hold no whole text
 pub found_none : (mask : ℕ) (bytes : List ℕ) (held returns : ℕ) → AreLanes mask bytes held returns
     → trailing_ones w64 held < trailing_zeros w64 (bit_and returns held)
     → (x : List ℕ) → IsWholeText (held_cells mask bytes) x → ⊥

@@ -37,6 +37,7 @@ pub joins_near : (d now : ℕ) (flag : Bool) (r : Reign) (older : List Reign) (a
     → Joins d flag a → (r.flag ≡ flag) × (now < r.last + d)
 joins_near d now flag r older a h g = (sym h.current.1 ∙ sym g.0, omega (arith, h.newest, g.1))
 
+-- a fragment with the flag of the newest reign, less than d slots behind it, joins by the ages
 pub near_joins : (d now : ℕ) (flag : Bool) (r : Reign) (older : List Reign) (a : Ages) → 0 < d
     → HoldsAges d now (r ∷ older) a → r.flag ≡ flag → now < r.last + d → Joins d flag a
 near_joins d now flag r older a pos h e near = (sym e ∙ sym h.current.1, omega (arith, h.newest))

@@ -45,6 +45,7 @@ abbrev pub Allows : ℕ → Option Lengths → Type 0
 Allows n None = ⊥
 Allows n (Some l) = (l.least ≤ n) × (n ≤ l.most)
 
+-- bytes of a text allow its length
 pub body_allows : (x : List ℕ) (i : ℕ) (bs : List ℕ) → IsText x → i ≤ length x → Stands (text_body x) i bs
     → Allows (length x) (lengths_from i bs)
 body_allows x i [] t h s = (h, t.at_most)

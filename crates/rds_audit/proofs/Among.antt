@@ -30,6 +30,7 @@ module _ (laws : PlanLaws) (d : ℕ) (kind : Kind) (plan : List Broadcast) (spac
         ]
       ]
 
+-- the reigns are the broadcasts of each lawful and dense plan
 pub the_reigns : PlanLaws → (d : ℕ) (kind : Kind) (plan : List Broadcast) (sent : List Mark) → IsLawful d kind plan sent
     → IsDense d plan sent → AreTheReigns d kind plan sent
 the_reigns laws d kind plan sent law dense = record {

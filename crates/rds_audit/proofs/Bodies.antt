@@ -8,9 +8,11 @@ use Rattle.std.proofs.lemmas.List.{get_or-append_right, get_or-replicate, get_or
 use Rattle.std.proofs.lemmas.List.{length-replicate, length-take}
 use Rattle.rds_assembly.specs.Body.{segment_count, segment_of, text_body}
 
+-- a byte of a segment is the byte of the body at its place
 pub segment_byte : (body : List ℕ) (a k : ℕ) → k < 4 → slice_index (segment_of body a) k ≡ slice_index body (4 * a + k)
 segment_byte body a k h = get_or-chunk (4 * a) 4 body k 0 h
 
+-- a segment has four bytes
 pub segment_long : (body : List ℕ) (a : ℕ) → a < segment_count body → length (segment_of body a) ≡ 4
 segment_long body a h = length-take 4 (drop (4 * a) body) ∙ ap (λ n. min 4 n) (length-drop (4 * a) body)
     ∙ four (length body) h
@@ -18,6 +20,7 @@ segment_long body a h = length-take 4 (drop (4 * a) body) ∙ ap (λ n. min 4 n)
     four : (n : ℕ) → a < n / 4 → min 4 (n - 4 * a) ≡ 4
     four n h = omega arith
 
+-- the body of a text begins with the text
 pub text_below : (x : List ℕ) (i : ℕ) → i < length x → slice_index (text_body x) i ≡ slice_index x i
 text_below x i h = by_length (nat_eq (length x) 64) refl
   where
@@ -25,6 +28,7 @@ text_below x i h = by_length (nat_eq (length x) 64) refl
     by_length true e = rw e refl
     by_length false e = rw e (get_or_append_left x _ 0 i h)
 
+-- behind a text of less than 64 bytes its body has a carriage return
 pub text_end : (x : List ℕ) → length x < 64 → slice_index (text_body x) (length x) ≡ 13
 text_end x h =
     let e : nat_eq (length x) 64 ≡ false = grind (arith, nat_tests) in
@@ -32,6 +36,7 @@ text_end x h =
     rw e (get_or-append_right x (13 ∷ replicate (3 - length x % 4) 32) (length x) (length x) 0 refl (omega arith)
     ∙ ap (λ k. get_or (13 ∷ replicate (3 - length x % 4) 32) k 0) z)
 
+-- the body of a text of less than 64 bytes ends with a whole segment
 pub text_long : (x : List ℕ) → length x < 64 → length (text_body x) ≡ 4 * (length x / 4) + 4
 text_long x h =
     let e : nat_eq (length x) 64 ≡ false = grind (arith, nat_tests) in
@@ -42,6 +47,7 @@ text_long x h =
           (3 - length x % 4) 32,
     ))
 
+-- a text of 64 bytes is its body
 pub text_full : (x : List ℕ) → length x ≡ 64 → text_body x ≡ x
 text_full x h =
     let e : nat_eq (length x) 64 ≡ true = grind (arith, nat_tests) in

@@ -27,6 +27,7 @@ empty_one g exact = exact.one [] [] tt record { unchanged = tt; each = tt; room 
 
 module _ (g : Gauge) (few : g.segments ≤ 16) (p : Fragment) (fragments : List Fragment) (tags : List SentTags)
     (c : ContentState) (h : HoldsContent g fragments tags c) (formed : IsFormed g.segments p) where
+  -- the content with a fragment follows from the fragments with it
   pub taken_content : HoldsContent g (p ∷ fragments) tags (taken (g.allowed p.address p.bytes) p.address p.bytes c)
   taken_content = record {
     long = length-set c.cells p.address (Some p.bytes) ∙ h.long;
@@ -47,6 +48,7 @@ module _ (g : Gauge) (few : g.segments ≤ 16) (p : Fragment) (fragments : List 
           let other : a ≢ p.address = grind (arith, nat_tests) in
           rw e (get_or-set_other c.cells p.address a (Some p.bytes) None other ∙ h.cells a less)
 
+-- the content with tags follows from the tags with them
 pub tagged_content : (g : Gauge) (now : ℕ) (pair : PairFields) (fragments : List Fragment) (tags : List SentTags)
     (c : ContentState) → HoldsContent g fragments tags c
     → HoldsContent g fragments (record { slot = now; pair = pair } ∷ tags) (tagged pair c)

@@ -77,6 +77,7 @@ hears_each below d now kind pick input rs a each k b next t s p q news heard bef
     (λ r next so x y. so) rs each)
     k b next p q) t s heard before begun
 
+-- a log that passes is safe for radios with the flag alone, if it turns the flag
 pub safe_by_flag : PlanLaws → TextsByFlagAreOfTheirSource → NamesByFlagAreOfTheirSource → TagsByFlagAreOfTheirText
     → (d : ℕ) (log : List (Option Message)) → 0 < d → LogPasses d log → IsSafeByFlag d log
 safe_by_flag laws safe_texts safe_names safe_tags d log some passes =
@@ -144,6 +145,7 @@ after_tags_alternate slot pair [] all = tt
 after_tags_alternate slot pair (r ∷ []) all = tt
 after_tags_alternate slot pair (r ∷ e ∷ older) all = all
 
+-- without a pause the flag turns from each reign to the next one
 pub alternate : (d : ℕ) (sent : List Mark) → HasNoPause d sent → AlternateFlags (reigns d sent)
 alternate d [] no_pause = tt
 alternate d (Nothing ∷ before) no_pause = alternate d before no_pause

@@ -67,6 +67,7 @@ name_fits x n i h =
     let same = name_alone x n.0 in
     subst (λ (b : List ℕ). slice_index b i < 256) (sym same) (n.1.bytes i (omega (arith, ap length same)))
 
+-- texts are measured exactly
 pub text_gauge_is_exact : IsExact text_gauge
 text_gauge_is_exact = record {
   measured = text_fragments;
@@ -75,6 +76,7 @@ text_gauge_is_exact = record {
   one = one_text;
 }
 
+-- names are measured exactly
 pub name_gauge_is_exact : IsExact name_gauge
 name_gauge_is_exact = record {
   measured = name_fragments;

@@ -180,6 +180,7 @@ fragment_keeps d sent p (r ∷ older) k =
           (r ∷ older) refl,
     ))
 
+-- the reigns keep each fragment and each pair of tags
 pub keeps : (d : ℕ) (sent : List Mark) → Keeps d sent (reigns d sent)
 keeps d [] = (tt, λ u m. absurd m.is_sent)
 keeps d (Nothing ∷ sent) = (let k = keeps d sent in (

@@ -18,17 +18,20 @@ on_place i k = omega arith
 next : (k : ℕ) → suc k ≡ k + 1
 next k = omega arith
 
+-- a byte that is a text's leaves the lengths to those behind it
 pub on : (i k : ℕ) (bs : List ℕ) → k < length bs → slice_index bs k ≢ 13 → is_text_byte (slice_index bs k) ≡ true
     → lengths_from (i + k) (drop k bs) ≡ lengths_from (i + (k + 1)) (drop (k + 1) bs)
 on i k bs h ne good = ap (lengths_from (i + k)) (drop-cons bs k 0 h) ∙ rw (other (slice_index bs k) ne, good)
     (ap (λ j. lengths_from j (drop (suc k) bs)) (on_place i k) ∙ ap (λ n. lengths_from (i + (k + 1)) (drop n bs))
     (next k))
 
+-- a byte that is no text's leaves no length
 pub bad : (i k : ℕ) (bs : List ℕ) → k < length bs → slice_index bs k ≢ 13 → is_text_byte (slice_index bs k) ≡ false
     → lengths_from (i + k) (drop k bs) ≡ None
 bad i k bs h ne no_good = ap (lengths_from (i + k)) (drop-cons bs k 0 h) ∙ rw (other (slice_index bs k) ne, no_good)
     refl
 
+-- a carriage return with spaces behind it leaves one length
 pub ended : (i k : ℕ) (bs : List ℕ) → k < length bs → slice_index bs k ≡ 13
     → lengths_from (i + k) (drop k bs) ≡ cond (are_spaces (drop (k + 1) bs))
     (Some record { least = i + k; most = i + k }) None
@@ -44,6 +47,7 @@ true_spaces [] h k l = absurd (omega arith)
 true_spaces (b ∷ bs) h zero l = eqb-true b 32 (and_parts (nat_eq b 32) (are_spaces bs) h).0
 true_spaces (b ∷ bs) h (suc k) l = true_spaces bs (and_parts (nat_eq b 32) (are_spaces bs) h).1 k (omega arith)
 
+-- a test of each byte for a space is the test of the definition
 pub spaces_are : (bs : List ℕ) (answer : Bool) → IsTrue answer ↔ EachIndex bs (λ k. slice_index bs k ≡ 32)
     → answer ≡ are_spaces bs
 spaces_are bs answer h = by answer (are_spaces bs) refl refl
@@ -69,6 +73,7 @@ true_names [] h k l = absurd (omega arith)
 true_names (b ∷ bs) h zero l = byte_name b (and_parts (is_name_byte b) (are_name_bytes bs) h).0
 true_names (b ∷ bs) h (suc k) l = true_names bs (and_parts (is_name_byte b) (are_name_bytes bs) h).1 k (omega arith)
 
+-- a test of each byte for a name's is the test of the definition
 pub names_are : (bs : List ℕ) (answer : Bool) → IsTrue answer ↔ EachIndex bs (λ k. 32 ≤ slice_index bs k)
     → are_name_bytes bs ≡ answer
 names_are bs answer h = by answer (are_name_bytes bs) refl refl
@@ -79,6 +84,7 @@ names_are bs answer h = by answer (are_name_bytes bs) refl refl
     by true false e f = (let t = names_true bs (h.0 e) in absurd (cc))
     by false true e f = (let t = h.1 (true_names bs f) in absurd (cc))
 
+-- `then_some` gives the lengths if the test holds
 pub then_some_is : (l : Lengths) (answer s : Bool) → answer ≡ s → then_some answer l ≡ cond s (Some l) None
 then_some_is l true true e = refl
 then_some_is l false false e = refl

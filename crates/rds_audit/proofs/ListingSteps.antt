@@ -132,6 +132,7 @@ passes_quietly d (newest ∷ before) passes =
     (passes_quietly d before (log_passed_before d newest before passes))
     ∙ ap first_of (sym (passing_adds d newest before passes))
 
+-- a log with a fault does not pass
 pub no_fault : (d : ℕ) (log : List (Option Message)) (fault : AuditFault) → IsFaultOf d log fault → LogPasses d log → ⊥
 no_fault d log fault f passes = (let bad : None ≡ Some fault = sym (passes_quietly d log passes) ∙ f in cc)
 
@@ -429,6 +430,7 @@ group_listed old heard new group found result stored same (message, hears, lists
     good : IsStoredAudit heard
     good = record { some = omega (arith, same, stored.some); distance = omega (arith, same, stored.distance) }
 
+-- an audit that lists a group takes it
 pub takes_all : (a next : AuditState) (slot : Option Group) (found : FaultSet) → ListsGroup a next slot found
     → next.programme ≡ a.programme → next.distance ≡ a.distance → next.start ≡ a.start
     → (a.fault ≡ None → next.fault ≡ first_of found)

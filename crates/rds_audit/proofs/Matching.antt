@@ -192,6 +192,7 @@ module _ (laws : PlanLaws) (d : ℕ) (kind : Kind) (plan : List Broadcast) (spac
         ]
       ]
 
+-- the reigns are of broadcasts of each lawful and dense plan, in order
 pub are_reigns_of : PlanLaws → (d : ℕ) (kind : Kind) (plan : List Broadcast) (sent : List Mark)
     → IsLawful d kind plan sent → IsDense d plan sent → AreReignsOf d kind plan (length plan) (reigns d sent)
 are_reigns_of laws d kind plan [] law dense = tt

@@ -134,6 +134,7 @@ each_allows x (p ∷ older) t all = (
   each_allows x older t all.1,
 )
 
+-- fragments and tags of one text are measured so
 pub text_fragments : (fragments : List Fragment) (tags : List SentTags) → HaveOneValue texts fragments tags
     → AreMeasured text_lengths 64 fragments tags
 text_fragments fragments tags h =
@@ -223,6 +224,7 @@ fill_is_text fragments n long well all = record {
         let four = well.four in
         ((allowed_agree n (4 * p.address) p.bytes a).1 (i % 4) (omega arith)).below (omega arith)
 
+-- formed fragments and tags that are measured so have one text
 pub one_text : (fragments : List Fragment) (tags : List SentTags) → AllByRecursion (IsFormed 16) fragments
     → AreMeasured text_lengths 64 fragments tags → HaveOneValue texts fragments tags
 one_text fragments tags well h =
@@ -269,6 +271,7 @@ each_name_allows : (x : List ℕ) (fragments : List Fragment) → IsName x
 each_name_allows x [] n all = tt
 each_name_allows x (p ∷ older) n all = (name_allows x p n all.0, each_name_allows x older n all.1)
 
+-- fragments and tags of one name are measured so
 pub name_fragments : (fragments : List Fragment) (tags : List SentTags) → HaveOneValue names fragments tags
     → AreMeasured name_lengths 8 fragments tags
 name_fragments fragments tags h =
@@ -321,6 +324,7 @@ some_name n fragments each p i = by (are_name_bytes p.bytes) refl
     by true e s = e
     by false e s = absurd (cc)
 
+-- formed fragments and tags that are measured so have one name
 pub one_name : (fragments : List Fragment) (tags : List SentTags) → AllByRecursion (IsFormed 2) fragments
     → AreMeasured name_lengths 8 fragments tags → HaveOneValue names fragments tags
 one_name fragments tags well h =

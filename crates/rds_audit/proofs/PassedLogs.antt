@@ -50,6 +50,7 @@ passed_before law d newest before pos h =
       };
     }
 
+-- a log that passes is safe
 pub safe_log : PassesExactlyByPlans → LawfulPlansAreSafe → LawfulPlansAreSafeByOwnClocks
     → (m k : ℕ) (log : List (Option Message)) → 0 < m → LogPasses (m + k) log → IsSafeLog m k log
 safe_log law safe own m k log pos p =

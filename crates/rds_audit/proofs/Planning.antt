@@ -99,6 +99,7 @@ new_fragment d now p sent (r ∷ older) e k =
     })
     (λ _. inl record { from = omega arith; to = omega arith; flag = refl; listed = inl refl })
 
+-- each fragment that was sent is in a reign
 pub fragment_held : (d : ℕ) (sent : List Mark) (t : ℕ) (p : Fragment) → IsMarkIn sent t (Sends p)
     → SomeReign (HoldsFragment t p) (reigns d sent)
 fragment_held d [] t p s = absurd s
@@ -369,6 +370,7 @@ has_plan_of_reigns below d kind sent pos h = (
   refl,
 )
 
+-- marks that pass have a lawful and dense plan
 pub has_plan : ANumberIsBelowTheLength → (d : ℕ) (kind : Kind) (sent : List Mark) → 0 < d → Passes d kind sent
     → HasPlan d kind sent
 has_plan below d kind sent pos h = (has_plan_of_reigns below d kind sent pos h).0

@@ -30,6 +30,7 @@ pub texts_begin : (start : LogStart) (d : ℕ) → marks text_mark (judged_as st
 texts_begin Complete d = refl
 texts_begin Running d = silent_texts d
 
+-- before the first slot no name is judged
 pub names_begin : (start : LogStart) (d : ℕ) → marks name_mark (judged_as start d []) ≡ silent_as start d
 names_begin Complete d = refl
 names_begin Running d = silent_names d
@@ -38,6 +39,7 @@ pub silent_reigns : (d lost : ℕ) → reigns d (replicate lost Nothing) ≡ []
 silent_reigns d zero = refl
 silent_reigns d (suc n) = silent_reigns d n
 
+-- as many slots are silent as were lost
 pub silent_length : (lost : ℕ) → length (replicate lost Nothing) ≡ lost
 silent_length zero = refl
 silent_length (suc n) = let e = silent_length n in omega arith
@@ -54,6 +56,7 @@ silence kind d lost = record {
   tagged = λ t pair h. absurd (no_tags lost t pair h);
 }
 
+-- silence passes
 pub silent_passes : (kind : Kind) (start : LogStart) (d : ℕ) → Passes d kind (silent_as start d)
 silent_passes kind Complete d = silence kind d 0
 silent_passes kind Running d = silence kind d d
@@ -70,6 +73,7 @@ tags_wait : (start : LogStart) (judged : List (Option Message)) (pair : PairFiel
     → has_text judged ≡ false → counted_as start judged (Some (Tags pair)) ≡ None
 tags_wait start judged pair is e = rw (is, e) refl
 
+-- in a complete log all tags count
 pub tags_complete : (start : LogStart) (judged : List (Option Message)) (pair : PairFields) → start ≡ Complete
     → counted_as start judged (Some (Tags pair)) ≡ Some (Tags pair)
 tags_complete start judged pair is = rw is refl
@@ -80,6 +84,7 @@ pub text_counts : (start : LogStart) (judged : List (Option Message)) (f : Bool)
 text_counts Complete judged f a b = refl
 text_counts Running judged f a b = refl
 
+-- segments of names count in each log
 pub name_counts : (start : LogStart) (judged : List (Option Message)) (f : Bool) (a : ℕ) (b : List ℕ)
     → counted_as start judged (Some (Name f a b)) ≡ Some (Name f a b)
 name_counts Complete judged f a b = refl
@@ -89,19 +94,23 @@ name_counts Running judged f a b = refl
 abbrev pub IsSilent : Option Message → Type 0
 IsSilent message = (text_mark message ≡ Nothing) × (name_mark message ≡ Nothing)
 
+-- an empty slot counts as silent
 pub nothing_counts : (start : LogStart) (judged : List (Option Message)) → IsSilent (counted_as start judged None)
 nothing_counts Complete judged = (refl, refl)
 nothing_counts Running judged = (refl, refl)
 
+-- in a recording tags before the first text count as silent
 pub tags_silent : (start : LogStart) (judged : List (Option Message)) (pair : PairFields) → start ≡ Running
     → has_text judged ≡ false → IsSilent (counted_as start judged (Some (Tags pair)))
 tags_silent start judged pair is e = rw (tags_wait start judged pair is e) (refl, refl)
 
+-- an announcement counts as silent
 pub announcement_counts : (start : LogStart) (judged : List (Option Message)) (code bits aid : ℕ)
     → IsSilent (counted_as start judged (Some (Announce code bits aid)))
 announcement_counts Complete judged code bits aid = (refl, refl)
 announcement_counts Running judged code bits aid = (refl, refl)
 
+-- another message counts as silent
 pub other_counts : (start : LogStart) (judged : List (Option Message)) → IsSilent (counted_as start judged (Some Other))
 other_counts Complete judged = (refl, refl)
 other_counts Running judged = (refl, refl)

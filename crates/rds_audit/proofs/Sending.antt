@@ -8,14 +8,17 @@ use Rattle.rds_safety.specs.Lawful.{IsLawful, Kind}
 use Rattle.rds_safety.specs.Marks.{IsMarkIn, Mark, Sends, Tagged}
 use Rattle.rds_audit.specs.Rules.{IsAfterFragment}
 
+-- a mark was sent before now
 pub early : (sent : List Mark) (t : ℕ) (m : Mark) → IsMarkIn sent t m → t < length sent
 early [] t m s = absurd s
 early (n ∷ before) t m (inl s) = omega arith
 early (n ∷ before) t m (inr s) = omega (arith, early before t m s)
 
+-- a slot with a mark is before now
 pub marked_early : (sent : List Mark) (t : ℕ) → IsMarked sent t → t < length sent
 marked_early sent t m = early sent t m.mark m.is_sent
 
+-- a slot has one mark at most
 pub one_mark : (sent : List Mark) (t : ℕ) (m n : Mark) → IsMarkIn sent t m → IsMarkIn sent t n → m ≡ n
 one_mark [] t m n p q = absurd p
 one_mark (x ∷ before) t m n (inl p) (inl q) = p.1 ∙ sym q.1
@@ -29,6 +32,7 @@ pub sent_before : (x : Mark) (before : List Mark) (t : ℕ) (m : Mark) → t < l
 sent_before x before t m h (inl s) = absurd (omega arith)
 sent_before x before t m h (inr s) = s
 
+-- an older slot that has a mark had it before the newest slot
 pub marked_before : (x : Mark) (before : List Mark) (t : ℕ) → t < length before → IsMarked (x ∷ before) t
     → IsMarked before t
 marked_before x before t h m = record {
@@ -38,9 +42,11 @@ marked_before x before t h m = record {
       m.is_sent;
 }
 
+-- a slot that has a mark has it after one slot more
 pub marked_later : (x : Mark) (before : List Mark) (t : ℕ) → IsMarked before t → IsMarked (x ∷ before) t
 marked_later x before t m = record { mark = m.mark; some = m.some; is_sent = inr m.is_sent }
 
+-- slots that are bridged stay so after one slot more
 pub bridged_later : (d : ℕ) (x : Mark) (before : List Mark) (u t : ℕ) → IsBridged d before u t
     → IsBridged d (x ∷ before) u t
 bridged_later d x before u t b = record {
@@ -51,9 +57,11 @@ bridged_later d x before u t b = record {
   near = b.near;
 }
 
+-- the slot of a fragment has a mark
 pub fragment_is_marked : (sent : List Mark) (t : ℕ) (p : Fragment) → IsMarkIn sent t (Sends p) → IsMarked sent t
 fragment_is_marked sent t p s = record { mark = Sends p; some = λ e. (cc); is_sent = s }
 
+-- the slot of tags has a mark
 pub tags_are_marked : (sent : List Mark) (t : ℕ) (pair : PairFields) → IsMarkIn sent t (Tagged pair) → IsMarked sent t
 tags_are_marked sent t pair s = record { mark = Tagged pair; some = λ e. (cc); is_sent = s }
 
@@ -61,6 +69,7 @@ tags_are_marked sent t pair s = record { mark = Tagged pair; some = λ e. (cc); 
 abbrev pub TagsAreAfter : List Mark → Type 0
 TagsAreAfter sent = (t : ℕ) (pair : PairFields) → IsMarkIn sent t (Tagged pair) → IsAfterFragment sent t
 
+-- what came after a fragment comes after it with one slot more too
 pub after_later : (x : Mark) (sent : List Mark) (t : ℕ) → IsAfterFragment sent t → IsAfterFragment (x ∷ sent) t
 after_later x sent t w = record { slot = w.slot; fragment = w.fragment; is_sent = inr w.is_sent; before = w.before }
 
@@ -74,6 +83,7 @@ lawful_before d kind plan x before h = record {
   tags = λ t pair s. h.tags t pair (inr s);
 }
 
+-- a plan that is dense for some marks is dense for those before the newest
 pub dense_before : (d : ℕ) (plan : List Broadcast) (x : Mark) (before : List Mark) → IsDense d plan (x ∷ before)
     → IsDense d plan before
 dense_before d plan x before h = record {

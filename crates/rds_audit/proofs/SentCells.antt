@@ -13,6 +13,7 @@ use Rattle.rds_audit.specs.Rules.{AreUnchanged}
 use Rattle.rds_audit.proofs.Allowed.{Allows}
 use Rattle.rds_audit.proofs.Members.{IsIn, all_in}
 
+-- a number equals itself
 pub same_number : (n : ℕ) → nat_eq n n ≡ true
 same_number n = grind arith
 
@@ -64,6 +65,7 @@ unchanged_by p older u h = (each older (λ q i. i), u)
     each [] sub = tt
     each (q ∷ rest) sub = ((λ e. same q (sub q (inl refl)) e h), each rest (λ r i. sub r (inr i)))
 
+-- if no address changed, the last bytes at the address of the newest fragment are its own, or none
 pub holds_unchanged : (p : Fragment) (older : List Fragment) → AreUnchanged (p ∷ older)
     → (sent_last p.address older ≡ None) ⊎ (sent_last p.address older ≡ Some p.bytes)
 holds_unchanged p older u = by (sent_last p.address older) refl
@@ -109,6 +111,7 @@ allowed_by_all allowed longest n (p ∷ older) h all = by (allowed p.address p.b
     by None e a rest = absurd a
     by (Some l) e a rest = rw e (omega (arith, a.0, rest.0), omega (arith, a.1, rest.1), (refl, rest.2))
 
+-- a length within the lengths of all fragments is allowed by each
 pub all_allow : (allowed : ℕ → List ℕ → Option Lengths) (longest n : ℕ) (fragments : List Fragment)
     → (lengths_of allowed longest fragments).least ≤ n → n ≤ (lengths_of allowed longest fragments).most
     → EachAllows allowed fragments
@@ -130,6 +133,7 @@ all_allow allowed longest n (p ∷ older) lo hi each = by (allowed p.address p.b
           (omega (arith, hi)),
     )
 
+-- no fragments allow a length above the longest
 pub longest_at_most : (allowed : ℕ → List ℕ → Option Lengths) (longest : ℕ) (fragments : List Fragment)
     → (lengths_of allowed longest fragments).most ≤ longest
 longest_at_most allowed longest [] = omega arith

@@ -27,6 +27,7 @@ settle log [] origins = []
 settle log (h ∷ heard) [] = h ∷ heard
 settle log (h ∷ heard) (o ∷ origins) = settled (counts log o) h ∷ settle log heard origins
 
+-- as many slots are heard as settled
 pub settle_long : (log heard : List (Option Message)) (origins : List (Option ℕ))
     → length (settle log heard origins) ≡ length heard
 settle_long log [] origins = refl
@@ -40,6 +41,7 @@ pub record WasHeardAs (log : List (Option Message)) (first : ℕ) (heard : List 
   pub came : HasEntry first heard t was
   pub is : entry ≡ settled (counts log origin) was
 
+-- what a receiver hears as settled it heard
 pub was_heard_as : (log : List (Option Message)) (first : ℕ) (heard : List (Option Message)) (origins : List (Option ℕ))
     (t : ℕ) (origin : Option ℕ) (entry : Option Message)
     → length origins ≡ length heard → HasEntry first origins t origin
@@ -95,10 +97,12 @@ module _ (pick : Message → Option Fragment) (none : (pair : PairFields) → pi
       (settle_long log heard origins)
       ∙ ap (run m (first + length heard)) (segments_same (h ∷ heard) (o ∷ origins))
 
+-- the run of texts is the same as settled
 pub texts_same : (log : List (Option Message)) (m first : ℕ) (heard : List (Option Message)) (origins : List (Option ℕ))
     → run_at text_fragment m first (settle log heard origins) ≡ run_at text_fragment m first heard
 texts_same log m first heard origins = run_same text_fragment (λ _. refl) log first m heard origins
 
+-- the run of names is the same as settled
 pub names_same : (log : List (Option Message)) (m first : ℕ) (heard : List (Option Message)) (origins : List (Option ℕ))
     → run_at name_fragment m first (settle log heard origins) ≡ run_at name_fragment m first heard
 names_same log m first heard origins = run_same name_fragment (λ _. refl) log first m heard origins

@@ -91,6 +91,7 @@ tagged_in_order now pair [] h = tt
 tagged_in_order now pair (r ∷ older) h =
     (more_in_order (after_span older) now r.reign (with_tags now pair r.reign) refl refl h.0, all_later now older h.1)
 
+-- each span started after the one before it, and ended before now
 pub in_order : (d : ℕ) (sent : List Mark) → 0 < d → AreInOrder (length sent) (spans d sent)
 in_order d [] pos = tt
 in_order d (Nothing ∷ before) pos = all_later (length before) (spans d before) (in_order d before pos)
@@ -99,6 +100,7 @@ in_order d (Tagged pair ∷ before) pos = tagged_in_order (length before) pair (
 
 -- ---- the same bytes
 
+-- equal bytes pass the test
 pub bytes_same : (b c : List ℕ) → b ≡ c → same_bytes b c ≡ true
 bytes_same [] [] e = refl
 bytes_same [] (c ∷ cs) e = absurd (cc)
@@ -109,6 +111,7 @@ bytes_same (b ∷ bs) (c ∷ cs) e =
     let rest : bs ≡ cs = cc in
     rw (test, bytes_same bs cs rest) refl
 
+-- bytes that pass the test are equal
 pub same_bytes_are : (b c : List ℕ) → same_bytes b c ≡ true → b ≡ c
 same_bytes_are [] [] e = refl
 same_bytes_are [] (c ∷ cs) e = absurd (cc)

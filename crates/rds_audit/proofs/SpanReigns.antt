@@ -66,6 +66,7 @@ reigns_before d kind Nothing before all = all
 reigns_before d kind (Sends p) before all = fragment_before d (length before) kind p (reigns d before) all
 reigns_before d kind (Tagged pair) before all = tags_before d (length before) kind pair (reigns d before) all
 
+-- a service that passes passed before its newest mark
 pub service_passed_before : (d : ℕ) (kind : Kind) (mark : Mark) (before : List Mark) → Passes d kind (mark ∷ before)
     → Passes d kind before
 service_passed_before d kind mark before h = record {
@@ -272,6 +273,7 @@ module _ (g : Gauge) (exact : IsExact g) (d : ℕ) where
   nothing_reigns before [] regs h = record { same = h.same; none = h.none }
   nothing_reigns before (r ∷ older) regs h = record { same = h.same; none = h.none }
 
+  -- the spans of a service that passes have its reigns, and the newest breaks no rule
   pub are_reigns : (sent : List Mark) → Passes d g.kind sent → AreReigns g d sent (spans d sent) (reigns d sent)
   are_reigns [] passes = record { same = refl; none = refl }
   are_reigns (Nothing ∷ before) passes = nothing_reigns before (spans d before) (reigns d before)

@@ -34,6 +34,7 @@ use Rattle.rds_audit.proofs.SpanOrder.{AreInOrder, bytes_same, in_order, same_by
 
 -- ---- the rules that a span breaks
 
+-- two sets with the same five faults are equal
 pub sets_are : (f g : FaultSet) → f.changed ≡ g.changed → f.early_flag ≡ g.early_flag → f.not_one_text ≡ g.not_one_text
     → f.early_tag ≡ g.early_tag → f.tag_outside ≡ g.tag_outside → f ≡ g
 sets_are f g a b c d e = λ i. record {
@@ -234,6 +235,7 @@ module _ (g : Gauge) (few : g.segments ≤ 16) (d : ℕ) (pos : 0 < d) (sent : L
       let here : nat_lt now (r.reign.last + d) ≡ true = lt-ltb now (r.reign.last + d) near.1 in
       rw (same, here) q
 
+  -- the state after a fragment that joins the newest span follows from the spans
   pub joined_follows : (p : Fragment) (rs : List Span) (s : SpansState) → IsFormed g.segments p
       → FollowsFrom g d now sent rs s → Joins d p.flag s.reigns.ages → HoldsNoOther p.address p.bytes s.reigns.content
       → FollowsFrom g d now (Sends p ∷ sent) (spans_after d now p rs) (put_in (g.allowed p.address p.bytes) p.address
@@ -318,6 +320,7 @@ module _ (g : Gauge) (few : g.segments ≤ 16) (d : ℕ) (pos : 0 < d) (sent : L
       (rw is (turned_start r older s.reigns.ages.since_last s.reigns.ages.since_before order ages.newest ages.second))
       (rw is (early_same r older s.reigns.ages.since_before order.0.over ages.second)) count
 
+  -- so does the state after a fragment that changes the newest span
   pub changed_follows : (p : Fragment) (rs : List Span) (s : SpansState) → IsFormed g.segments p → AreInOrder now rs
       → FollowsFrom g d now sent rs s → Joins d p.flag s.reigns.ages
       → (HoldsNoOther p.address p.bytes s.reigns.content → ⊥)
@@ -339,6 +342,7 @@ module _ (g : Gauge) (few : g.segments ≤ 16) (d : ℕ) (pos : 0 < d) (sent : L
           (λ same. other (inr (is ∙ ap Some (sym (same_bytes_are _ _ same))))) in
           rw not_same (turns p r older true s formed order h.ages refl h.count, refl)
 
+  -- so does the state after a fragment that joins no span
   pub opened_follows : (p : Fragment) (rs : List Span) (s : SpansState) → IsFormed g.segments p → AreInOrder now rs
       → FollowsFrom g d now sent rs s → (Joins d p.flag s.reigns.ages → ⊥)
       → FollowsFrom g d now (Sends p ∷ sent) (spans_after d now p rs) (put_in (g.allowed p.address p.bytes) p.address
@@ -380,6 +384,7 @@ module _ (g : Gauge) (few : g.segments ≤ 16) (d : ℕ) (pos : 0 < d) (sent : L
           (λ e. ne (sym h.ages.current.1 ∙ sym e)) in
           rw other (turns p r older false s formed order h.ages (rw mine refl) h.count, refl)
 
+  -- so does the state after a fragment that the newest span has already
   pub repeated_follows : (p : Fragment) (rs : List Span) (s : SpansState) → IsFormed g.segments p
       → FollowsFrom g d now sent rs s → Joins d p.flag s.reigns.ages → cell_at p.address s.reigns.content ≡ Some p.bytes
       → FollowsFrom g d now (Sends p ∷ sent) (spans_after d now p rs) (repeated_in s) × (length (spans_after d now p rs)
@@ -416,6 +421,7 @@ module _ (g : Gauge) (few : g.segments ≤ 16) (d : ℕ) (pos : 0 < d) (sent : L
         follows.1,
       )
 
+  -- so does the state after tags
   pub tags_follow : (pair : PairFields) (rs : List Span) (s : SpansState) → FollowsFrom g d now sent rs s
       → FollowsFrom g d now (Tagged pair ∷ sent) (spans_tagged now pair rs) (tagged_in d pair s)
       × (length (spans_tagged now pair rs) ≡ length rs)
@@ -462,6 +468,7 @@ module _ (g : Gauge) (few : g.segments ≤ 16) (d : ℕ) (pos : 0 < d) (sent : L
             | inr long ↦ ap not (le-leb d since_start (omega (arith, e))) ∙ sym (le-ltb now (r.reign.start + d) long)
           ]
 
+  -- so does the state after a slot without a mark
   pub nothing_follows : (rs : List Span) (s : SpansState) → FollowsFrom g d now sent rs s
       → FollowsFrom g d now (Nothing ∷ sent) rs s
   nothing_follows [] s h = record { ages = h.ages; content = h.content; count = h.count; broken = h.broken }
@@ -490,6 +497,7 @@ spans_later g d mark before s pos h =
 
 -- ---- what a slot adds
 
+-- a mark that opens no span adds the faults that its span did not have
 pub added_more : (g : Gauge) (d : ℕ) (mark : Mark) (before : List Mark) (old new : FaultSet)
     → length (spans d (mark ∷ before)) ≡ length (spans d before)
     → old ≡ broken_newest g d before (spans d before)
@@ -498,6 +506,7 @@ added_more g d mark before old new same e f =
     rw (eq-eqb (length (spans d (mark ∷ before))) (length (spans d before)) same)
     (ap (λ (x : FaultSet). not_before x new) e ∙ ap (not_before (broken_newest g d before (spans d before))) f)
 
+-- a mark that opens a span adds all faults of it
 pub added_first : (g : Gauge) (d : ℕ) (mark : Mark) (before : List Mark) (new : FaultSet)
     → length (spans d (mark ∷ before)) ≡ suc (length (spans d before))
     → new ≡ broken_newest g d (mark ∷ before) (spans d (mark ∷ before)) → new ≡ added g d mark before
@@ -523,6 +532,7 @@ silent_tags : (lost : ℕ) → list_any is_tagged (replicate lost Nothing) ≡ f
 silent_tags zero = refl
 silent_tags (suc n) = silent_tags n
 
+-- before the first slot the state follows from no span
 pub silent_follows : (g : Gauge) (start : LogStart) (d : ℕ) (s : SpansState)
     → s.reigns ≡ record { ages = ages_at start d; content = no_content g.longest } → s.count ≡ 0
     → s.broken ≡ none_broken → HoldsSpans g d (silent_as start d) s

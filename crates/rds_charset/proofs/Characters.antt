@@ -24,6 +24,7 @@ character_in-found stretches i d byte character within here =
     at_drop_more (λ rest. character_in (map stretch_of rest) byte) stretches i d within
     ∙ ap (λ found. option_or found (character_in (map stretch_of (drop (i + 1) stretches)) byte)) here
 
+-- a stretch without the byte is passed
 pub character_in-passed : (stretches : List HeldStretch) (i : ℕ) (d : HeldStretch) (byte : ℕ) → i < length stretches
     → character_at (stretch_of (get_or stretches i d)) byte ≡ None
     → character_in (map stretch_of (drop i stretches)) byte ≡ character_in (map stretch_of (drop (i + 1) stretches))
@@ -40,6 +41,7 @@ byte_in-found stretches i d character byte within here =
     at_drop_more (λ rest. byte_in (map stretch_of rest) character) stretches i d within
     ∙ ap (λ found. option_or found (byte_in (map stretch_of (drop (i + 1) stretches)) character)) here
 
+-- a stretch without the character is passed
 pub byte_in-passed : (stretches : List HeldStretch) (i : ℕ) (d : HeldStretch) (character : ℕ) → i < length stretches
     → byte_at (stretch_of (get_or stretches i d)) character ≡ None
     → byte_in (map stretch_of (drop i stretches)) character ≡ byte_in (map stretch_of (drop (i + 1) stretches))
@@ -60,6 +62,7 @@ FitsInBytes-from_fits : (stretch : Stretch) (b : Bool) → fits stretch ≡ b �
 FitsInBytes-from_fits stretch true is _ = grind (arith, nat_tests)
 FitsInBytes-from_fits stretch false is unfit = let e : true ≡ false = sym all_fit ∙ unfit refl in grind arith
 
+-- each stretch of the table fits in bytes
 pub held-FitsInBytes : (stretches : List HeldStretch) (i : ℕ) (d : HeldStretch) → map stretch_of stretches ≡ table
     → i < length stretches → FitsInBytes (stretch_of (get_or stretches i d))
 held-FitsInBytes stretches i d are within = FitsInBytes-from_fits (stretch_of (get_or stretches i d))
@@ -110,6 +113,7 @@ found_at test stretch stretches byte character all true is here =
     rw sum at holds
 found_at test stretch stretches byte character all false is here = absurd (cc)
 
+-- a test that all entries pass is passed at each byte
 pub holds_at_byte : (test : ℕ → ℕ → Bool) (stretches : List Stretch) (byte character : ℕ)
     → list_all (λ e. test e.0 e.1) (entries_in stretches) ≡ true → character_in stretches byte ≡ Some character
     → test byte character ≡ true
@@ -201,11 +205,13 @@ IsLawful-from_test byte character holds =
       of_character = is_number-Some _ _ third.1;
     }
 
+-- the character of a byte is lawful
 pub IsLawful-from_byte : (byte character : ℕ) → character_of byte ≡ Some character → IsLawful byte character
 unfolding character_of
 IsLawful-from_byte byte character here = IsLawful-from_test byte character (holds_at_byte is_lawful table byte character
     all_lawful here)
 
+-- the byte of a character is lawful
 pub IsLawful-from_character : (byte character : ℕ) → byte_of character ≡ Some byte → IsLawful byte character
 unfolding byte_of
 IsLawful-from_character byte character here = IsLawful-from_test byte character (holds_at_character is_lawful table

@@ -33,10 +33,12 @@ by_table : (byte : ℕ) (found : Option ℕ) → character_of byte ≡ found
 by_table byte None is = by_more byte (character_in more byte) refl
 by_table byte (Some character) is = rw (length-encode character) (IsLawful-from_byte byte character is).width
 
+-- a displayed byte has at most three bytes
 pub length-displayed_byte : (byte : ℕ) → length (encode_utf8 (displayed_character byte)) ≤ 3
 unfolding displayed_character
 length-displayed_byte byte = by_table byte (character_of byte) refl
 
+-- displayed bytes have at most three bytes each
 pub length-displayed : (bytes : List ℕ) → length (displayed bytes) ≤ 3 * length bytes
 length-displayed [] = omega arith
 length-displayed (byte ∷ bytes) =

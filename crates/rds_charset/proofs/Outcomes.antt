@@ -16,6 +16,7 @@ Outcome text room (Err (BadEscape place)) = HasBadEscape text place
 Outcome text room (Err (NoSuchCharacter place)) = HasUnknownCharacter text place
 Outcome text room (Err NoRoom) = HasNoRoom text room
 
+-- reading ends with a bad escape exactly if the text has one
 pub Outcome-bad_escape : (text : List ℕ) (room : ℕ) (r : Result ℕ TextFault) → Outcome text room r → (place : ℕ)
     → (r ≡ Err (BadEscape place)) ↔ HasBadEscape text place
 Outcome-bad_escape text room (Ok count) o place = (
@@ -39,6 +40,7 @@ Outcome-bad_escape text room (Err NoRoom) o place = (
       o.1),
 )
 
+-- reading ends with an unknown character exactly if the text has one
 pub Outcome-no_such_character : (text : List ℕ) (room : ℕ) (r : Result ℕ TextFault) → Outcome text room r → (place : ℕ)
     → (r ≡ Err (NoSuchCharacter place)) ↔ HasUnknownCharacter text place
 Outcome-no_such_character text room (Ok count) o place = (
@@ -62,6 +64,7 @@ Outcome-no_such_character text room (Err NoRoom) o place = (
       h.0 o.1),
 )
 
+-- reading ends without room exactly if there is none
 pub Outcome-no_room : (text : List ℕ) (room : ℕ) (r : Result ℕ TextFault) → Outcome text room r
     → (r ≡ Err NoRoom) ↔ HasNoRoom text room
 Outcome-no_room text room (Ok count) o = (
@@ -77,6 +80,7 @@ Outcome-no_room text room (Err (NoSuchCharacter at)) o = (
 )
 Outcome-no_room text room (Err NoRoom) o = (λ e. o, λ h. refl)
 
+-- a text that fits is read
 pub Outcome-read : (text : List ℕ) (room : ℕ) (r : Result ℕ TextFault) → Outcome text room r → (bytes : List ℕ)
     → IsReadAs text bytes → length bytes ≤ room → r ≡ Ok (length bytes)
 Outcome-read text room (Ok count) o bytes is fits = ap Ok (sym o.3 ∙ ap length (IsReadAs-same text o.0 bytes o.1 is))
@@ -92,10 +96,12 @@ Outcome-stopped text room r (BadEscape place) is stops = subst (Outcome text roo
 Outcome-stopped text room r (NoSuchCharacter place) is stops = subst (Outcome text room) (sym is) stops
 Outcome-stopped text room r NoRoom is stops = absurd stops
 
+-- a text that is longer than the room is not read
 pub Outcome-short : (text bytes : List ℕ) (room count : ℕ) → IsReadAs text bytes → length bytes ≡ count → room < count
     → Outcome text room (Err NoRoom)
 Outcome-short text bytes room count is long short = (bytes, is, omega arith)
 
+-- a text that was read fills the bytes
 pub Outcome-filled : (text into : List ℕ) (room count : ℕ) → IsReadAs text (take count into) → count ≤ length into
     → length into ≡ room → Outcome text room (Ok count)
 Outcome-filled text into room count is within same = (

@@ -30,6 +30,7 @@ pub length-printed_byte : (byte : ℕ) → length (printed_byte byte) ≤ 4
 unfolding printed_byte
 length-printed_byte byte = shown-length byte (shown_character byte)
 
+-- a printed byte has at most four bytes
 pub length-printed : (bytes : List ℕ) → length (printed bytes) ≤ 4 * length bytes
 length-printed [] = omega arith
 length-printed (byte ∷ bytes) =
@@ -78,6 +79,7 @@ unfolding printed_byte
 printed_byte-IsSymbol byte small = shown-IsSymbol byte (shown_character byte) small (λ character is. shown-own byte
     character (byte == 0x22) is)
 
+-- what is printed is read back
 pub IsReadAs-printed : (bytes : List ℕ) → All (λ byte. byte < 256) bytes → IsReadAs (printed bytes) bytes
 IsReadAs-printed [] small = refl
 IsReadAs-printed (byte ∷ bytes) small = (
@@ -120,6 +122,7 @@ unfolding printed_byte
 printed_byte-IsUtf8 byte small = shown-IsUtf8 byte (shown_character byte) small (λ character is. shown-own byte
     character (byte == 0x22) is)
 
+-- what is printed is UTF-8
 pub IsUtf8-printed : (bytes : List ℕ) → All (λ byte. byte < 256) bytes → IsUtf8 (printed bytes)
 IsUtf8-printed [] small = IsUtf8-nil
 IsUtf8-printed (byte ∷ bytes) small =
@@ -136,6 +139,7 @@ pub Appends-printed : (a b c : Option (List ℕ)) (done symbol line : List ℕ) 
 Appends-printed a b c done symbol line is first later = rw (printed-append done symbol)
     (Appends-trans a b c (printed done) (printed symbol) first (rw is at later))
 
+-- a first part of what is printed, if the room ends within a symbol
 pub AppendsPrefix-printed : (a b c : Option (List ℕ)) (bytes done symbol rest line : List ℕ)
     → bytes ≡ (done ++ symbol) ++ rest → line ≡ printed symbol → Appends a b (printed done) → AppendsPrefix b c line
     → AppendsPrefix a c (printed bytes)

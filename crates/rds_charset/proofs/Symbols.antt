@@ -78,12 +78,14 @@ IsSymbol-length : (p : List ℕ) (a : ℕ) → IsSymbol p a → 0 < length p
 IsSymbol-length p a (inl one) = rw (one.spelled, length-encode one.character) (len_utf8_bounds one.character).0
 IsSymbol-length p a (inr one) = rw one.spelled (omega arith)
 
+-- a text is shorter behind its first symbol
 pub Begins-length : (text : List ℕ) (a : ℕ) (r : List ℕ) → Begins text a r → length r < length text
 Begins-length text a r one =
     let some : 0 < length one.symbol = IsSymbol-length one.symbol a one.is_symbol in
     let sum : length text ≡ length one.symbol + length r = ap length one.cut ∙ length-append one.symbol r in
     omega arith
 
+-- an empty text begins with no symbol
 pub BeginsNoSymbol-nil : BeginsNoSymbol []
 BeginsNoSymbol-nil byte rest one = let some : length rest < 0 = Begins-length [] byte rest one in omega arith
 
@@ -143,6 +145,7 @@ IsReadUpTo-cut text (b ∷ bs) rest (after, begins, one) =
           ∙ sym (append_assoc begins.symbol later.0 rest),
     )
 
+-- the rest of a text is what stands behind the part that was read
 pub IsReadUpTo-drop : (text bs rest : List ℕ) → IsReadUpTo text bs rest → drop (length text - length rest) text ≡ rest
 IsReadUpTo-drop text bs rest one =
     let cut = IsReadUpTo-cut text bs rest one in
@@ -163,6 +166,7 @@ StopsAt-rest text bs rest one stuck some =
       stuck = subst BeginsNoSymbol (sym there) stuck;
     }
 
+-- reading stops at one place
 pub StopsAt-same : (text : List ℕ) (p q : ℕ) → StopsAt text p → StopsAt text q → p ≡ q
 StopsAt-same text p q one two =
     let rest : drop p text ≡ drop q text = (IsReadUpTo-same text one.bytes two.bytes (drop p text) (drop q text)
@@ -172,6 +176,7 @@ StopsAt-same text p q one two =
     let right : q < length text = two.within in
     omega (arith, length-drop p text, length-drop q text)
 
+-- a text at which reading stops is not read
 pub StopsAt-unread : (text : List ℕ) (p : ℕ) (bs : List ℕ) → StopsAt text p → IsReadAs text bs → ⊥
 StopsAt-unread text p bs one two =
     let rest : drop p text ≡ [] = (IsReadUpTo-same text one.bytes bs (drop p text) [] one.read two one.stuck
@@ -187,23 +192,28 @@ digit_ascii digit small = grind (arith, nat_tests)
 digit-first : (digit : ℕ) (rest : List ℕ) → digit_value digit < 16 → digit ∷ rest ≡ encode_utf8 digit ++ rest
 digit-first digit rest small = sym (ap (λ cs. cs ++ rest) (encode_ascii digit (digit_ascii digit small)))
 
+-- a first character that is a hexadecimal digit is its byte
 pub first-digit : (text : List ℕ) (first : ℕ) (after : List ℕ) (digit : ℕ) (rest : List ℕ)
     → text ≡ encode_utf8 first ++ after → text ≡ digit ∷ rest → digit_value digit < 16 → first ≡ digit
 first-digit text first after digit rest one two small = (encode_same first digit after rest (sym one ∙ two
     ∙ digit-first digit rest small)).0
 
+-- a first character that is an x is its byte
 pub first-x : (text : List ℕ) (first : ℕ) (after rest : List ℕ) → text ≡ encode_utf8 first ++ after → text ≡ 0x78 ∷ rest
     → first ≡ 0x78
 first-x text first after rest one two = (encode_same first 0x78 after rest (sym one ∙ two ∙ x-first rest)).0
 
+-- a text whose first character is an x begins with its byte
 pub text-x : (text : List ℕ) (first : ℕ) (after : List ℕ) → text ≡ encode_utf8 first ++ after → first ≡ 0x78
     → text ≡ 0x78 ∷ after
 text-x text first after one is = one ∙ ap (λ c. encode_utf8 c ++ after) is ∙ sym (x-first after)
 
+-- a text whose first character is a backslash begins with its byte
 pub text-backslash : (text : List ℕ) (first : ℕ) (after : List ℕ) → text ≡ encode_utf8 first ++ after → first ≡ 0x5C
     → text ≡ 0x5C ∷ after
 text-backslash text first after one is = one ∙ ap (λ c. encode_utf8 c ++ after) is ∙ sym (backslash-first after)
 
+-- a backslash without an x and two digits begins no symbol
 pub BeginsNoSymbol-escape : (text : List ℕ)
     → ((high low : ℕ) (rest : List ℕ) → text ≡ 0x78 ∷ high ∷ low ∷ rest → digit_value high < 16 → digit_value low < 16
     → ⊥) → BeginsNoSymbol (0x5C ∷ text)
@@ -216,6 +226,7 @@ BeginsNoSymbol-escape text none byte rest one = by_symbol one.is_symbol
         let whole : 0x5C ∷ text ≡ 0x5C ∷ 0x78 ∷ is.high ∷ is.low ∷ rest = one.cut ∙ ap (λ t. t ++ rest) is.spelled in
         none is.high is.low rest (cc) is.high_digit is.low_digit
 
+-- a backslash with an x and two digits begins with the byte that they write
 pub Begins-escape : (text rest : List ℕ) (high low : ℕ) → text ≡ 0x78 ∷ high ∷ low ∷ rest → digit_value high < 16
     → digit_value low < 16 → Begins (0x5C ∷ text) (16 * digit_value high + digit_value low) rest
 Begins-escape text rest high low is first second = record {
@@ -231,6 +242,7 @@ Begins-escape text rest high low is first second = record {
   });
 }
 
+-- a character that the table does not have begins no symbol
 pub BeginsNoSymbol-character : (text : List ℕ) (first : ℕ) (after : List ℕ) → text ≡ encode_utf8 first ++ after
     → (first ≡ 0x5C → ⊥) → None ≡ byte_of first → BeginsNoSymbol text
 BeginsNoSymbol-character text first after is other unknown byte rest one = by_symbol one.is_symbol
@@ -249,6 +261,7 @@ BeginsNoSymbol-character text first after is other unknown byte rest one = by_sy
         other (encode_same first 0x5C after (0x78 ∷ escape.high ∷ escape.low ∷ rest)
         (whole ∙ backslash-first (0x78 ∷ escape.high ∷ escape.low ∷ rest))).0
 
+-- a character of the table begins with its byte
 pub Begins-character : (text : List ℕ) (first : ℕ) (after : List ℕ) (byte : ℕ) → text ≡ encode_utf8 first ++ after
     → Some byte ≡ byte_of first → Begins text byte after
 Begins-character text first after byte is known = record {

@@ -178,6 +178,7 @@ text_turn_sent m air j (Tick true ∷ later) earlier t from to = by_place
     by_place (inl less) rest = inr (rest less)
     by_place (inr past) rest = by_test (turn_of m (text_moves (later ++ earlier)) % 2 == 0) refl past (rw more at to)
 
+-- a text on air is sent whole in twice as many free slots as it has segments
 pub text_sent_whole : (m : ℕ) (later earlier : List Entry) (air : OnAir) → IsOnThroughout text_moves m air later earlier
     → 2 * segment_count (text_body air.bytes) ≤ free_in later
     → (a : ℕ) → a < segment_count (text_body air.bytes)
@@ -241,6 +242,7 @@ turn_of_half zero h = refl
 turn_of_half (suc zero) h = refl
 turn_of_half (suc (suc a)) h = absurd (omega arith)
 
+-- a name on air is sent whole in eight free slots
 pub name_sent_whole : (m : ℕ) (later earlier : List Entry) (air : OnAir) → IsOnThroughout name_moves m air later earlier
     → 8 ≤ free_in later → (a : ℕ) → a < 2
     → IsSentAmong m later earlier (Name air.flag a (segment_of (name_body air.bytes) a))

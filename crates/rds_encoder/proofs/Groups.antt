@@ -20,6 +20,7 @@ use Rattle.rds_encoder.specs.EncoderAt.{with_next}
 use Rattle.rds_encoder.specs.State.{TextState}
 use Rattle.rds_encoder.specs.Stored.{HoldsText, IsStoredText, state_stored, text_stored}
 
+-- the group of a message is sent
 pub group_sent : (station head : Head) (message : Message) (group : Option Group) → head ≡ station
     → IfSome group (IsWritten message head)
     → (IsNone group ↔ (message ≡ Other)) → message ≢ Other → IsSent station (Some message) group
@@ -27,6 +28,7 @@ group_sent station head message None same written none said = said (none.0 refl)
 group_sent station head message (Some g) same written none said = subst (λ (h : Head). IsWritten message h g) same
     written
 
+-- without a group nothing is sent
 pub nothing_sent : (station : Head) (group : Option Group) → group ≡ None → IsSent station None group
 nothing_sent station group none = rw none tt
 
@@ -57,6 +59,7 @@ next_is t s stored = by_bit (is_set t.is_on_air) stored
         )
     by_bit false holds e = absurd (cc)
 
+-- the segment of a text that is due is the next one
 pub text_due : (m : ℕ) (moves : List Move) (t : StoredText) (o : Option OnAir) (x bytes : List ℕ) (flag : Bool) (a : ℕ)
     → IsStoredText t → text_stored t ≡ option_map (with_next m moves) o
     → Some x ≡ option_map bytes_of o → ((air : OnAir) → o ≡ Some air → flag ≡ air.flag) → a ≡ t.next
@@ -69,6 +72,7 @@ text_due m moves t (Some air) x bytes flag a stored on is flags at same =
     let bytes_are = same (subst (λ (y : List ℕ). t.next < segment_count (text_body y)) (sym mine) next.1) in
     rw (flags air refl, at, bytes_are, mine, next.0) refl
 
+-- the segment of a name that is due is the one of its turn
 pub name_due : (a : ℕ) (o : Option OnAir) (x bytes : List ℕ) (flag : Bool) (place : ℕ) → Some x ≡ option_map bytes_of o
     → ((air : OnAir) → o ≡ Some air → flag ≡ air.flag)
     → place ≡ a → bytes ≡ segment_of (name_body x) a → Some (Name flag place bytes) ≡ name_segment a o
@@ -82,6 +86,7 @@ bit_back : (b : Bool) (n : ℕ) → n ≡ from_bool b → is_set n ≡ b
 bit_back true n e = rw e refl
 bit_back false n e = rw e refl
 
+-- the head of a group is read back
 pub head_back : (h : Head) (tp pty : ℕ) → tp ≡ from_bool h.tp → pty ≡ h.pty
     → record { pi = h.pi; tp = is_set tp; pty = pty } ≡ h
 head_back h tp pty e f = λ i. record { pi = h.pi; tp = bit_back h.tp tp e i; pty = f i }

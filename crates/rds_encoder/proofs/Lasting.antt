@@ -24,6 +24,7 @@ one_more b plan air slot h = record {
   covers = h.covers;
 }
 
+-- what is on air stays in the plan
 pub stays_planned : (m end : ℕ) (later : List Move) (free : Bool) (earlier : List Move) (air : OnAir)
     → on_air m earlier ≡ Some air → slot_of earlier ≤ end
     → HasOnAir (plan_of m end (later ++ End free ∷ earlier)) air (slot_of earlier)
@@ -73,6 +74,7 @@ back m (Set x) before air since on = by_reply (is_ok (reply_to m before)) refl o
         absurd (omega (arith, same))
     by_reply false r o = rw r at o
 
+-- what is on air since an earlier slot was on air in that slot
 pub was_on_air : (m : ℕ) (later earlier : List Move) (air : OnAir) → on_air m (later ++ earlier) ≡ Some air
     → air.start < slot_of earlier → on_air m earlier ≡ Some air
 was_on_air m [] earlier air on since = on

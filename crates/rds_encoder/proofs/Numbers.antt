@@ -5,11 +5,13 @@ use Rattle.std.proofs.lemmas.Bool.{cases_lt}
 use Rattle.rds_encoder.specs.Plan.{Broadcast, HasNumber}
 use Rattle.rds_encoder.specs.Spaced.{IsSpaced}
 
+-- the number of a broadcast is below the length of the plan
 pub below : (plan : List Broadcast) (k : ℕ) (b : Broadcast) → HasNumber plan k b → k < length plan
 below [] k b p = absurd p
 below (c ∷ older) k b (inl p) = omega arith
 below (c ∷ older) k b (inr p) = omega (arith, below older k b p)
 
+-- a number names one broadcast
 pub only_one : (plan : List Broadcast) (k : ℕ) (a b : Broadcast) → HasNumber plan k a → HasNumber plan k b → a ≡ b
 only_one [] k a b p q = absurd p
 only_one (c ∷ older) k a b (inl p) (inl q) = p.1 ∙ sym q.1
@@ -17,6 +19,7 @@ only_one (c ∷ older) k a b (inl p) (inr q) = absurd (omega (arith, below older
 only_one (c ∷ older) k a b (inr p) (inl q) = absurd (omega (arith, below older k a p))
 only_one (c ∷ older) k a b (inr p) (inr q) = only_one older k a b p q
 
+-- each number below the length names a broadcast
 pub there : (plan : List Broadcast) (k : ℕ) → k < length plan → (b : Broadcast) × HasNumber plan k b
 there [] k h = absurd (omega arith)
 there (c ∷ older) k h = elim (cases_lt k (length older)) [
@@ -46,6 +49,7 @@ ordered_by d plan (suc n) k a b s p q =
           q),
     )
 
+-- a broadcast with a lower number ended before one with a higher number starts
 pub ordered : (d : ℕ) (plan : List Broadcast) (k l : ℕ) (a b : Broadcast) → IsSpaced d plan → HasNumber plan k a
     → HasNumber plan l b → k < l → a.end < b.start
 ordered d plan k l a b s p q h = (let e : l ≡ k + 1 + (l - (k + 1)) = omega arith in ordered_by d plan (l - (k + 1)) k a
@@ -65,6 +69,7 @@ far_by d plan (suc n) k a b s p q =
           q),
     )
 
+-- two broadcasts with one between them are d slots apart
 pub far_apart : (d : ℕ) (plan : List Broadcast) (k l : ℕ) (a b : Broadcast) → IsSpaced d plan → HasNumber plan k a
     → HasNumber plan l b → k + 2 ≤ l → a.end + d ≤ b.start
 far_apart d plan k l a b s p q h = (let e : l ≡ k + 2 + (l - (k + 2)) = omega arith in far_by d plan (l - (k + 2)) k a b

@@ -36,6 +36,7 @@ other_parity n = by_rest (n % 2) refl (omega arith)
         rw (e, next) refl
     by_rest (suc (suc r)) e h = absurd (omega arith)
 
+-- a bool is its negation's negation
 pub not_not : (b : Bool) → b ≡ not (not b)
 not_not true = refl
 not_not false = refl

@@ -57,6 +57,7 @@ pub no_text : (pair : PairFields) (o : Option OnAir) → None ≡ option_map byt
 no_text pair None e = refl
 no_text pair (Some air) e = absurd (cc)
 
+-- tags whose first one ends outside the text are refused
 pub one_out : (pair : PairFields) (o : Option OnAir) (x : List ℕ) → Some x ≡ option_map bytes_of o
     → ends_in (length x) pair.one ≡ false → Err (OutOfText One) ≡ fitting_reply pair o
 one_out pair None x e out = absurd (cc)
@@ -64,6 +65,7 @@ one_out pair (Some air) x e out =
     let same : x ≡ air.bytes = cc in
     rw (rw same at out) refl
 
+-- tags whose second one ends outside the text are refused
 pub two_out : (pair : PairFields) (o : Option OnAir) (x : List ℕ) → Some x ≡ option_map bytes_of o
     → ends_in (length x) pair.one ≡ true → ends_in (length x) pair.two ≡ false
     → Err (OutOfText Two) ≡ fitting_reply pair o
@@ -72,6 +74,7 @@ two_out pair (Some air) x e within out =
     let same : x ≡ air.bytes = cc in
     rw (rw same at within, rw same at out) refl
 
+-- tags that both end in the text are accepted
 pub both_in : (pair : PairFields) (o : Option OnAir) (x : List ℕ) → Some x ≡ option_map bytes_of o
     → ends_in (length x) pair.one ≡ true → ends_in (length x) pair.two ≡ true
     → Ok tt ≡ fitting_reply pair o

@@ -38,6 +38,7 @@ same_slot (SetName x ∷ before) = same_slot before
 same_slot (SetTags pair ∷ before) = same_slot before
 same_slot (Tick free ∷ before) = ap (λ n. n + 1) (same_slot before)
 
+-- texts and names restart in the same slot
 pub same_restart : (entries : List Entry) → restart_before (name_moves entries) ≡ restart_before (text_moves entries)
 same_restart [] = refl
 same_restart (Restart ∷ before) = same_slot before
@@ -81,6 +82,7 @@ pub names_in_silence : (m : ℕ) (entries : List Entry) (r : Refusal)
     → reply_to m (name_moves entries) ≡ Err r
 names_in_silence m entries r e = names_silent m entries _ ∙ silent_first m _ _ r _ (sym e)
 
+-- after the silence the reply to a name depends on the one before alone
 pub names_after_silence : (m : ℕ) (entries : List Entry)
     → Ok tt ≡ unless_silent m (slot_of (text_moves entries)) (restart_before (text_moves entries)) (Ok tt)
     → reply_to m (name_moves entries) ≡ held_reply m (slot_of (name_moves entries))

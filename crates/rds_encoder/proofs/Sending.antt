@@ -80,6 +80,7 @@ text_of_air m moves f a x (Some air) on e =
       },
     )
 
+-- a segment of a text that is sent is of the text on air
 pub text_sent : (m : ℕ) (free : Bool) (before : List Entry) (f : Bool) (a : ℕ) (x : List ℕ)
     → sent_in m free before ≡ Some (Text f a x)
     → (air : OnAir) × (on_air m (text_moves before) ≡ Some air) × IsSegmentOf text_body f a x air
@@ -121,6 +122,7 @@ name_of_air moves m n f a x (Some air) few on e =
       },
     )
 
+-- a segment of a name that is sent is of the name on air
 pub name_sent : (m : ℕ) (free : Bool) (before : List Entry) (f : Bool) (a : ℕ) (x : List ℕ)
     → sent_in m free before ≡ Some (Name f a x)
     → (air : OnAir) × (on_air m (name_moves before) ≡ Some air) × IsSegmentOf name_body f a x air
@@ -161,6 +163,7 @@ tags_of_air m before pair (Some air) (Some p) on has e =
     ≡ Some (Tags pair) → AreSentOf m before pair)
     (λ t e. (air, on, (let same : p ≡ pair = (cc) in rw (← same) has), leb-true _ _ t)) (λ f e. absurd (cc)) e
 
+-- tags that are sent are those on air
 pub tags_sent : (m : ℕ) (free : Bool) (before : List Entry) (pair : PairFields)
     → sent_in m free before ≡ Some (Tags pair) → AreSentOf m before pair
 tags_sent m free before pair e = by_turn (turn_in (turn_of m (text_moves before) % 8))
@@ -203,6 +206,7 @@ loud : (m now start : ℕ) (reply : Reply) → is_ok (unless_silent m now start 
 loud m now start reply = cond_both (nat_lt now (start + m)) _ _ (λ (r : Reply). is_ok r ≡ true → is_ok reply ≡ true)
     (λ t e. absurd (cc)) (λ f e. e)
 
+-- tags on air end in the text on air
 pub pair_fits : (m : ℕ) (entries : List Entry) (pair : PairFields) → pair_on_air m entries ≡ Some pair
     → EndsInText m entries pair
 pair_fits m [] pair on = absurd (cc)

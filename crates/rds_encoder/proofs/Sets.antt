@@ -64,6 +64,7 @@ name_accepted station m e track entries x st ok back on =
       pair = st.pair;
     }
 
+-- a name that is refused changes nothing
 pub name_refused : (station : Head) (m : ℕ) (e : EncoderState) (entries : List Entry) (x : List ℕ)
     → EncoderAt station m e entries → is_ok (reply_to m (name_moves entries)) ≡ false
     → EncoderAt station m e (SetName x ∷ entries)

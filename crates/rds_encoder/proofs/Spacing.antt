@@ -184,6 +184,7 @@ began_earlier m moves lasts ok = by_air (on_air m moves) refl
     by_air None on = tt
     by_air (Some air) on = omega (arith, long_on_air m moves air ok on, lasts)
 
+-- the broadcasts of the moves of an encoder are spaced
 pub spaced : (m end : ℕ) (moves : List Move) → 0 < m → RestartsComeFirst moves → BeganBy end (on_air m moves)
     → IsSpaced m (plan_of m end moves)
 spaced m end [] lasts first by = record {

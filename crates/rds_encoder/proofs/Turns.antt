@@ -124,6 +124,7 @@ text_or_other (suc (suc (suc (suc (suc (suc zero)))))) h = inl (refl, refl)
 text_or_other (suc (suc (suc (suc (suc (suc (suc zero))))))) h = inr (refl, λ e. cc)
 text_or_other (suc (suc (suc (suc (suc (suc (suc (suc n)))))))) h = absurd (omega arith)
 
+-- each second turn is one of texts
 pub even_is_text : (number : ℕ) → (number % 2 ≡ 0) ↔ (turn_in (number % 8) ≡ Text)
 even_is_text number = by_turn (text_or_other (number % 8) (omega arith))
   where
@@ -143,6 +144,7 @@ pub record AfterTurn (station : Head) (m : ℕ) (free : Bool) (entries : List En
   pub name : Follows m bytes_of e.name (name_moves entries)
   pub pair : e.pair ≡ pair_on_air m entries
 
+-- a slot without a turn ends like a slot after its turn, with nothing changed
 pub no_turn : (station : Head) (m : ℕ) (e : EncoderState) (free : Bool) (entries : List Entry)
     → EncoderAt station m e entries → is_turn m free (text_moves entries) ≡ false → AfterTurn station m free entries e
 no_turn station m e free entries st absent = record {
@@ -156,6 +158,7 @@ no_turn station m e free entries st absent = record {
   pair = st.pair;
 }
 
+-- after a turn the next segment or tags are due
 pub turn_over : (station : Head) (m : ℕ) (old new : EncoderState) (free : Bool) (entries : List Entry)
     → EncoderAt station m old entries → is_turn m free (text_moves entries) ≡ true
     → (turn_in old.round ≡ Text

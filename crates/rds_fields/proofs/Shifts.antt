@@ -19,6 +19,7 @@ fields_of n = record {
   extra_two = n % 32;
 }
 
+-- the fields of a number fit their bits
 pub fields_of-fit : (n : ℕ) → FitsBits (fields_of n)
 fields_of-fit n = record {
   toggle = omega arith;
@@ -31,6 +32,7 @@ fields_of-fit n = record {
   extra_two = omega arith;
 }
 
+-- the bits of the fields of a number are the number
 pub bits_of-fields_of : (n : ℕ) → n < 2 ^ 37 → n ≡ field_bits (fields_of n)
 bits_of-fields_of n h = omega arith
 

@@ -4,6 +4,7 @@ use Rattle.rds_fields.specs.Tag.{TagFields, PairFields, IsTag, IsPair}
 use Rattle.rds_fields.specs.Bits.{FitsBits, field_bits, sent_of, IsRead, SpellsPair}
 use Rattle.rds_block.specs.SecondWord.{from_bool-lt}
 
+-- the fields of a pair of tags fit their bits
 pub sent_of-fit : (p : PairFields) → IsPair p → FitsBits (sent_of p)
 sent_of-fit p h = record {
   toggle = from_bool-lt p.toggle;
@@ -25,6 +26,7 @@ IsRead-self t h = record {
   dummy_extra = h.dummy_extra;
 }
 
+-- the bits of the fields of a pair spell the pair
 pub SpellsPair-sent_of : (p : PairFields) (n : ℕ) → IsPair p → n ≡ field_bits (sent_of p) → SpellsPair p n (sent_of p)
 SpellsPair-sent_of p n h e = record {
   fits = sent_of-fit p h;

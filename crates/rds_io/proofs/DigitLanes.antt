@@ -104,6 +104,7 @@ has_word text at a b c d =
       word = rw (p.1, q.1, r.1, s.1) (weighed_is _ _ _ _ p.0 q.0 r.0 s.0);
     }
 
+-- a word that is read fits sixteen bits
 pub word_fits : (text : List ℕ) (at : ℕ) → HasWord text at (word_of text at) → word_of text at < 65536
 word_fits text at has = omega (arith, has.first, has.second, has.third, has.fourth, has.word)
 
@@ -123,6 +124,7 @@ abbrev pub HasFour : List ℕ → Type 0
 HasFour text = HasWord text 0 (word_of text 0) × HasWord text 5 (word_of text 5) × HasWord text 10 (word_of text 10)
     × HasWord text 15 (word_of text 15)
 
+-- four bytes that all pass are four digits
 pub has_four : (text : List ℕ) → AreBytes text → AllPass text → HasFour text
 has_four text bytes mask =
     let lanes = passes (slice_index text 0) ∷ passes (slice_index text 1) ∷ passes (slice_index text 2)

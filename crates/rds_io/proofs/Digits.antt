@@ -25,6 +25,7 @@ spelled text at =
     + marked_value (slice_index text (at + 2)) * 16
     + marked_value (slice_index text (at + 3))
 
+-- four hexadecimal digits spell a word
 pub has_word : (text : List ℕ) (at : ℕ) → spelled text at < 65536 → HasWord text at (spelled text at)
 has_word text at small = by (marked_or_not (slice_index text at)) (marked_or_not (slice_index text (at + 1)))
     (marked_or_not (slice_index text (at + 2))) (marked_or_not (slice_index text (at + 3)))
@@ -38,6 +39,7 @@ has_word text at small = by (marked_or_not (slice_index text at)) (marked_or_not
     by (inl a) (inl b) (inl c) (inl d) = record
         { first = a.0; second = b.0; third = c.0; fourth = d.0; word = omega (arith, a.1, b.1, c.1, d.1) }
 
+-- other bytes spell none
 pub has_no_word : (text : List ℕ) (at w : ℕ) → 65536 ≤ spelled text at → HasWord text at w → ⊥
 has_no_word text at w large has = by (marked_or_not (slice_index text at)) (marked_or_not (slice_index text (at + 1)))
     (marked_or_not (slice_index text (at + 2))) (marked_or_not (slice_index text (at + 3)))

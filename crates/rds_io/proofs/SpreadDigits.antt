@@ -61,6 +61,7 @@ bytes : (n a b c d above : ℕ) → a < 16 → b < 16 → c < 16 → d < 16
     × (n / 256 / 256 / 256 / 256 ≡ above)
 bytes n a b c d above ha hb hc hd e = (omega arith, omega arith, omega arith, omega arith, omega arith)
 
+-- the spread digits of a word show it
 pub shows : (n w above : ℕ) → w < 65536 → n ≡ spread w + 4294967296 * above → Shows n w above
 shows n w above h e =
     let is = spread_is w h in

@@ -17,6 +17,7 @@ pub text_of-more : (closed : List Line) (begun bytes : Line)
 text_of-more [] begun bytes = refl
 text_of-more (line ∷ before) begun bytes = append_assoc (text_of before line) (line_feed ∷ begun) bytes
 
+-- the bytes that are kept of a line stay the same if more come
 pub kept_of_more : (begun bytes : Line) → take 60 (take 60 begun ++ bytes) ≡ take 60 (begun ++ bytes)
 kept_of_more begun bytes = elim (few_or_many (length begun)) [
   | inl few ↦ ap (λ (l : Line). take 60 (l ++ bytes)) (take_all 60 begun few)

@@ -162,6 +162,7 @@ said_other : (pi : Option ℕ) (line : Line) (said : LogLine)
     → LineSays line said → ((group : Group) → said ≡ Slot (Some group) → ⊥) → IsLeftOut pi line → ⊥
 said_other pi line said says other out = other out.group (same_said line said (Slot (Some out.group)) says out.says)
 
+-- a line that is no slot is no group that is left out
 pub skipped : (pi : Option ℕ) (line : Line) → LineSays line Skip → IsLeftOut pi line → ⊥
 skipped pi line says = said_other pi line Skip says (λ group same. absurd (cc))
 
@@ -263,6 +264,7 @@ fails_at how s lines v so_far same fill lose = record {
   failed = lose.failed;
 }
 
+-- at a slot with a time, a failed write leaves a first part of its output
 pub fails_at_slot : (how : Filling) (s : Filler) (v : Traffic) (lines : List Line) (total : List ℕ) (line : Line)
     (slot : Option Group) (stamp : Stamp) (first : List ℕ)
     → LineSays line (Slot slot) → first ≡ take deciding line → time_of first ≡ Some stamp

@@ -122,11 +122,13 @@ first_of_said line said says = elim (either (length line)) [
 pub bad_by_first : (line : Line) → IsBad (take 60 line) → IsBad line
 bad_by_first line bad said says = bad said (first_of_said line said says)
 
+-- what the first bytes of a line say, the line says
 pub some_by_first : (line : Line) (said : Option LogLine) → IfSome said (LineSays (take 60 line))
     → IfSome said (LineSays line)
 some_by_first line None says = tt
 some_by_first line (Some said) says = said_of_first line said says
 
+-- a line whose first bytes are malformed is malformed
 pub none_by_first : (line : Line) (said : Option LogLine) → IfNone said (IsBad (take 60 line))
     → IfNone said (IsBad line)
 none_by_first line None bad = bad_by_first line bad

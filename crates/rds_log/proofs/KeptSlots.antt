@@ -8,6 +8,7 @@ use Rattle.rds_log.specs.LogWrites.{AreSlots}
 use Rattle.rds_log.specs.declared.log_line.LogLine.{LogLine}
 use Rattle.rds_log.specs.declared.log_line.LogLine.TheVariants.{Skip, Slot}
 
+-- of an empty log no slot is kept
 pub keeps_none : (log : List (Option Group)) → log ≡ [] → AreSlots [] (reverse log)
 keeps_none log none = ap reverse none
 

@@ -22,6 +22,7 @@ a_feed b e = grind (arith, nat_tests)
 abbrev pub feeds : List ℕ → ℕ → ℕ
 feeds bytes from = mask_l (map (λ b. eqb b 10) (chunk from 16 bytes))
 
+-- the mask of sixteen lanes is the mask of the line feeds in them
 pub feeds_of_lanes : (bytes : List ℕ) (from : ℕ) → from + 16 ≤ length bytes
     → mask_l (map (top 7) (zip2 (λ a b. cond (eqb a b) 255 0) (chunk from 16 bytes) (replicate 16 10))) % 2 ^ 64
     ≡ feeds bytes from

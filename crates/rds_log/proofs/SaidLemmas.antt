@@ -6,6 +6,7 @@ use Rattle.rds_log.specs.LineSays.{IsSkipped, LineSays, SaysSlot}
 use Rattle.rds_log.specs.declared.log_line.LogLine.{LogLine}
 use Rattle.rds_log.specs.declared.log_line.LogLine.TheVariants.{Skip, Slot}
 
+-- a line that is not skipped and says no slot says nothing
 pub bad_by_slot : (line : Line) → (IsSkipped line → ⊥) → ((slot : Option Group) → SaysSlot line slot → ⊥)
     → (said : LogLine) → LineSays line said → ⊥
 bad_by_slot line no_mark no_slot Skip h = no_mark h

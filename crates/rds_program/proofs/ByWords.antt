@@ -64,6 +64,7 @@ none_answered test words none answered = let bad : false ≡ true = rw none at a
 one_asked : {x y : Requested} → Some x ≡ Some y → x ≡ y
 one_asked e = cc
 
+-- what a run promises for the request that was read, it promises for the arguments
 pub by_words : (words : List (List ℕ)) (read : Result (Option Request) Error) (Engine : Task → List ℕ → Tuning → Type 0)
     (Rests : Type 0) (w : Traffic) (status : ℕ)
     → ReadAs words read → RunsRead read Engine Rests w status → RunsWords words Engine Rests w status

@@ -43,9 +43,11 @@ age_none m rest s none = cond-true (s.mask == 0) m (m - rest - s.later) (eq-eqb 
 pub young : (m rest : ℕ) (s : StoredSegments) → 0 < rest → rest ≤ m → s.mask ≢ 0 → age_stored m rest s < m
 young m rest s rests soon some = (let age = age_held m rest s some in omega (arith, age, rests, soon))
 
+-- segments younger than the dwell are held
 pub some_held : (m rest : ℕ) (s : StoredSegments) → age_stored m rest s < m → s.mask ≢ 0
 some_held m rest s l none = (let age = age_none m rest s none in omega (arith, age, l))
 
+-- segments as old as the dwell are not held
 pub none_held : (m rest : ℕ) (s : StoredSegments) → 0 < rest → rest ≤ m → (age_stored m rest s < m → ⊥) → s.mask ≡ 0
 none_held m rest s rests soon old = by (cases_eq s.mask 0)
   where
@@ -65,6 +67,7 @@ taken_held mask bytes cells a b now none =
     in
     absurd (cc)
 
+-- a segment that is taken has age 0
 pub age_taken : (m rest : ℕ) (s : StoredSegments) (cells : Cells) (a : ℕ) (b : List ℕ)
     → held_cells s.mask s.bytes ≡ insert cells a b → s.later ≡ m - rest → age_stored m rest s ≡ 0
 age_taken m rest s cells a b now later = (let age = age_held m rest s (taken_held s.mask s.bytes cells a b now)
@@ -219,6 +222,7 @@ look_older m rest s one later lasts h =
     looked m rest s one (record one { later = later }) lasts h.within h.stays h.due h.soon
     (λ i. record one { later = h.is i })
 
+-- a stored pair that is not there is none
 pub no_pair : (p : StoredPair) → p.is_there ≡ 0 → pair_stored p ≡ None
 no_pair p none = cond-false (is_set p.is_there) (Some (fields_stored p)) None (ap not (eq-eqb p.is_there 0 none))
 

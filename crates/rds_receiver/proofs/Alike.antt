@@ -38,6 +38,7 @@ nothing_alike IsWhole cells after before now (Some x) = (
       (now x whole),
 )
 
+-- what is alike to the same is alike
 pub alike_by : (a b c : DisplayState) → ShowsAlike a b → ShowsAlike b c → ShowsAlike a c
 alike_by a b c p q = record {
   text = λ shown. (λ h. (q.text shown).0 ((p.text shown).0 h), λ h. (p.text shown).1 ((q.text shown).1 h));

@@ -187,6 +187,7 @@ is_held m n segs held st young = by (run m n segs) refl st
     by [] e st = absurd (omega (arith, st.age, young))
     by (g ∷ older) e st = (g, older, e)
 
+-- after the dwell nothing is held
 pub is_not_held : (m n : ℕ) (segs : List Segment) (held : HeldSegments) → HoldsRun m n (run m n segs) held
     → (held.age < m → ⊥) → run m n segs ≡ []
 is_not_held m n segs held st old = by (run m n segs) refl st
@@ -625,6 +626,7 @@ message_counted window m first heard between new message rest hears st = record 
       (with_display window m (first + length heard) first between (Some message ∷ heard) new.display st.lasts);
 }
 
+-- a message that does not count changes nothing
 pub message_not_counted : (window : Option ℕ) (m first : ℕ) (heard : List (Option Message)) (s : ReceiverState)
     (message : Message) → Counts window m first s heard message false
     → HoldsBy window m (first + length heard) first s (Some message ∷ heard)

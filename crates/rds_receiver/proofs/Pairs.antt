@@ -33,6 +33,7 @@ before_below m n s f [] all = tt
 before_below m n s f (g ∷ older) all = below_if n (is_same f g.fragment.flag && nat_lt s (g.slot + m))
     (g ∷ run_before m f g.slot older) (all.0, before_below m n g.slot f older all.1)
 
+-- the run of segments below a slot is below it
 pub run_below : (m n t : ℕ) (segs : List Segment) → AllBelow n segs → AllBelow n (run m t segs)
 run_below m n t [] all = tt
 run_below m n t (g ∷ older) all = below_if n (nat_lt t (g.slot + m)) (g ∷ run_before m g.fragment.flag g.slot older)
@@ -43,6 +44,7 @@ with_below : (slot n : ℕ) (o : Option Fragment) (segs : List Segment) → slot
 with_below slot n None segs h all = below_later slot n segs (omega arith) all
 with_below slot n (Some p) segs h all = (h, below_later slot n segs (omega arith) all)
 
+-- all segments were heard before now
 pub segments_below : (pick : Message → Option Fragment) (first : ℕ) (heard : List (Option Message))
     → AllBelow (first + length heard) (segments pick first heard)
 segments_below pick first [] = tt
@@ -86,11 +88,13 @@ pub pair_of_none : (first : ℕ) (begins : Option ℕ) (heard : List (Option Mes
 pair_of_none first None heard = refl
 pair_of_none first (Some since) heard = refl
 
+-- another message changes no pair of tags
 pub pair_of_other : (first : ℕ) (begins : Option ℕ) (heard : List (Option Message))
     → pair_from first begins heard ≡ pair_from first begins (Some Other ∷ heard)
 pair_of_other first None heard = refl
 pair_of_other first (Some since) heard = refl
 
+-- a segment of a name changes no pair of tags
 pub pair_of_name : (first : ℕ) (begins : Option ℕ) (heard : List (Option Message)) (f : Bool) (a : ℕ) (b : List ℕ)
     → pair_from first begins heard ≡ pair_from first begins (Some (Name f a b) ∷ heard)
 pair_of_name first None heard f a b = refl
@@ -110,6 +114,7 @@ tags_taken_by : (m n first : ℕ) (the_run : List Segment) (heard : List (Option
 tags_taken_by m n first [] heard pair held all st young h = absurd (omega (arith, st.age))
 tags_taken_by m n first (g ∷ older) heard pair held all st young h = tags_known first g older heard pair all h
 
+-- tags that come while a text is held are the held pair
 pub tags_taken : (m n first : ℕ) (pick : Message → Option Fragment) (heard : List (Option Message)) (pair : PairFields)
     (held : HeldSegments)
     → HoldsRun m n (run m n (segments pick first heard)) held → held.age < m → is_known heard ≡ true
@@ -124,6 +129,7 @@ pub is_held_pair : (held : Option PairFields) (pair : PairFields) → option_eq 
 is_held_pair None pair e = absurd (grind (arith, e))
 is_held_pair (Some held) pair e = ap Some (grind (arith, e, nat_tests))
 
+-- the held pair is tested as equal
 pub held_pair_is : (held : Option PairFields) (pair : PairFields) → held ≡ Some pair
     → option_eq eq-value.it held (Some pair) ≡ true
 held_pair_is None pair e = absurd (cc)

@@ -11,16 +11,20 @@ use Rattle.rds_receiver.specs.Run.{cells_of, is_same, run, run_at, run_before}
 use Rattle.rds_receiver.specs.Holds.{HasFlag, HoldsRun, newest_slot}
 use Rattle.rds_receiver.specs.State.{HeldSegments}
 
+-- the test of a smaller number is true
 pub test_true : (a b : ℕ) → a < b → nat_lt a b ≡ true
 test_true a b h = grind (arith, nat_tests)
 
+-- the test of a number that is not smaller is false
 pub test_false : (a b : ℕ) → b ≤ a → nat_lt a b ≡ false
 test_false a b h = grind (arith, nat_tests)
 
+-- a test and a test that fails fail together
 pub and_false : (b : Bool) → (b && false) ≡ false
 and_false true = refl
 and_false false = refl
 
+-- a flag is the same as itself
 pub same_is : (f : Bool) → is_same f f ≡ true
 same_is true = refl
 same_is false = refl
@@ -31,6 +35,7 @@ other_is false false h = absurd (h refl)
 other_is true false h = refl
 other_is false true h = refl
 
+-- two flags are equal or not
 pub equal_or_not : (f g : Bool) → (f ≡ g) ⊎ (f ≢ g)
 equal_or_not true true = inl refl
 equal_or_not false false = inl refl

@@ -22,11 +22,13 @@ pub text_cells : (r : DisplayState)
 text_cells r m first heard s = s.text.cells ∙ ap (λ (xs : List Segment). cells_of xs) (run_at_newest text_fragment m
     first heard)
 
+-- the cells of a name are those of its run
 pub name_cells : (r : DisplayState)
     → WhatItShows r (λ m first heard. r.name.cells ≡ cells_of (run_at name_fragment m first heard))
 name_cells r m first heard s = s.name.cells ∙ ap (λ (xs : List Segment). cells_of xs) (run_at_newest name_fragment m
     first heard)
 
+-- the pair that is shown is the held one
 pub pair_is : (r : DisplayState) → WhatItShows r (λ m first heard. r.pair ≡ pair_held m first heard)
 pair_is r m first heard s = s.pair ∙ ap (λ (xs : List Segment). pair_from first (begins_in xs) heard)
     (run_at_newest text_fragment m first heard)
@@ -37,6 +39,7 @@ pub text_shown : (r : DisplayState) (shown : Option (List ℕ)) → IsShown IsWh
 text_shown r shown is m first heard s = subst (λ (cells : Cells). IsShown IsWholeText cells shown)
     (text_cells r m first heard s) is
 
+-- the name that is shown is the whole one
 pub name_shown : (r : DisplayState) (shown : Option (List ℕ)) → IsShown IsWholeName r.name.cells shown
     → WhatItShows r (λ m first heard. IsNameShown m first heard shown)
 name_shown r shown is m first heard s = subst (λ (cells : Cells). IsShown IsWholeName cells shown)

@@ -19,6 +19,7 @@ use Rattle.rds_safety.specs.Lawful.{IsFragmentOf, Kind, names, texts}
 use Rattle.rds_safety.proofs.OneBroadcast.{LiesInOne}
 use Rattle.rds_safety.proofs.Told.{AreOf}
 
+-- the cells with one more cell have it at its address, and the others as before
 pub get-put : (cells : Cells) (k : ℕ) (cell : List ℕ) (a : ℕ)
     → get (insert cells k cell) a ≡ cond (nat_eq a k) (Some cell) (get cells a)
 get-put cells k cell a = get-insert nat_cmp_total cells k cell a ∙ ap (λ same. cond same (Some cell) (get cells a))
@@ -52,9 +53,11 @@ pub record IsService (kind : Kind) (IsWhole : Cells → List ℕ → Type 0) : T
       → y ≡ x
   pub none : (x : List ℕ) → IsWhole empty x → ⊥
 
+-- a whole text has the bytes of its value
 pub text_service : IsService texts IsWholeText
 text_service = record { own = own_text; none = no_text_of_none }
 
+-- a whole name has the bytes of its value
 pub name_service : IsService names IsWholeName
 name_service = record { own = own_name; none = no_name_of_none }
 
@@ -62,6 +65,7 @@ name_service = record { own = own_name; none = no_name_of_none }
 abbrev pub HasValues : Kind → List Broadcast → Type 0
 HasValues kind plan = (number : ℕ) (b : Broadcast) → HasNumber plan number b → kind.IsValue b.bytes
 
+-- what is whole in a run that lies in one broadcast is the value of that broadcast
 pub bytes_of_run : (d t : ℕ) (kind : Kind) (IsWhole : Cells → List ℕ → Type 0) (plan : List Broadcast) (input : Input)
     (g : Segment) (older : List Segment) (x : List ℕ)
     → IsService kind IsWhole → HasValues kind plan

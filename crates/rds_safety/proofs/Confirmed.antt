@@ -235,6 +235,7 @@ pub record IsFromOneOfTwo (w m first t s : ℕ) (heard : List (Option Message)) 
   pub confirms : HasEntry first (confirmed w m first heard) t (Some message)
   pub one : IsOneOfTwo w first t s heard origins message
 
+-- what counts as heard twice comes from one of the two times
 pub from_one_of_two : (w m first : ℕ) (heard : List (Option Message)) (origins : List (Option ℕ)) (t s : ℕ)
     → length origins ≡ length heard
     → HasEntry first (origins_of_two w m first heard origins) t (Some s) → IsFromOneOfTwo w m first t s heard origins
@@ -664,10 +665,12 @@ HasReceipts pick =
     → receipt_before w m first before confirms (Some message) ≡ segment_again w (first + length before) p.flag p.bytes
     (last_at p.address (segments pick first before))
 
+-- what counts as heard twice keeps the receipts of texts
 pub text_receipts : HasReceipts text_fragment
 text_receipts w m first before confirms message p picks =
     ap (λ (x : Message). receipt_before w m first before confirms (Some x)) (text_message message p picks)
 
+-- what counts as heard twice keeps the receipts of names
 pub name_receipts : HasReceipts name_fragment
 name_receipts w m first before confirms message p picks =
     ap (λ (x : Message). receipt_before w m first before confirms (Some x)) (name_message message p picks)

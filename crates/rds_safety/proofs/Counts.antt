@@ -6,6 +6,7 @@ use Rattle.std.proofs.lemmas.List.{length-replicate}
 use Rattle.rds_assembly.specs.Body.{name_body, segment_count, text_body}
 use Rattle.rds_assembly.specs.Value.{IsName, IsText}
 
+-- a text has a segment
 pub one_segment : (x : List ℕ) → 0 < segment_count (text_body x)
 one_segment x = by (nat_eq (length x) 64) refl
   where
@@ -17,6 +18,7 @@ one_segment x = by (nat_eq (length x) 64) refl
         rw e (omega (arith, long, spaces))
         )
 
+-- a text has at most sixteen segments
 pub few_segments : (x : List ℕ) → IsText x → segment_count (text_body x) ≤ 16
 few_segments x t = by (nat_eq (length x) 64) refl
   where
@@ -30,6 +32,7 @@ few_segments x t = by (nat_eq (length x) 64) refl
         rw e (omega (arith, long, spaces, other))
         )
 
+-- a name has two segments
 pub two_segments : (x : List ℕ) → IsName x → segment_count (name_body x) ≡ 2
 two_segments x n = omega (
   arith,

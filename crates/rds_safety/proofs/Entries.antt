@@ -32,6 +32,7 @@ entry_beside first (n ∷ before) (y ∷ ys) t x e (inl a) = (let shorter : leng
 entry_beside first (n ∷ before) (y ∷ ys) t x e (inr a) = (let w = entry_beside first before ys t x (omega arith) a
     in (w.0, inr w.1))
 
+-- a log has as many marks as slots
 pub marks_long : (of : Option Message → Mark) (log : List (Option Message)) → length (marks of log) ≡ length log
 marks_long of [] = refl
 marks_long of (x ∷ log) = ap suc (marks_long of log)
@@ -49,6 +50,7 @@ pub record Arrival (log : List (Option Message)) (input : Input) (t : ℕ) (mess
   pub from : CameFrom input t slot
   pub sent : SentIn log slot (Some message)
 
+-- a message with a mark that was heard arrived from a slot of the log
 pub arrival : (log : List (Option Message)) (input : Input) (t : ℕ) (message : Message) → IsHeard log input
     → (IsUnmarked (Some message) → ⊥) → HasEntry input.first input.heard t (Some message) → Arrival log input t message
 arrival log input t message hears marked a = by (entry_beside input.first input.heard input.origins t (Some message)

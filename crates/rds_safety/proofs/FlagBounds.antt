@@ -66,6 +66,7 @@ at_one_or_more j = record {
   of_none = of_none (j + 1);
 }
 
+-- without a turn of the flag from each text to the next, a radio with the flag alone can show a mix
 pub one_flag_twice : (d : ℕ) → 0 < d
     → MixesByFlag d (λ plan now input. HearsEach IsFilled text_fragment plan now input × HearsTextBeforeTags plan input)
 one_flag_twice d some =
@@ -184,15 +185,18 @@ abbrev pub after : ℕ → List (Option Message) → List (Option Message)
 after zero before = before
 after (suc j) before = None ∷ after j before
 
+-- the log with j slots behind it is j slots longer
 pub after_long : (j : ℕ) (before : List (Option Message)) → length (after j before) ≡ j + length before
 after_long zero before = omega arith
 after_long (suc j) before = omega (arith, after_long j before)
 
+-- its marks are j longer too
 pub after_marks_long : (j : ℕ) (before : List (Option Message))
     → length (marks text_mark (after j before)) ≡ j + length (marks text_mark before)
 after_marks_long zero before = omega arith
 after_marks_long (suc j) before = omega (arith, after_marks_long j before)
 
+-- the j slots behind the log have no mark of a text
 pub after_texts : (j : ℕ) (before : List (Option Message)) (t : ℕ) (mark : Mark)
     → IsMarkIn (marks text_mark (after j before)) t mark → (mark ≡ Nothing) ⊎ IsMarkIn (marks text_mark before) t mark
 after_texts zero before t mark s = inr s
@@ -344,6 +348,7 @@ at_more d m near = record {
       (λ e. omega (arith, one_byte _ _ _ _ e)) same;
 }
 
+-- a radio with the flag alone that hears one segment in n + 1 slots, of texts that last n slots, can show a mix
 pub one_slot_more : (d n : ℕ) → 0 < n → d ≤ n + 1
     → MixesByFlag d (λ plan now input. TurnsTheFlag plan × EachLasts IsFilled n plan × HearsOneIn (n + 1) text_fragment
     plan now input × HearsTextBeforeTags plan input)

@@ -276,6 +276,7 @@ abbrev pub RunIsOfOneValue : Kind → List Broadcast → Input → List Segment 
 RunIsOfOneValue kind plan input [] = Unit {0}
 RunIsOfOneValue kind plan input (g ∷ older) = IsOfOneValue kind plan input g older
 
+-- what a radio with the flag alone holds is of one broadcast
 pub run_is_of_one_value : PlanLaws → EachNumberNamesOne
     → (d now : ℕ) (kind : Kind) (pick : Message → Option Fragment) (of : Option Message → Mark) (plan : List Broadcast)
     (log : List (Option Message)) (input : Input)

@@ -49,6 +49,7 @@ hears_each d n now pick plan input spaced often = (
       often,
 )
 
+-- who hears a segment in every d slots hears one of a text before its tags
 pub hears_text_before_tags : PlanLaws → (d now : ℕ) (plan : List Broadcast) (log : List (Option Message)) (r : Listener)
     → IsLawful d texts plan (marks text_mark log) → ListensByFlag now log r
     → HearsOneIn d text_fragment plan now r.input → HearsTextBeforeTags plan r.input

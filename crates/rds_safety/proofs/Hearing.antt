@@ -23,6 +23,7 @@ still_picked pick first newest heard (g ∷ gs) all = (
       newest heard gs all.1,
 )
 
+-- each segment of what was heard was picked from a message that was heard
 pub all_picked : (pick : Message → Option Fragment) (first : ℕ) (heard : List (Option Message))
     → AllByRecursion (IsPicked pick first heard) (segments pick first heard)
 all_picked pick first [] = tt
@@ -53,6 +54,7 @@ one_more_falls : (n : ℕ) (p : Option Fragment) (gs : List Segment) → AreFall
 one_more_falls n None gs f = fall_below n (n + 1) gs (omega arith) f
 one_more_falls n (Some p) gs f = (omega arith, f)
 
+-- the segments of what was heard have falling slots, all before now
 pub segments_fall : (pick : Message → Option Fragment) (first : ℕ) (heard : List (Option Message))
     → AreFalling (first + length heard) (segments pick first heard)
 segments_fall pick first [] = tt

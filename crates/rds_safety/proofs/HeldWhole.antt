@@ -30,6 +30,7 @@ abbrev pub IsIn : List Segment → Segment → Type 0
 IsIn [] g = ⊥
 IsIn (newest ∷ older) g = (g ≡ newest) ⊎ IsIn older g
 
+-- what holds of all segments holds of each
 pub all_in : (P : Segment → Type 0) (gs : List Segment) (g : Segment) → AllByRecursion P gs → IsIn gs g → P g
 all_in P [] g all is_in = absurd is_in
 all_in P (h ∷ older) g all (inl e) = subst P (sym e) all.0
@@ -55,6 +56,7 @@ in_segments pick first (x ∷ before) u message p (inr earlier) is = by (picked 
     by None has = has
     by (Some q) has = inr has
 
+-- a segment among those that fall below n came before n
 pub in_below : (n : ℕ) (gs : List Segment) (g : Segment) → AreFalling n gs → IsIn gs g → g.slot < n
 in_below n [] g falls is_in = absurd is_in
 in_below n (h ∷ older) g falls (inl e) = subst (λ (x : Segment). x.slot < n) (sym e) falls.0
@@ -230,6 +232,7 @@ module _ (laws : PlanLaws) (d m t s : ℕ) (kind : Kind) (pick : Message → Opt
       by (Some x) is = ap Some (bytes_of_run d t kind IsWhole plan input h older x service law.values lies is
           ∙ ap (λ (y : Broadcast). y.bytes) same)
 
+  -- a receiver that heard each segment of a broadcast lately shows its whole value
   pub shown_near : (IsWhole : Cells → List ℕ → Type 0) → IsService kind IsWhole
       → ((cells : Cells) → AreAllHeld (kind.body b.bytes) cells → IsWhole cells b.bytes)
       → 0 < segment_count (kind.body b.bytes)

@@ -79,6 +79,7 @@ of_seven P a b p q (suc (suc (suc (suc (suc zero))))) h = q
 of_seven P a b p q (suc (suc (suc (suc (suc (suc zero)))))) h = q
 of_seven P a b p q (suc (suc (suc (suc (suc (suc (suc i))))))) h = absurd (omega arith)
 
+-- the text of two such bytes is a text
 pub is_text : (a b : ℕ) → a < 256 → b < 256 → is_text_byte a ≡ true → is_text_byte b ≡ true → IsText (text_of_two a b)
 is_text a b p q x y = record {
   at_most = omega arith;
@@ -96,6 +97,7 @@ newer c = record { start = c; end = c; flag = false; bytes = newer_text }
 abbrev pub plan : ℕ → List Broadcast
 plan c = newer c ∷ older ∷ []
 
+-- the plan has two broadcasts, the older one with number 0 and the newer one with number 1
 pub which : (c k : ℕ) (b : Broadcast) → HasNumber (plan c) k b → ((k ≡ 1) × (b ≡ newer c)) ⊎ ((k ≡ 0) × (b ≡ older))
 which c k b (inl p) = inl p
 which c k b (inr (inl p)) = inr p
@@ -127,6 +129,7 @@ abbrev pub quiet_origins : ℕ → List (Option ℕ)
 quiet_origins zero = Some 0 ∷ []
 quiet_origins (suc j) = None ∷ quiet_origins j
 
+-- j slots without a group behind the first one make a log of one slot more
 pub quiet_long : (j : ℕ) → length (quiet j) ≡ suc j
 quiet_long zero = refl
 quiet_long (suc j) = ap suc (quiet_long j)
@@ -152,6 +155,7 @@ quiet_names (suc j) t m (inr s) = quiet_names j t m s
 abbrev pub log : ℕ → List (Option Message)
 log j = last_message ∷ quiet j
 
+-- the plan is lawful for the log with a spacing of j + 1 slots
 pub texts_lawful : (j : ℕ) → IsLawful (j + 1) texts (plan (j + 1)) (marks text_mark (log j))
 texts_lawful j = record {
   spaced = spaced (j + 1) (omega arith);
@@ -227,10 +231,12 @@ heard n = last_message ∷ quiet n
 abbrev pub input : ℕ → ℕ → ℕ → Input
 input k n j = input_of k (heard n) (Some (j + 1) ∷ quiet_origins n)
 
+-- slot 0 has the first message, whatever follows
 pub first_sent : (j : ℕ) → HasEntry 0 (quiet j) 0 first_message
 first_sent zero = inl (omega arith, refl)
 first_sent (suc j) = inr (first_sent j)
 
+-- all that was heard came from slot 0
 pub all_from_first : (k n u s : ℕ) → HasEntry k (quiet_origins n) u (Some s) → s ≡ 0
 all_from_first k zero u s (inl p) = (let e = p.1 in cc)
 all_from_first k zero u s (inr p) = absurd p
@@ -250,6 +256,7 @@ is_late k n = one_more k (log (n + k)) k (quiet n) (quiet_origins n) (Some (n + 
     (inl (omega (arith, quiet_long (n + k)), refl)) (omega (arith, quiet_long n), omega (arith, quiet_long n))
     (λ r u s e a. (let r_is : n + k + 1 ≡ r = cc in omega (arith, all_from_first k n u s a)))
 
+-- the first message and then nothing is heard in order
 pub quiet_in_order : (n : ℕ) (sent : List (Option Message)) → SentIn sent 0 first_message
     → IsHeardInOrder sent (input_of 0 (quiet n) (quiet_origins n))
 quiet_in_order zero sent s = one_more_in_order sent 0 [] [] (Some 0) first_message (nothing_in_order sent 0) s
@@ -257,6 +264,7 @@ quiet_in_order zero sent s = one_more_in_order sent 0 [] [] (Some 0) first_messa
 quiet_in_order (suc n) sent s = one_more_in_order sent 0 (quiet n) (quiet_origins n) None None (quiet_in_order n sent s)
     refl (λ r u s e a. absurd (cc))
 
+-- the two messages are heard in order
 pub in_order : (n j : ℕ) → IsHeardInOrder (log j) (input 0 n j)
 in_order n j = one_more_in_order (log j) 0 (quiet n) (quiet_origins n) (Some (j + 1)) last_message
     (quiet_in_order n (log j) (inr (first_sent j)))
@@ -279,6 +287,7 @@ quiet_segments : (k n : ℕ) → segments text_fragment k (quiet n) ≡ first_se
 quiet_segments k zero = refl
 quiet_segments k (suc n) = quiet_segments k n
 
+-- no segment of a name was heard
 pub no_segments : (k n : ℕ) → segments name_fragment k (quiet n) ≡ []
 no_segments k zero = refl
 no_segments k (suc n) = no_segments k n
@@ -310,6 +319,7 @@ both_held zero h = get-put (insert empty 0 (four 65)) 1 (three_and_end 68) 0 ∙
 both_held (suc zero) h = get-put (insert empty 0 (four 65)) 1 (three_and_end 68) 1
 both_held (suc (suc a)) h = absurd (omega arith)
 
+-- the cells of both broadcasts hold a whole text, the mix
 pub mix_is_whole : IsWholeText both_cells mix
 mix_is_whole = all_text both_cells mix (is_text 65 68 (omega arith) (omega arith) refl refl) record { held = both_held }
 
@@ -322,6 +332,7 @@ view k n = record {
   two = tag_of Two (Some mix) (pair_held (n + 2) k (heard n));
 }
 
+-- a receiver that heard both messages shows the mix
 pub shows : (k n : ℕ) → ShowsView (n + 2) k (heard n) (view k n)
 shows k n = record {
   text = rw (mixed k n) mix_is_whole;
@@ -352,9 +363,11 @@ listens_by_own_clock n j = record {
 pub one_byte : (a b : ℕ) (xs ys : List ℕ) → ◌≡◌ {A = List ℕ} (a ∷ xs) (b ∷ ys) → a ≡ b
 one_byte a b xs ys e = cc
 
+-- texts of two such bytes that are equal have the same second byte
 pub fifth_byte : (a b a' b' : ℕ) → text_of_two a b ≡ text_of_two a' b' → b ≡ b'
 fifth_byte a b a' b' e = cc
 
+-- no broadcast of the plan is the mix
 pub of_none : (c k : ℕ) (b : Broadcast) → HasNumber (plan c) k b → b.bytes ≡ mix → ⊥
 of_none c k b p same = elim (which c k b p) [
   | inl q ↦ (let e : newer_text ≡ mix = ap (λ (x : Broadcast). x.bytes) (sym q.1) ∙ same
@@ -392,6 +405,7 @@ mixes n j now Listens r shown listens = record {
 at_two_or_more : (n k : ℕ) → ShowsAMix (n + k + 1) (n + 2) (ListensTo k (n + 2))
 at_two_or_more n k = mixes (n + 2) (n + k) (n + k + 1) (ListensTo k (n + 2)) (receiver k n (n + k)) refl (listens k n)
 
+-- a spacing of one slot less lets a receiver at most k slots late show a mix
 pub one_slot_less : (m k : ℕ) → 1 < m → ShowsAMix (m + k - 1) m (ListensTo k m)
 one_slot_less m k h =
     let e : m - 2 + 2 ≡ m = omega arith in
@@ -399,6 +413,7 @@ one_slot_less m k h =
     subst (λ (x : ℕ). ShowsAMix (m + k - 1) x (ListensTo k x)) e
     (subst (λ (x : ℕ). ShowsAMix x (m - 2 + 2) (ListensTo k (m - 2 + 2))) slots (at_two_or_more (m - 2) k))
 
+-- so it does for a receiver with a slow clock
 pub one_slot_less_by_slow_clock : (m k : ℕ) → 1 < m → ShowsAMix (m + k - 1) m (ListensBySlowClock k m)
 one_slot_less_by_slow_clock m k h =
     let late = one_slot_less m k h in
@@ -419,6 +434,7 @@ by_own_clock : (n j : ℕ) → ShowsAMix (j + 1) (n + 2) (ListensByOwnClock (j +
 by_own_clock n j = mixes (n + 2) j (j + 1) (ListensByOwnClock (j + 2) (n + 2)) (receiver 0 n j) refl
     (listens_by_own_clock n j)
 
+-- so it does for a receiver with a clock of its own
 pub one_slot_less_by_own_clock : (d m : ℕ) → 1 < d → 1 < m → ShowsAMix (d - 1) m (ListensByOwnClock d m)
 one_slot_less_by_own_clock d m g h =
     let d_is : d - 2 + 2 ≡ d = omega arith in

@@ -347,6 +347,7 @@ at_two_and_three : (k a b : ℕ) → ShowsAMix (k + a + b + 2 + 1) (b + 3) (List
 at_two_and_three k a b = mixes (b + 3) (k + a + b + 2) (k + a + b + 2 + 1) (ListensConfirmed (a + 2) k (b + 3))
     (receiver k a b (k + a + b + 2)) refl (listens k a b)
 
+-- with a window too, a spacing of one slot less lets a receiver show a mix
 pub one_slot_less_confirmed : (w k m : ℕ) → 1 < w → 2 < m
     → ShowsAMix (m + lateness_of_two w k - 1) m (ListensConfirmed w k m)
 one_slot_less_confirmed w k m g h =
@@ -418,6 +419,7 @@ listens_once n j = record {
     first_is u v x y (inl p) (inl q) l = absurd (omega (arith, p.0, q.0, l))
     first_is u v x y (inl p) (inr q) l = absurd (omega (arith, p.0, quiet_has n v y q, l))
 
+-- without a window one wrong group lets a receiver show a mix, whatever the spacing
 pub one_wrong_mixes : (d m : ℕ) → 0 < d → 1 < m → ShowsAMix d m (ListensOnce 0 m)
 one_wrong_mixes d m g h =
     let m_is : m - 2 + 2 ≡ m = omega arith in

@@ -118,6 +118,7 @@ between_mixes n j = mixes (n + 2) j (j + 1) (ListensWithin (record { between = j
       shows = waited_shows n;
     }
 
+-- a clock that lets one slot more pass between two groups lets a receiver show a mix
 pub one_slot_more_between : (d m : ℕ) → 0 < d → 1 < m
     → ShowsAMix d m (ListensWithin (record { between = d + 1; since = d; ahead = 0 }) m)
 one_slot_more_between d m g h =
@@ -319,11 +320,13 @@ once_unsafe b d m a j now some between since ahead out = record {
       out (omega (arith, from, w.past)) (omega (arith, to, w.recent));
 }
 
+-- a clock that lets one slot more pass since the last group makes a receiver unsafe
 pub one_slot_more_since : (d m : ℕ) → 0 < d → 0 < m
     → IsUnsafe d m (ListensWithin (record { between = d; since = d + 1; ahead = 0 }) m)
 one_slot_more_since d m g h = once_unsafe (record { between = d; since = d + 1; ahead = 0 }) d m 0 d d h g (omega arith)
     (omega arith) (λ p q. omega (arith, q))
 
+-- a clock that is one slot ahead makes a receiver unsafe
 pub one_slot_ahead : (d m : ℕ) → 0 < d → 0 < m
     → IsUnsafe d m (ListensWithin (record { between = d; since = d; ahead = 1 }) m)
 one_slot_ahead d m g h = once_unsafe (record { between = d; since = d; ahead = 1 }) d m 1 0 0 h g (omega arith)

@@ -8,6 +8,7 @@ use Rattle.rds_safety.proofs.Entries.{before_end, entry_beside}
 abbrev pub input_of : {X : Type 0} → ℕ → List (Option X) → List (Option ℕ) → InputOf X
 input_of first heard origins = record { first = first; heard = heard; origins = origins }
 
+-- who heard nothing heard it in order
 pub nothing_in_order : {X : Type 0} (log : List (Option X)) (first : ℕ) → IsHeardInOrder log (input_of first [] [])
 nothing_in_order log first = record {
   beside = refl;
@@ -48,6 +49,7 @@ abbrev pub IsSoon : ℕ → ℕ → Option ℕ → Type 0
 IsSoon k t None = Unit {0}
 IsSoon k t (Some s) = (s ≤ t) × (t ≤ s + k)
 
+-- who heard nothing heard it late enough for any k
 pub nothing_heard : {X : Type 0} (k : ℕ) (log : List (Option X)) (first : ℕ) → IsHeardLate k log (input_of first [] [])
 nothing_heard k log first = record {
   order = nothing_in_order log first;

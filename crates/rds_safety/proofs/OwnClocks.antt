@@ -78,6 +78,7 @@ own_listens d m now log r listens = record {
   shows = listens.shows;
 }
 
+-- who listens by a slow clock listens by a clock of its own
 pub slow_listens : (k m now : ℕ) (log : List (Option Message)) (r : Listener) → ListensBySlowClock k m now log r
     → ListensByOwnClock (m + k) m now log r
 slow_listens k m now log r listens = record {
@@ -85,6 +86,7 @@ slow_listens k m now log r listens = record {
   shows = listens.shows;
 }
 
+-- who listens at most k slots late listens by a slow clock
 pub late_listens : (k m now : ℕ) (log : List (Option Message)) (r : Listener) → ListensTo k m now log r
     → ListensBySlowClock k m now log r
 late_listens k m now log r listens =

@@ -21,6 +21,7 @@ use Rattle.rds_safety.specs.Confirmed.{ListensConfirmed, lateness_of_two}
 use Rattle.rds_safety.proofs.Sources.{near_sources, shown_on_air}
 use Rattle.rds_safety.proofs.Confirmed.{confirmed_listens}
 
+-- the segments of texts that are heard are those that are marked in the log
 pub text_fragments_marked : PicksWhatIsMarked text_fragment text_mark
 text_fragments_marked = record { picked = picks; unmarked = λ entry none. none.text }
   where
@@ -31,6 +32,7 @@ text_fragments_marked = record { picked = picks; unmarked = λ entry none. none.
     picks (Tags pair) p e = absurd (cc)
     picks Other p e = absurd (cc)
 
+-- the segments of names that are heard are those that are marked in the log
 pub name_fragments_marked : PicksWhatIsMarked name_fragment name_mark
 name_fragments_marked = record { picked = picks; unmarked = λ entry none. none.name }
   where
@@ -58,6 +60,7 @@ module _ (laws : PlanLaws) (d m t : ℕ) (plans : Plans) (log : List (Option Mes
         law.name.spaced (name_lies x h) (name_lies y i);
   }
 
+  -- receivers that listen near their log show safe views
   pub are_safe : (receivers : List Listener) → All (ListensNear d m t log) receivers
       → AreSafeViews d m t plans log receivers
   are_safe receivers all = record {

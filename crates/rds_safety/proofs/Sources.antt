@@ -104,6 +104,7 @@ not_far laws d t kind plan x (g ∷ g_older) y (h ∷ h_older) n l a b spaced u 
           ))
     ]
 
+-- two runs that lie in one broadcast each lie in the same one or in neighbours
 pub near_sources : PlanLaws → (d t : ℕ) (kind : Kind) (plan : List Broadcast) (x : Input) (x_run : List Segment)
     (y : Input) (y_run : List Segment)
     → IsSpaced d plan → RunLiesInOne d t kind plan x x_run → RunLiesInOne d t kind plan y y_run

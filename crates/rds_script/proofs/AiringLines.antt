@@ -38,6 +38,7 @@ one_airings : (slot n : ℕ) (f h : ℕ → Airings)
 unfolding airings_changes
 one_airings slot n f h = sym (ap (λ (m : ℕ). airings_changes slot m f h) (add-one n))
 
+-- the lines of one receiver more
 pub next_airings : (slot n : ℕ) (start lines after : List ℕ) (f g h : ℕ → Airings) → ((i : ℕ) → i < n → g i ≡ h i)
     → lines ≡ start ++ airings_changes slot n f g
     → after ≡ lines ++ airings_change (receiver_stamp slot n) (f n) (h n)
@@ -65,6 +66,7 @@ pub none_before : (config : Config) (events : List Event) (view : ShownView) →
 none_before config [] view = tt
 none_before config (e ∷ before) view = tt
 
+-- what a receiver shows still is what it was before
 pub still_before : (config : Config) (n i : ℕ) (events : List Event) (shown : List ShownView) (kept : List Airings)
     → ShowsStill config i events → WereKept config n events kept shown → i < n
     → WereBefore config events (view_at shown i) (Some (airings_at kept i))

@@ -47,6 +47,7 @@ at_set shown i new within =
     ∙ get_or-set_at (map view_kept shown) i i (view_kept new) nothing_shown refl
     (omega (arith, length-map shown view_kept, within))
 
+-- the view of one receiver changes no other one
 pub other_set : (shown : List KeptView) (i k : ℕ) (new : KeptView) → k ≢ i
     → view_at (map view_kept (set shown i new)) k ≡ view_at (map view_kept shown) k
 other_set shown i k new other = ap (λ (l : List ShownView). view_at l k) (map-set view_kept shown i new)

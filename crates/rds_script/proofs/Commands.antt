@@ -10,6 +10,7 @@ use Rattle.rds_script.specs.Verbs.{verb_word}
 use Rattle.rds_script.specs.declared.row.Verb.{Verb}
 use Rattle.rds_script.specs.declared.row.Verb.TheVariants as verb
 
+-- a word that is no verb says no command
 pub no_verb : (word argument : List ℕ) → ((v : Verb) → word ≡ verb_word v → ⊥) → (command : Command)
     → SaysCommand word argument command → ⊥
 no_verb word argument none Quiet says = none verb.Nothing says.0
@@ -21,6 +22,7 @@ no_verb word argument none (SetTags pair) says = none verb.Tags says.0
 other_head : (v : Verb) → verb_word verb.Name ≡ verb_word v → 110 ≢ get_or (verb_word v) 0 0 → ⊥
 other_head v e other = other (ap (λ (x : List ℕ). get_or x 0 0) e)
 
+-- an argument that is no name says no command
 pub no_name : (word argument : List ℕ) → word ≡ verb_word verb.Name → ((x : List ℕ) → IsNameArgument argument x → ⊥)
     → (command : Command) → SaysCommand word argument command → ⊥
 no_name word argument is none Quiet says = other_head verb.Nothing (sym is ∙ says.0) (λ e. omega arith)
@@ -40,6 +42,7 @@ no_field fields i found e within none = missing fields i (sym e ∙ ap (option_m
     missing (f ∷ fields) zero e within = (cc)
     missing (f ∷ fields) (suc i) e within = missing fields i e (omega arith)
 
+-- a record of four fields is these four
 pub four : (fields : List (List ℕ)) (a b c d : List ℕ) → length fields ≡ 4 → Some a ≡ field_at fields 0
     → Some b ≡ field_at fields 1 → Some c ≡ field_at fields 2 → Some d ≡ field_at fields 3
     → fields ≡ a ∷ b ∷ c ∷ d ∷ []

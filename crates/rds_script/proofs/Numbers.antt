@@ -92,6 +92,7 @@ pub record ReadSoFar (text : List ℕ) (numbers rest : List ℕ) : Type 0 where
   pub forward : (more : List ℕ) → AreNumbers rest more → AreNumbers text (numbers ++ more)
   pub backward : (all : List ℕ) → AreNumbers text all → (more : List ℕ) × (all ≡ numbers ++ more) × AreNumbers rest more
 
+-- numbers that were read so far, and one more
 pub one_more : (text numbers rest first after : List ℕ) (n : ℕ) → ReadSoFar text numbers rest → IsCut rest first after
     → IsNumber first n → ((m : ℕ) → IsNumber first m → m ≡ n)
     → ReadSoFar text (numbers ++ n ∷ []) after
@@ -119,6 +120,7 @@ no_space_in : (text : List ℕ) → ((i : ℕ) → i < length text → get_or te
 no_space_in text h k d within e = h k within (let same : get_or text k 0 ≡ get_or text k d = grind (arith, common_steps)
     in same ∙ e)
 
+-- a text is cut at its first space
 pub cut_is : (text : List ℕ) (r : Option (Bor (List ℕ) × Bor (List ℕ)))
     → MatchOption r ((i : ℕ) → i < length text → get_or text i 0 ≢ space) (λ x. (text ≡ x.0.now ++ (space ∷ x.1.now))
     × ((i : ℕ) → i < length x.0.now → get_or x.0.now i 0 ≢ space))
@@ -126,6 +128,7 @@ pub cut_is : (text : List ℕ) (r : Option (Bor (List ℕ) × Bor (List ℕ)))
 cut_is text None h = tt
 cut_is text (Some x) h = record { cut = h.0; first_space = no_space_in x.0.now h.1 }
 
+-- a text without a cut has no space
 pub none_is : (text : List ℕ) (r : Option (Bor (List ℕ) × Bor (List ℕ)))
     → MatchOption r ((i : ℕ) → i < length text → get_or text i 0 ≢ space) (λ x. (text ≡ x.0.now ++ (space ∷ x.1.now))
     × ((i : ℕ) → i < length x.0.now → get_or x.0.now i 0 ≢ space))
@@ -133,6 +136,7 @@ pub none_is : (text : List ℕ) (r : Option (Bor (List ℕ) × Bor (List ℕ)))
 none_is text None h = no_space_in text h
 none_is text (Some x) h = tt
 
+-- the last number ends the numbers of a text
 pub last_one : (text numbers rest : List ℕ) (n : ℕ) → ReadSoFar text numbers rest → IsNumber rest n
     → AreNumbers text (numbers ++ n ∷ [])
 unfolding AreNumbers

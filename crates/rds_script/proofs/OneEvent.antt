@@ -104,6 +104,7 @@ same_free true false e = absurd (let bits : 49 ≡ 48 = ap (λ (x : List ℕ). g
 same_free false true e = absurd (let bits : 48 ≡ 49 = ap (λ (x : List ℕ). get_or x 0 0) e in omega (arith, bits))
 same_free false false e = refl
 
+-- a row says one event at most
 pub same_event : TextIsReadOneWay → (row : Record) (e f : Event) → SaysEvent row e → SaysEvent row f → e ≡ f
 same_event one row e f p q =
     let both : p.word ∷ p.argument ∷ free_field e.free ∷ p.receptions ∷ [] ≡ q.word ∷ q.argument ∷ free_field f.free
@@ -119,6 +120,7 @@ same_event one row e f p q =
     (subst (λ (x : List ℕ). AreReceptions x e.receptions) text p.spelled) q.spelled in
     λ i. record { command = command i; free = free i; receptions = receptions i }
 
+-- records are the rows of one list of events at most
 pub same_events : TextIsReadOneWay
     → (config : Config) (n other_n : ℕ) (records : List Record) (events other : List Event)
     → AreRows config n records events → AreRows config other_n records other → events ≡ other

@@ -61,6 +61,7 @@ few_allowed : (form : Form) (n : ℕ) → IsAllowed form n → n ≤ MOST_RECEIV
 few_allowed (Simulation why) n allowed = allowed
 few_allowed Log n allowed = omega (arith, allowed)
 
+-- a row that says no event ends the rows of a script
 pub says_none : (k : Config) (form : Form) (row : Record) (records : List Record)
     → ((e : Event) → length e.receptions ≤ MOST_RECEIVERS → SaysEvent row e → ⊥) → AreNoRows k form (row ∷ records)
 says_none k form row records none [] say = say.rows
@@ -122,6 +123,7 @@ pub record IsReady (played : Played) (events : List Event) (outcomes : List Outc
     pub room : HasRoom w.compared
     pub how : (0 < length played.records) ⊎ (receivers ≡ asked)
 
+-- a script whose rows fit its world is ready for the next row
 pub is_ready : (before : Option Watched) (w : Watched) (played : Played) (asked : ℕ) (events : List Event)
     (outcomes : List Outcome) → IsAllowed played.form played.receivers → IsAllowed played.form asked
     → AreRows played.config played.receivers played.records events → AreOutcomes played.config events outcomes

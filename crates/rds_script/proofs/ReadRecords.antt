@@ -12,6 +12,7 @@ use Rattle.rds_script.specs.Inside.Player.{ScriptStandsAt}
 use Rattle.rds_script.specs.Rows.{Record}
 use Rattle.rds_script.specs.Play.{HasAllRecords}
 
+-- the reader stands at one record more after it read one
 pub next_stands : {R : Type 0} {g h : _} (remaining : R → Option (List ℕ)) (old new : Reader (FailureFlag R g h))
     (found : Bool) (fields : List (List ℕ)) (known : Option (List ℕ)) (records : List Record)
     → ScriptStandsAt remaining known record { reader = old } records

@@ -153,6 +153,7 @@ pub record ReadSoFar (text : List ℕ) (receptions : List Reception) (rest : Lis
   pub backward : (all : List Reception) → AreReceptions text all
       → (more : List Reception) × (all ≡ receptions ++ more) × AreReceptions rest more
 
+-- receptions that were read so far, and one more
 pub one_more : (text rest after digits later : List ℕ) (receptions : List Reception) (b : ℕ) (r : Reception)
     → ReadSoFar text receptions rest → rest ≡ b ∷ after → IsDigitCut after digits later → b ≡ letter r
     → HasDigits r digits
@@ -175,6 +176,7 @@ one_more text rest after digits later receptions b r s begins cut byte has = rec
       );
 }
 
+-- at the end of the text all receptions are read
 pub all_read : (text rest : List ℕ) (receptions : List Reception) → ReadSoFar text receptions rest → length rest ≡ 0
     → AreReceptions text receptions
 unfolding AreReceptions
@@ -209,6 +211,7 @@ digit_below b is = grind (arith, nat_tests)
 digit_from : (b : ℕ) → IsNotAsciiHexdigit b → 16 ≤ digit_value b
 digit_from b out = grind (arith, nat_tests)
 
+-- a text is cut behind its leading hexadecimal digits
 pub digit_cut : (text digits rest : List ℕ) (n : ℕ) → n ≤ length text
     → ((k : ℕ) → k < n → IsAsciiHexdigit (get_or text k 0)) → (n < length text → IsNotAsciiHexdigit (get_or text n 0))
     → digits ≡ take n text → rest ≡ drop n text

@@ -50,6 +50,7 @@ same_tag : (tag : Option (ℕ × List ℕ)) → is_same_tag tag tag ≡ true
 same_tag None = refl
 same_tag (Some (n, x)) = rw (eq-eqb n n refl, (bytes_eq-Decides x x).1 refl) refl
 
+-- an item is the same as itself
 pub same_item : (item : Option (Bool × Bool)) → is_same_item item item ≡ true
 same_item None = refl
 same_item (Some (true, true)) = refl
@@ -57,6 +58,7 @@ same_item (Some (true, false)) = refl
 same_item (Some (false, true)) = refl
 same_item (Some (false, false)) = refl
 
+-- equal views have all parts the same
 pub parts_same : (view other : ShownView) (parts : Parts) → parts ≡ same_parts view other → view ≡ other
     → parts ≡ record { text = true; name = true; one = true; two = true }
 parts_same view other parts is same =
@@ -81,6 +83,7 @@ one_item (Some (a, b)) (Some (c, d)) same = let both = and_parts (is_same a c) (
     one_bit false true same = cc
     one_bit false false same = refl
 
+-- views with all parts the same are equal
 pub one_view : (view other : ShownView) (parts : Parts) → parts ≡ same_parts view other → parts.text ≡ true
     → parts.name ≡ true → parts.one ≡ true → parts.two ≡ true → is_same_item view.item other.item ≡ true → view ≡ other
 one_view view other parts is text name one two item =
@@ -106,6 +109,7 @@ or_again : (a b : Bool) → a || (a || b) ≡ a || b
 or_again true b = refl
 or_again false b = refl
 
+-- no view has no parts
 pub either_none : (view : ShownView) (p : Parts) → either p (parts_among view []) ≡ p
 either_none view p = λ i. record {
   text = or_false p.text i;
@@ -114,6 +118,7 @@ either_none view p = λ i. record {
   two = or_false p.two i;
 }
 
+-- parts of three views may be collected in either order
 pub either_assoc : (p q r : Parts) → either p (either q r) ≡ either (either p q) r
 either_assoc p q r = λ i. record {
   text = or_assoc p.text q.text r.text i;
@@ -241,6 +246,7 @@ pub airs_to : (items : List Stretch) (i : ℕ) (d : Stretch) → i < length item
     (view_kept (get_or items i d).air)) ++ airs_in (take i items)
 airs_to items i d within = ap airs_in (take_more items i d within) ∙ airs_of_more (take i items) (get_or items i d)
 
+-- the newest view on air is that of the last stretch
 pub newest_is : (items : List Stretch) (i : ℕ) (d : Stretch) → i + 1 ≡ length items
     → newest_of (airs_in items) ≡ view_kept (get_or items i d).air
 newest_is items i d last =
@@ -274,6 +280,7 @@ lately_is view config events a stand =
     ap (parts_among view) (seen_lately a.spacing None (airs_in a.stretches.items)
     ∙ ap₂ (λ (n : ℕ) (l : List ShownView). take n l) stand.spacing stand.airs)
 
+-- which parts were on air lately, as the stretches find it
 pub lately_found : (view : ShownView) (config : Config) (events : List Event) (a : Airs) (nothing found lately : Parts)
     → AirsStand config events a → nothing ≡ same_parts view nothing_shown
     → found ≡ parts_among view (reached Lately a.spacing None (airs_in a.stretches.items))
@@ -282,6 +289,7 @@ pub lately_found : (view : ShownView) (config : Config) (events : List Event) (a
 lately_found view config events a nothing found lately stand none some both = both ∙ ap₂ (λ (p q : Parts). either p q)
     none (some ∙ lately_is view config events a stand)
 
+-- which parts the shown text had while it was on air, as the stretches find it
 pub for_texts_is : (view : ShownView) (config : Config) (events : List Event) (a : Airs) → AirsStand config events a
     → parts_among view (reached Texts a.spacing None (airs_in a.stretches.items))
     ≡ parts_among view (back_to_their_texts (distance config) (airs config events))
@@ -289,6 +297,7 @@ for_texts_is view config events a stand =
     ap (parts_among view) (seen_for_texts a.spacing None (airs_in a.stretches.items) stand.some
     ∙ ap₂ (λ (n : ℕ) (l : List ShownView). back_to_their_texts n l) stand.spacing stand.airs)
 
+-- which parts were ever on air, as the stretches find it
 pub ever_is : (view : ShownView) (config : Config) (events : List Event) (a : Airs) → AirsStand config events a
     → parts_among view (reached Ever a.spacing None (airs_in a.stretches.items)) ≡ parts_among view (airs config events)
 ever_is view config events a stand = ap (parts_among view) (seen_ever a.spacing None (airs_in a.stretches.items)

@@ -77,6 +77,7 @@ same_newest first [] (y ∷ k) long = absurd (omega (arith, long))
 same_newest first (x ∷ h) [] long = absurd (omega (arith, long))
 same_newest first (x ∷ h) (y ∷ k) long = omega (arith, long)
 
+-- a log has as many messages as slots
 pub heard_long : (pi : ℕ) (input : List (Option Group)) (h : List (Option Message)) → AreHeard pi input h
     → length input ≡ length h
 heard_long pi [] [] are = refl
@@ -129,6 +130,7 @@ module _ (pi m : ℕ) (one other : StoredReceiver) (part : HoldsPartOf one other
       by_pair (inr same) = inr (sym (pair_is (display_stored one.display) m 0 mine.heard mine.holds.display) ∙ same
           ∙ pair_is (display_stored other.display) m 0 theirs.heard theirs.holds.display)
 
+  -- a receiver that lost more heard a part
   pub holds_part : IsInputPart (tuned pi m) input more
   holds_part = record {
     long = long;

@@ -36,6 +36,7 @@ tags_through m first one two three p q = (by_first p.0, λ is. q.1 (p.1 is))
     by_first (inl none) = inl none
     by_first (inr same) = by_second same q.0
 
+-- a part of a part of an input is a part of it
 pub input_through : (t : Tuning) (r : ReceiverState) (one two three : List (Option Group)) → ReceiverAt t r two
     → IsInputPart t one two → IsInputPart t two three → IsInputPart t one three
 input_through t r one two three stands p q = record {
@@ -136,6 +137,7 @@ input_next pi m group one other some part = record {
   tags = tags_next pi m group one other some part;
 }
 
+-- a receiver that covers an input covers it with the next slot
 pub covers_next : (pi m : ℕ) (s later : Lossy) (group : Option Group) (input : List (Option Group))
     → (IsStoredReceiver s.receiver
     → WhereReceiverStands (receiver_stored s.receiver) (λ t input. ReceiverAt t (receiver_stored later.receiver)
@@ -160,6 +162,7 @@ input_itself pi m input = record {
   tags = λ h k heard others. let same = same_heard pi input h k heard others in rw same (inr refl, λ is. is);
 }
 
+-- a receiver covers its own input
 pub covers_itself : (pi m : ℕ) (input : List (Option Group)) (s : Lossy)
     → ReceiverAt (tuned pi m) (receiver_stored s.receiver) input → IsStoredReceiver s.receiver
     → CoversInput (tuned pi m) input s
@@ -168,13 +171,16 @@ covers_itself pi m input s stands stored = record
 
 -- ---- a list with one more in front
 
+-- the first receiver of a set covers for the set
 pub covered_first : (t : Tuning) (one : Lossy) (set : List Lossy) (input : List (Option Group))
     → CoversInput t input one → IsCovered t (one ∷ set) input
 covered_first t one set input covers = record { by = one; is_there = (0, omega arith, refl); covers = covers }
 
+-- a set with one receiver more contains what it contained
 pub contains_next : (one : Lossy) (set : List Lossy) (by : Lossy) → Contains set by → Contains (one ∷ set) by
 contains_next one set by (k, inside, is) = (suc k, omega (arith, inside), is)
 
+-- a set with one receiver more stands at its slot
 pub at_first : (t : Tuning) (n : ℕ) (one : Lossy) (set : List Lossy) → IsAt t n one → All (IsAt t n) set
     → All (IsAt t n) (one ∷ set)
 at_first t n one set its at zero d less = its

@@ -15,5 +15,6 @@ got-first log (suc n) less =
     ap (got [] log) (sym (add-one n)) ∙ got-more [] log n ∙ ap (λ (l : List (Option Group)). last ∷ l) had
     ∙ sym (reverse-append (take n log) (last ∷ [])) ∙ ap reverse (sym (take-suc log n None here))
 
+-- who loses nothing gets the log
 pub got-all : (log : List (Option Group)) → got [] log (length log) ≡ reverse log
 got-all log = got-first log (length log) (omega arith) ∙ ap reverse (take_all (length log) log (omega arith))

@@ -31,6 +31,7 @@ begins_empty : (a b : List ℕ) → a ++ b ≡ [] → a ≡ []
 begins_empty [] b none = refl
 begins_empty (x ∷ a) b none = absurd (cc)
 
+-- a list of length 0 is empty
 pub empty_list : (l : List ℕ) → length l ≡ 0 → l ≡ []
 empty_list [] none = refl
 empty_list (x ∷ l) none = absurd (omega (arith, none))
@@ -73,9 +74,11 @@ module _ (t : Tuning) (ahead : ℕ) (log : List (Option Group)) (lost : List Bur
 
   -- ---- slot after slot
 
+  -- before slot 0 there is no line
   pub adds_first : (lines : List ℕ) → lines ≡ [] → AreLossLines t ahead log lost 0 lines
   adds_first lines none = record { slots = []; long = refl; each = tt; are = none }
 
+  -- the lines of one slot more
   pub adds_slot : (slot : ℕ) (lines here more : List ℕ) → AreMixLines t ahead log lost [] slot here
       → more ≡ lines ++ here → AreLossLines t ahead log lost slot lines → AreLossLines t ahead log lost (slot + 1) more
   adds_slot slot lines here more are more_are had = record {

@@ -103,12 +103,14 @@ heard_next burst log n group behind is =
     ap (λ (g : Option Group). g ∷ got (burst ∷ []) log n) (is ∙ received_alike [] (burst ∷ []) log n
     (sym (not_lost_behind burst n behind))) ∙ sym (got-more (burst ∷ []) log n)
 
+-- in a burst the next slot is lost
 pub lost_next : (burst : Burst) (log : List (Option Group)) (n : ℕ) → burst.first ≤ n → n ≤ burst.last
     → None ∷ got (burst ∷ []) log n ≡ got (burst ∷ []) log (n + 1)
 lost_next burst log n from to =
     let nothing : None ≡ group_left (burst ∷ []) log n = rw (lost_inside burst n from to) refl in
     ap (λ (g : Option Group). g ∷ got (burst ∷ []) log n) nothing ∙ sym (got-more (burst ∷ []) log n)
 
+-- a receiver gets as many slots as passed, lost ones too
 pub got_long : (lost : List Burst) (log : List (Option Group)) (n : ℕ) → length (got lost log n) ≡ n
 got_long lost log zero = ap length (got-none lost log)
 got_long lost log (suc n) =

@@ -54,18 +54,21 @@ no_text view none (Name x) kind has = absurd (omega (arith, kind))
 no_text view none (Tag One c x) kind has = absurd (omega (arith, kind))
 no_text view none (Tag Two c x) kind has = absurd (omega (arith, kind))
 
+-- a view without a name has no name
 pub no_name : (view : ShownView) → view.name ≡ None → (thing : Thing) → kind_of thing ≡ 1 → Has view thing → ⊥
 no_name view none (Text x) kind has = absurd (omega (arith, kind))
 no_name view none (Name x) kind has = absurd (cc)
 no_name view none (Tag One c x) kind has = absurd (omega (arith, kind))
 no_name view none (Tag Two c x) kind has = absurd (omega (arith, kind))
 
+-- a view without a first tag has none
 pub no_one : (view : ShownView) → view.one ≡ None → (thing : Thing) → kind_of thing ≡ 2 → Has view thing → ⊥
 no_one view none (Text x) kind has = absurd (omega (arith, kind))
 no_one view none (Name x) kind has = absurd (omega (arith, kind))
 no_one view none (Tag One c x) kind has = absurd (cc)
 no_one view none (Tag Two c x) kind has = absurd (omega (arith, kind))
 
+-- a view without a second tag has none
 pub no_two : (view : ShownView) → view.two ≡ None → (thing : Thing) → kind_of thing ≡ 3 → Has view thing → ⊥
 no_two view none (Text x) kind has = absurd (omega (arith, kind))
 no_two view none (Name x) kind has = absurd (omega (arith, kind))

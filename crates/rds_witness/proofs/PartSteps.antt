@@ -33,15 +33,18 @@ more_cells one other address bytes has a b held =
 
 -- ---- runs
 
+-- the cells of a part are among the cells of the whole
 pub part_cells : (one other : List Segment) → IsPart one other → HasCells (cells_of one) (cells_of other)
 part_cells [] other part = no_cells (cells_of other)
 part_cells (g ∷ older) [] part = absurd part
 part_cells (g ∷ older) (h ∷ rest) part = part.2
 
+-- segments are a part of themselves
 pub part_itself : (one : List Segment) → IsPart one one
 part_itself [] = tt
 part_itself (g ∷ older) = (refl, omega arith, λ a b held. held)
 
+-- a part of a part is a part
 pub part_through : (one two three : List Segment) → IsPart one two → IsPart two three → IsPart one three
 part_through [] two three p q = tt
 part_through (g ∷ older) [] three p q = absurd p
@@ -117,6 +120,7 @@ part_taken m n p one other some part =
 whole_byte : (one other : Cells) (i b : ℕ) → HasCells one other → HasByte one i b → HasByte other i b
 whole_byte one other i b has h = record { cell = h.cell; held = has _ _ h.held; byte = h.byte }
 
+-- a text that is whole in some of the cells is whole in all
 pub whole_text : (one other : Cells) (x : List ℕ) → HasCells one other → IsWholeText one x → IsWholeText other x
 whole_text one other x has w = record {
   plain = w.plain;
@@ -124,6 +128,7 @@ whole_text one other x has w = record {
   ends = elim w.ends [ inl long ↦ inl long | inr short ↦ inr (short.0, whole_byte one other _ _ has short.1) ];
 }
 
+-- a name that is whole in some of the cells is whole in all
 pub whole_name : (one other : Cells) (x : List ℕ) → HasCells one other → IsWholeName one x → IsWholeName other x
 whole_name one other x has w = record {
   eight = w.eight;

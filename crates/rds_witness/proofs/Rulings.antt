@@ -156,6 +156,7 @@ seen_mix t log burst n (Text x) mix seen = mix.mix.never seen.slot seen.view see
 seen_mix t log burst n (Name x) mix seen = mix.mix.never seen.slot seen.view seen.before seen.is seen.shows
 seen_mix t log burst n (Tag which class piece) mix seen = seen
 
+-- what a covered receiver shows is no mix
 pub no_mix : (t : Tuning) (log : List (Option Group)) (n slots : ℕ) → slots ≡ until t.dwell log n → n < slots
     → HasViews t log (length log) → (whole : Lossy) (receivers : List Lossy)
     → ((input : List (Option Group)) → length input ≡ n + 1 → CoversInput t input whole
@@ -184,6 +185,7 @@ no_mix t log n slots is soon views whole receivers same_whole hold show burst th
         only.seen thing (view_part t (got (burst ∷ []) log (n + 1)) covered.covers.other covered.covers.part
         mix.mix.new.after only.view mix.mix.new.is only.is thing mix.mix.new.has)
 
+-- a slot is among those that count for it
 pub now_before_until : (dwell : ℕ) (log : List (Option Group)) (n : ℕ) → 0 < dwell → n < length log
     → n < until dwell log n
 now_before_until dwell log n some inside = by_end (nat_le (n + dwell) (length log))

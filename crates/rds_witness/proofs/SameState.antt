@@ -59,12 +59,14 @@ seen_later t log n k (Tag which class piece) less seen = record {
   cut = seen.cut;
 }
 
+-- what shows only what was seen up to a slot shows only that up to a later one
 pub only_later : (t : Tuning) (log : List (Option Group)) (n k : ℕ) (r : ReceiverState) → n ≤ k
     → ShowsOnlySeen t log n r → ShowsOnlySeen t log k r
 only_later t log n k r less only input stands =
     let now = only input stands in
     record { view = now.view; is = now.is; seen = λ thing has. seen_later t log n k thing less (now.seen thing has) }
 
+-- the end of the slots that count does not go back
 pub until_later : (m : ℕ) (log : List (Option Group)) (n : ℕ) → until m log n ≤ until m log (n + 1)
 until_later m log n = by_ends (nat_le (n + m) (length log)) (nat_le (n + 1 + m) (length log)) refl refl
   where

@@ -11,15 +11,18 @@ use Rattle.rds_witness.specs.Lost.{got, got-more, group_left}
 use Rattle.rds_witness.specs.Mix.{NeverShows, ViewHas, Thing}
 use Rattle.rds_witness.specs.declared.burst.Burst.{Burst}
 
+-- a receiver stands at one slot more
 pub stands_more : (t : Tuning) (r : ReceiverState) (lost : List Burst) (log : List (Option Group)) (n : ℕ)
     (group : Option Group) → group ≡ group_left lost log n
     → ReceiverAt t r (group ∷ got lost log n) → ReceiverAt t r (got lost log (n + 1))
 stands_more t r lost log n group same stands =
     subst (ReceiverAt t r) (ap (λ (g : Option Group). g ∷ got lost log n) same ∙ sym (got-more lost log n)) stands
 
+-- before slot 0 nothing was shown
 pub never_none : (t : Tuning) (log : List (Option Group)) (thing : Thing) → NeverShows t log 0 thing
 never_none t log thing slot view less is shown = absurd (omega arith)
 
+-- what was never shown, and is not shown now, is still never shown
 pub never_more : (t : Tuning) (log : List (Option Group)) (n : ℕ) (thing : Thing) (view : ShownView)
     → NeverShows t log n thing → IsView t (got [] log (n + 1)) view → (ViewHas view thing → ⊥)
     → NeverShows t log (n + 1) thing

@@ -25,6 +25,7 @@ read_good text n r next true was is good = read-more text n ∙ ap (option_and_t
     ∙ is
 read_good text n r next false was is good = cc
 
+-- a text with a byte that does not go on is no list of spans
 pub read_bad : (text : List ℕ) (n : ℕ) (r : SpanReading) (next : SpanReader) (good : Bool) → read text n ≡ Some r
     → ReadsOn (with_byte (slice_index text n) r) good next → good ≡ false → read text (n + 1) ≡ None
 read_bad text n r next false was is bad = read-more text n ∙ ap (option_and_then (with_byte (slice_index text n))) was

@@ -166,6 +166,7 @@ up_to d k i (e ∷ before) due u s h =
     up_to_with k (slice_index_or e.receptions i Lost) (length before) (log d (e ∷ before)) (input_of d i before)
     (last_named i before) (due.0 i) (up_to d k i before due.1) u s h
 
+-- what is due in a world is heard in time
 pub in_time : (d k i : ℕ) (events : List Event) → AreDue k events
     → IsHeardWithWrong k (log d events) (input_of d i events)
 in_time d k i [] due = nothing_heard k [] 0

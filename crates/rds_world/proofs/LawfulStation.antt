@@ -101,6 +101,7 @@ text_service = record {
     values (SetTags pair) before value all = all
     values (Tick free) before value all = all
 
+-- the log is as long as the moves of names
 pub logged_names : (d : ℕ) (entries : List Entry) → length (sent_log d entries) ≡ slot_of (name_moves entries)
 logged_names d [] = refl
 logged_names d (Restart ∷ before) = logged_names d before

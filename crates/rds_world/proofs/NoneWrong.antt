@@ -177,6 +177,7 @@ module _ (d i : ℕ) where
       (wrong_of i before) (fit.0 i) (beside before) (long before) (said before)
       (once w before fit.1)
 
+  -- slots that fit the window keep the premise on wrong groups
   pub keeps_premise : (window : Option ℕ) (events : List Event) → AreFit window events
       → KeepsPremise window (input_of d i events)
   keeps_premise None events fit = each_sent events fit

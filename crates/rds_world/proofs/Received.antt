@@ -62,6 +62,7 @@ stays_shown config input old group heard origin hears stays has view shown =
       is = stays view (tuned_to config input) has.groups has.stands by_own;
     }
 
+-- a receiver before its first slot has heard nothing
 pub heard_nothing : (config : Config) (first : ℕ) (r : ReceiverState) → HeardNothing config r
     → HasHeard config (input_from first [] []) r
 heard_nothing config first r begins = record { groups = []; spelled = tt; stands = begins first }
@@ -74,6 +75,7 @@ other_kept (x ∷ rs) zero (suc k) r ne = refl
 other_kept (x ∷ rs) (suc i) zero r ne = refl
 other_kept (x ∷ rs) (suc i) (suc k) r ne = other_kept rs i k r (λ e. ne (ap suc e))
 
+-- what is written at a place is there
 pub written : {X : Type 0} (rs : List X) (i : ℕ) (r s : X) → slice_get (slice_set rs i r) i ≡ Some s → r ≡ s
 written [] i r s e = absurd (cc)
 written (x ∷ rs) zero r s e = cc
@@ -87,6 +89,7 @@ one_of_first P (suc n) [] i r all e = absurd (cc)
 one_of_first P (suc n) (x ∷ rs) zero r all e = subst P (cc) all.0
 one_of_first P (suc n) (x ∷ rs) (suc i) r all e = one_of_first P n rs i r all.1 e
 
+-- what is among the first entries is an entry
 pub of_first : {X : Type 0} (n : ℕ) (xs : List X) (i : ℕ) (x : X) → slice_get (take n xs) i ≡ Some x
     → (i < n) × (slice_get xs i ≡ Some x)
 of_first zero xs i x e = absurd (cc)
@@ -108,6 +111,7 @@ pub both_hold : (a b : Bool) → (a && b) ≡ true → (a ≡ true) × (b ≡ tr
 both_hold true b e = (refl, e)
 both_hold false b e = absurd (cc)
 
+-- a mark that is set is the one that was written
 pub marked : (xs : List Bool) (i : ℕ) (b : Bool) → slice_index_or (slice_set xs i b) i false ≡ true → b ≡ true
 marked [] i b e = absurd (cc)
 marked (x ∷ xs) zero b e = e

@@ -89,6 +89,7 @@ listens_in (Some w) k m t log input view heard keeps now shows = record {
   shows = shows;
 }
 
+-- a receiver of a world listens as the laws of safety want it
 pub listens : (config : Config) (e : Event) (before : List Event) (i : ℕ) (r : ReceiverState) (view : ShownView)
     → is_flag_alone config.kind ≡ false → AreDue config.late (e ∷ before) → AreFit (window_of config.kind) (e ∷ before)
     → HasHeard config (input_of (distance config) i (e ∷ before)) r → ReceiverShows r view
@@ -131,6 +132,7 @@ safe_in : LawfulPlansAreSafe → LawfulPlansAreSafeConfirmed
 safe_in safe twice None k m t plans log receivers lawful all = safe m k t plans log receivers lawful all
 safe_in safe twice (Some w) k m t plans log receivers lawful all = twice w k m t plans log receivers lawful all
 
+-- the receivers of a world show only what was on air
 pub safe_world : TheEncoderIsLawful → LawfulPlansAreSafe → LawfulPlansAreSafeConfirmed
     → (config : Config) (w : WorldState) (events : List Event) → WorldAt config w events
     → OnlyWhatWasOnAirIsShown config events w.receivers

@@ -24,6 +24,7 @@ pub record IsService (moves : List Entry → List Move) : Type 0 where
   pub first : (c : Command) (before : List Entry) → IsUnset (moves before) → RestartsComeFirst (moves before)
       → RestartsComeFirst (moves (commanded c before))
 
+-- the moves of texts are a service
 pub text_service : IsService text_moves
 text_service = record { none = refl; slot = λ e before. refl; longer = longer; same_slot = same_slot; first = first }
   where
@@ -79,6 +80,7 @@ name_service = record { none = refl; slot = λ e before. refl; longer = longer; 
     first (SetTags pair) before unset restarts = restarts
 
 module _ (moves : List Entry → List Move) (service : IsService moves) where
+  -- the moves reach as many slots as there are events
   pub reaches : (events : List Event) → slot_of (moves (entries events)) ≡ length events
   reaches [] = ap slot_of service.none
   reaches (e ∷ before) = ap slot_of (service.slot e before)
