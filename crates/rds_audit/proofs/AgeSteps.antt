@@ -2,7 +2,7 @@
 use Rattle.std.proofs.Common.{◌≡◌, ◌≢◌, ◌+◌, ◌-◌, ◌<◌, ◌≤◌, min, not, ◌&&◌, ◌↔◌, ℕ, Bool, IsTrue, true, false, List, []}
 use Rattle.std.proofs.Common.{◌∷◌, refl, sym, ◌∙◌, arith}
 use Rattle.std.specs.List.{AllByRecursion}
-use Rattle.rds_receiver.specs.Receipts.{Fragment}
+use Rattle.rds_receiver.specs.declared.fragment.Fragment.{Fragment}
 use Rattle.rds_receiver.specs.Run.{is_same}
 use Rattle.rds_audit.specs.Ages.{Ages, HoldsAges, Joins, aged, restarted}
 use Rattle.rds_audit.specs.Reigns.{AlternateFlags, Reign, SentTags}

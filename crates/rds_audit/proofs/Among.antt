@@ -3,7 +3,7 @@ use Rattle.std.proofs.Common.{◌≡◌, ℕ, List, [], ◌∷◌, length, subst
 use Rattle.std.proofs.lemmas.Bool.{cases_order}
 use Rattle.rds_encoder.specs.Plan.{Broadcast, Covers, HasNumber}
 use Rattle.rds_encoder.specs.Spaced.{IsSpaced}
-use Rattle.rds_receiver.specs.Receipts.{Fragment}
+use Rattle.rds_receiver.specs.declared.fragment.Fragment.{Fragment}
 use Rattle.rds_audit.specs.AuditLaws.{AreReignsOf, AreTheReigns, IsReignOf, SomeReign}
 use Rattle.rds_audit.specs.Dense.{IsDense}
 use Rattle.rds_safety.specs.Lawful.{IsLawful, Kind}

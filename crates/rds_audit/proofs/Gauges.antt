@@ -6,7 +6,7 @@ use Rattle.std.proofs.lemmas.Bool.{cases_lt, cases_order}
 use Rattle.std.proofs.lemmas.List.{get_or_past}
 use Rattle.rds_assembly.specs.Body.{name_body, segment_count, segment_of, text_body}
 use Rattle.rds_assembly.specs.Value.{IsName, IsText}
-use Rattle.rds_receiver.specs.Receipts.{Fragment}
+use Rattle.rds_receiver.specs.declared.fragment.Fragment.{Fragment}
 use Rattle.rds_safety.specs.Lawful.{IsFragmentOf}
 use Rattle.rds_audit.specs.Lengths.{IsExact, IsFormed, name_gauge, text_gauge}
 use Rattle.rds_audit.proofs.Bodies.{segment_byte, segment_long, text_below, text_end, text_full, text_long, text_past}

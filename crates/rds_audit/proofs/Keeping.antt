@@ -2,7 +2,7 @@
 use Rattle.std.proofs.Common.{◌≡◌, ◌+◌, ◌<◌, ◌≤◌, ℕ, nat_lt, List, [], ◌∷◌, length, refl, inl, inr, arith}
 use Rattle.std.proofs.lemmas.Bool.{and_parts, cond_both, ltb-true}
 use Rattle.rds_fields.specs.Tag.{PairFields}
-use Rattle.rds_receiver.specs.Receipts.{Fragment}
+use Rattle.rds_receiver.specs.declared.fragment.Fragment.{Fragment}
 use Rattle.rds_receiver.specs.Run.{is_same}
 use Rattle.rds_audit.specs.Dense.{IsBridged, IsMarked}
 use Rattle.rds_safety.specs.Marks.{IsMarkIn, Mark, Nothing, Sends, Tagged}

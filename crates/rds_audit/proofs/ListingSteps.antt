@@ -9,7 +9,8 @@ use Rattle.rds_fields.specs.declared.message.Message.{Message}
 use Rattle.rds_fields.specs.declared.message.Message.TheVariants.{Text, Name, Announce, Tags, Other}
 use Rattle.rds_fields.specs.Tag.{PairFields}
 use Rattle.rds_receiver.specs.OneView.{same_heard_in}
-use Rattle.rds_receiver.specs.Receipts.{Fragment, Hears}
+use Rattle.rds_receiver.specs.Receipts.{Hears}
+use Rattle.rds_receiver.specs.declared.fragment.Fragment.{Fragment}
 use Rattle.rds_receiver.specs.Run.{is_same}
 use Rattle.rds_safety.specs.Lawful.{names, texts}
 use Rattle.rds_safety.specs.Marks.{Mark, Nothing, marks, name_mark, text_mark}

@@ -12,7 +12,7 @@ use Rattle.std.proofs.lemmas.List.{append-nil}
 use Rattle.rds_fields.specs.Tag.{BothEndIn, TagFields, ends_in}
 use Rattle.rds_assembly.specs.Body.{name_body, segment_count, segment_of, text_body}
 use Rattle.rds_assembly.specs.Value.{IsName, IsText, is_name_byte, is_text_byte}
-use Rattle.rds_receiver.specs.Receipts.{Fragment}
+use Rattle.rds_receiver.specs.declared.fragment.Fragment.{Fragment}
 use Rattle.rds_safety.specs.Lawful.{IsFragmentOf, names, texts}
 use Rattle.rds_audit.specs.Rules.{AreUnchanged, HaveOneValue}
 use Rattle.rds_audit.specs.Reigns.{SentTags}

@@ -4,7 +4,7 @@ use Rattle.std.proofs.Common.{◌∙◌, subst, inl, inr, arith}
 use Rattle.std.specs.List.{AllByRecursion}
 use Rattle.std.proofs.lemmas.Bool.{and_parts, cases_lt, cases_order, cond_both}
 use Rattle.rds_fields.specs.Tag.{BothEndIn, PairFields}
-use Rattle.rds_receiver.specs.Receipts.{Fragment}
+use Rattle.rds_receiver.specs.declared.fragment.Fragment.{Fragment}
 use Rattle.rds_receiver.specs.Run.{is_same}
 use Rattle.rds_encoder.specs.Plan.{Broadcast, Covers, HasNumber}
 use Rattle.rds_encoder.specs.Laws.{ANumberIsBelowTheLength}

@@ -1,7 +1,7 @@
 -- Lemmas: the marks before and after one more slot.
 use Rattle.std.proofs.Common.{◌≡◌, ◌<◌, ℕ, List, [], ◌∷◌, length, sym, ◌∙◌, inl, inr, arith}
 use Rattle.rds_fields.specs.Tag.{PairFields}
-use Rattle.rds_receiver.specs.Receipts.{Fragment}
+use Rattle.rds_receiver.specs.declared.fragment.Fragment.{Fragment}
 use Rattle.rds_encoder.specs.Plan.{Broadcast}
 use Rattle.rds_audit.specs.Dense.{IsBridged, IsDense, IsMarked}
 use Rattle.rds_safety.specs.Lawful.{IsLawful, Kind}

@@ -8,7 +8,8 @@ use Rattle.std.proofs.lemmas.Bool.{and_parts, cond_both, ltb-true}
 use Rattle.rds_fields.specs.declared.message.Message.{Message}
 use Rattle.rds_fields.specs.declared.message.Message.TheVariants.{Text, Name, Announce, Tags, Other}
 use Rattle.rds_fields.specs.Tag.{PairFields}
-use Rattle.rds_receiver.specs.Receipts.{Fragment, Segment, name_fragment, picked, segments, text_fragment, with_segment}
+use Rattle.rds_receiver.specs.Receipts.{Segment, name_fragment, picked, segments, text_fragment, with_segment}
+use Rattle.rds_receiver.specs.declared.fragment.Fragment.{Fragment}
 use Rattle.rds_receiver.specs.Run.{begins_in, is_same, run, run_at, run_before}
 use Rattle.rds_receiver.specs.Tags.{is_known, or_before, pair_from, pair_held, pair_since, says_of_rtplus}
 use Rattle.rds_receiver.specs.Tags.{unless_contrary}

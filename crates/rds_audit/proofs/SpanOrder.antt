@@ -3,7 +3,7 @@ use Rattle.std.proofs.Common.{◌≡◌, ◌+◌, ◌<◌, ◌≤◌, max, ℕ, 
 use Rattle.std.proofs.Common.{Some, None, length, cond, refl, arith}
 use Rattle.std.proofs.lemmas.Bool.{and_parts, cond_both, eqb-true, ltb-false}
 use Rattle.rds_fields.specs.Tag.{PairFields}
-use Rattle.rds_receiver.specs.Receipts.{Fragment}
+use Rattle.rds_receiver.specs.declared.fragment.Fragment.{Fragment}
 use Rattle.rds_receiver.specs.Run.{is_same}
 use Rattle.rds_audit.specs.Lengths.{sent_last}
 use Rattle.rds_audit.specs.Listing.{Span, due_after, joined, same_bytes, span_with, spans, spans_after, spans_tagged}

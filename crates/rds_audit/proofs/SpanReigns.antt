@@ -8,7 +8,7 @@ use Rattle.std.specs.List.{AllByRecursion, list_all, list_any}
 use Rattle.std.proofs.lemmas.Bool.{and_from, and_parts, cases_lt, cond_both, leb-true, le-leb, le-ltb, lt-ltb}
 use Rattle.std.proofs.lemmas.Bool.{ltb-false, or_from}
 use Rattle.rds_fields.specs.Tag.{PairFields}
-use Rattle.rds_receiver.specs.Receipts.{Fragment}
+use Rattle.rds_receiver.specs.declared.fragment.Fragment.{Fragment}
 use Rattle.rds_safety.specs.Flags.{is_other_flag, is_same_flag, same_or_other}
 use Rattle.rds_safety.specs.Lawful.{Kind}
 use Rattle.rds_safety.specs.Marks.{Mark, Nothing, Sends, Tagged}

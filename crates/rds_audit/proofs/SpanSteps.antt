@@ -7,7 +7,7 @@ use Rattle.std.specs.List.{list_all, list_any}
 use Rattle.std.proofs.lemmas.Bool.{and_parts, and_right, cases_lt, cond_both, eqb-true, false_from_ne_true, lt-leb}
 use Rattle.std.proofs.lemmas.Bool.{eq-eqb, ne_eqb, leb-true, le-leb, lt-ltb, le-ltb, ltb-true}
 use Rattle.rds_fields.specs.Tag.{PairFields}
-use Rattle.rds_receiver.specs.Receipts.{Fragment}
+use Rattle.rds_receiver.specs.declared.fragment.Fragment.{Fragment}
 use Rattle.rds_receiver.specs.Run.{is_same}
 use Rattle.rds_safety.specs.Flags.{is_other_flag, is_same_flag, same_or_other}
 use Rattle.rds_safety.specs.Marks.{Mark, Nothing, Sends, Tagged}
@@ -20,7 +20,8 @@ use Rattle.rds_audit.specs.AuditAt.{FollowsFrom, HoldsContent, HoldsNewestSpans,
 use Rattle.rds_audit.specs.Reigns.{opened_from}
 use Rattle.rds_audit.specs.ReignsState.{ContentState, HoldsNoOther, ReignsState, cell_at, no_content}
 use Rattle.rds_audit.specs.Lengths.{Gauge, IsFormed, lengths_of, narrowed, pair_end, sent_last, tags_end}
-use Rattle.rds_audit.specs.Listing.{Span, added, broken_by, broken_newest, due_after, first_of_span, has_early_tags, is_tagged}
+use Rattle.rds_audit.specs.Listing.{Span, added, broken_by, broken_newest, due_after, first_of_span, has_early_tags}
+use Rattle.rds_audit.specs.Listing.{is_tagged}
 use Rattle.rds_audit.specs.Listing.{joined, none_broken, not_before, reigns_of, same_bytes, span_with, spans}
 use Rattle.rds_audit.specs.Listing.{spans_after, spans_tagged, turned}
 use Rattle.rds_audit.specs.AuditState.{SpansState, are_early, began_before, comes_early, is_turned, judged_ends}
@@ -153,7 +154,8 @@ narrowed_again allowed longest a (q ∷ older) bytes e =
     by (nat_eq a q.address) refl e (narrowed_again allowed longest a older bytes)
   where
     by : (v : Bool) → nat_eq a q.address ≡ v → cond v (Some q.bytes) (sent_last a older) ≡ Some bytes
-        → (sent_last a older ≡ Some bytes → narrowed (allowed a bytes) (lengths_of allowed longest older) ≡ (lengths_of allowed longest older))
+        → (sent_last a older ≡ Some bytes → narrowed (allowed a bytes) (lengths_of allowed longest older)
+        ≡ (lengths_of allowed longest older))
         → narrowed (allowed a bytes) (narrowed (allowed q.address q.bytes) (lengths_of allowed longest older))
         ≡ narrowed (allowed q.address q.bytes) (lengths_of allowed longest older)
     by true n e rest =
@@ -211,8 +213,7 @@ module _ (g : Gauge) (few : g.segments ≤ 16) (d : ℕ) (pos : 0 < d) (sent : L
       → HoldsAges d now (reigns_of (span_with now p r ∷ older)) record s.reigns.ages { since_last = 0 }
       → HoldsContent g r.reign.fragments r.reign.tags s.reigns.content
       → s.count ≡ min (suc (length older)) (2 ^ 64 - 1) → s.broken ≡ broken_by g d r
-      → FollowsFrom g d now (Sends p ∷ sent) (span_with now p r ∷ older) (put_in (g.allowed p.address p.bytes) p.address
-      p.bytes s)
+      → FollowsFrom g d now (Sends p ∷ sent) (span_with now p r ∷ older) (put_in g p s)
   put_follows p r older s formed ages content count broken = record {
     ages = ages;
     content = taken_content g few p r.reign.fragments r.reign.tags s.reigns.content content formed;
@@ -238,19 +239,18 @@ module _ (g : Gauge) (few : g.segments ≤ 16) (d : ℕ) (pos : 0 < d) (sent : L
   -- the state after a fragment that joins the newest span follows from the spans
   pub joined_follows : (p : Fragment) (rs : List Span) (s : SpansState) → IsFormed g.segments p
       → FollowsFrom g d now sent rs s → Joins d p.flag s.reigns.ages → HoldsNoOther p.address p.bytes s.reigns.content
-      → FollowsFrom g d now (Sends p ∷ sent) (spans_after d now p rs) (put_in (g.allowed p.address p.bytes) p.address
-      p.bytes s) × (length (spans_after d now p rs) ≡ length rs)
+      → FollowsFrom g d now (Sends p ∷ sent) (spans_after d now p rs) (put_in g p s)
+      × (length (spans_after d now p rs) ≡ length rs)
   joined_follows p [] s formed h on no_other = absurd (none_joins d now p.flag s.reigns.ages h.ages on)
   joined_follows p (r ∷ older) s formed h on no_other =
-      is_joined (λ (rs : List Span). FollowsFrom g d now (Sends p ∷ sent) rs (put_in (g.allowed p.address p.bytes)
-      p.address p.bytes s) × (length rs ≡ suc (length older))) p r older s.reigns.ages h.ages on
+      is_joined (λ (rs : List Span). FollowsFrom g d now (Sends p ∷ sent) rs (put_in g p s)
+      × (length rs ≡ suc (length older))) p r older s.reigns.ages h.ages on
       (elim no_other [
         | inl none ↦ rw (held p r _ formed h.content ∙ none) (follows, refl)
         | inr some ↦ rw (held p r _ formed h.content ∙ some, bytes_same p.bytes p.bytes refl) (follows, refl)
       ])
     where
-      follows : FollowsFrom g d now (Sends p ∷ sent) (span_with now p r ∷ older) (put_in (g.allowed p.address p.bytes)
-          p.address p.bytes s)
+      follows : FollowsFrom g d now (Sends p ∷ sent) (span_with now p r ∷ older) (put_in g p s)
       follows =
           put_follows p r older s formed (ages_renewed d now r.reign.opened (p ∷ r.reign.fragments) r.reign.tags r.reign
           (reigns_of older) s.reigns.ages h.ages)
@@ -264,8 +264,10 @@ module _ (g : Gauge) (few : g.segments ≤ 16) (d : ℕ) (pos : 0 < d) (sent : L
       ∙ sym (le-ltb now (max (r.reign.last + 1) 0) (omega arith))
   early_same r (q ∷ rest) since_before over e =
       elim (cases_lt now (max (r.reign.last + 1) (q.reign.last + d))) [
-        | inl early ↦ lt-ltb since_before d (omega arith) ∙ sym (lt-ltb now (max (r.reign.last + 1) (q.reign.last + d)) early)
-        | inr late ↦ le-ltb since_before d (omega arith) ∙ sym (le-ltb now (max (r.reign.last + 1) (q.reign.last + d)) late)
+        | inl early ↦ lt-ltb since_before d (omega arith)
+        ∙ sym (lt-ltb now (max (r.reign.last + 1) (q.reign.last + d)) early)
+        | inr late ↦ le-ltb since_before d (omega arith)
+        ∙ sym (le-ltb now (max (r.reign.last + 1) (q.reign.last + d)) late)
       ]
 
   -- the start of a span that turned
@@ -298,9 +300,10 @@ module _ (g : Gauge) (few : g.segments ≤ 16) (d : ℕ) (pos : 0 < d) (sent : L
       → began_before d is_changed p.flag s.reigns.ages ≡ min (now - start) d
       → comes_early d is_changed p.flag s.reigns.ages ≡ is_early → s.count ≡ min (length rs) (2 ^ 64 - 1)
       → FollowsFrom g d now (Sends p ∷ sent) (first_of_span now p start is_changed is_early ∷ rs)
-      (put_in (g.allowed p.address p.bytes) p.address p.bytes (opened_in d g.longest is_changed p.flag s))
+      (put_in g p (opened_in d g.longest is_changed p.flag s))
   begins p rs start is_changed is_early s formed ages began early count =
-      put_follows p (no_fragment start now p.flag is_changed is_early) rs (opened_in d g.longest is_changed p.flag s) formed
+      put_follows p (no_fragment start now p.flag is_changed is_early) rs
+      (opened_in d g.longest is_changed p.flag s) formed
       (ages_begun d now _ (opened_from start now p) (reigns_of rs) s.reigns.ages refl began ages)
       (empty_content g) (omega arith)
       (ap (λ (e : Bool). record none_broken { changed = is_changed; early_flag = e }) early ∙ empty_broken g d start now
@@ -311,8 +314,8 @@ module _ (g : Gauge) (few : g.segments ≤ 16) (d : ℕ) (pos : 0 < d) (sent : L
       → AreInOrder now (r ∷ older) → HoldsAges d now (reigns_of (r ∷ older)) s.reigns.ages
       → is_turned is_changed p.flag s.reigns.ages ≡ true
       → s.count ≡ min (suc (length older)) (2 ^ 64 - 1)
-      → FollowsFrom g d now (Sends p ∷ sent) (turned d now p is_changed r older) (put_in (g.allowed p.address p.bytes)
-      p.address p.bytes (opened_in d g.longest is_changed p.flag s))
+      → FollowsFrom g d now (Sends p ∷ sent) (turned d now p is_changed r older)
+      (put_in g p (opened_in d g.longest is_changed p.flag s))
   turns p r older is_changed s formed order ages is count =
       begins p (r ∷ older) (cond (nat_lt now (due_after d r older)) (r.reign.last + 1)
       (due_after d r older)) is_changed (nat_lt now (due_after d r older)) s
@@ -324,17 +327,18 @@ module _ (g : Gauge) (few : g.segments ≤ 16) (d : ℕ) (pos : 0 < d) (sent : L
   pub changed_follows : (p : Fragment) (rs : List Span) (s : SpansState) → IsFormed g.segments p → AreInOrder now rs
       → FollowsFrom g d now sent rs s → Joins d p.flag s.reigns.ages
       → (HoldsNoOther p.address p.bytes s.reigns.content → ⊥)
-      → FollowsFrom g d now (Sends p ∷ sent) (spans_after d now p rs) (put_in (g.allowed p.address p.bytes) p.address
-      p.bytes (opened_in d g.longest true p.flag s)) × (length (spans_after d now p rs) ≡ suc (length rs))
+      → FollowsFrom g d now (Sends p ∷ sent) (spans_after d now p rs)
+      (put_in g p (opened_in d g.longest true p.flag s)) × (length (spans_after d now p rs) ≡ suc (length rs))
   changed_follows p [] s formed order h on other = absurd (none_joins d now p.flag s.reigns.ages h.ages on)
   changed_follows p (r ∷ older) s formed order h on other =
-      is_joined (λ (rs : List Span). FollowsFrom g d now (Sends p ∷ sent) rs (put_in (g.allowed p.address p.bytes)
-      p.address p.bytes (opened_in d g.longest true p.flag s)) × (length rs ≡ suc (suc (length older))))
-      p r older s.reigns.ages h.ages on (rw (held p r _ formed h.content) (by (cell_at p.address s.reigns.content) refl))
+      is_joined (λ (rs : List Span). FollowsFrom g d now (Sends p ∷ sent) rs
+      (put_in g p (opened_in d g.longest true p.flag s)) × (length rs ≡ suc (suc (length older))))
+      p r older s.reigns.ages h.ages on (rw (held p r _ formed h.content)
+      (by (cell_at p.address s.reigns.content) refl))
     where
       by : (o : Option (List ℕ)) → cell_at p.address s.reigns.content ≡ o
-          → FollowsFrom g d now (Sends p ∷ sent) (joined d now p o r older) (put_in (g.allowed p.address p.bytes)
-          p.address p.bytes (opened_in d g.longest true p.flag s)) × (length (joined d now p o r older)
+          → FollowsFrom g d now (Sends p ∷ sent) (joined d now p o r older)
+          (put_in g p (opened_in d g.longest true p.flag s)) × (length (joined d now p o r older)
           ≡ suc (suc (length older)))
       by None is = absurd (other (inl is))
       by (Some bytes) is =
@@ -345,8 +349,8 @@ module _ (g : Gauge) (few : g.segments ≤ 16) (d : ℕ) (pos : 0 < d) (sent : L
   -- so does the state after a fragment that joins no span
   pub opened_follows : (p : Fragment) (rs : List Span) (s : SpansState) → IsFormed g.segments p → AreInOrder now rs
       → FollowsFrom g d now sent rs s → (Joins d p.flag s.reigns.ages → ⊥)
-      → FollowsFrom g d now (Sends p ∷ sent) (spans_after d now p rs) (put_in (g.allowed p.address p.bytes) p.address
-      p.bytes (opened_in d g.longest false p.flag s)) × (length (spans_after d now p rs) ≡ suc (length rs))
+      → FollowsFrom g d now (Sends p ∷ sent) (spans_after d now p rs)
+      (put_in g p (opened_in d g.longest false p.flag s)) × (length (spans_after d now p rs) ≡ suc (length rs))
   opened_follows p [] s formed order h apart = (
     begins p [] 0 false false s formed h.ages
         (cond_both (is_turned false p.flag s.reigns.ages) _ _ (λ n. n ≡ min (now - 0) d)
@@ -360,8 +364,8 @@ module _ (g : Gauge) (few : g.segments ≤ 16) (d : ℕ) (pos : 0 < d) (sent : L
   opened_follows p (r ∷ older) s formed order h apart = by (same_or_other r.reign.flag p.flag)
     where
       by : (r.reign.flag ≡ p.flag) ⊎ (r.reign.flag ≢ p.flag)
-          → FollowsFrom g d now (Sends p ∷ sent) (spans_after d now p (r ∷ older)) (put_in (g.allowed p.address p.bytes)
-          p.address p.bytes (opened_in d g.longest false p.flag s)) × (length (spans_after d now p (r ∷ older))
+          → FollowsFrom g d now (Sends p ∷ sent) (spans_after d now p (r ∷ older))
+          (put_in g p (opened_in d g.longest false p.flag s)) × (length (spans_after d now p (r ∷ older))
           ≡ suc (suc (length older)))
       by (inl e) =
           let same : is_same r.reign.flag p.flag ≡ true = is_same_flag r.reign.flag p.flag e in
@@ -393,7 +397,8 @@ module _ (g : Gauge) (few : g.segments ≤ 16) (d : ℕ) (pos : 0 < d) (sent : L
   repeated_follows p (r ∷ older) s formed h on is =
       let last : sent_last p.address r.reign.fragments ≡ Some p.bytes = held p r _ formed h.content ∙ is in
       let again : narrowed (g.allowed p.address p.bytes) (lengths_of g.allowed g.longest r.reign.fragments)
-      ≡ lengths_of g.allowed g.longest r.reign.fragments = narrowed_again g.allowed g.longest p.address r.reign.fragments
+      ≡ lengths_of g.allowed g.longest r.reign.fragments = narrowed_again g.allowed g.longest p.address
+      r.reign.fragments
       p.bytes last in
       let fit : list_all (λ (p : Fragment). is_some (g.allowed p.address p.bytes)) r.reign.fragments ≡ true
       → is_some (g.allowed p.address p.bytes) ≡ true =
@@ -406,7 +411,7 @@ module _ (g : Gauge) (few : g.segments ≤ 16) (d : ℕ) (pos : 0 < d) (sent : L
       s.broken ≡ s.broken =
       broken_put g d now p r s.reigns.content s.broken h.content h.broken ∙ broken_again g d now p r again fit
       ∙ sym h.broken in
-      let same : put_in (g.allowed p.address p.bytes) p.address p.bytes s ≡ repeated_in s = λ i. record {
+      let same : put_in g p s ≡ repeated_in s = λ i. record {
         count = s.count;
         reigns = record {
           ages = record s.reigns.ages { since_last = 0 };
@@ -449,7 +454,8 @@ module _ (g : Gauge) (few : g.segments ≤ 16) (d : ℕ) (pos : 0 < d) (sent : L
               (max n (pair_end pair)) record s.broken { early_tag = s.broken.early_tag || are_early d s.reigns.ages })
               h.content.ends
               ∙ ap (λ (f : FaultSet). judged_ends (lengths_of g.allowed g.longest r.reign.fragments)
-              (max (tags_end r.reign.tags) (pair_end pair)) record f { early_tag = f.early_tag || are_early d s.reigns.ages })
+              (max (tags_end r.reign.tags)
+              (pair_end pair)) record f { early_tag = f.early_tag || are_early d s.reigns.ages })
               h.broken
               ∙ sets_are _ _ refl refl refl
               (ap (λ b. has_early_tags d r || b) (early_tags r s.reigns.ages.since_start h.ages.current.2)

@@ -4,7 +4,7 @@ use Rattle.std.specs.List.{All, AllByRecursion}
 use Rattle.rds_fields.specs.declared.message.Message.{Message}
 use Rattle.rds_fields.specs.Tag.{BothEndIn}
 use Rattle.rds_encoder.specs.Plan.{Broadcast, HasNumber}
-use Rattle.rds_receiver.specs.Receipts.{Fragment}
+use Rattle.rds_receiver.specs.declared.fragment.Fragment.{Fragment}
 use Rattle.rds_audit.specs.declared.audit.AuditFault.{AuditFault}
 use Rattle.rds_audit.specs.Dense.{AreDense, HasPlans, IsDense}
 use Rattle.rds_safety.specs.Lawful.{HasFragment, IsLawful, IsFragmentOf, Kind}

@@ -3,6 +3,7 @@ use Rattle.std.specs.Prelude.{◌≡◌, ◌+◌, ◌-◌, ◌^◌, ◌==◌, �
 use Rattle.std.specs.Prelude.{is_some, max, min, nat_le, nat_lt, not, refl, if◌then◌else◌}
 use Rattle.std.specs.Coded.{Coded, code_by, coded×, coded_ℕ, coded_bool, coded_option}
 use Rattle.rds_fields.specs.Tag.{PairFields}
+use Rattle.rds_receiver.specs.declared.fragment.Fragment.{Fragment}
 use Rattle.rds_receiver.specs.Run.{is_same}
 use Rattle.rds_audit.specs.declared.audit.AuditFault.{AuditFault}
 use Rattle.rds_audit.specs.declared.audit.AuditFault.TheVariants.{Changed, NotOneText, EarlyFlag}
@@ -13,7 +14,7 @@ use Rattle.rds_audit.specs.declared.log_start.LogStart.{LogStart}
 use Rattle.rds_audit.specs.declared.log_start.LogStart.TheVariants.{Complete, Running}
 use Rattle.rds_audit.specs.Ages.{Ages, aged, restarted}
 use Rattle.rds_audit.specs.ReignsState.{ReignsState, joined_state, no_content, reigns_code, tagged_state}
-use Rattle.rds_audit.specs.Lengths.{narrowed, pair_end}
+use Rattle.rds_audit.specs.Lengths.{Gauge, narrowed, pair_end}
 use Rattle.rds_audit.specs.Listing.{none_broken}
 
 -- a service: the number of spans, which stops at 2 ^ 64 - 1; the ages of the spans and the content of the current one;
@@ -50,11 +51,11 @@ judged_fragment allowed l end f =
     record f { not_one_text = f.not_one_text || not (leaves_a_length allowed l) }
 
 -- a fragment joined the current span
-abbrev pub put_in : Option Lengths → ℕ → List ℕ → SpansState → SpansState
-put_in allowed address bytes s = record {
+abbrev pub put_in : Gauge → Fragment → SpansState → SpansState
+put_in g p s = record {
   count = s.count;
-  reigns = joined_state allowed address bytes s.reigns;
-  broken = judged_fragment allowed s.reigns.content.lengths s.reigns.content.tags_end s.broken;
+  reigns = joined_state (g.allowed p.address p.bytes) p.address p.bytes s.reigns;
+  broken = judged_fragment (g.allowed p.address p.bytes) s.reigns.content.lengths s.reigns.content.tags_end s.broken;
 }
 
 -- a fragment joined the current span, which had its bytes already

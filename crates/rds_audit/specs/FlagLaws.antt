@@ -2,7 +2,8 @@
 -- first.
 use Rattle.std.specs.Prelude.{◌+◌, ◌<◌, ◌≤◌, ◌⊎◌, ℕ, List, [], ◌∷◌, Option, IfSome, length}
 use Rattle.rds_fields.specs.declared.message.Message.{Message}
-use Rattle.rds_receiver.specs.Receipts.{Fragment, name_fragment, text_fragment}
+use Rattle.rds_receiver.specs.Receipts.{name_fragment, text_fragment}
+use Rattle.rds_receiver.specs.declared.fragment.Fragment.{Fragment}
 use Rattle.rds_safety.specs.FlagAlone.{HearsOneBetween, HearsTextBeforeTags, IsHeardFrom, ListensByFlag, run_by_flag}
 use Rattle.rds_safety.specs.FlagLaws.{IsOfItsSource, ShowsEmptyText, ShowsTagsOfText}
 use Rattle.rds_safety.specs.Late.{Input}

@@ -9,7 +9,7 @@ use Rattle.rds_fields.specs.Tag.{PairFields, TagFields, end_of}
 use Rattle.rds_assembly.specs.Body.{space}
 use Rattle.rds_assembly.specs.Value.{is_name_byte, is_text_byte}
 use Rattle.rds_assembly.specs.Whole.{carriage_return}
-use Rattle.rds_receiver.specs.Receipts.{Fragment}
+use Rattle.rds_receiver.specs.declared.fragment.Fragment.{Fragment}
 use Rattle.rds_audit.specs.declared.audited.Lengths.{Lengths}
 use Rattle.rds_safety.specs.Lawful.{Kind, names, texts}
 use Rattle.rds_audit.specs.Reigns.{SentTags}

@@ -3,7 +3,7 @@
 -- Tags lengthen the current reign. Lists have the newest first.
 use Rattle.std.specs.Prelude.{◌≢◌, ◌+◌, ◌&&◌, ℕ, Bool, List, [], ◌∷◌, length, nat_lt, max, if◌then◌else◌}
 use Rattle.rds_fields.specs.Tag.{PairFields}
-use Rattle.rds_receiver.specs.Receipts.{Fragment}
+use Rattle.rds_receiver.specs.declared.fragment.Fragment.{Fragment}
 use Rattle.rds_receiver.specs.Run.{is_same}
 use Rattle.rds_safety.specs.Marks.{Mark, Nothing, Sends, Tagged}
 

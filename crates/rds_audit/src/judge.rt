@@ -24,7 +24,7 @@ use crate::{
 };
 use rds_block::Blocks;
 use rds_fields::Message;
-use rds_receiver::heard_blocks;
+use rds_receiver::{Fragment, heard_blocks};
 
 impl StoredAudit {
     /// Takes the next slot: the group that was sent in it, as its blocks, or nothing.
@@ -146,14 +146,14 @@ impl StoredAudit {
                 bytes,
             } => self
                 .text
-                .take::<Texts>(distance, flag, address.get(), bytes),
+                .take::<Texts>(distance, Fragment::new(flag, address, bytes)),
             Message::Name {
                 flag,
                 address,
                 bytes,
             } => self
                 .name
-                .take::<Names>(distance, flag, address.get(), bytes),
+                .take::<Names>(distance, Fragment::new(flag, address, bytes)),
             Message::Tags(pair) => {
                 if self.awaits_text() {
                     FaultSet::none()

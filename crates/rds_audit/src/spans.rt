@@ -11,6 +11,7 @@ use crate::audited::Audited;
 use crate::stored::{StoredFaults, StoredReigns, StoredSpans};
 use crate::{FaultSet, LogStart};
 use rds_fields::{Distance, TagPair};
+use rds_receiver::Fragment;
 
 impl StoredSpans {
     /// Makes the state of a service before the first slot of a log that begins so.
@@ -30,53 +31,45 @@ impl StoredSpans {
     /// Takes a segment that was sent in this slot: it joins the current span, or opens one. Returns the faults that it
     /// adds to the list.
     #[inline(always)]
-    pub(crate) fn take<S: Audited>(
-        &mut self,
-        distance: u32,
-        flag: bool,
-        address: u8,
-        bytes: [u8; 4],
-    ) -> FaultSet
-        requires { address < S.gauge.segments }
-        ensures added { WhereSpansHold S.gauge distance (spans_stored self.old) (λ sent. result
-            ≡ added S.gauge distance (Sends record { flag = flag; address = address; bytes = bytes }) sent) }
+    pub(crate) fn take<S: Audited>(&mut self, distance: u32, fragment: Fragment) -> FaultSet
+        requires { fragment.address < S.gauge.segments }
+        ensures added { WhereSpansHold S.gauge distance (spans_stored self.old)
+            (λ sent. result ≡ added S.gauge distance (Sends fragment) sent) }
         ensures holds { WhereSpansHold S.gauge distance (spans_stored self.old)
-            (λ sent. HoldsNewestSpans S.gauge distance
-            (Sends record { flag = flag; address = address; bytes = bytes }) sent (spans_stored self.new)) }
+            (λ sent. HoldsNewestSpans S.gauge distance (Sends fragment) sent (spans_stored self.new)) }
     {
-        if self.reigns.joins(distance, flag) && self.reigns.has(address, bytes) {
+        if self.reigns.joins(distance, fragment.flag)
+            && self.reigns.has(fragment.address, fragment.bytes)
+        {
             // what the span has already breaks no further rule
             self.reigns.renew();
             return FaultSet::none();
         }
-        self.take_new::<S>(distance, flag, address, bytes)
+        self.take_new::<S>(distance, fragment)
     }
 
     /// Does the same for any segment.
     // Cold path.
     #[inline(never)]
-    fn take_new<S: Audited>(
-        &mut self,
-        distance: u32,
-        flag: bool,
-        address: u8,
-        bytes: [u8; 4],
-    ) -> FaultSet
-        requires { address < S.gauge.segments }
-        ensures added { WhereSpansHold S.gauge distance (spans_stored self.old) (λ sent. result
-            ≡ added S.gauge distance (Sends record { flag = flag; address = address; bytes = bytes }) sent) }
+    fn take_new<S: Audited>(&mut self, distance: u32, fragment: Fragment) -> FaultSet
+        requires { fragment.address < S.gauge.segments }
+        ensures added { WhereSpansHold S.gauge distance (spans_stored self.old)
+            (λ sent. result ≡ added S.gauge distance (Sends fragment) sent) }
         ensures holds { WhereSpansHold S.gauge distance (spans_stored self.old)
-            (λ sent. HoldsNewestSpans S.gauge distance
-            (Sends record { flag = flag; address = address; bytes = bytes }) sent (spans_stored self.new)) }
+            (λ sent. HoldsNewestSpans S.gauge distance (Sends fragment) sent (spans_stored self.new)) }
     {
-        if !self.reigns.joins(distance, flag) {
-            return self.begin::<S>(distance, flag, address, bytes, false);
+        if !self.reigns.joins(distance, fragment.flag) {
+            return self.begin::<S>(distance, fragment, false);
         }
-        if self.reigns.check_unchanged(address, bytes).is_err() {
-            return self.begin::<S>(distance, flag, address, bytes, true);
+        if self
+            .reigns
+            .check_unchanged(fragment.address, fragment.bytes)
+            .is_err()
+        {
+            return self.begin::<S>(distance, fragment, true);
         }
         let before = self.broken.get();
-        self.put::<S>(address, bytes);
+        self.put::<S>(fragment);
         self.broken.get().not_in(before)
     }
 
@@ -100,22 +93,14 @@ impl StoredSpans {
     }
 
     /// Opens a span with this segment. Returns the faults that the span has.
-    fn begin<S: Audited>(
-        &mut self,
-        distance: u32,
-        flag: bool,
-        address: u8,
-        bytes: [u8; 4],
-        is_changed: bool,
-    ) -> FaultSet
-        requires { address < S.gauge.segments }
-        ensures begun { spans_stored self.new
-            ≡ put_in (S.gauge.allowed address bytes) address bytes
-            (opened_in distance S.gauge.longest is_changed flag (spans_stored self.old)) }
+    fn begin<S: Audited>(&mut self, distance: u32, fragment: Fragment, is_changed: bool) -> FaultSet
+        requires { fragment.address < S.gauge.segments }
+        ensures begun { spans_stored self.new ≡ put_in S.gauge fragment
+            (opened_in distance S.gauge.longest is_changed fragment.flag (spans_stored self.old)) }
         ensures faults { result ≡ (spans_stored self.new).broken }
     {
-        self.open::<S>(distance, flag, is_changed);
-        self.put::<S>(address, bytes);
+        self.open::<S>(distance, fragment.flag, is_changed);
+        self.put::<S>(fragment);
         self.broken.get()
     }
 
@@ -148,13 +133,12 @@ impl StoredSpans {
     }
 
     /// Takes a segment into the current span.
-    fn put<S: Audited>(&mut self, address: u8, bytes: [u8; 4])
-        requires { address < S.gauge.segments }
-        ensures { spans_stored self.new
-            ≡ put_in (S.gauge.allowed address bytes) address bytes (spans_stored self.old) }
+    fn put<S: Audited>(&mut self, fragment: Fragment)
+        requires { fragment.address < S.gauge.segments }
+        ensures { spans_stored self.new ≡ put_in S.gauge fragment (spans_stored self.old) }
     {
         self.reigns.renew();
-        if !self.reigns.put::<S>(address, bytes) {
+        if !self.reigns.put::<S>(fragment.address, fragment.bytes) {
             self.broken.not_one_text = 1;
         }
         self.judge_tags();

@@ -4,7 +4,8 @@ use Rattle.std.specs.FinMap.{contains_key}
 use Rattle.std.specs.Int.{bit_at}
 use Rattle.rds_block.specs.declared.group.Group.{Group}
 use Rattle.rds_fields.specs.declared.message.Message.{Message}
-use Rattle.rds_receiver.specs.Receipts.{AreHeard, Fragment, Segment, Tuning, name_fragment, segments, text_fragment}
+use Rattle.rds_receiver.specs.Receipts.{AreHeard, Segment, Tuning, name_fragment, segments, text_fragment}
+use Rattle.rds_receiver.specs.declared.fragment.Fragment.{Fragment}
 use Rattle.rds_receiver.specs.Run.{cells_of, run}
 use Rattle.rds_receiver.specs.Holds.{HasAge, newest_slot}
 use Rattle.rds_receiver.specs.Confirmed.{counted}

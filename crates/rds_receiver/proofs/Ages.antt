@@ -10,13 +10,13 @@ use Rattle.std.proofs.lemmas.Cmp.{nat_cmp_total}
 use Rattle.std.proofs.lemmas.Bool.{cases_eq, cases_lt, cond-false, cond-true, eq-eqb, ne_eqb}
 use Rattle.std.proofs.lemmas.Bool.Decides.{nat_tests}
 use Rattle.rds_fields.specs.declared.message.Message.{Message}
-use Rattle.rds_fields.specs.declared.message.Message.TheVariants.{Name}
 use Rattle.rds_fields.specs.Stored.{fields_stored, is_set, pair_stored}
 use Rattle.rds_assembly.specs.Cells.{Cells}
 use Rattle.rds_assembly.specs.Held.{held_cells}
 use Rattle.rds_assembly.proofs.HeldLemmas.{nothing_held}
 use Rattle.rds_receiver.specs.Older.{AreOlder, IsOlder}
-use Rattle.rds_receiver.specs.Receipts.{Fragment, Segment, name_fragment, segments, text_fragment}
+use Rattle.rds_receiver.specs.Receipts.{Segment, name_fragment, name_of, segments, text_fragment}
+use Rattle.rds_receiver.specs.declared.fragment.Fragment.{Fragment}
 use Rattle.rds_receiver.specs.Run.{begins_in, run}
 use Rattle.rds_receiver.specs.Holds.{HoldsAt, HoldsRun, newest_slot}
 use Rattle.rds_receiver.specs.State.{HeldSegments, DisplayState}
@@ -274,17 +274,19 @@ why_stored m t d rest segs s why rests soon dwell holds held none =
     (λ old. none (none_held d rest s rests soon (λ l. old (omega (arith, l, dwell)))))
 
 -- a slot with a name segment
-pub name_taken : (m first : ℕ) (r : StoredDisplay) (name : StoredSegments) (heard : List (Option Message)) (f : Bool)
-    (a : ℕ) (b : List ℕ)
-    → (f ≡ is_set r.name.flag → held_cells name.mask name.bytes ≡ insert (held_cells r.name.mask r.name.bytes) a b)
-    → (f ≢ is_set r.name.flag → held_cells name.mask name.bytes ≡ insert empty a b) → is_set name.flag ≡ f
+pub name_taken : (m first : ℕ) (r : StoredDisplay) (name : StoredSegments) (heard : List (Option Message))
+    (p : Fragment)
+    → (p.flag ≡ is_set r.name.flag → held_cells name.mask name.bytes
+    ≡ insert (held_cells r.name.mask r.name.bytes) p.address p.bytes)
+    → (p.flag ≢ is_set r.name.flag → held_cells name.mask name.bytes ≡ insert empty p.address p.bytes)
+    → is_set name.flag ≡ p.flag
     → name.later ≡ r.dwell - r.rest
     → HoldsAt m (first + length heard) first (display_stored r) heard
-    → HoldsAt m (first + length heard) first (display_stored (record r { name = name })) (Some (Name f a b) ∷ heard)
-name_taken m first r name heard f a b same other flag later st =
-    name_heard m first (display_stored r) (display_stored (record r { name = name })) heard f a b refl refl refl refl
-    record { same = same; other = other; flag = flag; age = age (equal_or_not f (is_set r.name.flag)) } st
+    → HoldsAt m (first + length heard) first (display_stored (record r { name = name })) (Some (name_of p) ∷ heard)
+name_taken m first r name heard p same other flag later st =
+    name_heard m first (display_stored r) (display_stored (record r { name = name })) heard p refl refl refl refl
+    record { same = same; other = other; flag = flag; age = age (equal_or_not p.flag (is_set r.name.flag)) } st
   where
-    age : (f ≡ is_set r.name.flag) ⊎ (f ≢ is_set r.name.flag) → age_stored r.dwell r.rest name ≡ 0
-    age (inl e) = age_taken r.dwell r.rest name (held_cells r.name.mask r.name.bytes) a b (same e) later
-    age (inr ne) = age_taken r.dwell r.rest name empty a b (other ne) later
+    age : (p.flag ≡ is_set r.name.flag) ⊎ (p.flag ≢ is_set r.name.flag) → age_stored r.dwell r.rest name ≡ 0
+    age (inl e) = age_taken r.dwell r.rest name (held_cells r.name.mask r.name.bytes) p.address p.bytes (same e) later
+    age (inr ne) = age_taken r.dwell r.rest name empty p.address p.bytes (other ne) later

@@ -9,7 +9,9 @@ use Rattle.rds_block.specs.declared.group.Group.{Group}
 use Rattle.rds_fields.specs.declared.message.Message.{Message}
 use Rattle.rds_fields.specs.declared.message.Message.TheVariants.{Announce, Name, Other, Tags, Text}
 use Rattle.rds_fields.specs.Tag.{PairFields, TagFields}
-use Rattle.rds_receiver.specs.Receipts.{Fragment, Hears, Segment, Tuning, name_fragment, segments, text_fragment}
+use Rattle.rds_receiver.specs.Receipts.{Hears, Segment, Tuning, name_fragment, name_of, segments}
+use Rattle.rds_receiver.specs.declared.fragment.Fragment.{Fragment}
+use Rattle.rds_receiver.specs.Receipts.{text_fragment, text_of}
 use Rattle.rds_receiver.specs.Run.{begins_in, is_same, run, run_before}
 use Rattle.rds_receiver.specs.Holds.{HasFlag, HearsMore, HoldsAt, HoldsRun, newest_slot}
 use Rattle.rds_receiver.specs.ReceiverAt.{ReceiverAt}
@@ -31,8 +33,8 @@ not_true b f t = (let bad : false ≡ true = sym f ∙ t in cc)
 
 -- ---- the last segment at an address
 
-abbrev pub segment_in : ℕ → Bool → ℕ → List ℕ → Segment
-segment_in n f a b = record { slot = n; fragment = record { flag = f; address = a; bytes = b } }
+abbrev pub segment_in : ℕ → Fragment → Segment
+segment_in n p = record { slot = n; fragment = p }
 
 -- slot n is the next one after slot t, or there is no last segment
 last_older : (w t n : ℕ) (last : Option Segment) (old new : LastSegment) → (n ≡ t + 1) ⊎ (last ≡ None)
@@ -48,49 +50,54 @@ last_older w t n (Some g) old new (inl next) is st = record {
 last_older w t n (Some g) old new (inr none) is st = absurd (cc)
 
 -- the last segment at address i after one at address a was taken
-last_taken : (w n : ℕ) (segs : List Segment) (f : Bool) (a : ℕ) (b : List ℕ) (i : ℕ) (old new : LastSegment)
-    → (i ≡ a → new ≡ record { flag = f; bytes = b; left = w }) → (i ≢ a → new ≡ old)
-    → HoldsLast w n (last_at i segs) old → HoldsLast w n (last_at i (segment_in n f a b ∷ segs)) new
-last_taken w n segs f a b i old new here others st = by (cases_eq i a)
+last_taken : (w n : ℕ) (segs : List Segment) (p : Fragment) (i : ℕ) (old new : LastSegment)
+    → (i ≡ p.address → new ≡ record { flag = p.flag; bytes = p.bytes; left = w }) → (i ≢ p.address → new ≡ old)
+    → HoldsLast w n (last_at i segs) old → HoldsLast w n (last_at i (segment_in n p ∷ segs)) new
+last_taken w n segs p i old new here others st = by (cases_eq i p.address)
   where
-    by : (i ≡ a) ⊎ (i ≢ a) → HoldsLast w n (last_at i (segment_in n f a b ∷ segs)) new
+    by : (i ≡ p.address) ⊎ (i ≢ p.address) → HoldsLast w n (last_at i (segment_in n p ∷ segs)) new
     by (inl e) =
-        let now : HoldsLast w n (Some (segment_in n f a b)) new = record {
+        let now : HoldsLast w n (Some (segment_in n p)) new = record {
           left = (let l : new.left ≡ w = ap (λ (s : LastSegment). s.left) (here e) in omega (arith, l));
           same = (ap (λ (s : LastSegment). s.flag) (here e), ap (λ (s : LastSegment). s.bytes) (here e));
         } in
         subst (λ (o : Option Segment). HoldsLast w n o new)
-        (sym (cond-true (a == i) (Some (segment_in n f a b)) (last_at i segs) (eq-eqb a i (sym e)))) now
+        (sym (cond-true (p.address == i) (Some (segment_in n p)) (last_at i segs) (eq-eqb p.address i (sym e)))) now
     by (inr e) =
         subst (λ (o : Option Segment). HoldsLast w n o new)
-        (sym (cond-false (a == i) (Some (segment_in n f a b)) (last_at i segs) (ne_eqb a i (λ s. e (sym s)))))
+        (sym (cond-false (p.address == i) (Some (segment_in n p)) (last_at i segs)
+        (ne_eqb p.address i (λ s. e (sym s)))))
         (subst (HoldsLast w n (last_at i segs)) (sym (others e)) st)
 
 -- a segment is confirmed exactly if the last one at its address confirms it
-again : (w n : ℕ) (f : Bool) (b : List ℕ) (last : Option Segment) (s : LastSegment) → HoldsLast w n last s
-    → RepeatsSegment f b s → (u : ℕ) × (segment_again w n f b last ≡ Some u)
-again w n f b None s st is = absurd (omega (arith, st.left, is.0))
-again w n f b (Some g) s st is =
-    let flag : is_same f g.fragment.flag ≡ true = subst (λ (x : Bool). is_same x g.fragment.flag ≡ true) (sym st.same.0
+again : (w n : ℕ) (p : Fragment) (last : Option Segment) (s : LastSegment) → HoldsLast w n last s
+    → RepeatsSegment p s → (u : ℕ) × (segment_again w n p.flag p.bytes last ≡ Some u)
+again w n p None s st is = absurd (omega (arith, st.left, is.0))
+again w n p (Some g) s st is =
+    let flag : is_same p.flag g.fragment.flag
+    ≡ true = subst (λ (x : Bool). is_same x g.fragment.flag ≡ true) (sym st.same.0
     ∙ is.1) (same_is g.fragment.flag) in
-    let bytes : bytes_eq b g.fragment.bytes ≡ true = (bytes_eq-Decides b g.fragment.bytes).1 (sym is.2 ∙ st.same.1) in
+    let bytes : bytes_eq p.bytes g.fragment.bytes
+    ≡ true = (bytes_eq-Decides p.bytes g.fragment.bytes).1 (sym is.2 ∙ st.same.1) in
     let soon : nat_lt n (g.slot + w) ≡ true = test_true n (g.slot + w) (omega (arith, st.left, is.0)) in
     (g.slot, rw (flag, bytes, soon) refl)
 
-not_again : (w n : ℕ) (f : Bool) (b : List ℕ) (last : Option Segment) (s : LastSegment) → HoldsLast w n last s
-    → (RepeatsSegment f b s → ⊥) → segment_again w n f b last ≡ None
-not_again w n f b None s st is = refl
-not_again w n f b (Some g) s st is =
-    cond_both ((is_same f g.fragment.flag && bytes_eq b g.fragment.bytes) && nat_lt n (g.slot + w)) (Some g.slot) None
+not_again : (w n : ℕ) (p : Fragment) (last : Option Segment) (s : LastSegment) → HoldsLast w n last s
+    → (RepeatsSegment p s → ⊥) → segment_again w n p.flag p.bytes last ≡ None
+not_again w n p None s st is = refl
+not_again w n p (Some g) s st is =
+    cond_both ((is_same p.flag g.fragment.flag && bytes_eq p.bytes g.fragment.bytes) && nat_lt n (g.slot + w))
+    (Some g.slot) None
     (λ (o : Option ℕ). o ≡ None)
     (λ t.
-    let parts = and_parts (is_same f g.fragment.flag && bytes_eq b g.fragment.bytes) (nat_lt n (g.slot + w)) t in
-    let both = and_parts (is_same f g.fragment.flag) (bytes_eq b g.fragment.bytes) parts.0 in
+    let parts = and_parts (is_same p.flag g.fragment.flag && bytes_eq p.bytes g.fragment.bytes)
+    (nat_lt n (g.slot + w)) t in
+    let both = and_parts (is_same p.flag g.fragment.flag) (bytes_eq p.bytes g.fragment.bytes) parts.0 in
     let soon : n < g.slot + w = ltb-true n (g.slot + w) parts.1 in
     absurd (is (
       omega (arith, soon, st.left),
-      st.same.0 ∙ sym (one_flag f g.fragment.flag both.0),
-      st.same.1 ∙ sym ((bytes_eq-Decides b g.fragment.bytes).0 both.1),
+      st.same.0 ∙ sym (one_flag p.flag g.fragment.flag both.0),
+      st.same.1 ∙ sym ((bytes_eq-Decides p.bytes g.fragment.bytes).0 both.1),
     )))
     (λ t. refl)
 
@@ -323,25 +330,25 @@ grown w m first old new heard window pair cells held over received st = record {
         ∙ ap (λ (gs : List Segment). pair_left_of w n (begins_in gs) (last_pair first heard)) (sym none)
 
 -- a text segment was taken
-pub text_confirmed : (w m first : ℕ) (heard : List (Option Message)) (old new : ReceiverState) (f : Bool) (a : ℕ)
-    (b : List ℕ) (is : Bool) → a < 16
+pub text_confirmed : (w m first : ℕ) (heard : List (Option Message)) (old new : ReceiverState) (p : Fragment)
+    (is : Bool) → p.address < 16
     → new.window ≡ old.window → new.display ≡ old.display → new.pair ≡ old.pair
-    → cell_in new.segments a ≡ record { flag = f; bytes = b; left = old.window }
-    → ((c : ℕ) → c < 18 → c ≢ a → cell_in new.segments c ≡ cell_in old.segments c)
-    → (is ≡ true → RepeatsSegment f b (cell_in old.segments a))
-    → (RepeatsSegment f b (cell_in old.segments a) → is ≡ true)
+    → cell_in new.segments p.address ≡ record { flag = p.flag; bytes = p.bytes; left = old.window }
+    → ((c : ℕ) → c < 18 → c ≢ p.address → cell_in new.segments c ≡ cell_in old.segments c)
+    → (is ≡ true → RepeatsSegment p (cell_in old.segments p.address))
+    → (RepeatsSegment p (cell_in old.segments p.address) → is ≡ true)
     → (is ≡ false → new.pair_left ≡ old.pair_left)
-    → (is ≡ true → f ≡ old.display.text.flag → new.pair_left ≡ old.pair_left)
-    → (is ≡ true → f ≢ old.display.text.flag → new.pair_left ≡ 0)
-    → HoldsBy (Some w) m (first + length heard) first old heard → Counts (Some w) m first new heard (Text f a b) is
-text_confirmed w m first heard old new f a b is within window receiver pair taken others if_again then_again stays same
+    → (is ≡ true → p.flag ≡ old.display.text.flag → new.pair_left ≡ old.pair_left)
+    → (is ≡ true → p.flag ≢ old.display.text.flag → new.pair_left ≡ 0)
+    → HoldsBy (Some w) m (first + length heard) first old heard → Counts (Some w) m first new heard (text_of p) is
+text_confirmed w m first heard old new p is within window receiver pair taken others if_again then_again stays same
     other st = record {
       display = subst (λ (r : DisplayState). HoldsAt m (first + length heard) first r (confirmed w m first heard))
           (sym receiver) st.display;
       lasts = record {
         window = window ∙ st.lasts.window;
         two = st.lasts.two;
-        texts = λ i h. last_taken w n (segments text_fragment first heard) f a b i (cell_in old.segments i)
+        texts = λ i h. last_taken w n (segments text_fragment first heard) p i (cell_in old.segments i)
             (cell_in new.segments i) (here_at i) (others i (omega (arith, h))) (st.lasts.texts i h);
         names = λ i h. subst (HoldsLast w n (last_at i (segments name_fragment first heard)))
             (sym (others (16 + i) (omega (arith, h)) (λ e. omega (arith, e, within)))) (st.lasts.names i h);
@@ -360,27 +367,26 @@ text_confirmed w m first heard old new f a b is within window receiver pair take
     segs : List Segment
     segs = segments text_fragment first (confirmed w m first heard)
 
-    here_at : (i : ℕ) → i ≡ a → cell_in new.segments i ≡ record { flag = f; bytes = b; left = w }
-    here_at i e = ap (cell_in new.segments) e ∙ taken ∙ ap (λ (k : ℕ). record { flag = f; bytes = b; left = k })
+    here_at : (i : ℕ) → i ≡ p.address → cell_in new.segments i ≡ record { flag = p.flag; bytes = p.bytes; left = w }
+    here_at i e = ap (cell_in new.segments) e ∙ taken
+        ∙ ap (λ (k : ℕ). record { flag = p.flag; bytes = p.bytes; left = k })
         st.lasts.window
 
     here : first + length (confirmed w m first heard) ≡ first + length heard
     here = ap (λ (k : ℕ). first + k) (confirmed_long w m first heard)
 
-    p : Fragment
-    p = record { flag = f; address = a; bytes = b }
-
     kept : (x : Bool) → is ≡ x
-        → confirmed w m first (Some (Text f a b) ∷ heard) ≡ (if x then Some (Text f a b) else None)
+        → confirmed w m first (Some (text_of p) ∷ heard) ≡ (if x then Some (text_of p) else None)
         ∷ confirmed w m first heard
     kept true e =
-        let some = again w n f b (last_at a (segments text_fragment first heard)) (cell_in old.segments a)
-        (st.lasts.texts a within) (if_again e) in
-        ap (λ (r : Option ℕ). if_confirmed r (Some (Text f a b)) ∷ confirmed w m first heard) some.1
+        let some = again w n p (last_at p.address (segments text_fragment first heard)) (cell_in old.segments p.address)
+        (st.lasts.texts p.address within) (if_again e) in
+        ap (λ (r : Option ℕ). if_confirmed r (Some (text_of p)) ∷ confirmed w m first heard) some.1
     kept false e =
-        let none = not_again w n f b (last_at a (segments text_fragment first heard)) (cell_in old.segments a)
-        (st.lasts.texts a within) (λ r. not_true is e (then_again r)) in
-        ap (λ (r : Option ℕ). if_confirmed r (Some (Text f a b)) ∷ confirmed w m first heard) none
+        let none = not_again w n p (last_at p.address (segments text_fragment first heard))
+        (cell_in old.segments p.address)
+        (st.lasts.texts p.address within) (λ r. not_true is e (then_again r)) in
+        ap (λ (r : Option ℕ). if_confirmed r (Some (text_of p)) ∷ confirmed w m first heard) none
 
     none_new : pair_left_of w n (Some (first + length (confirmed w m first heard))) (last_pair first heard) ≡ 0
     none_new = no_pair_left w n (first + length (confirmed w m first heard)) (last_pair first heard)
@@ -394,8 +400,8 @@ text_confirmed w m first heard old new f a b is within window receiver pair take
     joined (g ∷ rest) e = st.lasts.pair.left_is ∙ ap (λ (gs : List Segment). pair_left_of w n (begins_in gs)
         (last_pair first heard)) e
 
-    by_flag : (f ≡ old.display.text.flag) ⊎ (f ≢ old.display.text.flag) → is ≡ true
-        → new.pair_left ≡ pair_left_of w n (text_begins m n first (Some (Text f a b) ∷ confirmed w m first heard))
+    by_flag : (p.flag ≡ old.display.text.flag) ⊎ (p.flag ≢ old.display.text.flag) → is ≡ true
+        → new.pair_left ≡ pair_left_of w n (text_begins m n first (Some (text_of p) ∷ confirmed w m first heard))
         (last_pair first heard)
     by_flag (inl e) y =
         same y e ∙ joined (run m n segs) refl
@@ -409,21 +415,21 @@ text_confirmed w m first heard old new f a b is within window receiver pair take
         st.display.lasts st.display.text ne))
 
     by : (x : Bool) → is ≡ x
-        → new.pair_left ≡ pair_left_of w n (text_begins m n first ((if x then Some (Text f a b) else None)
+        → new.pair_left ≡ pair_left_of w n (text_begins m n first ((if x then Some (text_of p) else None)
         ∷ confirmed w m first heard)) (last_pair first heard)
-    by true e = by_flag (equal_or_not f old.display.text.flag) e
+    by true e = by_flag (equal_or_not p.flag old.display.text.flag) e
     by false e = stays e ∙ st.lasts.pair.left_is
 
 -- a name segment was taken
-pub name_confirmed : (w m first : ℕ) (heard : List (Option Message)) (old new : ReceiverState) (f : Bool) (a : ℕ)
-    (b : List ℕ) (is : Bool) → a < 2
+pub name_confirmed : (w m first : ℕ) (heard : List (Option Message)) (old new : ReceiverState) (p : Fragment)
+    (is : Bool) → p.address < 2
     → new ≡ record old { segments = new.segments }
-    → cell_in new.segments (16 + a) ≡ record { flag = f; bytes = b; left = old.window }
-    → ((c : ℕ) → c < 18 → c ≢ 16 + a → cell_in new.segments c ≡ cell_in old.segments c)
-    → (is ≡ true → RepeatsSegment f b (cell_in old.segments (16 + a)))
-    → (RepeatsSegment f b (cell_in old.segments (16 + a)) → is ≡ true)
-    → HoldsBy (Some w) m (first + length heard) first old heard → Counts (Some w) m first new heard (Name f a b) is
-name_confirmed w m first heard old new f a b is within rest taken others if_again then_again st = record {
+    → cell_in new.segments (16 + p.address) ≡ record { flag = p.flag; bytes = p.bytes; left = old.window }
+    → ((c : ℕ) → c < 18 → c ≢ 16 + p.address → cell_in new.segments c ≡ cell_in old.segments c)
+    → (is ≡ true → RepeatsSegment p (cell_in old.segments (16 + p.address)))
+    → (RepeatsSegment p (cell_in old.segments (16 + p.address)) → is ≡ true)
+    → HoldsBy (Some w) m (first + length heard) first old heard → Counts (Some w) m first new heard (name_of p) is
+name_confirmed w m first heard old new p is within rest taken others if_again then_again st = record {
   display = subst (λ (s : ReceiverState). HoldsAt m (first + length heard) first s.display (confirmed w m first heard))
       (sym rest) st.display;
   lasts = record {
@@ -431,7 +437,7 @@ name_confirmed w m first heard old new f a b is within rest taken others if_agai
     two = st.lasts.two;
     texts = λ i h. subst (HoldsLast w n (last_at i (segments text_fragment first heard)))
         (sym (others i (omega (arith, h)) (λ e. omega (arith, e, h)))) (st.lasts.texts i h);
-    names = λ i h. last_taken w n (segments name_fragment first heard) f a b i (cell_in old.segments (16 + i))
+    names = λ i h. last_taken w n (segments name_fragment first heard) p i (cell_in old.segments (16 + i))
         (cell_in new.segments (16 + i)) (here_at i) (λ ne. others (16 + i) (omega (arith, h))
         (λ e. ne (omega (arith, e)))) (st.lasts.names i h);
     pair = record {
@@ -447,24 +453,27 @@ name_confirmed w m first heard old new f a b is within rest taken others if_agai
     n : ℕ
     n = first + length heard
 
-    here_at : (i : ℕ) → i ≡ a → cell_in new.segments (16 + i) ≡ record { flag = f; bytes = b; left = w }
+    here_at : (i : ℕ) → i ≡ p.address → cell_in new.segments (16 + i)
+        ≡ record { flag = p.flag; bytes = p.bytes; left = w }
     here_at i e = ap (λ (k : ℕ). cell_in new.segments (16 + k)) e ∙ taken
-        ∙ ap (λ (k : ℕ). record { flag = f; bytes = b; left = k }) st.lasts.window
+        ∙ ap (λ (k : ℕ). record { flag = p.flag; bytes = p.bytes; left = k }) st.lasts.window
 
     kept : (x : Bool) → is ≡ x
-        → confirmed w m first (Some (Name f a b) ∷ heard) ≡ (if x then Some (Name f a b) else None)
+        → confirmed w m first (Some (name_of p) ∷ heard) ≡ (if x then Some (name_of p) else None)
         ∷ confirmed w m first heard
     kept true e =
-        let some = again w n f b (last_at a (segments name_fragment first heard)) (cell_in old.segments (16 + a))
-        (st.lasts.names a within) (if_again e) in
-        ap (λ (r : Option ℕ). if_confirmed r (Some (Name f a b)) ∷ confirmed w m first heard) some.1
+        let some = again w n p (last_at p.address (segments name_fragment first heard))
+        (cell_in old.segments (16 + p.address))
+        (st.lasts.names p.address within) (if_again e) in
+        ap (λ (r : Option ℕ). if_confirmed r (Some (name_of p)) ∷ confirmed w m first heard) some.1
     kept false e =
-        let none = not_again w n f b (last_at a (segments name_fragment first heard)) (cell_in old.segments (16 + a))
-        (st.lasts.names a within) (λ r. not_true is e (then_again r)) in
-        ap (λ (r : Option ℕ). if_confirmed r (Some (Name f a b)) ∷ confirmed w m first heard) none
+        let none = not_again w n p (last_at p.address (segments name_fragment first heard))
+        (cell_in old.segments (16 + p.address))
+        (st.lasts.names p.address within) (λ r. not_true is e (then_again r)) in
+        ap (λ (r : Option ℕ). if_confirmed r (Some (name_of p)) ∷ confirmed w m first heard) none
 
     by : (x : Bool) → pair_left_of w n (text_begins m n first (confirmed w m first heard)) (last_pair first heard)
-        ≡ pair_left_of w n (text_begins m n first ((if x then Some (Name f a b) else None) ∷ confirmed w m first heard))
+        ≡ pair_left_of w n (text_begins m n first ((if x then Some (name_of p) else None) ∷ confirmed w m first heard))
         (last_pair first heard)
     by true = refl
     by false = refl

@@ -8,7 +8,8 @@ use Rattle.rds_fields.specs.contracts.pair.TagPairPartialEq.TheImpl.{eq-value}
 use Rattle.rds_fields.specs.declared.message.Message.{Message}
 use Rattle.rds_fields.specs.declared.message.Message.TheVariants.{Text, Name, Announce, Tags, Other}
 use Rattle.rds_fields.specs.Tag.{PairFields}
-use Rattle.rds_receiver.specs.Receipts.{Fragment, Segment, picked, segments, with_segment}
+use Rattle.rds_receiver.specs.Receipts.{Segment, picked, segments, with_segment}
+use Rattle.rds_receiver.specs.declared.fragment.Fragment.{Fragment}
 use Rattle.rds_receiver.specs.Run.{begins_in, is_same, run, run_before}
 use Rattle.rds_receiver.specs.Holds.{HoldsRun}
 use Rattle.rds_receiver.specs.State.{HeldSegments}

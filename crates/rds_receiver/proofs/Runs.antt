@@ -6,7 +6,8 @@ use Rattle.std.proofs.lemmas.Bool.{cases_lt}
 use Rattle.std.proofs.lemmas.Bool.Decides.{nat_tests}
 use Rattle.rds_fields.specs.declared.message.Message.{Message}
 use Rattle.rds_receiver.specs.Older.{AreOlder}
-use Rattle.rds_receiver.specs.Receipts.{Fragment, Segment, segments}
+use Rattle.rds_receiver.specs.Receipts.{Segment, segments}
+use Rattle.rds_receiver.specs.declared.fragment.Fragment.{Fragment}
 use Rattle.rds_receiver.specs.Run.{cells_of, is_same, run, run_at, run_before}
 use Rattle.rds_receiver.specs.Holds.{HasFlag, HoldsRun, newest_slot}
 use Rattle.rds_receiver.specs.State.{HeldSegments}

@@ -3,9 +3,10 @@ use Rattle.std.proofs.Common.{◌≡◌, ◌≢◌, ◌⊎◌, ◌+◌, ◌<◌,
 use Rattle.std.proofs.Common.{ap, ◌∙◌, subst, inl, inr, arith}
 use Rattle.std.specs.FinMap.{empty, insert}
 use Rattle.rds_fields.specs.declared.message.Message.{Message}
-use Rattle.rds_fields.specs.declared.message.Message.TheVariants.{Name, Tags, Text}
+use Rattle.rds_fields.specs.declared.message.Message.TheVariants.{Tags}
 use Rattle.rds_fields.specs.Tag.{PairFields}
-use Rattle.rds_receiver.specs.Receipts.{Fragment, Segment, name_fragment, segments, text_fragment}
+use Rattle.rds_receiver.specs.Receipts.{Segment, name_fragment, name_of, segments, text_fragment, text_of}
+use Rattle.rds_receiver.specs.declared.fragment.Fragment.{Fragment}
 use Rattle.rds_receiver.specs.Run.{begins_in, run, run_before}
 use Rattle.rds_receiver.specs.Holds.{HasFlag, HoldsAt, HoldsRun}
 use Rattle.rds_receiver.specs.State.{HeldSegments, DisplayState}
@@ -34,20 +35,20 @@ pub record Takes (p : Fragment) (h after : HeldSegments) : Type 0 where
   pub age : after.age ≡ 0
 
 -- a slot with a text segment
-pub text_heard : (m first : ℕ) (r after : DisplayState) (heard : List (Option Message)) (f : Bool) (a : ℕ) (b : List ℕ)
+pub text_heard : (m first : ℕ) (r after : DisplayState) (heard : List (Option Message)) (p : Fragment)
     → after.dwell ≡ r.dwell → after.is_known ≡ r.is_known → after.name ≡ r.name
-    → Takes record { flag = f; address = a; bytes = b } r.text after.text
-    → (f ≡ r.text.flag → after.pair ≡ r.pair) → (f ≢ r.text.flag → after.pair ≡ None)
+    → Takes p r.text after.text
+    → (p.flag ≡ r.text.flag → after.pair ≡ r.pair) → (p.flag ≢ r.text.flag → after.pair ≡ None)
     → HoldsAt m (first + length heard) first r heard
-    → HoldsAt m (first + length heard) first after (Some (Text f a b) ∷ heard)
-text_heard m first r after heard f a b dwell known name takes stays gone st = record {
+    → HoldsAt m (first + length heard) first after (Some (text_of p) ∷ heard)
+text_heard m first r after heard p dwell known name takes stays gone st = record {
   dwell = dwell ∙ st.dwell;
   lasts = st.lasts;
   text = held_taken m n segs p r.text after.text st.lasts takes.same takes.other takes.flag takes.age st.text;
   name = subst (λ (h : HeldSegments). HoldsRun m (first + length heard)
       (run m (first + length heard) (segments name_fragment first heard)) h) (sym name) st.name;
-  pair = by_flag (equal_or_not f r.text.flag) ∙ ap (λ (x : List Segment). pair_from first (begins_in x)
-      (Some (Text f a b) ∷ heard)) (sym (run_recent m n g segs (omega (arith, st.lasts))));
+  pair = by_flag (equal_or_not p.flag r.text.flag) ∙ ap (λ (x : List Segment). pair_from first (begins_in x)
+      (Some (text_of p) ∷ heard)) (sym (run_recent m n g segs (omega (arith, st.lasts))));
   known = known ∙ st.known;
 }
   where
@@ -57,39 +58,37 @@ text_heard m first r after heard f a b dwell known name takes stays gone st = re
     segs : List Segment
     segs = segments text_fragment first heard
 
-    p : Fragment
-    p = record { flag = f; address = a; bytes = b }
-
     g : Segment
     g = record { slot = n; fragment = p }
 
-    by_flag : (f ≡ r.text.flag) ⊎ (f ≢ r.text.flag)
-        → after.pair ≡ pair_from first (begins_in (g ∷ run_before m f n segs)) (Some (Text f a b) ∷ heard)
+    by_flag : (p.flag ≡ r.text.flag) ⊎ (p.flag ≢ r.text.flag)
+        → after.pair ≡ pair_from first (begins_in (g ∷ run_before m p.flag n segs)) (Some (text_of p) ∷ heard)
     by_flag (inl e) =
-        let goes_on = before_same m n f segs (subst (λ (x : Bool). HasFlag (run m n segs) x) (sym e) st.text.flag) in
-        stays e ∙ st.pair ∙ pair_goes_on first n heard f a b g (run m n segs) refl refl
-        ∙ ap (λ (x : List Segment). pair_from first (begins_in (g ∷ x)) (Some (Text f a b) ∷ heard)) (sym goes_on)
+        let goes_on = before_same m n p.flag segs
+        (subst (λ (x : Bool). HasFlag (run m n segs) x) (sym e) st.text.flag) in
+        stays e ∙ st.pair ∙ pair_goes_on first n heard p.flag p.address p.bytes g (run m n segs) refl refl
+        ∙ ap (λ (x : List Segment). pair_from first (begins_in (g ∷ x)) (Some (text_of p) ∷ heard)) (sym goes_on)
     by_flag (inr ne) =
-        let begins = before_other m n f r.text.flag segs st.text.flag ne in
+        let begins = before_other m n p.flag r.text.flag segs st.text.flag ne in
         gone ne ∙ sym (none_since first n heard (omega arith))
-        ∙ ap (λ (x : List Segment). pair_from first (begins_in (g ∷ x)) (Some (Text f a b) ∷ heard)) (sym begins)
+        ∙ ap (λ (x : List Segment). pair_from first (begins_in (g ∷ x)) (Some (text_of p) ∷ heard)) (sym begins)
 
 -- a slot with a name segment
-pub name_heard : (m first : ℕ) (r after : DisplayState) (heard : List (Option Message)) (f : Bool) (a : ℕ) (b : List ℕ)
+pub name_heard : (m first : ℕ) (r after : DisplayState) (heard : List (Option Message)) (p : Fragment)
     → after.dwell ≡ r.dwell → after.is_known ≡ r.is_known → after.text ≡ r.text → after.pair ≡ r.pair
-    → Takes record { flag = f; address = a; bytes = b } r.name after.name
+    → Takes p r.name after.name
     → HoldsAt m (first + length heard) first r heard
-    → HoldsAt m (first + length heard) first after (Some (Name f a b) ∷ heard)
-name_heard m first r after heard f a b dwell known text pair takes st = record {
+    → HoldsAt m (first + length heard) first after (Some (name_of p) ∷ heard)
+name_heard m first r after heard p dwell known text pair takes st = record {
   dwell = dwell ∙ st.dwell;
   lasts = st.lasts;
   text = subst (λ (h : HeldSegments). HoldsRun m (first + length heard)
       (run m (first + length heard) (segments text_fragment first heard)) h) (sym text) st.text;
-  name = held_taken m (first + length heard) (segments name_fragment first heard) record
-      { flag = f; address = a; bytes = b } r.name after.name st.lasts takes.same takes.other takes.flag takes.age
+  name = held_taken m (first + length heard)
+      (segments name_fragment first heard) p r.name after.name st.lasts takes.same takes.other takes.flag takes.age
       st.name;
   pair = pair ∙ st.pair ∙ pair_of_name first (begins_in
-      (run m (first + length heard) (segments text_fragment first heard))) heard f a b;
+      (run m (first + length heard) (segments text_fragment first heard))) heard p.flag p.address p.bytes;
   known = known ∙ st.known;
 }
 
@@ -108,30 +107,29 @@ tags_heard m first r heard pair known young st = record {
 }
 
 -- a slot with a text segment, after the tags of the other flag were dropped
-pub text_heard_by : (m first : ℕ) (r between after : DisplayState) (heard : List (Option Message)) (f : Bool) (a : ℕ)
-    (b : List ℕ)
-    → (f ≡ r.text.flag → between ≡ r) → (f ≢ r.text.flag → between ≡ record r { pair = None })
-    → Takes record { flag = f; address = a; bytes = b } between.text after.text
+pub text_heard_by : (m first : ℕ) (r between after : DisplayState) (heard : List (Option Message)) (p : Fragment)
+    → (p.flag ≡ r.text.flag → between ≡ r) → (p.flag ≢ r.text.flag → between ≡ record r { pair = None })
+    → Takes p between.text after.text
     → after ≡ record between { text = after.text }
     → HoldsAt m (first + length heard) first r heard
-    → HoldsAt m (first + length heard) first after (Some (Text f a b) ∷ heard)
-text_heard_by m first r between after heard f a b same other takes is st = by (equal_or_not f r.text.flag)
+    → HoldsAt m (first + length heard) first after (Some (text_of p) ∷ heard)
+text_heard_by m first r between after heard p same other takes is st = by (equal_or_not p.flag r.text.flag)
   where
-    by : (f ≡ r.text.flag) ⊎ (f ≢ r.text.flag)
-        → HoldsAt m (first + length heard) first after (Some (Text f a b) ∷ heard)
+    by : (p.flag ≡ r.text.flag) ⊎ (p.flag ≢ r.text.flag)
+        → HoldsAt m (first + length heard) first after (Some (text_of p) ∷ heard)
     by (inl e) =
         let now : after ≡ record r { text = after.text } = is
         ∙ ap (λ (x : DisplayState). record x { text = after.text }) (same e) in
-        let took = subst (λ (x : DisplayState). Takes record { flag = f; address = a; bytes = b } x.text after.text)
+        let took = subst (λ (x : DisplayState). Takes p x.text after.text)
         (same e) takes in
-        text_heard m first r after heard f a b (ap (λ (x : DisplayState). x.dwell) now)
+        text_heard m first r after heard p (ap (λ (x : DisplayState). x.dwell) now)
         (ap (λ (x : DisplayState). x.is_known) now) (ap (λ (x : DisplayState). x.name) now)
         took (λ _. ap (λ (x : DisplayState). x.pair) now) (λ ne. absurd (ne e)) st
     by (inr ne) =
         let now : after ≡ record r { text = after.text; pair = None } = is
         ∙ ap (λ (x : DisplayState). record x { text = after.text }) (other ne) in
-        let took = subst (λ (x : DisplayState). Takes record { flag = f; address = a; bytes = b } x.text after.text)
+        let took = subst (λ (x : DisplayState). Takes p x.text after.text)
         (other ne) takes in
-        text_heard m first r after heard f a b (ap (λ (x : DisplayState). x.dwell) now)
+        text_heard m first r after heard p (ap (λ (x : DisplayState). x.dwell) now)
         (ap (λ (x : DisplayState). x.is_known) now) (ap (λ (x : DisplayState). x.name) now)
         took (λ e. absurd (ne e)) (λ _. ap (λ (x : DisplayState). x.pair) now) st

@@ -7,6 +7,7 @@ use Rattle.rds_block.specs.declared.group.Group.{Group}
 use Rattle.rds_fields.specs.declared.message.Message.{Message}
 use Rattle.rds_fields.specs.Tag.{PairFields}
 use Rattle.rds_receiver.specs.Receipts.{Hears, Segment, name_fragment, segments, text_fragment}
+use Rattle.rds_receiver.specs.declared.fragment.Fragment.{Fragment}
 use Rattle.rds_receiver.specs.Run.{begins_in, run}
 use Rattle.rds_receiver.specs.Holds.{HoldsAt, newest_slot}
 use Rattle.rds_receiver.specs.State.{ReceiverState}
@@ -31,9 +32,9 @@ cell_in s c = record {
 abbrev pub one_slot_older : LastSegment → LastSegment
 one_slot_older s = record { flag = s.flag; bytes = s.bytes; left = s.left - 1 }
 
--- the last segment confirms one with this flag and these bytes
-abbrev pub RepeatsSegment : Bool → List ℕ → LastSegment → Type 0
-RepeatsSegment f b s = (0 < s.left) × (s.flag ≡ f) × (s.bytes ≡ b)
+-- the last segment confirms one with the flag and the bytes of this one
+abbrev pub RepeatsSegment : Fragment → LastSegment → Type 0
+RepeatsSegment p s = (0 < s.left) × (s.flag ≡ p.flag) × (s.bytes ≡ p.bytes)
 
 -- for how many more slots, slot n included, the last segment at an address confirms the same one
 abbrev pub left_of : ℕ → ℕ → Option Segment → ℕ

@@ -1,12 +1,13 @@
 -- What a receiver heard: the messages of the groups that it got and that have its PI. Among them are the segments of
 -- texts and of names, each with the slot in which it came. Each list has the newest first. The slot of an entry is
 -- `first` plus the number of entries before it.
-use Rattle.std.specs.Prelude.{◌≡◌, ◌≢◌, ◌⊎◌, ◌+◌, ℕ, Bool, List, [], ◌∷◌, Option, Some, None, MatchOption, length}
+use Rattle.std.specs.Prelude.{◌≡◌, ◌≢◌, ◌⊎◌, ◌+◌, ℕ, List, [], ◌∷◌, Option, Some, None, MatchOption, length}
 use Rattle.std.specs.List.{AllZip}
 use Rattle.rds_block.specs.declared.group.Group.{Group}
 use Rattle.rds_fields.specs.declared.message.Message.{Message}
 use Rattle.rds_fields.specs.declared.message.Message.TheVariants.{Text, Name, Announce, Tags, Other}
 use Rattle.rds_fields.specs.Spells.{Spells}
+use Rattle.rds_receiver.specs.declared.fragment.Fragment.{Fragment}
 
 -- the tuning of a receiver: its programme (PI), its dwell in slots, its window in slots if it shows only what it heard
 -- twice, and the slot in which its input begins
@@ -26,12 +27,6 @@ Hears pi (Some g) heard = ((g.pi ≡ pi) × MatchOption heard ⊥ (λ m. Spells 
 abbrev pub AreHeard : ℕ → List (Option Group) → List (Option Message) → Type 0
 AreHeard pi input heard = AllZip (Hears pi) input heard
 
--- four bytes of a text or name, with their address and the A/B flag
-pub record Fragment : Type 0 where
-  pub flag : Bool
-  pub address : ℕ
-  pub bytes : List ℕ
-
 -- the fragment of a text in a message, if it has one
 abbrev pub text_fragment : Message → Option Fragment
 text_fragment (Text f a b) = Some record { flag = f; address = a; bytes = b }
@@ -40,6 +35,10 @@ text_fragment (Announce code bits aid) = None
 text_fragment (Tags pair) = None
 text_fragment Other = None
 
+-- the message with this fragment of a text
+abbrev pub text_of : Fragment → Message
+text_of p = Text p.flag p.address p.bytes
+
 -- the fragment of a name in a message, if it has one
 abbrev pub name_fragment : Message → Option Fragment
 name_fragment (Text f a b) = None
@@ -47,6 +46,10 @@ name_fragment (Name f a b) = Some record { flag = f; address = a; bytes = b }
 name_fragment (Announce code bits aid) = None
 name_fragment (Tags pair) = None
 name_fragment Other = None
+
+-- the message with this fragment of a name
+abbrev pub name_of : Fragment → Message
+name_of p = Name p.flag p.address p.bytes
 
 -- a received segment: a fragment and the slot in which it came
 pub record Segment : Type 0 where

@@ -6,7 +6,8 @@ use Rattle.std.specs.Prelude.{ℕ, Bool, true, false, List, Option, Some, None, 
 use Rattle.std.specs.FinMap.{empty, insert}
 use Rattle.rds_fields.specs.declared.message.Message.{Message}
 use Rattle.rds_assembly.specs.Cells.{Cells}
-use Rattle.rds_receiver.specs.Receipts.{Fragment, Segment, segments}
+use Rattle.rds_receiver.specs.Receipts.{Segment, segments}
+use Rattle.rds_receiver.specs.declared.fragment.Fragment.{Fragment}
 
 abbrev pub is_same : Bool → Bool → Bool
 is_same true true = true

@@ -4,9 +4,11 @@ ghost use Rattle.rds_fields.specs.declared.message.Message.{Message};
 ghost use Rattle.rds_fields.specs.Stored.{is_set, pair_stored};
 ghost use Rattle.rds_receiver.specs.Older.{IsOlder};
 ghost use Rattle.rds_receiver.specs.Holds.{HearsMore, HoldsAt, ShowsAlike, newest_slot};
+ghost use Rattle.rds_receiver.specs.Receipts.{text_of};
 ghost use Rattle.rds_receiver.specs.Tags.{or_before, says_of_rtplus, unless_contrary};
 ghost use Rattle.rds_receiver.specs.Stored.{IsStoredDisplay, display_stored};
 
+use crate::Fragment;
 use rds_assembly::{LONGEST_TEXT, RadioText, TypeName};
 use rds_fields::{Message, RTPLUS_AID, RTPLUS_CODE, StoredPair, TagPair};
 
@@ -116,7 +118,7 @@ impl StoredDisplay {
                 flag,
                 address,
                 bytes,
-            } => self.hear_text(flag, address.get(), bytes),
+            } => self.hear_text(Fragment::new(flag, address, bytes)),
             Message::Name {
                 flag,
                 address,
@@ -124,7 +126,7 @@ impl StoredDisplay {
             } => {
                 let later = self.later();
                 self.name
-                    .take::<TypeName>(flag, address.get(), bytes, later)
+                    .take::<TypeName>(Fragment::new(flag, address, bytes), later)
             }
             Message::Announce { code, aid, .. } => self.hear_announcement(code.get(), aid),
             Message::Tags(pair) => self.hear_tags(pair),
@@ -133,19 +135,19 @@ impl StoredDisplay {
     }
 
     /// Takes a text segment. Drops the pair of tags first if the flag changed.
-    fn hear_text(&mut self, flag: bool, address: u8, bytes: [u8; 4]) -> bool
-        requires { address < 16 }
+    fn hear_text(&mut self, fragment: Fragment) -> bool
+        requires { fragment.address < 16 }
         ensures programme { self.new.pi ≡ self.old.pi }
-        ensures holds { IsStoredDisplay self.old → HearsMore (display_stored self.old) (display_stored self.new)
-            (Message.Text flag address bytes) }
+        ensures holds { IsStoredDisplay self.old
+            → HearsMore (display_stored self.old) (display_stored self.new) (text_of fragment) }
         ensures same { IsFalse result → ShowsAlike (display_stored self.old) (display_stored self.new) }
         ensures good { IsStoredDisplay self.old → IsStoredDisplay self.new }
     {
-        if !self.text.has_flag(flag) {
+        if !self.text.has_flag(fragment.flag) {
             self.pair = StoredPair::none();
         }
         let later = self.later();
-        self.text.take::<RadioText>(flag, address, bytes, later)
+        self.text.take::<RadioText>(fragment, later)
     }
 
     /// Takes an announcement. One of RadioText Plus makes it known; a contrary one makes it unknown and drops the pair.

@@ -8,6 +8,7 @@ ghost use Rattle.rds_receiver.specs.Shown.{IsShown};
 ghost use Rattle.rds_receiver.specs.Holds.{MakeAlike};
 ghost use Rattle.rds_receiver.specs.Stored.{age_stored};
 
+use crate::Fragment;
 use crate::display::StoredSegments;
 use rds_assembly::{LONGEST_TEXT, Service, has_segment, hold, whole};
 
@@ -43,50 +44,50 @@ impl StoredSegments {
     /// Takes a segment. Segments with the other flag are dropped first. Returns false if exactly this segment was held,
     /// or if no value was whole before and none is now.
     /// `later` says how many slots after the next look the segments are dropped.
-    pub(crate) fn take<S: Service>(
-        &mut self,
-        flag: bool,
-        address: u8,
-        bytes: [u8; 4],
-        later: u16,
-    ) -> bool
-        requires { address < 16 }
-        ensures same { flag ≡ is_set self.old.flag → held_cells self.new.mask self.new.bytes
-            ≡ insert (held_cells self.old.mask self.old.bytes) address bytes }
-        ensures other { flag ≢ is_set self.old.flag
-            → held_cells self.new.mask self.new.bytes ≡ insert empty address bytes }
-        ensures flag { is_set self.new.flag ≡ flag }
+    pub(crate) fn take<S: Service>(&mut self, fragment: Fragment, later: u16) -> bool
+        requires { fragment.address < 16 }
+        ensures same { fragment.flag ≡ is_set self.old.flag → held_cells self.new.mask self.new.bytes
+            ≡ insert (held_cells self.old.mask self.old.bytes) fragment.address fragment.bytes }
+        ensures other { fragment.flag ≢ is_set self.old.flag
+            → held_cells self.new.mask self.new.bytes ≡ insert empty fragment.address fragment.bytes }
+        ensures flag { is_set self.new.flag ≡ fragment.flag }
         ensures later { self.new.later ≡ later }
         ensures kept { IsFalse result
             → MakeAlike S.is_whole (held_cells self.old.mask self.old.bytes) (held_cells self.new.mask self.new.bytes) }
         ensures one_flag { IsFalse result
-            → (flag ≡ is_set self.old.flag) ⊎ IsShown S.is_whole (held_cells self.old.mask self.old.bytes) None }
+            → (fragment.flag ≡ is_set self.old.flag) ⊎ IsShown S.is_whole (held_cells self.old.mask self.old.bytes) None }
     {
         self.later = later;
-        if self.has_flag(flag) && has_segment(&self.bytes, self.mask, address, bytes) {
+        if self.has_flag(fragment.flag)
+            && has_segment(&self.bytes, self.mask, fragment.address, fragment.bytes)
+        {
             return false;
         }
-        self.add::<S>(flag, address, bytes)
+        self.add::<S>(fragment)
     }
 
     /// Takes a segment that may not be held yet.
     // Cold path.
     #[inline(never)]
-    fn add<S: Service>(&mut self, flag: bool, address: u8, bytes: [u8; 4]) -> bool
-        requires { address < 16 }
-        ensures same { flag ≡ is_set self.old.flag → held_cells self.new.mask self.new.bytes
-            ≡ insert (held_cells self.old.mask self.old.bytes) address bytes }
-        ensures other { flag ≢ is_set self.old.flag
-            → held_cells self.new.mask self.new.bytes ≡ insert empty address bytes }
-        ensures flag { is_set self.new.flag ≡ flag }
+    fn add<S: Service>(&mut self, fragment: Fragment) -> bool
+        requires { fragment.address < 16 }
+        ensures same { fragment.flag ≡ is_set self.old.flag → held_cells self.new.mask self.new.bytes
+            ≡ insert (held_cells self.old.mask self.old.bytes) fragment.address fragment.bytes }
+        ensures other { fragment.flag ≢ is_set self.old.flag
+            → held_cells self.new.mask self.new.bytes ≡ insert empty fragment.address fragment.bytes }
+        ensures flag { is_set self.new.flag ≡ fragment.flag }
         ensures later { self.new.later ≡ self.old.later }
         ensures before { IsFalse result → IsShown S.is_whole (held_cells self.old.mask self.old.bytes) None }
         ensures now { IsFalse result → IsShown S.is_whole (held_cells self.new.mask self.new.bytes) None }
     {
         let was_whole = self.is_whole::<S>();
-        let mask = if self.has_flag(flag) { self.mask } else { 0 };
-        self.mask = hold(&mut self.bytes, mask, address, bytes);
-        self.flag = u8::from(flag);
+        let mask = if self.has_flag(fragment.flag) {
+            self.mask
+        } else {
+            0
+        };
+        self.mask = hold(&mut self.bytes, mask, fragment.address, fragment.bytes);
+        self.flag = u8::from(fragment.flag);
         was_whole || self.is_whole::<S>()
     }
 

@@ -3,6 +3,7 @@ ghost use Rattle.std.specs.Prelude.{◌≡◌, ◌≢◌, ◌-◌, ◌<◌, ◌=
 ghost use Rattle.std.specs.Int.{bit_at};
 ghost use Rattle.rds_receiver.specs.Confirming.{RepeatsSegment, cell_in, one_slot_older};
 
+use crate::Fragment;
 use rds_assembly::is_same_segment;
 
 /// The number of cells of text segments, one for each address.
@@ -44,13 +45,15 @@ impl StoredLastSegments {
 
     /// Takes a segment into its cell. It confirms the same one within the window, in slots. Returns whether the last
     /// segment of the cell confirms this one.
-    pub(crate) fn take(&mut self, cell: u8, flag: bool, bytes: [u8; 4], window: u8) -> bool
+    pub(crate) fn take(&mut self, cell: u8, fragment: Fragment, window: u8) -> bool
         requires { cell < 18 }
-        ensures again { IsTrue result ↔ RepeatsSegment flag bytes (cell_in self.old cell) }
-        ensures taken { cell_in self.new cell ≡ record { flag = flag; bytes = bytes; left = window } }
+        ensures again { IsTrue result ↔ RepeatsSegment fragment (cell_in self.old cell) }
+        ensures taken { cell_in self.new cell
+            ≡ record { flag = fragment.flag; bytes = fragment.bytes; left = window } }
         ensures others { (c : ℕ) → c < 18 → c ≢ cell → cell_in self.new c ≡ cell_in self.old c }
     {
-        let again = self.confirms(cell, flag, bytes);
+        let again = self.confirms(cell, fragment);
+        let Fragment { flag, bytes, .. } = fragment;
         self.flags = with_bit(self.flags, cell, flag);
         self.bytes[cell as usize] = bytes;
         self.left[cell as usize] = window;
@@ -58,14 +61,14 @@ impl StoredLastSegments {
     }
 
     /// Returns whether the segment in the cell confirms this one.
-    fn confirms(&self, cell: u8, flag: bool, bytes: [u8; 4]) -> bool
+    fn confirms(&self, cell: u8, fragment: Fragment) -> bool
         requires { cell < 18 }
-        ensures { IsTrue result ↔ RepeatsSegment flag bytes (cell_in self.now cell) }
+        ensures { IsTrue result ↔ RepeatsSegment fragment (cell_in self.now cell) }
     {
-        let has_flag = (self.flags >> cell & 1 == 1) == flag;
+        let has_flag = (self.flags >> cell & 1 == 1) == fragment.flag;
         self.left[cell as usize] > 0
             && has_flag
-            && is_same_segment(&self.bytes[cell as usize], &bytes)
+            && is_same_segment(&self.bytes[cell as usize], &fragment.bytes)
     }
 }
 

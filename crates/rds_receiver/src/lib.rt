@@ -13,6 +13,7 @@
 #![tactic(auto)]
 
 mod display;
+mod fragment;
 mod held;
 mod last;
 mod laws;
@@ -24,6 +25,7 @@ mod why;
 mod window;
 
 pub use display::{StoredDisplay, StoredSegments};
+pub use fragment::Fragment;
 pub use last::StoredLastSegments;
 pub use laws::{one_view, run_is_the_longest};
 pub use receiver::{Receiver, heard, heard_blocks};

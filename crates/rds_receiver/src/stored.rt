@@ -6,7 +6,9 @@ ghost use Rattle.rds_receiver.specs.Holds.{HoldsAt, ShowsAlike, newest_slot};
 ghost use Rattle.rds_receiver.specs.ReceiverAt.{KeepsView, TakesSlot};
 ghost use Rattle.rds_receiver.specs.Stored.{IsStoredReceiver, display_stored, receiver_stored};
 ghost use Rattle.rds_receiver.specs.Confirmed.{counted_in};
+ghost use Rattle.rds_receiver.specs.Receipts.{name_of, text_of};
 
+use crate::Fragment;
 use crate::display::StoredDisplay;
 use crate::last::{StoredLastSegments, TEXT_CELLS};
 use crate::receiver::heard_blocks;
@@ -108,42 +110,40 @@ impl StoredReceiver {
                 flag,
                 address,
                 bytes,
-            } => self.confirm_text(flag, address.get(), bytes),
+            } => self.confirm_text(Fragment::new(flag, address, bytes)),
             Message::Name {
                 flag,
                 address,
                 bytes,
-            } => self.confirm_name(flag, address.get(), bytes),
+            } => self.confirm_name(Fragment::new(flag, address, bytes)),
             Message::Tags(pair) => self.confirm_tags(pair),
             Message::Announce { .. } | Message::Other => true,
         }
     }
 
     /// Does the same for a text segment. If it begins a new run, the last pair of tags confirms nothing.
-    fn confirm_text(&mut self, flag: bool, address: u8, bytes: [u8; 4]) -> bool
-        requires { address < 16 }
+    fn confirm_text(&mut self, fragment: Fragment) -> bool
+        requires { fragment.address < 16 }
         ensures display { self.new.display ≡ self.old.display }
-        ensures confirms { ConfirmsIf (receiver_stored self.old) (receiver_stored self.new)
-            (Message.Text flag address bytes) result }
+        ensures confirms { ConfirmsIf (receiver_stored self.old) (receiver_stored self.new) (text_of fragment) result }
         ensures good { IsStoredReceiver self.old → IsStoredReceiver self.new }
     {
-        let again = self.segments.take(address, flag, bytes, self.window);
-        if again && !self.display.text.has_flag(flag) {
+        let again = self.segments.take(fragment.address, fragment, self.window);
+        if again && !self.display.text.has_flag(fragment.flag) {
             self.pair_left = 0;
         }
         again
     }
 
     /// Does the same for a segment of a name.
-    fn confirm_name(&mut self, flag: bool, address: u8, bytes: [u8; 4]) -> bool
-        requires { address < 2 }
+    fn confirm_name(&mut self, fragment: Fragment) -> bool
+        requires { fragment.address < 2 }
         ensures display { self.new.display ≡ self.old.display }
-        ensures confirms { ConfirmsIf (receiver_stored self.old) (receiver_stored self.new)
-            (Message.Name flag address bytes) result }
+        ensures confirms { ConfirmsIf (receiver_stored self.old) (receiver_stored self.new) (name_of fragment) result }
         ensures good { IsStoredReceiver self.old → IsStoredReceiver self.new }
     {
         self.segments
-            .take(TEXT_CELLS + address, flag, bytes, self.window)
+            .take(TEXT_CELLS + fragment.address, fragment, self.window)
     }
 
     /// Does the same for a pair of tags. It confirms the same one only if segments of a text are held.

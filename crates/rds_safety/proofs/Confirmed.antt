@@ -10,7 +10,8 @@ use Rattle.std.proofs.lemmas.Slice.Eq.{bytes_eq-Decides}
 use Rattle.rds_fields.specs.declared.message.Message.{Message}
 use Rattle.rds_fields.specs.declared.message.Message.TheVariants.{Text, Name, Announce, Tags, Other}
 use Rattle.rds_fields.specs.Tag.{PairFields}
-use Rattle.rds_receiver.specs.Receipts.{Fragment, Segment, name_fragment, picked, segments, text_fragment, with_segment}
+use Rattle.rds_receiver.specs.Receipts.{Segment, name_fragment, picked, segments, text_fragment, with_segment}
+use Rattle.rds_receiver.specs.declared.fragment.Fragment.{Fragment}
 use Rattle.rds_receiver.specs.Run.{begins_in, is_same, run, run_at, run_before}
 use Rattle.rds_receiver.specs.Confirmed.{confirmed, if_confirmed, last_at, last_pair, needs_two, pair_again}
 use Rattle.rds_receiver.specs.Confirmed.{receipt_before, same_pair, segment_again}

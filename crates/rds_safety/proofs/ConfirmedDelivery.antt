@@ -10,7 +10,8 @@ use Rattle.rds_assembly.specs.Cells.{Cells}
 use Rattle.rds_assembly.specs.OwnSegments.{all_name, all_text}
 use Rattle.rds_assembly.specs.Whole.{IsWholeName, IsWholeText}
 use Rattle.rds_encoder.specs.Plan.{Broadcast, Covers}
-use Rattle.rds_receiver.specs.Receipts.{Fragment, Segment, name_fragment, segments, text_fragment}
+use Rattle.rds_receiver.specs.Receipts.{Segment, name_fragment, segments, text_fragment}
+use Rattle.rds_receiver.specs.declared.fragment.Fragment.{Fragment}
 use Rattle.rds_receiver.specs.Run.{cells_of, is_same, run_at}
 use Rattle.rds_receiver.specs.Shown.{IsShown, ShowsView}
 use Rattle.rds_receiver.specs.Confirmed.{confirmed, last_at, segment_again}

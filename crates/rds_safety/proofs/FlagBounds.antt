@@ -6,7 +6,8 @@ use Rattle.rds_fields.specs.declared.message.Message.TheVariants.{Tags, Text}
 use Rattle.rds_fields.specs.Tag.{PairFields}
 use Rattle.rds_encoder.specs.Plan.{Broadcast, HasNumber}
 use Rattle.rds_encoder.specs.Spaced.{IsSpaced}
-use Rattle.rds_receiver.specs.Receipts.{Fragment, text_fragment}
+use Rattle.rds_receiver.specs.Receipts.{text_fragment}
+use Rattle.rds_receiver.specs.declared.fragment.Fragment.{Fragment}
 use Rattle.rds_safety.specs.FlagAlone.{EachLasts, HearsEach, HearsOneIn, HearsTextBeforeTags, IsFilled, ShowsByFlag}
 use Rattle.rds_safety.specs.FlagAlone.{TurnsTheFlag}
 use Rattle.rds_safety.specs.FlagBounds.{MixesByFlag}

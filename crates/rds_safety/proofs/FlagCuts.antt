@@ -15,7 +15,8 @@ use Rattle.rds_assembly.specs.OwnSegments.{all_text}
 use Rattle.rds_assembly.specs.ServiceLaws.{no_name_of_none}
 use Rattle.rds_assembly.specs.Value.{IsText, is_text_byte}
 use Rattle.rds_encoder.specs.Plan.{Broadcast, HasNumber}
-use Rattle.rds_receiver.specs.Receipts.{Fragment, Segment, name_fragment, segments, text_fragment}
+use Rattle.rds_receiver.specs.Receipts.{Segment, name_fragment, segments, text_fragment}
+use Rattle.rds_receiver.specs.declared.fragment.Fragment.{Fragment}
 use Rattle.rds_receiver.specs.Shown.{ShownView}
 use Rattle.rds_receiver.specs.Tags.{is_known, pair_since}
 use Rattle.rds_safety.specs.FlagAlone.{HearsEach, HearsOneIn, IsFilled, ShowsByFlag, TurnsTheFlag, flag_run}

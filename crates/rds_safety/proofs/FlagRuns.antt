@@ -8,7 +8,8 @@ use Rattle.rds_fields.specs.declared.message.Message.{Message}
 use Rattle.rds_encoder.specs.Laws.{EachNumberNamesOne}
 use Rattle.rds_encoder.specs.Plan.{Broadcast, Covers, HasNumber}
 use Rattle.rds_encoder.specs.Spaced.{IsSpaced}
-use Rattle.rds_receiver.specs.Receipts.{Fragment, Segment, segments}
+use Rattle.rds_receiver.specs.Receipts.{Segment, segments}
+use Rattle.rds_receiver.specs.declared.fragment.Fragment.{Fragment}
 use Rattle.rds_receiver.specs.Run.{is_same}
 use Rattle.rds_safety.specs.FlagAlone.{HearsEach, IsHarmless, IsHeardFrom, IsNews, TurnsTheFlag, flag_run}
 use Rattle.rds_safety.specs.FlagAlone.{flag_run_before, run_by_flag}

@@ -9,7 +9,8 @@ use Rattle.rds_assembly.specs.Body.{AreAllHeld, segment_count, segment_of}
 use Rattle.rds_assembly.specs.Cells.{Cells}
 use Rattle.rds_encoder.specs.Plan.{Broadcast, Covers, HasNumber}
 use Rattle.rds_encoder.specs.Spaced.{IsSpaced}
-use Rattle.rds_receiver.specs.Receipts.{Fragment, Segment, picked, segments, with_segment}
+use Rattle.rds_receiver.specs.Receipts.{Segment, picked, segments, with_segment}
+use Rattle.rds_receiver.specs.declared.fragment.Fragment.{Fragment}
 use Rattle.rds_receiver.specs.Run.{cells_of, is_same, run, run_at, run_before}
 use Rattle.rds_receiver.specs.Shown.{IsShown}
 use Rattle.rds_safety.specs.Late.{CameFrom, HasEntry, Input, IsHeardLate}

@@ -20,7 +20,8 @@ use Rattle.rds_assembly.specs.Value.{IsText, is_text_byte}
 use Rattle.rds_assembly.specs.Whole.{IsWholeText}
 use Rattle.rds_encoder.specs.Plan.{Broadcast, HasNumber}
 use Rattle.rds_encoder.specs.Spaced.{IsSpaced}
-use Rattle.rds_receiver.specs.Receipts.{Fragment, Segment, name_fragment, segments, text_fragment}
+use Rattle.rds_receiver.specs.Receipts.{Segment, name_fragment, segments, text_fragment}
+use Rattle.rds_receiver.specs.declared.fragment.Fragment.{Fragment}
 use Rattle.rds_receiver.specs.Run.{run, run_at, run_before}
 use Rattle.rds_receiver.specs.Shown.{ShowsView, ShownView}
 use Rattle.rds_receiver.specs.Tags.{item_of, pair_held, tag_of}

@@ -8,7 +8,8 @@ use Rattle.std.proofs.lemmas.Bool.{and_parts, cases_order, cond_both, ltb-true}
 use Rattle.rds_fields.specs.declared.message.Message.{Message}
 use Rattle.rds_encoder.specs.Plan.{Broadcast, Covers, HasNumber}
 use Rattle.rds_encoder.specs.Spaced.{IsSpaced}
-use Rattle.rds_receiver.specs.Receipts.{Fragment, Segment, segments}
+use Rattle.rds_receiver.specs.Receipts.{Segment, segments}
+use Rattle.rds_receiver.specs.declared.fragment.Fragment.{Fragment}
 use Rattle.rds_receiver.specs.Run.{is_same, run, run_at, run_before}
 use Rattle.rds_safety.specs.Late.{CameFrom, Input}
 use Rattle.rds_safety.specs.Lawful.{IsLawful, Kind}

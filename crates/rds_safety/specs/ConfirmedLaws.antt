@@ -4,7 +4,8 @@ use Rattle.std.specs.List.{All}
 use Rattle.rds_fields.specs.declared.message.Message.{Message}
 use Rattle.rds_assembly.specs.Body.{segment_count, text_body}
 use Rattle.rds_encoder.specs.Plan.{Broadcast, HasNumber}
-use Rattle.rds_receiver.specs.Receipts.{Fragment, name_fragment, text_fragment}
+use Rattle.rds_receiver.specs.Receipts.{name_fragment, text_fragment}
+use Rattle.rds_receiver.specs.declared.fragment.Fragment.{Fragment}
 use Rattle.rds_safety.specs.Late.{CameFrom, HasEntry, Input}
 use Rattle.rds_safety.specs.Laws.{ShowsAMix}
 use Rattle.rds_safety.specs.Near.{ListensNear}

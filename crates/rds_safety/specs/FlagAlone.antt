@@ -9,7 +9,8 @@ use Rattle.rds_fields.specs.declared.pair.Which.TheVariants.{One, Two}
 use Rattle.rds_fields.specs.Tag.{PairFields}
 use Rattle.rds_assembly.specs.Whole.{IsWholeName, IsWholeText}
 use Rattle.rds_encoder.specs.Plan.{Broadcast, Covers, HasNumber}
-use Rattle.rds_receiver.specs.Receipts.{Fragment, Segment, name_fragment, segments, text_fragment}
+use Rattle.rds_receiver.specs.Receipts.{Segment, name_fragment, segments, text_fragment}
+use Rattle.rds_receiver.specs.declared.fragment.Fragment.{Fragment}
 use Rattle.rds_receiver.specs.Run.{begins_in, cells_of, is_same}
 use Rattle.rds_receiver.specs.Shown.{IsShown, ShownView}
 use Rattle.rds_receiver.specs.Tags.{item_of, pair_from, tag_of}

@@ -8,7 +8,7 @@ use Rattle.rds_assembly.specs.Body.{name_body, segment_count, segment_of, text_b
 use Rattle.rds_assembly.specs.Value.{IsName, IsText}
 use Rattle.rds_encoder.specs.Plan.{Broadcast, Covers, HasNumber}
 use Rattle.rds_encoder.specs.Spaced.{IsSpaced}
-use Rattle.rds_receiver.specs.Receipts.{Fragment}
+use Rattle.rds_receiver.specs.declared.fragment.Fragment.{Fragment}
 use Rattle.rds_safety.specs.Marks.{IsMarkIn, Mark, Sends, Tagged}
 
 -- a service: the values that may be sent, and the body that is sent for each

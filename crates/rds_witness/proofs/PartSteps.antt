@@ -9,7 +9,8 @@ use Rattle.std.specs.Ordering.{eq_by_cmp, nat_cmp}
 use Rattle.rds_assembly.specs.Cells.{Cells, HasByte}
 use Rattle.rds_assembly.specs.Whole.{IsWholeName, IsWholeText}
 use Rattle.rds_fields.specs.declared.message.Message.{Message}
-use Rattle.rds_receiver.specs.Receipts.{Fragment, Segment, picked, segments, with_segment}
+use Rattle.rds_receiver.specs.Receipts.{Segment, picked, segments, with_segment}
+use Rattle.rds_receiver.specs.declared.fragment.Fragment.{Fragment}
 use Rattle.rds_receiver.specs.Run.{cells_of, run, run_at, run_before}
 use Rattle.rds_receiver.proofs.Runs.{before_other, before_same, equal_or_not, run_over, run_recent}
 use Rattle.rds_witness.specs.Part.{HasCells, IsPart}

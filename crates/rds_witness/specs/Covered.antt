@@ -4,7 +4,8 @@ use Rattle.std.specs.Prelude.{◌≡◌, ◌∷◌, ◌+◌, ℕ, All, List, Opt
 use Rattle.std.specs.List.{Contains}
 use Rattle.rds_block.specs.declared.group.Group.{Group}
 use Rattle.rds_fields.specs.declared.message.Message.{Message}
-use Rattle.rds_receiver.specs.Receipts.{AreHeard, Fragment, Tuning, name_fragment, text_fragment}
+use Rattle.rds_receiver.specs.Receipts.{AreHeard, Tuning, name_fragment, text_fragment}
+use Rattle.rds_receiver.specs.declared.fragment.Fragment.{Fragment}
 use Rattle.rds_receiver.specs.Run.{run_at}
 use Rattle.rds_receiver.specs.ReceiverAt.{ReceiverAt}
 use Rattle.rds_receiver.specs.Stored.{IsStoredReceiver, receiver_stored}

@@ -2,7 +2,8 @@
 ghost use Rattle.std.specs.Prelude.{◌≡◌, ◌<◌, ◌∷◌, [], ℕ, List, Option, Some, length, reverse};
 ghost use Rattle.rds_block.specs.declared.group.Group.{Group};
 ghost use Rattle.rds_fields.specs.declared.message.Message.{Message};
-ghost use Rattle.rds_receiver.specs.Receipts.{Fragment, name_fragment, text_fragment};
+ghost use Rattle.rds_receiver.specs.Receipts.{name_fragment, text_fragment};
+ghost use Rattle.rds_receiver.specs.declared.fragment.Fragment.{Fragment};
 ghost use Rattle.rds_receiver.specs.Run.{run_at};
 ghost use Rattle.rds_receiver.specs.Shown.{IsNameShown, IsTextShown};
 ghost use Rattle.rds_witness.specs.Lost.{got};

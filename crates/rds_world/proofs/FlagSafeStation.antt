@@ -4,7 +4,8 @@ use Rattle.rds_fields.specs.declared.message.Message.{Message}
 use Rattle.rds_encoder.specs.Entries.{name_moves, slot_of, text_moves}
 use Rattle.rds_encoder.specs.Plan.{Broadcast}
 use Rattle.rds_encoder.specs.Sent.{sent_log}
-use Rattle.rds_receiver.specs.Receipts.{Fragment, name_fragment, text_fragment}
+use Rattle.rds_receiver.specs.Receipts.{name_fragment, text_fragment}
+use Rattle.rds_receiver.specs.declared.fragment.Fragment.{Fragment}
 use Rattle.rds_safety.specs.FlagAlone.{HearsOneIn}
 use Rattle.rds_safety.specs.FlagLaws.{NamesByFlagAreNew, NamesByFlagAreOfTheirSource, TagsByFlagAreOfTheirText}
 use Rattle.rds_safety.specs.FlagLaws.{TextsByFlagAreNew, TextsByFlagAreOfTheirSource, WhoGetsSomeHearsOneIn}

@@ -16,7 +16,7 @@ use Rattle.rds_encoder.specs.Laws.{WhatIsOnAirBegan, WhatIsPlannedWasAccepted, W
 use Rattle.rds_encoder.specs.Plan.{Broadcast, HasNumber, OnAir, endless, on_air, plan_of}
 use Rattle.rds_encoder.specs.Sent.{sent_in, sent_log}
 use Rattle.rds_encoder.specs.Spaced.{IsSpaced, RestartsComeFirst}
-use Rattle.rds_receiver.specs.Receipts.{Fragment}
+use Rattle.rds_receiver.specs.declared.fragment.Fragment.{Fragment}
 use Rattle.rds_safety.specs.Lawful.{HasOne, HasFragment, HasTags, IsLawful, Kind, names, texts}
 use Rattle.rds_safety.specs.Marks.{IsMarkIn, Mark, Sends, Tagged, marks, name_mark, text_mark}
 use Rattle.rds_world.specs.Station.{AreEndedSlots, EndsASlot, IsFreeIn, IsValid, TheEncoderIsLawful, slots_in}

@@ -16,7 +16,8 @@ use Rattle.rds_encoder.specs.Entries.{name_moves, slot_of, text_moves}
 use Rattle.rds_encoder.specs.Laws.{OnlyWhatIsOnAirCoversTheSlot, WhatIsOnAirWasOnAir}
 use Rattle.rds_encoder.specs.Plan.{Broadcast, HasNumber, OnAir, endless, on_air, plan_of}
 use Rattle.rds_encoder.specs.Sent.{one_if, sent_in, sent_log}
-use Rattle.rds_receiver.specs.Receipts.{Fragment, name_fragment, segments, text_fragment}
+use Rattle.rds_receiver.specs.Receipts.{name_fragment, segments, text_fragment}
+use Rattle.rds_receiver.specs.declared.fragment.Fragment.{Fragment}
 use Rattle.rds_safety.specs.Late.{CameFrom, SentIn}
 use Rattle.rds_safety.specs.Lawful.{names, texts}
 use Rattle.rds_safety.specs.Laws.{PlanLaws}

@@ -1,5 +1,6 @@
-use Rattle.std.proofs.Common.{Some, ◌∙◌, inl, inr, refl, sym}
-use Rattle.rds_fields.specs.declared.message.Message.TheVariants.{Name, Tags, Text}
+use Rattle.std.proofs.Common.{◌≡◌, ◌∙◌, Some, ap, inl, inr, refl, sym}
+use Rattle.rds_fields.specs.declared.message.Message.TheVariants.{Tags}
+use Rattle.rds_receiver.specs.Receipts.{name_of, text_of}
 use Rattle.rds_audit.specs.Stored.{audit_stored}
 use Rattle.rds_audit.proofs.ListingSteps.{names_listed, nothing_listed, text_open, texts_listed}
 use Rattle.rds_audit.proofs.Recordings.{announcement_counts, name_counts, other_counts, tags_complete, tags_count}
@@ -8,20 +9,19 @@ use Rattle.rds_audit.proofs.stored.StoredAudit.hear.Goals as goal
 
 pub returns-in-Text-clause-lists : goal.returns-in-Text-clause-lists
 returns-in-Text-clause-lists c stored =
-    let it = c.in-Text in
-    let lists = texts_listed (audit_stored c.args.self.now) _ (Some (Text it.flag c.get.result it.bytes)) c.take.result
+    let is : c.args.message ≡ text_of c.new.result = c.in-Text.is ∙ sym (ap text_of c.new.ensures.place) in
+    rw is (texts_listed (audit_stored c.args.self.now) _ (Some (text_of c.new.result)) c.take.result
     stored.some refl refl (λ judged h. text_counts _ judged _ _ _)
-    (c.take.ensures.holds stored.some stored.distance) (c.take.ensures.added stored.some stored.distance) in
-    rw (it.is, ← c.get.ensures.value) lists
+    (c.take.ensures.holds stored.some stored.distance) (c.take.ensures.added stored.some stored.distance))
 
 pub returns-in-Name-clause-lists : goal.returns-in-Name-clause-lists
 returns-in-Name-clause-lists c stored =
-    let it = c.in-Name in
-    let lists = names_listed (audit_stored c.args.self.now) _ (Some (Name it.flag c.get-in-Name.result it.bytes))
-    c.take-in-Name.result stored.some refl refl (λ judged h. name_counts _ judged _ _ _)
-    (c.take-in-Name.ensures.holds stored.some stored.distance) (c.take-in-Name.ensures.added stored.some
-    stored.distance) in
-    rw (it.is, ← c.get-in-Name.ensures.value) lists
+    let is : c.args.message ≡ name_of c.new-in-Name.result = c.in-Name.is
+    ∙ sym (ap name_of c.new-in-Name.ensures.place) in
+    rw is (names_listed (audit_stored c.args.self.now) _ (Some (name_of c.new-in-Name.result)) c.take-in-Name.result
+    stored.some refl refl (λ judged h. name_counts _ judged _ _ _)
+    (c.take-in-Name.ensures.holds stored.some stored.distance)
+    (c.take-in-Name.ensures.added stored.some stored.distance))
 
 pub returns-then-awaits_text-clause-lists : goal.returns-then-awaits_text-clause-lists
 returns-then-awaits_text-clause-lists c stored =

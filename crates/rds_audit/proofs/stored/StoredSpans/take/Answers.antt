@@ -1,5 +1,4 @@
 use Rattle.std.proofs.Common.{sym, ap, ◌∙◌, subst, rules}
-use Rattle.rds_receiver.specs.Receipts.{Fragment}
 use Rattle.rds_audit.specs.Lengths.{IsFormed}
 use Rattle.rds_audit.specs.Listing.{spans}
 use Rattle.rds_audit.specs.AuditAt.{HoldsNewestSpans}
@@ -13,7 +12,7 @@ use Rattle.rds_audit.proofs.stored.StoredSpans.take.Goals as goal
 pub returns-then-has-clause-holds : goal.returns-then-has-clause-holds
 returns-then-has-clause-holds g c pos low sent h =
     let gauge = g.S.Audited.gauge in
-    let p : Fragment = record { flag = c.args.flag; address = c.args.address; bytes = c.args.bytes } in
+    let p = c.args.fragment in
     let formed : IsFormed gauge.segments p = record { address = c.requires; four = search rules; fits = search rules }
     in
     subst (λ (s : SpansState). HoldsNewestSpans gauge c.args.distance (Sends p) sent s)
@@ -25,7 +24,7 @@ returns-then-has-clause-holds g c pos low sent h =
 pub returns-then-has-clause-added : goal.returns-then-has-clause-added
 returns-then-has-clause-added g c pos low sent h =
     let gauge = g.S.Audited.gauge in
-    let p : Fragment = record { flag = c.args.flag; address = c.args.address; bytes = c.args.bytes } in
+    let p = c.args.fragment in
     let formed : IsFormed gauge.segments p = record { address = c.requires; four = search rules; fits = search rules }
     in
     let follows = repeated_follows gauge g.met.S.Audited.few c.args.distance pos sent p (spans c.args.distance sent)

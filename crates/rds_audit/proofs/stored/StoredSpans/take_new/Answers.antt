@@ -1,5 +1,4 @@
 use Rattle.std.proofs.Common.{◌≡◌, IsOk, true, sym, ap, ◌∙◌, subst, rules}
-use Rattle.rds_receiver.specs.Receipts.{Fragment}
 use Rattle.rds_audit.specs.Ages.{Joins}
 use Rattle.rds_audit.specs.ReignsState.{HoldsNoOther}
 use Rattle.rds_audit.specs.Lengths.{IsFormed}
@@ -15,8 +14,8 @@ use Rattle.rds_audit.proofs.stored.StoredSpans.take_new.Goals as goal
 pub returns-then-not-joins-clause-holds : goal.returns-then-not-joins-clause-holds
 returns-then-not-joins-clause-holds g c pos low sent h =
     let gauge = g.S.Audited.gauge in
-    let p : Fragment = record { flag = c.args.flag; address = c.args.address; bytes = c.args.bytes } in
-    let apart : Joins c.args.distance c.args.flag (ages_stored c.args.self.now.reigns) → ⊥ = λ on.
+    let p = c.args.fragment in
+    let apart : Joins c.args.distance p.flag (ages_stored c.args.self.now.reigns) → ⊥ = λ on.
     (let yes : c.joins.result ≡ true = c.joins.ensures.1 on in
     let not_yes = c.if-not-joins.true in absurd (cc)) in
     let formed : IsFormed gauge.segments p = record { address = c.requires; four = search rules; fits = search rules }
@@ -28,8 +27,8 @@ returns-then-not-joins-clause-holds g c pos low sent h =
 pub returns-then-not-joins-clause-added : goal.returns-then-not-joins-clause-added
 returns-then-not-joins-clause-added g c pos low sent h =
     let gauge = g.S.Audited.gauge in
-    let p : Fragment = record { flag = c.args.flag; address = c.args.address; bytes = c.args.bytes } in
-    let apart : Joins c.args.distance c.args.flag (ages_stored c.args.self.now.reigns) → ⊥ = λ on.
+    let p = c.args.fragment in
+    let apart : Joins c.args.distance p.flag (ages_stored c.args.self.now.reigns) → ⊥ = λ on.
     (let yes : c.joins.result ≡ true = c.joins.ensures.1 on in
     let not_yes = c.if-not-joins.true in absurd (cc)) in
     let formed : IsFormed gauge.segments p = record { address = c.requires; four = search rules; fits = search rules }
@@ -42,10 +41,10 @@ returns-then-not-joins-clause-added g c pos low sent h =
 pub returns-then-is_err-clause-holds : goal.returns-then-is_err-clause-holds
 returns-then-is_err-clause-holds g c pos low sent h =
     let gauge = g.S.Audited.gauge in
-    let p : Fragment = record { flag = c.args.flag; address = c.args.address; bytes = c.args.bytes } in
+    let p = c.args.fragment in
     let formed : IsFormed gauge.segments p = record { address = c.requires; four = search rules; fits = search rules }
     in
-    let other : HoldsNoOther c.args.address c.args.bytes (content_stored c.args.self.now.reigns)
+    let other : HoldsNoOther p.address p.bytes (content_stored c.args.self.now.reigns)
     → ⊥ = λ no_other. (let ok : IsOk c.check_unchanged.result = c.check_unchanged.ensures.same.1 no_other
     in absurd (search rules)) in
     subst (λ (s : SpansState). HoldsNewestSpans gauge c.args.distance (Sends p) sent s)
@@ -57,10 +56,10 @@ returns-then-is_err-clause-holds g c pos low sent h =
 pub returns-then-is_err-clause-added : goal.returns-then-is_err-clause-added
 returns-then-is_err-clause-added g c pos low sent h =
     let gauge = g.S.Audited.gauge in
-    let p : Fragment = record { flag = c.args.flag; address = c.args.address; bytes = c.args.bytes } in
+    let p = c.args.fragment in
     let formed : IsFormed gauge.segments p = record { address = c.requires; four = search rules; fits = search rules }
     in
-    let other : HoldsNoOther c.args.address c.args.bytes (content_stored c.args.self.now.reigns)
+    let other : HoldsNoOther p.address p.bytes (content_stored c.args.self.now.reigns)
     → ⊥ = λ no_other. (let ok : IsOk c.check_unchanged.result = c.check_unchanged.ensures.same.1 no_other
     in absurd (search rules)) in
     let follows = changed_follows gauge g.met.S.Audited.few c.args.distance pos sent p (spans c.args.distance sent)
@@ -74,10 +73,10 @@ returns-then-is_err-clause-added g c pos low sent h =
 pub returns-clause-holds : goal.returns-clause-holds
 returns-clause-holds g c pos low sent h =
     let gauge = g.S.Audited.gauge in
-    let p : Fragment = record { flag = c.args.flag; address = c.args.address; bytes = c.args.bytes } in
+    let p = c.args.fragment in
     let formed : IsFormed gauge.segments p = record { address = c.requires; four = search rules; fits = search rules }
     in
-    let no_other : HoldsNoOther c.args.address c.args.bytes (content_stored
+    let no_other : HoldsNoOther p.address p.bytes (content_stored
     c.args.self.now.reigns) = c.check_unchanged.ensures.same.0 (search rules) in
     subst (λ (s : SpansState). HoldsNewestSpans gauge c.args.distance (Sends p) sent s) (sym c.put.ensures)
     (joined_follows gauge g.met.S.Audited.few c.args.distance pos sent p (spans c.args.distance sent)
@@ -86,10 +85,10 @@ returns-clause-holds g c pos low sent h =
 pub returns-clause-added : goal.returns-clause-added
 returns-clause-added g c pos low sent h =
     let gauge = g.S.Audited.gauge in
-    let p : Fragment = record { flag = c.args.flag; address = c.args.address; bytes = c.args.bytes } in
+    let p = c.args.fragment in
     let formed : IsFormed gauge.segments p = record { address = c.requires; four = search rules; fits = search rules }
     in
-    let no_other : HoldsNoOther c.args.address c.args.bytes (content_stored
+    let no_other : HoldsNoOther p.address p.bytes (content_stored
     c.args.self.now.reigns) = c.check_unchanged.ensures.same.0 (search rules) in
     let follows = joined_follows gauge g.met.S.Audited.few c.args.distance pos sent p (spans c.args.distance sent)
     (spans_stored c.args.self.now) formed h (c.joins.ensures.0 c.if-not-joins.false) no_other in

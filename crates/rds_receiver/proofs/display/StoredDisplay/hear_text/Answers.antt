@@ -12,7 +12,7 @@ pub returns-clause-holds : goal.returns-clause-holds
 returns-clause-holds c stored m first heard st =
     let r = display_stored c.args.self.now in
     let between = display_stored c.if-not-has_flag.self in
-    let same : c.args.flag ≡ r.text.flag → between ≡ r =
+    let same : c.args.fragment.flag ≡ r.text.flag → between ≡ r =
     λ e. elim c.if-not-has_flag.branch [
       | then-not-has_flag w ↦
           let yes : c.has_flag.result ≡ true = c.has_flag.ensures.1 (sym e) in
@@ -20,19 +20,19 @@ returns-clause-holds c stored m first heard st =
           absurd (cc)
       | else-not-has_flag w ↦ ap display_stored w.self-is
     ] in
-    let other : c.args.flag ≢ r.text.flag → between ≡ record r { pair = None } =
+    let other : c.args.fragment.flag ≢ r.text.flag → between ≡ record r { pair = None } =
     λ ne. elim c.if-not-has_flag.branch [
       | then-not-has_flag w ↦ ap display_stored w.self-is ∙ ap (λ (p : Option PairFields). record r { pair = p })
           w.none-self.ensures.same
       | else-not-has_flag w ↦ absurd (ne (sym (c.has_flag.ensures.0 w.if-not-has_flag.false)))
     ] in
     let age : age_stored between.dwell c.if-not-has_flag.self.rest c.take.new.self
-    ≡ 0 = elim (equal_or_not c.args.flag r.text.flag) [
+    ≡ 0 = elim (equal_or_not c.args.fragment.flag r.text.flag) [
       | inl e ↦ age_taken _ _ c.take.new.self _ _ _ (c.take.ensures.same (e ∙ ap (λ (x : DisplayState). x.text.flag)
           (sym (same e)))) (c.take.ensures.later ∙ c.later-later.ensures)
       | inr ne ↦ age_taken _ _ c.take.new.self _ _ _
           (c.take.ensures.other (λ e. ne (e ∙ ap (λ (x : DisplayState). x.text.flag) (other ne)))) (c.take.ensures.later
           ∙ c.later-later.ensures)
     ] in
-    text_heard_by m first r between _ heard c.args.flag c.args.address c.args.bytes same other
+    text_heard_by m first r between _ heard c.args.fragment same other
     record { same = c.take.ensures.same; other = c.take.ensures.other; flag = c.take.ensures.flag; age = age } refl st

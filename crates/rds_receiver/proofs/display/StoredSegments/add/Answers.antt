@@ -12,7 +12,7 @@ returns-then-was_whole-clause-other g c ne =
       | then-has_flag w ↦ absurd (ne (sym (c.has_flag.ensures.0 w.if-has_flag.true)))
       | else-has_flag w ↦ ap (λ n. held_cells n c.args.self.now.bytes) w.mask-is ∙ nothing_held _
     ] in
-    c.hold-self.ensures ∙ ap (λ (cells : Cells). insert cells c.args.address c.args.bytes) none
+    c.hold-self.ensures ∙ ap (λ (cells : Cells). insert cells c.args.fragment.address c.args.fragment.bytes) none
 
 pub returns-else-was_whole-clause-other : goal.returns-else-was_whole-clause-other
 returns-else-was_whole-clause-other g c ne =
@@ -20,4 +20,4 @@ returns-else-was_whole-clause-other g c ne =
       | then-has_flag w ↦ absurd (ne (sym (c.has_flag.ensures.0 w.if-has_flag.true)))
       | else-has_flag w ↦ ap (λ n. held_cells n c.args.self.now.bytes) w.mask-is ∙ nothing_held _
     ] in
-    c.hold-self.ensures ∙ ap (λ (cells : Cells). insert cells c.args.address c.args.bytes) none
+    c.hold-self.ensures ∙ ap (λ (cells : Cells). insert cells c.args.fragment.address c.args.fragment.bytes) none

@@ -6,7 +6,7 @@ use Rattle.rds_receiver.proofs.stored.StoredReceiver.confirm_text.Goals.{else-ag
 
 pub returns-then-not-has_flag-clause-confirms : goal.returns-then-not-has_flag-clause-confirms
 returns-then-not-has_flag-clause-confirms c w m first heard st =
-    text_confirmed w m first heard _ _ c.args.flag c.args.address c.args.bytes c.take-again.result c.requires refl refl
+    text_confirmed w m first heard _ _ c.args.fragment c.take-again.result c.requires refl refl
     refl c.take-again.ensures.taken c.take-again.ensures.others
     c.take-again.ensures.again.0 c.take-again.ensures.again.1
     (λ e. absurd (not_true _ e c.if-again.true))
@@ -15,7 +15,7 @@ returns-then-not-has_flag-clause-confirms c w m first heard st =
 
 pub returns-else-again-clause-confirms : goal.returns-else-again-clause-confirms
 returns-else-again-clause-confirms c w m first heard st =
-    text_confirmed w m first heard _ _ c.args.flag c.args.address c.args.bytes c.take-again.result c.requires refl refl
+    text_confirmed w m first heard _ _ c.args.fragment c.take-again.result c.requires refl refl
     refl c.take-again.ensures.taken c.take-again.ensures.others
     c.take-again.ensures.again.0 c.take-again.ensures.again.1
     (λ e. refl)
