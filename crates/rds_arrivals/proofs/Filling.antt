@@ -9,8 +9,8 @@ use Rattle.rds_safety.specs.OwnClock.{IsHeardByOwnClock}
 use Rattle.rds_safety.proofs.Entries.{before_end}
 use Rattle.rds_safety.proofs.OnTime.{nothing_in_order, one_more_in_order}
 use Rattle.rds_safety.proofs.OwnClocks.{true_clock}
-use Rattle.rds_arrivals.specs.Arrivals.{IsBreak, and_lost, filled, hour, is_break, lost_before, lost_between, lost_until}
-use Rattle.rds_arrivals.specs.Arrivals.{lost_within, nineteen_slots}
+use Rattle.rds_arrivals.specs.Arrivals.{IsBreak, and_lost, filled, hour, is_break, lost_before, lost_between}
+use Rattle.rds_arrivals.specs.Arrivals.{lost_until, lost_within, nineteen_slots}
 use Rattle.rds_arrivals.specs.Coarse.{AreCoarse, IsCoarse, begun_at, followed_by, newest_stretch}
 use Rattle.rds_arrivals.specs.declared.stretch.Stretch.{Stretch}
 use Rattle.rds_arrivals.specs.Delivered.{AreBelowASlot, AreOf, AreToldInTime, Delivery, EachTwo, IsLater, IsOnItsWay}

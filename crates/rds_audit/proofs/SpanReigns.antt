@@ -1,5 +1,5 @@
--- Lemmas: up to the first fault of a service, its spans have its reigns and break no rule; marks that add nothing to its
--- list pass.
+-- Lemmas: up to the first fault of a service, its spans have its reigns and break no rule; marks that add nothing to
+-- its list pass.
 use Rattle.std.proofs.Common.{◌≡◌, ◌≢◌, ◌⊎◌, ◌+◌, ◌<◌, ◌≤◌, ◌&&◌, ◌||◌, not, max, ℕ, Bool, true, false, nat_eq, nat_lt}
 use Rattle.std.proofs.Common.{List, [], ◌∷◌, Option, Some, None, length, cond, refl, sym, ap, ◌∙◌, subst, inl, inr}
 use Rattle.std.proofs.Common.{arith}
@@ -15,8 +15,8 @@ use Rattle.rds_safety.specs.Marks.{Mark, Nothing, Sends, Tagged}
 use Rattle.rds_audit.specs.declared.fault_set.FaultSet.{FaultSet}
 use Rattle.rds_audit.specs.Lengths.{Gauge, IsExact, IsFormed, lengths_of, sent_last, tags_end}
 use Rattle.rds_audit.specs.Listing.{Span, added, broken_by, broken_newest, due_after, first_of_span, fits, joined}
-use Rattle.rds_audit.specs.Listing.{none_broken, not_before, reigns_of, same_bytes, span_with, spans, spans_after, spans_tagged}
-use Rattle.rds_audit.specs.Listing.{turned}
+use Rattle.rds_audit.specs.Listing.{none_broken, not_before, reigns_of, same_bytes, span_with, spans, spans_after}
+use Rattle.rds_audit.specs.Listing.{spans_tagged, turned}
 use Rattle.rds_audit.specs.ListingLaws.{IsFormedMark}
 use Rattle.rds_audit.specs.Reigns.{Reign, SentTags, after_fragment, after_tags, joins, past_newest, reigns}
 use Rattle.rds_audit.specs.Reigns.{opened_by, opened_from, with_fragment, with_tags}
@@ -239,7 +239,10 @@ module _ (g : Gauge) (exact : IsExact g) (d : ℕ) where
       → AreReigns g d (Sends p ∷ before) (spans_after d (length before) p rs) (after_fragment d (length before) p
       (reigns_of rs))
   fragment_reigns p before [] was all h =
-      record { same = refl; none = breaks_none g exact d (first_of_span (length before) p 0 false false) all.0 refl refl }
+      record {
+        same = refl;
+        none = breaks_none g exact d (first_of_span (length before) p 0 false false) all.0 refl refl;
+      }
   fragment_reigns p before (r ∷ older) was all h =
       by_fragment (λ (rs : List Span) (regs : List Reign). AllByRecursion (CanBeBroadcast d g.kind) regs
       → AreReigns g d (Sends p ∷ before) rs regs) d (length before) p r older

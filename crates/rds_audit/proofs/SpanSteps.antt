@@ -265,9 +265,9 @@ module _ (g : Gauge) (few : g.segments ≤ 16) (d : ℕ) (pos : 0 < d) (sent : L
   early_same r (q ∷ rest) since_before over e =
       elim (cases_lt now (max (r.reign.last + 1) (q.reign.last + d))) [
         | inl early ↦ lt-ltb since_before d (omega arith)
-        ∙ sym (lt-ltb now (max (r.reign.last + 1) (q.reign.last + d)) early)
+            ∙ sym (lt-ltb now (max (r.reign.last + 1) (q.reign.last + d)) early)
         | inr late ↦ le-ltb since_before d (omega arith)
-        ∙ sym (le-ltb now (max (r.reign.last + 1) (q.reign.last + d)) late)
+            ∙ sym (le-ltb now (max (r.reign.last + 1) (q.reign.last + d)) late)
       ]
 
   -- the start of a span that turned

@@ -33,8 +33,8 @@ pub fn what_passes_is_safe()
 }
 
 /// States that plans which are lawful for what the audit judges of a recording make the views of all receivers of the
-/// recording safe, and that a recording that passes has such plans. They are receivers of the log as it is: they may hear
-/// the tags before its first text segment.
+/// recording safe, and that a recording that passes has such plans. They are receivers of the log as it is: they may
+/// hear the tags before its first text segment.
 pub fn what_passes_as_a_recording_is_safe()
     ensures by_plans { PlansOfARecordingAreSafe }
     ensures passes { WhatPassesAsARecordingIsSafe }

@@ -45,7 +45,8 @@ impl StoredReigns {
     /// Returns whether some value has the segments.
     pub(crate) fn put<S: Audited>(&mut self, address: u8, bytes: [u8; 4]) -> bool
         requires { address < S.gauge.segments }
-        ensures fits { IsTrue result ↔ HasCommonLength (S.gauge.allowed address bytes) (content_stored self.old).lengths }
+        ensures fits { IsTrue result
+            ↔ HasCommonLength (S.gauge.allowed address bytes) (content_stored self.old).lengths }
         ensures taken { content_stored self.new
             ≡ taken (S.gauge.allowed address bytes) address bytes (content_stored self.old) }
         ensures ages { ages_stored self.new ≡ ages_stored self.old }

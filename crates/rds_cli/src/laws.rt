@@ -2,13 +2,14 @@
 ghost use Rattle.std.specs.Prelude.{[], codes, false, true};
 ghost use Rattle.rds_cli.specs.CommandLine.{AskFor, AskForHelp, default_dwell};
 ghost use Rattle.rds_cli.specs.Examples.{AreNotTaken, CallForHelp, auditing, auditing_running, confirming, decoding};
-ghost use Rattle.rds_cli.specs.Examples.{decoding_why, encoding, filling, filling_one, from_file, listing_running, losing};
-ghost use Rattle.rds_cli.specs.Examples.{simulating, simulating_flag_alone, simulating_confirmed, typed, witnessing};
+ghost use Rattle.rds_cli.specs.Examples.{decoding_why, encoding, filling, filling_one, from_file, listing_running};
+ghost use Rattle.rds_cli.specs.Examples.{losing, simulating, simulating_flag_alone, simulating_confirmed, typed};
+ghost use Rattle.rds_cli.specs.Examples.{witnessing};
 
 /// Shows the definition at work. The arguments of README's examples are taken and ask for these tasks. A dwell of 0
 /// slots, a window of 1 or 256 slots, a programme type of 32, an option of another subcommand, a subcommand without a
-/// programme, a second file and a missing subcommand are refused. Help and the version are answered. `help` followed by a command is
-/// not taken, and the definition leaves open whether that gives help or is refused.
+/// programme, a second file and a missing subcommand are refused. Help and the version are answered. `help` followed by
+/// a command is not taken, and the definition leaves open whether that gives help or is refused.
 pub fn words_of_the_examples()
     ensures decode { AskFor (typed (codes "rdsrt decode --pi C201")) (decoding (codes "C201") default_dwell) }
     ensures decode_other { AskFor (typed (codes "rdsrt decode --pi F201")) (decoding (codes "F201") default_dwell) }

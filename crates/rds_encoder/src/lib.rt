@@ -2,8 +2,8 @@
 //!
 //! The model is the list of all its entries: restarts, sets and ends of slots. Definitions that use slot numbers alone
 //! give the reply to each set (`reply_to`, `tags_reply`), what is on air (`on_air`) and what each slot sends
-//! (`sent_in`). The encoder keeps counters, and `EncoderAt` relates it to such a list. It keeps no history and allocates
-//! no memory. A text that it accepts is on air at once.
+//! (`sent_in`). The encoder keeps counters, and `EncoderAt` relates it to such a list. It keeps no history and
+//! allocates no memory. A text that it accepts is on air at once.
 //!
 //! ```text
 //! let mut encoder = Encoder::new(head, Dwell::new(4)?, Late::new(0)?);

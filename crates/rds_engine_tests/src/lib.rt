@@ -1,5 +1,5 @@
-//! The tests of rds_log, rds_witness and rds_script, which make their public calls as rds_program does, and of the public
-//! call of rds_program. The other worked rows are cases of the built program.
+//! The tests of rds_log, rds_witness and rds_script, which make their public calls as rds_program does, and of the
+//! public call of rds_program. The other worked rows are cases of the built program.
 //!
 //! They are in a crate of their own, since a crate with tests is proved once more for them.
 #![tactic(auto)]

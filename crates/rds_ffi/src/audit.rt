@@ -9,8 +9,9 @@ ghost use Rattle.rds_audit.specs.Reigns.{AlternateFlags, reigns};
 ghost use Rattle.rds_audit.specs.Rules.{LogPasses};
 ghost use Rattle.rds_audit.specs.Stored.{AreBits, faults_stored};
 ghost use Rattle.rds_audit.specs.declared.log_start.LogStart.TheVariants as LogStart;
-ghost use Rattle.rds_ffi.specs.AuditInMemory.{Adds, AuditInMemory, FollowsInMemory, IsFaultCode, Tells, WhereItFollowed};
-ghost use Rattle.rds_ffi.specs.AuditInMemory.{WhereAuditFollows, WhereItHeard, WhereItIs, fault_in, start_in};
+ghost use Rattle.rds_ffi.specs.AuditInMemory.{Adds, AuditInMemory, FollowsInMemory, IsFaultCode, Tells};
+ghost use Rattle.rds_ffi.specs.AuditInMemory.{WhereItFollowed, WhereAuditFollows, WhereItHeard, WhereItIs, fault_in};
+ghost use Rattle.rds_ffi.specs.AuditInMemory.{start_in};
 ghost use Rattle.rds_ffi.specs.Codes.{RDSRT_BAD_ARGUMENT, RDSRT_OK, code_of};
 ghost use Rattle.rds_ffi.specs.Slots.{Bring, IsCount};
 ghost use Rattle.rds_safety.specs.Marks.{marks, name_mark, text_mark};
@@ -96,8 +97,8 @@ pub extern "C" fn rdsrt_audit_slot(audit: &mut StoredAudit, blocks: &[u16]) -> u
     code_of(audit.slot(slot))
 }
 
-/// Takes the next slot, whatever the faults before it: the four blocks of its group, or no blocks. Writes the faults that
-/// the slot adds to the list of all faults of the log, each as 0 or 1.
+/// Takes the next slot, whatever the faults before it: the four blocks of its group, or no blocks. Writes the faults
+/// that the slot adds to the list of all faults of the log, each as 0 or 1.
 ///
 /// # Errors
 ///

@@ -25,8 +25,8 @@ pub struct RdsrtHeld {
 /// The bits of the two segments of a name.
 const NAME_SEGMENTS: u16 = 0b11;
 
-/// Writes which segments of what counts the receiver holds. Whatever the bytes of the receiver are, no bit of the name is
-/// set that stands for no segment of a name.
+/// Writes which segments of what counts the receiver holds. Whatever the bytes of the receiver are, no bit of the name
+/// is set that stands for no segment of a name.
 #[unsafe(no_mangle)]
 pub extern "C" fn rdsrt_receiver_held(receiver: &StoredReceiver, held: &mut RdsrtHeld)
     ensures held { WhereItIs receiver.now (λ t input. IsHeld t input held.new) }

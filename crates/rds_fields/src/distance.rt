@@ -5,8 +5,8 @@ use crate::{Dwell, Late};
 use std::marker::Model;
 
 /// The spacing d of a station, 1 to 66813 slots: the dwell M of its receivers plus the lateness K, and W - 1 slots more
-/// if they show only what they heard twice within W slots. No receiver joins a segment to the one before it if they were
-/// sent d slots or more apart (this project's own rule).
+/// if they show only what they heard twice within W slots. No receiver joins a segment to the one before it if they
+/// were sent d slots or more apart (this project's own rule).
 #[derive(Clone, Copy)]
 pub struct Distance {
     slots: u32,

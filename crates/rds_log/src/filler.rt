@@ -281,7 +281,8 @@ impl Filler {
         ensures told { self.new.told ≡ max self.old.told lost }
         ensures pushed { (start : W) (total : List ℕ)
             → Waits (traffic W.contents W.failures start writer.old) output.old total
-            → Pushed (traffic W.contents W.failures start writer.new) output.new (total ++ more_lines why self.old.told lost) result }
+            → Pushed (traffic W.contents W.failures start writer.new) output.new
+            (total ++ more_lines why self.old.told lost) result }
     {
         if why.is_none() && lost <= self.told {
             return Ok(());
@@ -354,7 +355,8 @@ fn push_line<W: TellingWrite>(
     requires { length line.now ≤ 60 }
     ensures { (start : W) (total : List ℕ)
         → Waits (traffic W.contents W.failures start writer.old) output.old total
-        → Pushed (traffic W.contents W.failures start writer.new) output.new (total ++ (line.now ++ codes "\n")) result }
+        → Pushed (traffic W.contents W.failures start writer.new) output.new
+        (total ++ (line.now ++ codes "\n")) result }
 {
     make_room(output, writer)?;
     output.push(line);

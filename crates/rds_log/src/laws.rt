@@ -31,8 +31,8 @@ pub fn bytes_write_one_output()
         → q.before ≡ Some text → DecodesAll how r w → DecodesAll how q v → WriteAlike w v }
 {}
 
-/// Shows that the answer to a log is a function of its bytes: two calls of `audit` that end without a fault answered and
-/// wrote the same.
+/// Shows that the answer to a log is a function of its bytes: two calls of `audit` that end without a fault answered
+/// and wrote the same.
 pub fn bytes_have_one_verdict()
     ensures { (a : Auditing) (reads others : ℕ) (bytes : List ℕ) (r w q v : Traffic) (passed other : Bool)
         → 0 < spacing a → r.before ≡ Some bytes → q.before ≡ Some bytes

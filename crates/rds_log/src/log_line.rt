@@ -126,7 +126,8 @@ pub(crate) fn is_skipped(line: &[u8], length: usize) -> bool
     length == 0 || line[0] == b'<' || line[0] == b'#' || line[0] == b'%'
 }
 
-/// Returns whether a line has the layout of a slot. Most have a text behind their blocks, and need no look at their end.
+/// Returns whether a line has the layout of a slot. Most have a text behind their blocks, and need no look at their
+/// end.
 #[inline(always)]
 fn is_laid_out(line: &[u8]) -> bool
     ensures { IsTrue result ↔ IsLaidOut line.now }

@@ -117,8 +117,8 @@ fn first_of(slot: u64, since_start: u32, waited: u32) -> Option<u64> {
     slot_before(slot, Some(since_start))?.checked_add(u64::from(waited))
 }
 
-/// Returns the pause between the text before the current one, whose last slot was so many slots before this one, and the
-/// first segment of the current one.
+/// Returns the pause between the text before the current one, whose last slot was so many slots before this one, and
+/// the first segment of the current one.
 fn pause_of(slot: u64, since_before: u32, first: Option<u64>) -> Option<Pause> {
     let until = first?;
     let from = slot_before(slot, Some(since_before.saturating_sub(1)));

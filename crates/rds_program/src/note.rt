@@ -263,8 +263,8 @@ fn reads_nothing(counts: &GroupCounts) -> bool {
     counts.of(TEXT_GROUPS) == 0 && counts.of(NAME_GROUPS) == 0 && counts.of(RTPLUS_CODE) == 0
 }
 
-/// Returns by how much a log has too few lines for its times. After a no the first lines decide: the log was not read to
-/// its end.
+/// Returns by how much a log has too few lines for its times. After a no the first lines decide: the log was not read
+/// to its end.
 fn lack_of(run: &RunNotes) -> Option<Lack> {
     let times = run.times.as_ref()?;
     match run.end {

@@ -230,8 +230,8 @@ fn push_left_out(count: u64, line: &mut Line) {
     let _ = write!(line, " {verb} left out");
 }
 
-/// Appends that the times of a log are too coarse, with the slots of the newest stretch that shows it, and what else may
-/// be the cause.
+/// Appends that the times of a log are too coarse, with the slots of the newest stretch that shows it, and what else
+/// may be the cause.
 fn push_coarse(coarse: CoarseTimes, line: &mut Line) {
     let room = coarse.room;
     let _ = write!(line, "the times vary by more than the grain: ");

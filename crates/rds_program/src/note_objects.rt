@@ -1,5 +1,5 @@
-//! The objects of notes: one JSON object a note, with its kind, its facts and its sentence. Slots count from 0, lines and
-//! rows from 1.
+//! The objects of notes: one JSON object a note, with its kind, its facts and its sentence. Slots count from 0, lines
+//! and rows from 1.
 
 use crate::note::{FaultOf, Note};
 use crate::note_lines::{BEGUN, Line, push};

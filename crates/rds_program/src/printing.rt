@@ -1,5 +1,5 @@
-//! Prints the notes of a run: each is a line, and goes out in one write. It is a sentence that begins with `rdsrt: `, or
-//! a JSON object.
+//! Prints the notes of a run: each is a line, and goes out in one write. It is a sentence that begins with `rdsrt: `,
+//! or a JSON object.
 
 use crate::note::{Note, notes_of};
 use crate::note_lines::{Line, begun, push_note};

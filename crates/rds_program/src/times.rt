@@ -44,8 +44,8 @@ pub struct LogTimes {
     last: ArrayVec<u8, LONGEST>,
     /// The bytes of the log so far.
     bytes: usize,
-    /// Whether `slots` told a break, or a time went back or on by more than an hour from one read to the next. Then only
-    /// the first bytes before it are compared.
+    /// Whether `slots` told a break, or a time went back or on by more than an hour from one read to the next. Then
+    /// only the first bytes before it are compared.
     is_broken: bool,
     /// The lines in the first bytes, and the last time in them.
     lines: u64,

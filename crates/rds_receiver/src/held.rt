@@ -55,7 +55,8 @@ impl StoredSegments {
         ensures kept { IsFalse result
             → MakeAlike S.is_whole (held_cells self.old.mask self.old.bytes) (held_cells self.new.mask self.new.bytes) }
         ensures one_flag { IsFalse result
-            → (fragment.flag ≡ is_set self.old.flag) ⊎ IsShown S.is_whole (held_cells self.old.mask self.old.bytes) None }
+            → (fragment.flag ≡ is_set self.old.flag)
+            ⊎ IsShown S.is_whole (held_cells self.old.mask self.old.bytes) None }
     {
         self.later = later;
         if self.has_flag(fragment.flag)

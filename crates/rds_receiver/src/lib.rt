@@ -1,9 +1,9 @@
 //! A receiver of RadioText (RT), programme type names (PTYN) and RadioText Plus (RT+), slot by slot.
 //!
 //! The model is the run of each service: the longest last part of the received segments with one flag and with no gap
-//! of the dwell or more. Each message counts, or with a window each one that is confirmed. Each call keeps `ReceiverAt`.
-//! So `text`, `name`, `item` and `tag` show what the run of all that counts makes whole, and the pieces that the tags
-//! mark in it. A receiver holds ages and no slot numbers. It copies no text and allocates no memory.
+//! of the dwell or more. Each message counts, or with a window each one that is confirmed. Each call keeps
+//! `ReceiverAt`. So `text`, `name`, `item` and `tag` show what the run of all that counts makes whole, and the pieces
+//! that the tags mark in it. A receiver holds ages and no slot numbers. It copies no text and allocates no memory.
 //!
 //! ```text
 //! let mut receiver = Receiver::new(0xC201, dwell);

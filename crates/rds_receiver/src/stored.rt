@@ -36,7 +36,8 @@ impl StoredReceiver {
     /// false, the view did not change. Invalid numbers give arbitrary numbers.
     #[inline(always)]
     pub fn slot(&mut self, group: Option<Blocks>) -> bool
-        ensures stands { IsStoredReceiver self.old → TakesSlot (receiver_stored self.old) (receiver_stored self.new) group }
+        ensures stands { IsStoredReceiver self.old
+            → TakesSlot (receiver_stored self.old) (receiver_stored self.new) group }
         ensures same { IsStoredReceiver self.old → IsFalse result → KeepsView (receiver_stored self.old) group }
         ensures good { IsStoredReceiver self.old → IsStoredReceiver self.new }
     {
@@ -49,7 +50,8 @@ impl StoredReceiver {
     #[inline(always)]
     fn hear(&mut self, group: Option<Blocks>) -> bool
         ensures programme { self.new.display.pi ≡ self.old.display.pi }
-        ensures holds { IsStoredReceiver self.old → HearsSlot (receiver_stored self.old) (receiver_stored self.new) group }
+        ensures holds { IsStoredReceiver self.old
+            → HearsSlot (receiver_stored self.old) (receiver_stored self.new) group }
         ensures same { IsFalse result → ShowsAlike (display_stored self.old.display) (display_stored self.new.display) }
         ensures good { IsStoredReceiver self.old → IsStoredReceiver self.new }
     {
@@ -68,7 +70,8 @@ impl StoredReceiver {
     fn hear_if_confirmed(&mut self, group: Option<Blocks>) -> bool
         requires { 0 < self.old.window }
         ensures programme { self.new.display.pi ≡ self.old.display.pi }
-        ensures holds { IsStoredReceiver self.old → HearsSlot (receiver_stored self.old) (receiver_stored self.new) group }
+        ensures holds { IsStoredReceiver self.old
+            → HearsSlot (receiver_stored self.old) (receiver_stored self.new) group }
         ensures same { IsFalse result → ShowsAlike (display_stored self.old.display) (display_stored self.new.display) }
         ensures good { IsStoredReceiver self.old → IsStoredReceiver self.new }
     {

@@ -86,8 +86,9 @@ impl Airs {
         ensures spacing { self.new.spacing ≡ self.old.spacing }
         ensures airs { WhereWorldStands world.now (λ config events.
             airs_in self.new.stretches.items ≡ air_of config events ∷ airs_in self.old.stretches.items) }
-        ensures lines { WhereWorldStands world.now (λ config events. lines.new ≡ lines.old ++ change (air_stamp slot) None
-            (newest_of (airs_in self.old.stretches.items)) (air_of config events)) }
+        ensures lines { WhereWorldStands world.now (λ config events. lines.new
+            ≡ lines.old ++ change (air_stamp slot) None (newest_of (airs_in self.old.stretches.items))
+            (air_of config events)) }
         ensures room { length lines.new ≤ length lines.old + SLOT_ROOM }
     {
         let now = view_on_air(world);

@@ -235,8 +235,8 @@ impl AllSeen {
         pair: Option<TagPair>,
     ) -> Result<(), AllocError>
         ensures pairs { self.new.pairs ≡ self.old.pairs }
-        ensures seen { OnOk result ((t : Tuning) (log : List (Option Group)) → slot < length log → IsStoredReceiver whole.now
-            → ReceiverAt t (receiver_stored whole.now) (got [] log (slot + 1))
+        ensures seen { OnOk result ((t : Tuning) (log : List (Option Group)) → slot < length log
+            → IsStoredReceiver whole.now → ReceiverAt t (receiver_stored whole.now) (got [] log (slot + 1))
             → ((held : PairFields) → pair ≡ Some held → IsOfRun t log (slot + 1) held)
             → All (IsSeen t log) self.old.seen.items → All (IsSeen t log) self.new.seen.items) }
     {

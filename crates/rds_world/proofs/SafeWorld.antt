@@ -59,8 +59,8 @@ tuned_alike config input has = λ i. record {
 }
 
 -- the view of a receiver is that of what counts of its input
-pub shows_view : (config : Config) (input : Input) (r : ReceiverState) (view : ShownView) → is_flag_alone config.kind ≡ false
-    → HasHeard config input r → ReceiverShows r view
+pub shows_view : (config : Config) (input : Input) (r : ReceiverState) (view : ShownView)
+    → is_flag_alone config.kind ≡ false → HasHeard config input r → ReceiverShows r view
     → ShowsView config.dwell input.first (counted_in (window_of config.kind) config.dwell input.first input.heard) view
 shows_view config input r view kind has shows =
     let v = subst (λ (t : Tuning). IsView t has.groups view) (tuned_alike config input kind)

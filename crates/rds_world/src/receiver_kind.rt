@@ -13,8 +13,8 @@ pub enum ReceiverKind {
     WithDwell,
     /// Receivers with the dwell of the station. They show only what they heard twice within W slots.
     Confirming(Window),
-    /// Radios that follow the A/B flag bit alone (IEC 62106, RadioText): they have the longest dwell, and show what they
-    /// heard once. Over as many slots, a receiver with this dwell shows what the flag bit alone gives.
+    /// Radios that follow the A/B flag bit alone (IEC 62106, RadioText): they have the longest dwell, and show what
+    /// they heard once. Over as many slots, a receiver with this dwell shows what the flag bit alone gives.
     FlagAlone(Option<Window>),
 }
 

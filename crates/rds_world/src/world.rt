@@ -11,7 +11,8 @@ ghost use Rattle.rds_world.specs.Replies.{CanBeTaken, IsStepRefused, reply_at};
 ghost use Rattle.rds_world.specs.SafeSlots.{OnlyWhatWasOnAirIsShown};
 ghost use Rattle.rds_world.specs.Slots.{entries, input_of, sent_at};
 ghost use Rattle.rds_world.specs.State.{distance};
-ghost use Rattle.rds_world.specs.WorldAt.{HasHeard, IsViewOfInput, ReceiverShows, ShowsStill, WorldAt, WhereWorldStands};
+ghost use Rattle.rds_world.specs.WorldAt.{HasHeard, IsViewOfInput, ReceiverShows, ShowsStill, WorldAt};
+ghost use Rattle.rds_world.specs.WorldAt.{WhereWorldStands};
 ghost use Rattle.rds_world.specs.declared.event.TheConstants.{MOST_RECEIVERS};
 
 use crate::past::{Past, check_wrong, new_pasts, note_wrong};

@@ -16,7 +16,8 @@ returns-in_err-pi_of c =
     let rows = rows_of (found_of c.args.inner.now) in
     let pi : pi_in c.args.name.now rows ≡ None = sym c.pi_of.ensures ∙ ap (option_map (λ s. s.now)) c.in_err-pi_of.was
     in
-    let none = ap (λ (x : Option Text). asked (task_in c.args.name.now rows) x (lose_in rows) (dwell_in rows) (file_in rows)) pi
+    let none = ap (λ (x : Option Text). asked (task_in c.args.name.now rows) x (lose_in rows) (dwell_in rows)
+    (file_in rows)) pi
     ∙ no_text (task_in c.args.name.now rows) (lose_in rows) (dwell_in rows) (file_in rows) in
     ap (option_map asked_by) c.from_residual-in_err-pi_of.ensures ∙ sym none
 

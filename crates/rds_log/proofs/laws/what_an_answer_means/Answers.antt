@@ -6,8 +6,8 @@ pub returns-clause-safe : goal.returns-clause-safe
 returns-clause-safe c a slots some pass = record {
   heard = pass.heard;
   are = pass.are;
-  safe = safe_as_it_is c.what_passes_is_safe.ensures c.what_passes_as_a_recording_is_safe.ensures.passes a.start a.dwell a.late
-      pass.heard some pass.passes;
+  safe = safe_as_it_is c.what_passes_is_safe.ensures c.what_passes_as_a_recording_is_safe.ensures.passes
+      a.start a.dwell a.late pass.heard some pass.passes;
 }
 
 pub returns-clause-no_plans : goal.returns-clause-no_plans

@@ -13,5 +13,6 @@ returns-in-Some c config (e ∷ before) st = λ views were are is.
     let goes = c.push.ensures.goes_on config (e ∷ before) st views were are had.1 in (
       (had.0, goes.0),
       goes.1 ∙ ap (λ (alone : Bool). c.args.lines.now
-          ++ if_alone alone (air_lines config c.args.slot n e before views (map view_kept c.args.shown.now))) (sym had.0),
+          ++ if_alone alone (air_lines config c.args.slot n e before views (map view_kept c.args.shown.now)))
+          (sym had.0),
     )
