@@ -26,7 +26,7 @@ LIMIT = 7200
 # the modules that take longest begin first
 LONGEST = ("test_page_build", "test_arm", "test_microcontrollers", "test_witness", "test_c_library", "test_fm",
            "test_random_scripts", "test_radios", "test_failing_calls", "test_audit", "test_python_package", "test_json",
-           "test_worlds", "test_crates", "test_clocks", "test_monitor", "test_station")
+           "test_worlds", "test_clocks", "test_monitor", "test_station")
 running, printing = set(), threading.Lock()
 
 

@@ -32,8 +32,7 @@ SECONDS = 900 if TARGET else 300
 PROMPT = 150 if TARGET else 60
 ARCHIVE = os.path.join(ROOT, "crates/rds_ffi/out/librds_ffi.a")
 # the scripts that build, all named here
-BUILD, STATIC_LIBRARY = os.path.join(ROOT, "tools/build"), os.path.join(ROOT, "tools/static_library")
-BUILD_PAGE, INSTALL = os.path.join(ROOT, "page/build"), os.path.join(ROOT, "install")
+BUILD, BUILD_PAGE, INSTALL = (os.path.join(ROOT, it) for it in ("tools/build", "page/build", "install"))
 
 
 def path(name):
@@ -75,7 +74,7 @@ def target_program():
     from tests import emulated
     if emulated.why_missing():
         sys.exit(f"no {TARGET} here: {emulated.why_missing()}")
-    status, printed = output([BUILD, TARGET], seconds=3600)
+    status, printed = output([BUILD, "--target", TARGET], seconds=3600)
     if status:
         sys.exit(f"the program for {TARGET} is not built: {printed[-2000:].decode()}")
     folder = tempfile.mkdtemp(prefix="rdsrt-")
@@ -111,7 +110,7 @@ def build_archive(target=None):
     """Builds the archive of the C library if a source is newer. That takes minutes if it must be proved. Raises if that
     failed."""
     words = ["--target", target] if target else []
-    status, printed = output([STATIC_LIBRARY, "rds_ffi", *words], seconds=3600)
+    status, printed = output([BUILD, "rds_ffi", *words], seconds=3600)
     if status:
         raise RuntimeError(f"the archive of the C library is not built: {printed[-2000:].decode()}")
 

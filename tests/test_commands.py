@@ -75,7 +75,7 @@ RUN_BY = [
     (r"page/build$", "test_page_build"),
     (r"tools/shipped.py$", "test_shipped"),
     (r"tools/proof$", "test_release.Proof"),
-    (r"tools/static_library ", "test_c_library.Archive"),
+    (r"tools/build rds_ffi", "test_c_library.Archive"),
     (r"clang -g .* && \./fuzz$", "test_c_library.Archive.test_the_line_of_security_runs_a_fuzzer"),
     (r"rdsrt slots \| head -c ", "test_pipes"),
     (r"\./rdsrt (?:decode|audit|witness|encode|sim) .* examples/[\w.]+$", "test_examples"),

@@ -19,8 +19,8 @@ FILES = ("ABOUT", "README.md", "CHANGELOG.md", "docs/man", "include", "python", 
          "crates/rds_cli/src/command_line.rt", "crates/rds_ffi/src/version.rt")
 RELEASE = script("tools/release")
 VERSION = c_library.header_version()
-# replaces a build that takes long: it has a child
-BUILD = "#!/bin/sh\nsleep 600 &\necho $! > {}\nwait\n"
+# replaces the kit's `rt`, which takes long: it has a child
+RT = "#!/bin/sh\nsleep 600 &\necho $! > {}\nwait\n"
 
 
 def why_missing():
@@ -115,16 +115,21 @@ class Stopped(Repository):
         if why_missing():
             self.skipTest(why_missing())
         super().setUp()
-        self.child, self.room = (os.path.join(temporary_folder(self), it) for it in ("child", "room"))
-        os.mkdir(self.room)
-        with open(os.path.join(self.tree, "tools/build"), "w", encoding="utf-8") as file:
-            file.write(BUILD.format(self.child))
+        self.child, self.room, self.kit = (os.path.join(temporary_folder(self), it) for it in ("child", "room", "kit/bin"))
+        for it in (self.room, self.kit, os.path.join(self.tree, "crates/rdsrt")):
+            os.makedirs(it)
+        for at, text in (("crates/rdsrt/main.rt", ""), (os.path.join(self.kit, "rt"), RT.format(self.child))):
+            with open(os.path.join(self.tree, at), "w", encoding="utf-8") as file:
+                file.write(text)
+        os.chmod(file.name, 0o755)
         self.commit()
 
     def test_nothing_is_left(self):
         out = os.path.join(os.path.dirname(self.tree), "made")
         with subprocess.Popen([os.path.join(self.tree, "tools/release"), out], stdout=subprocess.DEVNULL,
-                              stderr=subprocess.DEVNULL, env={**os.environ, "TMPDIR": self.room}) as run:
+                              stderr=subprocess.DEVNULL,
+                              env={**os.environ, "TMPDIR": self.room,
+                                   "PATH": self.kit + os.pathsep + os.environ["PATH"]}) as run:
             end = time.monotonic() + PROMPT
             while not (os.path.exists(self.child) and text_of(self.child)) and time.monotonic() < end:
                 time.sleep(0.05)
@@ -133,7 +138,7 @@ class Stopped(Repository):
             self.check("the status", run.wait(SECONDS), 128 + signal.SIGTERM)
         self.check("temporary files", os.listdir(self.room), [])
         self.check("beside OUT", os.listdir(os.path.dirname(self.tree)), [os.path.basename(self.tree)])
-        self.check("the child of the build", os.path.exists(f"/proc/{text_of(self.child).strip()}"), False)
+        self.check("the child of `rt`", os.path.exists(f"/proc/{text_of(self.child).strip()}"), False)
 
 
 class Bytes(Repository):

@@ -1,23 +1,16 @@
-"""Reads crates.txt: the crates with their libraries. Knows where their files are and which of these are stale. Calls the
-kit's compiler for a crate, or for many side by side.
+"""Reads crates.txt: the crates with their libraries. Knows where their files are and which of these are stale. Has `rt`
+build libraries, and makes calls of the kit's compiler.
 """
 import hashlib
 import os
 import pathlib
 import shutil
+import subprocess
 import sys
-from concurrent.futures import ThreadPoolExecutor
 
 ROOT = os.path.dirname(os.path.dirname(os.path.abspath(__file__)))
 LIST = os.path.join(ROOT, "crates.txt")
 KIT = os.path.dirname(os.path.dirname(os.path.realpath(shutil.which("rt"))))
-# where the checks of a crate keep their proofs: in the folder that `rt` uses
-KEPT = ["--incremental", "out/incremental"]
-# The crates that others wait for longest get several jobs, which cost up to a third more work. The check of rdsrt and that
-# of rds_wasm have a few functions and load many: a second job gains nothing. Below FEW cores each crate gets one.
-JOBS = {"rds_fields": 4, "rds_assembly": 2, "rds_encoder": 4, "rds_receiver": 3, "rds_log": 4, "rds_witness": 4,
-        "rds_script": 4, "rds_program": 4, "rds_ffi": 2}
-FEW = 4
 
 
 def listed():
@@ -42,21 +35,8 @@ def below(name, uses):
     return found
 
 
-def needed(ends, uses):
-    """Returns these crates and all below them, lowest first."""
-    found = {it for end in ends for it in [*below(end, uses), end]}
-    return [it for it in uses if it in found]
-
-
 def folder(name):
     return os.path.join(ROOT, "crates", name)
-
-
-def sources_of(name):
-    """Gives the path of each file of the crate that a check reads."""
-    for part in ("src", "specs", "proofs"):
-        for at, _, files in os.walk(os.path.join(folder(name), part)):
-            yield from (os.path.join(at, it) for it in files)
 
 
 def rlib(name):
@@ -64,80 +44,40 @@ def rlib(name):
     return os.path.join(folder(name), "out/rlib", f"{name}.rlib")
 
 
-def library(name):
-    """Returns the file that a proved library always has."""
-    return os.path.join(rlib(name), "format")
-
-
 def newest_source(name, uses):
     """Returns when a source of the crate or of one below it was last written, or one of its files added."""
-    changed = []
-    for crate in [*below(name, uses), name]:
-        for part in ("src", "specs", "proofs"):
-            for at, _, found in os.walk(os.path.join(folder(crate), part)):
-                changed += [at, *(os.path.join(at, it) for it in found)]
-    return max(map(os.path.getmtime, changed))
+    walks = [it for crate in [*below(name, uses), name] for part in ("src", "specs", "proofs")
+             for it in os.walk(os.path.join(folder(crate), part))]
+    return max(os.path.getmtime(os.path.join(at, file)) for at, _, files in walks for file in ("", *files))
 
 
-def verdict_of(made):
-    """Returns the file beside a built file with the last lines of the kit's check: the axioms that the code reaches, and
-    the verdict. That of a library is beside its folder, and goes with it."""
-    return f"{os.path.dirname(made) if os.path.basename(made) == 'format' else made}.verdict"
-
-
-def record_verdict(made, printed):
-    """Keeps these lines of what the kit printed, below the sums of the built file. Of the axioms it keeps those that the code
-    reaches."""
-    kept = [it for it in printed.splitlines() if it.startswith(("axioms ", "logic=")) or it.endswith(" reached")]
-    with open(verdict_of(made), "w", encoding="utf-8") as file:
-        file.writelines(f"{it}\n" for it in (*sums(made), *kept))
-
-
-def sums(made):
-    """Returns a line with the sum of a built file, and one for the static program beside it."""
-    return [f"sha256={hashlib.sha256(pathlib.Path(it).read_bytes()).hexdigest()} {os.path.basename(it)}"
-            for it in (made, f"{made}-static") if os.path.exists(it)]
-
-
-def record_of(name, made):
-    """Returns the file that lists the libraries of a built file. That of a library is its own `format`."""
-    return made if made == library(name) else f"{made}.libraries"
-
-
-def record_libraries(made, name, uses):
-    """Lists the libraries of a program or an archive beside it, as the compiler does in the `format` of a library."""
-    with open(record_of(name, made), "w", encoding="utf-8") as file:
-        file.writelines(f"dep {it}\n" for it in uses[name])
-
-
-def has_other_libraries(made, name, uses):
-    """Returns whether the crate's line of crates.txt names other libraries than those that the file was built with. If
-    no list says these, it returns whether crates.txt is newer than the file."""
-    record, when = record_of(name, made), os.path.getmtime(made)
-    if not os.path.exists(record) or os.path.getmtime(record) < when:
-        return when < os.path.getmtime(LIST)
-    with open(record, encoding="utf-8") as file:
-        return {line.split()[1] for line in file if line.startswith("dep ")} - {"std"} != {*uses[name]}
-
-
-def is_stale(made, name, uses):
-    """Returns whether a built file of the crate is missing, is older than a source of the crate or of one below it, or
-    was built with other libraries than crates.txt lists, or one below was. A library is also stale if it is older than
-    one below it, because `rt check` builds libraries again: the compiler would refuse the two together."""
+def is_stale(made, name, uses, *more):
+    """Returns whether a built file of the crate is missing, or is older than a source of the crate or of one below it,
+    than crates.txt, or than one of these files more."""
     if not os.path.exists(made):
         return True
-    lower = {it: library(it) for it in below(name, uses) if os.path.exists(library(it))}
-    newest = [newest_source(name, uses), *(map(os.path.getmtime, lower.values()) if made == library(name) else [])]
-    built = {**lower, name: made}
-    return os.path.getmtime(made) < max(newest) or any(has_other_libraries(at, it, uses) for it, at in built.items())
+    return os.path.getmtime(made) < max(newest_source(name, uses), *map(os.path.getmtime, (LIST, *more)))
 
 
 def is_left(name, uses):
-    """Returns whether `rt ci` or a build for a target left the library of the crate, which has no stamp then, and no source
-    is newer. The time of its folder counts, since `rt ci` keeps the times of the files in it."""
+    """Returns whether `rt ci` or `rt verdict` left the library of the crate, which has no stamp then, and no source is
+    newer. The time of its folder counts, since `rt ci` keeps the times of the files in it."""
     made = rlib(name)
     stamp = os.path.join(os.path.dirname(made), "stamp")
     return os.path.exists(made) and os.path.getmtime(made) >= newest_source(name, uses) and not os.path.exists(stamp)
+
+
+def build_below(names, uses):
+    """Has `rt` build the libraries below these crates, if `rt ci` did not leave them all. Its output goes to standard error.
+    Ends the script if that fails."""
+    lower = {it for name in names for it in below(name, uses)}
+    if all(is_left(it, uses) for it in lower):
+        return
+    # `rt lib` builds those below a library too
+    lower -= {dep for it in lower for dep in below(it, uses)}
+    for it in sorted(lower):
+        if subprocess.run(["rt", "lib"], cwd=folder(it), stdout=sys.stderr).returncode:
+            sys.exit(f"{it} is not proved")
 
 
 def compile_words(name, uses, jobs, *more, verb="build"):
@@ -149,31 +89,20 @@ def compile_words(name, uses, jobs, *more, verb="build"):
     return [f"{KIT}/bin/rattle", verb, "--crate-name", name, source, "--links", f"{name}=",
             "--jobs", str(jobs), "--logic-built", f"{KIT}/logic_built",
             "--antt-project", f"{KIT}/rattle/logic/antt-project.json",
+            *(["--crate-type", "staticlib"] if name in static_libraries() else []),
             *(it for crate, at in made for it in ("--extern", f"{crate}={at}")),
             *(it for at in dict.fromkeys(folders) for it in ("-L", f"dependency={at}")), *more]
 
 
-def jobs_of(name):
-    """Returns how many jobs the check of the crate gets."""
-    return JOBS.get(name, 1) if len(os.sched_getaffinity(0)) >= FEW else 1
+def record_verdict(made, printed):
+    """Keeps these lines of what the kit printed in a file beside the built one, below the sums of that: the axioms that
+    the code reaches, and the verdict."""
+    kept = [it for it in printed.splitlines() if it.startswith(("axioms ", "logic=")) or it.endswith(" reached")]
+    with open(f"{made}.verdict", "w", encoding="utf-8") as file:
+        file.writelines(f"{it}\n" for it in (*sums(made), *kept))
 
 
-def say(line):
-    """Prints a line as a whole, also while other threads print."""
-    sys.stdout.write(f"{line}\n")
-    sys.stdout.flush()
-
-
-def in_layers(names, uses, make):
-    """Makes these crates side by side, each as soon as those below it are made. `make` returns whether it made a crate.
-    Returns whether all are made."""
-    made = {}
-
-    def one(name):
-        return all(made[it].result() for it in below(name, uses) if it in made) and make(name)
-
-    with ThreadPoolExecutor(len(names)) as pool:
-        # the lowest crates come first, so each one finds those below it
-        for name in names:
-            made[name] = pool.submit(one, name)
-    return all(it.result() for it in made.values())
+def sums(made):
+    """Returns a line with the sum of a built file, and one for the static program beside it."""
+    return [f"sha256={hashlib.sha256(pathlib.Path(it).read_bytes()).hexdigest()} {os.path.basename(it)}"
+            for it in (made, f"{made}-static") if os.path.exists(it)]

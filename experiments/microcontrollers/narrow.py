@@ -89,7 +89,7 @@ def ran(words, at=HERE):
 
 def kept_module():
     """Returns the module as text."""
-    ran([os.path.join(ROOT, "tools/static_library"), "rds_ffi", "--module"])
+    ran([os.path.join(ROOT, "tools/build"), "rds_ffi", "--module"])
     with tempfile.TemporaryDirectory() as work:
         ran([CLANG, "--no-default-config", "-S", "-emit-llvm", "-x", "ir", MODULE, "-Xclang", "-disable-llvm-passes", "-O0",
              "-o", f"{work}/module.ll"])
