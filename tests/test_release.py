@@ -170,6 +170,14 @@ class Bytes(Repository):
 
 
 class Proof(Case):
+    def test_each_crate_has_the_verdict_below_its_name(self):
+        at = os.path.join(temporary_folder(self), "verdicts")
+        with open(at, "w", encoding="utf-8") as file:
+            for name, count in (("low", 1), ("high", 2)):
+                file.write(f"rt: chose --jobs 4 for {name}\nfn {name}::f: proved\nlogic=proved functions={count} sum=a\n")
+        wanted = {"low": "logic=proved functions=1 sum=a", "high": "logic=proved functions=2 sum=a"}
+        self.check("verdicts", script("tools/proof").verdicts_in(at), wanted)
+
     def test_a_changed_binary_is_found(self):
         made, proof = os.path.join(temporary_folder(self), "rdsrt"), script("tools/proof")
         for name in (made, f"{made}-static"):
