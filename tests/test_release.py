@@ -107,7 +107,8 @@ class Obstacles(Repository):
     def test_the_words(self):
         for words in ([], ["--snap", "out"], ["out", "more"]):
             status, said = output([path("tools/release"), *words])
-            self.check(f"tools/release {words}", (status, said.split(b"\n")[0]), (2, b"usage: tools/release [-h] [--snapshot] OUT"))
+            first = b"usage: tools/release [-h] [--snapshot] OUT"
+            self.check(f"tools/release {words}", (status, said.split(b"\n")[0]), (2, first))
 
 
 class Stopped(Repository):
