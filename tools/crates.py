@@ -67,16 +67,29 @@ def is_left(name, uses):
     return os.path.exists(made) and os.path.getmtime(made) >= newest_source(name, uses) and not os.path.exists(stamp)
 
 
+def run_rt(name, *words):
+    """Calls `rt` in the folder of a crate. Prints a line for each crate that it proves on standard error, and all of its
+    output if it fails. Returns the status."""
+    printed = []
+    with subprocess.Popen(["rt", *words], cwd=folder(name), stdout=subprocess.PIPE, stderr=subprocess.STDOUT, text=True) as run:
+        for line in run.stdout:
+            printed.append(line)
+            if line.startswith("rt: chose "):
+                print(f"proving {line.split()[-1]}", file=sys.stderr, flush=True)
+    if run.returncode:
+        sys.stderr.writelines(printed)
+    return run.returncode
+
+
 def build_below(names, uses):
-    """Has `rt` build the libraries below these crates, if `rt ci` did not leave them all. Its output goes to standard error.
-    Ends the script if that fails."""
+    """Has `rt` build the libraries below these crates, if `rt ci` did not leave them all. Ends the script if that fails."""
     lower = {it for name in names for it in below(name, uses)}
     if all(is_left(it, uses) for it in lower):
         return
     # `rt lib` builds those below a library too
     lower -= {dep for it in lower for dep in below(it, uses)}
     for it in sorted(lower):
-        if subprocess.run(["rt", "lib"], cwd=folder(it), stdout=sys.stderr).returncode:
+        if run_rt(it, "lib"):
             sys.exit(f"{it} is not proved")
 
 
