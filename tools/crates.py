@@ -68,14 +68,16 @@ def is_left(name, uses):
 
 
 def run_rt(name, *words):
-    """Calls `rt` in the folder of a crate. Prints a line for each crate that it proves on standard error, and all of its
-    output if it fails. Returns the status."""
+    """Calls `rt` in the folder of a crate. Prints on standard error a line for each crate that it proves or waits for, and
+    all of its output if it fails. Returns the status."""
     printed = []
     with subprocess.Popen(["rt", *words], cwd=folder(name), stdout=subprocess.PIPE, stderr=subprocess.STDOUT, text=True) as run:
         for line in run.stdout:
             printed.append(line)
             if line.startswith("rt: chose "):
                 print(f"proving {line.split()[-1]}", file=sys.stderr, flush=True)
+            elif "waiting for" in line:
+                print(line, end="", file=sys.stderr, flush=True)
     if run.returncode:
         sys.stderr.writelines(printed)
     return run.returncode
