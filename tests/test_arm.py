@@ -6,7 +6,7 @@ import sys
 import unittest
 
 from tests import c_library, emulated
-from tests.support import INSTALL, ROOT, Case, build_archive, bytes_of, missing, needs, output, temporary_folder
+from tests.support import INSTALL, ROOT, Case, build_archive, bytes_of, missing, needs, output, temporary_folder, text_of
 
 ARM = emulated.ARM
 # the modules of the program that take seconds under the emulator
@@ -71,6 +71,12 @@ class Install(Case):
     def test_the_program_decodes(self):
         words = [*emulated.runner(), os.path.join(self.prefix, "bin/rdsrt"), "decode", "--pi", "C201"]
         self.check("hi.log", output(words, bytes_of("examples/hi.log")), (0, b'0 text "HI"\n'))
+
+    def test_trust_names_the_functions_of_c_that_the_program_rests_on(self):
+        reached = re.findall(r"^  \S+::(\w+) +reached$", text_of(f"{ARM.built('rdsrt', 'rdsrt')}.verdict"), re.M)
+        text, count = re.search(r"^(- `axioms=(\d+)`.*?)\n\n", text_of("docs/TRUST.md"), re.M | re.S).groups()
+        self.check("the functions", {*re.findall(r"`([a-z_]\w*)`", text)}, {*reached})
+        self.check("how many", count, str(len(reached)))
 
     @needs("pkg-config")
     def test_pkg_config_finds_the_library(self):
