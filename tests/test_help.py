@@ -117,7 +117,7 @@ class Scripts(Case):
 
     def test_other_scripts_print_how_they_are_called(self):
         scripts = {"test": "usage: ./test", "install": "./install PREFIX", "page/build": "usage: page/build [OUT]",
-                   "tools/release": "usage: tools/release [--snapshot] OUT"}
+                   "tools/release": "usage: tools/release [-h] [--snapshot] OUT"}
         for script, call in scripts.items():
             for word in ("-h", "--help"):
                 status, printed, errors = self.asked(script, word)
