@@ -14,7 +14,7 @@ REPLIES = ("ok", "silent", "held", "notext", "outoftext")
 FAULT_LINES = ("fault line", "fault row", "fault read", "fault too long", "fault memory", "fault pi",
                "fault confirm", "fault lose")
 # each time is in one page
-TIMES = ("10 to 20 minutes", "20 to 30 minutes")
+TIMES = ("15 to 30 minutes", "40 to 80 minutes")
 
 
 def all_pages():
