@@ -13,18 +13,23 @@ LIST = os.path.join(ROOT, "crates.txt")
 KIT = os.path.dirname(os.path.dirname(os.path.realpath(shutil.which("rt"))))
 
 
+def rows():
+    """Yields the words before and after the colon of each line of crates.txt."""
+    with open(LIST, encoding="utf-8") as file:
+        for line in file:
+            head, _, libraries = line.partition("#")[0].partition(":")
+            if head.strip():
+                yield head.split(), libraries.split()
+
+
 def listed():
     """Returns each crate of crates.txt with the libraries that it uses."""
-    with open(LIST, encoding="utf-8") as file:
-        rows = [line.partition("#")[0].partition(":") for line in file]
-    return {head.split()[0]: libraries.split() for head, _, libraries in rows if head.strip()}
+    return {head[0]: libraries for head, libraries in rows()}
 
 
 def static_libraries():
     """Returns the crates that crates.txt builds as static libraries."""
-    with open(LIST, encoding="utf-8") as file:
-        heads = [line.partition("#")[0].partition(":")[0].split() for line in file]
-    return {head[0] for head in heads if head[1:] == ["staticlib"]}
+    return {head[0] for head, _ in rows() if head[1:] == ["staticlib"]}
 
 
 def below(name, uses):
