@@ -23,4 +23,5 @@ pub mod SpanOrder
 pub mod SpanSteps
 pub mod SpanReigns
 pub mod ListingSteps
+pub mod Breaking
 pub mod WorkedRows

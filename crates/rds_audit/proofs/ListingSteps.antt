@@ -1,5 +1,5 @@
 -- Lemmas: what a slot adds to the list of a log, and how the state of the list changes with the log.
-use Rattle.std.specs.Prelude.{Err}
+use Rattle.std.specs.Prelude.{Err, MatchResult, Ok, Result}
 use Rattle.std.proofs.Common.{◌≡◌, ◌⊎◌, ◌↔◌, ◌+◌, ◌<◌, ◌||◌, ℕ, Bool, true, false, nat_lt, List, [], ◌∷◌, Option, Some}
 use Rattle.std.proofs.Common.{None, refl, sym, ap, ◌∙◌, subst, inl, inr, arith}
 use Rattle.std.specs.Prelude.{MatchOption}
@@ -55,7 +55,7 @@ with_none f = λ i. record {
     or_false false = refl
 
 -- nothing adds nothing
-nothing_adds : (g : Gauge) (d : ℕ) (before : List Mark) → added g d Nothing before ≡ none_broken
+pub nothing_adds : (g : Gauge) (d : ℕ) (before : List Mark) → added g d Nothing before ≡ none_broken
 nothing_adds g d before =
     sym (added_more g d Nothing before (broken_newest g d before (spans d before))
     (broken_newest g d before (spans d before)) refl refl (same (spans d before)))
@@ -65,7 +65,7 @@ nothing_adds g d before =
     same [] = refl
     same (r ∷ older) = refl
 
-texts_add : (d : ℕ) (newest : Option Message) (before : List (Option Message)) → name_mark newest ≡ Nothing
+pub texts_add : (d : ℕ) (newest : Option Message) (before : List (Option Message)) → name_mark newest ≡ Nothing
     → slot_adds d newest before ≡ added text_gauge d (text_mark newest) (marks text_mark before)
 texts_add d newest before silent =
     ap (λ (m : Mark). both (added text_gauge d (text_mark newest) (marks text_mark before))
@@ -74,7 +74,7 @@ texts_add d newest before silent =
     (nothing_adds name_gauge d (marks name_mark before))
     ∙ sym (with_none (added text_gauge d (text_mark newest) (marks text_mark before)))
 
-names_add : (d : ℕ) (newest : Option Message) (before : List (Option Message)) → text_mark newest ≡ Nothing
+pub names_add : (d : ℕ) (newest : Option Message) (before : List (Option Message)) → text_mark newest ≡ Nothing
     → slot_adds d newest before ≡ added name_gauge d (name_mark newest) (marks name_mark before)
 names_add d newest before silent =
     ap (λ (m : Mark). both (added text_gauge d m (marks text_mark before)) (added name_gauge d (name_mark newest)
@@ -465,6 +465,7 @@ takes_again a slot message fault some hears = record {
       goes_on pi d a a log s slot message (subst (λ n. Hears n slot message) s.programme hears, refl, refl, refl)
       (still d (counted_as a.start (judged_as a.start d s.heard) message) (judged_as a.start d s.heard)
       (fault_is d a (judged_as a.start d s.heard) fault some s.holds));
+  follows = λ none. absurd (let bad : Some fault ≡ None = sym some ∙ none in cc);
   fault = some;
   start = refl;
   which = λ pi d log s. fault_is d a (judged_as a.start d s.heard) fault some s.holds;
@@ -476,6 +477,27 @@ takes_again a slot message fault some hears = record {
     still d newest judged f = subst (λ (o : Option AuditFault). MatchOption o (LogPasses d (newest ∷ judged)
         × HoldsLog d (newest ∷ judged) a) (IsFaultOf d (newest ∷ judged))) (sym some)
         (ap (λ (o : Option AuditFault). or_else o (first_of (slot_adds d newest judged))) f)
+
+-- without a fault before, an audit that takes a slot whatever its fault takes it with this result
+pub takes_next : (a after : AuditState) (slot : Option Group) (found : FaultSet)
+    (result : Result (Unit {0}) AuditFault) → TakesAll a after slot found → a.fault ≡ None
+    → MatchResult result (λ _. after.fault ≡ None) (λ fault. after.fault ≡ Some fault)
+    → AuditTakesSlot a after slot result
+takes_next a after slot found result all none is = record {
+  stands = all.stands;
+  follows = λ _. all.follows;
+  fault = is;
+  start = all.start;
+  which = λ pi d log s. told d (judged_as after.start d s.heard) s.holds result is;
+  again = λ fault some. absurd (let bad : Some fault ≡ None = sym some ∙ none in cc);
+}
+  where
+    told : (d : ℕ) (judged : List (Option Message)) → HasJudged d after judged
+        → (r : Result (Unit {0}) AuditFault)
+        → MatchResult r (λ _. after.fault ≡ None) (λ fault. after.fault ≡ Some fault)
+        → MatchResult r (λ _. LogPasses d judged) (λ fault. IsFaultOf d judged fault)
+    told d judged has (Ok done) is = (log_passes d after judged is has).0
+    told d judged has (Err fault) is = fault_is d after judged fault is has
 
 -- before the first slot
 pub audit_starts : (pi d : ℕ) (a : AuditState) → a.programme ≡ pi → a.distance ≡ d → 0 < d → a.fault ≡ None

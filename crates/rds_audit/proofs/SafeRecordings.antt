@@ -18,7 +18,7 @@ use Rattle.rds_fields.specs.declared.pair.Which.TheVariants.{One, Two}
 use Rattle.rds_safety.specs.Late.{HasEntry, IsHeardInOrder, IsOfItsOrigin}
 use Rattle.rds_safety.specs.Laws.{ASlowClockIsAnOwnClock, LateIsBySlowClock, LawfulPlansAreSafeByOwnClocks}
 use Rattle.rds_safety.specs.OwnClock.{ListensByOwnClock}
-use Rattle.rds_safety.specs.Plans.{AreLawful, Plans}
+use Rattle.rds_safety.specs.Plans.{Plans}
 use Rattle.rds_safety.specs.Safe.{AreNeighbours, AreSafeViews, Listener, ListensTo, ShowsNameOnAir, ShowsTagsOfItsText}
 use Rattle.rds_safety.specs.Safe.{ShowsTextOnAir, RunWasOnAir}
 use Rattle.rds_safety.specs.Source.{IsSource, LastWasSentIn, name_run, text_run}

@@ -1,5 +1,5 @@
 -- Lemmas: the slots of spans, and the same bytes.
-use Rattle.std.proofs.Common.{◌≡◌, ◌+◌, ◌<◌, ◌≤◌, max, ℕ, suc, Bool, true, false, nat_eq, nat_lt, List, [], ◌∷◌, Option}
+use Rattle.std.proofs.Common.{◌≡◌, ◌+◌, ◌<◌, ◌≤◌, ℕ, suc, Bool, true, false, nat_eq, nat_lt, List, [], ◌∷◌, Option}
 use Rattle.std.proofs.Common.{Some, None, length, cond, refl, arith}
 use Rattle.std.proofs.lemmas.Bool.{and_parts, cond_both, eqb-true, ltb-false}
 use Rattle.rds_fields.specs.Tag.{PairFields}

@@ -1,6 +1,6 @@
 -- Lemmas: up to the first fault of a service, its spans have its reigns and break no rule; marks that add nothing to
 -- its list pass.
-use Rattle.std.proofs.Common.{◌≡◌, ◌≢◌, ◌⊎◌, ◌+◌, ◌<◌, ◌≤◌, ◌&&◌, ◌||◌, not, max, ℕ, Bool, true, false, nat_eq, nat_lt}
+use Rattle.std.proofs.Common.{◌≡◌, ◌≢◌, ◌⊎◌, ◌+◌, ◌<◌, ◌≤◌, ◌&&◌, ◌||◌, not, ℕ, Bool, true, false, nat_eq, nat_lt}
 use Rattle.std.proofs.Common.{List, [], ◌∷◌, Option, Some, None, length, cond, refl, sym, ap, ◌∙◌, subst, inl, inr}
 use Rattle.std.proofs.Common.{arith}
 use Rattle.std.specs.Prelude.{is_some}
@@ -18,7 +18,7 @@ use Rattle.rds_audit.specs.Listing.{Span, added, broken_by, broken_newest, due_a
 use Rattle.rds_audit.specs.Listing.{none_broken, not_before, reigns_of, same_bytes, span_with, spans, spans_after}
 use Rattle.rds_audit.specs.Listing.{spans_tagged, turned}
 use Rattle.rds_audit.specs.ListingLaws.{IsFormedMark}
-use Rattle.rds_audit.specs.Reigns.{Reign, SentTags, after_fragment, after_tags, joins, past_newest, reigns}
+use Rattle.rds_audit.specs.Reigns.{Reign, SentTags, after_fragment, after_tags, joins, reigns}
 use Rattle.rds_audit.specs.Reigns.{opened_by, opened_from, with_fragment, with_tags}
 use Rattle.rds_audit.specs.Rules.{AreUnchanged, CanBeBroadcast, HaveOneValue, IsAfterFragment, Passes}
 use Rattle.rds_audit.proofs.Keeping.{AreKept, Keeps, keeps}
@@ -136,12 +136,12 @@ none_early d start (s ∷ older) all = or_from _ _ (le-ltb s.slot (start + d) al
 
 module _ (g : Gauge) (exact : IsExact g) (d : ℕ) where
   -- fragments of one value fit it
-  one_fits : (r : Span) → HaveOneValue g.kind r.reign.fragments r.reign.tags → fits g r ≡ true
+  pub one_fits : (r : Span) → HaveOneValue g.kind r.reign.fragments r.reign.tags → fits g r ≡ true
   one_fits r one =
       let m = exact.measured r.reign.fragments r.reign.tags one in
       and_from _ _ (each_fits g r.reign.fragments m.each) (le-leb _ _ m.room)
 
-  fits_one : (r : Span) → AllByRecursion (IsFormed g.segments) r.reign.fragments → AreUnchanged r.reign.fragments
+  pub fits_one : (r : Span) → AllByRecursion (IsFormed g.segments) r.reign.fragments → AreUnchanged r.reign.fragments
       → fits g r ≡ true → tags_end r.reign.tags ≤ (lengths_of g.allowed g.longest r.reign.fragments).most
       → HaveOneValue g.kind r.reign.fragments r.reign.tags
   fits_one r formed unchanged fit ends =
@@ -229,7 +229,7 @@ pub record AreReigns (g : Gauge) (d : ℕ) (sent : List Mark) (rs : List Span) (
   pub none : broken_newest g d sent rs ≡ none_broken
 
 module _ (g : Gauge) (exact : IsExact g) (d : ℕ) where
-  can_be_unchanged : (q : Reign) → CanBeBroadcast d g.kind q → AreUnchanged q.fragments
+  pub can_be_unchanged : (q : Reign) → CanBeBroadcast d g.kind q → AreUnchanged q.fragments
   can_be_unchanged q can = are_unchanged (g.kind.body can.one.value) q.fragments can.one.has
 
   fragment_reigns : (p : Fragment) (before : List Mark) (rs : List Span)
@@ -304,7 +304,7 @@ module _ (g : Gauge) (exact : IsExact g) (d : ℕ) where
   -- ---- at the first fault
 
   -- without a fault before, a slot adds what the newest span breaks
-  adds_all : (mark : Mark) (before : List Mark) → broken_newest g d before (spans d before) ≡ none_broken
+  pub adds_all : (mark : Mark) (before : List Mark) → broken_newest g d before (spans d before) ≡ none_broken
       → added g d mark before ≡ broken_newest g d (mark ∷ before) (spans d (mark ∷ before))
   adds_all mark before none =
       cond_both (nat_eq (length (spans d (mark ∷ before))) (length (spans d before))) _ _ (λ (f : FaultSet). f

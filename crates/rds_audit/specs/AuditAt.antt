@@ -1,6 +1,6 @@
 -- The state of an audit after a log. Lists have the newest first.
 use Rattle.std.specs.Prelude.{◌≡◌, ◌≤◌, ◌<◌, ◌-◌, ◌^◌, ℕ, List, [], ◌∷◌, None, Some, MatchOption, Option}
-use Rattle.std.specs.Prelude.{Err, MatchResult, Result, length, map, min}
+use Rattle.std.specs.Prelude.{Err, MatchResult, Result, length, min}
 use Rattle.rds_block.specs.declared.group.Group.{Group}
 use Rattle.rds_fields.specs.declared.message.Message.{Message}
 use Rattle.rds_receiver.specs.Receipts.{AreHeard, Hears}
@@ -95,12 +95,15 @@ abbrev pub WhereItFollows : AuditState → (ℕ → List (Option Message) → Ty
 WhereItFollows a Holds =
     (pi d : ℕ) (log : List (Option Group)) (s : FollowsLog pi d a log) → Holds d (judged_as a.start d s.at.heard)
 
--- the audit took the next slot, with this group or with none: it stands at the log with that slot; the result is its
--- fault, which is that of the log; after a fault the result is that fault, and nothing changes
+-- the audit took the next slot, with this group or with none: it stands at the log with that slot, and without a fault
+-- before it follows the log, also in the slot of the fault; the result is its fault, which is that of the log; after a
+-- fault the result is that fault, and nothing changes
 pub record AuditTakesSlot (a after : AuditState) (group : Option Group)
     (result : Result (Unit {0}) AuditFault) : Type 0 where
   pub stands : (pi d : ℕ) (log : List (Option Group)) → AuditAt pi d a log
       → AuditAt pi d after (group ∷ log)
+  pub follows : a.fault ≡ None → (pi d : ℕ) (log : List (Option Group)) → FollowsLog pi d a log
+      → FollowsLog pi d after (group ∷ log)
   pub fault : MatchResult result (λ _. after.fault ≡ None) (λ fault. after.fault ≡ Some fault)
   pub start : after.start ≡ a.start
   pub which : WhereTheAuditStands after
@@ -109,8 +112,7 @@ pub record AuditTakesSlot (a after : AuditState) (group : Option Group)
 
 -- the audit took the next slot, with this group or with none, whatever its fault: it stands at the log with that slot,
 -- and follows it if it followed the log; the result is what the slot adds to the list of the log; the fault is the
--- first
--- one that was added
+-- first one that was added
 pub record TakesAll (a after : AuditState) (group : Option Group) (result : FaultSet) : Type 0 where
   pub stands : (pi d : ℕ) (log : List (Option Group)) → AuditAt pi d a log
       → AuditAt pi d after (group ∷ log)

@@ -15,3 +15,4 @@ pub mod AuditAt
 pub mod AuditLaws
 pub mod FlagLaws
 pub mod ListingLaws
+pub mod Broken

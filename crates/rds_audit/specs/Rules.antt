@@ -1,6 +1,5 @@
 -- The rules of the audit (this project's own): when a log passes. A log passes if each of its reigns can be a
--- broadcast,
--- from its start to its last slot, and tags come after a segment. Lists have the newest first.
+-- broadcast, from its start to its last slot, and tags come after a segment. Lists have the newest first.
 use Rattle.std.specs.Prelude.{◌≡◌, ◌≤◌, ◌<◌, ◌+◌, ℕ, List, [], ◌∷◌, Option, length}
 use Rattle.std.specs.List.{AllByRecursion}
 use Rattle.rds_fields.specs.declared.message.Message.{Message}

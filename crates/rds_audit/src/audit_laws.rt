@@ -3,6 +3,7 @@
 ghost use Rattle.rds_audit.specs.AuditLaws.{BroadcastsAreTheReigns, PassesExactlyByPlans, PlansOfARecordingAreSafe};
 ghost use Rattle.rds_audit.specs.AuditLaws.{WhatHasAFaultDoesNotPass, WhatPassesAsARecordingIsSafe};
 ghost use Rattle.rds_audit.specs.AuditLaws.{WhatPassesIsSafe};
+ghost use Rattle.rds_audit.specs.Broken.{FaultsBreakTheirRules};
 ghost use Rattle.rds_audit.specs.FlagLaws.{WhatPassesIsSafeByTheFlag, WithoutPauseFlagsAlternate};
 ghost use Rattle.rds_audit.specs.ListingLaws.{SpansAreReigns, WhatHasNoFaultPasses, WhatPassesAddsNothing};
 ghost use Rattle.rds_safety.specs.Lawful.{names, texts};
@@ -44,10 +45,11 @@ pub fn what_passes_as_a_recording_is_safe()
     own_clocks();
 }
 
-/// States that a log passes exactly if it has no fault.
+/// States that a log passes exactly if it has no fault, and that the slot with its fault breaks the rule of that name.
 pub fn passes_without_a_fault()
     ensures fails { WhatHasAFaultDoesNotPass }
     ensures passes { WhatHasNoFaultPasses }
+    ensures breaks { FaultsBreakTheirRules }
 {}
 
 /// States a promise to receivers with the flag bit alone: if the flag of a log that passes turns from each reign to the

@@ -1,5 +1,5 @@
 //! How a stored audit takes a slot, and what it says of the log.
-ghost use Rattle.std.specs.Prelude.{◌≡◌, ◌+◌, ◌<◌, ◌↔◌, ◌⊎◌, ◌∷◌, ℕ, true, false, List, Option, None, Some, IsTrue};
+ghost use Rattle.std.specs.Prelude.{◌≡◌, ◌+◌, ◌<◌, ◌↔◌, ◌⊎◌, ◌∷◌, ℕ, true, false, List, Option, None, Some, Err, IsTrue};
 ghost use Rattle.rds_block.specs.declared.group.Group.{Group};
 ghost use Rattle.rds_fields.specs.declared.message.Message.{Message};
 ghost use Rattle.rds_receiver.specs.Receipts.{Hears};
@@ -36,6 +36,8 @@ impl StoredAudit {
     pub fn slot(&mut self, group: Option<Blocks>) -> Result<(), AuditFault>
         ensures takes { IsStoredAudit self.old
             → AuditTakesSlot (audit_stored self.old) (audit_stored self.new) group result }
+        ensures again { (fault : AuditFault) → (audit_stored self.old).fault ≡ Some fault
+            → (result ≡ Err fault) × (self.new ≡ self.old) }
         ensures start { (audit_stored self.new).start ≡ (audit_stored self.old).start }
         ensures good { IsStoredAudit self.old ↔ IsStoredAudit self.new }
     {

@@ -28,6 +28,10 @@ pub record FollowsInMemory (pi d : ℕ) (s : StoredAudit) (log : List (Option Gr
 abbrev pub WhereItIs : StoredAudit → (ℕ → ℕ → List (Option Group) → Type 0) → Type 0
 WhereItIs s Holds = (pi d : ℕ) (log : List (Option Group)) → AuditInMemory pi d s log → Holds pi d log
 
+-- the fault that the audit found, if it found one
+abbrev pub fault_found : StoredAudit → Option AuditFault
+fault_found s = (audit_stored s).fault
+
 -- where the log of the audit begins
 abbrev pub start_in : StoredAudit → LogStart
 start_in s = (audit_stored s).start

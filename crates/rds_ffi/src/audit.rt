@@ -1,5 +1,5 @@
 //! An audit in the caller's memory.
-ghost use Rattle.std.specs.Prelude.{◌≡◌, ◌≢◌, ◌+◌, ◌-◌, ◌<◌, ◌≤◌, ◌^◌, ◌↔◌, ℕ, [], ◌∷◌, List, Option, length, min};
+ghost use Rattle.std.specs.Prelude.{◌≡◌, ◌≢◌, ◌+◌, ◌-◌, ◌<◌, ◌≤◌, ◌^◌, ◌↔◌, ℕ, [], ◌∷◌, List, None, Option, Some, length, min};
 ghost use Rattle.rds_block.specs.declared.group.Group.{Group};
 ghost use Rattle.rds_audit.specs.AuditLaws.{IsSafeLog, IsSafeRecording};
 ghost use Rattle.rds_audit.specs.Dense.{HasPlans};
@@ -8,9 +8,11 @@ ghost use Rattle.rds_audit.specs.Listing.{spans};
 ghost use Rattle.rds_audit.specs.Reigns.{AlternateFlags, reigns};
 ghost use Rattle.rds_audit.specs.Rules.{LogPasses};
 ghost use Rattle.rds_audit.specs.Stored.{AreBits, faults_stored};
+ghost use Rattle.rds_audit.specs.declared.audit.AuditFault.{AuditFault};
 ghost use Rattle.rds_audit.specs.declared.log_start.LogStart.TheVariants as LogStart;
 ghost use Rattle.rds_ffi.specs.AuditInMemory.{Adds, AuditInMemory, FollowsInMemory, IsFaultCode, Tells};
-ghost use Rattle.rds_ffi.specs.AuditInMemory.{WhereItFollowed, WhereAuditFollows, WhereItHeard, WhereItIs, fault_in};
+ghost use Rattle.rds_ffi.specs.AuditInMemory.{WhereItFollowed, WhereAuditFollows, WhereItHeard, WhereItIs, fault_found};
+ghost use Rattle.rds_ffi.specs.AuditInMemory.{fault_in};
 ghost use Rattle.rds_ffi.specs.AuditInMemory.{start_in};
 ghost use Rattle.rds_ffi.specs.Codes.{RDSRT_BAD_ARGUMENT, RDSRT_OK, code_of};
 ghost use Rattle.rds_ffi.specs.Slots.{Bring, IsCount};
@@ -87,7 +89,11 @@ pub extern "C" fn rdsrt_audit_slot(audit: &mut StoredAudit, blocks: &[u16]) -> u
     ensures start { result ≢ RDSRT_BAD_ARGUMENT → start_in audit.new ≡ start_in audit.old }
     ensures stands { result ≢ RDSRT_BAD_ARGUMENT → WhereItIs audit.old (λ pi d log.
         (slot : Option Group) × Bring blocks.now slot × AuditInMemory pi d audit.new (slot ∷ log)) }
+    ensures follows { result ≢ RDSRT_BAD_ARGUMENT → fault_found audit.old ≡ None → WhereAuditFollows audit.old
+        (λ pi d log. (slot : Option Group) × Bring blocks.now slot × FollowsInMemory pi d audit.new (slot ∷ log)) }
     ensures which { result ≢ RDSRT_BAD_ARGUMENT → WhereItHeard audit.new (Tells result) }
+    ensures again { result ≢ RDSRT_BAD_ARGUMENT → (fault : AuditFault) → fault_found audit.old ≡ Some fault
+        → (result ≡ code_of (Some fault)) × (audit.new ≡ audit.old) }
     ensures codes { result ≢ RDSRT_BAD_ARGUMENT → IsFaultCode result }
     ensures kept { result ≡ RDSRT_BAD_ARGUMENT → audit.new ≡ audit.old }
 {

@@ -1,3 +1,4 @@
+use Rattle.rds_audit.proofs.Breaking.{fails_by}
 use Rattle.rds_audit.proofs.ListingSteps.{no_fault, passes_without}
 use Rattle.rds_audit.proofs.audit_laws.passes_without_a_fault.Goals as goal
 
@@ -6,3 +7,6 @@ returns-clause-fails c d log fault pos = no_fault d log fault
 
 pub returns-clause-passes : goal.returns-clause-passes
 returns-clause-passes c d log formed none = passes_without d log formed none
+
+pub returns-clause-breaks : goal.returns-clause-breaks
+returns-clause-breaks c d log fault formed is = fails_by d log fault formed is

@@ -1,4 +1,4 @@
-use Rattle.std.proofs.Common.{◌≡◌, ◌∙◌, sym, ap, refl}
+use Rattle.std.proofs.Common.{◌∙◌, sym, ap, refl}
 use Rattle.rds_fields.specs.Stored.{is_set}
 use Rattle.rds_audit.specs.AuditState.{start_if}
 use Rattle.rds_audit.specs.Stored.{audit_stored, fault_stored}
