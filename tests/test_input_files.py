@@ -42,6 +42,17 @@ class InputFiles(ProgramCase):
             for words in ([*DECODE, f"./{name}"], [*DECODE, "--", name])[:1 if name == "-" else 2]:
                 self.check(f"{words}", noted(words, cwd=self.folder), (0, b'0 text "HI"\n', ""))
 
+    def test_the_name_of_a_file_is_no_word(self):
+        """A file with the name of a command or an option gets the notes of any other file."""
+        gap = HI.replace(b"\n", b" 1.0\n") + HI.replace(b"\n", b" 31.0\n") + HI.replace(b"\n", b" 30.0\n")
+        for words in (SLOTS, DECODE):
+            self.file(gap, "gap.log")
+            wanted = noted([*words, "--", "gap.log"], cwd=self.folder)
+            self.check(f"{words} notes", bool(wanted[2]), True)
+            for name in ("audit", "slots", "--quiet", "--json-notes"):
+                self.file(gap, name)
+                self.check(f"{words} {name}", noted([*words, "--", name], cwd=self.folder), wanted)
+
     def test_what_cannot_be_read_is_named_in_one_line(self):
         missing = os.path.join(self.folder, "no.log")
         for words in (DECODE, SIM, ENCODE, AUDIT, WITNESS, SLOTS):

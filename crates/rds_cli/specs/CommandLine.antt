@@ -142,11 +142,12 @@ grain_rule = number_rule (codes "grain") (Signed (pos 0) (pos 87)) (codes "20")
 
 -- a subcommand that reads a log with times
 unfoldable pub timed_app : Text → App
-timed_app name = with_rule (with_rule (with_rule (new_app name) own_pi_rule) file_rule) grain_rule
+timed_app name = with_rule (with_rule (new_app name) own_pi_rule) file_rule
 
 -- the subcommand that fills a log with times
 unfoldable pub slots_app : Text → App
-slots_app name = with_rule (with_rule (with_rule (timed_app name) dwell_rule) quiet_rule) json_notes_rule
+slots_app name =
+    with_rule (with_rule (with_rule (with_rule (timed_app name) grain_rule) dwell_rule) quiet_rule) json_notes_rule
 
 -- a subcommand with a station of its own
 unfoldable pub station_app : Text → App

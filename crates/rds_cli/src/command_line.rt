@@ -288,16 +288,33 @@ struct Page<'a> {
     ending: &'a str,
 }
 
+/// Makes a subcommand with its help texts.
+fn bare<'a>(alloc: Global, name: &'a str, page: Page<'a>) -> Command<'a>
+    ensures app { app_of result ≡ new_app name.entry.now }
+    ensures local { (out-Command result).has_globals ≡ false }
+{
+    Command::new(alloc, name)
+        .about(page.about)
+        .after_long_help(page.ending)
+}
+
 /// Makes a subcommand that takes `--pi` and `--m`.
 fn tuned<'a>(alloc: Global, name: &'a str, page: Page<'a>) -> Result<Command<'a>, AllocError>
     ensures app { IfOk result (λ c. app_of c ≡ with_rule (with_rule (new_app name.entry.now) pi_rule) dwell_rule) }
     ensures local { IfOk result (λ c. (out-Command c).has_globals ≡ false) }
 {
-    Command::new(alloc, name)
-        .about(page.about)
-        .after_long_help(page.ending)
-        .arg(pi(alloc))?
-        .arg(dwell(alloc))
+    bare(alloc, name, page).arg(pi(alloc))?.arg(dwell(alloc))
+}
+
+/// Adds the options on notes.
+// Prover: a search over three additions of arguments takes six times that over two.
+fn noted<'a>(alloc: Global, command: Command<'a>) -> Result<Command<'a>, AllocError>
+    requires { (out-Command command).has_globals ≡ false }
+    ensures app { IfOk result (λ c. app_of c
+        ≡ with_rule (with_rule (app_of command.entry) quiet_rule) json_notes_rule) }
+    ensures local { IfOk result (λ c. (out-Command c).has_globals ≡ false) }
+{
+    command.arg(quiet(alloc))?.arg(json_notes(alloc))
 }
 
 /// Makes a subcommand that reads a log.
@@ -306,10 +323,8 @@ fn log_reader<'a>(alloc: Global, name: &'a str, page: Page<'a>) -> Result<Comman
     ensures app { IfOk result (λ c. app_of c ≡ log_app name.entry.now) }
     ensures local { IfOk result (λ c. (out-Command c).has_globals ≡ false) }
 {
-    tuned(alloc, name, page)?
-        .arg(file(alloc))?
-        .arg(quiet(alloc))?
-        .arg(json_notes(alloc))
+    let reader = tuned(alloc, name, page)?.arg(file(alloc))?;
+    noted(alloc, reader)
 }
 
 /// Makes the subcommand `decode`.
@@ -420,12 +435,7 @@ fn timed_reader<'a>(alloc: Global, name: &'a str, page: Page<'a>) -> Result<Comm
     ensures app { IfOk result (λ c. app_of c ≡ timed_app name.entry.now) }
     ensures local { IfOk result (λ c. (out-Command c).has_globals ≡ false) }
 {
-    Command::new(alloc, name)
-        .about(page.about)
-        .after_long_help(page.ending)
-        .arg(own_pi(alloc))?
-        .arg(file(alloc))?
-        .arg(grain(alloc))
+    bare(alloc, name, page).arg(own_pi(alloc))?.arg(file(alloc))
 }
 
 /// Makes the subcommand `slots`.
@@ -449,10 +459,10 @@ fn slots<'a>(alloc: Global) -> Result<Command<'a>, AllocError>
                  Example:\n  \
                    $ rdsrt slots spy.log | rdsrt decode --pi C201",
     };
-    timed_reader(alloc, "slots", page)?
-        .arg(dwell(alloc))?
-        .arg(quiet(alloc))?
-        .arg(json_notes(alloc))
+    let reader = timed_reader(alloc, "slots", page)?
+        .arg(grain(alloc))?
+        .arg(dwell(alloc))?;
+    noted(alloc, reader)
 }
 
 /// Makes a subcommand that has a station of its own.
@@ -506,10 +516,18 @@ fn simulate<'a>(alloc: Global) -> Result<Command<'a>, AllocError>
                    1 sent C201 2000 4849 0D20\n  \
                    1 r0 text \"HI\"",
     };
-    station(alloc, "sim", page)?
-        .arg(confirm(alloc))?
-        .arg(flag_alone(alloc))?
-        .arg(why(alloc))
+    let station = station(alloc, "sim", page)?.arg(confirm(alloc))?;
+    shown(alloc, station)
+}
+
+/// Adds the options on what receivers show.
+fn shown<'a>(alloc: Global, command: Command<'a>) -> Result<Command<'a>, AllocError>
+    requires { (out-Command command).has_globals ≡ false }
+    ensures app { IfOk result (λ c. app_of c
+        ≡ with_rule (with_rule (app_of command.entry) flag_alone_rule) why_rule) }
+    ensures local { IfOk result (λ c. (out-Command c).has_globals ≡ false) }
+{
+    command.arg(flag_alone(alloc))?.arg(why(alloc))
 }
 
 /// Makes the command `rdsrt` with its version and text.

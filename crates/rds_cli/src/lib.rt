@@ -4,8 +4,10 @@
 #![tactic(auto)]
 
 mod command_line;
+mod end;
 mod laws;
 mod request;
 
+pub use end::End;
 pub use laws::words_of_the_examples;
-pub use request::{Programme, Request, Task, identification_of, read_words};
+pub use request::{Programme, Request, Task, identification_of, read_words, request_in};

@@ -1,7 +1,7 @@
 //! The request of the command line.
 ghost use Rattle.std.specs.Prelude.{◌≡◌, ◌⊎◌, ℕ, IfErr, IfNone, IfOk, IfSome, false, map, option_map, true};
 ghost use Rattle.clap.specs.Words.{FailsBy, fault_of, found_of, kind_of, rows_of};
-ghost use Rattle.rds_cli.specs.Asks.{asked_by};
+ghost use Rattle.rds_cli.specs.Asks.{ReadAs, asked_by};
 ghost use Rattle.rds_cli.specs.CommandLine.{AreRefused, AskForHelp, IsPi, TakesWords, asked_in, asked_of};
 ghost use Rattle.rds_cli.specs.CommandLine.{file_in, flag_in, grain_in, has_value, is_shown, lose_in, pi_in};
 ghost use Rattle.rds_cli.specs.CommandLine.{programme_in, option_slots, task_in, whole_app, window_in, witness_in};
@@ -103,6 +103,30 @@ pub fn identification_of(given: &str) -> Option<u16>
 ///
 /// The answer of `clap`: the arguments are refused, or they ask for help, or the program is out of memory.
 pub fn read_words<'a>(alloc: Global, words: &'a [&'a str]) -> Result<Option<Request<'a>>, Error>
+    ensures { ReadAs (map (λ w. w.now) words.entry.now) result }
+{
+    parse(alloc, words)
+}
+
+/// Returns the request that was read, if there is one.
+pub fn request_in<'a>(read: &Result<Option<Request<'a>>, Error>) -> Option<Request<'a>> {
+    match read {
+        // Prover: a value with a lifetime is not copied from behind a reference (docs/PROVER.md, "Workarounds").
+        Ok(Some(request)) => Some(Request {
+            task: request.task,
+            pi: request.pi,
+            lose: request.lose,
+            dwell: request.dwell,
+            file: request.file,
+            quiet: request.quiet,
+            json_notes: request.json_notes,
+        }),
+        Ok(None) | Err(_) => None,
+    }
+}
+
+/// Reads the arguments by the command of `clap`.
+fn parse<'a>(alloc: Global, words: &'a [&'a str]) -> Result<Option<Request<'a>>, Error>
     ensures ok { IfOk result (λ o. option_map asked_by o ≡ asked_in (map (λ w. w.now) words.entry.now)) }
     ensures err { IfErr result (λ e. TakesWords (map (λ w. w.now) words.entry.now)
         → kind_of e ≡ ErrorKind.OutOfMemory) }

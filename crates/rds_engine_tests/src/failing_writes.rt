@@ -6,7 +6,7 @@ use crate::scripts::{ENCODED, ENCODED_LOG, SIMULATED, SIMULATED_OUTPUT, config};
 use rds_audit::LogStart;
 use rds_fields::{Dwell, Late};
 use rds_io::{LogFault, Told};
-use rds_log::{Auditing, LogNotes, MOST_READS, Stop, audit, audit_with_notes, decode};
+use rds_log::{Auditing, LogNotes, MOST_READS, NoNews, Stop, audit, audit_with_notes, decode};
 use rds_receiver::Window;
 use rds_script::{encode, simulate};
 use rds_world::ReceiverKind;
@@ -107,6 +107,7 @@ fn listed_to(writer: Stubborn) -> Result<Result<(), LogFault>, Fail> {
         auditing,
         MOST_READS,
         &mut LogNotes::new(),
+        &mut NoNews,
     );
     Ok(answer.map(|_| ()))
 }

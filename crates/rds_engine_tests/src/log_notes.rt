@@ -4,7 +4,7 @@ use rds_audit::{AuditFault, LogStart};
 use rds_fields::{Dwell, Late};
 use rds_io::{LogFault, Told};
 use rds_log::{
-    Auditing, Decoding, FaultPlace, LineCause, LineTime, LogNotes, MOST_READS, NoNote,
+    Auditing, Decoding, FaultPlace, LineCause, LineTime, LogNotes, MOST_READS, NoNews, NoNote,
     SegmentCause, Stop, audit_with_notes, decode_with_notes, fault_name, gather,
 };
 use rds_receiver::Window;
@@ -57,9 +57,10 @@ fn causes_of_lines(rt: HostRuntime) -> Result<(), Fail> {
             decoding(0xC201, window)?,
             MOST_READS,
             &mut notes,
+            &mut NoNews,
         );
         assert_eq!(rt; done, Err(LogFault::BadLine(4)));
-        let bad = notes.bad.ok_or("a bad line is noted")?;
+        let bad = notes.read.bad.ok_or("a bad line is noted")?;
         assert_eq!(rt; bad.start.as_slice(), line);
         assert_eq!(rt; bad.cause, Some(cause));
     }
@@ -77,9 +78,10 @@ fn bad_lines_of_all_calls(rt: HostRuntime) -> Result<(), Fail> {
         0xC201,
         MOST_READS,
         &mut notes,
+        &mut NoNews,
     );
     assert_eq!(rt; slots.err(), Some(LogFault::BadLine(1)));
-    let bad = notes.bad.ok_or("a bad line is noted")?;
+    let bad = notes.read.bad.ok_or("a bad line is noted")?;
     assert_eq!(rt; bad.start.as_slice(), &log[..60]);
     let mut notes = LogNotes::new();
     let mut output = Vec::new(rt.alloc());
@@ -90,9 +92,10 @@ fn bad_lines_of_all_calls(rt: HostRuntime) -> Result<(), Fail> {
         0xC201,
         dwell(8)?,
         &mut notes,
+        &mut NoNews,
     );
     assert_eq!(rt; found, Err(LogFault::BadLine(1)));
-    assert_eq!(rt; notes.bad.is_some(), true);
+    assert_eq!(rt; notes.read.bad.is_some(), true);
     Ok(())
 }
 
@@ -113,6 +116,7 @@ fn programmes(rt: HostRuntime) -> Result<(), Fail> {
             decoding(pi, window)?,
             MOST_READS,
             &mut notes,
+            &mut NoNews,
         );
         assert_eq!(rt; done, Ok(()));
         let heard = notes.heard;
@@ -149,6 +153,7 @@ fn slot_of_a_no(rt: HostRuntime) -> Result<(), Fail> {
             },
             MOST_READS,
             &mut notes,
+            &mut NoNews,
         );
         assert_eq!(rt; passed, Ok(false));
         let wanted = NoNote {
@@ -208,6 +213,7 @@ fn causes_of_segments(rt: HostRuntime) -> Result<(), Fail> {
             auditing(Stop::FirstFault)?,
             MOST_READS,
             &mut notes,
+            &mut NoNews,
         );
         assert_eq!(rt; passed, Ok(false));
         let no = notes.no.ok_or("no note")?;
@@ -233,6 +239,7 @@ C201 2140 4849 0D20 12.5
         auditing(Stop::LogEnd)?,
         MOST_READS,
         &mut notes,
+        &mut NoNews,
     );
     assert_eq!(rt; passed, Ok(false));
     assert_eq!(rt;
@@ -259,6 +266,7 @@ fn a_list_without_a_fault(rt: HostRuntime) -> Result<(), Fail> {
         auditing(Stop::LogEnd)?,
         MOST_READS,
         &mut notes,
+        &mut NoNews,
     );
     assert_eq!(rt; passed, Ok(true));
     assert_eq!(rt; output.as_slice(), b"yes 2\n".as_slice());

@@ -4,7 +4,7 @@ use crate::same::same;
 use rds_arrivals::Grain;
 use rds_fields::Dwell;
 use rds_io::{LogFault, Told};
-use rds_log::{Filling, Gap, SlotNotes, Times, fill_with_notes};
+use rds_log::{Filling, Gap, NoNews, SlotNotes, Times, fill_with_notes};
 use std::test::Fail;
 
 /// Groups of two programmes. The third has no time. The time of the last is before that of the fourth.
@@ -42,6 +42,7 @@ fn filled(
         &mut Told::new(&mut written),
         filling(pi)?,
         notes,
+        &mut NoNews,
     );
     Ok((done, written))
 }
@@ -59,7 +60,7 @@ fn counted_lines(rt: HostRuntime) -> Result<(), Fail> {
             (
                 notes.counts.untimed,
                 notes.counts.others,
-                notes.counts.breaks,
+                notes.counts.breaks(),
             ),
             (1, others, 1),
         );

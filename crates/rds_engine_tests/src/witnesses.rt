@@ -4,7 +4,7 @@ use crate::logs::{Endless, LINE};
 use crate::same::same;
 use rds_fields::Dwell;
 use rds_io::{LogFault, Told};
-use rds_log::{LogNotes, MOST_READS, gather};
+use rds_log::{LogNotes, MOST_READS, NoNews, gather};
 use rds_witness::{Losing, bursts_of, lose_with_notes, witness};
 use std::alloc::Global;
 use std::cell::Cell;
@@ -74,6 +74,7 @@ fn lost(
         &mut Told::new(&mut output),
         &losing,
         &mut LogNotes::new(),
+        &mut NoNews,
     );
     Ok((found, output))
 }
@@ -105,6 +106,7 @@ fn all_slots_are_kept(rt: HostRuntime) -> Result<(), Fail> {
         0xC201,
         MOST_READS,
         &mut notes,
+        &mut NoNews,
     ) {
         Ok(slots) => {
             let came = slots.iter().filter(|slot| slot.is_some()).count();
@@ -113,14 +115,28 @@ fn all_slots_are_kept(rt: HostRuntime) -> Result<(), Fail> {
         Err(fault) => same(&rt, Err(fault), Ok(())),
     }
     let mut two_lines = Told::new(b"\nx\n".as_slice());
-    let bad = gather(rt.alloc(), &mut two_lines, 0xC201, MOST_READS, &mut notes);
+    let bad = gather(
+        rt.alloc(),
+        &mut two_lines,
+        0xC201,
+        MOST_READS,
+        &mut notes,
+        &mut NoNews,
+    );
     same(&rt, bad.map(|slots| slots.len()), Err(LogFault::BadLine(2)));
     let reads = Cell::new(0);
     let endless = Endless {
         bytes: LINE,
         reads: &reads,
     };
-    let long = gather(rt.alloc(), &mut Told::new(endless), 0xC201, 3, &mut notes);
+    let long = gather(
+        rt.alloc(),
+        &mut Told::new(endless),
+        0xC201,
+        3,
+        &mut notes,
+        &mut NoNews,
+    );
     same(&rt, long.map(|slots| slots.len()), Err(LogFault::TooLong));
     Ok(())
 }

@@ -4,6 +4,5 @@ pub mod Puts
 pub mod Waits
 pub mod ReadFailed
 pub mod Alike
-pub mod Wrapped
 -- Hexadecimal digits.
 pub mod Digits

@@ -1,7 +1,7 @@
 -- A counted read or write either passes bytes and keeps the count of failures, or passes none and raises it by one.
 -- Each counted read raises the count of reads.
 -- This is the project's own rule. A count cannot rise above 2^64 - 1: if the failures are there, each call fails.
-use Rattle.std.proofs.Common.{◌∙◌, Bool, add-one, ap, refl, suc, sym, true, zero}
+use Rattle.std.proofs.Common.{◌∙◌, add-one, ap, refl, suc, sym, zero}
 use Rattle.std.specs.Prelude.{◌≡◌, ◌⊎◌, ◌<◌, ◌≤◌, ◌+◌, ◌^◌, ◌-◌}
 use Rattle.std.specs.Prelude.{ℕ, List, take, length, Option, MatchOption, nat_lt, if◌then◌else◌}
 use Rattle.std.specs.Io.KnownBytes.{Appends, Consumes, IsAtEnd, Keeps}

@@ -8,13 +8,9 @@
 mod fault;
 mod hexadecimal;
 mod lines;
-mod prompt;
-mod reason;
 mod told;
 
 pub use fault::{BadLine, LogFault};
 pub use hexadecimal::{digits_of_four, four_words, word_at};
 pub use lines::Lines;
-pub use prompt::{Prompting, prompt_for};
-pub use reason::Reasoned;
 pub use told::{TellingRead, TellingWrite, Told, WriteFault, put};

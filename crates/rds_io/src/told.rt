@@ -39,7 +39,8 @@ pub trait TellingWrite: Write {
         ensures { WritesOne (traffic Self.contents failures self.old self.new) result buf.now };
 }
 
-/// A reader or a writer with the count of its failures, and of a reader's counted reads.
+/// A reader or a writer with the count of its failures, the system's reason for the last one, and the count of a reader's
+/// counted reads.
 ///
 /// Its bytes are those of the reader or writer inside. The plain `read`, `write` and `flush` pass through and count
 /// nothing.
@@ -48,6 +49,7 @@ pub struct Told<T> {
     inner: T,
     failures: u64,
     reads: u64,
+    reason: Option<io::Error>,
 }
 
 impl<T> Told<T> {
@@ -61,6 +63,7 @@ impl<T> Told<T> {
             inner,
             failures: 0,
             reads: 0,
+            reason: None,
         }
     }
 
@@ -85,6 +88,11 @@ impl<T> Told<T> {
     {
         let Told { reads, .. } = self;
         *reads
+    }
+
+    /// Returns the system's reason for the last failure. `None` if no call failed, or a writer took nothing.
+    pub fn reason(&self) -> Option<&io::Error> {
+        self.reason.as_ref()
     }
 }
 
@@ -120,8 +128,9 @@ impl<T: Read> TellingRead for Told<T> {
         }
         match self.inner.read(buf) {
             Ok(count) => Some(count),
-            Err(_) => {
+            Err(error) => {
                 self.failures += 1;
+                self.reason = Some(error);
                 None
             }
         }
@@ -137,8 +146,9 @@ impl<T: Write> TellingWrite for Told<T> {
         }
         match self.inner.write(buf) {
             Ok(count) if count > 0 || buf.is_empty() => Some(count),
-            _ => {
+            taken => {
                 self.failures += 1;
+                self.reason = taken.err();
                 None
             }
         }

@@ -23,12 +23,12 @@ use Rattle.rds_audit.specs.declared.fault_set.FaultSet.{FaultSet}
 use Rattle.rds_audit.specs.declared.log_start.LogStart.{LogStart}
 use Rattle.rds_log.specs.Audit.{SlotsFail, SlotsPass, judged, spacing}
 use Rattle.rds_log.specs.FaultList.{AreAdded, AreFaultsOf, AnswersYes, Audits, BeginsWithNo, FindsFaults, IsNo}
-use Rattle.rds_log.specs.FaultList.{LinesAnswer, LinesGoOn, LosesYes, SaysNo, SlotsList}
+use Rattle.rds_log.specs.FaultList.{LinesAnswer, LinesGoOn, SaysNo}
 use Rattle.rds_log.specs.FaultList.{fault_lines, first_line, lines_for, list_lines, no_line, yes_line}
 use Rattle.rds_log.specs.Inside.Auditor.{HasAudited}
 use Rattle.rds_log.specs.LineSays.{LineSays}
 use Rattle.rds_log.specs.LogLines.{Line}
-use Rattle.rds_log.specs.Outputs.{HasTaken, Pushed, Runs, RunsAll, RunsUpTo, StopsBy}
+use Rattle.rds_log.specs.Outputs.{HasTaken, Pushed, RunsAll, RunsUpTo, StopsBy}
 use Rattle.rds_io.specs.declared.fault.LogFault.{LogFault}
 use Rattle.rds_io.specs.declared.fault.LogFault.TheVariants as faults
 use Rattle.rds_log.specs.declared.audit_log.Auditing.{Auditing}

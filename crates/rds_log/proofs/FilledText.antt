@@ -12,7 +12,6 @@ use Rattle.std.proofs.lemmas.List.Elements.{All-cons, All-head, All-nil, All-tai
 use Rattle.rds_block.specs.declared.group.Group.{Group}
 use Rattle.rds_arrivals.specs.Arrivals.{Arrival, and_lost, filled, lost_between, lost_until}
 use Rattle.rds_arrivals.specs.Breaks.{break_of}
-use Rattle.rds_arrivals.specs.Delivered.{arrivals}
 use Rattle.rds_arrivals.specs.Stamps.{stamp_in}
 use Rattle.rds_arrivals.specs.declared.lost.Break.{Break}
 use Rattle.rds_arrivals.specs.declared.lost.Break.TheVariants.{Back, Hour}

@@ -1,5 +1,5 @@
 -- How a run over the lines of a log goes on and ends: what the source gives, and what was written of it.
-use Rattle.std.proofs.Common.{◌≡◌, ◌≢◌, ◌++◌, ◌∙◌, ◌∷◌, ℕ, List, [], Bool, Option, None, ap, true, false, inl, inr, sym}
+use Rattle.std.proofs.Common.{◌≡◌, ◌≢◌, ◌++◌, ◌∙◌, ◌∷◌, ℕ, List, [], Bool, Option, None, true, false, inl, inr}
 use Rattle.std.specs.Prelude.{MatchBool}
 use Rattle.std.specs.Io.KnownBytes.{Consumes}
 use Rattle.rds_io.specs.Told.{Traffic}

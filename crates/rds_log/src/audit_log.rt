@@ -8,6 +8,7 @@ ghost use Rattle.rds_log.specs.Reads.{MadeReads};
 use crate::auditor::Auditor;
 use crate::decode_log::MOST_READS;
 use crate::laws::what_an_answer_means;
+use crate::news::{News, NoNews};
 use crate::notes::LogNotes;
 use crate::run_log::run;
 use rds_audit::LogStart;
@@ -90,23 +91,32 @@ pub fn audit_within<R: TellingRead, W: TellingWrite>(
         start: LogStart::Complete,
         stop: Stop::FirstFault,
     };
-    audit_with_notes(reader, writer, auditing, reads, &mut LogNotes::new())
+    audit_with_notes(
+        reader,
+        writer,
+        auditing,
+        reads,
+        &mut LogNotes::new(),
+        &mut NoNews,
+    )
 }
 
-/// Audits a log in this way with at most `reads` reads, and takes notes for a person. The new notes replace the old
-/// content of `notes`. For a complete log and the first fault, the output and the answer are those of [`audit_within`].
+/// Audits a log in this way with at most `reads` reads, takes notes for a person, and tells the news. The new notes
+/// replace the old content of `notes`. For a complete log and the first fault, the output and the answer are those of
+/// [`audit_within`].
 /// With all faults, each has a line, the first one as for the first fault alone; a log without a fault gets the line
 /// `yes`; the lines for the slots of one read are written before the next read.
 ///
 /// For the log of a running station the answer is that of the log with M + K lost slots in front, and without the tags
 /// before its first text segment. Slots count from the first line of the log. A yes speaks of receivers of the log as
 /// it is: they may hear these tags.
-pub fn audit_with_notes<R: TellingRead, W: TellingWrite>(
+pub fn audit_with_notes<R: TellingRead, W: TellingWrite, N: News>(
     reader: &mut R,
     writer: &mut W,
     auditing: Auditing,
     reads: u64,
     notes: &mut LogNotes,
+    news: &mut N,
 ) -> Result<bool, LogFault>
     requires { reads ≤ 2 ^ 32 }
     ensures audits { Audits auditing reads
@@ -118,7 +128,8 @@ pub fn audit_with_notes<R: TellingRead, W: TellingWrite>(
     what_an_answer_means();
     *notes = LogNotes::new();
     let mut auditor = Auditor::new(auditing);
-    let ended = run(reader, writer, &mut auditor, reads, &mut notes.bad);
+    let read = &mut notes.read;
+    let ended = run(reader, writer, &mut auditor, reads, read, news);
     auditor.note(notes);
     ended?;
     if !auditor.passed() {

@@ -15,6 +15,7 @@ use crate::audit_log::{Auditing, Stop};
 use crate::fault_notes::{FaultNotes, FaultPlace};
 use crate::heard::Heard;
 use crate::log_line::LogLine;
+use crate::news::News;
 use crate::notes::{LogNotes, NoNote};
 use crate::run_log::{OUTPUT_ROOM, TakesLines};
 use crate::source::Source;
@@ -84,6 +85,8 @@ impl TakesLines for Auditor {
             }
         }
     }
+
+    fn tell<N: News>(&self, _news: &mut N) {}
 
     ghost meant = { audited_lines };
 

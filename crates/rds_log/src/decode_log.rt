@@ -6,6 +6,7 @@ ghost use Rattle.rds_log.specs.LogWrites.{plain};
 ghost use Rattle.rds_log.specs.Reads.{MadeReads};
 
 use crate::decoder::Decoder;
+use crate::news::{News, NoNews};
 use crate::notes::LogNotes;
 use crate::run_log::run;
 use rds_fields::Dwell;
@@ -69,17 +70,25 @@ pub fn decode_within<R: TellingRead, W: TellingWrite>(
         window: None,
         says_why: false,
     };
-    decode_with_notes(reader, writer, decoding, reads, &mut LogNotes::new())
+    decode_with_notes(
+        reader,
+        writer,
+        decoding,
+        reads,
+        &mut LogNotes::new(),
+        &mut NoNews,
+    )
 }
 
-/// Decodes a log in this way with at most `reads` reads, and takes notes for a person. The new notes replace the old
-/// content of `notes`.
-pub fn decode_with_notes<R: TellingRead, W: TellingWrite>(
+/// Decodes a log in this way with at most `reads` reads, takes notes for a person, and tells the news. The new notes
+/// replace the old content of `notes`.
+pub fn decode_with_notes<R: TellingRead, W: TellingWrite, N: News>(
     reader: &mut R,
     writer: &mut W,
     decoding: Decoding,
     reads: u64,
     notes: &mut LogNotes,
+    news: &mut N,
 ) -> Result<(), LogFault>
     requires { reads ≤ 2 ^ 32 }
     ensures decodes { Decodes decoding reads
@@ -89,7 +98,8 @@ pub fn decode_with_notes<R: TellingRead, W: TellingWrite>(
 {
     *notes = LogNotes::new();
     let mut decoder = Decoder::new(decoding);
-    let result = run(reader, writer, &mut decoder, reads, &mut notes.bad);
+    let read = &mut notes.read;
+    let result = run(reader, writer, &mut decoder, reads, read, news);
     notes.heard = decoder.heard;
     notes.slots = decoder.views.slot;
     result

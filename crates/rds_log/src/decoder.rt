@@ -13,6 +13,7 @@ ghost use Rattle.rds_view_lines.specs.declared.change.TheConstants.{SLOT_ROOM};
 use crate::decode_log::Decoding;
 use crate::heard::Heard;
 use crate::log_line::LogLine;
+use crate::news::News;
 use crate::run_log::{OUTPUT_ROOM, TakesLines};
 use crate::source::Source;
 use rds_block::Blocks;
@@ -162,6 +163,8 @@ impl TakesLines for Decoder {
             }
         }
     }
+
+    fn tell<N: News>(&self, _news: &mut N) {}
 
     ghost meant = { decoded_lines };
 

@@ -17,6 +17,7 @@ ghost use Rattle.rds_log.specs.declared.log_line.LogLine.TheVariants as LogLine;
 ghost use Rattle.rds_log.specs.declared.run_log.TheConstants.{OUTPUT_ROOM};
 
 use crate::log_line::{DECIDING, LogLine};
+use crate::news::News;
 use crate::pace::Pace;
 use crate::run_log::{OUTPUT_ROOM, TakesLines};
 use crate::source::Source;
@@ -74,13 +75,31 @@ pub struct SlotCounts {
     pub untimed: u64,
     /// The number of lines with a time that were left out, since they are of another programme.
     pub others: u64,
-    /// How often nobody knows how many slots were lost.
-    pub breaks: u64,
+    /// How often a time went back: nobody knows how many slots were lost.
+    pub backs: u64,
+    /// How often more than an hour passed: the same.
+    pub hours: u64,
     /// The longest gap.
     pub gap: Gap,
     /// The line of the newest group that did not fit a line without a group before it: by the time of that line, more
     /// slots were lost than by the time of the group.
     pub misfit: Option<u64>,
+}
+
+impl SlotCounts {
+    /// Returns how often nobody knows how many slots were lost.
+    pub fn breaks(&self) -> u64 {
+        self.backs.saturating_add(self.hours)
+    }
+
+    /// Counts a break.
+    fn add(&mut self, why: Option<Break>) {
+        match why {
+            Some(Break::Back) => self.backs = self.backs.saturating_add(1),
+            Some(Break::Hour) => self.hours = self.hours.saturating_add(1),
+            None => {}
+        }
+    }
 }
 
 /// Takes the lines of a log with times for `slots`.
@@ -129,6 +148,15 @@ impl TakesLines for Filler {
                 self.slot(group.is_some(), source, output, writer)?;
                 Ok(true)
             }
+        }
+    }
+
+    fn tell<N: News>(&self, news: &mut N) {
+        if self.counts.backs > 0 {
+            news.breaks(Break::Back);
+        }
+        if self.counts.hours > 0 {
+            news.breaks(Break::Hour);
         }
     }
 
@@ -262,7 +290,7 @@ impl Filler {
             Ok(lost) => self.push_more(None, lost, output, writer),
             Err(why) => {
                 let told = is_group.then_some(why);
-                self.counts.breaks = self.counts.breaks.saturating_add(u64::from(is_group));
+                self.counts.add(told);
                 self.push_more(told, u32::from(self.filling.dwell.get()), output, writer)
             }
         }

@@ -5,6 +5,7 @@ ghost use Rattle.rds_log.specs.Gather.{GathersAll, GathersNone};
 ghost use Rattle.rds_log.specs.Reads.{MadeReads};
 
 use crate::log_line::LogLine;
+use crate::news::News;
 use crate::notes::LogNotes;
 use crate::source::Source;
 use rds_block::Blocks;
@@ -12,17 +13,19 @@ use rds_io::{LogFault, TellingRead};
 use std::alloc::Global;
 
 /// Reads a log to its end with at most `reads` reads, and returns the group of each of its slots, the oldest first.
-/// Takes notes for a person who asks for this programme. The new notes replace the old content of `notes`.
+/// Takes notes for a person who asks for this programme, and tells the news. The new notes replace the old content of
+/// `notes`.
 ///
 /// # Errors
 ///
 /// The first fault: a malformed line, a failed read, as many reads without an end, or no memory for the slots.
-pub fn gather<R: TellingRead>(
+pub fn gather<R: TellingRead, N: News>(
     alloc: Global,
     reader: &mut R,
     pi: u16,
     reads: u64,
     notes: &mut LogNotes,
+    news: &mut N,
 ) -> Result<Vec<Option<Blocks>>, LogFault>
     requires { reads ≤ 2 ^ 32 }
     ensures all { IfOk result (λ log. GathersAll (traffic R.remaining R.failures reader.old reader.new) log.items) }
@@ -36,13 +39,16 @@ pub fn gather<R: TellingRead>(
     let mut said = LogLine::Skip;
     loop {
         match source.next(reader, &mut said) {
-            Ok(true) => notes.heard.line(pi, said),
+            Ok(true) => {
+                notes.heard.line(pi, said);
+                notes.read.line(said, &source, false, news);
+            }
             Ok(false) => {
                 notes.slots = slots.len() as u64;
                 return Ok(slots);
             }
             Err(fault) => {
-                notes.bad = source.note(fault);
+                notes.read.bad = source.note(fault);
                 return Err(fault);
             }
         }

@@ -4,7 +4,10 @@ use crate::fault_notes::{FaultNotes, FaultPlace};
 use crate::heard::Heard;
 use crate::line_cause::LineCause;
 use crate::log_line::{DECIDING, LogLine};
+use crate::log_times::{FIRST, LogTimes};
+use crate::news::News;
 use crate::segment_cause::SegmentCause;
+use crate::source::Source;
 use arrayvec::ArrayVec;
 use rds_audit::{Audit, AuditFault};
 use rds_fields::Message;
@@ -138,6 +141,56 @@ fn slot_before(slot: u64, age: Option<u32>) -> Option<u64> {
     slot.checked_sub(u64::from(age?))
 }
 
+/// Notes on the reading of a log (this project's own rule).
+#[derive(Drop)]
+pub struct ReadNotes {
+    /// The malformed line at which the run stopped.
+    pub bad: Option<BadStart>,
+    /// The times of the log.
+    pub times: LogTimes,
+}
+
+impl ReadNotes {
+    /// Returns the notes before the first line.
+    pub(crate) fn new() -> ReadNotes {
+        ReadNotes {
+            bad: None,
+            times: LogTimes::new(),
+        }
+    }
+
+    /// Takes the line that this source read last. `is_last` says that no more lines are wanted.
+    #[inline(always)]
+    pub(crate) fn line<N: News>(
+        &mut self,
+        said: LogLine,
+        source: &Source,
+        is_last: bool,
+        news: &mut N,
+    ) {
+        let looks = match said {
+            LogLine::Skip => true,
+            LogLine::Slot(_) => is_last || !source.has_line() || source.lines() <= FIRST,
+        };
+        if looks {
+            self.look(said, source, is_last, news);
+        }
+    }
+
+    /// Takes the time of a line, and tells at the end of a read that a short or live log has too few lines.
+    // Cold path.
+    #[inline(never)]
+    fn look<N: News>(&mut self, said: LogLine, source: &Source, is_last: bool, news: &mut N) {
+        match said {
+            LogLine::Slot(_) => self.times.take(source.start(), source.lines()),
+            LogLine::Skip => self.times.skip(source.start()),
+        }
+        if !is_last && !source.has_line() {
+            self.times.tell(news);
+        }
+    }
+}
+
 /// Notes on a log (this project's own rule).
 #[derive(Drop)]
 pub struct LogNotes {
@@ -145,8 +198,8 @@ pub struct LogNotes {
     pub slots: u64,
     /// The programmes of the groups.
     pub heard: Heard,
-    /// The malformed line at which the run stopped.
-    pub bad: Option<BadStart>,
+    /// Notes on the reading of the log.
+    pub read: ReadNotes,
     /// The slot at which the audit stopped.
     pub no: Option<NoNote>,
     /// The number of texts that the audit judged.
@@ -165,7 +218,7 @@ impl LogNotes {
         LogNotes {
             slots: 0,
             heard: Heard::new(),
-            bad: None,
+            read: ReadNotes::new(),
             no: None,
             texts: 0,
             names: 0,

@@ -10,7 +10,8 @@ ghost use Rattle.rds_log.specs.Reads.{MadeReads};
 ghost use Rattle.rds_log.specs.declared.run_log.TheConstants.{OUTPUT_ROOM};
 
 use crate::log_line::LogLine;
-use crate::notes::BadStart;
+use crate::news::News;
+use crate::notes::ReadNotes;
 use crate::source::Source;
 use rds_io::{Lines, LogFault, TellingRead, TellingWrite, WriteFault};
 
@@ -63,6 +64,9 @@ pub(crate) trait TakesLines {
             (line ∷ lines))
             (λ _. WrotePart (begins how) (traffic W.contents W.failures start writer.new) (line ∷ lines)) };
 
+    /// Tells what a person wants to know at the end of a read.
+    fn tell<N: News>(&self, news: &mut N);
+
     /// While it wants more lines, what it appended is the output of its lines.
     ghost meant: { (how : Self.How) (it : Self) (lines : List Line) (total : List ℕ) → took how it lines total
         → (done it → ⊥) → gives how lines total };
@@ -76,19 +80,20 @@ pub(crate) trait TakesLines {
 }
 
 /// Gives the lines of a log to a taker that has none yet, with at most `reads` reads, up to the end of the log or until
-/// the taker wants no more. The output for the lines of one read is written before the next read. Takes a note on a
-/// malformed line.
+/// the taker wants no more. The output for the lines of one read is written before the next read. Takes notes on the
+/// lines, and tells the news at the end of each read.
 ///
 /// # Errors
 ///
 /// The first fault: a malformed line, a failed read or write, or as many reads without an end.
 #[inline(always)]
-pub(crate) fn run<T: TakesLines, R: TellingRead, W: TellingWrite>(
+pub(crate) fn run<T: TakesLines, R: TellingRead, W: TellingWrite, N: News>(
     reader: &mut R,
     writer: &mut W,
     taker: &mut T,
     reads: u64,
-    bad: &mut Option<BadStart>,
+    notes: &mut ReadNotes,
+    news: &mut N,
 ) -> Result<(), LogFault>
     requires reads { reads ≤ 2 ^ 32 }
     requires none { T.counted taker.old ≡ 0 }
@@ -108,16 +113,19 @@ pub(crate) fn run<T: TakesLines, R: TellingRead, W: TellingWrite>(
             Ok(false) => return Ok(()),
             Err(fault) => {
                 output.write(writer)?;
-                *bad = source.note(fault);
+                taker.tell(news);
+                notes.bad = source.note(fault);
                 return Err(fault);
             }
         };
+        notes.line(said, &source, !wants, news);
         if !wants {
             output.write(writer)?;
             return Ok(());
         }
         if !source.has_line() || !output.has_room(T::ROOM) {
             output.write(writer)?;
+            taker.tell(news);
         }
     }
 }

@@ -6,7 +6,8 @@ ghost use Rattle.rds_log.specs.Reads.{MadeReads};
 
 use crate::decode_log::MOST_READS;
 use crate::filler::{Filler, Filling, SlotCounts, Times};
-use crate::notes::BadStart;
+use crate::news::News;
+use crate::notes::ReadNotes;
 use crate::run_log::run;
 use rds_arrivals::Stretch;
 use rds_io::{LogFault, TellingRead, TellingWrite};
@@ -18,8 +19,8 @@ pub struct SlotNotes {
     pub counts: SlotCounts,
     /// The newest stretch whose times were too coarse to count slots by, up to its newest group at which they were.
     pub coarse: Option<Stretch>,
-    /// The note on a malformed line.
-    pub bad: Option<BadStart>,
+    /// Notes on the reading of the log.
+    pub read: ReadNotes,
 }
 
 impl SlotNotes {
@@ -28,13 +29,13 @@ impl SlotNotes {
         SlotNotes {
             counts: SlotCounts::default(),
             coarse: None,
-            bad: None,
+            read: ReadNotes::new(),
         }
     }
 }
 
 /// Writes the log with a line for each slot: each group with its time, and the slots that were lost before it. Takes
-/// notes for a person. The new notes replace the old content of `notes`.
+/// notes for a person, and tells the news of breaks. The new notes replace the old content of `notes`.
 ///
 /// Returns whether the slots can be counted by the times. The output is complete in any case. The output for the lines
 /// of one read is written before the next read.
@@ -42,11 +43,12 @@ impl SlotNotes {
 /// # Errors
 ///
 /// The first fault: a malformed line, a failed read or write, or 2^32 reads without an end.
-pub fn fill_with_notes<R: TellingRead, W: TellingWrite>(
+pub fn fill_with_notes<R: TellingRead, W: TellingWrite, N: News>(
     reader: &mut R,
     writer: &mut W,
     filling: Filling,
     notes: &mut SlotNotes,
+    news: &mut N,
 ) -> Result<Times, LogFault>
     ensures fills { Fills filling (traffic R.remaining R.failures reader.old reader.new)
         (traffic W.contents W.failures writer.old writer.new) result }
@@ -54,7 +56,14 @@ pub fn fill_with_notes<R: TellingRead, W: TellingWrite>(
 {
     *notes = SlotNotes::new();
     let mut filler = Filler::new(filling);
-    run(reader, writer, &mut filler, MOST_READS, &mut notes.bad)?;
+    run(
+        reader,
+        writer,
+        &mut filler,
+        MOST_READS,
+        &mut notes.read,
+        news,
+    )?;
     notes.counts = filler.counts;
     notes.coarse = filler.pace.coarse;
     Ok(filler.times())

@@ -1,29 +1,20 @@
 -- From what the words were read as to what the words say.
 use Rattle.std.proofs.Common.{◌≡◌, ◌∙◌, ◌⊎◌, ℕ, [], Bool, List, Option, Some, None, Ok, Err, ap, false, true, inl, inr}
 use Rattle.std.proofs.Common.{refl, subst, sym}
-use Rattle.std.specs.Prelude.{Result, IfErr, IfOk, option_map}
-use Rattle.clap.specs.Words.{FailsBy, fault_of, kind_of}
+use Rattle.std.specs.Prelude.{Result}
+use Rattle.clap.specs.Words.{fault_of, kind_of}
 use Rattle.clap.specs.declared.error.Error.{Error}
 use Rattle.clap.specs.declared.error.kind.ErrorKind.{ErrorKind}
 use Rattle.clap.specs.declared.error.kind.ErrorKind.TheVariants.{DisplayHelp, DisplayVersion, OutOfMemory}
 use Rattle.rds_io.specs.Told.{Traffic}
 use Rattle.rds_log.specs.LogWrites.{tuned}
 use Rattle.rds_receiver.specs.Receipts.{Tuning}
-use Rattle.rds_cli.specs.Asks.{asked_by}
-use Rattle.rds_cli.specs.CommandLine.{AreAnswered, AreRefused, AskForHelp, Requested, IsPi, TakesWords, asked_in}
+use Rattle.rds_cli.specs.Asks.{ReadAs, asked_by}
+use Rattle.rds_cli.specs.CommandLine.{AreAnswered, Requested, IsPi}
 use Rattle.rds_cli.specs.CommandLine.{is_shown, whole_app}
 use Rattle.rds_cli.specs.declared.request.Request.{Request}
 use Rattle.rds_cli.specs.declared.request.Task.{Task}
 use Rattle.rds_program.specs.Run.{NoMemory, RefusesPi, RunsRead, RunsWords, TellsError, status_of}
-
--- what is known of the answer of `read_words` to the words
-pub record ReadAs (words : List (List ℕ)) (read : Result (Option Request) Error) : Type 0 where
-  pub ok : IfOk read (λ o. option_map asked_by o ≡ asked_in words)
-  pub err : IfErr read (λ e. TakesWords words → kind_of e ≡ OutOfMemory)
-  pub kinds : FailsBy (fault_of whole_app words) read
-  pub taken : IfOk read (λ o. TakesWords words)
-  pub help : AskForHelp words → IfErr read (λ e. (kind_of e ≡ OutOfMemory) ⊎ (is_shown (kind_of e) ≡ true))
-  pub refused : AreRefused words → IfErr read (λ e. (kind_of e ≡ OutOfMemory) ⊎ (is_shown (kind_of e) ≡ false))
 
 -- ---- the status of an answer of `clap`
 

@@ -2,7 +2,7 @@
 -- with the reader, w its traffic with the writer.
 use Rattle.std.specs.Prelude.{◌≡◌, ◌⊎◌, ◌*◌, ◌^◌, ◌++◌, []}
 use Rattle.std.specs.Prelude.{ℕ, Bool, false, true, List, codes, decimal, None, Some, Option, Ok, Err, Result}
-use Rattle.std.specs.Prelude.{if◌then◌else◌, nat_le, option_map}
+use Rattle.std.specs.Prelude.{if◌then◌else◌, nat_le}
 use Rattle.clap.specs.Words.{kind_of}
 use Rattle.clap.specs.declared.error.Error.{Error}
 use Rattle.clap.specs.declared.error.kind.ErrorKind.{ErrorKind}

@@ -17,7 +17,7 @@ use Rattle.rds_witness.specs.declared.burst.Burst.{Burst}
 use Rattle.rds_cli.specs.declared.request.Task.{Task}
 use Rattle.rds_cli.specs.declared.request.Task.TheVariants.{Audit, Decode, Encode, Lose, Simulate, Slots, Witness}
 use Rattle.rds_program.specs.Run.{LossRuns, NoMemory, EngineRuns, RunsWords, SimulationRuns, TaskRuns}
-use Rattle.rds_program.specs.Run.{done, lossy, simulated_station, tuned_station}
+use Rattle.rds_program.specs.Run.{done, simulated_station, tuned_station}
 
 -- a run of engines that do more, with another statement for the case that no engine ran
 pub runs_by : {Rests Rested : Type 0} (words : List (List ℕ)) (Engine Weaker : Task → List ℕ → Tuning → Type 0)

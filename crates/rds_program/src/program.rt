@@ -1,10 +1,11 @@
 //! The whole program over its arguments.
 ghost use Rattle.std.specs.Prelude.{◌≡◌, ◌⊎◌, ◌≤◌, ◌+◌, ◌^◌, ◌++◌, ℕ};
-ghost use Rattle.std.specs.Prelude.{None, codes, decimal, false, true, if◌then◌else◌, length, map};
+ghost use Rattle.std.specs.Prelude.{List, None, codes, decimal, false, true, if◌then◌else◌, length, map};
 ghost use Rattle.rds_io.specs.Told.{PutsNothing, Traffic, traffic};
 ghost use Rattle.rds_log.specs.LogWrites.{tuned};
 ghost use Rattle.clap.specs.Words.{kind_of};
 ghost use Rattle.rds_audit.specs.AuditState.{start_if};
+ghost use Rattle.rds_cli.specs.Asks.{ReadAs};
 ghost use Rattle.rds_cli.specs.CommandLine.{IsPi};
 ghost use Rattle.rds_program.specs.Run as specs;
 ghost use Rattle.rds_program.specs.Run.{EndsWith, IsUntouched, PutsAfter, PutsLine, RefusesPi, RunsFrom, RunsRead};
@@ -16,18 +17,18 @@ ghost use Rattle.rds_script.specs.Play.{Plays};
 ghost use Rattle.rds_witness.specs.Spans.{bursts_in};
 ghost use Rattle.rds_world.specs.ReceiverKind.{dwell_of};
 
-use crate::notes::{End, Options, RunNotes};
+use crate::report::Report;
 use crate::status::{FAULT, NO, OK, REFUSED, write_no_memory};
 use clap::Error;
 use clap::error::ErrorKind;
 use rds_arrivals::Grain;
 use rds_audit::LogStart;
-use rds_cli::{Programme, Request, Task, identification_of, read_words};
+use rds_cli::{End, Programme, Request, Task, identification_of, read_words};
 use rds_fields::{Dwell, Head, Late};
 use rds_io::{Lines, LogFault, TellingRead, TellingWrite, put};
 use rds_log::{
-    Auditing, Decoding, Filling, MOST_READS, Stop, Times, audit_with_notes, decode_with_notes,
-    fill_with_notes,
+    Auditing, Decoding, Filling, MOST_READS, News, NoNews, Stop, Times, audit_with_notes,
+    decode_with_notes, fill_with_notes,
 };
 use rds_receiver::Window;
 use rds_script::{Form, MOST_RECORDS, Playing, play_script};
@@ -49,7 +50,7 @@ const FAULT_LINE: usize = 64;
 /// fault is the last line of the output.
 ///
 /// If the arguments are refused or ask for help, `run` writes the text of `clap` and reads nothing: the contract of
-/// [`run_with_notes`] says so of its reader. `clap`'s contract does not promise that a number is in its range: for a
+/// [`run_read`] says so of its reader. `clap`'s contract does not promise that a number is in its range: for a
 /// number outside, `nothing_asked` holds. Nor does it say whether `help` followed by an argument gives help or is
 /// refused: `not_taken` bounds the status.
 pub fn run<R: TellingRead + Drop, W: TellingWrite>(
@@ -63,38 +64,47 @@ pub fn run<R: TellingRead + Drop, W: TellingWrite>(
         (traffic W.contents W.failures writer.old writer.new) result) (Unit {0})
         (traffic W.contents W.failures writer.old writer.new) result }
 {
-    run_with_notes(alloc, words, &mut reader, writer, &mut RunNotes::new())
+    let read = read_words(alloc, words);
+    let mut report = Report::new();
+    run_read(alloc, read, &mut reader, writer, &mut report, &mut NoNews)
 }
 
-/// Does what [`run`] does over a borrowed reader, and takes notes for a person. The new notes replace the old content
-/// of `notes`; [`print_notes`](crate::print_notes) prints them.
+/// Does what [`run`] does, given the result of reading its arguments, over a borrowed reader. Reports what the run met,
+/// and tells the news of a log. The new report replaces the old content of `report`.
 ///
 /// The contract says the reader's state after the call: if no command ran, its bytes and its counts of reads and
-/// failures are unchanged.
-pub fn run_with_notes<R: TellingRead, W: TellingWrite>(
+/// failures are unchanged. What it says of the request that was read holds for the arguments too (`words`).
+pub fn run_read<R: TellingRead, W: TellingWrite, N: News>(
     alloc: Global,
-    words: &[&str],
+    read: Result<Option<Request<'_>>, Error>,
     reader: &mut R,
     writer: &mut W,
-    notes: &mut RunNotes,
+    report: &mut Report,
+    news: &mut N,
 ) -> u8
-    ensures { RunsWords (map (λ w. w.now) words.entry.now)
+    ensures read { RunsRead read.entry
+        (λ task lose t. TaskRuns task lose t (reader_over R.remaining R.failures R.reads reader.old reader.new)
+        (traffic W.contents W.failures writer.old writer.new) result)
+        (IsUntouched R.remaining R.failures R.reads reader.old reader.new)
+        (traffic W.contents W.failures writer.old writer.new) result }
+    ensures words { (words : List (List ℕ)) → ReadAs words read.entry → RunsWords words
         (λ task lose t. TaskRuns task lose t (reader_over R.remaining R.failures R.reads reader.old reader.new)
         (traffic W.contents W.failures writer.old writer.new) result)
         (IsUntouched R.remaining R.failures R.reads reader.old reader.new)
         (traffic W.contents W.failures writer.old writer.new) result }
 {
-    *notes = RunNotes::new();
-    run_read(alloc, read_words(alloc, words), reader, writer, notes)
+    *report = Report::new();
+    answer_read(alloc, read, reader, writer, report, news)
 }
 
 /// Runs the command of the arguments, given the result of reading them.
-fn run_read<R: TellingRead, W: TellingWrite>(
+fn answer_read<R: TellingRead, W: TellingWrite, N: News>(
     alloc: Global,
     read: Result<Option<Request<'_>>, Error>,
     reader: &mut R,
     writer: &mut W,
-    notes: &mut RunNotes,
+    report: &mut Report,
+    news: &mut N,
 ) -> u8
     ensures { RunsRead read.entry
         (λ task lose t. TaskRuns task lose t (reader_over R.remaining R.failures R.reads reader.old reader.new)
@@ -104,39 +114,35 @@ fn run_read<R: TellingRead, W: TellingWrite>(
 {
     match read {
         // Prover: `answer` borrows the request (docs/PROVER.md, "Workarounds").
-        Ok(Some(request)) => answer(alloc, &request, reader, writer, notes),
+        Ok(Some(request)) => answer(alloc, &request, reader, writer, report, news),
         Ok(None) => REFUSED,
-        Err(error) => write_error(&error, writer, notes),
+        Err(error) => write_error(&error, writer),
     }
 }
 
 /// Writes the text of `clap`, help or the reason of a refusal, as far as the writer takes it. Writes the fault line if
 /// the program is out of memory.
-fn write_error<W: TellingWrite>(error: &Error, writer: &mut W, notes: &mut RunNotes) -> u8
+fn write_error<W: TellingWrite>(error: &Error, writer: &mut W) -> u8
     ensures status { result ≡ status_of (kind_of error.now) }
     ensures memory { kind_of error.now ≡ ErrorKind.OutOfMemory
         → PutsLine (codes "fault memory\n") (traffic W.contents W.failures writer.old writer.new) }
 {
     if error.kind() == ErrorKind::OutOfMemory {
-        let _ = notes.refused.write(b"rdsrt: fault memory: out of memory\n");
         write_no_memory(writer);
         return FAULT;
     }
     let _ = write!(writer, "{error}");
-    if !error.use_stderr() {
-        return OK;
-    }
-    let _ = write!(notes.refused, "{error}");
-    REFUSED
+    if error.use_stderr() { REFUSED } else { OK }
 }
 
 /// Runs the command of a request.
-fn answer<R: TellingRead, W: TellingWrite>(
+fn answer<R: TellingRead, W: TellingWrite, N: News>(
     alloc: Global,
     request: &Request<'_>,
     reader: &mut R,
     writer: &mut W,
-    notes: &mut RunNotes,
+    report: &mut Report,
+    news: &mut N,
 ) -> u8
     ensures runs { (pi : ℕ) → IsPi request.now.pi.now pi
         → TaskRuns request.now.task request.now.lose.now (tuned pi request.now.dwell)
@@ -146,32 +152,23 @@ fn answer<R: TellingRead, W: TellingWrite>(
         → RefusesPi request.now.task (traffic W.contents W.failures writer.old writer.new) result
         × IsUntouched R.remaining R.failures R.reads reader.old reader.new }
 {
-    notes.options = Some(Options {
-        task: request.task,
-        dwell: request.dwell,
-        quiet: request.quiet,
-        json_notes: request.json_notes,
-    });
-    let _ = notes.pi.write(request.pi.as_bytes());
-    if let Some(file) = request.file {
-        let _ = notes.file.write(file.as_bytes());
-    }
     let Some(pi) = identification_of(request.pi) else {
-        notes.end = End::BadPi;
+        report.end = End::BadPi;
         write_fault_text(request.task, b"fault pi", writer);
         return REFUSED;
     };
-    run_task(alloc, request, pi, reader, writer, notes)
+    run_task(alloc, request, pi, reader, writer, report, news)
 }
 
 /// Runs the engine of a command for its programme, and writes the line of its fault.
-fn run_task<R: TellingRead, W: TellingWrite>(
+fn run_task<R: TellingRead, W: TellingWrite, N: News>(
     alloc: Global,
     request: &Request<'_>,
     pi: u16,
     reader: &mut R,
     writer: &mut W,
-    notes: &mut RunNotes,
+    report: &mut Report,
+    news: &mut N,
 ) -> u8
     ensures { TaskRuns request.now.task request.now.lose.now (tuned pi request.now.dwell)
         (reader_over R.remaining R.failures R.reads reader.old reader.new)
@@ -187,17 +184,17 @@ fn run_task<R: TellingRead, W: TellingWrite>(
                 window,
                 says_why,
             };
-            let log = &mut notes.log;
-            let decoded = decode_with_notes(reader, writer, decoding, MOST_READS, log);
-            end_with(asked, decoded, writer, &mut notes.end)
+            let log = &mut report.log;
+            let decoded = decode_with_notes(reader, writer, decoding, MOST_READS, log, news);
+            end_with(asked, decoded, writer, &mut report.end)
         }
         Task::Encode(programme, late) => {
             let playing = Playing {
                 form: Form::Log,
                 config: station_of(pi, dwell, programme, late, ReceiverKind::WithDwell),
             };
-            let encoded = run_script(playing, alloc, reader, writer, notes);
-            end_with(asked, encoded, writer, &mut notes.end)
+            let encoded = run_script(playing, alloc, reader, writer, report);
+            end_with(asked, encoded, writer, &mut report.end)
         }
         Task::Simulate {
             programme,
@@ -207,7 +204,7 @@ fn run_task<R: TellingRead, W: TellingWrite>(
             says_why,
         } => {
             let station = simulated_station(pi, dwell, programme, late, window, flag_alone);
-            simulate(alloc, asked, says_why, station, reader, writer, notes)
+            simulate(alloc, asked, says_why, station, reader, writer, report)
         }
         Task::Audit {
             late,
@@ -221,39 +218,44 @@ fn run_task<R: TellingRead, W: TellingWrite>(
                 start: start_of(running),
                 stop: stop_of(lists_all),
             };
-            match audit_with_notes(reader, writer, auditing, MOST_READS, &mut notes.log) {
-                Ok(passed) => answer_by(passed, OK, NO, &mut notes.end),
-                Err(fault) => fail_with(asked, fault, writer, &mut notes.end),
+            let log = &mut report.log;
+            match audit_with_notes(reader, writer, auditing, MOST_READS, log, news) {
+                Ok(passed) => answer_by(passed, OK, NO, &mut report.end),
+                Err(fault) => fail_with(asked, fault, writer, &mut report.end),
             }
         }
         Task::Slots(grain, only) => {
             let filling = filling_of(pi, dwell, Grain::of_milliseconds(grain), only);
-            match fill_with_notes(reader, writer, filling, &mut notes.slots) {
-                Ok(times) => answer_by(can_count(times), OK, NO, &mut notes.end),
-                Err(fault) => fail_with(asked, fault, writer, &mut notes.end),
+            match fill_with_notes(reader, writer, filling, &mut report.slots, news) {
+                Ok(times) => answer_by(can_count(times), OK, NO, &mut report.end),
+                Err(fault) => fail_with(asked, fault, writer, &mut report.end),
             }
         }
         Task::Witness => {
-            match witness_with_notes(alloc, reader, writer, pi, dwell, &mut notes.log) {
-                Ok(found) => answer_by(found, NO, OK, &mut notes.end),
-                Err(fault) => fail_with(asked, fault, writer, &mut notes.end),
+            let log = &mut report.log;
+            match witness_with_notes(alloc, reader, writer, pi, dwell, log, news) {
+                Ok(found) => answer_by(found, NO, OK, &mut report.end),
+                Err(fault) => fail_with(asked, fault, writer, &mut report.end),
             }
         }
-        Task::Lose { flag_alone } => lose(alloc, request, pi, flag_alone, reader, writer, notes),
+        Task::Lose { flag_alone } => lose(
+            alloc, request, pi, flag_alone, reader, writer, report, news,
+        ),
     }
 }
 
 /// Runs `witness` for a receiver that loses given slots. Refuses a text that does not give them.
 // A function of its own: inside its caller it would change how the loops of the other engines are compiled.
 #[inline(never)]
-fn lose<R: TellingRead, W: TellingWrite>(
+fn lose<R: TellingRead, W: TellingWrite, N: News>(
     alloc: Global,
     request: &Request<'_>,
     pi: u16,
     flag_alone: bool,
     reader: &mut R,
     writer: &mut W,
-    notes: &mut RunNotes,
+    report: &mut Report,
+    news: &mut N,
 ) -> u8
     ensures { LossRuns (bursts_in request.now.lose.now) flag_alone (tuned pi request.now.dwell)
         (reader_over R.remaining R.failures R.reads reader.old reader.new)
@@ -261,10 +263,10 @@ fn lose<R: TellingRead, W: TellingWrite>(
 {
     let task = Task::Lose { flag_alone };
     let Ok(bursts) = bursts_of(alloc, request.lose.as_bytes()) else {
-        return fail_with(task, LogFault::Memory, writer, &mut notes.end);
+        return fail_with(task, LogFault::Memory, writer, &mut report.end);
     };
     let Some(bursts) = bursts else {
-        notes.end = End::BadSpans;
+        report.end = End::BadSpans;
         write_fault_text(task, b"fault lose", writer);
         return REFUSED;
     };
@@ -274,9 +276,9 @@ fn lose<R: TellingRead, W: TellingWrite>(
         ahead: request.dwell,
         lost: bursts.as_slice(),
     };
-    match lose_with_notes(alloc, reader, writer, &losing, &mut notes.log) {
-        Ok(found) => answer_by(found, NO, OK, &mut notes.end),
-        Err(fault) => fail_with(task, fault, writer, &mut notes.end),
+    match lose_with_notes(alloc, reader, writer, &losing, &mut report.log, news) {
+        Ok(found) => answer_by(found, NO, OK, &mut report.end),
+        Err(fault) => fail_with(task, fault, writer, &mut report.end),
     }
 }
 
@@ -296,14 +298,14 @@ fn simulate<R: TellingRead, W: TellingWrite>(
     station: Option<Config>,
     reader: &mut R,
     writer: &mut W,
-    notes: &mut RunNotes,
+    report: &mut Report,
 ) -> u8
     ensures { SimulationRuns says_why station task
         (reader_over R.remaining R.failures R.reads reader.old reader.new)
         (traffic W.contents W.failures writer.old writer.new) result }
 {
     let Some(station) = station else {
-        notes.end = End::BadWindow;
+        report.end = End::BadWindow;
         write_fault_text(task, b"fault confirm", writer);
         return REFUSED;
     };
@@ -312,8 +314,8 @@ fn simulate<R: TellingRead, W: TellingWrite>(
         form,
         config: station,
     };
-    let simulated = run_script(playing, alloc, reader, writer, notes);
-    end_with(task, simulated, writer, &mut notes.end)
+    let simulated = run_script(playing, alloc, reader, writer, report);
+    end_with(task, simulated, writer, &mut report.end)
 }
 
 /// Plays a script.
@@ -322,14 +324,14 @@ fn run_script<R: TellingRead, W: TellingWrite>(
     alloc: Global,
     reader: &mut R,
     writer: &mut W,
-    notes: &mut RunNotes,
+    report: &mut Report,
 ) -> Result<(), LogFault>
     ensures { Plays playing (2 ^ 32)
         (script_in (reader_over R.remaining R.failures R.reads reader.old reader.new))
         (traffic W.contents W.failures writer.old writer.new) result }
 {
-    let notes_on = &mut notes.script;
-    play_script(playing, alloc, reader, writer, MOST_RECORDS, notes_on)
+    let notes = &mut report.script;
+    play_script(playing, alloc, reader, writer, MOST_RECORDS, notes)
 }
 
 /// Returns the station of these options.

@@ -5,8 +5,11 @@ ghost use Rattle.rds_io.specs.Told.{PutsNothing, traffic};
 ghost use Rattle.rds_wasm.specs.Page.{PagePrints, Refuses, words_in};
 
 use crate::slice_reader::SliceReader;
-use rds_io::{TellingWrite, Told};
-use rds_program::{FAULT, REFUSED, RunNotes, Timing, print_notes, run_with_notes, write_no_memory};
+use rds_cli::{Request, read_words, request_in};
+use rds_io::TellingWrite;
+use rds_log::NoNews;
+use rds_notes::{Run, print_notes};
+use rds_program::{FAULT, REFUSED, Report, run_read, write_no_memory};
 use std::alloc::{AllocError, Global};
 
 /// Runs the program over its arguments, one a line, and over the bytes of its input. Writes its notes to `screen`.
@@ -31,14 +34,33 @@ pub fn answer<W: TellingWrite, N: TellingWrite>(
         write_no_memory(writer);
         return FAULT;
     };
-    let words = words.as_slice();
-    let no_screen: Option<Told<Vec<u8>>> = None;
-    let mut given = Timing::new(SliceReader::new(input), no_screen, words);
-    let mut notes = RunNotes::new();
-    let status = run_with_notes(alloc, words, &mut given, writer, &mut notes);
-    notes.times = given.take_times();
-    print_notes(&notes, None, screen);
+    let read = read_words(alloc, words.as_slice());
+    let request = request_in(&read);
+    let mut given = SliceReader::new(input);
+    let mut report = Report::new();
+    let status = run_read(alloc, read, &mut given, writer, &mut report, &mut NoNews);
+    print_report(&request, &report, screen);
     status
+}
+
+/// Prints the notes of a run, if its arguments were a request.
+fn print_report<'a, N: TellingWrite>(
+    request: &'a Option<Request<'a>>,
+    report: &'a Report,
+    screen: &mut N,
+) {
+    let Some(request) = request else {
+        return;
+    };
+    let run = Run {
+        request,
+        end: report.end,
+        log: &report.log,
+        slots: &report.slots,
+        script: &report.script,
+        reason: None,
+    };
+    print_notes(&run, screen);
 }
 
 /// Returns the lines of a text.

@@ -14,7 +14,7 @@ use crate::search::{Found, find};
 use rds_block::Blocks;
 use rds_fields::Dwell;
 use rds_io::{Lines, LogFault, TellingRead, TellingWrite, WriteFault, put};
-use rds_log::{LogNotes, MOST_READS, gather};
+use rds_log::{LogNotes, MOST_READS, News, NoNews, gather};
 use std::alloc::Global;
 
 /// Reads a log of all groups of a station, one slot a line, and looks for a burst of lost slots after which a receiver
@@ -38,23 +38,25 @@ pub fn witness<R: TellingRead, W: TellingWrite>(
         (traffic W.contents W.failures writer.old writer.new) result }
     ensures reads { MadeReads (2 ^ 32) (R.reads reader.old) (R.reads reader.new) result }
 {
-    witness_with_notes(alloc, reader, writer, pi, dwell, &mut LogNotes::new())
+    let (mut notes, mut news) = (LogNotes::new(), NoNews);
+    witness_with_notes(alloc, reader, writer, pi, dwell, &mut notes, &mut news)
 }
 
 /// Does what [`witness`] does, and takes notes for a person. The output and the answer are the same.
-pub fn witness_with_notes<R: TellingRead, W: TellingWrite>(
+pub fn witness_with_notes<R: TellingRead, W: TellingWrite, N: News>(
     alloc: Global,
     reader: &mut R,
     writer: &mut W,
     pi: u16,
     dwell: Dwell,
     notes: &mut LogNotes,
+    news: &mut N,
 ) -> Result<bool, LogFault>
     ensures witnesses { Witnesses (tuned pi dwell) (traffic R.remaining R.failures reader.old reader.new)
         (traffic W.contents W.failures writer.old writer.new) result }
     ensures reads { MadeReads (2 ^ 32) (R.reads reader.old) (R.reads reader.new) result }
 {
-    let log = gather(alloc, reader, pi, MOST_READS, notes)?;
+    let log = gather(alloc, reader, pi, MOST_READS, notes, news)?;
     let Ok(found) = find(alloc, log.as_slice(), pi, dwell) else {
         return Err(LogFault::Memory);
     };

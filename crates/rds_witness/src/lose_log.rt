@@ -21,7 +21,7 @@ use crate::seen::AllSeen;
 use rds_block::Blocks;
 use rds_fields::Dwell;
 use rds_io::{Lines, LogFault, TellingRead, TellingWrite, WriteFault, put};
-use rds_log::{LogNotes, MOST_READS, gather};
+use rds_log::{LogNotes, MOST_READS, News, gather};
 use rds_receiver::{Receiver, StoredReceiver};
 use std::alloc::{AllocError, Global};
 
@@ -43,19 +43,20 @@ pub struct Losing<'a> {
 /// # Errors
 ///
 /// The first fault: a malformed line, a failed read or write, 2^32 reads without an end, or out of memory.
-pub fn lose_with_notes<R: TellingRead, W: TellingWrite>(
+pub fn lose_with_notes<R: TellingRead, W: TellingWrite, N: News>(
     alloc: Global,
     reader: &mut R,
     writer: &mut W,
     losing: &Losing<'_>,
     notes: &mut LogNotes,
+    news: &mut N,
 ) -> Result<bool, LogFault>
     ensures loses { Loses (tuned losing.now.pi losing.now.dwell) losing.now.ahead losing.now.lost.now
         (traffic R.remaining R.failures reader.old reader.new)
         (traffic W.contents W.failures writer.old writer.new) result }
     ensures reads { MadeReads (2 ^ 32) (R.reads reader.old) (R.reads reader.new) result }
 {
-    let log = gather(alloc, reader, losing.pi, MOST_READS, notes)?;
+    let log = gather(alloc, reader, losing.pi, MOST_READS, notes, news)?;
     let Ok(lines) = lines_of(alloc, log.as_slice(), losing) else {
         return Err(LogFault::Memory);
     };

@@ -1,16 +1,20 @@
 //! `rdsrt` encodes, decodes, simulates and audits the text services of RDS.
 //!
-//! The program is the crate `rds_program`. `main` passes it the arguments of the command line, the file that they name
-//! or standard input, and standard output. The contract of `run_over` says what it writes. Notes for a person go to
-//! standard error.
+//! The program is the crate `rds_program`. `main` reads the arguments of the command line once. It passes what they ask
+//! for, the file that they name or standard input, and standard output to `run_read`, whose contract says what it
+//! writes. Notes for a person go to standard error.
 //!
 //! ```text
 //! rdsrt decode --pi C201
 //! ```
 #![tactic(auto)]
 
-use rds_io::Told;
-use rds_program::{file_of, input_of, no_words, output_of, run_over, source_of, texts, words_of};
+use clap::Error;
+use rds_cli::{Request, Task, identification_of, read_words, request_in};
+use rds_io::{Told, put};
+use rds_log::NoNews;
+use rds_notes::{Run, Screen, print_notes, print_refusal};
+use rds_program::{Report, no_words, run_read, source_of, texts, words_of};
 use std::io::{ErrorKind, IsTerminal, Stderr};
 use std::process::ExitCode;
 
@@ -23,31 +27,84 @@ fn main(rt: HostRuntime) -> ExitCode {
         }
     };
     let status = match texts(rt.alloc(), words.as_slice()) {
-        Ok(words) => run(&rt, words.as_slice()),
+        Ok(words) => run(&rt, read_words(rt.alloc(), words.as_slice())),
         Err(_) => no_words(true, rt.stdout(), rt.stderr()),
     };
     ExitCode::from(status)
 }
 
-/// Runs the program over its arguments, the file that they name and the standard streams.
-fn run(rt: &HostRuntime, words: &[&str]) -> u8 {
-    let Ok(file) = file_of(rt.alloc(), words) else {
-        return no_words(true, rt.stdout(), rt.stderr());
-    };
-    let types = file.is_none() && rt.stdin().is_terminal();
-    let source = source_of(rt, rt.stdin(), file);
-    let mut input = input_of(source, types, words, notes(rt), notes(rt));
-    let mut output = output_of(rt.stdout(), words, notes(rt));
-    // A terminal shows the reason for refused arguments already: it is standard output.
-    let explains = !rt.stdout().is_terminal();
-    run_over(
+/// Runs the program, given the result of reading its arguments.
+fn run(rt: &HostRuntime, read: Result<Option<Request<'_>>, Error>) -> u8 {
+    let request = request_in(&read);
+    match &request {
+        Some(request) => run_request(rt, read, request),
+        None => refuse(rt, read),
+    }
+}
+
+/// Runs the program over a request, the file that it names or standard input, and standard output.
+fn run_request<'a>(
+    rt: &HostRuntime,
+    read: Result<Option<Request<'_>>, Error>,
+    request: &'a Request<'a>,
+) -> u8 {
+    let mut screen = notes(rt);
+    prompt(rt, request, &mut screen);
+    let mut input = Told::new(source_of(rt, rt.stdin(), request.file));
+    let mut output = Told::new(rt.stdout());
+    let mut report = Report::new();
+    let mut news = Screen::new(request, notes(rt));
+    let status = run_read(
         rt.alloc(),
-        words,
+        read,
         &mut input,
         &mut output,
-        explains,
-        &mut notes(rt),
+        &mut report,
+        &mut news,
+    );
+    let run = Run {
+        request,
+        end: report.end,
+        log: &report.log,
+        slots: &report.slots,
+        script: &report.script,
+        reason: output.reason().or(input.reason()),
+    };
+    print_notes(&run, &mut screen);
+    status
+}
+
+/// Prints help, or why the arguments are refused.
+fn refuse(rt: &HostRuntime, read: Result<Option<Request<'_>>, Error>) -> u8 {
+    // A terminal shows the reason already: it is standard output.
+    if let Err(error) = &read
+        && !rt.stdout().is_terminal()
+    {
+        print_refusal(error, &mut notes(rt));
+    }
+    run_read(
+        rt.alloc(),
+        read,
+        &mut Told::new(rt.stdin()),
+        &mut Told::new(rt.stdout()),
+        &mut Report::new(),
+        &mut NoNews,
     )
+}
+
+/// Prints a line for a person who types the input.
+fn prompt(rt: &HostRuntime, request: &Request<'_>, screen: &mut Told<Stderr>) {
+    let types = request.file.is_none() && rt.stdin().is_terminal();
+    if request.quiet || !types || identification_of(request.pi).is_none() {
+        return;
+    }
+    let line: &[u8] = match request.task {
+        Task::Encode(..) | Task::Simulate { .. } => {
+            b"rdsrt: reading a script from the terminal; Ctrl-D ends it\n"
+        }
+        _ => b"rdsrt: reading a log from the terminal; Ctrl-D ends it\n",
+    };
+    let _ = put(line, screen);
 }
 
 /// Returns standard error, for notes.

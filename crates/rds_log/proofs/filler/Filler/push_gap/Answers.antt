@@ -52,7 +52,7 @@ returns-in-Err-clause-told g c =
     let s = c.args.self.now in
     let (gap, is) = gap_across s.filling c.args.is_group c.in-Some.stretch.last s.told c.args.time c.in-Err.why
     c.in-Err.ensures.lost in
-    c.push_more-in-Err.ensures.told ∙ ap (λ (n : ℕ). max s.told n) (c.from-in-Err.ensures ∙ c.get.ensures.value
+    c.push_more-in-Err.ensures.told ∙ ap (λ (n : ℕ). max s.told n) (c.from.ensures ∙ c.get.ensures.value
     ∙ sym is) ∙ sym (ap (λ (o : Option Stretch). told_after s.filling (option_map (λ s. s.last) o) s.told
     c.args.time) c.in-Some.is)
 
@@ -63,8 +63,8 @@ returns-in-Err-clause-pushed g c start total has =
     c.in-Err.ensures.lost in
     let all = ap (λ (o : Option Stretch). gap_lines s.filling c.args.is_group (option_map (λ s. s.last) o) s.told
     c.args.time) c.in-Some.is ∙ gap ∙ ap (λ (n : ℕ). more_lines (cond c.args.is_group (Some c.in-Err.why) None)
-    s.told n) (sym (c.from-in-Err.ensures ∙ c.get.ensures.value))
-    ∙ ap (λ (o : Option Break). more_lines o s.told c.from-in-Err.result)
+    s.told n) (sym (c.from.ensures ∙ c.get.ensures.value))
+    ∙ ap (λ (o : Option Break). more_lines o s.told c.from.result)
     (sym (c.then_some-told.ensures ∙ chosen c.args.is_group c.in-Err.why)) in
     same_pushed _ _ c.push_more-in-Err.result _ _ (sym (ap (λ (l : List ℕ). total ++ l) all))
     (c.push_more-in-Err.ensures.pushed start total has)

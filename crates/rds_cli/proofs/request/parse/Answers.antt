@@ -9,7 +9,7 @@ use Rattle.rds_cli.specs.CommandLine.{audit_app, asked_of, decode_app, is_shown,
 use Rattle.rds_cli.specs.CommandLine.{sim_app, slots_app, station_app, timed_app, witness_app}
 use Rattle.rds_cli.proofs.ErrorKinds.{answered_by}
 use Rattle.rds_cli.proofs.Taken.{taken}
-use Rattle.rds_cli.proofs.request.read_words.Goals as goal
+use Rattle.rds_cli.proofs.request.parse.Goals as goal
 
 pub returns-in-Err-clause-err : goal.returns-in-Err-clause-err
 returns-in-Err-clause-err c = λ h. c.in-Err.ensures.passes

@@ -6,15 +6,16 @@ use crate::note_lines::{BEGUN, Line, push};
 use rds_arrivals::Break;
 use rds_audit::AuditFault;
 use rds_encoder::Refusal;
-use rds_log::{FaultCount, FaultPlace, LogFault, NoNote, SegmentCause, fault_name};
+use rds_io::LogFault;
+use rds_log::{FaultCount, FaultPlace, NoNote, SegmentCause, fault_name};
 use rds_script::{EarlySet, Thing};
 use std::io::Write;
 
 /// Appends the object of a note with this sentence.
-pub(crate) fn push_object(note: Note, sentence: &[u8], line: &mut Line) {
+pub(crate) fn push_object(note: Note<'_>, sentence: &[u8], line: &mut Line) {
     match note {
         Note::SetTooEarly(wait) => push_wait(wait, line),
-        Note::BrokenRule(no) => push_no(no, line),
+        Note::BrokenRule(no, _) => push_no(no, line),
         Note::Found(of, judged, count) => push_found(of, judged, count, line),
         Note::Lacking(lack) => {
             push_kind("lack", line);
@@ -23,7 +24,7 @@ pub(crate) fn push_object(note: Note, sentence: &[u8], line: &mut Line) {
             push_flag("start", lack.is_of_start, line);
         }
         Note::Untimed(groups) => push_one("untimed", "groups", groups, line),
-        Note::OthersLeftOut(lines) => push_one("others", "lines", lines, line),
+        Note::OthersLeftOut(lines, _) => push_one("others", "lines", lines, line),
         Note::Coarse(coarse) => {
             push_kind("coarse", line);
             push_number("slots", coarse.slots, line);
@@ -48,7 +49,7 @@ pub(crate) fn push_object(note: Note, sentence: &[u8], line: &mut Line) {
             push_number("groups", other.of_first, line);
             push_number("others", other.others, line);
         }
-        Note::NothingToRead(short) => push_one("nothing", "short", short, line),
+        Note::NothingToRead(short, _) => push_one("nothing", "short", short, line),
         Note::Judged(judged) => {
             push_kind("judged", line);
             push_number("slots", judged.slots, line);
@@ -58,16 +59,16 @@ pub(crate) fn push_object(note: Note, sentence: &[u8], line: &mut Line) {
             push_number("tags", judged.tags, line);
             push_number("short", judged.short, line);
         }
-        Note::Few(groups, slots) => {
+        Note::Few(groups, slots, _) => {
             push_kind("few", line);
             push_number("groups", groups, line);
             push_number("slots", slots, line);
         }
         Note::ShortTexts(short) => push_one("short", "groups", short, line),
-        Note::BadPi => push_fault("pi", line),
+        Note::BadPi(_) => push_fault("pi", line),
         Note::BadWindow => push_fault("confirm", line),
         Note::BadSpans => push_fault("lose", line),
-        Note::Fault(fault) => push_log_fault(fault, line),
+        Note::Fault(fault, _) => push_log_fault(fault, line),
     }
     push_text(
         "text",

@@ -1,19 +1,23 @@
 //! The sentences of notes.
 
 use crate::fault_lines::{push_found, push_no};
-use crate::note::{CoarseTimes, Judged, Note, OtherGroups};
-use crate::notes::RunNotes;
-use crate::times::Lack;
+use crate::note::{CoarseTimes, Judged, Note, OtherGroups, Run};
 use arrayvec::ArrayVec;
 use rds_arrivals::Break;
-use rds_cli::Task;
+use rds_cli::{Request, Task};
 use rds_encoder::Refusal;
-use rds_log::{BadStart, LogFault, comment_of};
+use rds_io::LogFault;
+use rds_log::{BadStart, Lack, comment_of};
 use rds_script::{EarlySet, Thing};
-use std::io::{self, Write};
+use std::io::Write;
 
 /// The most bytes of a note. All notes are shorter.
 const ROOM: usize = 2048;
+
+/// The most bytes of a PI code, and of the name of a file, that a note shows.
+const PI_ROOM: usize = 60;
+
+const FILE_ROOM: usize = 256;
 
 /// The beginning of a note.
 pub(crate) const BEGUN: &[u8] = b"rdsrt: ";
@@ -21,46 +25,37 @@ pub(crate) const BEGUN: &[u8] = b"rdsrt: ";
 /// The bytes of an unfinished note.
 pub(crate) type Line = ArrayVec<u8, ROOM>;
 
-/// Appends the sentence of a note. `reason` is the system's error of a failed read or write.
-pub(crate) fn push_note(note: Note, run: &RunNotes, reason: Option<&io::Error>, line: &mut Line) {
+/// Appends the sentence of a note.
+pub(crate) fn push_note(note: Note<'_>, line: &mut Line) {
     match note {
         Note::SetTooEarly(wait) => push_wait(wait, line),
-        Note::BrokenRule(no) => push_no(no, run, line),
+        Note::BrokenRule(no, request) => push_no(no, request, line),
         Note::Found(of, judged, count) => push_found(of, judged, count, line),
         Note::Lacking(lack) => push_lack(lack, line),
         Note::Untimed(groups) => push_untimed(groups, line),
-        Note::OthersLeftOut(lines) => push_others(lines, run, line),
+        Note::OthersLeftOut(lines, pi) => push_others(lines, pi, line),
         Note::Coarse(coarse) => push_coarse(coarse, line),
         Note::Breaks(count) => push_breaks(count, line),
         Note::Break(why) => push_break(why, line),
-        Note::NoGroup(other) => push_no_group(other, run, line),
-        Note::NothingToRead(short) => push_nothing(short, run, line),
+        Note::NoGroup(other) => push_no_group(other, line),
+        Note::NothingToRead(short, request) => push_nothing(short, request, line),
         Note::Judged(judged) => push_judged(judged, line),
-        Note::Few(groups, slots) => push_few(groups, slots, run, line),
+        Note::Few(groups, slots, pi) => push_few(groups, slots, pi, line),
         Note::ShortTexts(short) => push_short(short, "", "read", line),
-        Note::BadPi => push_pi(run.pi.as_slice(), line),
+        Note::BadPi(pi) => push_pi(pi, line),
         Note::BadWindow => push_window(line),
         Note::BadSpans => push_spans(line),
-        Note::Fault(fault) => push_fault(fault, run, reason, line),
-    }
-}
-
-/// Returns the command of a run.
-fn task_of(run: &RunNotes) -> Option<Task> {
-    match run.options {
-        Some(options) => Some(options.task),
-        None => None,
+        Note::Fault(fault, run) => push_fault(fault, run, line),
     }
 }
 
 /// Appends that the programme has no group of a text, a name or tags.
-fn push_nothing(short: u64, run: &RunNotes, line: &mut Line) {
-    let _ = write!(line, "no 2A, 10A or 11A group of ");
-    push(run.pi.as_slice(), line);
-    let _ = write!(line, "{}", nothing_said(run));
-    let verb = match task_of(run) {
-        Some(Task::Audit { .. }) => "judged",
-        Some(_) | None => "read",
+fn push_nothing(short: u64, request: &Request<'_>, line: &mut Line) {
+    let said = nothing_said(request);
+    let _ = write!(line, "no 2A, 10A or 11A group of {}{said}", request.pi);
+    let verb = match request.task {
+        Task::Audit { .. } => "judged",
+        _ => "read",
     };
     push_short(short, "; ", verb, line);
 }
@@ -93,14 +88,12 @@ fn push_judged(judged: Judged, line: &mut Line) {
 }
 
 /// Appends that a log with times has a group of the programme in few of its slots.
-fn push_few(groups: u64, slots: u64, run: &RunNotes, line: &mut Line) {
+fn push_few(groups: u64, slots: u64, pi: &str, line: &mut Line) {
     let _ = write!(line, "{groups} of ");
     push_count(slots, "slot has", "slots have", line);
-    let _ = write!(line, " a group of ");
-    push(run.pi.as_slice(), line);
     let _ = write!(
         line,
-        ", less than nine tenths: the yes says nothing of what was sent in the others"
+        " a group of {pi}, less than nine tenths: the yes says nothing of what was sent in the others"
     );
 }
 
@@ -111,12 +104,12 @@ pub(crate) fn push_count(count: u64, one: &str, more: &str, line: &mut Line) {
 }
 
 /// Returns the end of a note on a log with nothing to read: what the answer is worth.
-fn nothing_said(run: &RunNotes) -> &'static str {
-    match task_of(run) {
-        Some(Task::Audit { .. }) => ": the yes says nothing",
-        Some(Task::Witness) => ": the search says nothing",
-        Some(Task::Lose { .. }) => ": the answer says nothing",
-        Some(_) | None => "",
+fn nothing_said(request: &Request<'_>) -> &'static str {
+    match request.task {
+        Task::Audit { .. } => ": the yes says nothing",
+        Task::Witness => ": the search says nothing",
+        Task::Lose { .. } => ": the answer says nothing",
+        _ => "",
     }
 }
 
@@ -151,10 +144,9 @@ fn push_wait(wait: EarlySet, line: &mut Line) {
 }
 
 /// Appends that the log has no group of the wanted programme, and which programmes it has.
-fn push_no_group(other: OtherGroups, run: &RunNotes, line: &mut Line) {
-    let _ = write!(line, "no group of ");
-    push(run.pi.as_slice(), line);
-    let _ = write!(line, " in ");
+fn push_no_group(other: OtherGroups<'_>, line: &mut Line) {
+    let request = other.request;
+    let _ = write!(line, "no group of {} in ", request.pi);
     push_count(other.slots, "slot", "slots", line);
     let (count, others) = (other.of_first, other.others);
     if let Some(first) = other.first {
@@ -164,11 +156,11 @@ fn push_no_group(other: OtherGroups, run: &RunNotes, line: &mut Line) {
         }
         let _ = write!(line, ")");
     }
-    let _ = write!(line, "{}", nothing_said(run));
+    let _ = write!(line, "{}", nothing_said(request));
 }
 
 /// Appends that a log, or its start, spans more slots by its times than it has lines.
-fn push_lack(lack: Lack, line: &mut Line) {
+pub(crate) fn push_lack(lack: Lack, line: &mut Line) {
     let (slots, lines) = (lack.slots, lack.lines);
     if lack.is_of_start {
         let _ = write!(line, "the first ");
@@ -182,7 +174,7 @@ fn push_lack(lack: Lack, line: &mut Line) {
 }
 
 /// Appends that nobody knows how many slots were lost at a break of a log, and why.
-fn push_break(why: Break, line: &mut Line) {
+pub(crate) fn push_break(why: Break, line: &mut Line) {
     let comment = comment_of(why);
     push(comment.strip_prefix(b"# ").unwrap_or(comment), line);
     let _ = write!(
@@ -192,14 +184,14 @@ fn push_break(why: Break, line: &mut Line) {
 }
 
 /// Appends how many lines of other programmes were left out.
-fn push_others(others: u64, run: &RunNotes, line: &mut Line) {
+fn push_others(others: u64, pi: &str, line: &mut Line) {
     push_count(
         others,
         "line of another programme than ",
         "lines of other programmes than ",
         line,
     );
-    push(run.pi.as_slice(), line);
+    push(pi.as_bytes(), line);
     push_left_out(others, line);
 }
 
@@ -257,9 +249,9 @@ fn push_coarse(coarse: CoarseTimes, line: &mut Line) {
 }
 
 /// Appends why a PI code was refused.
-fn push_pi(given: &[u8], line: &mut Line) {
+fn push_pi(given: &str, line: &mut Line) {
     let _ = write!(line, "fault pi: --pi ");
-    push_shown(given, line);
+    push_shown(front(given, PI_ROOM), line);
     let _ = write!(
         line,
         ": a PI code has four hexadecimal digits and no 0x, for example C201"
@@ -284,14 +276,14 @@ fn push_spans(line: &mut Line) {
 }
 
 /// Appends a fault of the log or script, of the input or of the output.
-fn push_fault(fault: LogFault, run: &RunNotes, reason: Option<&io::Error>, line: &mut Line) {
+fn push_fault(fault: LogFault, run: &Run<'_>, line: &mut Line) {
     match fault {
         LogFault::BadLine(number) => push_bad_line(number, bad_of(run), line),
         LogFault::BadRow(number) => push_bad_row(number, run, line),
-        LogFault::Read => push_unread(run, reason, line),
+        LogFault::Read => push_unread(run, line),
         LogFault::Write => {
             let _ = write!(line, "writing standard output failed");
-            push_reason(reason, line);
+            push_reason(run, line);
         }
         LogFault::TooLong => push_too_long(run, line),
         LogFault::Memory => push_no_memory(run, line),
@@ -299,35 +291,33 @@ fn push_fault(fault: LogFault, run: &RunNotes, reason: Option<&io::Error>, line:
 }
 
 /// Returns the note on the malformed line.
-fn bad_of(run: &RunNotes) -> &Option<BadStart> {
-    if run.slots.bad.is_some() {
-        return &run.slots.bad;
+fn bad_of<'a>(run: &Run<'a>) -> &'a Option<BadStart> {
+    if run.slots.read.bad.is_some() {
+        return &run.slots.read.bad;
     }
-    &run.log.bad
+    &run.log.read.bad
 }
 
 /// Appends that a read failed, of what, and why.
-fn push_unread(run: &RunNotes, reason: Option<&io::Error>, line: &mut Line) {
+fn push_unread(run: &Run<'_>, line: &mut Line) {
     let _ = write!(line, "fault read: reading ");
-    let name = run.file.as_slice();
-    if name.is_empty() {
-        let _ = write!(line, "standard input");
-    } else {
-        push_shown(name, line);
+    match run.request.file {
+        Some(name) => push_shown(front(name, FILE_ROOM), line),
+        None => push(b"standard input", line),
     }
     let _ = write!(line, " failed");
-    push_reason(reason, line);
+    push_reason(run, line);
 }
 
 /// Appends the system's reason of a failure.
-fn push_reason(reason: Option<&io::Error>, line: &mut Line) {
-    if let Some(error) = reason {
+fn push_reason(run: &Run<'_>, line: &mut Line) {
+    if let Some(error) = run.reason {
         let _ = write!(line, ": {error}");
     }
 }
 
 /// Appends that memory is out, and for a script what else it may be.
-fn push_no_memory(run: &RunNotes, line: &mut Line) {
+fn push_no_memory(run: &Run<'_>, line: &mut Line) {
     let _ = write!(line, "fault memory: out of memory");
     if reads_script(run) {
         let _ = write!(
@@ -338,7 +328,7 @@ fn push_no_memory(run: &RunNotes, line: &mut Line) {
 }
 
 /// Appends that the input is too long.
-fn push_too_long(run: &RunNotes, line: &mut Line) {
+fn push_too_long(run: &Run<'_>, line: &mut Line) {
     let unit = if reads_script(run) { "rows" } else { "reads" };
     let _ = write!(
         line,
@@ -359,11 +349,17 @@ fn push_bad_line(number: u64, bad: &Option<BadStart>, line: &mut Line) {
 }
 
 /// Appends which row is bad, and why.
-fn push_bad_row(number: u64, run: &RunNotes, line: &mut Line) {
+fn push_bad_row(number: u64, run: &Run<'_>, line: &mut Line) {
     let _ = write!(line, "fault row {number}");
     if let Some(bad) = &run.script.bad {
         let _ = write!(line, " (line {}): {}", bad.line, bad.cause);
     }
+}
+
+/// Returns the first bytes of an argument.
+fn front(text: &str, most: usize) -> &[u8] {
+    let bytes = text.as_bytes();
+    &bytes[..bytes.len().min(most)]
 }
 
 /// Appends bytes unchanged.
@@ -385,8 +381,8 @@ pub(crate) fn push_shown(bytes: &[u8], line: &mut Line) {
 }
 
 /// Returns whether the command reads a script instead of a log.
-fn reads_script(run: &RunNotes) -> bool {
-    matches!(task_of(run), Some(Task::Encode(..) | Task::Simulate { .. }))
+fn reads_script(run: &Run<'_>) -> bool {
+    matches!(run.request.task, Task::Encode(..) | Task::Simulate { .. })
 }
 
 /// Returns the beginning of a note.

@@ -1,13 +1,13 @@
-//! The notes of a run, as values. No contract speaks of notes: tests compare them.
+//! The notes of a run, as values.
 
-use crate::notes::{End, RunNotes};
-use crate::times::Lack;
 use arrayvec::ArrayVec;
 use rds_arrivals::{Break, Grain};
-use rds_cli::Task;
-use rds_fields::{Dwell, RTPLUS_CODE};
-use rds_log::{FaultCount, Gap, GroupCounts, LogFault, NoNote};
-use rds_script::EarlySet;
+use rds_cli::{End, Request, Task};
+use rds_fields::RTPLUS_CODE;
+use rds_io::LogFault;
+use rds_log::{FaultCount, Gap, GroupCounts, Lack, LogNotes, NoNote, SlotNotes};
+use rds_script::{EarlySet, ScriptNotes};
+use std::io::{self, ErrorKind};
 
 /// The most notes of a run: one for each kind of fault of a text, of a name and of tags before the first text, and at
 /// most ten others.
@@ -21,6 +21,31 @@ const SHORT_TEXT_GROUPS: u8 = 5;
 
 /// The group type 10A: the programme type name.
 const NAME_GROUPS: u8 = 20;
+
+/// What a run met (this project's own rule).
+#[derive(Clone, Copy)]
+pub struct Run<'a> {
+    pub request: &'a Request<'a>,
+    pub end: End,
+    /// Notes on the log of `decode`, `audit` and `witness`.
+    pub log: &'a LogNotes,
+    /// Notes on the log of `slots`.
+    pub slots: &'a SlotNotes,
+    /// Notes on the script of `encode` and `sim`.
+    pub script: &'a ScriptNotes,
+    /// The system's error of a failed read or write.
+    pub reason: Option<&'a io::Error>,
+}
+
+impl Run<'_> {
+    /// Returns whether the reader of a pipe has gone.
+    fn is_gone(&self) -> bool {
+        match self.reason {
+            Some(error) => error.kind() == ErrorKind::BrokenPipe,
+            None => false,
+        }
+    }
+}
 
 /// Tells whose fault it is.
 #[derive(Clone, Copy)]
@@ -47,7 +72,8 @@ pub(crate) struct Judged {
 
 /// Which programmes a log has, if it has none of the wanted one.
 #[derive(Clone, Copy)]
-pub(crate) struct OtherGroups {
+pub(crate) struct OtherGroups<'a> {
+    pub(crate) request: &'a Request<'a>,
     pub(crate) slots: u64,
     /// The programme of the first group.
     pub(crate) first: Option<u16>,
@@ -68,22 +94,22 @@ pub(crate) struct CoarseTimes {
     pub(crate) misfit: Option<u64>,
 }
 
-/// A note of a run, for a person or for a program: its sentence and its object are made from this value (this
+/// A note of a run, for a person or for a program: its sentence and its object are made from this value alone (this
 /// project's own rule).
 #[derive(Clone, Copy, Default)]
-pub(crate) enum Note {
+pub(crate) enum Note<'a> {
     /// The first thing that was set too early.
     SetTooEarly(EarlySet),
     /// The rule that a log breaks first.
-    BrokenRule(NoNote),
+    BrokenRule(NoNote, &'a Request<'a>),
     /// How often a fault came, of so many texts or names.
     Found(FaultOf, u64, FaultCount),
     /// A log has fewer lines than slots by its times.
     Lacking(Lack),
     /// So many groups without a time were left out.
     Untimed(u64),
-    /// So many lines of other programmes were left out.
-    OthersLeftOut(u64),
+    /// So many lines of other programmes than this one were left out.
+    OthersLeftOut(u64, &'a str),
     /// The times of a log vary by more than the grain.
     Coarse(CoarseTimes),
     /// How often nobody knows how many slots were lost.
@@ -91,65 +117,61 @@ pub(crate) enum Note {
     /// Nobody knows how many slots were lost at this break, which `slots` just met.
     Break(Break),
     /// The log has no group of the programme.
-    NoGroup(OtherGroups),
+    NoGroup(OtherGroups<'a>),
     /// The programme has no group of a text, a name or tags, and so many groups 2B.
-    NothingToRead(u64),
+    NothingToRead(u64, &'a Request<'a>),
     /// What was judged.
     Judged(Judged),
     /// A log with times has a group of the programme in fewer than nine tenths of its slots: so many of so many.
-    Few(u64, u64),
+    Few(u64, u64, &'a str),
     /// So many groups 2B were not read.
     ShortTexts(u64),
-    /// Why the PI code was refused.
-    #[default]
-    BadPi,
+    /// Why this PI code was refused.
+    BadPi(&'a str),
     /// Why the window of `sim` was refused.
+    #[default]
     BadWindow,
     /// Why the slots to lose were refused.
     BadSpans,
     /// The fault at which the run stopped.
-    Fault(LogFault),
+    Fault(LogFault, &'a Run<'a>),
 }
 
 /// The notes of a run, in the order in which they are printed.
-pub(crate) type Notes = ArrayVec<Note, MOST_NOTES>;
+pub(crate) type Notes<'a> = ArrayVec<Note<'a>, MOST_NOTES>;
 
-/// Returns the notes of a run. `is_gone` says that nobody reads its output any more: then no fault is noted. Without a
-/// command nothing is noted, and with `--quiet` only why it stopped.
-pub(crate) fn notes_of(run: &RunNotes, is_gone: bool) -> Notes {
+/// Returns the notes of a run: with `--quiet` only why it stopped.
+pub(crate) fn notes_of<'a>(run: &'a Run<'a>) -> Notes<'a> {
     let mut notes = Notes::new();
-    let Some(options) = run.options else {
-        return notes;
-    };
-    if !options.quiet {
+    if !run.request.quiet {
         note_script(run, &mut notes);
         note_faults(run, &mut notes);
-        note_slots(run, options.task, options.dwell, &mut notes);
-        note_groups(run, options.task, &mut notes);
+        note_slots(run, &mut notes);
+        note_groups(run, &mut notes);
     }
-    if let Some(note) = end_note(run.end, is_gone) {
+    if let Some(note) = end_note(run) {
         add(note, &mut notes);
     }
     notes
 }
 
 /// Adds a note.
-fn add(note: Note, notes: &mut Notes) {
+fn add<'a>(note: Note<'a>, notes: &mut Notes<'a>) {
     let _ = notes.try_push(note);
 }
 
 /// Notes what was set too early.
-fn note_script(run: &RunNotes, notes: &mut Notes) {
+fn note_script<'a>(run: &'a Run<'a>, notes: &mut Notes<'a>) {
     if let Some(wait) = run.script.wait {
         add(Note::SetTooEarly(wait), notes);
     }
 }
 
 /// Notes the faults of a log, and that it lacks slots. After a failed write they were not all taken.
-fn note_faults(run: &RunNotes, notes: &mut Notes) {
+fn note_faults<'a>(run: &'a Run<'a>, notes: &mut Notes<'a>) {
     let log = &run.log;
     if let Some(no) = log.no {
-        add(Note::BrokenRule(no), notes);
+        add(Note::BrokenRule(no, run.request), notes);
     }
     if !matches!(run.end, End::Fault(LogFault::Write)) {
         note_counts(FaultOf::Before, 0, log.faults.before.counts, notes);
@@ -162,7 +184,7 @@ fn note_faults(run: &RunNotes, notes: &mut Notes) {
 }
 
 /// Notes how often each fault came, of so many texts or names.
-fn note_counts(of: FaultOf, judged: u64, counts: [Option<FaultCount>; 5], notes: &mut Notes) {
+fn note_counts(of: FaultOf, judged: u64, counts: [Option<FaultCount>; 5], notes: &mut Notes<'_>) {
     for count in counts {
         if let Some(count) = count {
             add(Note::Found(of, judged, count), notes);
@@ -171,30 +193,30 @@ fn note_counts(of: FaultOf, judged: u64, counts: [Option<FaultCount>; 5], notes:
 }
 
 /// Notes what `slots` left out, and what it could not count.
-fn note_slots(run: &RunNotes, task: Task, dwell: Dwell, notes: &mut Notes) {
+fn note_slots<'a>(run: &'a Run<'a>, notes: &mut Notes<'a>) {
     let counts = run.slots.counts;
     if counts.untimed > 0 {
         add(Note::Untimed(counts.untimed), notes);
     }
     if counts.others > 0 {
-        add(Note::OthersLeftOut(counts.others), notes);
+        add(Note::OthersLeftOut(counts.others, run.request.pi), notes);
     }
-    if let Some(coarse) = coarse_times(task, dwell, run) {
+    if let Some(coarse) = coarse_times(run) {
         add(Note::Coarse(coarse), notes);
     }
-    if counts.breaks > 0 {
-        add(Note::Breaks(counts.breaks), notes);
+    if counts.breaks() > 0 {
+        add(Note::Breaks(counts.breaks()), notes);
     }
 }
 
 /// Returns why the times of a log are too coarse.
-fn coarse_times(task: Task, dwell: Dwell, run: &RunNotes) -> Option<CoarseTimes> {
+fn coarse_times(run: &Run<'_>) -> Option<CoarseTimes> {
     let stretch = run.slots.coarse?;
-    let Task::Slots(grain, _) = task else {
+    let Task::Slots(grain, _) = run.request.task else {
         return None;
     };
     let gap = run.slots.counts.gap;
-    let is_long = gap.lost > u32::from(dwell.get());
+    let is_long = gap.lost > u32::from(run.request.dwell.get());
     Some(CoarseTimes {
         slots: stretch.slots,
         room: stretch.room(Grain::of_milliseconds(grain)),
@@ -204,8 +226,8 @@ fn coarse_times(task: Task, dwell: Dwell, run: &RunNotes) -> Option<CoarseTimes>
 }
 
 /// Notes what a command read of its programme, if it read a log to its end and the audit did not stop at a fault.
-fn note_groups(run: &RunNotes, task: Task, notes: &mut Notes) {
-    let judges = match task {
+fn note_groups<'a>(run: &'a Run<'a>, notes: &mut Notes<'a>) {
+    let judges = match run.request.task {
         Task::Decode { .. } | Task::Witness | Task::Lose { .. } => false,
         Task::Audit { .. } => true,
         Task::Encode(..) | Task::Simulate { .. } | Task::Slots(..) => return,
@@ -218,6 +240,7 @@ fn note_groups(run: &RunNotes, task: Task, notes: &mut Notes) {
     if !heard.wanted {
         add(
             Note::NoGroup(OtherGroups {
+                request: run.request,
                 slots: run.log.slots,
                 first: heard.first,
                 of_first: heard.of_first,
@@ -226,7 +249,7 @@ fn note_groups(run: &RunNotes, task: Task, notes: &mut Notes) {
             notes,
         );
     } else if reads_nothing(&heard.counts) {
-        add(Note::NothingToRead(short), notes);
+        add(Note::NothingToRead(short, run.request), notes);
     } else if judges {
         note_judged(run, short, notes);
     } else if short > 0 {
@@ -235,7 +258,7 @@ fn note_groups(run: &RunNotes, task: Task, notes: &mut Notes) {
 }
 
 /// Notes what an audit judged, and whether much of the log is missing.
-fn note_judged(run: &RunNotes, short: u64, notes: &mut Notes) {
+fn note_judged<'a>(run: &'a Run<'a>, short: u64, notes: &mut Notes<'a>) {
     let log = &run.log;
     let groups = log.heard.counts.total();
     add(
@@ -249,12 +272,8 @@ fn note_judged(run: &RunNotes, short: u64, notes: &mut Notes) {
         }),
         notes,
     );
-    let has_times = match &run.times {
-        Some(times) => times.has_times(),
-        None => false,
-    };
-    if has_times && groups.saturating_mul(10) < log.slots.saturating_mul(9) {
-        add(Note::Few(groups, log.slots), notes);
+    if log.read.times.has_times() && groups.saturating_mul(10) < log.slots.saturating_mul(9) {
+        add(Note::Few(groups, log.slots, run.request.pi), notes);
     }
 }
 
@@ -263,25 +282,25 @@ fn reads_nothing(counts: &GroupCounts) -> bool {
     counts.of(TEXT_GROUPS) == 0 && counts.of(NAME_GROUPS) == 0 && counts.of(RTPLUS_CODE) == 0
 }
 
-/// Returns by how much a log has too few lines for its times. After a no the first lines decide: the log was not read
-/// to its end.
-fn lack_of(run: &RunNotes) -> Option<Lack> {
-    let times = run.times.as_ref()?;
+/// Returns by how much a log has too few lines for its times. After a no the lines up to it decide: the log was not
+/// read to its end.
+fn lack_of(run: &Run<'_>) -> Option<Lack> {
+    let times = run.log.read.times;
     match run.end {
         End::Done if run.log.no.is_none() => times.lack(run.log.slots),
-        End::Done => times.early_lack(),
+        End::Done => times.lack_so_far(),
         End::NotRun | End::BadPi | End::BadWindow | End::BadSpans | End::Fault(_) => None,
     }
 }
 
-/// Returns the note on why a run stopped.
-fn end_note(end: End, is_gone: bool) -> Option<Note> {
-    match end {
+/// Returns the note on why a run stopped. If nobody reads its output any more, no fault is noted.
+fn end_note<'a>(run: &'a Run<'a>) -> Option<Note<'a>> {
+    match run.end {
         End::NotRun | End::Done => None,
-        End::BadPi => Some(Note::BadPi),
+        End::BadPi => Some(Note::BadPi(run.request.pi)),
         End::BadWindow => Some(Note::BadWindow),
         End::BadSpans => Some(Note::BadSpans),
-        End::Fault(_) if is_gone => None,
-        End::Fault(fault) => Some(Note::Fault(fault)),
+        End::Fault(_) if run.is_gone() => None,
+        End::Fault(fault) => Some(Note::Fault(fault, run)),
     }
 }

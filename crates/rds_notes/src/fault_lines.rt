@@ -2,12 +2,13 @@
 
 use crate::note::FaultOf;
 use crate::note_lines::{Line, push, push_count};
-use crate::notes::RunNotes;
 use rds_audit::AuditFault;
-use rds_cli::Task;
-use rds_fields::Dwell;
+use rds_cli::{Request, Task};
 use rds_log::{FaultCount, FaultPlace, NoNote, SegmentCause, fault_name};
 use std::io::Write;
+
+/// A longer name of a file is not repeated in a command.
+const LONGEST: usize = 256;
 
 /// Appends how often a fault came, of so many texts or names, and where it came first and last.
 pub(crate) fn push_found(of: FaultOf, judged: u64, count: FaultCount, line: &mut Line) {
@@ -50,22 +51,19 @@ fn push_place(place: FaultPlace, line: &mut Line) {
 }
 
 /// Appends which rule the log breaks first, and what to try next.
-pub(crate) fn push_no(no: NoNote, run: &RunNotes, line: &mut Line) {
-    let Some(options) = run.options else {
-        return;
-    };
+pub(crate) fn push_no(no: NoNote, request: &Request<'_>, line: &mut Line) {
     push_place(no.at, line);
     let _ = write!(line, ": ");
     push_rule(no, line);
     let _ = write!(line, ". To list all faults: rdsrt audit --all");
-    push_audit_options(options.task, line);
-    push_input(run, options.dwell, line);
+    push_audit_options(request.task, line);
+    push_input(request, line);
     let _ = write!(
         line,
         ". To look for lost slots that make a mix: rdsrt witness"
     );
-    push_input(run, options.dwell, line);
-    push_running(no, options.task, line);
+    push_input(request, line);
+    push_running(no, request.task, line);
 }
 
 /// Appends the options of this audit that are not the default: the lateness and the start of the log.
@@ -82,18 +80,15 @@ fn push_audit_options(task: Task, line: &mut Line) {
 }
 
 /// Appends the programme, the dwell and the file of a proposed command.
-fn push_input(run: &RunNotes, dwell: Dwell, line: &mut Line) {
-    let _ = write!(line, " --pi ");
-    push(run.pi.as_slice(), line);
-    let _ = write!(line, " --m {}", dwell.get());
-    let name = run.file.as_slice();
-    if name.is_empty() {
+fn push_input(request: &Request<'_>, line: &mut Line) {
+    let _ = write!(line, " --pi {} --m {}", request.pi, request.dwell.get());
+    let Some(file) = request.file else {
         return;
-    }
+    };
+    let name = file.as_bytes();
     let _ = write!(line, " ");
-    let is_whole = run.file.remaining_capacity() > 0;
     push(
-        if is_whole && name.iter().all(is_plain) {
+        if name.len() < LONGEST && name.iter().all(is_plain) {
             name
         } else {
             b"FILE"

@@ -1,0 +1,26 @@
+//! What a person wants to know while a log is still open.
+
+use crate::log_times::Lack;
+use rds_arrivals::Break;
+
+/// Takes facts of a log where an engine meets them. No contract speaks of them.
+pub trait News {
+    /// The log so far has too few lines for its times. Returns whether a person was told: then the notes at the end do
+    /// not say it again.
+    fn lacks(&mut self, lack: Lack) -> bool;
+
+    /// `slots` met this break. It may come more than once.
+    fn breaks(&mut self, why: Break);
+}
+
+/// Nobody wants to know.
+#[derive(Drop)]
+pub struct NoNews;
+
+impl News for NoNews {
+    fn lacks(&mut self, _lack: Lack) -> bool {
+        false
+    }
+
+    fn breaks(&mut self, _why: Break) {}
+}

@@ -1,0 +1,19 @@
+//! The notes of a run, for a person or for another program: each is a line on standard error. No contract speaks of
+//! them: tests compare them.
+//!
+//! The crate stands beside the program's contracts. `main` passes it what a run met.
+#![tactic(auto)]
+
+mod fault_lines;
+mod note;
+mod note_lines;
+mod note_objects;
+mod printing;
+mod screen;
+
+pub use note::Run;
+pub use printing::{print_notes, print_refusal};
+pub use screen::Screen;
+
+#[cfg(test)]
+mod tests;

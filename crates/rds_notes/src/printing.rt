@@ -1,0 +1,48 @@
+//! Prints notes: each is a line, and goes out in one write. It is a sentence that begins with `rdsrt: `, or a JSON
+//! object.
+
+use crate::note::{Note, Run, notes_of};
+use crate::note_lines::{Line, begun, push_note};
+use crate::note_objects::push_object;
+use arrayvec::ArrayVec;
+use clap::Error;
+use clap::error::ErrorKind;
+use rds_io::{TellingWrite, put};
+use std::io::Write;
+
+/// The most bytes that are printed of a refusal. Refusals of arguments of a usual length are shorter.
+const REFUSAL_ROOM: usize = 4096;
+
+/// Prints why the arguments were refused, as `clap` says it. Prints nothing if they ask for help.
+pub fn print_refusal<N: TellingWrite>(error: &Error, screen: &mut N) {
+    let mut text = ArrayVec::<u8, REFUSAL_ROOM>::new();
+    if error.kind() == ErrorKind::OutOfMemory {
+        let _ = write!(text, "rdsrt: fault memory: out of memory\n");
+    } else if error.use_stderr() {
+        let _ = write!(text, "{error}");
+    }
+    let _ = put(text.as_slice(), screen);
+}
+
+/// Prints the notes of a run.
+pub fn print_notes<N: TellingWrite>(run: &Run<'_>, screen: &mut N) {
+    let is_json = run.request.json_notes;
+    let notes = notes_of(run);
+    for note in notes.as_slice() {
+        print_note(*note, is_json, screen);
+    }
+}
+
+/// Prints a note, as a sentence or as a JSON object.
+pub(crate) fn print_note<N: TellingWrite>(note: Note<'_>, is_json: bool, screen: &mut N) {
+    let value = note;
+    let mut line = begun();
+    push_note(note, &mut line);
+    if is_json {
+        let mut object = Line::new();
+        push_object(value, line.as_slice(), &mut object);
+        line = object;
+    }
+    let _ = writeln!(line);
+    let _ = put(line.as_slice(), screen);
+}
