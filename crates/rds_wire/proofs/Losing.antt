@@ -101,7 +101,7 @@ lost_is_received a log got t loses reached = record {
         → (entry ≡ None) ⊎ HasEntry 0 loses.sent u entry
     each u entry at =
         let x = entry_of_map (own_group a.pi) (first_entries (t + 1) got) u entry at in
-        let kept = entry_left (λ (group slot : Option Group). (slot ≡ None) ⊎ (slot ≡ group)) loses.sent got u x.0
+        let kept = entry_left (λ (group slot : Option Group). (slot ≡ None) ⊎ (slot ≡ group)) 0 loses.sent got u x.0
         loses.lost (entry_in_first (t + 1) got u x.0 x.1).0 in
         by x.0 kept.0 x.2 (own_or_none a.pi x.0) kept.2 kept.1
       where

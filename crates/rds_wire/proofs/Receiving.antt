@@ -1,17 +1,21 @@
--- From the groups that reached a receiver to the messages that it heard, by a clock of its own.
+-- From the groups that reached a receiver to the messages that it heard: as late as the groups, or by the same clock.
 use Rattle.std.proofs.Common.{◌≡◌, ◌≤◌, ◌+◌, ◌==◌, ◌∷◌, [], ◌∙◌, ℕ, suc, Bool, true, false, cond, List, Option}
-use Rattle.std.proofs.Common.{None, Some, ap, arith, inl, inr, length, map, refl, subst, sym}
+use Rattle.std.proofs.Common.{None, Some, ap, arith, inl, inr, length, refl, subst, sym}
 use Rattle.std.specs.List.{AllZip}
 use Rattle.std.proofs.lemmas.Bool.Decides.{eqb_tells}
 use Rattle.rds_block.specs.declared.group.Group.{Group}
+use Rattle.rds_encoder.specs.Sent.{IsSent}
+use Rattle.rds_fields.specs.declared.head.Head.{Head}
 use Rattle.rds_fields.specs.declared.message.Message.{Message}
 use Rattle.rds_log.specs.Audit.{spacing}
 use Rattle.rds_log.specs.declared.audit_log.Auditing.{Auditing}
 use Rattle.rds_receiver.specs.OneView.{same_heard_in}
 use Rattle.rds_receiver.specs.Receipts.{AreHeard, Hears}
-use Rattle.rds_safety.specs.Late.{HasEntry, IsHeardInOrder, IsOfItsOrigin}
+use Rattle.rds_safety.specs.Late.{CameFrom, HasEntry, Input, InputOf, IsHeardInOrder, IsHeardLate, IsOfItsOrigin}
 use Rattle.rds_safety.specs.Laws.{ASlowClockIsAnOwnClock, LateIsBySlowClock}
 use Rattle.rds_safety.specs.OwnClock.{IsHeardByOwnClock}
+use Rattle.rds_wire.specs.Groups.{GroupsByOwnClockAreMessagesByIt, LateGroupsAreLateMessages}
+use Rattle.rds_wire.specs.Groups.{OtherGroupsAreNothing, WhatIsSentIsHeard, heard_in}
 use Rattle.rds_wire.specs.Received.{Came, first_entries, own_group}
 use Rattle.rds_wire.proofs.Firsts.{entry_below, entry_of_first}
 
@@ -25,28 +29,28 @@ zip_long R (x ∷ xs) [] all = absurd all
 zip_long R (x ∷ xs) (y ∷ ys) all = ap suc (zip_long R xs ys all.1)
 
 -- beside each entry of the second list is one of the first
-pub entry_left : {A B : Type 0} (R : A → B → Type 0) (xs : List A) (ys : List B) (t : ℕ) (y : B) → AllZip R xs ys
-    → HasEntry 0 ys t y → (x : A) × HasEntry 0 xs t x × R x y
-entry_left R [] [] t y all at = absurd at
-entry_left R [] (b ∷ ys) t y all at = absurd all
-entry_left R (a ∷ xs) [] t y all at = absurd all
-entry_left R (a ∷ xs) (b ∷ ys) t y all (inl here) =
+pub entry_left : {A B : Type 0} (R : A → B → Type 0) (first : ℕ) (xs : List A) (ys : List B) (t : ℕ) (y : B)
+    → AllZip R xs ys → HasEntry first ys t y → (x : A) × HasEntry first xs t x × R x y
+entry_left R first [] [] t y all at = absurd at
+entry_left R first [] (b ∷ ys) t y all at = absurd all
+entry_left R first (a ∷ xs) [] t y all at = absurd all
+entry_left R first (a ∷ xs) (b ∷ ys) t y all (inl here) =
     let long = zip_long R xs ys all.1 in
     (a, inl (omega (arith, here.0, long), refl), subst (λ z. R a z) (sym here.1) all.0)
-entry_left R (a ∷ xs) (b ∷ ys) t y all (inr there) =
-    (let it = entry_left R xs ys t y all.1 there in (it.0, inr it.1, it.2))
+entry_left R first (a ∷ xs) (b ∷ ys) t y all (inr there) =
+    (let it = entry_left R first xs ys t y all.1 there in (it.0, inr it.1, it.2))
 
 -- and the other way round
-pub entry_right : {A B : Type 0} (R : A → B → Type 0) (xs : List A) (ys : List B) (t : ℕ) (x : A) → AllZip R xs ys
-    → HasEntry 0 xs t x → (y : B) × HasEntry 0 ys t y × R x y
-entry_right R [] [] t x all at = absurd at
-entry_right R [] (b ∷ ys) t x all at = absurd all
-entry_right R (a ∷ xs) [] t x all at = absurd all
-entry_right R (a ∷ xs) (b ∷ ys) t x all (inl here) =
+pub entry_right : {A B : Type 0} (R : A → B → Type 0) (first : ℕ) (xs : List A) (ys : List B) (t : ℕ) (x : A)
+    → AllZip R xs ys → HasEntry first xs t x → (y : B) × HasEntry first ys t y × R x y
+entry_right R first [] [] t x all at = absurd at
+entry_right R first [] (b ∷ ys) t x all at = absurd all
+entry_right R first (a ∷ xs) [] t x all at = absurd all
+entry_right R first (a ∷ xs) (b ∷ ys) t x all (inl here) =
     let long = zip_long R xs ys all.1 in
     (b, inl (omega (arith, here.0, long), refl), subst (λ z. R z b) (sym here.1) all.0)
-entry_right R (a ∷ xs) (b ∷ ys) t x all (inr there) =
-    (let it = entry_right R xs ys t x all.1 there in (it.0, inr it.1, it.2))
+entry_right R first (a ∷ xs) (b ∷ ys) t x all (inr there) =
+    (let it = entry_right R first xs ys t x all.1 there in (it.0, inr it.1, it.2))
 
 -- ---- groups of the programme
 
@@ -63,66 +67,124 @@ own_heard_in pi (Some g) m is = by (g.pi == pi) refl is
     by false e (inr (other, none)) = none
 
 -- a receiver hears the same without the groups of other programmes
-pub own_heard : (pi : ℕ) (slots : List (Option Group)) (heard : List (Option Message)) → AreHeard pi slots heard
-    → AreHeard pi (map (own_group pi) slots) heard
+pub own_heard : OtherGroupsAreNothing
 own_heard pi [] [] are = tt
 own_heard pi [] (m ∷ heard) are = absurd are
 own_heard pi (slot ∷ before) [] are = absurd are
 own_heard pi (slot ∷ before) (m ∷ heard) are = (own_heard_in pi slot m are.0, own_heard pi before heard are.1)
 
+-- ---- what is sent
+
+-- receivers of the programme hear the message of a slot
+pub heard_of_sent : (head : Head) (m : Option Message) (g : Option Group) → IsSent head m g → Hears head.pi g m
+heard_of_sent head None None is = refl
+heard_of_sent head None (Some g) is = absurd is
+heard_of_sent head (Some m) None is = absurd is
+heard_of_sent head (Some m) (Some g) is = inl (is.head.pi, is.spelled)
+
+-- and of each slot
+pub sent_heard : WhatIsSentIsHeard
+sent_heard head [] [] are = tt
+sent_heard head [] (g ∷ sent) are = absurd are
+sent_heard head (m ∷ messages) [] are = absurd are
+sent_heard head (m ∷ messages) (g ∷ sent) are = (heard_of_sent head m g are.0, sent_heard head messages sent are.1)
+
 -- ---- messages
+
+module _ (pi : ℕ) (sent : List (Option Group)) (messages heard : List (Option Message)) (input : InputOf Group)
+    (are : AreHeard pi sent messages) (hear : AreHeard pi input.heard heard) where
+  -- what was heard in order as groups was so as messages
+  in_order : IsHeardInOrder sent input → IsHeardInOrder messages (heard_in input heard)
+  in_order order = record {
+    beside = order.beside ∙ zip_long (Hears pi) input.heard heard hear;
+    each = each;
+    rising = order.rising;
+  }
+    where
+      each : (t : ℕ) (origin : Option ℕ) (entry : Option Message) → HasEntry input.first input.origins t origin
+          → HasEntry input.first heard t entry → IsOfItsOrigin messages origin entry
+      each t None entry p q =
+          let x = entry_left (Hears pi) input.first input.heard heard t entry hear q in
+          subst (λ (o : Option Group). Hears pi o entry) (order.each t None x.0 p x.1) x.2
+      each t (Some s) entry p q =
+          let x = entry_left (Hears pi) input.first input.heard heard t entry hear q in
+          let y = entry_right (Hears pi) 0 sent messages s x.0 are (order.each t (Some s) x.0 p x.1) in
+          subst (λ (m : Option Message). HasEntry 0 messages s m) (same_heard_in pi x.0 y.0 entry y.2 x.2) y.1
+
+  late_in : (k l : ℕ) → k ≤ l → IsHeardLate k sent input → IsHeardLate l messages (heard_in input heard)
+  late_in k l more late = record {
+    order = in_order late.order;
+    past = late.past;
+    late = λ t s p. omega (arith, more, late.late t s p);
+  }
+
+  own_in : (d e m now : ℕ) → d ≤ e → IsHeardByOwnClock d m now sent input
+      → IsHeardByOwnClock e m now messages (heard_in input heard)
+  own_in d e m now more own =
+      let long = zip_long (Hears pi) input.heard heard hear in
+      record {
+        order = in_order own.order;
+        between = λ t u r s p q near. omega (arith, more, own.between t u r s p q near);
+        since = λ t s p near. omega (arith, more, own.since t s p (omega (arith, near, long)));
+        past = own.past;
+      }
+
+-- groups that come late are messages that come so
+pub late_groups : LateGroupsAreLateMessages
+late_groups pi k l sent messages heard input are hear more late =
+    late_in pi sent messages heard input are hear k l more late
+
+-- and those that come by a clock of the receiver's own
+pub own_groups : GroupsByOwnClockAreMessagesByIt
+own_groups pi d e m now sent messages heard input are hear more own =
+    own_in pi sent messages heard input are hear d e m now more own
+
+-- ---- up to a slot
+
+-- what was heard in order up to slot `now` is of the log up to there
+order_up_to : (now : ℕ) (messages : List (Option Message)) (input : Input) → IsHeardInOrder messages input
+    → ((t s : ℕ) → CameFrom input t s → s ≤ now) → IsHeardInOrder (first_entries (now + 1) messages) input
+order_up_to now messages input order past =
+    record { beside = order.beside; each = each; rising = order.rising }
+  where
+    each : (t : ℕ) (origin : Option ℕ) (entry : Option Message) → HasEntry input.first input.origins t origin
+        → HasEntry input.first input.heard t entry → IsOfItsOrigin (first_entries (now + 1) messages) origin entry
+    each t None entry p q = order.each t None entry p q
+    each t (Some s) entry p q =
+        let upto = past t s p in
+        entry_of_first (now + 1) messages s entry (order.each t (Some s) entry p q) (omega (arith, upto))
 
 -- the laws about clocks
 pub record ClockLaws : Type 0 where
   pub late : LateIsBySlowClock
   pub slow : ASlowClockIsAnOwnClock
 
-module _ (pi now : ℕ) (sent got : List (Option Group)) (messages heard : List (Option Message))
-    (origins : List (Option ℕ)) (are : AreHeard pi sent messages) (hear : AreHeard pi got heard) where
-  -- what was heard in order as groups was so as messages, and from the log up to slot `now`
-  in_order : IsHeardInOrder sent record { first = 0; heard = got; origins = origins }
-      → ((t s : ℕ) → HasEntry 0 origins t (Some s) → s ≤ now)
-      → IsHeardInOrder (first_entries (now + 1) messages) record { first = 0; heard = heard; origins = origins }
-  in_order order past = record {
-    beside = order.beside ∙ zip_long (Hears pi) got heard hear;
-    each = each;
-    rising = order.rising;
-  }
-    where
-      each : (t : ℕ) (origin : Option ℕ) (entry : Option Message) → HasEntry 0 origins t origin
-          → HasEntry 0 heard t entry → IsOfItsOrigin (first_entries (now + 1) messages) origin entry
-      each t None entry p q =
-          let x = entry_left (Hears pi) got heard t entry hear q in
-          subst (λ (o : Option Group). Hears pi o entry) (order.each t None x.0 p x.1) x.2
-      each t (Some s) entry p q =
-          let x = entry_left (Hears pi) got heard t entry hear q in
-          let y = entry_right (Hears pi) sent messages s x.0 are (order.each t (Some s) x.0 p x.1) in
-          let upto = past t s p in
-          entry_of_first (now + 1) messages s entry
-          (subst (λ (m : Option Message). HasEntry 0 messages s m) (same_heard_in pi x.0 y.0 entry y.2 x.2) y.1)
-          (omega (arith, upto))
-
-  -- what came is heard by a clock of the receiver's own
-  pub by_own_clock : ClockLaws → (a : Auditing) (t : ℕ) → length got ≡ t + 1
-      → Came a t now sent record { first = 0; heard = got; origins = origins }
-      → IsHeardByOwnClock (spacing a) a.dwell now (first_entries (now + 1) messages)
-      record { first = 0; heard = heard; origins = origins }
-  by_own_clock laws a t reached (inl (late, same)) =
-      let long = zip_long (Hears pi) got heard hear in
-      let beside = late.order.beside in
-      let past : (u s : ℕ) → HasEntry 0 origins u (Some s) → s ≤ now =
-      λ u s p. omega (arith, late.past u s p, entry_below 0 origins u (Some s) p, beside, reached, same) in
-      let order = in_order late.order past in
-      let slow = laws.late a.late a.dwell now (first_entries (now + 1) messages)
-      (record { first = 0; heard = heard; origins = origins })
-      (record { order = order; past = late.past; late = late.late }) (omega (arith, long, reached, same)) in
-      laws.slow a.late a.dwell now (first_entries (now + 1) messages)
-      (record { first = 0; heard = heard; origins = origins }) slow.0 slow.1
-  by_own_clock laws a t reached (inr own) =
-      let long = zip_long (Hears pi) got heard hear in
-      record {
-        order = in_order own.order own.past;
-        between = own.between;
-        since = λ u s p near. own.since u s p (omega (arith, near, long));
-        past = own.past;
-      }
+-- what came is heard by a clock of the receiver's own
+pub by_own_clock : ClockLaws → (a : Auditing) (t now : ℕ) (sent got : List (Option Group))
+    (messages heard : List (Option Message)) (origins : List (Option ℕ)) → AreHeard a.pi sent messages
+    → AreHeard a.pi got heard → length got ≡ t + 1
+    → Came a t now sent record { first = 0; heard = got; origins = origins }
+    → IsHeardByOwnClock (spacing a) a.dwell now (first_entries (now + 1) messages)
+    record { first = 0; heard = heard; origins = origins }
+by_own_clock laws a t now sent got messages heard origins are hear reached (inl (late, same)) =
+    let groups : InputOf Group = record { first = 0; heard = got; origins = origins } in
+    let input : Input = record { first = 0; heard = heard; origins = origins } in
+    let long = zip_long (Hears a.pi) got heard hear in
+    let beside = late.order.beside in
+    let past : (u s : ℕ) → HasEntry 0 origins u (Some s) → s ≤ now =
+    λ u s p. omega (arith, late.past u s p, entry_below 0 origins u (Some s) p, beside, reached, same) in
+    let all = late_groups a.pi a.late a.late sent messages heard groups are hear (omega arith) late in
+    let order = order_up_to now messages input all.order past in
+    let slow = laws.late a.late a.dwell now (first_entries (now + 1) messages) input
+    (record { order = order; past = all.past; late = all.late }) (omega (arith, long, reached, same)) in
+    laws.slow a.late a.dwell now (first_entries (now + 1) messages) input slow.0 slow.1
+by_own_clock laws a t now sent got messages heard origins are hear reached (inr own) =
+    let groups : InputOf Group = record { first = 0; heard = got; origins = origins } in
+    let all = own_groups a.pi (spacing a) (spacing a) a.dwell now sent messages heard groups are hear (omega arith)
+    own in
+    record {
+      order = order_up_to now messages (heard_in groups heard) all.order all.past;
+      between = all.between;
+      since = all.since;
+      past = all.past;
+    }

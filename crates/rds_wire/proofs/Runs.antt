@@ -1,22 +1,23 @@
--- The wire law for runs of the program.
+-- The wire laws for runs of the program.
 use Rattle.std.proofs.Common.{◌≡◌, ◌⊎◌, ◌∙◌, ◌++◌, ◌∷◌, ◌^◌, [], ℕ, List, None, Option, Some}
 use Rattle.std.proofs.Common.{ap, append_assoc}
 use Rattle.std.proofs.Common.{append-nil, arith, codes, decimal, get_or, inl, inr, refl, subst, sym}
 use Rattle.std.specs.Io.KnownBytes.{Appends, Consumes, IsAtEnd}
 use Rattle.std.specs.List.{Contains}
-use Rattle.std.specs.Prelude.{All, Err, Ok, Result}
+use Rattle.std.specs.Prelude.{All, Bool, Err, Ok, Result, false, true}
 use Rattle.std.proofs.lemmas.List.Elements.{All-cons}
 use Rattle.rds_block.specs.declared.group.Group.{Group}
 use Rattle.rds_cli.specs.declared.request.Programme.{Programme}
-use Rattle.rds_cli.specs.declared.request.Task.TheVariants.{Decode, Encode}
+use Rattle.rds_cli.specs.declared.request.Task.TheVariants.{Audit, Decode, Encode}
 use Rattle.rds_io.specs.Puts.{Puts}
 use Rattle.rds_io.specs.Told.{Failed, Traffic}
 use Rattle.rds_io.specs.declared.fault.LogFault.{LogFault}
 use Rattle.rds_io.specs.declared.fault.LogFault.TheVariants.{BadLine, BadRow, Memory, Read, TooLong, Write}
 use Rattle.rds_io.specs.declared.told.WriteFault.{WriteFault}
-use Rattle.rds_log.specs.Audit.{complete}
+use Rattle.rds_log.specs.Audit.{WholePasses, complete}
 use Rattle.rds_fields.specs.declared.head.Head.{Head}
 use Rattle.rds_log.specs.Decode.{Decodes}
+use Rattle.rds_log.specs.FaultList.{Audits}
 use Rattle.rds_log.specs.FilledLog.{IsLogOf}
 use Rattle.rds_log.specs.LineSays.{IsSkipped}
 use Rattle.rds_log.specs.LogLines.{AreLines, IsLine, Line, text_of}
@@ -25,7 +26,7 @@ use Rattle.rds_log.specs.OneLog.{same_lines, same_log}
 use Rattle.rds_log.specs.Outputs.{StopsBetween, WroteLines}
 use Rattle.rds_log.specs.declared.audit_log.Auditing.{Auditing}
 use Rattle.rds_log.specs.declared.decode_log.Decoding.{Decoding}
-use Rattle.rds_program.specs.Run.{EndsWith, PutsLine, decoding_of, done, script_in}
+use Rattle.rds_program.specs.Run.{EndsWith, PutsLine, auditing_of, decoding_of, done, script_in, verdict_status}
 use Rattle.rds_script.specs.Play.{HasRecords, Plays, WroteRows, with_form}
 use Rattle.rds_script.specs.Rows.{Record}
 use Rattle.rds_script.specs.declared.form.Form.TheVariants.{Log}
@@ -33,9 +34,11 @@ use Rattle.rds_script.specs.declared.play.Playing.{Playing}
 use Rattle.rds_view_lines.specs.Output.{Display, changes_of}
 use Rattle.rds_view_lines.specs.ViewParts.{Part, line_in, part_name}
 use Rattle.rds_wire.specs.Printed.{Prints, Shows}
-use Rattle.rds_wire.specs.Program.{Ran, WhatTheProgramDecodesIsPrinted, WhatTheProgramEncodesIsSafe, over}
+use Rattle.rds_wire.specs.Program.{Ran, WhatTheProgramDecodesIsPrinted, WhatTheProgramEncodesIsSafe}
+use Rattle.rds_wire.specs.Program.{WhatTheProgramPassesIsSafe, over}
 use Rattle.rds_wire.specs.Received.{IsReceived}
-use Rattle.rds_wire.specs.Wire.{Encodes, IsHead, WhatIsEncodedIsSafeOnTheWire, station_of}
+use Rattle.rds_wire.specs.Wire.{Encodes, HasSafePlans, IsHead, WhatIsEncodedIsSafeOnTheWire}
+use Rattle.rds_wire.specs.Wire.{WhatPassesIsSafeOnTheWire, station_of}
 use Rattle.rds_wire.proofs.Logs.{HasCut, is_log_of, more_text, with_comment}
 use Rattle.rds_wire.proofs.Printed.{decimal_line, empty_line, feedless, join_lines}
 use Rattle.rds_wire.proofs.Reading.{In, all_lines, are_lines, changes_text, contains_from_in, in_from_contains}
@@ -195,7 +198,7 @@ encoded_by_the_program law encoder programme pi m k script output fits type some
           (received_of a it.log output has.sent other.write.slots u now has.cut all rb),
     )
 
--- ---- `decode`
+-- ---- bytes read
 
 -- the bytes begin with what was read
 all_bytes : (before after : Option (List ℕ)) (received text : List ℕ) → before ≡ Some received
@@ -213,6 +216,8 @@ consumed (Some xs) None received text given read end = absurd read
 consumed (Some xs) (Some left) received text given read end =
     let all : xs ≡ received = cc in
     sym (append-nil text) ∙ sym (ap (λ (l : List ℕ). text ++ l) end) ∙ sym read ∙ all
+
+-- ---- lines of faults
 
 -- a line of the output is one of the lines before the fault
 not_fault : (line : Line) (u : ℕ) (part : Part) (content : List ℕ) (lines : List Line) → get_or line 0 0 ≡ 102
@@ -274,6 +279,31 @@ shows_before displays printed output line t part content is single f all sh = by
           },
           none,
         )
+
+-- ---- `audit`
+
+-- a log to which a run of `audit` says yes has safe plans
+pub passed_by_the_program : WhatPassesIsSafeOnTheWire → WhatTheProgramPassesIsSafe
+passed_by_the_program law pi m k running all log output some ran zero_is = by ran.ran.outcome ran.ran.ran ran.ran.ended
+  where
+    a : Auditing
+    a = auditing_of (tuned pi m) k running all
+
+    first : Traffic
+    first = record ran.w { after = ran.ran.mid; failures_after = ran.ran.failures }
+
+    rest : Traffic
+    rest = record ran.w { before = ran.ran.mid; failures_before = ran.ran.failures }
+
+    by : (outcome : Result Bool LogFault) → Audits a (2 ^ 32) ran.r first outcome
+        → EndsWith verdict_status (Audit k running all) outcome rest ran.status → HasSafePlans a log
+    by (Ok true) answers ended =
+        let whole = consumed ran.r.before ran.r.after log answers.text ran.given answers.read answers.end in
+        law a answers.number log some (subst (λ (text : List ℕ). WholePasses a answers.number text) whole answers.passes)
+    by (Ok false) answers ended = absurd (let status = ended.0 in omega (arith, status, zero_is))
+    by (Err fault) answers ended = absurd (let status = ended.0 in omega (arith, status, zero_is))
+
+-- ---- `decode`
 
 -- what a run of `decode` printed
 abbrev Shown : Option ℕ → ℕ → ℕ → List ℕ → List ℕ → Type 0

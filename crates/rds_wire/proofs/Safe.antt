@@ -1,12 +1,12 @@
 -- From the views of two receivers to what their output shows.
 use Rattle.std.proofs.Common.{◌≡◌, ◌≢◌, ◌⊎◌, ◌≤◌, ◌∷◌, [], ◌∙◌, ℕ, List, Option, None, Some, ap, ap₂, arith, inl, inr}
-use Rattle.std.proofs.Common.{length, refl, sym, lt-ltb, le-leb, ne_eqb}
+use Rattle.std.proofs.Common.{length, refl, subst, sym, lt-ltb, le-leb, ne_eqb}
 use Rattle.std.specs.Prelude.{All, IfSome}
 use Rattle.std.proofs.lemmas.List.Elements.{All-head, All-tail}
 use Rattle.rds_fields.specs.declared.message.Message.{Message}
 use Rattle.rds_fields.specs.declared.pair.Which.TheVariants.{One, Two}
 use Rattle.rds_fields.specs.Tag.{PairFields, TagFields, end_of}
-use Rattle.rds_encoder.specs.Plan.{Broadcast}
+use Rattle.rds_encoder.specs.Plan.{Broadcast, Covers}
 use Rattle.rds_encoder.specs.Spaced.{IsSpaced}
 use Rattle.rds_receiver.specs.Receipts.{Segment}
 use Rattle.rds_receiver.specs.Shown.{ShownView, ShowsView, view_with}
@@ -19,10 +19,12 @@ use Rattle.rds_safety.specs.Marks.{IsMarkIn, Mark, Tagged, marks, text_mark}
 use Rattle.rds_safety.specs.Safe.{AreNeighbours, HaveNearSources, Listener, NamesPiece, ShowsNameOnAir, ShowsNoTags}
 use Rattle.rds_safety.specs.Safe.{ShowsTagsOf, ShowsTagsOfItsText, ShowsTextOnAir}
 use Rattle.rds_safety.specs.Safe.{AreSafeViews, RunWasOnAir}
+use Rattle.rds_safety.specs.Source.{name_run, text_run}
 use Rattle.rds_view_lines.specs.Output.{item_content, none_content, quoted, tag_content, text_content, why_name}
 use Rattle.rds_view_lines.specs.Output.{why_text}
 use Rattle.rds_view_lines.specs.ViewParts.{IsNothing, Item, Name, Part, Tag1, Tag2, Text, part_content}
-use Rattle.rds_wire.specs.Safe.{AreSafe, IsOfPair, StationPlans, WasOnAir, WentWith, WereOnAir}
+use Rattle.rds_wire.specs.Safe.{AreSafe, IsOfPair, ShowNeighbours, ShowsBroadcast, ShowsText, StationPlans}
+use Rattle.rds_wire.specs.Safe.{WasOnAir, WentWith}
 
 -- ---- texts and names
 
@@ -39,20 +41,48 @@ on_air_so d t plan i r a x is run = record {
   recent = run.recent;
 }
 
--- texts or names that two receivers show were on air
-pub were : (d t : ℕ) (plan : List Broadcast) (i j : Input) (r q : List Segment) (o w : Option (List ℕ))
-    (x y : List ℕ) (v u : Option WhyNone) → x ≡ text_content v o → y ≡ text_content u w
-    → IfSome o (RunWasOnAir d t plan i r) → IfSome w (RunWasOnAir d t plan j q) → HaveNearSources plan i r j q
-    → IsNothing x ⊎ IsNothing y ⊎ WereOnAir d t plan x y
-were d t plan i j r q None w x y v u ex ey one other near = inl (v, ex)
-were d t plan i j r q (Some a) None x y v u ex ey one other near = inr (inl (u, ey))
-were d t plan i j r q (Some a) (Some b) x y v u ex ey one other near = inr (inr (record {
+-- the number of the broadcast that is shown; any number if nothing is shown
+abbrev IsNumberOf : (d t : ℕ) (plan : List Broadcast) (i : Input) (r : List Segment) (o : Option (List ℕ))
+    → IfSome o (RunWasOnAir d t plan i r) → ℕ → Type 0
+IsNumberOf d t plan i r None was k = Unit {0}
+IsNumberOf d t plan i r (Some a) was k = k ≡ was.number
+
+-- what is shown is nothing, or was on air
+nothing_or_on_air : (d t : ℕ) (plan : List Broadcast) (i : Input) (r : List Segment) (o : Option (List ℕ))
+    (was : IfSome o (RunWasOnAir d t plan i r)) (k : ℕ) → IsNumberOf d t plan i r o was k
+    → (x : List ℕ) (why : Option WhyNone) → x ≡ text_content why o → IsNothing x ⊎ WasOnAir d t plan x k
+nothing_or_on_air d t plan i r None was k number x why is = inl (why, is)
+nothing_or_on_air d t plan i r (Some a) was k number x why is =
+    inr (subst (λ (n : ℕ). WasOnAir d t plan x n) (sym number) (on_air_so d t plan i r a x is was))
+
+-- two receivers of what was on air show neighbours
+neighbours : (d t : ℕ) (plan : List Broadcast) (i j : Input) (r q : List Segment) (o w : Option (List ℕ))
+    (One Other : ℕ → Type 0) (one : IfSome o (RunWasOnAir d t plan i r)) (other : IfSome w (RunWasOnAir d t plan j q))
+    → HaveNearSources plan i r j q → ((k : ℕ) → IsNumberOf d t plan i r o one k → One k)
+    → ((l : ℕ) → IsNumberOf d t plan j q w other l → Other l) → ShowNeighbours One Other
+neighbours d t plan i j r q None None P Q one other near first second =
+    record { k = 0; l = 0; first = first 0 tt; second = second 0 tt; near = (omega arith, omega arith) }
+neighbours d t plan i j r q None (Some b) P Q one other near first second = record {
+  k = other.number;
+  l = other.number;
+  first = first other.number tt;
+  second = second other.number refl;
+  near = (omega arith, omega arith);
+}
+neighbours d t plan i j r q (Some a) None P Q one other near first second = record {
+  k = one.number;
+  l = one.number;
+  first = first one.number refl;
+  second = second one.number tt;
+  near = (omega arith, omega arith);
+}
+neighbours d t plan i j r q (Some a) (Some b) P Q one other near first second = record {
   k = one.number;
   l = other.number;
-  first = on_air_so d t plan i r a x ex one;
-  second = on_air_so d t plan j q b y ey other;
+  first = first one.number refl;
+  second = second other.number refl;
   near = near one.number other.number one.broadcast other.broadcast one.source other.source;
-}))
+}
 
 -- ---- tags
 
@@ -117,38 +147,43 @@ abbrev pub AreTagsUpTo : ℕ → StationPlans → List Mark → Type 0
 AreTagsUpTo now air sent =
     (slot : ℕ) (pair : PairFields) → IsMarkIn sent slot (Tagged pair) → air.HasTags slot pair × (slot ≤ now)
 
-was_with : ARunHasOneSource → (d now : ℕ) (air : StationPlans) (sent : List Mark) (i : Input) (r : List Segment) (m : ℕ)
-    (view : ShownView) (x : List ℕ) (contents : Part → List ℕ) → AreTagsUpTo now air sent → IsSpaced d air.plans.text
-    → ShowsView m i.first i.heard view → IsContentOf Text view x
-    → ((part : Part) → IsOfPair part → IsContentOf part view (contents part))
-    → IfSome view.text (RunWasOnAir d now air.plans.text i r)
-    → ShowsNoTags view ⊎ ShowsTagsOf d air.plans.text sent i r view
-    → ((part : Part) → IsOfPair part → IsNothing (contents part))
-    ⊎ ((k : ℕ) × WentWith d now air x contents k)
-was_with law d now air sent i r m view x contents upto spaced shows ex ey was (inl none) =
-    inl (λ part of. (None, (ey part of).1 ∙ none_of_none part of (ey part of).0 view none))
-was_with law d now air sent i r m view x contents upto spaced shows ex ey was (inr tags) = by view.text refl was
-  where
-    by : (o : Option (List ℕ)) → view.text ≡ o → IfSome o (RunWasOnAir d now air.plans.text i r)
-        → ((part : Part) → IsOfPair part → IsNothing (contents part))
-        ⊎ ((k : ℕ) × WentWith d now air x contents k)
-    by None text w =
-        inl (λ part of. (
-          None,
-          (ey part of).1 ∙ none_without part of (ey part of).0 view (pair_held m i.first i.heard)
-              text shows.item shows.one shows.two,
-        ))
-    by (Some a) text w =
-        let same =
-        law d air.plans.text i r w.number tags.number w.broadcast tags.broadcast spaced w.source tags.source in
-        let bytes : tags.broadcast.bytes ≡ a = ap (λ (b : Broadcast). b.bytes) (sym same.1) ∙ w.bytes in
-        let went = upto tags.slot tags.pair tags.tagged in
-        inr (
-          tags.number,
-          record {
-            broadcast = tags.broadcast;
-            planned = tags.source.planned;
-            says = ex.1 ∙ ap (text_content (why_text ex.0)) (text ∙ ap Some (sym bytes));
+module _ (law : ARunHasOneSource) (d now : ℕ) (air : StationPlans) (sent : List Mark) (i : Input) (r : List Segment)
+    (m : ℕ) (view : ShownView) (upto : AreTagsUpTo now air sent) (spaced : IsSpaced d air.plans.text)
+    (shows : ShowsView m i.first i.heard view) where
+  was_with : (x : List ℕ) (contents : Part → List ℕ) → IsContentOf Text view x
+      → ((part : Part) → IsOfPair part → IsContentOf part view (contents part))
+      → ShowsNoTags view ⊎ ShowsTagsOf d air.plans.text sent i r view
+      → (was : IfSome view.text (RunWasOnAir d now air.plans.text i r)) (k : ℕ)
+      → IsNumberOf d now air.plans.text i r view.text was k
+      → ((part : Part) → IsOfPair part → IsNothing (contents part)) ⊎ WentWith d now air x contents k
+  was_with x contents ex ey (inl none) was k number =
+      inl (λ part of. (None, (ey part of).1 ∙ none_of_none part of (ey part of).0 view none))
+  was_with x contents ex ey (inr tags) was k number = by view.text refl was number
+    where
+      by : (o : Option (List ℕ)) → view.text ≡ o → (was : IfSome o (RunWasOnAir d now air.plans.text i r))
+          → IsNumberOf d now air.plans.text i r o was k
+          → ((part : Part) → IsOfPair part → IsNothing (contents part)) ⊎ WentWith d now air x contents k
+      by None text was number =
+          inl (λ part of. (
+            None,
+            (ey part of).1 ∙ none_without part of (ey part of).0 view (pair_held m i.first i.heard)
+                text shows.item shows.one shows.two,
+          ))
+      by (Some a) text was number =
+          let same = law d air.plans.text i r was.number tags.number was.broadcast tags.broadcast spaced was.source
+          tags.source in
+          let bytes : tags.broadcast.bytes ≡ a = ap (λ (b : Broadcast). b.bytes) (sym same.1) ∙ was.bytes in
+          let went = upto tags.slot tags.pair tags.tagged in
+          let went_with : WentWith d now air x contents tags.number = record {
+            on_air = record {
+              broadcast = tags.broadcast;
+              planned = tags.source.planned;
+              says = ex.1 ∙ ap (text_content (why_text ex.0)) (text ∙ ap Some (sym bytes));
+              slot = was.slot;
+              covers = subst (λ (b : Broadcast). Covers b was.slot) same.1 was.covers;
+              past = was.past;
+              recent = was.recent;
+            };
             pair = tags.pair;
             slot = tags.slot;
             went = went.0;
@@ -160,33 +195,58 @@ was_with law d now air sent i r m view x contents upto spaced shows ex ey was (i
                   | inl none ↦ inl (None, (ey part of).1 ∙ none)
                   | inr cut ↦ inr ((ey part of).1 ∙ cut)
                 ];
-          },
-        )
+          } in
+          inr (subst (λ (n : ℕ). WentWith d now air x contents n) (sym (number ∙ same.0)) went_with)
+
+  -- a receiver shows a text that was on air, and what went with it
+  shows_text : (Shown : Part → List ℕ → Type 0)
+      → ((part : Part) (x : List ℕ) → Shown part x → IsContentOf part view x)
+      → ShowsNoTags view ⊎ ShowsTagsOf d air.plans.text sent i r view
+      → (was : IfSome view.text (RunWasOnAir d now air.plans.text i r)) (k : ℕ)
+      → IsNumberOf d now air.plans.text i r view.text was k → ShowsText d now air Shown k
+  shows_text Shown is tags was k number = record {
+    text = λ x sh. nothing_or_on_air d now air.plans.text i r view.text was k number x (why_text (is Text x sh).0)
+        (is Text x sh).1;
+    tags = λ x contents sh all. was_with x contents (is Text x sh) (λ part of. is part (contents part) (all part of))
+        tags was k number;
+  }
 
 -- two receivers whose views are safe show what is safe
 pub shown_safely : ARunHasOneSource
     → (d m now : ℕ) (air : StationPlans) (messages : List (Option Message)) (r s : Listener)
     (One Other : Part → List ℕ → Type 0) → AreTagsUpTo now air (marks text_mark messages) → IsSpaced d air.plans.text
     → AreSafeViews d m now air.plans messages (r ∷ s ∷ []) → ShowsView m r.input.first r.input.heard r.view
+    → ShowsView m s.input.first s.input.heard s.view
     → ((part : Part) (x : List ℕ) → One part x → IsContentOf part r.view x)
     → ((part : Part) (x : List ℕ) → Other part x → IsContentOf part s.view x)
     → AreSafe d now air One Other
-shown_safely source d m now air messages r s P Q upto spaced views shows one other =
+shown_safely source d m now air messages r s P Q upto spaced views shows shown one other =
     let near : AreNeighbours m air.plans r s =
     All-head (AreNeighbours m air.plans r) s []
     (All-tail (AreNeighbours m air.plans r) r (s ∷ [])
     (All-head (λ x. All (AreNeighbours m air.plans x) (r ∷ s ∷ [])) r (s ∷ []) views.neighbours)) in
     let text = ShowsTextOnAir d m now air.plans in
     let name = ShowsNameOnAir d m now air.plans in
+    let tags = ShowsTagsOfItsText d m air.plans messages in
+    let sent = marks text_mark messages in
+    let r_text = All-head text r (s ∷ []) views.texts in
+    let s_text = All-head text s [] (All-tail text r (s ∷ []) views.texts) in
+    let r_name = All-head name r (s ∷ []) views.names in
+    let s_name = All-head name s [] (All-tail name r (s ∷ []) views.names) in
     record {
-      texts = λ x y p q. were d now air.plans.text r.input s.input _ _ r.view.text s.view.text x y
-          (why_text (one Text x p).0) (why_text (other Text y q).0) (one Text x p).1 (other Text y q).1
-          (All-head text r (s ∷ []) views.texts) (All-head text s [] (All-tail text r (s ∷ []) views.texts)) near.texts;
-      names = λ x y p q. were d now air.plans.name r.input s.input _ _ r.view.name s.view.name x y
-          (why_name (one Name x p).0) (why_name (other Name y q).0) (one Name x p).1 (other Name y q).1
-          (All-head name r (s ∷ []) views.names) (All-head name s [] (All-tail name r (s ∷ []) views.names)) near.names;
-      tags = λ x contents p q. was_with source d now air (marks text_mark messages) r.input _ m r.view x contents upto
-          spaced shows (one Text x p) (λ part of. one part (contents part) (q part of))
-          (All-head text r (s ∷ []) views.texts)
-          (All-head (ShowsTagsOfItsText d m air.plans messages) r (s ∷ []) views.tags);
+      texts = neighbours d now air.plans.text r.input s.input (text_run m r.input)
+          (text_run m s.input) r.view.text s.view.text (ShowsText d now air P)
+          (ShowsText d now air Q) r_text s_text near.texts
+          (shows_text source d now air sent r.input (text_run m r.input) m r.view upto spaced shows P one
+          (All-head tags r (s ∷ []) views.tags) r_text)
+          (shows_text source d now air sent s.input (text_run m s.input) m s.view upto spaced shown Q other
+          (All-head tags s [] (All-tail tags r (s ∷ []) views.tags)) s_text);
+      names = neighbours d now air.plans.name r.input s.input (name_run m r.input)
+          (name_run m s.input) r.view.name s.view.name
+          (ShowsBroadcast d now air.plans.name (P Name)) (ShowsBroadcast d now air.plans.name (Q Name)) r_name s_name
+          near.names
+          (λ k number x sh. nothing_or_on_air d now air.plans.name r.input (name_run m r.input) r.view.name r_name k number x
+          (why_name (one Name x sh).0) (one Name x sh).1)
+          (λ k number x sh. nothing_or_on_air d now air.plans.name s.input (name_run m s.input) s.view.name s_name k number x
+          (why_name (other Name x sh).0) (other Name x sh).1);
     }

@@ -6,14 +6,13 @@ use Rattle.std.proofs.lemmas.List.{length-replicate}
 use Rattle.std.proofs.lemmas.List.Elements.{All-append, All-from_get_or, All-get_or, All-replicate}
 use Rattle.rds_assembly.specs.Body.{name_body, space}
 use Rattle.rds_assembly.specs.Value.{IsGivenName, IsName, is_name_byte}
-use Rattle.rds_block.specs.declared.group.Group.{Group}
 use Rattle.rds_fields.specs.declared.message.Message.{Message}
 use Rattle.rds_fields.specs.declared.message.Message.TheVariants as message
 use Rattle.rds_fields.specs.Tag.{PairFields}
 use Rattle.rds_encoder.specs.Laws.{TagsAreOfTheTextOnAir}
-use Rattle.rds_encoder.specs.Sent.{IsSent, sent_log}
+use Rattle.rds_encoder.specs.Sent.{sent_log}
 use Rattle.rds_encoder.specs.Tags.{pair_on_air}
-use Rattle.rds_receiver.specs.Receipts.{AreHeard, Hears}
+use Rattle.rds_receiver.specs.Receipts.{AreHeard}
 use Rattle.rds_safety.specs.Marks.{IsMarkIn, Tagged, marks, text_mark}
 use Rattle.rds_safety.specs.Plans.{AreLawful, Plans}
 use Rattle.rds_script.specs.Outcomes.{AreOutcomes, Outcome}
@@ -28,6 +27,7 @@ use Rattle.rds_world.specs.declared.world.Config.{Config}
 use Rattle.rds_wire.specs.Received.{first_entries}
 use Rattle.rds_wire.proofs.Firsts.{first_all, first_more}
 use Rattle.rds_wire.proofs.Logs.{HasNoReceivers, groups_sent}
+use Rattle.rds_wire.proofs.Receiving.{heard_of_sent}
 use Rattle.rds_wire.proofs.Views.{marks_long}
 
 -- ---- rows
@@ -92,14 +92,10 @@ pub groups_are_heard : (config : Config) (events : List Event) (outcomes : List 
 groups_are_heard config [] [] are = tt
 groups_are_heard config [] (o ∷ older) are = absurd are
 groups_are_heard config (e ∷ before) [] are = absurd are
-groups_are_heard config (e ∷ before) (o ∷ older) are =
-    (by (sent_at (distance config) e before) o.sent are.0.sent, groups_are_heard config before older are.1)
-  where
-    by : (m : Option Message) (g : Option Group) → IsSent config.head m g → Hears config.head.pi g m
-    by None None sent = refl
-    by None (Some g) sent = absurd sent
-    by (Some m) None sent = absurd sent
-    by (Some m) (Some g) sent = inl (sent.head.pi, sent.spelled)
+groups_are_heard config (e ∷ before) (o ∷ older) are = (
+  heard_of_sent config.head (sent_at (distance config) e before) o.sent are.0.sent,
+  groups_are_heard config before older are.1,
+)
 
 -- the plans of the slots are lawful for their log
 pub log_is_lawful : TheEncoderIsLawful → SlotsOfAWorldAreSlots → (d : ℕ) (events : List Event) → 0 < d

@@ -16,13 +16,16 @@ use Rattle.rds_safety.specs.Marks.{IsMarkIn, Tagged, marks, text_mark}
 use Rattle.rds_safety.specs.Plans.{AreLawful}
 use Rattle.rds_safety.specs.Safe.{Listener}
 use Rattle.rds_world.specs.Slots.{log as log_of}
+use Rattle.rds_audit.specs.AuditLaws.{WhatPassesIsSafe}
 use Rattle.rds_view_lines.specs.Output.{Display}
 use Rattle.rds_view_lines.specs.ViewParts.{Part}
+use Rattle.rds_log.specs.FilledLog.{IsLogOf}
 use Rattle.rds_log.specs.OneLog.{same_log}
 use Rattle.rds_wire.specs.Printed.{Prints, Shows}
 use Rattle.rds_wire.specs.Received.{first_entries}
 use Rattle.rds_wire.specs.Safe.{StationPlans}
 use Rattle.rds_wire.specs.Twice.{HasMessages, IsReceivedWithWrong, IsSafeIfHeardTwice, WhatIsEncodedIsSafeIfHeardTwice}
+use Rattle.rds_wire.specs.Twice.{WhatPassesIsSafeIfHeardTwice}
 use Rattle.rds_wire.specs.Wire.{aired}
 use Rattle.rds_wire.proofs.Firsts.{entry_below, entry_of_first, first_length}
 use Rattle.rds_wire.proofs.Logs.{is_log_of}
@@ -122,7 +125,7 @@ lawful_is_safe_twice laws pi m w k log sent air is lawful tags x p y q t one oth
     shown_safely laws.source d m t air (first_entries (t + 1) sent) r s (Shows p t) (Shows q t) upto lawful.text.spaced
     (laws.safe w k m t air.plans (first_entries (t + 1) sent) (r ∷ s ∷ []) (lawful_first d (t + 1) air.plans sent
     lawful)
-    (All-cons Listens r (s ∷ []) lr (All-cons Listens s [] ls (All-nil Listens)))) lr.shows
+    (All-cons Listens r (s ∷ []) lr (All-cons Listens s [] ls (All-nil Listens)))) lr.shows ls.shows
     (shows pi m w k log sent is x p t one ra) (shows pi m w k log sent is y q t other rb)
   where
     upto : AreTagsUpTo t air (marks text_mark (first_entries (t + 1) sent))
@@ -139,3 +142,23 @@ encoded_is_safe_twice laws encoder head m w k script log is_head some encoded =
     lawful_is_safe_twice laws head.pi m w k log (log_of (m + late) events) (aired (m + late) events)
     (record { slots = has.sent; has = is_log_of log has.sent has.cut; heard = has.heard }) has.lawful
     (λ slot pair is. (tagged encoder.tags (m + late) events slot pair is).0)
+
+-- the law of audits for them
+pub passed_is_safe_twice : TwiceLaws → WhatPassesIsSafe → WhatPassesIsSafeIfHeardTwice
+passed_is_safe_twice laws audits pi m w k n stop log some whole =
+    let messages = whole.pass.heard in
+    let passed = audits m (lateness_of_two w k) messages some whole.pass.passes in
+    let is : IsLogOf log whole.slots = record { lines = whole.lines; are = whole.are; say = whole.say } in
+    let has : HasMessages pi log messages = record { slots = whole.slots; has = is; heard = whole.pass.are } in
+    record {
+      messages = messages;
+      has = has;
+      plans = passed.plans;
+      lawful = passed.lawful;
+      safe = lawful_is_safe_twice laws pi m w k log messages
+          (record {
+            plans = passed.plans;
+            HasTags = λ slot pair. IsMarkIn (marks text_mark messages) slot (Tagged pair);
+          })
+          has passed.lawful (λ slot pair mark. mark);
+    }

@@ -125,8 +125,8 @@ module _ (a : Auditing) (log : List ℕ) (sent : List (Option Group)) (messages 
         let same = same_log log r.sent sent r.log_has is in
         let came = r.came in
         record {
-          heard = by_own_clock a.pi now sent (map (own_group a.pi) got) messages view.0 r.origins heard
-              (own_heard a.pi got view.0 view.1) laws a t long (rw same at came);
+          heard = by_own_clock laws a t now sent (map (own_group a.pi) got) messages view.0 r.origins heard
+              (own_heard a.pi got view.0 view.1) long (rw same at came);
           shows = view.2;
         }
 
@@ -156,7 +156,7 @@ lawful_is_safe laws stop pi m k log sent messages air is heard lawful tags x p y
     lawful.text.spaced
     (laws.safe (m + k) m now air.plans (first_entries (now + 1) messages) (r ∷ s ∷ [])
     (lawful_first (m + k) (now + 1) air.plans messages lawful)
-    (All-cons Listens r (s ∷ []) lr (All-cons Listens s [] ls (All-nil Listens)))) lr.shows
+    (All-cons Listens r (s ∷ []) lr (All-cons Listens s [] ls (All-nil Listens)))) lr.shows ls.shows
     (shows a log sent messages now is heard x p t one ra) (shows a log sent messages now is heard y q u other rb)
   where
     upto : AreTagsUpTo now air (marks text_mark (first_entries (now + 1) messages))
@@ -181,7 +181,7 @@ recording_is_safe laws stop pi m k log sent messages air is heard lawful tags x 
     shown_safely laws.source (m + k) m (now + (m + k)) air (preceded (m + k) (first_entries (now + 1) messages))
     (later (m + k) r) (later (m + k) s) (Shows p t) (Shows q u) upto lawful.text.spaced
     (laws.recording (m + k) m now (m + k) air.plans (first_entries (now + 1) messages) (r ∷ s ∷ []) cut
-    (All-cons Listens r (s ∷ []) lr (All-cons Listens s [] ls (All-nil Listens)))) lr.shows
+    (All-cons Listens r (s ∷ []) lr (All-cons Listens s [] ls (All-nil Listens)))) lr.shows ls.shows
     (shows a log sent messages now is heard x p t one ra) (shows a log sent messages now is heard y q u other rb)
   where
     n : ℕ

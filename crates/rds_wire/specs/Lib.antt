@@ -9,3 +9,5 @@ pub mod Twice
 pub mod Program
 -- What the lines of `witness` mean.
 pub mod Mixes
+-- From the groups of any station to its messages.
+pub mod Groups

@@ -1,18 +1,19 @@
--- The wire law for runs of the program: it encodes a script, and decodes what reached the receivers of the log.
+-- The wire laws for runs of the program: it encodes a script, or says yes to a log, and decodes what reached the
+-- receivers of the log.
 use Rattle.std.specs.Prelude.{◌≡◌, ◌<◌, ◌+◌, ◌^◌, [], ℕ, Bool, List, Option, Some}
 use Rattle.rds_cli.specs.declared.request.Programme.{Programme}
 use Rattle.rds_cli.specs.declared.request.Task.{Task}
-use Rattle.rds_cli.specs.declared.request.Task.TheVariants.{Decode, Encode}
+use Rattle.rds_cli.specs.declared.request.Task.TheVariants.{Audit, Decode, Encode}
 use Rattle.rds_io.specs.Told.{Traffic}
 use Rattle.rds_log.specs.Audit.{complete}
 use Rattle.rds_log.specs.LogWrites.{tuned}
-use Rattle.rds_program.specs.Run.{ReaderOver, TaskRuns}
+use Rattle.rds_program.specs.Run.{ReaderOver, TaskRuns, auditing_of}
 use Rattle.rds_receiver.specs.Receipts.{Tuning}
 use Rattle.rds_script.specs.Play.{with_form}
 use Rattle.rds_script.specs.declared.form.Form.TheVariants.{Log}
 use Rattle.rds_view_lines.specs.ViewParts.{Part}
 use Rattle.rds_wire.specs.Printed.{Prints, Shows}
-use Rattle.rds_wire.specs.Wire.{Encodes, IsSafeOnTheWire, aired, station_of}
+use Rattle.rds_wire.specs.Wire.{Encodes, HasSafePlans, IsSafeOnTheWire, aired, station_of}
 
 -- a reader of which only its bytes and its count of failures matter
 abbrev pub over : Traffic → ReaderOver
@@ -39,6 +40,13 @@ WhatTheProgramEncodesIsSafe =
     → (log : List ℕ) × (encoded : Encodes (with_form Log
     (station_of (record { pi = pi; tp = programme.tp; pty = programme.pty }) m k)) script log)
     × IsSafeOnTheWire (complete pi m k) output (aired (m + k) encoded.write.events)
+
+-- a log to which the program says yes with M and K, by status 0, has safe plans; also that of a running station
+abbrev pub WhatTheProgramPassesIsSafe : Type 0
+WhatTheProgramPassesIsSafe =
+    (pi m k : ℕ) (running all : Bool) (log output : List ℕ) → 0 < m
+    → (ran : Ran (Audit k running all) (tuned pi m) log output) → ran.status ≡ 0
+    → HasSafePlans (auditing_of (tuned pi m) k running all) log
 
 -- what the program decodes with M shows what such receivers print
 abbrev pub WhatTheProgramDecodesIsPrinted : Type 0

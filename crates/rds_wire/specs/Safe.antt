@@ -23,13 +23,18 @@ pub record WasOnAir (d now : ℕ) (plan : List Broadcast) (content : List ℕ) (
   pub past : slot ≤ now
   pub recent : now < slot + d
 
--- both contents were on air so, as one broadcast or as two that follow each other
-pub record WereOnAir (d now : ℕ) (plan : List Broadcast) (one other : List ℕ) : Type 0 where
+-- one receiver shows broadcast number k and the other one number l: one broadcast, or two that follow each other
+pub record ShowNeighbours (One Other : ℕ → Type 0) : Type 0 where
   pub k : ℕ
   pub l : ℕ
-  pub first : WasOnAir d now plan one k
-  pub second : WasOnAir d now plan other l
+  pub first : One k
+  pub second : Other l
   pub near : (k ≤ l + 1) × (l ≤ k + 1)
+
+-- each of these contents is nothing, or broadcast number k of the plan, which was on air so
+abbrev pub ShowsBroadcast : ℕ → ℕ → List Broadcast → (List ℕ → Type 0) → ℕ → Type 0
+ShowsBroadcast d now plan Shown k =
+    (content : List ℕ) → Shown content → IsNothing content ⊎ WasOnAir d now plan content k
 
 -- a part of a pair of tags
 abbrev pub IsOfPair : Part → Type 0
@@ -39,30 +44,32 @@ IsOfPair Item = Unit {0}
 IsOfPair Tag1 = Unit {0}
 IsOfPair Tag2 = Unit {0}
 
--- the text is broadcast number k, and these contents of the item bits and the tags are those of a pair that was on air
--- with this broadcast in a slot up to `now`, at least d slots after its start; a tag may show nothing
+-- the text is broadcast number k, which was on air so. These contents of the item bits and the tags are those of a
+-- pair that was on air with the same broadcast in a slot up to `now`, at least d slots after its start; a tag may
+-- show nothing
 pub record WentWith (d now : ℕ) (air : StationPlans) (text : List ℕ) (contents : Part → List ℕ) (k : ℕ) : Type 0 where
-  pub broadcast : Broadcast
-  pub planned : HasNumber air.plans.text k broadcast
-  pub says : text ≡ quoted broadcast.bytes
+  pub on_air : WasOnAir d now air.plans.text text k
   pub pair : PairFields
   pub slot : ℕ
   pub went : air.HasTags slot pair
-  pub lasted : broadcast.start + d ≤ slot
-  pub to : slot ≤ broadcast.end
+  pub lasted : on_air.broadcast.start + d ≤ slot
+  pub to : slot ≤ on_air.broadcast.end
   pub by_now : slot ≤ now
   pub cut : (part : Part) → IsOfPair part → IsNothing (contents part)
-      ⊎ (contents part ≡ part_content part None (view_with (Some broadcast.bytes) None (Some pair)))
+      ⊎ (contents part ≡ part_content part None (view_with (Some on_air.broadcast.bytes) None (Some pair)))
+
+-- a receiver that shows these contents of its parts shows text number k or none. Its item bits and tags went with the
+-- text that it shows, or they are nothing
+pub record ShowsText (d now : ℕ) (air : StationPlans) (Shown : Part → List ℕ → Type 0) (k : ℕ) : Type 0 where
+  pub text : ShowsBroadcast d now air.plans.text (Shown Text) k
+  pub tags : (text : List ℕ) (contents : Part → List ℕ) → Shown Text text
+      → ((part : Part) → IsOfPair part → Shown part (contents part))
+      → ((part : Part) → IsOfPair part → IsNothing (contents part)) ⊎ WentWith d now air text contents k
 
 -- two receivers show these contents of their parts, and that is safe. Each text and name was on air in one of the d
--- slots up to `now`. Both receivers show one broadcast, or two that follow each other. The item bits and the tags are
--- those of one pair, which went with the text that is shown
+-- slots up to `now`, and the item bits and the tags went with the text that is shown. Both receivers show one
+-- broadcast, or two that follow each other. If a receiver shows nothing, any number will do for it
 pub record AreSafe (d now : ℕ) (air : StationPlans) (One Other : Part → List ℕ → Type 0) : Type 0 where
-  pub texts : (x y : List ℕ) → One Text x → Other Text y
-      → IsNothing x ⊎ IsNothing y ⊎ WereOnAir d now air.plans.text x y
-  pub names : (x y : List ℕ) → One Name x → Other Name y
-      → IsNothing x ⊎ IsNothing y ⊎ WereOnAir d now air.plans.name x y
-  pub tags : (x : List ℕ) (contents : Part → List ℕ) → One Text x
-      → ((part : Part) → IsOfPair part → One part (contents part))
-      → ((part : Part) → IsOfPair part → IsNothing (contents part))
-      ⊎ ((k : ℕ) × WentWith d now air x contents k)
+  pub texts : ShowNeighbours (ShowsText d now air One) (ShowsText d now air Other)
+  pub names : ShowNeighbours (ShowsBroadcast d now air.plans.name (One Name))
+      (ShowsBroadcast d now air.plans.name (Other Name))

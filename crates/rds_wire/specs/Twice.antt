@@ -6,7 +6,11 @@ use Rattle.rds_fields.specs.declared.head.Head.{Head}
 use Rattle.rds_fields.specs.declared.message.Message.{Message}
 use Rattle.rds_receiver.specs.Receipts.{AreHeard}
 use Rattle.rds_safety.specs.Confirmed.{IsHeardWithWrong, NoWrongConfirmed, lateness_of_two}
+use Rattle.rds_safety.specs.Marks.{IsMarkIn, Tagged, marks, text_mark}
+use Rattle.rds_safety.specs.Plans.{AreLawful, Plans}
+use Rattle.rds_log.specs.Audit.{WholePasses, complete}
 use Rattle.rds_log.specs.FilledLog.{IsLogOf}
+use Rattle.rds_log.specs.declared.audit_log.Stop.{Stop}
 use Rattle.rds_script.specs.Play.{with_form}
 use Rattle.rds_script.specs.declared.form.Form.TheVariants.{Log}
 use Rattle.rds_wire.specs.Printed.{Prints, Shows}
@@ -47,3 +51,20 @@ WhatIsEncodedIsSafeIfHeardTwice =
     (head : Head) (m w k : ℕ) (script log : List ℕ) → IsHead head → 0 < m
     → (encoded : Encodes (with_form Log (station_of head m (lateness_of_two w k))) script log)
     → IsSafeIfHeardTwice head.pi m w k log (aired (m + lateness_of_two w k) encoded.write.events)
+
+-- some plans are lawful for the messages of the log, and by them it is safe for receivers with a window of w slots
+pub record HasPlansForTwo (pi m w k : ℕ) (log : List ℕ) : Type 0 where
+  pub messages : List (Option Message)
+  pub has : HasMessages pi log messages
+  pub plans : Plans
+  pub lawful : AreLawful (m + lateness_of_two w k) plans messages
+  pub safe : IsSafeIfHeardTwice pi m w k log record {
+    plans = plans;
+    HasTags = λ slot pair. IsMarkIn (marks text_mark messages) slot (Tagged pair);
+  }
+
+-- a complete log to which `audit` says yes with a lateness of k + w - 1 has such plans, wherever the audit would stop
+abbrev pub WhatPassesIsSafeIfHeardTwice : Type 0
+WhatPassesIsSafeIfHeardTwice =
+    (pi m w k n : ℕ) (stop : Stop) (log : List ℕ) → 0 < m
+    → WholePasses (record (complete pi m (lateness_of_two w k)) { stop = stop }) n log → HasPlansForTwo pi m w k log

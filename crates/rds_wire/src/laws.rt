@@ -1,9 +1,12 @@
 //! The wire laws, from bytes to bytes.
 ghost use Rattle.rds_wire.specs.FromTimes.{WhatSlotsWritesIsReceived};
+ghost use Rattle.rds_wire.specs.Groups.{GroupsByOwnClockAreMessagesByIt, LateGroupsAreLateMessages};
+ghost use Rattle.rds_wire.specs.Groups.{OtherGroupsAreNothing, WhatIsSentIsHeard};
 ghost use Rattle.rds_wire.specs.Mixes.{AMixIsShown};
 ghost use Rattle.rds_wire.specs.Program.{WhatTheProgramDecodesIsPrinted, WhatTheProgramEncodesIsSafe};
+ghost use Rattle.rds_wire.specs.Program.{WhatTheProgramPassesIsSafe};
 ghost use Rattle.rds_wire.specs.Received.{WhoLosesSlotsReceives};
-ghost use Rattle.rds_wire.specs.Twice.{WhatIsEncodedIsSafeIfHeardTwice};
+ghost use Rattle.rds_wire.specs.Twice.{WhatIsEncodedIsSafeIfHeardTwice, WhatPassesIsSafeIfHeardTwice};
 ghost use Rattle.rds_wire.specs.Wire.{WhatIsEncodedIsSafeOnTheWire, WhatPassesIsSafeOnTheWire};
 
 use rds_arrivals::filled_logs_are_own_clocks;
@@ -62,13 +65,36 @@ pub fn what_is_encoded_is_safe_if_heard_twice()
     sent_is_of_what_is_on_air();
 }
 
-/// States the law of scripts for runs of the program: what the command `encode` writes is safe on the wire, and what
-/// the command `decode` writes shows what the laws say of receivers. Either run may end at a fault.
+/// States the law of audits for such receivers: what `decode --confirm W` prints for a complete log to which `audit`
+/// said yes with a lateness of K + W - 1 was on air, by lawful plans of the log, within the last M + K + W - 1 slots.
+pub fn what_passes_is_safe_if_heard_twice()
+    ensures { WhatPassesIsSafeIfHeardTwice }
+{
+    one_source();
+    safe_if_confirmed();
+    what_passes_is_safe();
+}
+
+/// States that receivers hear the messages of a station as late as they get its groups, or by the same clock of their
+/// own. So the laws of rds_safety and rds_world, which speak of messages, hold for receivers of groups in C and Python.
+/// A group of another programme is as nothing.
+pub fn groups_are_heard_as_messages()
+    ensures sent { WhatIsSentIsHeard }
+    ensures others { OtherGroupsAreNothing }
+    ensures late { LateGroupsAreLateMessages }
+    ensures own_clock { GroupsByOwnClockAreMessagesByIt }
+{}
+
+/// States both laws for runs of the program: what the command `encode` writes is safe on the wire, and so is a log to
+/// which the command `audit` says yes by status 0. What the command `decode` writes shows what the laws say of
+/// receivers. A run of `encode` or `decode` may end at a fault.
 pub fn what_the_program_encodes_it_decodes_safely()
     ensures encodes { WhatTheProgramEncodesIsSafe }
+    ensures audits { WhatTheProgramPassesIsSafe }
     ensures decodes { WhatTheProgramDecodesIsPrinted }
 {
     what_is_encoded_is_safe_on_the_wire();
+    what_passes_is_safe_on_the_wire();
     a_station_is_safe();
     the_encoder_is_lawful();
     sent_is_of_what_is_on_air();

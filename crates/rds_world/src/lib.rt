@@ -18,6 +18,7 @@ mod station_laws;
 mod world;
 
 pub use event::{Command, MOST_RECEIVERS, Reception, SlotEvent};
+pub use rds_safety::{safe_by_plans, the_dwell_is_the_least};
 pub use receiver_kind::ReceiverKind;
 pub use reply::{Answer, Reply, StepRefused, WorldRefused};
 pub use slots::{PlayRefused, play};
