@@ -85,11 +85,13 @@ RUN_BY = [
 # a command that nothing runs here, and the reason
 NOT_HERE = [
     (r"\./test$|python3 -m tests|python3 -m unittest ", "the tests themselves"),
-    (r"\(cd crates/rdsrt && rt try ", "it compiles the program anew, for minutes on a busy machine"),
+    (r"\(cd crates/rdsrt && rt try |\$\(tools/unproved\) ", "it compiles the program anew, for minutes on a busy machine"),
     (r"\(cd crates/rds_encoder && rt check\)", "it proves a crate with a wrong line; test_trust has the line"),
     (r"rt ", "a command of the kit: the gate runs `rt ci`, and that takes minutes"),
     (r"\./install PREFIX --target (?:aarch64|armv7)$", "it builds for another target; tests/release runs it"),
-    (r"tools/(?:release|build)$|tools/release (?:--snapshot )?OUT$|tests/release$", "makes or tries all packages, by hand: 30 minutes"),
+    (r"tools/build(?:$|  # .*\n\./test +# )", "it proves for up to half an hour, and the tests run what it made"),
+    (r"tools/unproved$", "it builds for minutes; test_crates runs it with programs in place of the kit's"),
+    (r"tools/release$|tools/release (?:--snapshot )?OUT$|tests/release$", "makes or tries all packages, by hand: 30 minutes"),
     (r"tools/edits(?: NAME)?$", "it proves for minutes; test_edits tests all that needs no prover"),
     (r"bin/rdsrt decode |pip install ", "tests/release runs it in a fresh system"),
     (r"bench/", "measures for minutes, by hand when the code has changed"),
@@ -164,7 +166,7 @@ def is_there(name):
 
 def ran(call, folder=ROOT, errors=subprocess.STDOUT):
     """Returns the output of lines of a page, with the built program as ./rdsrt and as rdsrt."""
-    # the built program comes before the script of the same name, which may prove it anew
+    # the proved program comes before the script of the same name, which may run one that is not proved
     paths = [os.path.dirname(PROGRAM), folder, os.path.join(ROOT, "examples"), os.environ["PATH"]]
     environment = {**os.environ, "LC_ALL": "C.UTF-8", "PATH": os.pathsep.join(paths)}
     done = subprocess.run(["bash", "-c", call.replace("./rdsrt", "rdsrt")], cwd=folder, stdin=subprocess.DEVNULL,

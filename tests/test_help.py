@@ -33,6 +33,7 @@ SHOWN = [
     ("short_help_of_slots", ["slots", "-h"], 0),
     ("help_of_no_command", ["help", "nonsense"], 2),
     ("version", ["--version"], 0),
+    ("version", ["-V"], 0),
     ("no_subcommand", [], 2),
     ("wrong_subcommand", ["sing", "--pi", "C201"], 2),
     ("no_programme", ["decode"], 2),
@@ -96,24 +97,25 @@ class DecidedByArguments(ProgramCase):
 
 
 class Scripts(Case):
-    """The scripts answer for help at once: they need no kit and build nothing."""
+    """What the scripts do where there is no kit: they answer for help at once, and else say what is missing."""
 
     def asked(self, script, *words):
-        """Returns the status, the output and the errors of a script, where there is no `rt` and no python3."""
+        """Returns the status, the output and the errors of a script, where there is no `rt`."""
         done = subprocess.run([path(script), *words], capture_output=True, timeout=PROMPT, text=True,
                               env={"PATH": self.programs, "LC_ALL": "C.UTF-8"})
         return done.returncode, done.stdout, done.stderr
 
     def setUp(self):
         self.programs = temporary_folder(self)
-        for name in ("bash", "cat", "dirname", "env", "python3", "sed"):
+        for name in ("bash", "cat", "dirname", "env", "git", "mkdir", "python3", "sed"):
             os.symlink(shutil.which(name), os.path.join(self.programs, name))
 
-    def test_rdsrt_prints_the_help_of_the_program(self):
-        asked = [it for it in SHOWN if it[1] in (["-h"], ["--help"]) or it[1][1:] in (["-h"], ["--help"])]
-        self.check("texts", len(asked), 14)
+    def test_rdsrt_has_the_help_and_the_version_of_the_program(self):
+        asked = [it for it in SHOWN if not it[1] or it[2] == 0]
+        self.check("texts", len(asked), 24)
         for name, words, status in asked:
-            self.check(f"./rdsrt {words}", self.asked("rdsrt", *words), (status, text_of(f"tests/shown/{name}.txt"), ""))
+            text = text_of(f"tests/shown/{name}.txt")
+            self.check(f"./rdsrt {words}", self.asked("rdsrt", *words), (status, text, text if status else ""))
 
     def test_other_scripts_print_how_they_are_called(self):
         scripts = {"test": "usage: ./test", "install": "./install PREFIX", "page/build": "usage: page/build [OUT]",
@@ -122,3 +124,13 @@ class Scripts(Case):
             for word in ("-h", "--help"):
                 status, printed, errors = self.asked(script, word)
                 self.check(f"{script} {word}", (status, call in printed, "set -eu" in printed, errors), (0, True, False, ""))
+
+    def test_each_script_says_in_a_line_that_the_kit_is_missing(self):
+        line, out = 'the command rt (the kit of Rattle) is not in PATH: see README, "Get it"\n', os.path.join(self.programs, "out")
+        scripts = ["rdsrt decode --pi C201", "test", f"install {out}", f"install {out} --target armv7", "tools/build",
+                   "tools/build rds_ffi", "tools/edits", "tools/proof verdicts", f"page/build {out}", "bench/all",
+                   "bench/profile decode", "experiments/microcontrollers/narrow.py armv7"]
+        for call in scripts:
+            self.check(call, self.asked(*call.split()), (1, "", line))
+        status, _, errors = self.asked("tools/release", "--snapshot", out)
+        self.check("tools/release", (status, f"tools/release: {line}" in errors, "Traceback" in errors), (1, True, False))

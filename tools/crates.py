@@ -1,5 +1,5 @@
-"""Reads crates.txt: the crates with their libraries. Knows where their files are and which of these are stale. Has `rt`
-build libraries, and makes calls of the kit's compiler.
+"""Reads crates.txt: the crates with their libraries. Knows where their files are and which of these are stale, and makes calls
+of the kit's compiler. As a program it prints the folder of the kit.
 """
 import hashlib
 import os
@@ -10,7 +10,10 @@ import sys
 
 ROOT = os.path.dirname(os.path.dirname(os.path.abspath(__file__)))
 LIST = os.path.join(ROOT, "crates.txt")
-KIT = os.path.dirname(os.path.dirname(os.path.realpath(shutil.which("rt"))))
+RT = shutil.which("rt") or sys.exit('the command rt (the kit of Rattle) is not in PATH: see README, "Get it"')
+KIT = os.path.dirname(os.path.dirname(os.path.realpath(RT)))
+# how long the first proof of the program takes
+FIRST_PROOF = "15 to 35 minutes on 4 cores"
 
 
 def rows():
@@ -40,6 +43,11 @@ def below(name, uses):
     return found
 
 
+def with_below(names, uses):
+    """Returns these crates and those below them, lowest first."""
+    return [*dict.fromkeys(it for name in names for it in [*below(name, uses), name])]
+
+
 def folder(name):
     return os.path.join(ROOT, "crates", name)
 
@@ -51,7 +59,7 @@ def rlib(name):
 
 def newest_source(name, uses):
     """Returns when a source of the crate or of one below it was last written, or one of its files added."""
-    walks = [it for crate in [*below(name, uses), name] for part in ("src", "specs", "proofs")
+    walks = [it for crate in with_below([name], uses) for part in ("src", "specs", "proofs")
              for it in os.walk(os.path.join(folder(crate), part))]
     return max(os.path.getmtime(os.path.join(at, file)) for at, _, files in walks for file in ("", *files))
 
@@ -64,40 +72,15 @@ def is_stale(made, name, uses, *more):
     return os.path.getmtime(made) < max(newest_source(name, uses), *map(os.path.getmtime, (LIST, *more)))
 
 
-def is_left(name, uses):
-    """Returns whether `rt ci` or `rt verdict` left the library of the crate, which has no stamp then, and no source is
-    newer. The time of its folder counts, since `rt ci` keeps the times of the files in it."""
-    made = rlib(name)
-    stamp = os.path.join(os.path.dirname(made), "stamp")
-    return os.path.exists(made) and os.path.getmtime(made) >= newest_source(name, uses) and not os.path.exists(stamp)
-
-
-def run_rt(name, *words):
-    """Calls `rt` in the folder of a crate. Prints on standard error a line for each crate that it proves or waits for, and
-    all of its output if it fails. Returns the status."""
-    printed = []
-    with subprocess.Popen(["rt", *words], cwd=folder(name), stdout=subprocess.PIPE, stderr=subprocess.STDOUT, text=True) as run:
-        for line in run.stdout:
-            printed.append(line)
-            if line.startswith("rt: chose "):
-                print(f"proving {line.split()[-1]}", file=sys.stderr, flush=True)
-            elif "waiting for" in line:
-                print(line, end="", file=sys.stderr, flush=True)
-    if run.returncode:
-        sys.stderr.writelines(printed)
-    return run.returncode
-
-
-def build_below(names, uses):
-    """Has `rt` build the libraries below these crates, if `rt ci` did not leave them all. Ends the script if that fails."""
-    lower = {it for name in names for it in below(name, uses)}
-    if all(is_left(it, uses) for it in lower):
-        return
-    # `rt lib` builds those below a library too
-    lower -= {dep for it in lower for dep in below(it, uses)}
-    for it in sorted(lower):
-        if run_rt(it, "lib"):
-            sys.exit(f"{it} is not proved")
+def keeping_toolchain(at, clang):
+    """Fills a folder with links to the kit's toolchain, and with this script in place of its clang. Returns the folder."""
+    subprocess.run(["cp", "-as", f"{KIT}/toolchain/.", at], check=True)
+    path = os.path.join(at, "bin/clang")
+    os.remove(path)
+    with open(path, "w", encoding="utf-8") as file:
+        file.write(clang)
+    os.chmod(path, 0o755)
+    return at
 
 
 def compile_words(name, uses, jobs, *more, verb="build"):
@@ -126,3 +109,7 @@ def sums(made):
     """Returns a line with the sum of a built file, and one for the static program beside it."""
     return [f"sha256={hashlib.sha256(pathlib.Path(it).read_bytes()).hexdigest()} {os.path.basename(it)}"
             for it in (made, f"{made}-static") if os.path.exists(it)]
+
+
+if __name__ == "__main__":
+    print(KIT)
