@@ -29,7 +29,7 @@ def status_of(line):
 def ran(command):
     """Returns the status and the output of the command, with the built program in place of ./rdsrt."""
     environment = {**os.environ, "RDSRT": PROGRAM}
-    call = re.sub(r"^\./rdsrt ", '"$RDSRT" ', command)
+    call = command.replace("./rdsrt ", '"$RDSRT" ')
     done = subprocess.run(["bash", "-c", call], cwd=ROOT, stdout=subprocess.PIPE, stderr=subprocess.DEVNULL,
                           timeout=SECONDS,
                           env=environment)

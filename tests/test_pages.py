@@ -6,6 +6,7 @@ import subprocess
 
 from tests.support import PROGRAM, ROOT, SECONDS, Case, script, text_of
 from tests.test_commands import MANUAL, manual
+import crates
 from shipped import anchors
 
 HEADER, CURES = "include/rdsrt.h", "page/index.html"
@@ -14,7 +15,7 @@ REPLIES = ("ok", "silent", "held", "notext", "outoftext")
 FAULT_LINES = ("fault line", "fault row", "fault read", "fault too long", "fault memory", "fault pi",
                "fault confirm", "fault lose")
 # each time is in one page
-TIMES = ("15 to 30 minutes", "40 to 80 minutes")
+TIMES = (crates.FIRST_PROOF, "40 to 80 minutes", "1 to 2 minutes")
 
 
 def all_pages():
