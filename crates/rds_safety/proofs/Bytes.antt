@@ -1,18 +1,19 @@
 -- Lemmas: a run in one broadcast makes the bytes of that broadcast whole, or nothing.
-use Rattle.std.proofs.Common.{◌≡◌, ℕ, Bool, true, false, nat_eq, List, [], ◌∷◌, Some, cond, refl, sym, ap, ◌∙◌}
+use Rattle.std.proofs.Common.{◌≡◌, ℕ, Bool, true, false, nat_eq, List, [], ◌∷◌, Some, cond, refl, sym, ap, ◌∙◌, subst}
 use Rattle.std.specs.Cmp.{unsigned_tied}
 use Rattle.std.specs.List.{AllByRecursion}
 use Rattle.std.specs.FinMap.{empty, get, get-empty, get-insert, insert}
 use Rattle.std.specs.Ordering.{nat_cmp}
 use Rattle.std.proofs.lemmas.Bool.{eqb-true}
 use Rattle.std.proofs.lemmas.Cmp.{nat_cmp_total}
-use Rattle.rds_assembly.specs.Body.{AreSegmentsOf, segment_of}
+use Rattle.rds_assembly.specs.Body.{AreSegmentsOf, name_body, segment_of, text_body}
 use Rattle.rds_assembly.specs.Cells.{Cells}
 use Rattle.rds_assembly.specs.OwnSegments.{own_name, own_text}
 use Rattle.rds_assembly.specs.ServiceLaws.{no_name_of_none, no_text_of_none}
 use Rattle.rds_assembly.specs.Whole.{IsWholeName, IsWholeText}
 use Rattle.rds_encoder.specs.Plan.{Broadcast, HasNumber}
 use Rattle.rds_receiver.specs.Receipts.{Segment}
+use Rattle.rds_receiver.specs.declared.fragment.Fragment.{Fragment}
 use Rattle.rds_receiver.specs.Run.{cells_of}
 use Rattle.rds_safety.specs.Late.{Input}
 use Rattle.rds_safety.specs.Lawful.{IsFragmentOf, Kind, names, texts}
@@ -25,41 +26,71 @@ pub get-put : (cells : Cells) (k : ℕ) (cell : List ℕ) (a : ℕ)
 get-put cells k cell a = get-insert nat_cmp_total cells k cell a ∙ ap (λ same. cond same (Some cell) (get cells a))
     (unsigned_tied a k)
 
--- each cell of a run of fragments of one body is the body's segment at its address
-pub cell_is : (body : List ℕ) (gs : List Segment) → AllByRecursion (λ (g : Segment). IsFragmentOf body g.fragment) gs
-    → (a : ℕ) (cell : List ℕ) → get (cells_of gs) a ≡ Some cell → cell ≡ segment_of body a
-cell_is body [] all a cell e = (let none = get-empty {X = List ℕ} nat_cmp a in absurd (cc))
-cell_is body (g ∷ older) all a cell e = by (nat_eq a g.fragment.address) refl
-    (sym (get-put (cells_of older) g.fragment.address g.fragment.bytes a) ∙ e) (cell_is body older all.1 a cell)
+-- what holds of the address and the bytes of each segment holds of each cell
+pub cell_has : (P : ℕ → List ℕ → Type 0) (gs : List Segment)
+    → AllByRecursion (λ (g : Segment). P g.fragment.address g.fragment.bytes) gs
+    → (a : ℕ) (cell : List ℕ) → get (cells_of gs) a ≡ Some cell → P a cell
+cell_has P [] all a cell e = (let none = get-empty {X = List ℕ} nat_cmp a in absurd (cc))
+cell_has P (g ∷ older) all a cell e = by (nat_eq a g.fragment.address) refl
+    (sym (get-put (cells_of older) g.fragment.address g.fragment.bytes a) ∙ e) (cell_has P older all.1 a cell)
   where
     by : (same : Bool) → nat_eq a g.fragment.address ≡ same → cond same (Some g.fragment.bytes) (get (cells_of older) a)
         ≡ Some cell
-        → (get (cells_of older) a ≡ Some cell → cell ≡ segment_of body a)
-        → cell ≡ segment_of body a
+        → (get (cells_of older) a ≡ Some cell → P a cell) → P a cell
     by true t e rest =
         let newest : g.fragment.bytes ≡ cell = cc in
-        sym newest ∙ all.0.bytes ∙ ap (segment_of body) (sym (eqb-true a g.fragment.address t))
+        subst (P a) newest (subst (λ (n : ℕ). P n g.fragment.bytes) (sym (eqb-true a g.fragment.address t)) all.0)
     by false t e rest = rest e
 
--- the segments of a broadcast are fragments of its body
+-- the segments are of a value
+abbrev pub AreParts : Kind → List ℕ → List Segment → Type 0
+AreParts kind x gs = AllByRecursion (λ (g : Segment). kind.HasPart x g.fragment) gs
+
+-- each cell of fragments of one body is the body's segment at its address
+are_segments : (body : List ℕ) (gs : List Segment) → AllByRecursion (λ (g : Segment). IsFragmentOf body g.fragment) gs
+    → AreSegmentsOf body (cells_of gs)
+are_segments body gs all =
+    record { taken = cell_has (λ a cell. cell ≡ segment_of body a) gs (by gs all) }
+  where
+    by : (gs : List Segment) → AllByRecursion (λ (g : Segment). IsFragmentOf body g.fragment) gs
+        → AllByRecursion (λ (g : Segment). g.fragment.bytes ≡ segment_of body g.fragment.address) gs
+    by [] all = tt
+    by (g ∷ older) all = (all.0.bytes, by older all.1)
+
+-- the segments of a broadcast are of its value
 are_fragments : (kind : Kind) (input : Input) (b : Broadcast) (gs : List Segment) → AreOf kind input b gs
-    → AllByRecursion (λ (g : Segment). IsFragmentOf (kind.body b.bytes) g.fragment) gs
+    → AreParts kind b.bytes gs
 are_fragments kind input b [] all = tt
 are_fragments kind input b (g ∷ older) all = (all.0.has.fragment, are_fragments kind input b older all.1)
 
 -- a service: segments of a value make only this value whole, and no segments make nothing whole
 pub record IsService (kind : Kind) (IsWhole : Cells → List ℕ → Type 0) : Type 0 where
-  pub own : (cells : Cells) (x y : List ℕ) → kind.IsValue x → AreSegmentsOf (kind.body x) cells → IsWhole cells y
-      → y ≡ x
+  pub own : (gs : List Segment) (x y : List ℕ) → kind.IsValue x → AreParts kind x gs → IsWhole (cells_of gs) y → y ≡ x
   pub none : (x : List ℕ) → IsWhole empty x → ⊥
+
+-- a service whose fragments are the segments of its body
+pub record SendsItsBody (kind : Kind) : Type 0 where
+  pub parts : (x : List ℕ) (p : Fragment) → kind.HasPart x p → IsFragmentOf (kind.body x) p
+
+pub texts_send_their_body : SendsItsBody texts
+texts_send_their_body = record { parts = λ x p is. is }
+
+pub names_send_their_body : SendsItsBody names
+names_send_their_body = record { parts = λ x p is. is }
 
 -- a whole text has the bytes of its value
 pub text_service : IsService texts IsWholeText
-text_service = record { own = own_text; none = no_text_of_none }
+text_service = record {
+  own = λ gs x y value all. own_text (cells_of gs) x y value (are_segments (text_body x) gs all);
+  none = no_text_of_none;
+}
 
 -- a whole name has the bytes of its value
 pub name_service : IsService names IsWholeName
-name_service = record { own = own_name; none = no_name_of_none }
+name_service = record {
+  own = λ gs x y value all. own_name (cells_of gs) x y value (are_segments (name_body x) gs all);
+  none = no_name_of_none;
+}
 
 -- each broadcast of the plan has a value of the service
 abbrev pub HasValues : Kind → List Broadcast → Type 0
@@ -71,8 +102,5 @@ pub bytes_of_run : (d t : ℕ) (kind : Kind) (IsWhole : Cells → List ℕ → T
     → IsService kind IsWhole → HasValues kind plan
     → (l : LiesInOne d t kind plan input g older) → IsWhole (cells_of (g ∷ older)) x → x ≡ l.broadcast.bytes
 bytes_of_run d t kind IsWhole plan input g older x service values l whole =
-    let own : AreSegmentsOf (kind.body l.broadcast.bytes) (cells_of (g ∷ older)) = record {
-      taken = cell_is (kind.body l.broadcast.bytes) (g ∷ older) (are_fragments kind input l.broadcast (g ∷ older)
-          l.all);
-    } in
-    service.own (cells_of (g ∷ older)) l.broadcast.bytes x (values l.number l.broadcast l.planned) own whole
+    service.own (g ∷ older) l.broadcast.bytes x (values l.number l.broadcast l.planned)
+    (are_fragments kind input l.broadcast (g ∷ older) l.all) whole

@@ -24,7 +24,8 @@ use Rattle.rds_safety.specs.Marks.{Mark, marks, name_mark, text_mark}
 use Rattle.rds_safety.specs.Confirmed.{IsHeardWithWrong, NoWrongConfirmed, confirmed_input, lateness_of_two}
 use Rattle.rds_safety.specs.ConfirmedLaws.{CameTwice, HearsEachTwice, WhoHearsBothSegmentsTwiceShowsTheName}
 use Rattle.rds_safety.specs.ConfirmedLaws.{WhoHearsEachSegmentTwiceShowsTheText}
-use Rattle.rds_safety.proofs.Bytes.{IsService, name_service, text_service}
+use Rattle.rds_safety.proofs.Bytes.{IsService, SendsItsBody, name_service, names_send_their_body}
+use Rattle.rds_safety.proofs.Bytes.{text_service, texts_send_their_body}
 use Rattle.rds_safety.proofs.Counts.{one_segment, two_segments}
 use Rattle.rds_safety.proofs.Entries.{before_end, mark_sent}
 use Rattle.rds_safety.proofs.Hearing.{AreFalling, IsPicked, all_picked, segments_fall}
@@ -76,7 +77,8 @@ last_since n a (h ∷ older) g falls is_in at = by (h.fragment.address == a) ref
           address = l.address;
         }
 
-module _ (laws : PlanLaws) (w k m t s : ℕ) (kind : Kind) (pick : Message → Option Fragment) (of : Option Message → Mark)
+module _ (laws : PlanLaws) (w k m t s : ℕ) (kind : Kind) (sends : SendsItsBody kind) (pick : Message
+    → Option Fragment) (of : Option Message → Mark)
     (plan : List Broadcast) (log : List (Option Message)) (raw : Input) (b : Broadcast)
     (alike : PicksWhatIsMarked pick of) (receipts : HasReceipts pick) (law : IsLawful (m + lateness_of_two w k) kind
     plan (marks of log)) (heard : IsHeardWithWrong k log raw) (once : NoWrongConfirmed w raw)
@@ -98,7 +100,7 @@ module _ (laws : PlanLaws) (w k m t s : ℕ) (kind : Kind) (pick : Message → O
       let same : lies.broadcast ≡ b = one_covers laws (m + lateness_of_two w k) plan lies.number hears.number
       lies.broadcast b u law.spaced lies.planned hears.planned lies.is.covers mine in (
         lies.is.flag ∙ ap (λ (y : Broadcast). y.flag) same,
-        lies.is.fragment.bytes
+        (sends.parts lies.broadcast.bytes p lies.is.fragment).bytes
             ∙ ap (λ (y : Broadcast). segment_of (kind.body y.bytes) p.address) same,
       )
 
@@ -144,7 +146,8 @@ module _ (laws : PlanLaws) (w k m t s : ℕ) (kind : Kind) (pick : Message → O
       → shown ≡ Some b.bytes
   shown_twice IsWhole service all some shown is =
       let long = confirmed_long w m raw.first raw.heard in
-      shown_near laws (m + lateness_of_two w k) m t s kind pick of plan log (confirmed_input w m raw) hears.number b
+      shown_near laws (m + lateness_of_two w k) m t s kind sends pick of plan log
+      (confirmed_input w m raw) hears.number b
       alike law
       (confirmed_is_near w m k t log raw heard once now) (omega (arith, now, long)) fresh hears.planned hears.from
       hears.to hears.within
@@ -172,7 +175,8 @@ module _ (laws : PlanLaws) (w k m t s : ℕ) (kind : Kind) (pick : Message → O
 pub text_shown_twice : PlanLaws → WhoHearsEachSegmentTwiceShowsTheText
 text_shown_twice laws w k m t s plans log r b law listens hears =
     let value = law.text.values hears.number b hears.planned in
-    shown_twice laws w k m t s texts text_fragment text_mark plans.text log listens.raw b text_fragments_marked
+    shown_twice laws w k m t s texts texts_send_their_body text_fragment text_mark plans.text log listens.raw b
+    text_fragments_marked
     text_receipts law.text listens.heard listens.once listens.now hears
     IsWholeText text_service (λ cells held. all_text cells b.bytes value held) (one_segment b.bytes) r.view.text
     (subst (λ (x : Input). ShowsView m x.first x.heard r.view) listens.confirmed listens.shows).text
@@ -181,7 +185,8 @@ pub name_shown_twice : PlanLaws → WhoHearsBothSegmentsTwiceShowsTheName
 name_shown_twice laws w k m t s plans log r b law listens hears =
     let value = law.name.values hears.number b hears.planned in
     let two = two_segments b.bytes value in
-    shown_twice laws w k m t s names name_fragment name_mark plans.name log listens.raw b name_fragments_marked
+    shown_twice laws w k m t s names names_send_their_body name_fragment name_mark plans.name log listens.raw b
+    name_fragments_marked
     name_receipts law.name listens.heard listens.once listens.now
     (subst (λ (n : ℕ). HearsEachTwice name_fragment w m t s n plans.name listens.raw b) (sym two) hears)
     IsWholeName name_service (λ cells held. all_name cells b.bytes value held) (omega (arith, two)) r.view.name

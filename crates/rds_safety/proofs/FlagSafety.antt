@@ -11,7 +11,7 @@ use Rattle.rds_fields.specs.declared.message.Message.{Message}
 use Rattle.rds_fields.specs.declared.message.Message.TheVariants.{Tags}
 use Rattle.rds_fields.specs.declared.pair.Which.TheVariants.{One, Two}
 use Rattle.rds_fields.specs.Tag.{PairFields, TagFields}
-use Rattle.rds_assembly.specs.Body.{AreSegmentsOf, segment_of, text_body}
+use Rattle.rds_assembly.specs.Body.{segment_of, text_body}
 use Rattle.rds_assembly.specs.Cells.{Cells, HasByte}
 use Rattle.rds_assembly.specs.ServiceLaws.{no_text_of_none, one_byte}
 use Rattle.rds_assembly.specs.Whole.{IsWholeName, IsWholeText}
@@ -38,7 +38,7 @@ use Rattle.rds_safety.specs.Marks.{IsMarkIn, Mark, Tagged, marks, name_mark, tex
 use Rattle.rds_safety.specs.OwnClock.{IsHeardByOwnClock}
 use Rattle.rds_safety.specs.Safe.{Listener, NamesPiece, ShowsNoTags}
 use Rattle.rds_safety.specs.Source.{IsSource}
-use Rattle.rds_safety.proofs.Bytes.{IsService, cell_is, get-put, name_service, text_service}
+use Rattle.rds_safety.proofs.Bytes.{AreParts, IsService, get-put, name_service, text_service}
 use Rattle.rds_safety.proofs.Entries.{arrival, before_end, in_order_is_heard, mark_sent, one_origin}
 use Rattle.rds_safety.proofs.FlagRuns.{IsOfOneValue, RunIsOfOneValue, all_before, came_earlier, heard_from, none_passes}
 use Rattle.rds_safety.proofs.FlagRuns.{run_is_of_one_value}
@@ -72,7 +72,7 @@ text_of_no_bytes cells p y is whole = by p.address p.bytes is.within is.bytes wh
 
 -- a service, and what the segment of its empty value makes whole
 pub record HasNoBytes (kind : Kind) (IsWhole : Cells → List ℕ → Type 0) : Type 0 where
-  pub empty : (cells : Cells) (p : Fragment) (y : List ℕ) → kind.IsValue [] → IsFragmentOf (kind.body []) p
+  pub empty : (cells : Cells) (p : Fragment) (y : List ℕ) → kind.IsValue [] → kind.HasPart [] p
       → IsWhole (insert cells p.address p.bytes) y → y ≡ []
 
 pub texts_of_no_bytes : HasNoBytes texts IsWholeText
@@ -84,12 +84,12 @@ names_of_no_bytes = record { empty = λ cells p y value is whole. absurd (let ei
 -- a run of a value that is not empty has only fragments of it
 fragments_of_value : (kind : Kind) (plan : List Broadcast) (input : Input) (b : Broadcast) (gs : List Segment)
     → b.bytes ≢ [] → AllByRecursion (IsSegmentLike IsHarmless kind plan input b) gs
-    → AllByRecursion (λ (g : Segment). IsFragmentOf (kind.body b.bytes) g.fragment) gs
+    → AreParts kind b.bytes gs
 fragments_of_value kind plan input b [] some all = tt
 fragments_of_value kind plan input b (g ∷ older) some all =
     elim all.0.alike [
       | inl same ↦ (
-        subst (λ (bytes : List ℕ). IsFragmentOf (kind.body bytes) g.fragment) same all.0.is.has.fragment,
+        subst (λ (bytes : List ℕ). kind.HasPart bytes g.fragment) same all.0.is.has.fragment,
         fragments_of_value kind plan input b older some all.1,
       )
       | inr none ↦ absurd (some none)
@@ -109,14 +109,11 @@ value_of_run kind IsWhole plan input g older x service empty values v whole = el
   | inl none ↦
       empty.empty (cells_of older) g.fragment x (subst (λ (bytes : List ℕ). kind.IsValue bytes) none
       (values v.number v.broadcast v.planned))
-      (subst (λ (bytes : List ℕ). IsFragmentOf (kind.body bytes) g.fragment) none v.newest.has.fragment) whole
+      (subst (λ (bytes : List ℕ). kind.HasPart bytes g.fragment) none v.newest.has.fragment) whole
       ∙ sym none
   | inr some ↦
-      let own : AreSegmentsOf (kind.body v.broadcast.bytes) (cells_of (g ∷ older)) = record {
-        taken = cell_is (kind.body v.broadcast.bytes) (g ∷ older) (fragments_of_value kind plan input v.broadcast
-            (g ∷ older) some v.all);
-      } in
-      service.own (cells_of (g ∷ older)) v.broadcast.bytes x (values v.number v.broadcast v.planned) own whole
+      service.own (g ∷ older) v.broadcast.bytes x (values v.number v.broadcast v.planned)
+      (fragments_of_value kind plan input v.broadcast (g ∷ older) some v.all) whole
 ]
 
 -- the source of the run
@@ -154,8 +151,7 @@ holds_its_source laws d kind plan input (g ∷ older) spaced v k b source =
     source.sent v.newest.from) source.covers in
     let same : v.broadcast ≡ b = one_covers laws d plan v.number k v.broadcast b v.newest.slot spaced v.planned
     source.planned v.newest.has.covers in_one in
-    subst (λ (x : Broadcast). (x.bytes ≡ []) ⊎ AllByRecursion (λ (h : Segment). IsFragmentOf (kind.body x.bytes)
-    h.fragment) (g ∷ older)) same
+    subst (λ (x : Broadcast). (x.bytes ≡ []) ⊎ AreParts kind x.bytes (g ∷ older)) same
     (elim (some_or_none v.broadcast.bytes) [
       | inl none ↦ inl none
       | inr some ↦ inr (fragments_of_value kind plan input

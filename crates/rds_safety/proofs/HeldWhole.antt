@@ -18,7 +18,7 @@ use Rattle.rds_safety.specs.Lawful.{IsLawful, Kind}
 use Rattle.rds_safety.specs.Marks.{Mark, marks}
 use Rattle.rds_safety.specs.Near.{IsHeardNear}
 use Rattle.rds_safety.specs.Flags.{is_same_flag}
-use Rattle.rds_safety.proofs.Bytes.{IsService, bytes_of_run, get-put}
+use Rattle.rds_safety.proofs.Bytes.{IsService, SendsItsBody, bytes_of_run, get-put}
 use Rattle.rds_safety.proofs.Entries.{arrival, mark_sent}
 use Rattle.rds_safety.proofs.Hearing.{AreFalling, IsPicked, all_picked, segments_fall}
 use Rattle.rds_safety.specs.Laws.{PlanLaws}
@@ -114,20 +114,22 @@ module _ (m t s : ℕ) (f : Bool) (soon : t < s + m) where
       by (inr is_in) rest = inr (rest is_in)
 
 -- for each segment of a run in one broadcast, that broadcast's segment is held at its address
-held_own : (kind : Kind) (input : Input) (b : Broadcast) (gs : List Segment) (g : Segment) → AreOf kind input b gs
+held_own : (kind : Kind) → SendsItsBody kind → (input : Input) (b : Broadcast) (gs : List Segment) (g : Segment)
+    → AreOf kind input b gs
     → IsIn gs g
     → get (cells_of gs) g.fragment.address ≡ Some (segment_of (kind.body b.bytes) g.fragment.address)
-held_own kind input b [] g all is_in = absurd is_in
-held_own kind input b (h ∷ older) g all is_in =
+held_own kind sends input b [] g all is_in = absurd is_in
+held_own kind sends input b (h ∷ older) g all is_in =
     get-put (cells_of older) h.fragment.address h.fragment.bytes g.fragment.address
-    ∙ by (nat_eq g.fragment.address h.fragment.address) refl is_in (held_own kind input b older g all.1)
+    ∙ by (nat_eq g.fragment.address h.fragment.address) refl is_in (held_own kind sends input b older g all.1)
   where
     by : (same : Bool) → nat_eq g.fragment.address h.fragment.address ≡ same → IsIn (h ∷ older) g
         → (IsIn older g
         → get (cells_of older) g.fragment.address ≡ Some (segment_of (kind.body b.bytes) g.fragment.address))
         → cond same (Some h.fragment.bytes) (get (cells_of older) g.fragment.address)
         ≡ Some (segment_of (kind.body b.bytes) g.fragment.address)
-    by true e is_in rest = ap Some (all.0.has.fragment.bytes ∙ ap (segment_of (kind.body b.bytes))
+    by true e is_in rest = ap Some ((sends.parts b.bytes h.fragment all.0.has.fragment).bytes ∙ ap (segment_of
+        (kind.body b.bytes))
         (sym (eqb-true g.fragment.address h.fragment.address e)))
     by false e (inl own) rest = absurd (eqb-false g.fragment.address h.fragment.address e
         (ap (λ (x : Segment). x.fragment.address) own))
@@ -152,7 +154,8 @@ pub record CameSince (gs : List Segment) (s address : ℕ) : Type 0 where
   pub at : segment.fragment.address ≡ address
   pub is_in : IsIn gs segment
 
-module _ (laws : PlanLaws) (d m t s : ℕ) (kind : Kind) (pick : Message → Option Fragment) (of : Option Message → Mark)
+module _ (laws : PlanLaws) (d m t s : ℕ) (kind : Kind) (sends : SendsItsBody kind) (pick : Message
+    → Option Fragment) (of : Option Message → Mark)
     (plan : List Broadcast) (log : List (Option Message)) (input : Input) (number : ℕ) (b : Broadcast)
     (alike : PicksWhatIsMarked pick of) (law : IsLawful d kind plan (marks of log)) (hears : IsHeardNear d m t log
     input) (now : input.first + length input.heard ≡ t + 1)
@@ -226,7 +229,7 @@ module _ (laws : PlanLaws) (d m t s : ℕ) (kind : Kind) (pick : Message → Opt
       held a within =
           let w = each a within in
           subst (λ (n : ℕ). get (cells_of (h ∷ older)) n ≡ Some (segment_of (kind.body b.bytes) n)) w.at
-          (held_own kind input b (h ∷ older) w.segment own_run (holds w.segment w.since w.is_in))
+          (held_own kind sends input b (h ∷ older) w.segment own_run (holds w.segment w.since w.is_in))
 
       by : (shown : Option (List ℕ)) → IsShown IsWhole (cells_of (h ∷ older)) shown → shown ≡ Some b.bytes
       by None is = absurd (is b.bytes (all (cells_of (h ∷ older)) record { held = held }))
@@ -247,7 +250,8 @@ module _ (laws : PlanLaws) (d m t s : ℕ) (kind : Kind) (pick : Message → Opt
       in_run all some each shown (subst (λ (xs : List Segment). IsShown IsWhole (cells_of xs) shown) the_run is)
 
 -- the same if the input is at most k slots late
-pub shown_whole : PlanLaws → (m t s : ℕ) (kind : Kind) (pick : Message → Option Fragment) (of : Option Message → Mark)
+pub shown_whole : PlanLaws → (m t s : ℕ) (kind : Kind) → SendsItsBody kind → (pick : Message
+    → Option Fragment) (of : Option Message → Mark)
     (plan : List Broadcast) (log : List (Option Message)) (input : Input) (number : ℕ) (b : Broadcast)
     → PicksWhatIsMarked pick of → (k : ℕ) → IsLawful (m + k) kind plan (marks of log) → IsHeardLate k log input
     → input.first + length input.heard ≡ t + 1
@@ -258,6 +262,7 @@ pub shown_whole : PlanLaws → (m t s : ℕ) (kind : Kind) (pick : Message → O
     → ((a : ℕ) → a < segment_count (kind.body b.bytes) → CameSince (segments pick input.first input.heard) s a)
     → (shown : Option (List ℕ))
     → IsShown IsWhole (cells_of (run_at pick m input.first input.heard)) shown → shown ≡ Some b.bytes
-shown_whole laws m t s kind pick of plan log input number b alike k law late now =
-    shown_near laws (m + k) m t s kind pick of plan log input number b alike law (own_is_near (m + k) m t log input
+shown_whole laws m t s kind sends pick of plan log input number b alike k law late now =
+    shown_near laws (m + k) m t s kind sends pick of plan log input number b alike law (own_is_near
+    (m + k) m t log input
     (late_hears k m t log input late now)) now

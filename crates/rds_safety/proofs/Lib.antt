@@ -2,7 +2,9 @@ pub mod Entries
 pub mod Hearing
 pub mod Told
 pub mod OneBroadcast
+pub mod Bodies
 pub mod Bytes
+pub mod Padded
 pub mod Counts
 pub mod Sources
 pub mod Pairs

@@ -17,13 +17,13 @@ use Rattle.rds_receiver.specs.Shown.{ShowsView, ShownView}
 use Rattle.rds_receiver.specs.Tags.{cut_by, is_known, item_of, pair_from, pair_held, pair_since, says_of_rtplus, tag_of}
 use Rattle.rds_receiver.specs.Tags.{unless_contrary}
 use Rattle.rds_safety.specs.Late.{CameFrom, HasEntry, Input}
-use Rattle.rds_safety.specs.Lawful.{IsLawful, Kind, texts}
+use Rattle.rds_safety.specs.Lawful.{IsLawful, Kind}
 use Rattle.rds_safety.specs.Laws.{PlanLaws}
 use Rattle.rds_safety.specs.Marks.{IsMarkIn, Nothing, Tagged, marks, text_mark}
 use Rattle.rds_safety.specs.Near.{IsHeardNear, IsUnmarked}
 use Rattle.rds_safety.specs.Safe.{NamesPiece, ShowsNoTags, ShowsTagsOf}
 use Rattle.rds_safety.specs.Source.{text_run}
-use Rattle.rds_safety.proofs.Bytes.{bytes_of_run, text_service}
+use Rattle.rds_safety.proofs.Bytes.{IsService, bytes_of_run}
 use Rattle.rds_safety.proofs.Entries.{arrival, mark_sent}
 use Rattle.rds_safety.proofs.OneBroadcast.{LiesInOne, RunLiesInOne}
 use Rattle.rds_safety.proofs.Told.{AreOf}
@@ -106,13 +106,14 @@ record WasSentFor (d : ℕ) (log : List (Option Message)) (b : Broadcast) (pair 
 pub tags_are_marked : (pair : PairFields) → IsUnmarked (Some (Tags pair)) → ⊥
 tags_are_marked pair none = (let e : Tagged pair ≡ Nothing = none.text in absurd (cc))
 
-sent_for : PlanLaws → (d m t : ℕ) (plan : List Broadcast) (log : List (Option Message)) (input : Input) (g : Segment)
+sent_for : PlanLaws → (kind : Kind) (d m t : ℕ) (plan : List Broadcast) (log : List (Option Message)) (input : Input)
+    (g : Segment)
     (older : List Segment) (pair : PairFields)
-    → IsLawful d texts plan (marks text_mark log) → IsHeardNear d m t log input
-    → (l : LiesInOne d t texts plan input g older) → g ∷ older ≡ text_run m input
+    → IsLawful d kind plan (marks text_mark log) → IsHeardNear d m t log input
+    → (l : LiesInOne d t kind plan input g older) → g ∷ older ≡ text_run m input
     → pair_from input.first (begins_in (g ∷ older)) input.heard ≡ Some pair → WasSentFor d log l.broadcast pair
-sent_for laws d m t plan log input g older pair law hears l is_run e =
-    let b = begins texts input l.broadcast g older l.all in
+sent_for laws kind d m t plan log input g older pair law hears l is_run e =
+    let b = begins kind input l.broadcast g older l.all in
     let f = was_heard input.first b.since input.heard pair (rw b.begins at e) in
     let came = arrival log input f.slot (Tags pair) hears.heard (tags_are_marked pair) f.came in
     let tagged : IsMarkIn (marks text_mark log) came.slot (Tagged pair) = mark_sent text_mark log came.slot
@@ -180,27 +181,28 @@ names_piece tag x bytes shown same e =
     (λ _. tt))
 
 -- the tags shown were sent in the source of the text
-pub shows_tags : PlanLaws → (d m t : ℕ) (plan : List Broadcast) (log : List (Option Message)) (input : Input)
-    (view : ShownView)
-    → IsLawful d texts plan (marks text_mark log) → IsHeardNear d m t log input
-    → RunLiesInOne d t texts plan input (text_run m input) → ShowsView m input.first input.heard view
+pub shows_tags : PlanLaws → (kind : Kind) → IsService kind IsWholeText → (d m t : ℕ) (plan : List Broadcast)
+    (log : List (Option Message)) (input : Input) (view : ShownView)
+    → IsLawful d kind plan (marks text_mark log) → IsHeardNear d m t log input
+    → RunLiesInOne d t kind plan input (text_run m input) → ShowsView m input.first input.heard view
     → ShowsNoTags view ⊎ ShowsTagsOf d plan (marks text_mark log) input (text_run m input) view
-shows_tags laws d m t plan log input view law hears lies shows = by view.text (pair_held m input.first input.heard) refl
+shows_tags laws kind service d m t plan log input view law hears lies shows = by view.text
+    (pair_held m input.first input.heard) refl
     refl shows.item shows.one shows.two
   where
     of : (the_run : List Segment) (x : List ℕ) (pair : PairFields) → IsWholeText (cells_of the_run) x
-        → RunLiesInOne d t texts plan input the_run → the_run ≡ text_run m input
+        → RunLiesInOne d t kind plan input the_run → the_run ≡ text_run m input
         → pair_from input.first (begins_in the_run) input.heard ≡ Some pair → view.item ≡ item_of (Some x) (Some pair)
         → view.one ≡ tag_of One (Some x) (Some pair) → view.two ≡ tag_of Two (Some x) (Some pair)
         → ShowsTagsOf d plan (marks text_mark log) input the_run view
     of [] x pair whole l is_run e item one two = absurd (no_text_of_none x whole)
     of (g ∷ older) x pair whole l is_run e item one two =
-        let same = bytes_of_run d t texts IsWholeText plan input g older x text_service law.values l whole in
-        let sent = sent_for laws d m t plan log input g older pair law hears l is_run e in
+        let same = bytes_of_run d t kind IsWholeText plan input g older x service law.values l whole in
+        let sent = sent_for laws kind d m t plan log input g older pair law hears l is_run e in
         record {
           number = l.number;
           broadcast = l.broadcast;
-          source = source_of d t texts plan input g older l;
+          source = source_of d t kind plan input g older l;
           pair = pair;
           slot = sent.slot;
           tagged = sent.tagged;

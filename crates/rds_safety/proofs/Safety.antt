@@ -6,15 +6,15 @@ use Rattle.rds_fields.specs.declared.message.Message.TheVariants.{Text, Name, An
 use Rattle.rds_assembly.specs.Whole.{IsWholeName, IsWholeText}
 use Rattle.rds_receiver.specs.Receipts.{name_fragment, text_fragment}
 use Rattle.rds_receiver.specs.declared.fragment.Fragment.{Fragment}
-use Rattle.rds_safety.specs.Lawful.{names, texts}
+use Rattle.rds_safety.specs.Lawful.{Kind, names}
 use Rattle.rds_safety.specs.Laws.{PlanLaws}
 use Rattle.rds_safety.specs.Marks.{Sends, name_mark, text_mark}
 use Rattle.rds_safety.specs.Near.{ListensNear}
 use Rattle.rds_safety.specs.OwnClock.{ListensByOwnClock, ListensBySlowClock}
-use Rattle.rds_safety.specs.Plans.{AreLawful, Plans}
+use Rattle.rds_safety.specs.Plans.{AreLawfulAs, Plans}
 use Rattle.rds_safety.specs.Safe.{AreNeighbours, AreSafeViews, Listener, ListensTo}
 use Rattle.rds_safety.specs.Source.{name_run, text_run}
-use Rattle.rds_safety.proofs.Bytes.{name_service, text_service}
+use Rattle.rds_safety.proofs.Bytes.{IsService, name_service}
 use Rattle.rds_safety.proofs.OneBroadcast.{PicksWhatIsMarked, RunLiesInOne, heard_run_lies}
 use Rattle.rds_safety.proofs.OwnClocks.{late_listens, own_listens, slow_listens}
 use Rattle.rds_safety.proofs.Pairs.{shows_tags}
@@ -44,9 +44,10 @@ name_fragments_marked = record { picked = picks; unmarked = λ entry none. none.
     picks (Tags pair) p e = absurd (cc)
     picks Other p e = absurd (cc)
 
-module _ (laws : PlanLaws) (d m t : ℕ) (plans : Plans) (log : List (Option Message)) (law : AreLawful d plans log) where
-  text_lies : (r : Listener) → ListensNear d m t log r → RunLiesInOne d t texts plans.text r.input (text_run m r.input)
-  text_lies r h = heard_run_lies laws d m t texts text_fragment text_mark plans.text log r.input text_fragments_marked
+module _ (laws : PlanLaws) (kind : Kind) (service : IsService kind IsWholeText) (d m t : ℕ) (plans : Plans)
+    (log : List (Option Message)) (law : AreLawfulAs kind d plans log) where
+  text_lies : (r : Listener) → ListensNear d m t log r → RunLiesInOne d t kind plans.text r.input (text_run m r.input)
+  text_lies r h = heard_run_lies laws d m t kind text_fragment text_mark plans.text log r.input text_fragments_marked
       law.text h.near
 
   name_lies : (r : Listener) → ListensNear d m t log r → RunLiesInOne d t names plans.name r.input (name_run m r.input)
@@ -55,7 +56,7 @@ module _ (laws : PlanLaws) (d m t : ℕ) (plans : Plans) (log : List (Option Mes
 
   neighbours : (x y : Listener) → ListensNear d m t log x → ListensNear d m t log y → AreNeighbours m plans x y
   neighbours x y h i = record {
-    texts = near_sources laws d t texts plans.text x.input (text_run m x.input) y.input (text_run m y.input)
+    texts = near_sources laws d t kind plans.text x.input (text_run m x.input) y.input (text_run m y.input)
         law.text.spaced (text_lies x h) (text_lies y i);
     names = near_sources laws d t names plans.name x.input (name_run m x.input) y.input (name_run m y.input)
         law.name.spaced (name_lies x h) (name_lies y i);
@@ -67,7 +68,7 @@ module _ (laws : PlanLaws) (d m t : ℕ) (plans : Plans) (log : List (Option Mes
   are_safe receivers all = record {
     texts = λ i o h.
         let r = slice_index_or receivers i o in
-        shown_on_air d t texts IsWholeText plans.text r.input (text_run m r.input) r.view.text text_service
+        shown_on_air d t kind IsWholeText plans.text r.input (text_run m r.input) r.view.text service
         law.text.values (text_lies r (all i o h)) (all i o h).shows.text;
     names = λ i o h.
         let r = slice_index_or receivers i o in
@@ -75,41 +76,47 @@ module _ (laws : PlanLaws) (d m t : ℕ) (plans : Plans) (log : List (Option Mes
         law.name.values (name_lies r (all i o h)) (all i o h).shows.name;
     tags = λ i o h.
         let r = slice_index_or receivers i o in
-        shows_tags laws d m t plans.text log r.input r.view law.text (all i o h).near (text_lies r (all i o h))
+        shows_tags laws kind service d m t plans.text log r.input r.view law.text (all i o h).near (text_lies r
+        (all i o h))
         (all i o h).shows;
     neighbours = λ i o h j e g. neighbours (slice_index_or receivers i o) (slice_index_or receivers j e) (all i o h)
         (all j e g);
   }
 
 -- if fewer than m slots of each receiver's clock are fewer than d of the station
-pub are_safe_by_own_clocks : PlanLaws
+pub are_safe_by_own_clocks : PlanLaws → (kind : Kind) → IsService kind IsWholeText
     → (d m t : ℕ) (plans : Plans) (log : List (Option Message)) (receivers : List Listener)
-    → AreLawful d plans log → All (ListensByOwnClock d m t log) receivers → AreSafeViews d m t plans log receivers
-are_safe_by_own_clocks laws d m t plans log receivers law all =
-    are_safe laws d m t plans log law receivers (λ i o h. own_listens d m t log (slice_index_or receivers i o)
+    → AreLawfulAs kind d plans log → All (ListensByOwnClock d m t log) receivers
+    → AreSafeViews d m t plans log receivers
+are_safe_by_own_clocks laws kind service d m t plans log receivers law all =
+    are_safe laws kind service d m t plans log law receivers (λ i o h. own_listens d m t log
+    (slice_index_or receivers i o)
     (all i o h))
 
 -- if all receivers show only what they heard twice, plans that are lawful for the lateness of two receipts are enough
-pub are_safe_confirmed : PlanLaws
+pub are_safe_confirmed : PlanLaws → (kind : Kind) → IsService kind IsWholeText
     → (w k m t : ℕ) (plans : Plans) (log : List (Option Message)) (receivers : List Listener)
-    → AreLawful (m + lateness_of_two w k) plans log → All (ListensConfirmed w k m t log) receivers
+    → AreLawfulAs kind (m + lateness_of_two w k) plans log → All (ListensConfirmed w k m t log) receivers
     → AreSafeViews (m + lateness_of_two w k) m t plans log receivers
-are_safe_confirmed laws w k m t plans log receivers law all =
-    are_safe laws (m + lateness_of_two w k) m t plans log law receivers (λ i o h. confirmed_listens w k m t log
+are_safe_confirmed laws kind service w k m t plans log receivers law all =
+    are_safe laws kind service (m + lateness_of_two w k) m t plans log law receivers
+    (λ i o h. confirmed_listens w k m t log
     (slice_index_or receivers i o) (all i o h))
 
 -- if all clocks count at most k slots too few within m, plans that are lawful for m + k are enough
-pub are_safe_by_slow_clocks : PlanLaws
+pub are_safe_by_slow_clocks : PlanLaws → (kind : Kind) → IsService kind IsWholeText
     → (m k t : ℕ) (plans : Plans) (log : List (Option Message)) (receivers : List Listener)
-    → AreLawful (m + k) plans log → All (ListensBySlowClock k m t log) receivers
+    → AreLawfulAs kind (m + k) plans log → All (ListensBySlowClock k m t log) receivers
     → AreSafeViews (m + k) m t plans log receivers
-are_safe_by_slow_clocks laws m k t plans log receivers law all =
-    are_safe_by_own_clocks laws (m + k) m t plans log receivers law (λ i o h. slow_listens k m t log
+are_safe_by_slow_clocks laws kind service m k t plans log receivers law all =
+    are_safe_by_own_clocks laws kind service (m + k) m t plans log receivers law (λ i o h. slow_listens k m t log
     (slice_index_or receivers i o) (all i o h))
 
 -- the same if all inputs are at most k slots late
-pub are_safe_late : PlanLaws → (m k t : ℕ) (plans : Plans) (log : List (Option Message)) (receivers : List Listener)
-    → AreLawful (m + k) plans log → All (ListensTo k m t log) receivers → AreSafeViews (m + k) m t plans log receivers
-are_safe_late laws m k t plans log receivers law all =
-    are_safe_by_slow_clocks laws m k t plans log receivers law (λ i o h. late_listens k m t log
+pub are_safe_late : PlanLaws → (kind : Kind) → IsService kind IsWholeText
+    → (m k t : ℕ) (plans : Plans) (log : List (Option Message)) (receivers : List Listener)
+    → AreLawfulAs kind (m + k) plans log → All (ListensTo k m t log) receivers
+    → AreSafeViews (m + k) m t plans log receivers
+are_safe_late laws kind service m k t plans log receivers law all =
+    are_safe_by_slow_clocks laws kind service m k t plans log receivers law (λ i o h. late_listens k m t log
     (slice_index_or receivers i o) (all i o h))

@@ -13,7 +13,7 @@ use Rattle.rds_safety.specs.FlagAlone.{EachLasts, GetsSome, HearsEach, HearsOneI
 use Rattle.rds_safety.specs.FlagAlone.{IsNews, ListensByFlag, LosesInARow, SendsOneIn, ShowsByFlag, TurnsTheFlag}
 use Rattle.rds_safety.specs.FlagAlone.{run_by_flag}
 use Rattle.rds_safety.specs.Late.{CameFrom, Input, IsHeardInOrder}
-use Rattle.rds_safety.specs.Lawful.{IsFragmentOf, IsLawful, Kind, names, texts}
+use Rattle.rds_safety.specs.Lawful.{IsLawful, Kind, names, texts}
 use Rattle.rds_safety.specs.Marks.{IsMarkIn, Mark, Tagged, marks, name_mark, text_mark}
 use Rattle.rds_safety.specs.OwnClock.{ListensByOwnClock, next_slot}
 use Rattle.rds_safety.specs.Safe.{Listener, NamesPiece, ShowsNoTags}
@@ -55,7 +55,7 @@ pub record IsOfItsSource (plan : List Broadcast) (input : Input) (the_run : List
 abbrev pub HoldsItsSource : Kind → List Broadcast → Input → List Segment → Type 0
 HoldsItsSource kind plan input the_run =
     (k : ℕ) (b : Broadcast) → IsSource plan input the_run k b
-    → (b.bytes ≡ []) ⊎ AllByRecursion (λ (g : Segment). IsFragmentOf (kind.body b.bytes) g.fragment) the_run
+    → (b.bytes ≡ []) ⊎ AllByRecursion (λ (g : Segment). kind.HasPart b.bytes g.fragment) the_run
 
 -- the tags shown were sent for a broadcast of the text shown, at least d slots after its start, and each is its piece
 -- of this text

@@ -6,12 +6,16 @@ use Rattle.rds_encoder.specs.Laws.{ANumberIsBelowTheLength, ANumberNamesOne, Spa
 use Rattle.rds_encoder.specs.Laws.{SpacedAreInOrder, SpacedOfOneFlagAreFarApart}
 use Rattle.rds_encoder.specs.Plan.{Broadcast, HasNumber}
 use Rattle.rds_encoder.specs.Spaced.{IsSpaced}
+use Rattle.rds_assembly.specs.Body.{text_body}
+use Rattle.rds_assembly.specs.Value.{IsText}
 use Rattle.rds_receiver.specs.Receipts.{Segment}
+use Rattle.rds_receiver.specs.declared.fragment.Fragment.{Fragment}
+use Rattle.rds_safety.specs.Lawful.{IsFragmentOf, IsPaddedFragmentOf, Kind, padded_texts, texts}
 use Rattle.rds_safety.specs.Late.{Input, IsHeardInOrder, IsHeardLate, IsHeardOnTime, own_origins}
 use Rattle.rds_safety.specs.Near.{ListensNear}
 use Rattle.rds_safety.specs.OwnClock.{IsHeardByOwnClock, IsTrueClock, ListensByOwnClock}
 use Rattle.rds_safety.specs.OwnClock.{ListensBySlowClock, LosesAtMost, next_slot}
-use Rattle.rds_safety.specs.Plans.{AreLawful, Plans}
+use Rattle.rds_safety.specs.Plans.{AreLawful, AreLawfulAs, Plans}
 use Rattle.rds_safety.specs.Safe.{AreSafeViews, Listener, ListensTo}
 use Rattle.rds_safety.specs.Source.{IsSource}
 
@@ -26,30 +30,59 @@ pub record PlanLaws : Type 0 where
 
 -- if the input of each receiver is near the log, in whatever order, plans that are lawful for d make each slot safe for
 -- any number of receivers of dwell m
-abbrev pub LawfulPlansAreSafeNear : Type 0
-LawfulPlansAreSafeNear =
+abbrev pub LawfulPlansAreSafeNearAs : Kind → Type 0
+LawfulPlansAreSafeNearAs kind =
     (d m now : ℕ) (plans : Plans) (log : List (Option Message)) (receivers : List Listener)
-    → AreLawful d plans log → All (ListensNear d m now log) receivers → AreSafeViews d m now plans log receivers
+    → AreLawfulAs kind d plans log → All (ListensNear d m now log) receivers → AreSafeViews d m now plans log receivers
+
+-- the same for texts without padding
+abbrev pub LawfulPlansAreSafeNear : Type 0
+LawfulPlansAreSafeNear = LawfulPlansAreSafeNearAs texts
 
 -- if fewer than m slots of each receiver's own clock are fewer than d of the station, plans that are lawful for d make
 -- each slot safe for any number of receivers of dwell m
-abbrev pub LawfulPlansAreSafeByOwnClocks : Type 0
-LawfulPlansAreSafeByOwnClocks =
+abbrev pub LawfulPlansAreSafeByOwnClocksAs : Kind → Type 0
+LawfulPlansAreSafeByOwnClocksAs kind =
     (d m now : ℕ) (plans : Plans) (log : List (Option Message)) (receivers : List Listener)
-    → AreLawful d plans log → All (ListensByOwnClock d m now log) receivers → AreSafeViews d m now plans log receivers
+    → AreLawfulAs kind d plans log → All (ListensByOwnClock d m now log) receivers
+    → AreSafeViews d m now plans log receivers
+
+-- the same for texts without padding
+abbrev pub LawfulPlansAreSafeByOwnClocks : Type 0
+LawfulPlansAreSafeByOwnClocks = LawfulPlansAreSafeByOwnClocksAs texts
 
 -- if each clock counts at most k slots too few within m, plans that are lawful for m + k make each slot safe
-abbrev pub LawfulPlansAreSafeForSlowClocks : Type 0
-LawfulPlansAreSafeForSlowClocks =
+abbrev pub LawfulPlansAreSafeForSlowClocksAs : Kind → Type 0
+LawfulPlansAreSafeForSlowClocksAs kind =
     (m k now : ℕ) (plans : Plans) (log : List (Option Message)) (receivers : List Listener)
-    → AreLawful (m + k) plans log → All (ListensBySlowClock k m now log) receivers
+    → AreLawfulAs kind (m + k) plans log → All (ListensBySlowClock k m now log) receivers
     → AreSafeViews (m + k) m now plans log receivers
 
+-- the same for texts without padding
+abbrev pub LawfulPlansAreSafeForSlowClocks : Type 0
+LawfulPlansAreSafeForSlowClocks = LawfulPlansAreSafeForSlowClocksAs texts
+
 -- if no group comes more than k slots late, plans that are lawful for m + k make each slot safe
-abbrev pub LawfulPlansAreSafe : Type 0
-LawfulPlansAreSafe =
+abbrev pub LawfulPlansAreSafeAs : Kind → Type 0
+LawfulPlansAreSafeAs kind =
     (m k t : ℕ) (plans : Plans) (log : List (Option Message)) (receivers : List Listener)
-    → AreLawful (m + k) plans log → All (ListensTo k m t log) receivers → AreSafeViews (m + k) m t plans log receivers
+    → AreLawfulAs kind (m + k) plans log → All (ListensTo k m t log) receivers
+    → AreSafeViews (m + k) m t plans log receivers
+
+-- the same for texts without padding
+abbrev pub LawfulPlansAreSafe : Type 0
+LawfulPlansAreSafe = LawfulPlansAreSafeAs texts
+
+-- what an encoder without padding sends of a text is also what one with padding may send of it
+abbrev pub ASegmentIsPadded : Type 0
+ASegmentIsPadded =
+    (x : List ℕ) (p : Fragment) → IsText x → IsFragmentOf (text_body x) p → IsPaddedFragmentOf x p
+
+-- so plans that are lawful without padding are lawful with it
+abbrev pub LawfulIsLawfulPadded : Type 0
+LawfulIsLawfulPadded =
+    (d : ℕ) (plans : Plans) (log : List (Option Message)) → AreLawful d plans log
+    → AreLawfulAs padded_texts d plans log
 
 -- a run has at most one source
 abbrev pub ARunHasOneSource : Type 0

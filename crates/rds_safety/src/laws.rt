@@ -13,9 +13,12 @@ ghost use Rattle.rds_safety.specs.FlagLaws.{WhoHearsOneInHearsTextBeforeTags, Wh
 ghost use Rattle.rds_safety.specs.Laws.{ARunHasOneSource, ASlowClockIsAnOwnClock};
 ghost use Rattle.rds_safety.specs.Laws.{LateIsBySlowClock, LawfulPlansAreSafe, LawfulPlansAreSafeByOwnClocks};
 ghost use Rattle.rds_safety.specs.Laws.{LawfulPlansAreSafeForSlowClocks, LawfulPlansAreSafeNear};
+ghost use Rattle.rds_safety.specs.Laws.{LawfulIsLawfulPadded, LawfulPlansAreSafeAs, LawfulPlansAreSafeByOwnClocksAs};
+ghost use Rattle.rds_safety.specs.Laws.{LawfulPlansAreSafeForSlowClocksAs, LawfulPlansAreSafeNearAs};
 ghost use Rattle.rds_safety.specs.Laws.{NoSlotLateIsOnTime, OnTimeIsNoSlotLate, OneSlotLessMixes};
 ghost use Rattle.rds_safety.specs.Laws.{OneSlotLessMixesByOwnClock, OneSlotLessMixesForSlowClocks};
 ghost use Rattle.rds_safety.specs.Laws.{PlanLaws, TheTrueClockIsNoSlotLate};
+ghost use Rattle.rds_safety.specs.Lawful.{padded_texts};
 ghost use Rattle.rds_safety.specs.ConfirmedLaws.{LawfulPlansAreSafeConfirmed, OneSlotLessMixesConfirmed};
 ghost use Rattle.rds_safety.specs.ConfirmedLaws.{OneWrongMessageMixes, WhoConfirmsListensNear};
 ghost use Rattle.rds_safety.specs.ConfirmedLaws.{WhoHearsBothSegmentsTwiceShowsTheName};
@@ -33,6 +36,19 @@ pub fn safe_by_plans()
     ensures own_clocks { LawfulPlansAreSafeByOwnClocks }
     ensures slow_clocks { LawfulPlansAreSafeForSlowClocks }
     ensures late { LawfulPlansAreSafe }
+{
+    plan_laws();
+}
+
+/// States the same for plans of texts with padding: behind the carriage return of a text its encoder may send any
+/// bytes.
+/// What is lawful without padding is lawful with it.
+pub fn safe_by_padded_plans()
+    ensures near { LawfulPlansAreSafeNearAs padded_texts }
+    ensures own_clocks { LawfulPlansAreSafeByOwnClocksAs padded_texts }
+    ensures slow_clocks { LawfulPlansAreSafeForSlowClocksAs padded_texts }
+    ensures late { LawfulPlansAreSafeAs padded_texts }
+    ensures wider { LawfulIsLawfulPadded }
 {
     plan_laws();
 }

@@ -17,7 +17,7 @@ use Rattle.rds_encoder.specs.Plan.{Broadcast, HasNumber, OnAir, endless, on_air,
 use Rattle.rds_encoder.specs.Sent.{sent_in, sent_log}
 use Rattle.rds_encoder.specs.Spaced.{IsSpaced, RestartsComeFirst}
 use Rattle.rds_receiver.specs.declared.fragment.Fragment.{Fragment}
-use Rattle.rds_safety.specs.Lawful.{HasOne, HasFragment, HasTags, IsLawful, Kind, names, texts}
+use Rattle.rds_safety.specs.Lawful.{HasOne, HasFragment, HasTags, IsFragmentOf, IsLawful, Kind, names, texts}
 use Rattle.rds_safety.specs.Marks.{IsMarkIn, Mark, Sends, Tagged, marks, name_mark, text_mark}
 use Rattle.rds_world.specs.Station.{AreEndedSlots, EndsASlot, IsFreeIn, IsValid, TheEncoderIsLawful, slots_in}
 use Rattle.rds_world.specs.Station.{station_plans}
@@ -257,16 +257,24 @@ module _ (IsValue : List ℕ → Type 0) (of : Option Message → Mark) (moves :
       (laws.accepted d (slot_of (moves entries) - 1) (moves entries) k b n)
 
 -- a broadcast that was on air when a segment of it was sent has the fragment
-has_fragment : (kind : Kind) (slot : ℕ) (p : Fragment) (plan : List Broadcast) (air : OnAir)
+has_fragment : (kind : Kind) → ((x : List ℕ) (p : Fragment) → IsFragmentOf (kind.body x) p → kind.HasPart x p)
+    → (slot : ℕ) (p : Fragment) (plan : List Broadcast) (air : OnAir)
     → IsSegmentOf kind.body p.flag p.address p.bytes air → HasOnAir plan air slot
     → HasOne plan (HasFragment kind slot p)
-has_fragment kind slot p plan air segment has = record {
+has_fragment kind part slot p plan air segment has = record {
   number = has.number;
   broadcast = has.broadcast;
   planned = has.planned;
   is = (let of : IsSegmentOf kind.body p.flag p.address p.bytes (endless has.broadcast) = subst
       (IsSegmentOf kind.body p.flag p.address p.bytes) (sym has.same) segment in
-      record { covers = has.covers; flag = of.flag; fragment = record { within = of.within; bytes = of.bytes } });
+      record {
+        covers = has.covers;
+        flag = of.flag;
+        fragment = part has.broadcast.bytes p record {
+          within = of.within;
+          bytes = of.bytes;
+        };
+      });
 }
 
 has_tags : (d slot : ℕ) (pair : PairFields) (plan : List Broadcast) (air : OnAir) → air.start + d ≤ slot
@@ -334,7 +342,8 @@ texts_lawful laws d told some slots = record {
         let w = sent_in_slot IsText text_mark text_moves text_service d told slot (Sends p) sent in
         let air = laws.text d w.free w.before p.flag p.address p.bytes (text_of_mark (sent_in d w.free w.before) p w.is)
         in
-        has_fragment texts slot p (station_plans d told).text air.0 air.2 (planned_then IsText text_mark text_moves
+        has_fragment texts (λ x p is. is) slot p (station_plans d told).text air.0 air.2
+        (planned_then IsText text_mark text_moves
         text_service laws d told slot (Sends p) w air.0 air.1)
 
     tags : (slot : ℕ) (pair : PairFields) → IsMarkIn (marks text_mark (sent_log d told)) slot (Tagged pair)
@@ -364,7 +373,8 @@ names_lawful laws d told some slots = record {
         let w = sent_in_slot IsName name_mark name_moves name_service d told slot (Sends p) sent in
         let air = laws.name d w.free w.before p.flag p.address p.bytes (name_of_mark (sent_in d w.free w.before) p w.is)
         in
-        has_fragment names slot p (station_plans d told).name air.0 air.2 (planned_then IsName name_mark name_moves
+        has_fragment names (λ x p is. is) slot p (station_plans d told).name air.0 air.2
+        (planned_then IsName name_mark name_moves
         name_service laws d told slot (Sends p) w air.0 air.1)
 
 pub lawful_station : EncoderLaws → TheEncoderIsLawful

@@ -24,7 +24,7 @@ use Rattle.rds_safety.specs.Laws.{PlanLaws}
 use Rattle.rds_safety.specs.Marks.{name_mark, text_mark}
 use Rattle.rds_safety.specs.Plans.{AreLawful}
 use Rattle.rds_safety.specs.Safe.{Listener, ListensTo}
-use Rattle.rds_safety.proofs.Bytes.{name_service, text_service}
+use Rattle.rds_safety.proofs.Bytes.{name_service, names_send_their_body, text_service, texts_send_their_body}
 use Rattle.rds_safety.proofs.Counts.{few_segments, one_segment, two_segments}
 use Rattle.rds_safety.proofs.Entries.{one_origin}
 use Rattle.rds_safety.proofs.FlagSlots.{came_as_sent}
@@ -310,7 +310,8 @@ module _ (laws : DeliveryLaws) (k m : ℕ) (some : 0 < m) (newer rest : List Ent
       → 2 * segment_count (text_body b.bytes) ≤ free_in recent → r.view.text ≡ Some b.bytes
   text_shown number planned enough =
       let value : IsText b.bytes = law.text.values number b planned in
-      shown_whole laws.plan m (slots_in told - 1) first texts text_fragment text_mark (station_plans (m + k) told).text
+      shown_whole laws.plan m (slots_in told - 1) first texts texts_send_their_body text_fragment text_mark
+      (station_plans (m + k) told).text
       (sent_log (m + k) told) r.input number b
       text_fragments_marked k law.text gets.listens.late gets.listens.now fresh planned from
       (omega (arith, to, some_slots newer rest)) soon
@@ -327,7 +328,8 @@ module _ (laws : DeliveryLaws) (k m : ℕ) (some : 0 < m) (newer rest : List Ent
   name_shown number planned enough =
       let value : IsName b.bytes = law.name.values number b planned in
       let two = two_segments b.bytes value in
-      shown_whole laws.plan m (slots_in told - 1) first names name_fragment name_mark (station_plans (m + k) told).name
+      shown_whole laws.plan m (slots_in told - 1) first names names_send_their_body name_fragment name_mark
+      (station_plans (m + k) told).name
       (sent_log (m + k) told) r.input number b
       name_fragments_marked k law.name gets.listens.late gets.listens.now fresh planned from
       (omega (arith, to, some_slots newer rest)) soon

@@ -2,13 +2,15 @@ use Rattle.rds_safety.proofs.LeastConfirmed.{one_slot_less_confirmed, one_wrong_
 use Rattle.rds_safety.proofs.Safety.{are_safe_confirmed}
 use Rattle.rds_safety.proofs.Confirmed.{confirmed_listens}
 use Rattle.rds_safety.proofs.ConfirmedDelivery.{name_shown_twice, text_shown_twice}
+use Rattle.rds_safety.specs.Lawful.{texts}
+use Rattle.rds_safety.proofs.Bytes.{text_service}
 use Rattle.rds_safety.proofs.laws.safe_if_confirmed.Goals as goal
 
 pub returns-clause-near : goal.returns-clause-near
 returns-clause-near c = confirmed_listens
 
 pub returns-clause-safe : goal.returns-clause-safe
-returns-clause-safe c = are_safe_confirmed c.plan_laws.ensures
+returns-clause-safe c = are_safe_confirmed c.plan_laws.ensures texts text_service
 
 pub returns-clause-least : goal.returns-clause-least
 returns-clause-least c = one_slot_less_confirmed
