@@ -6,7 +6,7 @@ use Rattle.rds_assembly.specs.Body.{text_body}
 use Rattle.rds_assembly.specs.Value.{IsText, is_text_byte}
 use Rattle.rds_audit.specs.declared.audited.Lengths.{Lengths}
 use Rattle.rds_audit.specs.Lengths.{are_spaces, lengths_from}
-use Rattle.rds_audit.proofs.Bodies.{text_below, text_end, text_full, text_past}
+use Rattle.rds_safety.proofs.Bodies.{text_below, text_end, text_full, text_past}
 
 -- the body has these bytes from place i on
 pub record Stands (body : List ℕ) (i : ℕ) (bs : List ℕ) : Type 0 where

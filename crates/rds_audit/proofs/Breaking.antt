@@ -1,28 +1,31 @@
 -- Lemmas: the fault of a log has the name of the rule that its first failing slot breaks first.
-use Rattle.std.proofs.Common.{◌≡◌, ◌⊎◌, ◌≤◌, ◌+◌, ◌||◌, ◌∷◌, ◌∙◌, [], ℕ, Bool, true, false, not, List, Option, None}
-use Rattle.std.proofs.Common.{Some, ap, arith, inl, inr, length, nat_lt, refl, subst, sym}
+use Rattle.std.proofs.Common.{◌≡◌, ◌⊎◌, ◌≤◌, ◌+◌, ◌&&◌, ◌||◌, ◌∷◌, ◌∙◌, [], ℕ, Bool, true, false, not, List, Option}
+use Rattle.std.proofs.Common.{None, Some, ap, arith, inl, inr, length, nat_lt, refl, subst, sym}
 use Rattle.std.specs.List.{AllByRecursion}
-use Rattle.std.proofs.lemmas.Bool.{ltb-false, ltb-true}
+use Rattle.std.proofs.lemmas.Bool.{and_parts, ltb-false, ltb-true}
 use Rattle.rds_fields.specs.declared.message.Message.{Message}
 use Rattle.rds_fields.specs.declared.message.Message.TheVariants.{Text, Name, Announce, Tags, Other}
 use Rattle.rds_fields.specs.Tag.{PairFields}
 use Rattle.rds_receiver.specs.declared.fragment.Fragment.{Fragment}
-use Rattle.rds_safety.specs.Lawful.{names, texts}
+use Rattle.rds_safety.specs.Lawful.{names}
 use Rattle.rds_safety.specs.Marks.{Mark, Nothing, Sends, Tagged, marks, name_mark, text_mark}
 use Rattle.rds_audit.specs.declared.audit.AuditFault.{AuditFault}
 use Rattle.rds_audit.specs.declared.audit.AuditFault.TheVariants.{Changed, NotOneText, EarlyFlag, EarlyTag, TagOutside}
 use Rattle.rds_audit.specs.declared.fault_set.FaultSet.{FaultSet}
 use Rattle.rds_audit.specs.Broken.{BreaksByFragment, BreaksByTags, BreaksRule, FailsBy}
-use Rattle.rds_audit.specs.Lengths.{Gauge, IsExact, IsFormed, lengths_of, name_gauge, tags_end, text_gauge}
+use Rattle.rds_audit.specs.Forms.{text_kind}
+use Rattle.rds_audit.specs.declared.text_form.TextForm.{TextForm}
+use Rattle.rds_audit.specs.Lengths.{AllJoin, Gauge, IsExact, IsFormed, all_fit, changes, gauge_of, is_other}
+use Rattle.rds_audit.specs.Lengths.{lengths_of, measured_after, name_gauge, sent_last, tags_end}
 use Rattle.rds_audit.specs.Listing.{IsFaultOf, Span, added, broken_by, broken_newest, first_fault, first_of}
 use Rattle.rds_audit.specs.Listing.{first_of_span, fits, none_broken, or_else, reigns_of, slot_adds, span_with, spans}
 use Rattle.rds_audit.specs.Listing.{spans_after, spans_tagged}
 use Rattle.rds_audit.specs.ListingLaws.{IsFormedMark, IsFormedMessage}
 use Rattle.rds_audit.specs.Reigns.{Reign, after_fragment, after_tags, opened_from, with_fragment, with_tags}
-use Rattle.rds_audit.specs.Rules.{AreUnchanged, CanBeBroadcast, HaveOneValue, LogPasses, Passes}
-use Rattle.rds_audit.proofs.Gauges.{name_gauge_is_exact, text_gauge_is_exact}
+use Rattle.rds_audit.specs.Rules.{CanBeBroadcast, HaveOneValue, LogPasses, Passes}
+use Rattle.rds_audit.proofs.Gauges.{gauge_is_exact, name_gauge_is_exact}
 use Rattle.rds_audit.proofs.ListingSteps.{names_add, nothing_adds, passes_without, texts_add}
-use Rattle.rds_audit.proofs.SpanReigns.{adds_all, are_reigns, by_fragment, can_be_unchanged, fits_one, one_fits}
+use Rattle.rds_audit.proofs.SpanReigns.{adds_all, are_reigns, by_fragment, can_be_joined, fits_one, one_fits}
 
 -- what these faults say if this is the first of them
 abbrev IsFirst : FaultSet → AuditFault → Type 0
@@ -60,17 +63,31 @@ module _ (g : Gauge) (exact : IsExact g) (d : ℕ) where
       let fit : fits g r ≡ true = one_fits g exact d (untagged r) one in
       let bad : false ≡ true = sym (ap not fit) ∙ none in cc
 
-  some_value : (r : Span) → AllByRecursion (IsFormed g.segments) r.reign.fragments → AreUnchanged r.reign.fragments
+  some_value : (r : Span) → AllByRecursion (IsFormed g.segments) r.reign.fragments → AllJoin g r.reign.fragments
       → not (fits g r) ≡ false → HaveOneValue g.kind r.reign.fragments []
-  some_value r formed unchanged some = fits_one g exact d (untagged r) formed unchanged (holds (fits g r) some)
-      (omega arith)
+  some_value r formed joins some = fits_one g exact d (untagged r) formed joins (holds (fits g r) some) (omega arith)
     where
       holds : (b : Bool) → not b ≡ false → b ≡ true
       holds true e = refl
       holds false e = absurd (let bad : true ≡ false = e in cc)
 
+  -- a fragment that joins and does not fit has the bytes that its address was sent with last
+  no_other : (p : Fragment) (older : List Fragment) → changes g older p ≡ false → all_fit g older ≡ true
+      → not (all_fit g (p ∷ older)) ≡ true → is_other (sent_last p.address older) p.bytes ≡ false
+  no_other p older joins fit none =
+      by (is_other (sent_last p.address older) p.bytes) (g.bends) ((measured_after g older p).fits) (all_fit g older)
+      joins fit none
+    where
+      by : (other bends new old : Bool) → (other && not (bends && new)) ≡ false → old ≡ true → not (new && old) ≡ true
+          → other ≡ false
+      by false bends new old joins fit none = refl
+      by true false new old joins fit none = absurd (let bad : true ≡ false = joins in cc)
+      by true true false old joins fit none = absurd (let bad : true ≡ false = joins in cc)
+      by true true true false joins fit none = absurd (let bad : false ≡ true = fit in cc)
+      by true true true true joins fit none = absurd (let bad : false ≡ true = none in cc)
+
   outside : (r : Span)
-      → nat_lt (lengths_of g.allowed g.longest r.reign.fragments).most (tags_end r.reign.tags) ≡ true
+      → nat_lt (lengths_of g r.reign.fragments).most (tags_end r.reign.tags) ≡ true
       → HaveOneValue g.kind r.reign.fragments r.reign.tags → ⊥
   outside r past one =
       omega (arith, ltb-true _ _ past, (exact.measured r.reign.fragments r.reign.tags one).ends)
@@ -84,56 +101,66 @@ module _ (g : Gauge) (exact : IsExact g) (d : ℕ) where
   opened_breaks slot start p older Changed formed late is = absurd (let bad : false ≡ true = is in cc)
   opened_breaks slot start p older EarlyFlag formed late is = absurd (let bad : false ≡ true = is in cc)
   opened_breaks slot start p older NotOneText formed late is =
-      (late, (tt, tt), no_value (first_of_span slot p start false false) is)
+      (late, refl, no_value (first_of_span slot p start false false) is)
   opened_breaks slot start p older EarlyTag formed late is = absurd (let bad : false ≡ true = is in cc)
   opened_breaks slot start p older TagOutside formed late is =
       absurd (omega (arith, ltb-true _ _ is.2))
 
-  -- a fragment joins a reign, which it does not change
+  -- a fragment joins a reign
   joined_breaks : (slot : ℕ) (p : Fragment) (r : Span) (older : List Reign) (fault : AuditFault)
       → IsFormed g.segments p → CanBeBroadcast d g.kind r.reign → broken_by g d r ≡ none_broken
-      → AreUnchanged (p ∷ r.reign.fragments) → IsFirst (broken_by g d (span_with slot p r)) fault
+      → changes g r.reign.fragments p ≡ false → IsFirst (broken_by g d (span_with slot p r)) fault
       → BreaksByFragment g.kind (with_fragment slot p r.reign ∷ older) fault
-  joined_breaks slot p r older Changed formed was none u is =
+  joined_breaks slot p r older Changed formed was none joins is =
       absurd (let bad : true ≡ false = sym is ∙ ap (λ (f : FaultSet). f.changed) none in cc)
-  joined_breaks slot p r older EarlyFlag formed was none u is =
+  joined_breaks slot p r older EarlyFlag formed was none joins is =
       absurd (let bad : true ≡ false = sym is ∙ ap (λ (f : FaultSet). f.early_flag) none in cc)
-  joined_breaks slot p r older NotOneText formed was none u is = (was.begun, u, no_value (span_with slot p r) is)
-  joined_breaks slot p r older EarlyTag formed was none u is =
-      absurd (let bad : true ≡ false = sym is ∙ ap (λ (f : FaultSet). f.early_tag) none in cc)
-  joined_breaks slot p r older TagOutside formed was none u is = (
+  joined_breaks slot p r older NotOneText formed was none joins is = (
     was.begun,
-    some_value (span_with slot p r) (formed, exact.formed r.reign.fragments r.reign.tags was.one) u is.0,
+    no_other p r.reign.fragments joins (exact.measured r.reign.fragments r.reign.tags was.one).fit is,
+    no_value (span_with slot p r) is,
+  )
+  joined_breaks slot p r older EarlyTag formed was none joins is =
+      absurd (let bad : true ≡ false = sym is ∙ ap (λ (f : FaultSet). f.early_tag) none in cc)
+  joined_breaks slot p r older TagOutside formed was none joins is = (
+    was.begun,
+    some_value (span_with slot p r) (formed, exact.formed r.reign.fragments r.reign.tags was.one)
+        (joins, can_be_joined g exact d r.reign was) is.0,
     outside (span_with slot p r) is.2,
   )
 
   -- a fragment changes a reign
   changed_breaks : (slot : ℕ) (p : Fragment) (r : Reign) (older : List Reign) (fault : AuditFault)
-      → CanBeBroadcast d g.kind r → (AreUnchanged (p ∷ r.fragments) → ⊥) → Changed ≡ fault
+      → CanBeBroadcast d g.kind r → changes g r.fragments p ≡ true → Changed ≡ fault
       → BreaksByFragment g.kind (with_fragment slot p r ∷ older) fault
-  changed_breaks slot p r older fault was other is =
-      subst (BreaksByFragment g.kind (with_fragment slot p r ∷ older)) is (was.begun, other)
+  changed_breaks slot p r older fault was changed is =
+      subst (BreaksByFragment g.kind (with_fragment slot p r ∷ older)) is (
+        was.begun,
+        (and_parts (is_other (sent_last p.address r.fragments) p.bytes) _ changed).0,
+        λ one. let bad : true ≡ false = sym changed ∙ (exact.measured (p ∷ r.fragments) [] one).joins.0 in cc,
+      )
 
   fragment_breaks : (p : Fragment) (before : List Mark) (rs : List Span) (fault : AuditFault)
       → IsFormed g.segments p → AllByRecursion (CanBeBroadcast d g.kind) (reigns_of rs)
       → broken_newest g d before rs ≡ none_broken
-      → first_of (broken_newest g d (Sends p ∷ before) (spans_after d (length before) p rs)) ≡ Some fault
+      → first_of (broken_newest g d (Sends p ∷ before) (spans_after g d (length before) p rs)) ≡ Some fault
       → BreaksByFragment g.kind (after_fragment d (length before) p (reigns_of rs)) fault
   fragment_breaks p before [] fault formed was none is =
       opened_breaks (length before) 0 p [] fault formed (omega arith) (first_is _ fault is)
   fragment_breaks p before (r ∷ older) fault formed was none is =
-      by_fragment (λ (rs : List Span) (regs : List Reign).
+      by_fragment g (λ (rs : List Span) (regs : List Reign).
       first_of (broken_newest g d (Sends p ∷ before) rs) ≡ Some fault → BreaksByFragment g.kind regs fault)
       d (length before) p r older
-      (λ u is. joined_breaks (length before) p r (reigns_of older) fault formed was.0 none u (first_is _ fault is))
-      (λ other is. changed_breaks (length before) p r.reign (reigns_of older) fault was.0 other
+      (λ joins is. joined_breaks (length before) p r (reigns_of older) fault formed was.0 none joins
+      (first_is _ fault is))
+      (λ changed is. changed_breaks (length before) p r.reign (reigns_of older) fault was.0 changed
       (let e : Some Changed ≡ Some fault = is in let same : Changed ≡ fault = cc in same))
       (λ start late is. opened_breaks (length before) start p (reigns_of (r ∷ older)) fault formed late
       (first_is _ fault is))
       (λ start late less is. subst (BreaksByFragment g.kind (opened_from late (length before) p
       ∷ reigns_of (r ∷ older)))
       (let e : Some EarlyFlag ≡ Some fault = is in let same : EarlyFlag ≡ fault = cc in same) less)
-      (can_be_unchanged g exact d r.reign was.0) is
+      is
 
   -- tags break a rule
   tagged_breaks : (slot : ℕ) (pair : PairFields) (r : Span) (older : List Reign) (fault : AuditFault)
@@ -171,7 +198,7 @@ module _ (g : Gauge) (exact : IsExact g) (d : ℕ) where
       tagged_breaks (length before) pair r (reigns_of older) fault none (first_is _ fault is)
 
   -- the newest mark breaks the rule of its first fault, after marks that pass
-  service_breaks : (mark : Mark) (before : List Mark) (fault : AuditFault) → IsFormedMark g mark
+  service_breaks : (mark : Mark) (before : List Mark) (fault : AuditFault) → IsFormedMark g.segments mark
       → Passes d g.kind before → first_of (added g d mark before) ≡ Some fault
       → BreaksRule d g.kind mark before fault
   service_breaks Nothing before fault formed passes is =
@@ -179,34 +206,35 @@ module _ (g : Gauge) (exact : IsExact g) (d : ℕ) where
   service_breaks (Sends p) before fault formed passes is =
       let h = are_reigns g exact d before passes in
       subst (λ (regs : List Reign). BreaksByFragment g.kind (after_fragment d (length before) p regs) fault) h.same
-      (fragment_breaks p before (spans d before) fault formed
+      (fragment_breaks p before (spans g d before) fault formed
       (subst (AllByRecursion (CanBeBroadcast d g.kind)) (sym h.same) passes.reigns) h.none
       (sym (ap first_of (adds_all g exact d (Sends p) before h.none)) ∙ is))
   service_breaks (Tagged pair) before fault formed passes is =
       let h = are_reigns g exact d before passes in
       subst (λ (regs : List Reign). BreaksByTags d g.kind (length before) (after_tags (length before) pair regs) fault)
       h.same
-      (tags_break pair before (spans d before) fault h.none
+      (tags_break pair before (spans g d before) fault h.none
       (sym (ap first_of (adds_all g exact d (Tagged pair) before h.none)) ∙ is))
 
 -- ---- the fault of a log
 
-slot_breaks : (d : ℕ) (newest : Option Message) (before : List (Option Message)) (fault : AuditFault)
-    → IsFormedMessage newest → LogPasses d before → first_of (slot_adds d newest before) ≡ Some fault
-    → BreaksRule d texts (text_mark newest) (marks text_mark before) fault
+slot_breaks : (form : TextForm) (d : ℕ) (newest : Option Message) (before : List (Option Message)) (fault : AuditFault)
+    → IsFormedMessage newest → LogPasses form d before → first_of (slot_adds form d newest before) ≡ Some fault
+    → BreaksRule d (text_kind form) (text_mark newest) (marks text_mark before) fault
     ⊎ BreaksRule d names (name_mark newest) (marks name_mark before) fault
-slot_breaks d newest before fault formed passes is = by newest refl
+slot_breaks form d newest before fault formed passes is = by newest refl
   where
-    text : name_mark newest ≡ Nothing → BreaksRule d texts (text_mark newest) (marks text_mark before) fault
-    text silent = service_breaks text_gauge text_gauge_is_exact d (text_mark newest) (marks text_mark before) fault
-        formed.text passes.text (sym (ap first_of (texts_add d newest before silent)) ∙ is)
+    text : name_mark newest ≡ Nothing → BreaksRule d (text_kind form) (text_mark newest) (marks text_mark before) fault
+    text silent = service_breaks (gauge_of form) (gauge_is_exact form) d (text_mark newest)
+        (marks text_mark before) fault
+        formed.text passes.text (sym (ap first_of (texts_add form d newest before silent)) ∙ is)
 
     name : text_mark newest ≡ Nothing → BreaksRule d names (name_mark newest) (marks name_mark before) fault
     name silent = service_breaks name_gauge name_gauge_is_exact d (name_mark newest) (marks name_mark before) fault
-        formed.name passes.name (sym (ap first_of (names_add d newest before silent)) ∙ is)
+        formed.name passes.name (sym (ap first_of (names_add form d newest before silent)) ∙ is)
 
     by : (m : Option Message) → newest ≡ m
-        → BreaksRule d texts (text_mark newest) (marks text_mark before) fault
+        → BreaksRule d (text_kind form) (text_mark newest) (marks text_mark before) fault
         ⊎ BreaksRule d names (name_mark newest) (marks name_mark before) fault
     by None e = inl (text (ap name_mark e))
     by (Some (Text f a b)) e = inl (text (ap name_mark e))
@@ -216,17 +244,20 @@ slot_breaks d newest before fault formed passes is = by newest refl
     by (Some Other) e = inl (text (ap name_mark e))
 
 -- the fault of a log is that of the rule that its first failing slot breaks first
-pub fails_by : (d : ℕ) (log : List (Option Message)) (fault : AuditFault) → AllByRecursion IsFormedMessage log
-    → IsFaultOf d log fault → FailsBy d log fault
-fails_by d [] fault formed is = absurd (let bad : None ≡ Some fault = is in cc)
-fails_by d (newest ∷ before) fault formed is = by (fails_by d before fault formed.1) (first_fault d before) refl
+pub fails_by : (form : TextForm) (d : ℕ) (log : List (Option Message)) (fault : AuditFault)
+    → AllByRecursion IsFormedMessage log
+    → IsFaultOf form d log fault → FailsBy form d log fault
+fails_by form d [] fault formed is = absurd (let bad : None ≡ Some fault = is in cc)
+fails_by form d (newest ∷ before) fault formed is = by (fails_by form d before fault formed.1)
+    (first_fault form d before) refl
   where
-    next : (o : Option AuditFault) → first_fault d before ≡ o
-        → or_else o (first_of (slot_adds d newest before)) ≡ Some fault
-    next o e = sym (ap (λ (o : Option AuditFault). or_else o (first_of (slot_adds d newest before))) e) ∙ is
+    next : (o : Option AuditFault) → first_fault form d before ≡ o
+        → or_else o (first_of (slot_adds form d newest before)) ≡ Some fault
+    next o e = sym (ap (λ (o : Option AuditFault). or_else o (first_of (slot_adds form d newest before))) e) ∙ is
 
-    by : (IsFaultOf d before fault → FailsBy d before fault) → (o : Option AuditFault) → first_fault d before ≡ o
-        → FailsBy d (newest ∷ before) fault
+    by : (IsFaultOf form d before fault → FailsBy form d before fault) → (o : Option AuditFault)
+        → first_fault form d before ≡ o
+        → FailsBy form d (newest ∷ before) fault
     by earlier (Some found) e =
         let f = earlier (e ∙ next (Some found) e) in
         record {
@@ -238,12 +269,12 @@ fails_by d (newest ∷ before) fault formed is = by (fails_by d before fault for
           breaks = f.breaks;
         }
     by earlier None e =
-        let passes = passes_without d before formed.1 e in
+        let passes = passes_without form d before formed.1 e in
         record {
           later = [];
           newest = newest;
           before = before;
           slots = refl;
           passed = passes;
-          breaks = slot_breaks d newest before fault formed.0 passes (next None e);
+          breaks = slot_breaks form d newest before fault formed.0 passes (next None e);
         }

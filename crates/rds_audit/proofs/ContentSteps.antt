@@ -8,8 +8,8 @@ use Rattle.rds_fields.specs.Tag.{PairFields}
 use Rattle.rds_receiver.specs.declared.fragment.Fragment.{Fragment}
 use Rattle.rds_audit.specs.declared.audited.Lengths.{Lengths}
 use Rattle.rds_audit.specs.AuditAt.{HoldsContent}
-use Rattle.rds_audit.specs.ReignsState.{ContentState, no_content, tagged, taken}
-use Rattle.rds_audit.specs.Lengths.{Gauge, IsExact, IsFormed, narrowed, pair_end, sent_last}
+use Rattle.rds_audit.specs.ReignsState.{ContentState, measured_in, no_content, tagged, taken}
+use Rattle.rds_audit.specs.Lengths.{Gauge, IsExact, IsFormed, pair_end, sent_cells, sent_last}
 use Rattle.rds_audit.specs.Reigns.{SentTags}
 use Rattle.rds_audit.specs.Rules.{HaveOneValue}
 
@@ -17,22 +17,27 @@ use Rattle.rds_audit.specs.Rules.{HaveOneValue}
 pub empty_content : (g : Gauge) → HoldsContent g [] [] (no_content g.longest)
 empty_content g = record {
   long = refl;
+  held = refl;
   cells = λ a h. get_or-replicate {A = Option (List ℕ)} 16 a None None h;
   lengths = refl;
   ends = refl;
 }
 
 pub empty_one : (g : Gauge) → IsExact g → HaveOneValue g.kind [] []
-empty_one g exact = exact.one [] [] tt record { unchanged = tt; each = tt; room = omega arith; ends = omega arith }
+empty_one g exact = exact.one [] [] tt record { joins = tt; fit = refl; ends = omega arith }
 
 module _ (g : Gauge) (few : g.segments ≤ 16) (p : Fragment) (fragments : List Fragment) (tags : List SentTags)
     (c : ContentState) (h : HoldsContent g fragments tags c) (formed : IsFormed g.segments p) where
   -- the content with a fragment follows from the fragments with it
-  pub taken_content : HoldsContent g (p ∷ fragments) tags (taken (g.allowed p.address p.bytes) p.address p.bytes c)
+  pub taken_content : HoldsContent g (p ∷ fragments) tags (taken (measured_in g p.address p.bytes c).lengths p.address
+      p.bytes c)
   taken_content = record {
     long = length-set c.cells p.address (Some p.bytes) ∙ h.long;
     cells = λ a less. at a less (nat_eq a p.address) refl;
-    lengths = ap (λ (l : Lengths). narrowed (g.allowed p.address p.bytes) l) h.lengths;
+    held = ap (λ (cells : List (Option (List ℕ))). set cells p.address (Some p.bytes)) h.held;
+    lengths =
+        ap (λ (cells : List (Option (List ℕ))). (g.measure cells c.lengths p.address p.bytes).lengths) h.held
+        ∙ ap (λ (l : Lengths). (g.measure (sent_cells fragments) l p.address p.bytes).lengths) h.lengths;
     ends = h.ends;
   }
     where
@@ -52,5 +57,11 @@ module _ (g : Gauge) (few : g.segments ≤ 16) (p : Fragment) (fragments : List 
 pub tagged_content : (g : Gauge) (now : ℕ) (pair : PairFields) (fragments : List Fragment) (tags : List SentTags)
     (c : ContentState) → HoldsContent g fragments tags c
     → HoldsContent g fragments (record { slot = now; pair = pair } ∷ tags) (tagged pair c)
-tagged_content g now pair fragments tags c h = record
-    { long = h.long; cells = h.cells; lengths = h.lengths; ends = ap (λ n. max n (pair_end pair)) h.ends }
+tagged_content g now pair fragments tags c h = record {
+  long = h.long;
+  held = h.held;
+  cells = h.cells;
+  lengths = h.lengths;
+  ends = ap (λ n. max n
+      (pair_end pair)) h.ends;
+}

@@ -22,6 +22,7 @@ use Rattle.rds_safety.specs.Marks.{Mark, Nothing, Sends, Tagged, marks, name_mar
 use Rattle.rds_audit.specs.FlagLaws.{HasNoPause, HearsEachReign, IsSafeByFlag, IsSoonAfter}
 use Rattle.rds_audit.specs.Reigns.{AlternateFlags, IsOfEachTwo, Reign, after_fragment, after_tags, joins, reigns}
 use Rattle.rds_audit.specs.Rules.{CanBeBroadcast, LogPasses}
+use Rattle.rds_audit.specs.declared.text_form.TextForm.TheVariants.{Plain}
 use Rattle.rds_audit.proofs.Planning.{has_plan_of_reigns, plan_from}
 
 -- the broadcast made of a reign
@@ -80,7 +81,7 @@ hears_each below d now kind pick input rs a each k b next t s p q news heard bef
 
 -- a log that passes is safe for radios with the flag alone, if it turns the flag
 pub safe_by_flag : PlanLaws → TextsByFlagAreOfTheirSource → NamesByFlagAreOfTheirSource → TagsByFlagAreOfTheirText
-    → (d : ℕ) (log : List (Option Message)) → 0 < d → LogPasses d log → IsSafeByFlag d log
+    → (d : ℕ) (log : List (Option Message)) → 0 < d → LogPasses Plain d log → IsSafeByFlag d log
 safe_by_flag laws safe_texts safe_names safe_tags d log some passes =
     let text = has_plan_of_reigns laws.below d texts (marks text_mark log) some passes.text in
     let name = has_plan_of_reigns laws.below d names (marks name_mark log) some passes.name in

@@ -12,7 +12,7 @@ use Rattle.rds_receiver.specs.OneView.{same_heard_in}
 use Rattle.rds_receiver.specs.Receipts.{Hears}
 use Rattle.rds_receiver.specs.declared.fragment.Fragment.{Fragment}
 use Rattle.rds_receiver.specs.Run.{is_same}
-use Rattle.rds_safety.specs.Lawful.{names, texts}
+use Rattle.rds_safety.specs.Lawful.{names}
 use Rattle.rds_safety.specs.Marks.{Mark, Nothing, marks, name_mark, text_mark}
 use Rattle.rds_audit.specs.declared.audit.AuditFault.{AuditFault}
 use Rattle.rds_audit.specs.declared.audit.AuditFault.TheVariants.{Changed, NotOneText, EarlyFlag, EarlyTag, TagOutside}
@@ -21,9 +21,11 @@ use Rattle.rds_audit.specs.declared.log_start.LogStart.{LogStart}
 use Rattle.rds_audit.specs.declared.log_start.LogStart.TheVariants.{Complete, Running}
 use Rattle.rds_audit.specs.Ages.{Ages, HasCurrent}
 use Rattle.rds_audit.specs.Judging.{judged_step}
-use Rattle.rds_audit.specs.Lengths.{Gauge, name_gauge, sent_last, text_gauge}
+use Rattle.rds_audit.specs.Forms.{text_kind}
+use Rattle.rds_audit.specs.declared.text_form.TextForm.{TextForm}
+use Rattle.rds_audit.specs.Lengths.{Gauge, changes, gauge_of, name_gauge}
 use Rattle.rds_audit.specs.Listing.{IsFaultOf, Span, added, both, broken_newest, first_fault, first_of}
-use Rattle.rds_audit.specs.Listing.{joined, none_broken, or_else, reigns_of, same_bytes, slot_adds, spans, spans_after}
+use Rattle.rds_audit.specs.Listing.{none_broken, or_else, reigns_of, slot_adds, spans, spans_after}
 use Rattle.rds_audit.specs.Listing.{spans_tagged}
 use Rattle.std.specs.List.{AllByRecursion}
 use Rattle.rds_audit.specs.ListingLaws.{IsFormedMessage}
@@ -34,7 +36,7 @@ use Rattle.rds_audit.specs.declared.stored.StoredAudit.{StoredAudit}
 use Rattle.rds_audit.specs.AuditState.{AuditState, aged_in}
 use Rattle.rds_audit.specs.Recording.{counted_as, has_text, judged_as, silent_as}
 use Rattle.rds_audit.specs.Rules.{LogPasses}
-use Rattle.rds_audit.proofs.Gauges.{name_gauge_is_exact, text_gauge_is_exact}
+use Rattle.rds_audit.proofs.Gauges.{gauge_is_exact, name_gauge_is_exact}
 use Rattle.rds_audit.proofs.Recordings.{IsSilent, names_begin, silent_passes, texts_begin}
 use Rattle.rds_audit.proofs.SpanReigns.{adds_none, quiet_passes, service_passed_before}
 use Rattle.rds_audit.proofs.SpanSteps.{added_more, none_new, nothing_follows, sets_are, spans_later}
@@ -57,48 +59,51 @@ with_none f = λ i. record {
 -- nothing adds nothing
 pub nothing_adds : (g : Gauge) (d : ℕ) (before : List Mark) → added g d Nothing before ≡ none_broken
 nothing_adds g d before =
-    sym (added_more g d Nothing before (broken_newest g d before (spans d before))
-    (broken_newest g d before (spans d before)) refl refl (same (spans d before)))
-    ∙ sym (none_new (broken_newest g d before (spans d before)))
+    sym (added_more g d Nothing before (broken_newest g d before (spans g d before))
+    (broken_newest g d before (spans g d before)) refl refl (same (spans g d before)))
+    ∙ sym (none_new (broken_newest g d before (spans g d before)))
   where
     same : (rs : List Span) → broken_newest g d before rs ≡ broken_newest g d (Nothing ∷ before) rs
     same [] = refl
     same (r ∷ older) = refl
 
-pub texts_add : (d : ℕ) (newest : Option Message) (before : List (Option Message)) → name_mark newest ≡ Nothing
-    → slot_adds d newest before ≡ added text_gauge d (text_mark newest) (marks text_mark before)
-texts_add d newest before silent =
-    ap (λ (m : Mark). both (added text_gauge d (text_mark newest) (marks text_mark before))
+pub texts_add : (form : TextForm) (d : ℕ) (newest : Option Message) (before : List (Option Message))
+    → name_mark newest ≡ Nothing
+    → slot_adds form d newest before ≡ added (gauge_of form) d (text_mark newest) (marks text_mark before)
+texts_add form d newest before silent =
+    ap (λ (m : Mark). both (added (gauge_of form) d (text_mark newest) (marks text_mark before))
     (added name_gauge d m (marks name_mark before))) silent
-    ∙ ap (both (added text_gauge d (text_mark newest) (marks text_mark before)))
+    ∙ ap (both (added (gauge_of form) d (text_mark newest) (marks text_mark before)))
     (nothing_adds name_gauge d (marks name_mark before))
-    ∙ sym (with_none (added text_gauge d (text_mark newest) (marks text_mark before)))
+    ∙ sym (with_none (added (gauge_of form) d (text_mark newest) (marks text_mark before)))
 
-pub names_add : (d : ℕ) (newest : Option Message) (before : List (Option Message)) → text_mark newest ≡ Nothing
-    → slot_adds d newest before ≡ added name_gauge d (name_mark newest) (marks name_mark before)
-names_add d newest before silent =
-    ap (λ (m : Mark). both (added text_gauge d m (marks text_mark before)) (added name_gauge d (name_mark newest)
+pub names_add : (form : TextForm) (d : ℕ) (newest : Option Message) (before : List (Option Message))
+    → text_mark newest ≡ Nothing
+    → slot_adds form d newest before ≡ added name_gauge d (name_mark newest) (marks name_mark before)
+names_add form d newest before silent =
+    ap (λ (m : Mark). both (added (gauge_of form) d m (marks text_mark before)) (added name_gauge d (name_mark newest)
     (marks name_mark before))) silent
     ∙ ap (λ (f : FaultSet). both f (added name_gauge d (name_mark newest) (marks name_mark before)))
-    (nothing_adds text_gauge d (marks text_mark before))
+    (nothing_adds (gauge_of form) d (marks text_mark before))
 
 -- ---- up to the first fault of a log
 
-pub log_passed_before : (d : ℕ) (newest : Option Message) (before : List (Option Message))
-    → LogPasses d (newest ∷ before) → LogPasses d before
-log_passed_before d newest before h = record {
-  text = service_passed_before d texts (text_mark newest) (marks text_mark before) h.text;
+pub log_passed_before : (form : TextForm) (d : ℕ) (newest : Option Message) (before : List (Option Message))
+    → LogPasses form d (newest ∷ before) → LogPasses form d before
+log_passed_before form d newest before h = record {
+  text = service_passed_before d (text_kind form) (text_mark newest) (marks text_mark before) h.text;
   name = service_passed_before d names (name_mark newest) (marks name_mark before) h.name;
 }
 
 -- a slot that breaks no rule adds nothing
-pub passing_adds : (d : ℕ) (newest : Option Message) (before : List (Option Message)) → LogPasses d (newest ∷ before)
-    → none_broken ≡ slot_adds d newest before
-passing_adds d newest before passes =
+pub passing_adds : (form : TextForm) (d : ℕ) (newest : Option Message) (before : List (Option Message))
+    → LogPasses form d (newest ∷ before)
+    → none_broken ≡ slot_adds form d newest before
+passing_adds form d newest before passes =
     ap (both none_broken) (sym (adds_none name_gauge name_gauge_is_exact d (name_mark newest) (marks name_mark before)
     passes.name))
     ∙ ap (λ (f : FaultSet). both f (added name_gauge d (name_mark newest) (marks name_mark before)))
-    (sym (adds_none text_gauge text_gauge_is_exact d (text_mark newest) (marks text_mark before) passes.text))
+    (sym (adds_none (gauge_of form) (gauge_is_exact form) d (text_mark newest) (marks text_mark before) passes.text))
 
 -- the messages that are heard have the form that is sent
 formed_heard : (pi : ℕ) (slot : Option Group) (message : Option Message) → Hears pi slot message
@@ -126,16 +131,18 @@ formed_counted Running judged (Some (Tags pair)) h = cond_both (has_text judged)
 formed_counted Running judged (Some Other) h = h
 
 -- a log that passes has no fault
-passes_quietly : (d : ℕ) (log : List (Option Message)) → LogPasses d log → first_fault d log ≡ None
-passes_quietly d [] passes = refl
-passes_quietly d (newest ∷ before) passes =
-    ap (λ (o : Option AuditFault). or_else o (first_of (slot_adds d newest before)))
-    (passes_quietly d before (log_passed_before d newest before passes))
-    ∙ ap first_of (sym (passing_adds d newest before passes))
+passes_quietly : (form : TextForm) (d : ℕ) (log : List (Option Message)) → LogPasses form d log
+    → first_fault form d log ≡ None
+passes_quietly form d [] passes = refl
+passes_quietly form d (newest ∷ before) passes =
+    ap (λ (o : Option AuditFault). or_else o (first_of (slot_adds form d newest before)))
+    (passes_quietly form d before (log_passed_before form d newest before passes))
+    ∙ ap first_of (sym (passing_adds form d newest before passes))
 
 -- a log with a fault does not pass
-pub no_fault : (d : ℕ) (log : List (Option Message)) (fault : AuditFault) → IsFaultOf d log fault → LogPasses d log → ⊥
-no_fault d log fault f passes = (let bad : None ≡ Some fault = sym (passes_quietly d log passes) ∙ f in cc)
+pub no_fault : (form : TextForm) (d : ℕ) (log : List (Option Message)) (fault : AuditFault)
+    → IsFaultOf form d log fault → LogPasses form d log → ⊥
+no_fault form d log fault f passes = (let bad : None ≡ Some fault = sym (passes_quietly form d log passes) ∙ f in cc)
 
 -- there is no fault, or a first one
 first_some : (f : FaultSet) → (f ≡ none_broken) ⊎ ((fault : AuditFault) × (first_of f ≡ Some fault))
@@ -169,16 +176,19 @@ none_of_both f g e =
     neither false y e = (refl, e)
 
 -- a slot after a log that passes: the log passes with it too, or it adds a first fault
-log_judged : (d : ℕ) (newest : Option Message) (before : List (Option Message)) → IsFormedMessage newest
-    → LogPasses d before
-    → LogPasses d (newest ∷ before) ⊎ ((fault : AuditFault) × (first_of (slot_adds d newest before) ≡ Some fault))
-log_judged d newest before formed passes = elim (first_some (slot_adds d newest before)) [
+log_judged : (form : TextForm) (d : ℕ) (newest : Option Message) (before : List (Option Message))
+    → IsFormedMessage newest
+    → LogPasses form d before
+    → LogPasses form d (newest ∷ before) ⊎ ((fault : AuditFault) × (first_of
+    (slot_adds form d newest before) ≡ Some fault))
+log_judged form d newest before formed passes = elim (first_some (slot_adds form d newest before)) [
   | inr some ↦ inr some
   | inl quiet ↦
-      let none = none_of_both (added text_gauge d (text_mark newest) (marks text_mark before))
+      let none = none_of_both (added (gauge_of form) d (text_mark newest) (marks text_mark before))
       (added name_gauge d (name_mark newest) (marks name_mark before)) quiet in
       inl record {
-        text = quiet_passes text_gauge text_gauge_is_exact d (text_mark newest) (marks text_mark before) formed.text
+        text = quiet_passes (gauge_of form) (gauge_is_exact form) d (text_mark newest)
+            (marks text_mark before) formed.text
             passes.text none.0;
         name = quiet_passes name_gauge name_gauge_is_exact d (name_mark newest) (marks name_mark before) formed.name
             passes.name none.1;
@@ -186,49 +196,54 @@ log_judged d newest before formed passes = elim (first_some (slot_adds d newest 
 ]
 
 -- a log without a fault passes
-pub passes_without : (d : ℕ) (log : List (Option Message)) → AllByRecursion IsFormedMessage log
-    → first_fault d log ≡ None → LogPasses d log
-passes_without d [] formed none = record {
+pub passes_without : (form : TextForm) (d : ℕ) (log : List (Option Message)) → AllByRecursion IsFormedMessage log
+    → first_fault form d log ≡ None → LogPasses form d log
+passes_without form d [] formed none = record {
   text = record { reigns = tt; tagged = λ t pair s. absurd s };
   name = record
       { reigns = tt; tagged = λ t pair s. absurd s };
 }
-passes_without d (newest ∷ before) formed none = by (passes_without d before formed.1) (first_fault d before) refl
+passes_without form d (newest ∷ before) formed none = by (passes_without form d before formed.1)
+    (first_fault form d before) refl
   where
-    by : (first_fault d before ≡ None → LogPasses d before) → (o : Option AuditFault) → first_fault d before ≡ o
-        → LogPasses d (newest ∷ before)
+    by : (first_fault form d before ≡ None → LogPasses form d before) → (o : Option AuditFault)
+        → first_fault form d before ≡ o
+        → LogPasses form d (newest ∷ before)
     by passes (Some fault) e = absurd (let bad : Some fault
-        ≡ None = sym (ap (λ (o : Option AuditFault). or_else o (first_of (slot_adds d newest before))) e) ∙ none in cc)
-    by passes None e = elim (log_judged d newest before formed.0 (passes e)) [
+        ≡ None = sym (ap (λ (o : Option AuditFault). or_else o (first_of
+        (slot_adds form d newest before))) e) ∙ none in cc)
+    by passes None e = elim (log_judged form d newest before formed.0 (passes e)) [
       | inl next ↦ next
       | inr (fault, b) ↦ absurd (let bad : Some fault ≡ None = sym b
-          ∙ sym (ap (λ (o : Option AuditFault). or_else o (first_of (slot_adds d newest before))) e) ∙ none in cc)
+          ∙ sym (ap (λ (o : Option AuditFault). or_else o (first_of (slot_adds form d newest before))) e) ∙ none in cc)
     ]
 
 -- the fault of a log with one more slot
 judged_next : (d : ℕ) (newest : Option Message) (judged : List (Option Message)) (a after : AuditState)
-    → IsFormedMessage newest → (HoldsLog d judged a → HoldsLog d (newest ∷ judged) after)
-    → (HoldsLog d judged a → a.fault ≡ None → after.fault ≡ first_of (slot_adds d newest judged))
+    → after.form ≡ a.form → IsFormedMessage newest → (HoldsLog d judged a → HoldsLog d (newest ∷ judged) after)
+    → (HoldsLog d judged a → a.fault ≡ None → after.fault ≡ first_of (slot_adds a.form d newest judged))
     → ((fault : AuditFault) → a.fault ≡ Some fault → after.fault ≡ Some fault) → HasJudged d a judged
     → HasJudged d after (newest ∷ judged)
-judged_next d newest judged a after formed holds first again has = by a.fault refl has
+judged_next d newest judged a after same formed holds first again has = by a.fault refl has
   where
     told : (o : Option AuditFault) → after.fault ≡ o
-        → MatchOption o (LogPasses d (newest ∷ judged) × HoldsLog d (newest ∷ judged) after)
-        (IsFaultOf d (newest ∷ judged)) → HasJudged d after (newest ∷ judged)
-    told o e m = subst (λ (x : Option AuditFault). MatchOption x (LogPasses d (newest ∷ judged)
-        × HoldsLog d (newest ∷ judged) after) (IsFaultOf d (newest ∷ judged))) (sym e) m
+        → MatchOption o (LogPasses a.form d (newest ∷ judged) × HoldsLog d (newest ∷ judged) after)
+        (IsFaultOf a.form d (newest ∷ judged)) → HasJudged d after (newest ∷ judged)
+    told o e m = subst (λ (x : Option AuditFault). MatchOption x (LogPasses after.form d (newest ∷ judged)
+        × HoldsLog d (newest ∷ judged) after) (IsFaultOf after.form d (newest ∷ judged))) (sym e)
+        (subst (λ (f : TextForm). MatchOption o (LogPasses f d (newest ∷ judged)
+        × HoldsLog d (newest ∷ judged) after) (IsFaultOf f d (newest ∷ judged))) (sym same) m)
 
     by : (was : Option AuditFault) → a.fault ≡ was
-        → MatchOption was (LogPasses d judged × HoldsLog d judged a) (IsFaultOf d judged)
+        → MatchOption was (LogPasses a.form d judged × HoldsLog d judged a) (IsFaultOf a.form d judged)
         → HasJudged d after (newest ∷ judged)
     by (Some fault) e f = told (Some fault) (again fault e)
-        (ap (λ (o : Option AuditFault). or_else o (first_of (slot_adds d newest judged))) f)
-    by None e (passes, h) = elim (log_judged d newest judged formed passes) [
-      | inl next ↦ told None (first h e ∙ ap first_of (sym (passing_adds d newest judged next))) (next, holds h)
+        (ap (λ (o : Option AuditFault). or_else o (first_of (slot_adds a.form d newest judged))) f)
+    by None e (passes, h) = elim (log_judged a.form d newest judged formed passes) [
+      | inl next ↦ told None (first h e ∙ ap first_of (sym (passing_adds a.form d newest judged next))) (next, holds h)
       | inr (fault, b) ↦ told (Some fault) (first h e ∙ b)
-          (ap (λ (o : Option AuditFault). or_else o (first_of (slot_adds d newest judged)))
-          (passes_quietly d judged passes) ∙ b)
+          (ap (λ (o : Option AuditFault). or_else o (first_of (slot_adds a.form d newest judged)))
+          (passes_quietly a.form d judged passes) ∙ b)
     ]
 
 -- ---- from slot to slot
@@ -238,33 +253,32 @@ abbrev is_begun : List Span → Bool
 is_begun [] = false
 is_begun (r ∷ older) = true
 
-begun_by_joining : (d slot : ℕ) (p : Fragment) (o : Option (List ℕ)) (r : Span) (older : List Span)
-    → is_begun (joined d slot p o r older) ≡ true
-begun_by_joining d slot p None r older = refl
-begun_by_joining d slot p (Some bytes) r older = cond_both (same_bytes p.bytes bytes) _ _
-    (λ (rs : List Span). is_begun rs ≡ true) (λ _. refl) (λ _. refl)
-
-begun_by_fragment : (d slot : ℕ) (p : Fragment) (rs : List Span) → is_begun (spans_after d slot p rs) ≡ true
-begun_by_fragment d slot p [] = refl
-begun_by_fragment d slot p (r ∷ older) =
+begun_by_fragment : (g : Gauge) (d slot : ℕ) (p : Fragment) (rs : List Span)
+    → is_begun (spans_after g d slot p rs) ≡ true
+begun_by_fragment g d slot p [] = refl
+begun_by_fragment g d slot p (r ∷ older) =
     cond_both (is_same r.reign.flag p.flag) _ _ (λ (rs : List Span). is_begun rs ≡ true)
     (λ _. cond_both (nat_lt slot (r.reign.last + d)) _ _ (λ (rs : List Span). is_begun rs ≡ true)
-    (λ _. begun_by_joining d slot p (sent_last p.address r.reign.fragments) r older) (λ _. refl))
+    (λ _. cond_both (changes g r.reign.fragments p) _ _ (λ (rs : List Span). is_begun rs
+    ≡ true) (λ _. refl) (λ _. refl))
+    (λ _. refl))
     (λ _. refl)
 
 begun_by_tags : (slot : ℕ) (pair : PairFields) (rs : List Span) → is_begun (spans_tagged slot pair rs) ≡ is_begun rs
 begun_by_tags slot pair [] = refl
 begun_by_tags slot pair (r ∷ older) = refl
 
-begun_if : (d : ℕ) (judged : List (Option Message)) → is_begun (spans d (marks text_mark judged)) ≡ has_text judged
-begun_if d [] = refl
-begun_if d (None ∷ before) = begun_if d before
-begun_if d (Some (Text f a b) ∷ before) = begun_by_fragment d _ record { flag = f; address = a; bytes = b }
-    (spans d (marks text_mark before))
-begun_if d (Some (Name f a b) ∷ before) = begun_if d before
-begun_if d (Some (Announce code bits aid) ∷ before) = begun_if d before
-begun_if d (Some (Tags pair) ∷ before) = begun_by_tags _ pair (spans d (marks text_mark before)) ∙ begun_if d before
-begun_if d (Some Other ∷ before) = begun_if d before
+begun_if : (g : Gauge) (d : ℕ) (judged : List (Option Message))
+    → is_begun (spans g d (marks text_mark judged)) ≡ has_text judged
+begun_if g d [] = refl
+begun_if g d (None ∷ before) = begun_if g d before
+begun_if g d (Some (Text f a b) ∷ before) = begun_by_fragment g d _ record { flag = f; address = a; bytes = b }
+    (spans g d (marks text_mark before))
+begun_if g d (Some (Name f a b) ∷ before) = begun_if g d before
+begun_if g d (Some (Announce code bits aid) ∷ before) = begun_if g d before
+begun_if g d (Some (Tags pair) ∷ before) = begun_by_tags _ pair (spans g d
+    (marks text_mark before)) ∙ begun_if g d before
+begun_if g d (Some Other ∷ before) = begun_if g d before
 
 open_begun : (d slot : ℕ) (rs : List Span) (a : Ages) → HasCurrent d slot (reigns_of rs) a → a.is_open ≡ is_begun rs
 open_begun d slot [] a h = h
@@ -273,43 +287,52 @@ open_begun d slot (r ∷ older) a h = h.0
 -- there is a span of texts exactly if a text segment was judged
 pub text_open : (d : ℕ) (judged : List (Option Message)) (l : AuditState) → HoldsLog d judged l
     → l.text.reigns.ages.is_open ≡ has_text judged
-text_open d judged l h = open_begun d _ (spans d (marks text_mark judged)) l.text.reigns.ages h.text.ages.current
-    ∙ begun_if d judged
+text_open d judged l h = open_begun d _ (spans (gauge_of l.form) d (marks text_mark judged)) l.text.reigns.ages
+    h.text.ages.current ∙ begun_if (gauge_of l.form) d judged
 
 -- a message of texts alone, that is judged as it is
 pub texts_listed : (l after : AuditState) (message : Option Message) (result : FaultSet) → 0 < l.distance
-    → name_mark message ≡ Nothing → after.name ≡ l.name
+    → name_mark message ≡ Nothing → after.name ≡ l.name → after.form ≡ l.form
     → ((judged : List (Option Message)) → HoldsLog l.distance judged l → counted_as l.start judged message ≡ message)
-    → ((sent : List Mark) → HoldsSpans text_gauge l.distance sent l.text
-    → HoldsNewestSpans text_gauge l.distance (text_mark message) sent after.text)
-    → ((sent : List Mark) → HoldsSpans text_gauge l.distance sent l.text
-    → result ≡ added text_gauge l.distance (text_mark message) sent) → ListsMessage l after message result
-texts_listed l after message result pos silent name counts holds adds = record {
+    → ((sent : List Mark) → HoldsSpans (gauge_of l.form) l.distance sent l.text
+    → HoldsNewestSpans (gauge_of l.form) l.distance (text_mark message) sent after.text)
+    → ((sent : List Mark) → HoldsSpans (gauge_of l.form) l.distance sent l.text
+    → result ≡ added (gauge_of l.form) l.distance (text_mark message) sent) → ListsMessage l after message result
+texts_listed l after message result pos silent name form counts holds adds = record {
   holds = λ judged h. subst (λ x. HoldsSlot l.distance x judged after) (sym (counts judged h)) record {
-    text = holds (marks text_mark judged) h.text;
-    name = rw (silent, name) (nothing_follows name_gauge (omega arith) l.distance pos (marks name_mark judged)
-        (spans l.distance (marks name_mark judged)) l.name h.name);
+    text = subst (λ (f : TextForm). HoldsNewestSpans (gauge_of f) l.distance (text_mark message)
+        (marks text_mark judged)
+        after.text) (sym form) (holds (marks text_mark judged) h.text);
+    name = rw (silent, name) (nothing_follows name_gauge name_gauge_is_exact (omega arith) l.distance pos
+        (marks name_mark judged)
+        (spans name_gauge l.distance (marks name_mark judged)) l.name h.name);
   };
-  added = λ judged h. subst (λ (x : Option Message). result ≡ slot_adds l.distance x judged) (sym (counts judged h))
-      (adds (marks text_mark judged) h.text ∙ sym (texts_add l.distance message judged silent));
+  added = λ judged h. subst (λ (x : Option Message). result ≡ slot_adds l.form l.distance x judged) (sym
+      (counts judged h))
+      (adds (marks text_mark judged) h.text ∙ sym (texts_add l.form l.distance message judged silent));
 }
 
 -- and one of names alone
 pub names_listed : (l after : AuditState) (message : Option Message) (result : FaultSet) → 0 < l.distance
-    → text_mark message ≡ Nothing → after.text ≡ l.text
+    → text_mark message ≡ Nothing → after.text ≡ l.text → after.form ≡ l.form
     → ((judged : List (Option Message)) → HoldsLog l.distance judged l → counted_as l.start judged message ≡ message)
     → ((sent : List Mark) → HoldsSpans name_gauge l.distance sent l.name
     → HoldsNewestSpans name_gauge l.distance (name_mark message) sent after.name)
     → ((sent : List Mark) → HoldsSpans name_gauge l.distance sent l.name
     → result ≡ added name_gauge l.distance (name_mark message) sent) → ListsMessage l after message result
-names_listed l after message result pos silent text counts holds adds = record {
+names_listed l after message result pos silent text form counts holds adds = record {
   holds = λ judged h. subst (λ x. HoldsSlot l.distance x judged after) (sym (counts judged h)) record {
-    text = rw (silent, text) (nothing_follows text_gauge (omega arith) l.distance pos (marks text_mark judged)
-        (spans l.distance (marks text_mark judged)) l.text h.text);
+    text = subst (λ (f : TextForm). HoldsNewestSpans (gauge_of f) l.distance (text_mark message)
+        (marks text_mark judged)
+        after.text) (sym form) (rw (silent, text) (nothing_follows (gauge_of l.form) (gauge_is_exact l.form)
+        (omega arith)
+        l.distance pos (marks text_mark judged) (spans (gauge_of l.form) l.distance (marks text_mark judged)) l.text
+        h.text));
     name = holds (marks name_mark judged) h.name;
   };
-  added = λ judged h. subst (λ (x : Option Message). result ≡ slot_adds l.distance x judged) (sym (counts judged h))
-      (adds (marks name_mark judged) h.name ∙ sym (names_add l.distance message judged silent));
+  added = λ judged h. subst (λ (x : Option Message). result ≡ slot_adds l.form l.distance x judged) (sym
+      (counts judged h))
+      (adds (marks name_mark judged) h.name ∙ sym (names_add l.form l.distance message judged silent));
 }
 
 -- a message with nothing for either service
@@ -318,22 +341,26 @@ pub nothing_listed : (l : AuditState) (message : Option Message) (result : Fault
     → IsSilent (counted_as l.start judged message)) → ListsMessage l l message result
 nothing_listed l message result pos none silent = record {
   holds = λ judged h. record {
-    text = rw (silent judged h).0 (nothing_follows text_gauge (omega arith) l.distance pos (marks text_mark judged)
-        (spans l.distance (marks text_mark judged)) l.text h.text);
-    name = rw (silent judged h).1 (nothing_follows name_gauge (omega arith) l.distance pos (marks name_mark judged)
-        (spans l.distance (marks name_mark judged)) l.name h.name);
+    text = rw (silent judged h).0 (nothing_follows (gauge_of l.form) (gauge_is_exact l.form)
+        (omega arith) l.distance pos (marks text_mark judged)
+        (spans (gauge_of l.form) l.distance (marks text_mark judged)) l.text h.text);
+    name = rw (silent judged h).1 (nothing_follows name_gauge name_gauge_is_exact (omega arith) l.distance pos
+        (marks name_mark judged)
+        (spans name_gauge l.distance (marks name_mark judged)) l.name h.name);
   };
-  added = λ judged h. none ∙ sym (texts_add l.distance (counted_as l.start judged message) judged (silent judged h).1
-      ∙ ap (λ (m : Mark). added text_gauge l.distance m (marks text_mark judged)) (silent judged h).0
-      ∙ nothing_adds text_gauge l.distance (marks text_mark judged));
+  added = λ judged h. none ∙ sym (texts_add l.form l.distance (counted_as l.start judged message) judged
+      (silent judged h).1
+      ∙ ap (λ (m : Mark). added (gauge_of l.form) l.distance m (marks text_mark judged)) (silent judged h).0
+      ∙ nothing_adds (gauge_of l.form) l.distance (marks text_mark judged));
 }
 
 -- at the end of a slot
 pub slot_listed : (d : ℕ) (newest : Option Message) (judged : List (Option Message)) (l after : AuditState) → 0 < d
-    → after.text ≡ aged_in d l.text → after.name ≡ aged_in d l.name → HoldsSlot d newest judged l
+    → after.form ≡ l.form → after.text ≡ aged_in d l.text → after.name ≡ aged_in d l.name → HoldsSlot d newest judged l
     → HoldsLog d (newest ∷ judged) after
-slot_listed d newest judged l after pos text name h = record {
-  text = rw text (spans_later text_gauge d (text_mark newest) (marks text_mark judged) l.text pos h.text);
+slot_listed d newest judged l after pos form text name h = record {
+  text = subst (λ (f : TextForm). HoldsSpans (gauge_of f) d (marks text_mark (newest ∷ judged)) after.text) (sym form)
+      (rw text (spans_later (gauge_of l.form) d (text_mark newest) (marks text_mark judged) l.text pos h.text));
   name = rw name (spans_later name_gauge d (name_mark newest) (marks name_mark judged) l.name pos h.name);
 }
 
@@ -368,7 +395,8 @@ goes_on pi d a after log s slot message (hears, programme, distance, start) has 
 -- the audit took a slot, whatever its fault
 module _ (a next : AuditState) (slot : Option Group) (found : FaultSet) (took : ListsGroup a next slot found)
     (programme : next.programme ≡ a.programme) (distance : next.distance ≡ a.distance) (start : next.start ≡ a.start)
-    (first : a.fault ≡ None → next.fault ≡ first_of found) (again : (fault : AuditFault) → a.fault ≡ Some fault
+    (form : next.form ≡ a.form) (first : a.fault ≡ None → next.fault ≡ first_of found) (again : (fault : AuditFault)
+    → a.fault ≡ Some fault
     → next.fault ≡ Some fault)
     (pi d : ℕ) (log : List (Option Group)) where
   hears_here : AuditAt pi d a log → Hears pi slot took.message
@@ -376,9 +404,9 @@ module _ (a next : AuditState) (slot : Option Group) (found : FaultSet) (took : 
 
   -- what was found is what the slot adds
   adds_here : (s : AuditAt pi d a log) (judged : List (Option Message)) → HoldsLog d judged a
-      → found ≡ slot_adds d (counted_as a.start judged took.message) judged
+      → found ≡ slot_adds a.form d (counted_as a.start judged took.message) judged
   adds_here s judged h = took.added judged (subst (λ n. HoldsLog n judged a) (sym s.distance) h)
-      ∙ ap (λ n. slot_adds n (counted_as a.start judged took.message) judged) s.distance
+      ∙ ap (λ n. slot_adds a.form n (counted_as a.start judged took.message) judged) s.distance
 
   holds_here : (s : AuditAt pi d a log) (judged : List (Option Message)) → HoldsLog d judged a
       → HoldsLog d (counted_as a.start judged took.message ∷ judged) next
@@ -389,7 +417,7 @@ module _ (a next : AuditState) (slot : Option Group) (found : FaultSet) (took : 
   stands_next s =
       goes_on pi d a next log s slot took.message (hears_here s, programme, distance, start)
       (judged_next d (counted_as a.start (judged_as a.start d s.heard) took.message) (judged_as a.start d s.heard) a
-      next (formed_counted a.start (judged_as a.start d s.heard) took.message (formed_heard pi slot took.message
+      next form (formed_counted a.start (judged_as a.start d s.heard) took.message (formed_heard pi slot took.message
       (hears_here s)))
       (holds_here s (judged_as a.start d s.heard)) (λ h none. first none
       ∙ ap first_of (adds_here s (judged_as a.start d s.heard) h)) again s.holds)
@@ -404,11 +432,11 @@ module _ (a next : AuditState) (slot : Option Group) (found : FaultSet) (took : 
   }
 
   found_adds : (s : FollowsLog pi d a log) (message : Option Message) → Hears pi slot message
-      → found ≡ slot_adds d (counted_as a.start (judged_as a.start d s.at.heard) message)
+      → found ≡ slot_adds a.form d (counted_as a.start (judged_as a.start d s.at.heard) message)
       (judged_as a.start d s.at.heard)
   found_adds s message hears =
       adds_here s.at (judged_as a.start d s.at.heard) s.holds
-      ∙ ap (λ (m : Option Message). slot_adds d (counted_as a.start (judged_as a.start d s.at.heard) m)
+      ∙ ap (λ (m : Option Message). slot_adds a.form d (counted_as a.start (judged_as a.start d s.at.heard) m)
       (judged_as a.start d s.at.heard)) (same_heard_in pi slot took.message message (hears_here s.at) hears)
 
 -- the group of a slot was taken, and the slot is over
@@ -433,29 +461,30 @@ group_listed old heard new group found result stored same (message, hears, lists
 
 -- an audit that lists a group takes it
 pub takes_all : (a next : AuditState) (slot : Option Group) (found : FaultSet) → ListsGroup a next slot found
-    → next.programme ≡ a.programme → next.distance ≡ a.distance → next.start ≡ a.start
+    → next.programme ≡ a.programme → next.distance ≡ a.distance → next.start ≡ a.start → next.form ≡ a.form
     → (a.fault ≡ None → next.fault ≡ first_of found)
     → ((fault : AuditFault) → a.fault ≡ Some fault → next.fault ≡ Some fault) → TakesAll a next slot found
-takes_all a next slot found took programme distance start first again = record {
-  stands = stands_next a next slot found took programme distance start first again;
-  follows = follows_next a next slot found took programme distance start first again;
-  adds = found_adds a next slot found took programme distance start first again;
+takes_all a next slot found took programme distance start form first again = record {
+  stands = stands_next a next slot found took programme distance start form first again;
+  follows = follows_next a next slot found took programme distance start form first again;
+  adds = found_adds a next slot found took programme distance start form first again;
   start = start;
+  form = form;
   first = first;
   again = again;
 }
 
 -- the log of an audit without a fault passes
 pub log_passes : (d : ℕ) (a : AuditState) (judged : List (Option Message)) → a.fault ≡ None → HasJudged d a judged
-    → LogPasses d judged × HoldsLog d judged a
-log_passes d a judged none has = subst (λ (o : Option AuditFault). MatchOption o (LogPasses d judged
-    × HoldsLog d judged a) (IsFaultOf d judged)) none has
+    → LogPasses a.form d judged × HoldsLog d judged a
+log_passes d a judged none has = subst (λ (o : Option AuditFault). MatchOption o (LogPasses a.form d judged
+    × HoldsLog d judged a) (IsFaultOf a.form d judged)) none has
 
 -- and a fault is that of the log
 pub fault_is : (d : ℕ) (a : AuditState) (judged : List (Option Message)) (fault : AuditFault) → a.fault ≡ Some fault
-    → HasJudged d a judged → IsFaultOf d judged fault
-fault_is d a judged fault some has = subst (λ (o : Option AuditFault). MatchOption o (LogPasses d judged
-    × HoldsLog d judged a) (IsFaultOf d judged)) some has
+    → HasJudged d a judged → IsFaultOf a.form d judged fault
+fault_is d a judged fault some has = subst (λ (o : Option AuditFault). MatchOption o (LogPasses a.form d judged
+    × HoldsLog d judged a) (IsFaultOf a.form d judged)) some has
 
 -- after a fault an audit stays as it is
 pub takes_again : (a : AuditState) (slot : Option Group) (message : Option Message) (fault : AuditFault)
@@ -468,15 +497,16 @@ takes_again a slot message fault some hears = record {
   follows = λ none. absurd (let bad : Some fault ≡ None = sym some ∙ none in cc);
   fault = some;
   start = refl;
+  form = refl;
   which = λ pi d log s. fault_is d a (judged_as a.start d s.heard) fault some s.holds;
   again = λ other same. (ap Err (let e : fault ≡ other = cc in e), refl);
 }
   where
-    still : (d : ℕ) (newest : Option Message) (judged : List (Option Message)) → IsFaultOf d judged fault
+    still : (d : ℕ) (newest : Option Message) (judged : List (Option Message)) → IsFaultOf a.form d judged fault
         → HasJudged d a (newest ∷ judged)
-    still d newest judged f = subst (λ (o : Option AuditFault). MatchOption o (LogPasses d (newest ∷ judged)
-        × HoldsLog d (newest ∷ judged) a) (IsFaultOf d (newest ∷ judged))) (sym some)
-        (ap (λ (o : Option AuditFault). or_else o (first_of (slot_adds d newest judged))) f)
+    still d newest judged f = subst (λ (o : Option AuditFault). MatchOption o (LogPasses a.form d (newest ∷ judged)
+        × HoldsLog d (newest ∷ judged) a) (IsFaultOf a.form d (newest ∷ judged))) (sym some)
+        (ap (λ (o : Option AuditFault). or_else o (first_of (slot_adds a.form d newest judged))) f)
 
 -- without a fault before, an audit that takes a slot whatever its fault takes it with this result
 pub takes_next : (a after : AuditState) (slot : Option Group) (found : FaultSet)
@@ -488,6 +518,7 @@ takes_next a after slot found result all none is = record {
   follows = λ _. all.follows;
   fault = is;
   start = all.start;
+  form = all.form;
   which = λ pi d log s. told d (judged_as after.start d s.heard) s.holds result is;
   again = λ fault some. absurd (let bad : Some fault ≡ None = sym some ∙ none in cc);
 }
@@ -495,13 +526,13 @@ takes_next a after slot found result all none is = record {
     told : (d : ℕ) (judged : List (Option Message)) → HasJudged d after judged
         → (r : Result (Unit {0}) AuditFault)
         → MatchResult r (λ _. after.fault ≡ None) (λ fault. after.fault ≡ Some fault)
-        → MatchResult r (λ _. LogPasses d judged) (λ fault. IsFaultOf d judged fault)
+        → MatchResult r (λ _. LogPasses after.form d judged) (λ fault. IsFaultOf after.form d judged fault)
     told d judged has (Ok done) is = (log_passes d after judged is has).0
     told d judged has (Err fault) is = fault_is d after judged fault is has
 
 -- before the first slot
 pub audit_starts : (pi d : ℕ) (a : AuditState) → a.programme ≡ pi → a.distance ≡ d → 0 < d → a.fault ≡ None
-    → HoldsSpans text_gauge d (silent_as a.start d) a.text → HoldsSpans name_gauge d (silent_as a.start d) a.name
+    → HoldsSpans (gauge_of a.form) d (silent_as a.start d) a.text → HoldsSpans name_gauge d (silent_as a.start d) a.name
     → FollowsLog pi d a []
 audit_starts pi d a programme distance lasts clean texts_hold names_hold = record {
   at = record {
@@ -510,10 +541,10 @@ audit_starts pi d a programme distance lasts clean texts_hold names_hold = recor
     lasts = lasts;
     heard = [];
     are = tt;
-    holds = subst (λ (o : Option AuditFault). MatchOption o (LogPasses d (judged_as a.start d [])
-        × HoldsLog d (judged_as a.start d []) a) (IsFaultOf d (judged_as a.start d []))) (sym clean) (
+    holds = subst (λ (o : Option AuditFault). MatchOption o (LogPasses a.form d (judged_as a.start d [])
+        × HoldsLog d (judged_as a.start d []) a) (IsFaultOf a.form d (judged_as a.start d []))) (sym clean) (
           record {
-            text = rw (texts_begin a.start d) (silent_passes texts a.start d);
+            text = rw (texts_begin a.start d) (silent_passes (text_kind a.form) a.start d);
             name = rw (names_begin a.start d) (silent_passes names a.start d);
           },
           holds,
@@ -527,9 +558,9 @@ audit_starts pi d a programme distance lasts clean texts_hold names_hold = recor
 
 -- the log passes exactly if there is no fault
 pub passes_exactly : (d : ℕ) (a : AuditState) (judged : List (Option Message)) → HasJudged d a judged
-    → (a.fault ≡ None) ↔ LogPasses d judged
+    → (a.fault ≡ None) ↔ LogPasses a.form d judged
 passes_exactly d a judged has = ((λ none. (log_passes d a judged none has).0), by a.fault refl)
   where
-    by : (o : Option AuditFault) → a.fault ≡ o → LogPasses d judged → a.fault ≡ None
+    by : (o : Option AuditFault) → a.fault ≡ o → LogPasses a.form d judged → a.fault ≡ None
     by None e passes = e
-    by (Some fault) e passes = absurd (no_fault d judged fault (fault_is d a judged fault e has) passes)
+    by (Some fault) e passes = absurd (no_fault a.form d judged fault (fault_is d a judged fault e has) passes)

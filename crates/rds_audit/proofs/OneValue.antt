@@ -17,11 +17,12 @@ use Rattle.rds_safety.specs.Lawful.{IsFragmentOf, names, texts}
 use Rattle.rds_audit.specs.Rules.{AreUnchanged, HaveOneValue}
 use Rattle.rds_audit.specs.Reigns.{SentTags}
 use Rattle.rds_audit.specs.declared.audited.Lengths.{Lengths}
-use Rattle.rds_audit.specs.Lengths.{AreMeasured, IsFormed, are_name_bytes, lengths_of, name_lengths, sent_last, tag_end}
+use Rattle.rds_audit.specs.Lengths.{IsFormed, are_name_bytes, common_lengths, name_lengths, sent_last, tag_end}
 use Rattle.rds_audit.specs.Lengths.{tags_end, text_lengths}
-use Rattle.rds_audit.proofs.Bodies.{segment_byte, segment_long, text_below, text_end, text_full, text_long, text_past}
+use Rattle.rds_safety.proofs.Bodies.{segment_byte, segment_long, text_below, text_end, text_full, text_long, text_past}
 use Rattle.rds_audit.proofs.Allowed.{Agrees, Allows, Stands, allowed_agree, body_allows}
 use Rattle.rds_audit.proofs.Members.{IsIn, all_in}
+use Rattle.rds_audit.proofs.Ranged.{AreRanged}
 use Rattle.rds_audit.proofs.SentCells.{EachAllows, all_allow, allowed_by_all, are_unchanged, cell_from, cell_of}
 use Rattle.rds_audit.proofs.SentCells.{longest_at_most}
 
@@ -64,18 +65,18 @@ most_ends n (s ∷ tags) h = (
 )
 
 -- the bytes that fragments have, with spaces between
-abbrev byte_in : Option (List ℕ) → ℕ → ℕ
+abbrev pub byte_in : Option (List ℕ) → ℕ → ℕ
 byte_in None k = 32
 byte_in (Some s) k = slice_index s k
 
-abbrev byte_at : List Fragment → ℕ → ℕ
+abbrev pub byte_at : List Fragment → ℕ → ℕ
 byte_at fragments i = byte_in (sent_last (i / 4) fragments) (i % 4)
 
-abbrev fill : List Fragment → ℕ → ℕ → List ℕ
+abbrev pub fill : List Fragment → ℕ → ℕ → List ℕ
 fill fragments i zero = []
 fill fragments i (suc n) = byte_at fragments i ∷ fill fragments (i + 1) n
 
-fill_long : (fragments : List Fragment) (i n : ℕ) → length (fill fragments i n) ≡ n
+pub fill_long : (fragments : List Fragment) (i n : ℕ) → length (fill fragments i n) ≡ n
 fill_long fragments i zero = refl
 fill_long fragments i (suc n) = ap suc (fill_long fragments (i + 1) n)
 
@@ -86,11 +87,12 @@ fill_byte fragments i (suc n) zero h = ap (byte_at fragments) (omega arith)
 fill_byte fragments i (suc n) (suc k) h = fill_byte fragments (i + 1) n k (omega arith) ∙ ap (byte_at fragments)
     (omega arith)
 
-filled_byte : (fragments : List Fragment) (n k : ℕ) → k < n → slice_index (fill fragments 0 n) k ≡ byte_at fragments k
+pub filled_byte : (fragments : List Fragment) (n k : ℕ) → k < n
+    → slice_index (fill fragments 0 n) k ≡ byte_at fragments k
 filled_byte fragments n k h = fill_byte fragments 0 n k h ∙ ap (byte_at fragments) (omega arith)
 
 -- a property of each fragment's byte at a place, and of a space, is one of the bytes filled in
-byte_is : (P : ℕ → Type 0) (fragments : List Fragment) (i : ℕ) → P 32
+pub byte_is : (P : ℕ → Type 0) (fragments : List Fragment) (i : ℕ) → P 32
     → ((p : Fragment) → IsIn p fragments → p.address ≡ i / 4 → P (slice_index p.bytes (i % 4)))
     → P (byte_at fragments i)
 byte_is P fragments i space each = by (sent_last (i / 4) fragments) refl
@@ -136,7 +138,7 @@ each_allows x (p ∷ older) t all = (
 
 -- fragments and tags of one text are measured so
 pub text_fragments : (fragments : List Fragment) (tags : List SentTags) → HaveOneValue texts fragments tags
-    → AreMeasured text_lengths 64 fragments tags
+    → AreRanged text_lengths 64 fragments tags
 text_fragments fragments tags h =
     let x = h.value in
     let w = allowed_by_all text_lengths 64 (length x) fragments h.valid.at_most (each_allows x fragments h.valid h.has)
@@ -226,10 +228,10 @@ fill_is_text fragments n long well all = record {
 
 -- formed fragments and tags that are measured so have one text
 pub one_text : (fragments : List Fragment) (tags : List SentTags) → AllByRecursion (IsFormed 16) fragments
-    → AreMeasured text_lengths 64 fragments tags → HaveOneValue texts fragments tags
+    → AreRanged text_lengths 64 fragments tags → HaveOneValue texts fragments tags
 one_text fragments tags well h =
-    let n = max (lengths_of text_lengths 64 fragments).least (tags_end tags) in
-    let most : n ≤ (lengths_of text_lengths 64 fragments).most = omega (arith, h.room, h.ends) in
+    let n = max (common_lengths text_lengths 64 fragments).least (tags_end tags) in
+    let most : n ≤ (common_lengths text_lengths 64 fragments).most = omega (arith, h.room, h.ends) in
     let long : n ≤ 64 = omega (arith, longest_at_most text_lengths 64 fragments) in
     let all = all_allow text_lengths 64 n fragments (omega arith) most h.each in
     let size = fill_long fragments 0 n in
@@ -273,7 +275,7 @@ each_name_allows x (p ∷ older) n all = (name_allows x p n all.0, each_name_all
 
 -- fragments and tags of one name are measured so
 pub name_fragments : (fragments : List Fragment) (tags : List SentTags) → HaveOneValue names fragments tags
-    → AreMeasured name_lengths 8 fragments tags
+    → AreRanged name_lengths 8 fragments tags
 name_fragments fragments tags h =
     let x = h.value in
     let size : length x ≡ 8 = h.valid.0 in
@@ -326,7 +328,7 @@ some_name n fragments each p i = by (are_name_bytes p.bytes) refl
 
 -- formed fragments and tags that are measured so have one name
 pub one_name : (fragments : List Fragment) (tags : List SentTags) → AllByRecursion (IsFormed 2) fragments
-    → AreMeasured name_lengths 8 fragments tags → HaveOneValue names fragments tags
+    → AreRanged name_lengths 8 fragments tags → HaveOneValue names fragments tags
 one_name fragments tags well h =
     let size : length (fill fragments 0 8) ≡ 8 = fill_long fragments 0 8 in
     record {

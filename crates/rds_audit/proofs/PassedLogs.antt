@@ -3,18 +3,21 @@ use Rattle.std.proofs.Common.{◌+◌, ◌<◌, ◌∷◌, ℕ, List, Option, ar
 use Rattle.rds_fields.specs.declared.message.Message.{Message}
 use Rattle.rds_audit.specs.AuditLaws.{IsSafeLog, PassesExactlyByPlans}
 use Rattle.rds_audit.specs.Dense.{HasPlans}
-use Rattle.rds_safety.specs.Lawful.{names, texts}
-use Rattle.rds_safety.specs.Laws.{LawfulPlansAreSafe, LawfulPlansAreSafeByOwnClocks, PlanLaws}
+use Rattle.rds_audit.specs.Forms.{text_kind}
+use Rattle.rds_audit.specs.declared.text_form.TextForm.{TextForm}
+use Rattle.rds_audit.specs.declared.text_form.TextForm.TheVariants.{Plain, Padded}
+use Rattle.rds_safety.specs.Lawful.{Kind, names, padded_texts, texts}
+use Rattle.rds_safety.specs.Laws.{LawfulPlansAreSafeAs, LawfulPlansAreSafeByOwnClocksAs, PlanLaws}
 use Rattle.rds_safety.specs.Marks.{marks, name_mark, text_mark}
 use Rattle.rds_audit.specs.Rules.{LogPasses}
 use Rattle.rds_audit.proofs.Matching.{passes}
 use Rattle.rds_audit.proofs.Planning.{has_plan}
 use Rattle.rds_audit.proofs.Sending.{dense_before, lawful_before}
 
-module _ (laws : PlanLaws) (d : ℕ) (log : List (Option Message)) where
-  log_has_plans : 0 < d → LogPasses d log → HasPlans d log
+module _ (laws : PlanLaws) (form : TextForm) (d : ℕ) (log : List (Option Message)) where
+  log_has_plans : 0 < d → LogPasses form d log → HasPlans form d log
   log_has_plans pos p =
-      let text = has_plan laws.below d texts (marks text_mark log) pos p.text in
+      let text = has_plan laws.below d (text_kind form) (marks text_mark log) pos p.text in
       let name = has_plan laws.below d names (marks name_mark log) pos p.name in
       record {
         plans = record { text = text.plan; name = name.plan };
@@ -22,26 +25,27 @@ module _ (laws : PlanLaws) (d : ℕ) (log : List (Option Message)) where
         dense = record { text = text.dense; name = name.dense };
       }
 
-  plans_pass : HasPlans d log → LogPasses d log
+  plans_pass : HasPlans form d log → LogPasses form d log
   plans_pass h = record {
-    text = passes laws d texts (marks text_mark log) record
+    text = passes laws d (text_kind form) (marks text_mark log) record
         { plan = h.plans.text; lawful = h.lawful.text; dense = h.dense.text };
     name = passes laws d names (marks name_mark log) record
         { plan = h.plans.name; lawful = h.lawful.name; dense = h.dense.name };
   }
 
 pub passes_by_plans : PlanLaws → PassesExactlyByPlans
-passes_by_plans laws d log pos = (log_has_plans laws d log pos, plans_pass laws d log)
+passes_by_plans laws form d log pos = (log_has_plans laws form d log pos, plans_pass laws form d log)
 
 -- a log that passes also passed before its newest slot: its plans are plans of the earlier slots
-pub passed_before : PassesExactlyByPlans → (d : ℕ) (newest : Option Message) (before : List (Option Message)) → 0 < d
-    → LogPasses d (newest ∷ before) → LogPasses d before
-passed_before law d newest before pos h =
-    let w = (law d (newest ∷ before) pos).0 h in
-    (law d before pos).1 record {
+pub passed_before : PassesExactlyByPlans → (form : TextForm) (d : ℕ) (newest : Option Message) (before : List
+    (Option Message)) → 0 < d
+    → LogPasses form d (newest ∷ before) → LogPasses form d before
+passed_before law form d newest before pos h =
+    let w = (law form d (newest ∷ before) pos).0 h in
+    (law form d before pos).1 record {
       plans = w.plans;
       lawful = record {
-        text = lawful_before d texts w.plans.text (text_mark newest) (marks text_mark before) w.lawful.text;
+        text = lawful_before d (text_kind form) w.plans.text (text_mark newest) (marks text_mark before) w.lawful.text;
         name = lawful_before d names w.plans.name (name_mark newest) (marks name_mark before) w.lawful.name;
       };
       dense = record {
@@ -50,15 +54,22 @@ passed_before law d newest before pos h =
       };
     }
 
+-- both laws of plans, for texts of this form
+pub by_form : (P : Kind → Type 0) → P texts → P padded_texts → (form : TextForm) → P (text_kind form)
+by_form P plain padded Plain = plain
+by_form P plain padded Padded = padded
+
 -- a log that passes is safe
-pub safe_log : PassesExactlyByPlans → LawfulPlansAreSafe → LawfulPlansAreSafeByOwnClocks
-    → (m k : ℕ) (log : List (Option Message)) → 0 < m → LogPasses (m + k) log → IsSafeLog m k log
-safe_log law safe own m k log pos p =
-    let w = (law (m + k) log (omega arith)).0 p in
+pub safe_log : PassesExactlyByPlans → ((form : TextForm) → LawfulPlansAreSafeAs (text_kind form))
+    → ((form : TextForm) → LawfulPlansAreSafeByOwnClocksAs (text_kind form))
+    → (form : TextForm) (m k : ℕ) (log : List (Option Message)) → 0 < m → LogPasses form (m + k) log
+    → IsSafeLog form m k log
+safe_log law safe own form m k log pos p =
+    let w = (law form (m + k) log (omega arith)).0 p in
     record {
       plans = w.plans;
       lawful = w.lawful;
       dense = w.dense;
-      safe = λ t receivers all. safe m k t w.plans log receivers w.lawful all;
-      own_clocks = λ now receivers all. own (m + k) m now w.plans log receivers w.lawful all;
+      safe = λ t receivers all. safe form m k t w.plans log receivers w.lawful all;
+      own_clocks = λ now receivers all. own form (m + k) m now w.plans log receivers w.lawful all;
     }

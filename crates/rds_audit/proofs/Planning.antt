@@ -10,7 +10,7 @@ use Rattle.rds_encoder.specs.Plan.{Broadcast, Covers, HasNumber}
 use Rattle.rds_encoder.specs.Laws.{ANumberIsBelowTheLength}
 use Rattle.rds_audit.specs.AuditLaws.{SomeReign}
 use Rattle.rds_audit.specs.Dense.{HasFragmentBefore, HasPlan, IsBridged, IsMarked}
-use Rattle.rds_safety.specs.Lawful.{HasOne, HasFragment, HasTags, IsFragmentOf, Kind}
+use Rattle.rds_safety.specs.Lawful.{HasOne, HasFragment, HasTags, Kind}
 use Rattle.rds_safety.specs.Marks.{IsMarkIn, Mark, Nothing, Sends, Tagged}
 use Rattle.rds_audit.proofs.Members.{IsIn, all_in}
 use Rattle.rds_audit.specs.Reigns.{Reign, SentTags, after_fragment, after_tags, joins, past_newest, reigns, start_after}
@@ -252,7 +252,7 @@ fragment_planned d kind t p (r ∷ older) a (inl h) = record {
   is = record {
     covers = record { from = omega (arith, a.0.begun, h.from); to = h.to };
     flag = h.flag;
-    fragment = all_in (IsFragmentOf (kind.body a.0.one.value)) p r.fragments a.0.one.has h.listed;
+    fragment = all_in (kind.HasPart a.0.one.value) p r.fragments a.0.one.has h.listed;
   };
 }
 

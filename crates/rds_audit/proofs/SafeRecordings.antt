@@ -16,8 +16,10 @@ use Rattle.rds_receiver.specs.Shown.{IsShown, ShowsView}
 use Rattle.rds_receiver.specs.Tags.{item_of, tag_of}
 use Rattle.rds_fields.specs.declared.pair.Which.TheVariants.{One, Two}
 use Rattle.rds_safety.specs.Late.{HasEntry, IsHeardInOrder, IsOfItsOrigin}
-use Rattle.rds_safety.specs.Laws.{ASlowClockIsAnOwnClock, LateIsBySlowClock, LawfulPlansAreSafeByOwnClocks}
+use Rattle.rds_safety.specs.Laws.{ASlowClockIsAnOwnClock, LateIsBySlowClock, LawfulPlansAreSafeByOwnClocksAs}
 use Rattle.rds_safety.specs.OwnClock.{ListensByOwnClock}
+use Rattle.rds_audit.specs.Forms.{text_kind}
+use Rattle.rds_audit.specs.declared.text_form.TextForm.{TextForm}
 use Rattle.rds_safety.specs.Plans.{Plans}
 use Rattle.rds_safety.specs.Safe.{AreNeighbours, AreSafeViews, Listener, ListensTo, ShowsNameOnAir, ShowsTagsOfItsText}
 use Rattle.rds_safety.specs.Safe.{ShowsTextOnAir, RunWasOnAir}
@@ -286,10 +288,11 @@ safe_for_the_log n d m t plans log receivers h = record {
 
 -- ---- the law
 
-pub safe_by_own_clocks : LawfulPlansAreSafeByOwnClocks → PlansOfARecordingAreSafe
-safe_by_own_clocks own d m now n plans log receivers lawful all =
+pub safe_by_own_clocks : ((form : TextForm) → LawfulPlansAreSafeByOwnClocksAs (text_kind form))
+    → PlansOfARecordingAreSafe
+safe_by_own_clocks own form d m now n plans log receivers lawful all =
     safe_for_the_log n d m (now + n) plans log receivers
-    (own d m (now + n) plans (from_first_text (preceded n log)) (map (judging n log) receivers) lawful
+    (own form d m (now + n) plans (from_first_text (preceded n log)) (map (judging n log) receivers) lawful
     (All-map (ListensByOwnClock d m (now + n) (from_first_text (preceded n log))) (judging n log) receivers
     (All-weaker (ListensByOwnClock d m now log) (λ r. ListensByOwnClock d m (now + n) (from_first_text (preceded n log))
     (judging n log r)) (listens_judging d m now n log) receivers all)))
@@ -302,20 +305,21 @@ late_is_own late slow m k t log r listens =
 
 pub safe_recording : PassesExactlyByPlans → PlansOfARecordingAreSafe → LateIsBySlowClock → ASlowClockIsAnOwnClock
     → WhatPassesAsARecordingIsSafe
-safe_recording law own late slow m k log pos p =
-    let w = (law (m + k) (from_first_text (preceded (m + k) log)) (omega arith)).0 p in
+safe_recording law own late slow form m k log pos p =
+    let w = (law form (m + k) (from_first_text (preceded (m + k) log)) (omega arith)).0 p in
     record {
       plans = w.plans;
       lawful = w.lawful;
       dense = w.dense;
-      safe = λ t receivers all. own (m + k) m t (m + k) w.plans log receivers w.lawful
+      safe = λ t receivers all. own form (m + k) m t (m + k) w.plans log receivers w.lawful
           (All-weaker (ListensTo k m t log) (ListensByOwnClock (m + k) m t log) (late_is_own late slow m k t log)
           receivers all);
-      own_clocks = λ now receivers all. own (m + k) m now (m + k) w.plans log receivers w.lawful all;
+      own_clocks = λ now receivers all. own form (m + k) m now (m + k) w.plans log receivers w.lawful all;
     }
 
 -- the audit of a running station judged the log with m + k slots in front
-pub safe_as_it_is : WhatPassesAsARecordingIsSafe → (m k : ℕ) (start : LogStart) (heard : List (Option Message))
-    → start ≡ Running → 0 < m → LogPasses (m + k) (judged_as start (m + k) heard) → IsSafeRecording m k heard
-safe_as_it_is law m k start heard running pos passes = law m k heard pos
-    (subst (λ (x : LogStart). LogPasses (m + k) (judged_as x (m + k) heard)) running passes)
+pub safe_as_it_is : WhatPassesAsARecordingIsSafe → (form : TextForm) (m k : ℕ) (start : LogStart)
+    (heard : List (Option Message)) → start ≡ Running → 0 < m → LogPasses form (m + k) (judged_as start (m + k) heard)
+    → IsSafeRecording form m k heard
+safe_as_it_is law form m k start heard running pos passes = law form m k heard pos
+    (subst (λ (x : LogStart). LogPasses form (m + k) (judged_as x (m + k) heard)) running passes)

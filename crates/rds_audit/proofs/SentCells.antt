@@ -8,7 +8,7 @@ use Rattle.rds_assembly.specs.Body.{segment_of}
 use Rattle.rds_receiver.specs.declared.fragment.Fragment.{Fragment}
 use Rattle.rds_audit.specs.declared.audited.Lengths.{Lengths}
 use Rattle.rds_safety.specs.Lawful.{IsFragmentOf}
-use Rattle.rds_audit.specs.Lengths.{lengths_of, narrowed, sent_last}
+use Rattle.rds_audit.specs.Lengths.{common_lengths, narrowed, sent_last}
 use Rattle.rds_audit.specs.Rules.{AreUnchanged}
 use Rattle.rds_audit.proofs.Allowed.{Allows}
 use Rattle.rds_audit.proofs.Members.{IsIn, all_in}
@@ -96,24 +96,24 @@ EachAllows allowed fragments = AllByRecursion (λ (p : Fragment). is_some (allow
 -- a length that all allow
 pub allowed_by_all : (allowed : ℕ → List ℕ → Option Lengths) (longest n : ℕ) (fragments : List Fragment) → n ≤ longest
     → AllByRecursion (λ (p : Fragment). Allows n (allowed p.address p.bytes)) fragments
-    → ((lengths_of allowed longest fragments).least ≤ n) × (n ≤ (lengths_of allowed longest fragments).most)
+    → ((common_lengths allowed longest fragments).least ≤ n) × (n ≤ (common_lengths allowed longest fragments).most)
     × EachAllows allowed fragments
 allowed_by_all allowed longest n [] h all = (omega arith, h, tt)
 allowed_by_all allowed longest n (p ∷ older) h all = by (allowed p.address p.bytes) refl all.0
     (allowed_by_all allowed longest n older h all.1)
   where
     by : (o : Option Lengths) → allowed p.address p.bytes ≡ o → Allows n o
-        → ((lengths_of allowed longest older).least ≤ n) × (n ≤ (lengths_of allowed longest older).most)
+        → ((common_lengths allowed longest older).least ≤ n) × (n ≤ (common_lengths allowed longest older).most)
         × EachAllows allowed older
-        → ((narrowed (allowed p.address p.bytes) (lengths_of allowed longest older)).least ≤ n)
-        × (n ≤ (narrowed (allowed p.address p.bytes) (lengths_of allowed longest older)).most) × EachAllows allowed
+        → ((narrowed (allowed p.address p.bytes) (common_lengths allowed longest older)).least ≤ n)
+        × (n ≤ (narrowed (allowed p.address p.bytes) (common_lengths allowed longest older)).most) × EachAllows allowed
         (p ∷ older)
     by None e a rest = absurd a
     by (Some l) e a rest = rw e (omega (arith, a.0, rest.0), omega (arith, a.1, rest.1), (refl, rest.2))
 
 -- a length within the lengths of all fragments is allowed by each
 pub all_allow : (allowed : ℕ → List ℕ → Option Lengths) (longest n : ℕ) (fragments : List Fragment)
-    → (lengths_of allowed longest fragments).least ≤ n → n ≤ (lengths_of allowed longest fragments).most
+    → (common_lengths allowed longest fragments).least ≤ n → n ≤ (common_lengths allowed longest fragments).most
     → EachAllows allowed fragments
     → AllByRecursion (λ (p : Fragment). Allows n (allowed p.address p.bytes)) fragments
 all_allow allowed longest n [] lo hi each = tt
@@ -121,9 +121,9 @@ all_allow allowed longest n (p ∷ older) lo hi each = by (allowed p.address p.b
     (λ lo hi. all_allow allowed longest n older lo hi each.1)
   where
     by : (o : Option Lengths) → allowed p.address p.bytes ≡ o
-        → (narrowed o (lengths_of allowed longest older)).least ≤ n
-        → n ≤ (narrowed o (lengths_of allowed longest older)).most → is_some (allowed p.address p.bytes) ≡ true
-        → ((lengths_of allowed longest older).least ≤ n → n ≤ (lengths_of allowed longest older).most
+        → (narrowed o (common_lengths allowed longest older)).least ≤ n
+        → n ≤ (narrowed o (common_lengths allowed longest older)).most → is_some (allowed p.address p.bytes) ≡ true
+        → ((common_lengths allowed longest older).least ≤ n → n ≤ (common_lengths allowed longest older).most
         → AllByRecursion (λ (p : Fragment). Allows n (allowed p.address p.bytes)) older)
         → AllByRecursion (λ (p : Fragment). Allows n (allowed p.address p.bytes)) (p ∷ older)
     by None e lo hi some rest = (let bad : false ≡ true = ap is_some (sym e) ∙ some in absurd (cc))
@@ -135,11 +135,11 @@ all_allow allowed longest n (p ∷ older) lo hi each = by (allowed p.address p.b
 
 -- no fragments allow a length above the longest
 pub longest_at_most : (allowed : ℕ → List ℕ → Option Lengths) (longest : ℕ) (fragments : List Fragment)
-    → (lengths_of allowed longest fragments).most ≤ longest
+    → (common_lengths allowed longest fragments).most ≤ longest
 longest_at_most allowed longest [] = omega arith
 longest_at_most allowed longest (p ∷ older) = by (allowed p.address p.bytes) (longest_at_most allowed longest older)
   where
-    by : (o : Option Lengths) → (lengths_of allowed longest older).most ≤ longest
-        → (narrowed o (lengths_of allowed longest older)).most ≤ longest
+    by : (o : Option Lengths) → (common_lengths allowed longest older).most ≤ longest
+        → (narrowed o (common_lengths allowed longest older)).most ≤ longest
     by None h = h
     by (Some l) h = omega (arith, h)

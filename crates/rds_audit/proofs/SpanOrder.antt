@@ -1,12 +1,12 @@
 -- Lemmas: the slots of spans, and the same bytes.
-use Rattle.std.proofs.Common.{◌≡◌, ◌+◌, ◌<◌, ◌≤◌, ℕ, suc, Bool, true, false, nat_eq, nat_lt, List, [], ◌∷◌, Option}
-use Rattle.std.proofs.Common.{Some, None, length, cond, refl, arith}
+use Rattle.std.proofs.Common.{◌≡◌, ◌+◌, ◌<◌, ◌≤◌, ℕ, suc, Bool, true, false, nat_eq, nat_lt, List, [], ◌∷◌}
+use Rattle.std.proofs.Common.{length, cond, refl, arith}
 use Rattle.std.proofs.lemmas.Bool.{and_parts, cond_both, eqb-true, ltb-false}
 use Rattle.rds_fields.specs.Tag.{PairFields}
 use Rattle.rds_receiver.specs.declared.fragment.Fragment.{Fragment}
 use Rattle.rds_receiver.specs.Run.{is_same}
-use Rattle.rds_audit.specs.Lengths.{sent_last}
-use Rattle.rds_audit.specs.Listing.{Span, due_after, joined, same_bytes, span_with, spans, spans_after, spans_tagged}
+use Rattle.rds_audit.specs.Lengths.{Gauge, changes, same_bytes}
+use Rattle.rds_audit.specs.Listing.{Span, due_after, joined, span_with, spans, spans_after, spans_tagged}
 use Rattle.rds_audit.specs.Listing.{turned}
 use Rattle.rds_audit.specs.Reigns.{Reign, opened_from, with_fragment, with_tags}
 use Rattle.rds_safety.specs.Marks.{Mark, Nothing, Sends, Tagged}
@@ -65,20 +65,19 @@ goes_on : (now : ℕ) (p : Fragment) (r : Span) (older : List Span) → AreInOrd
 goes_on now p r older h =
     (more_in_order (after_span older) now r.reign (with_fragment now p r.reign) refl refl h.0, all_later now older h.1)
 
-joined_in_order : (d now : ℕ) (p : Fragment) (o : Option (List ℕ)) (r : Span) (older : List Span)
-    → AreInOrder now (r ∷ older) → AreInOrder (suc now) (joined d now p o r older)
-joined_in_order d now p None r older h = goes_on now p r older h
-joined_in_order d now p (Some bytes) r older h =
-    cond_both (same_bytes p.bytes bytes) _ _ (λ (rs : List Span). AreInOrder (suc now) rs)
-    (λ _. goes_on now p r older h) (λ _. turned_in_order d now p true r older h)
+joined_in_order : (g : Gauge) (d now : ℕ) (p : Fragment) (r : Span) (older : List Span)
+    → AreInOrder now (r ∷ older) → AreInOrder (suc now) (joined g d now p r older)
+joined_in_order g d now p r older h =
+    cond_both (changes g r.reign.fragments p) _ _ (λ (rs : List Span). AreInOrder (suc now) rs)
+    (λ _. turned_in_order d now p true r older h) (λ _. goes_on now p r older h)
 
-after_in_order : (d now : ℕ) (p : Fragment) (rs : List Span) → 0 < d → AreInOrder now rs
-    → AreInOrder (suc now) (spans_after d now p rs)
-after_in_order d now p [] pos h = (first_in_order 0 now 0 p (omega arith) (omega arith), tt)
-after_in_order d now p (r ∷ older) pos h =
+after_in_order : (g : Gauge) (d now : ℕ) (p : Fragment) (rs : List Span) → 0 < d → AreInOrder now rs
+    → AreInOrder (suc now) (spans_after g d now p rs)
+after_in_order g d now p [] pos h = (first_in_order 0 now 0 p (omega arith) (omega arith), tt)
+after_in_order g d now p (r ∷ older) pos h =
     cond_both (is_same r.reign.flag p.flag) _ _ (λ (rs : List Span). AreInOrder (suc now) rs)
     (λ _. cond_both (nat_lt now (r.reign.last + d)) _ _ (λ (rs : List Span). AreInOrder (suc now) rs)
-    (λ _. joined_in_order d now p (sent_last p.address r.reign.fragments) r older h)
+    (λ _. joined_in_order g d now p r older h)
     (λ far. (
       first_in_order (r.reign.last + 1) now (r.reign.last + d) p (omega arith) (ltb-false _ _ far),
       all_later now (r ∷ older) h,
@@ -92,11 +91,13 @@ tagged_in_order now pair (r ∷ older) h =
     (more_in_order (after_span older) now r.reign (with_tags now pair r.reign) refl refl h.0, all_later now older h.1)
 
 -- each span started after the one before it, and ended before now
-pub in_order : (d : ℕ) (sent : List Mark) → 0 < d → AreInOrder (length sent) (spans d sent)
-in_order d [] pos = tt
-in_order d (Nothing ∷ before) pos = all_later (length before) (spans d before) (in_order d before pos)
-in_order d (Sends p ∷ before) pos = after_in_order d (length before) p (spans d before) pos (in_order d before pos)
-in_order d (Tagged pair ∷ before) pos = tagged_in_order (length before) pair (spans d before) (in_order d before pos)
+pub in_order : (g : Gauge) (d : ℕ) (sent : List Mark) → 0 < d → AreInOrder (length sent) (spans g d sent)
+in_order g d [] pos = tt
+in_order g d (Nothing ∷ before) pos = all_later (length before) (spans g d before) (in_order g d before pos)
+in_order g d (Sends p ∷ before) pos = after_in_order g d (length before) p (spans g d before) pos
+    (in_order g d before pos)
+in_order g d (Tagged pair ∷ before) pos = tagged_in_order (length before) pair (spans g d before)
+    (in_order g d before pos)
 
 -- ---- the same bytes
 

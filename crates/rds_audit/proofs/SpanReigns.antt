@@ -1,11 +1,10 @@
 -- Lemmas: up to the first fault of a service, its spans have its reigns and break no rule; marks that add nothing to
 -- its list pass.
 use Rattle.std.proofs.Common.{◌≡◌, ◌≢◌, ◌⊎◌, ◌+◌, ◌<◌, ◌≤◌, ◌&&◌, ◌||◌, not, ℕ, Bool, true, false, nat_eq, nat_lt}
-use Rattle.std.proofs.Common.{List, [], ◌∷◌, Option, Some, None, length, cond, refl, sym, ap, ◌∙◌, subst, inl, inr}
+use Rattle.std.proofs.Common.{List, [], ◌∷◌, length, cond, refl, sym, ap, ◌∙◌, subst, inl, inr}
 use Rattle.std.proofs.Common.{arith}
-use Rattle.std.specs.Prelude.{is_some}
-use Rattle.std.specs.List.{AllByRecursion, list_all, list_any}
-use Rattle.std.proofs.lemmas.Bool.{and_from, and_parts, cases_lt, cond_both, leb-true, le-leb, le-ltb, lt-ltb}
+use Rattle.std.specs.List.{AllByRecursion, list_any}
+use Rattle.std.proofs.lemmas.Bool.{cases_lt, cond_both, le-ltb, lt-ltb}
 use Rattle.std.proofs.lemmas.Bool.{ltb-false, or_from}
 use Rattle.rds_fields.specs.Tag.{PairFields}
 use Rattle.rds_receiver.specs.declared.fragment.Fragment.{Fragment}
@@ -13,18 +12,16 @@ use Rattle.rds_safety.specs.Flags.{is_other_flag, is_same_flag, same_or_other}
 use Rattle.rds_safety.specs.Lawful.{Kind}
 use Rattle.rds_safety.specs.Marks.{Mark, Nothing, Sends, Tagged}
 use Rattle.rds_audit.specs.declared.fault_set.FaultSet.{FaultSet}
-use Rattle.rds_audit.specs.Lengths.{Gauge, IsExact, IsFormed, lengths_of, sent_last, tags_end}
+use Rattle.rds_audit.specs.Lengths.{AllJoin, Gauge, IsExact, IsFormed, changes, lengths_of, tags_end}
 use Rattle.rds_audit.specs.Listing.{Span, added, broken_by, broken_newest, due_after, first_of_span, fits, joined}
-use Rattle.rds_audit.specs.Listing.{none_broken, not_before, reigns_of, same_bytes, span_with, spans, spans_after}
+use Rattle.rds_audit.specs.Listing.{none_broken, not_before, reigns_of, span_with, spans, spans_after}
 use Rattle.rds_audit.specs.Listing.{spans_tagged, turned}
 use Rattle.rds_audit.specs.ListingLaws.{IsFormedMark}
 use Rattle.rds_audit.specs.Reigns.{Reign, SentTags, after_fragment, after_tags, joins, reigns}
 use Rattle.rds_audit.specs.Reigns.{opened_by, opened_from, with_fragment, with_tags}
-use Rattle.rds_audit.specs.Rules.{AreUnchanged, CanBeBroadcast, HaveOneValue, IsAfterFragment, Passes}
+use Rattle.rds_audit.specs.Rules.{CanBeBroadcast, HaveOneValue, IsAfterFragment, Passes}
 use Rattle.rds_audit.proofs.Keeping.{AreKept, Keeps, keeps}
 use Rattle.rds_audit.proofs.Sending.{TagsAreAfter, after_later, early, fragment_is_marked, sent_before}
-use Rattle.rds_audit.proofs.SentCells.{are_unchanged, holds_unchanged, unchanged_by}
-use Rattle.rds_audit.proofs.SpanOrder.{bytes_same, same_bytes_are}
 use Rattle.rds_audit.proofs.SpanSteps.{sets_are}
 
 -- ---- a service that passes passed before its newest mark
@@ -116,19 +113,6 @@ tagged_some d kind pair before (r ∷ older) k passes e = (cc)
 
 -- ---- the rules that a span breaks
 
-each_fits : (g : Gauge) (sent : List Fragment)
-    → AllByRecursion (λ (p : Fragment). is_some (g.allowed p.address p.bytes) ≡ true) sent
-    → list_all (λ (p : Fragment). is_some (g.allowed p.address p.bytes)) sent ≡ true
-each_fits g [] all = refl
-each_fits g (p ∷ older) all = and_from _ _ all.0 (each_fits g older all.1)
-
-fits_each : (g : Gauge) (sent : List Fragment)
-    → list_all (λ (p : Fragment). is_some (g.allowed p.address p.bytes)) sent ≡ true
-    → AllByRecursion (λ (p : Fragment). is_some (g.allowed p.address p.bytes) ≡ true) sent
-fits_each g [] e = tt
-fits_each g (p ∷ older) e =
-    let parts = and_parts (is_some (g.allowed p.address p.bytes)) _ e in (parts.0, fits_each g older parts.1)
-
 none_early : (d start : ℕ) (tags : List SentTags) → AllByRecursion (λ (s : SentTags). start + d ≤ s.slot) tags
     → list_any (λ (s : SentTags). nat_lt s.slot (start + d)) tags ≡ false
 none_early d start [] all = refl
@@ -137,22 +121,13 @@ none_early d start (s ∷ older) all = or_from _ _ (le-ltb s.slot (start + d) al
 module _ (g : Gauge) (exact : IsExact g) (d : ℕ) where
   -- fragments of one value fit it
   pub one_fits : (r : Span) → HaveOneValue g.kind r.reign.fragments r.reign.tags → fits g r ≡ true
-  one_fits r one =
-      let m = exact.measured r.reign.fragments r.reign.tags one in
-      and_from _ _ (each_fits g r.reign.fragments m.each) (le-leb _ _ m.room)
+  one_fits r one = (exact.measured r.reign.fragments r.reign.tags one).fit
 
-  pub fits_one : (r : Span) → AllByRecursion (IsFormed g.segments) r.reign.fragments → AreUnchanged r.reign.fragments
-      → fits g r ≡ true → tags_end r.reign.tags ≤ (lengths_of g.allowed g.longest r.reign.fragments).most
+  pub fits_one : (r : Span) → AllByRecursion (IsFormed g.segments) r.reign.fragments → AllJoin g r.reign.fragments
+      → fits g r ≡ true → tags_end r.reign.tags ≤ (lengths_of g r.reign.fragments).most
       → HaveOneValue g.kind r.reign.fragments r.reign.tags
-  fits_one r formed unchanged fit ends =
-      let parts = and_parts (list_all (λ (p : Fragment). is_some (g.allowed p.address p.bytes)) r.reign.fragments) _
-      fit in
-      exact.one r.reign.fragments r.reign.tags formed record {
-        unchanged = unchanged;
-        each = fits_each g r.reign.fragments parts.0;
-        room = leb-true _ _ parts.1;
-        ends = ends;
-      }
+  fits_one r formed joins fit ends =
+      exact.one r.reign.fragments r.reign.tags formed record { joins = joins; fit = fit; ends = ends }
 
   -- a span that can be a broadcast breaks no rule
   breaks_none : (r : Span) → CanBeBroadcast d g.kind r.reign → r.is_changed ≡ false → r.is_early ≡ false
@@ -162,9 +137,9 @@ module _ (g : Gauge) (exact : IsExact g) (d : ℕ) where
       (le-ltb _ _ (exact.measured r.reign.fragments r.reign.tags can.one).ends)
 
   -- a span that breaks no rule has one value
-  quiet_one : (r : Span) → AllByRecursion (IsFormed g.segments) r.reign.fragments → AreUnchanged r.reign.fragments
+  quiet_one : (r : Span) → AllByRecursion (IsFormed g.segments) r.reign.fragments → AllJoin g r.reign.fragments
       → broken_by g d r ≡ none_broken → HaveOneValue g.kind r.reign.fragments r.reign.tags
-  quiet_one r formed unchanged none = fits_one r formed unchanged
+  quiet_one r formed joins none = fits_one r formed joins
       (holds (fits g r) (ap (λ (f : FaultSet). f.not_one_text) none))
       (ltb-false _ _ (ap (λ (f : FaultSet). f.tag_outside) none))
     where
@@ -176,40 +151,29 @@ module _ (g : Gauge) (exact : IsExact g) (d : ℕ) where
 
 -- what a fragment makes of spans, beside what it makes of their reigns: it joins; or it joins the reign, which it
 -- changes; or it opens one in time; or it opens one too early
-module _ (Q : List Span → List Reign → Type 0) (d slot : ℕ) (p : Fragment) (r : Span) (older : List Span)
-    (joins_it : AreUnchanged (p ∷ r.reign.fragments)
+module _ (g : Gauge) (Q : List Span → List Reign → Type 0) (d slot : ℕ) (p : Fragment) (r : Span) (older : List Span)
+    (joins_it : changes g r.reign.fragments p ≡ false
     → Q (span_with slot p r ∷ older) (with_fragment slot p r.reign ∷ reigns_of older))
-    (changes_it : (AreUnchanged (p ∷ r.reign.fragments) → ⊥)
+    (changes_it : changes g r.reign.fragments p ≡ true
     → Q (turned d slot p true r older) (with_fragment slot p r.reign ∷ reigns_of older))
     (opens_late : (start : ℕ) → start ≤ slot
     → Q (first_of_span slot p start false false ∷ r ∷ older) (opened_from start slot p ∷ reigns_of (r ∷ older)))
     (opens_early : (start late : ℕ) → slot < late
     → Q (first_of_span slot p start false true ∷ r ∷ older) (opened_from late slot p ∷ reigns_of (r ∷ older))) where
-  by_address : AreUnchanged r.reign.fragments → (o : Option (List ℕ)) → sent_last p.address r.reign.fragments ≡ o
-      → Q (joined d slot p o r older) (with_fragment slot p r.reign ∷ reigns_of older)
-  by_address u None e = joins_it (unchanged_by p r.reign.fragments u (inl e))
-  by_address u (Some bytes) e =
-      cond_both (same_bytes p.bytes bytes) _ _ (λ (rs : List Span). Q rs (with_fragment slot p r.reign
-      ∷ reigns_of older))
-      (λ same. joins_it (unchanged_by p r.reign.fragments u (inr (e ∙ ap Some (sym (same_bytes_are _ _ same))))))
-      (λ other. changes_it (λ u. elim (holds_unchanged p r.reign.fragments u) [
-        | inl none ↦ (let none = none in absurd (cc))
-        | inr some ↦
-            let equal : p.bytes ≡ bytes = cc in
-            let same : same_bytes p.bytes bytes ≡ true = bytes_same _ _ equal in
-            absurd (cc)
-      ]))
+  by_change : Q (joined g d slot p r older) (with_fragment slot p r.reign ∷ reigns_of older)
+  by_change =
+      cond_both (changes g r.reign.fragments p) _ _ (λ (rs : List Span). Q rs (with_fragment slot p r.reign
+      ∷ reigns_of older)) changes_it joins_it
 
-  pub by_fragment : AreUnchanged r.reign.fragments
-      → Q (spans_after d slot p (r ∷ older)) (after_fragment d slot p (reigns_of (r ∷ older)))
-  by_fragment u = by (same_or_other r.reign.flag p.flag)
+  pub by_fragment : Q (spans_after g d slot p (r ∷ older)) (after_fragment d slot p (reigns_of (r ∷ older)))
+  by_fragment = by (same_or_other r.reign.flag p.flag)
     where
       by : (r.reign.flag ≡ p.flag) ⊎ (r.reign.flag ≢ p.flag)
-          → Q (spans_after d slot p (r ∷ older)) (after_fragment d slot p (reigns_of (r ∷ older)))
+          → Q (spans_after g d slot p (r ∷ older)) (after_fragment d slot p (reigns_of (r ∷ older)))
       by (inl e) =
           elim (cases_lt slot (r.reign.last + d)) [
             | inl near ↦ rw (is_same_flag r.reign.flag p.flag e, lt-ltb slot (r.reign.last + d) near)
-                (by_address u (sent_last p.address r.reign.fragments) refl)
+                by_change
             | inr far ↦ rw (is_same_flag r.reign.flag p.flag e, le-ltb slot (r.reign.last + d) far)
                 (opens_late (r.reign.last + d) far)
           ]
@@ -229,14 +193,15 @@ pub record AreReigns (g : Gauge) (d : ℕ) (sent : List Mark) (rs : List Span) (
   pub none : broken_newest g d sent rs ≡ none_broken
 
 module _ (g : Gauge) (exact : IsExact g) (d : ℕ) where
-  pub can_be_unchanged : (q : Reign) → CanBeBroadcast d g.kind q → AreUnchanged q.fragments
-  can_be_unchanged q can = are_unchanged (g.kind.body can.one.value) q.fragments can.one.has
+  -- no fragment of a reign that can be a broadcast changes it
+  pub can_be_joined : (q : Reign) → CanBeBroadcast d g.kind q → AllJoin g q.fragments
+  can_be_joined q can = (exact.measured q.fragments q.tags can.one).joins
 
   fragment_reigns : (p : Fragment) (before : List Mark) (rs : List Span)
       → AllByRecursion (CanBeBroadcast d g.kind) (reigns_of rs)
       → AllByRecursion (CanBeBroadcast d g.kind) (after_fragment d (length before) p (reigns_of rs))
       → AreReigns g d before rs (reigns_of rs)
-      → AreReigns g d (Sends p ∷ before) (spans_after d (length before) p rs) (after_fragment d (length before) p
+      → AreReigns g d (Sends p ∷ before) (spans_after g d (length before) p rs) (after_fragment d (length before) p
       (reigns_of rs))
   fragment_reigns p before [] was all h =
       record {
@@ -244,20 +209,21 @@ module _ (g : Gauge) (exact : IsExact g) (d : ℕ) where
         none = breaks_none g exact d (first_of_span (length before) p 0 false false) all.0 refl refl;
       }
   fragment_reigns p before (r ∷ older) was all h =
-      by_fragment (λ (rs : List Span) (regs : List Reign). AllByRecursion (CanBeBroadcast d g.kind) regs
+      by_fragment g (λ (rs : List Span) (regs : List Reign). AllByRecursion (CanBeBroadcast d g.kind) regs
       → AreReigns g d (Sends p ∷ before) rs regs) d (length before) p r older
       (λ u all. record {
         same = refl;
         none = breaks_none g exact d (span_with (length before) p r) all.0 (ap (λ (f : FaultSet). f.changed) h.none)
             (ap (λ (f : FaultSet). f.early_flag) h.none);
       })
-      (λ other all. absurd (other (can_be_unchanged (with_fragment (length before) p r.reign) all.0)))
+      (λ changed all. absurd (let kept = (can_be_joined (with_fragment (length before) p r.reign) all.0).0 in
+      let bad : true ≡ false = sym changed ∙ kept in cc))
       (λ start late all. record {
         same = refl;
         none = breaks_none g exact d (first_of_span (length before) p start false false) all.0 refl refl;
       })
       (λ start late less all. absurd (omega (arith, all.0.begun, less)))
-      (can_be_unchanged r.reign was.0) all
+      all
 
   tags_reigns : (pair : PairFields) (before : List Mark) (rs : List Span) → (reigns_of rs ≡ [] → ⊥)
       → AllByRecursion (CanBeBroadcast d g.kind) (after_tags (length before) pair (reigns_of rs))
@@ -277,40 +243,41 @@ module _ (g : Gauge) (exact : IsExact g) (d : ℕ) where
   nothing_reigns before (r ∷ older) regs h = record { same = h.same; none = h.none }
 
   -- the spans of a service that passes have its reigns, and the newest breaks no rule
-  pub are_reigns : (sent : List Mark) → Passes d g.kind sent → AreReigns g d sent (spans d sent) (reigns d sent)
+  pub are_reigns : (sent : List Mark) → Passes d g.kind sent → AreReigns g d sent (spans g d sent) (reigns d sent)
   are_reigns [] passes = record { same = refl; none = refl }
-  are_reigns (Nothing ∷ before) passes = nothing_reigns before (spans d before) (reigns d before)
+  are_reigns (Nothing ∷ before) passes = nothing_reigns before (spans g d before) (reigns d before)
       (are_reigns before (service_passed_before d g.kind Nothing before passes))
   are_reigns (Sends p ∷ before) passes =
       let passed = service_passed_before d g.kind (Sends p) before passes in
       let h = are_reigns before passed in
-      subst (λ (regs : List Reign). AreReigns g d (Sends p ∷ before) (spans_after d (length before) p (spans d before))
+      subst (λ (regs : List Reign). AreReigns g d (Sends p ∷ before) (spans_after g d (length before) p
+      (spans g d before))
       (after_fragment d (length before) p regs)) h.same
-      (fragment_reigns p before (spans d before) (subst (AllByRecursion (CanBeBroadcast d g.kind)) (sym h.same)
+      (fragment_reigns p before (spans g d before) (subst (AllByRecursion (CanBeBroadcast d g.kind)) (sym h.same)
       passed.reigns)
       (subst (λ (regs : List Reign). AllByRecursion (CanBeBroadcast d g.kind) (after_fragment d (length before) p regs))
       (sym h.same) passes.reigns) record { same = refl; none = h.none })
   are_reigns (Tagged pair ∷ before) passes =
       let passed = service_passed_before d g.kind (Tagged pair) before passes in
       let h = are_reigns before passed in
-      let some : reigns_of (spans d before) ≡ []
+      let some : reigns_of (spans g d before) ≡ []
       → ⊥ = λ e. tagged_some d g.kind pair before (reigns d before) (keeps d before) passes (sym h.same ∙ e) in
       subst (λ (regs : List Reign). AreReigns g d (Tagged pair ∷ before) (spans_tagged (length before) pair
-      (spans d before)) (after_tags (length before) pair regs)) h.same
-      (tags_reigns pair before (spans d before) some
+      (spans g d before)) (after_tags (length before) pair regs)) h.same
+      (tags_reigns pair before (spans g d before) some
       (subst (λ (regs : List Reign). AllByRecursion (CanBeBroadcast d g.kind) (after_tags (length before) pair regs))
       (sym h.same) passes.reigns) record { same = refl; none = h.none })
 
   -- ---- at the first fault
 
   -- without a fault before, a slot adds what the newest span breaks
-  pub adds_all : (mark : Mark) (before : List Mark) → broken_newest g d before (spans d before) ≡ none_broken
-      → added g d mark before ≡ broken_newest g d (mark ∷ before) (spans d (mark ∷ before))
+  pub adds_all : (mark : Mark) (before : List Mark) → broken_newest g d before (spans g d before) ≡ none_broken
+      → added g d mark before ≡ broken_newest g d (mark ∷ before) (spans g d (mark ∷ before))
   adds_all mark before none =
-      cond_both (nat_eq (length (spans d (mark ∷ before))) (length (spans d before))) _ _ (λ (f : FaultSet). f
-      ≡ broken_newest g d (mark ∷ before) (spans d (mark ∷ before)))
-      (λ _. ap (λ (f : FaultSet). not_before f (broken_newest g d (mark ∷ before) (spans d (mark ∷ before)))) none
-      ∙ all_new (broken_newest g d (mark ∷ before) (spans d (mark ∷ before)))) (λ _. refl)
+      cond_both (nat_eq (length (spans g d (mark ∷ before))) (length (spans g d before))) _ _ (λ (f : FaultSet). f
+      ≡ broken_newest g d (mark ∷ before) (spans g d (mark ∷ before)))
+      (λ _. ap (λ (f : FaultSet). not_before f (broken_newest g d (mark ∷ before) (spans g d (mark ∷ before)))) none
+      ∙ all_new (broken_newest g d (mark ∷ before) (spans g d (mark ∷ before)))) (λ _. refl)
     where
       and_true : (b : Bool) → (b && true) ≡ b
       and_true true = refl
@@ -330,26 +297,26 @@ module _ (g : Gauge) (exact : IsExact g) (d : ℕ) where
 
   can_be_after : (p : Fragment) (before : List Mark) (rs : List Span) → IsFormed g.segments p
       → AllByRecursion (CanBeBroadcast d g.kind) (reigns_of rs)
-      → broken_newest g d (Sends p ∷ before) (spans_after d (length before) p rs) ≡ none_broken
+      → broken_newest g d (Sends p ∷ before) (spans_after g d (length before) p rs) ≡ none_broken
       → AllByRecursion (CanBeBroadcast d g.kind) (after_fragment d (length before) p (reigns_of rs))
   can_be_after p before [] formed was none = (
     record {
       begun = omega arith;
       lasted = tt;
       one = quiet_one g exact d (first_of_span (length before) p 0 false false)
-          (formed, tt) (tt, tt) none;
+          (formed, tt) (refl, tt) none;
     },
     tt,
   )
   can_be_after p before (r ∷ older) formed was none =
-      by_fragment (λ (rs : List Span) (regs : List Reign). broken_newest g d (Sends p ∷ before) rs ≡ none_broken
+      by_fragment g (λ (rs : List Span) (regs : List Reign). broken_newest g d (Sends p ∷ before) rs ≡ none_broken
       → AllByRecursion (CanBeBroadcast d g.kind) regs) d (length before) p r older
       (λ u none. (
         record {
           begun = was.0.begun;
           lasted = was.0.lasted;
           one = quiet_one g exact d (span_with (length before) p r)
-              (formed, exact.formed r.reign.fragments r.reign.tags was.0.one) u none;
+              (formed, exact.formed r.reign.fragments r.reign.tags was.0.one) (u, can_be_joined r.reign was.0) none;
         },
         was.1,
       ))
@@ -359,12 +326,12 @@ module _ (g : Gauge) (exact : IsExact g) (d : ℕ) where
           begun = late;
           lasted = tt;
           one = quiet_one g exact d (first_of_span (length before)
-              p start false false) (formed, tt) (tt, tt) none;
+              p start false false) (formed, tt) (refl, tt) none;
         },
         was,
       ))
       (λ start late less none. absurd (let bad : true ≡ false = ap (λ (f : FaultSet). f.early_flag) none in cc))
-      (can_be_unchanged r.reign was.0) none
+      none
 
   can_be_tagged : (pair : PairFields) (before : List Mark) (rs : List Span)
       → AllByRecursion (CanBeBroadcast d g.kind) (reigns_of rs)
@@ -380,7 +347,7 @@ module _ (g : Gauge) (exact : IsExact g) (d : ℕ) where
         begun = was.0.begun;
         lasted = (late, was.0.lasted);
         one = quiet_one g exact d (record r { reign = with_tags (length before) pair r.reign })
-            (exact.formed r.reign.fragments r.reign.tags was.0.one) (can_be_unchanged r.reign was.0) none;
+            (exact.formed r.reign.fragments r.reign.tags was.0.one) (can_be_joined r.reign was.0) none;
       },
       was.1,
     ),
@@ -395,7 +362,7 @@ module _ (g : Gauge) (exact : IsExact g) (d : ℕ) where
           none))
 
   -- a mark that adds nothing to marks that pass: they pass with it too
-  pub quiet_passes : (mark : Mark) (before : List Mark) → IsFormedMark g mark → Passes d g.kind before
+  pub quiet_passes : (mark : Mark) (before : List Mark) → IsFormedMark g.segments mark → Passes d g.kind before
       → added g d mark before ≡ none_broken → Passes d g.kind (mark ∷ before)
   quiet_passes Nothing before formed passes none = record
       { reigns = passes.reigns; tagged = tags_after Nothing before (λ pair e. (cc)) passes.tagged }
@@ -405,13 +372,13 @@ module _ (g : Gauge) (exact : IsExact g) (d : ℕ) where
         reigns =
             subst (λ (regs : List Reign). AllByRecursion (CanBeBroadcast d g.kind) (after_fragment d (length before) p
             regs)) h.same
-            (can_be_after p before (spans d before) formed (subst (AllByRecursion (CanBeBroadcast d g.kind))
+            (can_be_after p before (spans g d before) formed (subst (AllByRecursion (CanBeBroadcast d g.kind))
             (sym h.same) passes.reigns) (sym (adds_all (Sends p) before h.none) ∙ none));
         tagged = tags_after (Sends p) before (λ pair e. (cc)) passes.tagged;
       }
   quiet_passes (Tagged pair) before formed passes none =
       let h = are_reigns before passes in
-      let can = can_be_tagged pair before (spans d before) (subst (AllByRecursion (CanBeBroadcast d g.kind))
+      let can = can_be_tagged pair before (spans g d before) (subst (AllByRecursion (CanBeBroadcast d g.kind))
       (sym h.same) passes.reigns) (sym (adds_all (Tagged pair) before h.none) ∙ none) in
       record {
         reigns = subst (λ (regs : List Reign). AllByRecursion (CanBeBroadcast d g.kind) (after_tags (length before) pair

@@ -1,28 +1,30 @@
 -- Lemmas: the state of a service from slot to slot, as a list of faults keeps it.
 use Rattle.std.proofs.Common.{◌≡◌, ◌≢◌, ◌⊎◌, ◌+◌, ◌*◌, ◌-◌, ◌^◌, ◌<◌, ◌≤◌, ◌&&◌, ◌||◌, not, max, min, ℕ, zero, suc}
-use Rattle.std.proofs.Common.{Bool, true, false, nat_eq, nat_lt, List, [], ◌∷◌, Option, Some, None, length, set, cond}
+use Rattle.std.proofs.Common.{Bool, true, false, nat_lt, List, [], ◌∷◌, Option, Some, None, length, set, cond}
 use Rattle.std.proofs.Common.{refl, sym, ap, ◌∙◌, subst, inl, inr, arith}
-use Rattle.std.specs.Prelude.{is_some, nat_le, replicate}
-use Rattle.std.specs.List.{list_all, list_any}
-use Rattle.std.proofs.lemmas.Bool.{and_parts, and_right, cases_lt, cond_both, eqb-true, false_from_ne_true, lt-leb}
-use Rattle.std.proofs.lemmas.Bool.{eq-eqb, ne_eqb, leb-true, le-leb, lt-ltb, le-ltb, ltb-true}
+use Rattle.std.specs.Prelude.{nat_le, replicate}
+use Rattle.std.specs.List.{list_any}
+use Rattle.std.proofs.lemmas.Bool.{and_right, cases_lt, cond_both, lt-leb}
+use Rattle.std.proofs.lemmas.Bool.{eq-eqb, ne_eqb, le-leb, lt-ltb, le-ltb, ltb-true}
 use Rattle.rds_fields.specs.Tag.{PairFields}
 use Rattle.rds_receiver.specs.declared.fragment.Fragment.{Fragment}
 use Rattle.rds_receiver.specs.Run.{is_same}
 use Rattle.rds_safety.specs.Flags.{is_other_flag, is_same_flag, same_or_other}
 use Rattle.rds_safety.specs.Marks.{Mark, Nothing, Sends, Tagged}
 use Rattle.rds_audit.specs.declared.audited.Lengths.{Lengths}
+use Rattle.rds_audit.specs.declared.audited.Measured.{Measured}
 use Rattle.rds_audit.specs.declared.log_start.LogStart.{LogStart}
 use Rattle.rds_audit.specs.declared.log_start.LogStart.TheVariants.{Complete, Running}
 use Rattle.rds_audit.specs.declared.fault_set.FaultSet.{FaultSet}
 use Rattle.rds_audit.specs.Ages.{Ages, HoldsAges, Joins, age_at, age_of_newest, aged, ages_at}
 use Rattle.rds_audit.specs.AuditAt.{FollowsFrom, HoldsContent, HoldsNewestSpans, HoldsSpans}
-use Rattle.rds_audit.specs.Reigns.{opened_from}
-use Rattle.rds_audit.specs.ReignsState.{ContentState, HoldsNoOther, ReignsState, cell_at, no_content}
-use Rattle.rds_audit.specs.Lengths.{Gauge, IsFormed, lengths_of, narrowed, pair_end, sent_last, tags_end}
+use Rattle.rds_audit.specs.Reigns.{SentTags, opened_from}
+use Rattle.rds_audit.specs.ReignsState.{ContentState, ReignsState, cell_at, changes_in, measured_in, no_content}
+use Rattle.rds_audit.specs.Lengths.{Gauge, IsExact, IsFormed, all_fit, changes, is_other, lengths_of, measured_after}
+use Rattle.rds_audit.specs.Lengths.{pair_end, sent_cells, sent_last, tags_end}
 use Rattle.rds_audit.specs.Listing.{Span, added, broken_by, broken_newest, due_after, first_of_span, has_early_tags}
 use Rattle.rds_audit.specs.Listing.{is_tagged}
-use Rattle.rds_audit.specs.Listing.{joined, none_broken, not_before, reigns_of, same_bytes, span_with, spans}
+use Rattle.rds_audit.specs.Listing.{joined, none_broken, not_before, reigns_of, span_with, spans}
 use Rattle.rds_audit.specs.Listing.{spans_after, spans_tagged, turned}
 use Rattle.rds_audit.specs.AuditState.{SpansState, are_early, began_before, comes_early, is_turned, judged_ends}
 use Rattle.rds_audit.specs.AuditState.{judged_fragment, opened_in, put_in, repeated_in, tagged_in}
@@ -31,7 +33,7 @@ use Rattle.rds_audit.proofs.AgeSteps.{AreOver, ages_begun, ages_later, ages_rene
 use Rattle.rds_audit.proofs.ContentSteps.{empty_content, taken_content, tagged_content}
 use Rattle.rds_audit.proofs.HeldAgain.{set_held}
 use Rattle.rds_audit.proofs.Recordings.{silent_length}
-use Rattle.rds_audit.proofs.SpanOrder.{AreInOrder, bytes_same, in_order, same_bytes_are}
+use Rattle.rds_audit.proofs.SpanOrder.{AreInOrder, bytes_same, in_order}
 
 -- ---- the rules that a span breaks
 
@@ -46,59 +48,47 @@ sets_are f g a b c d e = λ i. record {
   tag_outside = e i;
 }
 
--- once no length is left, none is left later
-no_more_room : (o : Option Lengths) (l : Lengths) → nat_le (narrowed o l).least (narrowed o l).most ≡ true
-    → nat_le l.least l.most ≡ true
-no_more_room None l e = e
-no_more_room (Some k) l e = le-leb l.least l.most (omega (arith, leb-true _ _ e))
-
-not_one : (some each before after : Bool) → (after ≡ true → before ≡ true)
-    → (not (each && before) || not (some && after)) ≡ not ((some && each) && after)
-not_one false false before after h = refl
-not_one false true false after h = refl
-not_one false true true after h = refl
-not_one true false before after h = refl
-not_one true true true after h = refl
-not_one true true false false h = refl
-not_one true true false true h = absurd (let bad : false ≡ true = h refl in cc)
+not_one : (some each : Bool) → (not each || not some) ≡ not (some && each)
+not_one false false = refl
+not_one false true = refl
+not_one true false = refl
+not_one true true = refl
 
 -- an end past each length stays past it
-ends_past : (o : Option Lengths) (l : Lengths) (n : ℕ)
-    → (nat_lt l.most n || nat_lt (narrowed o l).most n) ≡ nat_lt (narrowed o l).most n
-ends_past o l n = by (nat_lt l.most n) refl (narrower o)
+ends_past : (most less n : ℕ) → less ≤ most → (nat_lt most n || nat_lt less n) ≡ nat_lt less n
+ends_past most less n h = by (nat_lt most n) refl
   where
-    narrower : (o : Option Lengths) → (narrowed o l).most ≤ l.most
-    narrower None = omega arith
-    narrower (Some k) = omega arith
-
-    by : (v : Bool) → nat_lt l.most n ≡ v → (narrowed o l).most ≤ l.most
-        → (v || nat_lt (narrowed o l).most n) ≡ nat_lt (narrowed o l).most n
-    by true e less = sym (lt-ltb (narrowed o l).most n (omega (arith, ltb-true _ _ e, less)))
-    by false e less = refl
+    by : (v : Bool) → nat_lt most n ≡ v → (v || nat_lt less n) ≡ nat_lt less n
+    by true e = sym (lt-ltb less n (omega (arith, ltb-true _ _ e, h)))
+    by false e = refl
 
 -- the rules that a span breaks with one more fragment
-broken_with : (g : Gauge) (d now : ℕ) (p : Fragment) (r : Span)
-    → judged_fragment (g.allowed p.address p.bytes) (lengths_of g.allowed g.longest r.reign.fragments)
-    (tags_end r.reign.tags) (broken_by g d r) ≡ broken_by g d (span_with now p r)
-broken_with g d now p r =
-    let l : Lengths = lengths_of g.allowed g.longest r.reign.fragments in
-    let o : Option Lengths = g.allowed p.address p.bytes in
+broken_with : (g : Gauge) → IsExact g → (d now : ℕ) (p : Fragment) (r : Span)
+    → judged_fragment (measured_after g r.reign.fragments p) (tags_end r.reign.tags) (broken_by g d r)
+    ≡ broken_by g d (span_with now p r)
+broken_with g exact d now p r =
     sets_are _ _ refl refl
-    (not_one (is_some o) (list_all (λ (p : Fragment). is_some (g.allowed p.address p.bytes))
-    r.reign.fragments) (nat_le l.least l.most) (nat_le (narrowed o l).least (narrowed o l).most) (no_more_room o l))
-    refl (ends_past o l (tags_end r.reign.tags))
+    (not_one (measured_after g r.reign.fragments p).fits (all_fit g r.reign.fragments)) refl
+    (ends_past (lengths_of g r.reign.fragments).most (measured_after g r.reign.fragments p).lengths.most
+    (tags_end r.reign.tags)
+    (exact.narrower (sent_cells r.reign.fragments) (lengths_of g r.reign.fragments) p.address p.bytes))
+
+-- what a fragment leaves by the state is what it leaves by the fragments
+pub measured_is : (g : Gauge) (p : Fragment) (fragments : List Fragment) (tags : List SentTags) (c : ContentState)
+    → HoldsContent g fragments tags c → measured_in g p.address p.bytes c ≡ measured_after g fragments p
+measured_is g p fragments tags c h =
+    ap (λ (cells : List (Option (List ℕ))). g.measure cells c.lengths p.address p.bytes) h.held
+    ∙ ap (λ (l : Lengths). g.measure (sent_cells fragments) l p.address p.bytes) h.lengths
 
 -- the same by the state
-broken_put : (g : Gauge) (d now : ℕ) (p : Fragment) (r : Span) (c : ContentState) (f : FaultSet)
+broken_put : (g : Gauge) → IsExact g → (d now : ℕ) (p : Fragment) (r : Span) (c : ContentState) (f : FaultSet)
     → HoldsContent g r.reign.fragments r.reign.tags c → f ≡ broken_by g d r
-    → judged_fragment (g.allowed p.address p.bytes) c.lengths c.tags_end f ≡ broken_by g d (span_with now p r)
-broken_put g d now p r c f h e =
-    ap (λ (l : Lengths). judged_fragment (g.allowed p.address p.bytes) l c.tags_end f) h.lengths
-    ∙ ap (λ (n : ℕ). judged_fragment (g.allowed p.address p.bytes) (lengths_of g.allowed g.longest
-    r.reign.fragments) n f) h.ends
-    ∙ ap (λ (x : FaultSet). judged_fragment (g.allowed p.address p.bytes) (lengths_of g.allowed g.longest
-    r.reign.fragments) (tags_end r.reign.tags) x) e
-    ∙ broken_with g d now p r
+    → judged_fragment (measured_in g p.address p.bytes c) c.tags_end f ≡ broken_by g d (span_with now p r)
+broken_put g exact d now p r c f h e =
+    ap (λ (m : Measured). judged_fragment m c.tags_end f) (measured_is g p r.reign.fragments r.reign.tags c h)
+    ∙ ap (λ (n : ℕ). judged_fragment (measured_after g r.reign.fragments p) n f) h.ends
+    ∙ ap (λ (x : FaultSet). judged_fragment (measured_after g r.reign.fragments p) (tags_end r.reign.tags) x) e
+    ∙ broken_with g exact d now p r
 
 -- a span without fragments
 abbrev no_fragment : ℕ → ℕ → Bool → Bool → Bool → Span
@@ -112,81 +102,22 @@ empty_broken : (g : Gauge) (d start now : ℕ) (flag is_changed is_early : Bool)
     → record none_broken { changed = is_changed; early_flag = is_early }
     ≡ broken_by g d (no_fragment start now flag is_changed is_early)
 empty_broken g d start now flag is_changed is_early = sets_are _ _ refl refl
-    (ap not (sym (le-leb 0 g.longest (omega arith)))) refl (sym (le-ltb g.longest 0 (omega arith)))
-
--- a test that all fragments pass is passed by the last bytes that were sent at an address
-sent_passes : (test : ℕ → List ℕ → Bool) (a : ℕ) (sent : List Fragment) (bytes : List ℕ)
-    → list_all (λ (p : Fragment). test p.address p.bytes) sent ≡ true → sent_last a sent ≡ Some bytes
-    → test a bytes ≡ true
-sent_passes test a [] bytes all e = absurd (cc)
-sent_passes test a (q ∷ older) bytes all e =
-    let parts = and_parts (test q.address q.bytes) _ all in
-    by (nat_eq a q.address) refl e (sent_passes test a older bytes parts.1) parts.0
-  where
-    by : (v : Bool) → nat_eq a q.address ≡ v → cond v (Some q.bytes) (sent_last a older) ≡ Some bytes
-        → (sent_last a older ≡ Some bytes → test a bytes ≡ true) → test q.address q.bytes ≡ true → test a bytes ≡ true
-    by true n e rest first =
-        let same : q.bytes ≡ bytes = cc in
-        ap (test a) (sym same) ∙ ap (λ x. test x q.bytes) (eqb-true a q.address n) ∙ first
-    by false n e rest first = rest e
-
-narrowed_twice : (o : Option Lengths) (l : Lengths) → narrowed o (narrowed o l) ≡ narrowed o l
-narrowed_twice None l = refl
-narrowed_twice (Some k) l =
-    let least : max (max l.least k.least) k.least ≡ max l.least k.least = omega arith in
-    let most : min (min l.most k.most) k.most ≡ min l.most k.most = omega arith in
-    λ i. record { least = least i; most = most i }
-
-narrowed_swap : (o k : Option Lengths) (l : Lengths) → narrowed o (narrowed k l) ≡ narrowed k (narrowed o l)
-narrowed_swap None k l = refl
-narrowed_swap (Some o) None l = refl
-narrowed_swap (Some o) (Some k) l =
-    let least : max (max l.least k.least) o.least ≡ max (max l.least o.least) k.least = omega arith in
-    let most : min (min l.most k.most) o.most ≡ min (min l.most o.most) k.most = omega arith in
-    λ i. record { least = least i; most = most i }
-
--- the last bytes that were sent at an address narrow nothing again
-narrowed_again : (allowed : ℕ → List ℕ → Option Lengths) (longest a : ℕ) (sent : List Fragment) (bytes : List ℕ)
-    → sent_last a sent ≡ Some bytes
-    → narrowed (allowed a bytes) (lengths_of allowed longest sent) ≡ lengths_of allowed longest sent
-narrowed_again allowed longest a [] bytes e = absurd (cc)
-narrowed_again allowed longest a (q ∷ older) bytes e =
-    by (nat_eq a q.address) refl e (narrowed_again allowed longest a older bytes)
-  where
-    by : (v : Bool) → nat_eq a q.address ≡ v → cond v (Some q.bytes) (sent_last a older) ≡ Some bytes
-        → (sent_last a older ≡ Some bytes → narrowed (allowed a bytes) (lengths_of allowed longest older)
-        ≡ (lengths_of allowed longest older))
-        → narrowed (allowed a bytes) (narrowed (allowed q.address q.bytes) (lengths_of allowed longest older))
-        ≡ narrowed (allowed q.address q.bytes) (lengths_of allowed longest older)
-    by true n e rest =
-        let same : q.bytes ≡ bytes = cc in
-        let mine : allowed a bytes ≡ allowed q.address q.bytes = ap (allowed a) (sym same)
-        ∙ ap (λ x. allowed x q.bytes) (eqb-true a q.address n) in
-        ap (λ o. narrowed o (narrowed (allowed q.address q.bytes) (lengths_of allowed longest older))) mine
-        ∙ narrowed_twice (allowed q.address q.bytes) (lengths_of allowed longest older)
-    by false n e rest = narrowed_swap (allowed a bytes) (allowed q.address q.bytes) (lengths_of allowed longest older)
-        ∙ ap (narrowed (allowed q.address q.bytes)) (rest e)
+    refl refl (sym (le-ltb g.longest 0 (omega arith)))
 
 both_fit : (some each : Bool) → (each ≡ true → some ≡ true) → (some && each) ≡ each
 both_fit true each h = refl
 both_fit false false h = refl
 both_fit false true h = absurd (let bad : false ≡ true = h refl in cc)
 
--- so the span breaks the same rules with it
+-- a span breaks the same rules with what was sent last at an address
 broken_again : (g : Gauge) (d now : ℕ) (p : Fragment) (r : Span)
-    → narrowed (g.allowed p.address p.bytes) (lengths_of g.allowed g.longest r.reign.fragments)
-    ≡ lengths_of g.allowed g.longest r.reign.fragments
-    → (list_all (λ (p : Fragment). is_some (g.allowed p.address p.bytes)) r.reign.fragments ≡ true
-    → is_some (g.allowed p.address p.bytes) ≡ true) → broken_by g d (span_with now p r) ≡ broken_by g d r
-broken_again g d now p r again fit =
-    let all : Bool = list_all (λ (p : Fragment). is_some (g.allowed p.address p.bytes))
-    r.reign.fragments in
+    → ((measured_after g r.reign.fragments p).lengths ≡ lengths_of g r.reign.fragments)
+    × (all_fit g r.reign.fragments ≡ true → (measured_after g r.reign.fragments p).fits ≡ true)
+    → broken_by g d (span_with now p r) ≡ broken_by g d r
+broken_again g d now p r again =
     sets_are _ _ refl refl
-    (ap (λ (l : Lengths). not ((is_some (g.allowed p.address p.bytes) && all) && nat_le l.least l.most)) again
-    ∙ ap (λ b. not (b && nat_le (lengths_of g.allowed g.longest r.reign.fragments).least
-    (lengths_of g.allowed g.longest r.reign.fragments).most))
-    (both_fit (is_some (g.allowed p.address p.bytes)) all fit))
-    refl (ap (λ (l : Lengths). nat_lt l.most (tags_end r.reign.tags)) again)
+    (ap not (both_fit (measured_after g r.reign.fragments p).fits (all_fit g r.reign.fragments) again.1))
+    refl (ap (λ (l : Lengths). nat_lt l.most (tags_end r.reign.tags)) again.0)
 
 -- an end past each length is not within by a further end
 further_past : (most end more : ℕ) → end ≤ more → (nat_lt most end || nat_lt most more) ≡ nat_lt most more
@@ -204,7 +135,7 @@ or_swap false false = refl
 
 -- ---- the state after a fragment
 
-module _ (g : Gauge) (few : g.segments ≤ 16) (d : ℕ) (pos : 0 < d) (sent : List Mark) where
+module _ (g : Gauge) (exact : IsExact g) (few : g.segments ≤ 16) (d : ℕ) (pos : 0 < d) (sent : List Mark) where
   abbrev now : ℕ
   now = length sent
 
@@ -218,7 +149,7 @@ module _ (g : Gauge) (few : g.segments ≤ 16) (d : ℕ) (pos : 0 < d) (sent : L
     ages = ages;
     content = taken_content g few p r.reign.fragments r.reign.tags s.reigns.content content formed;
     count = count;
-    broken = broken_put g d now p r s.reigns.content s.broken content broken;
+    broken = broken_put g exact d now p r s.reigns.content s.broken content broken;
   }
 
   -- the content holds what was sent last at the address of a fragment
@@ -229,26 +160,34 @@ module _ (g : Gauge) (few : g.segments ≤ 16) (d : ℕ) (pos : 0 < d) (sent : L
   -- what joins the newest span joins it by the definition too
   is_joined : (Q : List Span → Type 0) (p : Fragment) (r : Span) (older : List Span) (a : Ages)
       → HoldsAges d now (reigns_of (r ∷ older)) a → Joins d p.flag a
-      → Q (joined d now p (sent_last p.address r.reign.fragments) r older) → Q (spans_after d now p (r ∷ older))
+      → Q (joined g d now p r older) → Q (spans_after g d now p (r ∷ older))
   is_joined Q p r older a h on q =
       let near = joins_near d now p.flag r.reign (reigns_of older) a h on in
       let same : is_same r.reign.flag p.flag ≡ true = is_same_flag r.reign.flag p.flag near.0 in
       let here : nat_lt now (r.reign.last + d) ≡ true = lt-ltb now (r.reign.last + d) near.1 in
       rw (same, here) q
 
+  -- a fragment changes the newest span by the state if it does by the spans
+  changed_by : (p : Fragment) (r : Span) (c : ContentState) → IsFormed g.segments p
+      → HoldsContent g r.reign.fragments r.reign.tags c
+      → changes g r.reign.fragments p ≡ changes_in g p.address p.bytes c
+  changed_by p r c formed h =
+      ap (λ (o : Option (List ℕ)). is_other o p.bytes && not (g.bends && (measured_after g r.reign.fragments p).fits))
+      (held p r c formed h)
+      ∙ ap (λ (m : Measured). is_other (cell_at p.address c) p.bytes && not (g.bends && m.fits))
+      (sym (measured_is g p r.reign.fragments r.reign.tags c h))
+
   -- the state after a fragment that joins the newest span follows from the spans
   pub joined_follows : (p : Fragment) (rs : List Span) (s : SpansState) → IsFormed g.segments p
-      → FollowsFrom g d now sent rs s → Joins d p.flag s.reigns.ages → HoldsNoOther p.address p.bytes s.reigns.content
-      → FollowsFrom g d now (Sends p ∷ sent) (spans_after d now p rs) (put_in g p s)
-      × (length (spans_after d now p rs) ≡ length rs)
+      → FollowsFrom g d now sent rs s → Joins d p.flag s.reigns.ages
+      → changes_in g p.address p.bytes s.reigns.content ≡ false
+      → FollowsFrom g d now (Sends p ∷ sent) (spans_after g d now p rs) (put_in g p s)
+      × (length (spans_after g d now p rs) ≡ length rs)
   joined_follows p [] s formed h on no_other = absurd (none_joins d now p.flag s.reigns.ages h.ages on)
   joined_follows p (r ∷ older) s formed h on no_other =
       is_joined (λ (rs : List Span). FollowsFrom g d now (Sends p ∷ sent) rs (put_in g p s)
       × (length rs ≡ suc (length older))) p r older s.reigns.ages h.ages on
-      (elim no_other [
-        | inl none ↦ rw (held p r _ formed h.content ∙ none) (follows, refl)
-        | inr some ↦ rw (held p r _ formed h.content ∙ some, bytes_same p.bytes p.bytes refl) (follows, refl)
-      ])
+      (rw (changed_by p r s.reigns.content formed h.content ∙ no_other) (follows, refl))
     where
       follows : FollowsFrom g d now (Sends p ∷ sent) (span_with now p r ∷ older) (put_in g p s)
       follows =
@@ -326,31 +265,22 @@ module _ (g : Gauge) (few : g.segments ≤ 16) (d : ℕ) (pos : 0 < d) (sent : L
   -- so does the state after a fragment that changes the newest span
   pub changed_follows : (p : Fragment) (rs : List Span) (s : SpansState) → IsFormed g.segments p → AreInOrder now rs
       → FollowsFrom g d now sent rs s → Joins d p.flag s.reigns.ages
-      → (HoldsNoOther p.address p.bytes s.reigns.content → ⊥)
-      → FollowsFrom g d now (Sends p ∷ sent) (spans_after d now p rs)
-      (put_in g p (opened_in d g.longest true p.flag s)) × (length (spans_after d now p rs) ≡ suc (length rs))
+      → changes_in g p.address p.bytes s.reigns.content ≡ true
+      → FollowsFrom g d now (Sends p ∷ sent) (spans_after g d now p rs)
+      (put_in g p (opened_in d g.longest true p.flag s)) × (length (spans_after g d now p rs) ≡ suc (length rs))
   changed_follows p [] s formed order h on other = absurd (none_joins d now p.flag s.reigns.ages h.ages on)
   changed_follows p (r ∷ older) s formed order h on other =
       is_joined (λ (rs : List Span). FollowsFrom g d now (Sends p ∷ sent) rs
       (put_in g p (opened_in d g.longest true p.flag s)) × (length rs ≡ suc (suc (length older))))
-      p r older s.reigns.ages h.ages on (rw (held p r _ formed h.content)
-      (by (cell_at p.address s.reigns.content) refl))
-    where
-      by : (o : Option (List ℕ)) → cell_at p.address s.reigns.content ≡ o
-          → FollowsFrom g d now (Sends p ∷ sent) (joined d now p o r older)
-          (put_in g p (opened_in d g.longest true p.flag s)) × (length (joined d now p o r older)
-          ≡ suc (suc (length older)))
-      by None is = absurd (other (inl is))
-      by (Some bytes) is =
-          let not_same : same_bytes p.bytes bytes ≡ false = false_from_ne_true _
-          (λ same. other (inr (is ∙ ap Some (sym (same_bytes_are _ _ same))))) in
-          rw not_same (turns p r older true s formed order h.ages refl h.count, refl)
+      p r older s.reigns.ages h.ages on
+      (rw (changed_by p r s.reigns.content formed h.content ∙ other)
+      (turns p r older true s formed order h.ages refl h.count, refl))
 
   -- so does the state after a fragment that joins no span
   pub opened_follows : (p : Fragment) (rs : List Span) (s : SpansState) → IsFormed g.segments p → AreInOrder now rs
       → FollowsFrom g d now sent rs s → (Joins d p.flag s.reigns.ages → ⊥)
-      → FollowsFrom g d now (Sends p ∷ sent) (spans_after d now p rs)
-      (put_in g p (opened_in d g.longest false p.flag s)) × (length (spans_after d now p rs) ≡ suc (length rs))
+      → FollowsFrom g d now (Sends p ∷ sent) (spans_after g d now p rs)
+      (put_in g p (opened_in d g.longest false p.flag s)) × (length (spans_after g d now p rs) ≡ suc (length rs))
   opened_follows p [] s formed order h apart = (
     begins p [] 0 false false s formed h.ages
         (cond_both (is_turned false p.flag s.reigns.ages) _ _ (λ n. n ≡ min (now - 0) d)
@@ -364,8 +294,8 @@ module _ (g : Gauge) (few : g.segments ≤ 16) (d : ℕ) (pos : 0 < d) (sent : L
   opened_follows p (r ∷ older) s formed order h apart = by (same_or_other r.reign.flag p.flag)
     where
       by : (r.reign.flag ≡ p.flag) ⊎ (r.reign.flag ≢ p.flag)
-          → FollowsFrom g d now (Sends p ∷ sent) (spans_after d now p (r ∷ older))
-          (put_in g p (opened_in d g.longest false p.flag s)) × (length (spans_after d now p (r ∷ older))
+          → FollowsFrom g d now (Sends p ∷ sent) (spans_after g d now p (r ∷ older))
+          (put_in g p (opened_in d g.longest false p.flag s)) × (length (spans_after g d now p (r ∷ older))
           ≡ suc (suc (length older)))
       by (inl e) =
           let same : is_same r.reign.flag p.flag ≡ true = is_same_flag r.reign.flag p.flag e in
@@ -391,25 +321,22 @@ module _ (g : Gauge) (few : g.segments ≤ 16) (d : ℕ) (pos : 0 < d) (sent : L
   -- so does the state after a fragment that the newest span has already
   pub repeated_follows : (p : Fragment) (rs : List Span) (s : SpansState) → IsFormed g.segments p
       → FollowsFrom g d now sent rs s → Joins d p.flag s.reigns.ages → cell_at p.address s.reigns.content ≡ Some p.bytes
-      → FollowsFrom g d now (Sends p ∷ sent) (spans_after d now p rs) (repeated_in s) × (length (spans_after d now p rs)
+      → FollowsFrom g d now (Sends p ∷ sent) (spans_after g d now p rs) (repeated_in s) × (length
+      (spans_after g d now p rs)
       ≡ length rs)
   repeated_follows p [] s formed h on is = absurd (none_joins d now p.flag s.reigns.ages h.ages on)
   repeated_follows p (r ∷ older) s formed h on is =
       let last : sent_last p.address r.reign.fragments ≡ Some p.bytes = held p r _ formed h.content ∙ is in
-      let again : narrowed (g.allowed p.address p.bytes) (lengths_of g.allowed g.longest r.reign.fragments)
-      ≡ lengths_of g.allowed g.longest r.reign.fragments = narrowed_again g.allowed g.longest p.address
-      r.reign.fragments
-      p.bytes last in
-      let fit : list_all (λ (p : Fragment). is_some (g.allowed p.address p.bytes)) r.reign.fragments ≡ true
-      → is_some (g.allowed p.address p.bytes) ≡ true =
-      λ all. sent_passes (λ a b. is_some (g.allowed a b)) p.address r.reign.fragments p.bytes all last in
+      let again = exact.again r.reign.fragments p formed last in
       let cells : set s.reigns.content.cells p.address (Some p.bytes) ≡ s.reigns.content.cells = set_held
-      s.reigns.content.cells p.address (Some p.bytes) None (omega (arith, h.content.long)) is in
-      let lengths : narrowed (g.allowed p.address p.bytes) s.reigns.content.lengths ≡ s.reigns.content.lengths = ap
-      (narrowed (g.allowed p.address p.bytes)) h.content.lengths ∙ again ∙ sym h.content.lengths in
-      let broken : judged_fragment (g.allowed p.address p.bytes) s.reigns.content.lengths s.reigns.content.tags_end
+      s.reigns.content.cells p.address (Some p.bytes) None (let address = formed.address
+      in omega (arith, h.content.long)) is in
+      let lengths : (measured_in g p.address p.bytes s.reigns.content).lengths ≡ s.reigns.content.lengths =
+      ap (λ (m : Measured). m.lengths) (measured_is g p r.reign.fragments r.reign.tags s.reigns.content h.content)
+      ∙ again.0 ∙ sym h.content.lengths in
+      let broken : judged_fragment (measured_in g p.address p.bytes s.reigns.content) s.reigns.content.tags_end
       s.broken ≡ s.broken =
-      broken_put g d now p r s.reigns.content s.broken h.content h.broken ∙ broken_again g d now p r again fit
+      broken_put g exact d now p r s.reigns.content s.broken h.content h.broken ∙ broken_again g d now p r again
       ∙ sym h.broken in
       let same : put_in g p s ≡ repeated_in s = λ i. record {
         count = s.count;
@@ -420,8 +347,10 @@ module _ (g : Gauge) (few : g.segments ≤ 16) (d : ℕ) (pos : 0 < d) (sent : L
         };
         broken = broken i;
       } in
-      let follows = joined_follows p (r ∷ older) s formed h on (inr is) in (
-        subst (λ (x : SpansState). FollowsFrom g d now (Sends p ∷ sent) (spans_after d now p (r ∷ older)) x) same
+      let unchanged : changes_in g p.address p.bytes s.reigns.content ≡ false = rw (is, bytes_same p.bytes p.bytes refl)
+      refl in
+      let follows = joined_follows p (r ∷ older) s formed h on unchanged in (
+        subst (λ (x : SpansState). FollowsFrom g d now (Sends p ∷ sent) (spans_after g d now p (r ∷ older)) x) same
             follows.0,
         follows.1,
       )
@@ -450,17 +379,17 @@ module _ (g : Gauge) (few : g.segments ≤ 16) (d : ℕ) (pos : 0 < d) (sent : L
           broken =
               ap (λ (l : Lengths). judged_ends l (max s.reigns.content.tags_end (pair_end pair)) record s.broken
               { early_tag = s.broken.early_tag || are_early d s.reigns.ages }) h.content.lengths
-              ∙ ap (λ (n : ℕ). judged_ends (lengths_of g.allowed g.longest r.reign.fragments)
+              ∙ ap (λ (n : ℕ). judged_ends (lengths_of g r.reign.fragments)
               (max n (pair_end pair)) record s.broken { early_tag = s.broken.early_tag || are_early d s.reigns.ages })
               h.content.ends
-              ∙ ap (λ (f : FaultSet). judged_ends (lengths_of g.allowed g.longest r.reign.fragments)
+              ∙ ap (λ (f : FaultSet). judged_ends (lengths_of g r.reign.fragments)
               (max (tags_end r.reign.tags)
               (pair_end pair)) record f { early_tag = f.early_tag || are_early d s.reigns.ages })
               h.broken
               ∙ sets_are _ _ refl refl refl
               (ap (λ b. has_early_tags d r || b) (early_tags r s.reigns.ages.since_start h.ages.current.2)
               ∙ or_swap (has_early_tags d r) (nat_lt now (r.reign.start + d)))
-              (further_past (lengths_of g.allowed g.longest r.reign.fragments).most (tags_end r.reign.tags)
+              (further_past (lengths_of g r.reign.fragments).most (tags_end r.reign.tags)
               (max (tags_end r.reign.tags) (pair_end pair)) (omega arith));
         }) (λ f. let wide = h.ages.current.0 in absurd (cc)),
     refl,
@@ -491,11 +420,11 @@ pub spans_later : (g : Gauge) (d : ℕ) (mark : Mark) (before : List Mark) (s : 
     → HoldsSpans g d (mark ∷ before) record s { reigns = record s.reigns { ages = aged d s.reigns.ages } }
 spans_later g d mark before s pos h =
     let one : length (mark ∷ before) ≡ length before + 1 = omega arith in
-    let over : AreOver (length before + 1) (reigns_of (spans d (mark ∷ before))) = subst
-    (λ n. AreOver n (reigns_of (spans d (mark ∷ before)))) one (reigns_over _ _ (in_order d (mark ∷ before) pos)) in
+    let over : AreOver (length before + 1) (reigns_of (spans g d (mark ∷ before))) = subst
+    (λ n. AreOver n (reigns_of (spans g d (mark ∷ before)))) one (reigns_over _ _ (in_order g d (mark ∷ before) pos)) in
     record {
-      ages = subst (λ n. HoldsAges d n (reigns_of (spans d (mark ∷ before))) (aged d s.reigns.ages)) (sym one)
-          (ages_later d (length before) (reigns_of (spans d (mark ∷ before))) s.reigns.ages over h.ages);
+      ages = subst (λ n. HoldsAges d n (reigns_of (spans g d (mark ∷ before))) (aged d s.reigns.ages)) (sym one)
+          (ages_later d (length before) (reigns_of (spans g d (mark ∷ before))) s.reigns.ages over h.ages);
       content = h.content;
       count = h.count;
       broken = h.broken;
@@ -505,18 +434,18 @@ spans_later g d mark before s pos h =
 
 -- a mark that opens no span adds the faults that its span did not have
 pub added_more : (g : Gauge) (d : ℕ) (mark : Mark) (before : List Mark) (old new : FaultSet)
-    → length (spans d (mark ∷ before)) ≡ length (spans d before)
-    → old ≡ broken_newest g d before (spans d before)
-    → new ≡ broken_newest g d (mark ∷ before) (spans d (mark ∷ before)) → not_before old new ≡ added g d mark before
+    → length (spans g d (mark ∷ before)) ≡ length (spans g d before)
+    → old ≡ broken_newest g d before (spans g d before)
+    → new ≡ broken_newest g d (mark ∷ before) (spans g d (mark ∷ before)) → not_before old new ≡ added g d mark before
 added_more g d mark before old new same e f =
-    rw (eq-eqb (length (spans d (mark ∷ before))) (length (spans d before)) same)
-    (ap (λ (x : FaultSet). not_before x new) e ∙ ap (not_before (broken_newest g d before (spans d before))) f)
+    rw (eq-eqb (length (spans g d (mark ∷ before))) (length (spans g d before)) same)
+    (ap (λ (x : FaultSet). not_before x new) e ∙ ap (not_before (broken_newest g d before (spans g d before))) f)
 
 -- a mark that opens a span adds all faults of it
 pub added_first : (g : Gauge) (d : ℕ) (mark : Mark) (before : List Mark) (new : FaultSet)
-    → length (spans d (mark ∷ before)) ≡ suc (length (spans d before))
-    → new ≡ broken_newest g d (mark ∷ before) (spans d (mark ∷ before)) → new ≡ added g d mark before
-added_first g d mark before new more f = rw (ne_eqb (length (spans d (mark ∷ before))) (length (spans d before))
+    → length (spans g d (mark ∷ before)) ≡ suc (length (spans g d before))
+    → new ≡ broken_newest g d (mark ∷ before) (spans g d (mark ∷ before)) → new ≡ added g d mark before
+added_first g d mark before new more f = rw (ne_eqb (length (spans g d (mark ∷ before))) (length (spans g d before))
     (λ same. omega (arith, more, same))) f
 
 -- nothing new is added
@@ -530,9 +459,9 @@ none_new f = sets_are _ _ (not_new f.changed) (not_new f.early_flag) (not_new f.
 
 -- ---- before the first slot
 
-silent_spans : (d lost : ℕ) → spans d (replicate lost Nothing) ≡ []
-silent_spans d zero = refl
-silent_spans d (suc n) = silent_spans d n
+silent_spans : (g : Gauge) (d lost : ℕ) → spans g d (replicate lost Nothing) ≡ []
+silent_spans g d zero = refl
+silent_spans g d (suc n) = silent_spans g d n
 
 silent_tags : (lost : ℕ) → list_any is_tagged (replicate lost Nothing) ≡ false
 silent_tags zero = refl
@@ -547,7 +476,7 @@ silent_follows g start d s e count broken = by start e
     silent : (start : LogStart) (lost : ℕ) → age_at start d ≡ min (lost + d) (2 * d)
         → s.reigns ≡ record { ages = ages_at start d; content = no_content g.longest }
         → HoldsSpans g d (replicate lost Nothing) s
-    silent start lost age e = rw (silent_spans d lost, silent_length lost) record {
+    silent start lost age e = rw (silent_spans g d lost, silent_length lost) record {
       ages = subst (λ (r : ReignsState). HoldsAges d lost [] r.ages) (sym e) record
           { newest = age; second = age; current = refl; turns = ((λ _. tt), (λ _. refl)) };
       content = subst (λ (r : ReignsState). HoldsContent g [] [] r.content) (sym e) (empty_content g);

@@ -10,6 +10,7 @@ use Rattle.rds_audit.specs.declared.audit.AuditFault.{AuditFault}
 use Rattle.rds_audit.specs.declared.audit.AuditFault.TheVariants.{Changed, NotOneText, EarlyFlag, EarlyTag, TagOutside}
 use Rattle.rds_audit.specs.declared.fault_set.FaultSet.{FaultSet}
 use Rattle.rds_audit.specs.declared.log_start.LogStart.TheVariants.{Running}
+use Rattle.rds_audit.specs.declared.text_form.TextForm.TheVariants.{Plain}
 use Rattle.rds_audit.specs.Listing.{first_fault, slot_adds}
 use Rattle.rds_audit.specs.Recording.{judged_as}
 
@@ -83,7 +84,7 @@ faults_in f =
 abbrev faults : ℕ → Log → List (ℕ × AuditFault)
 faults d [] = []
 faults d (newest ∷ before) =
-    faults d before ++ map (λ (f : AuditFault). (length before, f)) (faults_in (slot_adds d newest before))
+    faults d before ++ map (λ (f : AuditFault). (length before, f)) (faults_in (slot_adds Plain d newest before))
 
 -- an address is sent with other bytes
 changed : faults 4 (off 0 yo ∷ off 0 hi ∷ []) ≡ (1, Changed) ∷ []
@@ -159,7 +160,7 @@ formats : faults 128 (judged_as Running 128 (off 0 hi ∷ pair (tag 1 0 1) no_ta
 formats = refl
 
 -- the fault of a log is the first one
-first_of_a_log : first_fault 4 (off 0 hi ∷ pair (tag 1 0 1) no_tag ∷ on 0 yo ∷ off 0 hi ∷ []) ≡ Some EarlyTag
+first_of_a_log : first_fault Plain 4 (off 0 hi ∷ pair (tag 1 0 1) no_tag ∷ on 0 yo ∷ off 0 hi ∷ []) ≡ Some EarlyTag
 first_of_a_log = refl
 
 -- a log by chance

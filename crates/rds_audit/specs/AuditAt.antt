@@ -8,7 +8,7 @@ use Rattle.rds_receiver.specs.declared.fragment.Fragment.{Fragment}
 use Rattle.rds_audit.specs.declared.audit.AuditFault.{AuditFault}
 use Rattle.rds_audit.specs.declared.fault_set.FaultSet.{FaultSet}
 use Rattle.rds_audit.specs.Ages.{HoldsAges}
-use Rattle.rds_audit.specs.Lengths.{Gauge, lengths_of, name_gauge, sent_last, tags_end, text_gauge}
+use Rattle.rds_audit.specs.Lengths.{Gauge, gauge_of, lengths_of, name_gauge, sent_cells, sent_last, tags_end}
 use Rattle.rds_audit.specs.Listing.{IsFaultOf, Span, broken_newest, first_of, reigns_of, slot_adds, spans}
 use Rattle.rds_audit.specs.AuditState.{AuditState, SpansState}
 use Rattle.rds_audit.specs.ReignsState.{ContentState, cell_at}
@@ -32,8 +32,9 @@ tags_now (r ∷ older) = r.reign.tags
 -- the content follows from these fragments and tags
 pub record HoldsContent (g : Gauge) (fragments : List Fragment) (tags : List SentTags) (c : ContentState) : Type 0 where
   pub long : length c.cells ≡ 16
+  pub held : c.cells ≡ sent_cells fragments
   pub cells : (a : ℕ) → a < 16 → cell_at a c ≡ sent_last a fragments
-  pub lengths : c.lengths ≡ lengths_of g.allowed g.longest fragments
+  pub lengths : c.lengths ≡ lengths_of g fragments
   pub ends : c.tags_end ≡ tags_end tags
 
 -- in slot `now` of these marks, the state of a service follows from these spans of the marks
@@ -46,12 +47,12 @@ pub record FollowsFrom (g : Gauge) (d now : ℕ) (sent : List Mark) (rs : List S
 
 -- the state holds these marks, one slot after the newest
 abbrev pub HoldsSpans : Gauge → ℕ → List Mark → SpansState → Type 0
-HoldsSpans g d sent s = FollowsFrom g d (length sent) sent (spans d sent) s
+HoldsSpans g d sent s = FollowsFrom g d (length sent) sent (spans g d sent) s
 
 -- the state holds these marks, in the slot of the newest
 abbrev pub HoldsNewestSpans : Gauge → ℕ → Mark → List Mark → SpansState → Type 0
 HoldsNewestSpans g d newest before s =
-    FollowsFrom g d (length before) (newest ∷ before) (spans d (newest ∷ before)) s
+    FollowsFrom g d (length before) (newest ∷ before) (spans g d (newest ∷ before)) s
 
 -- this holds of all marks that the state holds
 abbrev pub WhereSpansHold : Gauge → ℕ → SpansState → (List Mark → Type 0) → Type 0
@@ -59,17 +60,17 @@ WhereSpansHold g d s Holds = 0 < d → d ≤ 66813 → (sent : List Mark) → Ho
 
 -- the state of both services follows from this log, in the slot after it
 pub record HoldsLog (d : ℕ) (judged : List (Option Message)) (a : AuditState) : Type 0 where
-  pub text : HoldsSpans text_gauge d (marks text_mark judged) a.text
+  pub text : HoldsSpans (gauge_of a.form) d (marks text_mark judged) a.text
   pub name : HoldsSpans name_gauge d (marks name_mark judged) a.name
 
 -- the same in its newest slot
 pub record HoldsSlot (d : ℕ) (newest : Option Message) (before : List (Option Message)) (a : AuditState) : Type 0 where
-  pub text : HoldsNewestSpans text_gauge d (text_mark newest) (marks text_mark before) a.text
+  pub text : HoldsNewestSpans (gauge_of a.form) d (text_mark newest) (marks text_mark before) a.text
   pub name : HoldsNewestSpans name_gauge d (name_mark newest) (marks name_mark before) a.name
 
 -- without a fault this log passes, and the state follows from it; a fault that there is is the fault of the log
 abbrev pub HasJudged : ℕ → AuditState → List (Option Message) → Type 0
-HasJudged d a judged = MatchOption a.fault (LogPasses d judged × HoldsLog d judged a) (IsFaultOf d judged)
+HasJudged d a judged = MatchOption a.fault (LogPasses a.form d judged × HoldsLog d judged a) (IsFaultOf a.form d judged)
 
 -- the audit has this PI and a spacing of d slots, and judged the log as that is to be judged
 pub record AuditAt (pi d : ℕ) (a : AuditState) (log : List (Option Group)) : Type 0 where
@@ -106,8 +107,9 @@ pub record AuditTakesSlot (a after : AuditState) (group : Option Group)
       → FollowsLog pi d after (group ∷ log)
   pub fault : MatchResult result (λ _. after.fault ≡ None) (λ fault. after.fault ≡ Some fault)
   pub start : after.start ≡ a.start
+  pub form : after.form ≡ a.form
   pub which : WhereTheAuditStands after
-      (λ d heard. MatchResult result (λ _. LogPasses d heard) (λ fault. IsFaultOf d heard fault))
+      (λ d heard. MatchResult result (λ _. LogPasses after.form d heard) (λ fault. IsFaultOf after.form d heard fault))
   pub again : (fault : AuditFault) → a.fault ≡ Some fault → (result ≡ Err fault) × (after ≡ a)
 
 -- the audit took the next slot, with this group or with none, whatever its fault: it stands at the log with that slot,
@@ -120,9 +122,10 @@ pub record TakesAll (a after : AuditState) (group : Option Group) (result : Faul
       → FollowsLog pi d after (group ∷ log)
   pub adds : (pi d : ℕ) (log : List (Option Group)) (s : FollowsLog pi d a log) (message : Option Message)
       → Hears pi group message
-      → result ≡ slot_adds d (counted_as a.start (judged_as a.start d s.at.heard) message)
+      → result ≡ slot_adds a.form d (counted_as a.start (judged_as a.start d s.at.heard) message)
       (judged_as a.start d s.at.heard)
   pub start : after.start ≡ a.start
+  pub form : after.form ≡ a.form
   pub first : a.fault ≡ None → after.fault ≡ first_of result
   pub again : (fault : AuditFault) → a.fault ≡ Some fault → after.fault ≡ Some fault
 
@@ -132,7 +135,7 @@ pub record ListsMessage (a after : AuditState) (message : Option Message) (resul
   pub holds : (judged : List (Option Message)) → HoldsLog a.distance judged a
       → HoldsSlot a.distance (counted_as a.start judged message) judged after
   pub added : (judged : List (Option Message)) → HoldsLog a.distance judged a
-      → result ≡ slot_adds a.distance (counted_as a.start judged message) judged
+      → result ≡ slot_adds a.form a.distance (counted_as a.start judged message) judged
 
 -- the audit took the group of a slot, and the slot is over: its state follows from the log with that slot, and the
 -- result is what the slot adds
@@ -142,7 +145,7 @@ pub record ListsGroup (a after : AuditState) (group : Option Group) (result : Fa
   pub holds : (judged : List (Option Message)) → HoldsLog a.distance judged a
       → HoldsLog a.distance (counted_as a.start judged message ∷ judged) after
   pub added : (judged : List (Option Message)) → HoldsLog a.distance judged a
-      → result ≡ slot_adds a.distance (counted_as a.start judged message) judged
+      → result ≡ slot_adds a.form a.distance (counted_as a.start judged message) judged
 
 -- the slot is over: the state follows from the log with its newest slot
 abbrev pub EndsSlot : StoredAudit → StoredAudit → Type 0

@@ -7,10 +7,12 @@ use Rattle.rds_encoder.specs.Plan.{Broadcast, HasNumber}
 use Rattle.rds_receiver.specs.declared.fragment.Fragment.{Fragment}
 use Rattle.rds_audit.specs.declared.audit.AuditFault.{AuditFault}
 use Rattle.rds_audit.specs.Dense.{AreDense, HasPlans, IsDense}
-use Rattle.rds_safety.specs.Lawful.{HasFragment, IsLawful, IsFragmentOf, Kind}
+use Rattle.rds_safety.specs.Lawful.{HasFragment, IsLawful, Kind}
 use Rattle.rds_safety.specs.Marks.{IsMarkIn, Mark, Sends}
 use Rattle.rds_safety.specs.OwnClock.{ListensByOwnClock}
-use Rattle.rds_safety.specs.Plans.{AreLawful, Plans}
+use Rattle.rds_safety.specs.Plans.{AreLawfulAs, Plans}
+use Rattle.rds_audit.specs.Forms.{text_kind}
+use Rattle.rds_audit.specs.declared.text_form.TextForm.{TextForm}
 use Rattle.rds_audit.specs.Recording.{from_first_text, preceded}
 use Rattle.rds_audit.specs.Reigns.{Reign, SentTags, reigns}
 use Rattle.rds_audit.specs.Listing.{IsFaultOf}
@@ -19,7 +21,8 @@ use Rattle.rds_safety.specs.Safe.{AreSafeViews, Listener, ListensTo}
 
 -- a log passes exactly if it has plans that are lawful and dense
 abbrev pub PassesExactlyByPlans : Type 0
-PassesExactlyByPlans = (d : ℕ) (log : List (Option Message)) → 0 < d → LogPasses d log ↔ HasPlans d log
+PassesExactlyByPlans =
+    (form : TextForm) (d : ℕ) (log : List (Option Message)) → 0 < d → LogPasses form d log ↔ HasPlans form d log
 
 -- the tags can be those of the broadcast: it started at least d slots before them, and they end in its text
 pub record AreTagsOf (d : ℕ) (b : Broadcast) (s : SentTags) : Type 0 where
@@ -33,7 +36,7 @@ pub record IsReignOf (d : ℕ) (kind : Kind) (b : Broadcast) (r : Reign) : Type 
   pub from : b.start ≤ r.opened
   pub to : r.last ≤ b.end
   pub flag : r.flag ≡ b.flag
-  pub fragments : AllByRecursion (IsFragmentOf (kind.body b.bytes)) r.fragments
+  pub fragments : AllByRecursion (kind.HasPart b.bytes) r.fragments
   pub tags : AllByRecursion (AreTagsOf d b) r.tags
 
 -- the reigns are of broadcasts of the plan, in order: the numbers of these are below n and fall
@@ -63,14 +66,15 @@ BroadcastsAreTheReigns kind = (d : ℕ) (plan : List Broadcast) (sent : List Mar
 -- a log that has a fault does not pass
 abbrev pub WhatHasAFaultDoesNotPass : Type 0
 WhatHasAFaultDoesNotPass =
-    (d : ℕ) (log : List (Option Message)) (fault : AuditFault) → 0 < d → IsFaultOf d log fault → LogPasses d log → ⊥
+    (form : TextForm) (d : ℕ) (log : List (Option Message)) (fault : AuditFault) → 0 < d → IsFaultOf form d log fault
+    → LogPasses form d log → ⊥
 
 -- some plans of the log are lawful and dense, and make each slot safe for any number of receivers of dwell m: for those
 -- at most k slots late, and for those with clocks of their own by which fewer than m slots are fewer than m + k of the
 -- station
-pub record IsSafeLog (m k : ℕ) (log : List (Option Message)) : Type 0 where
+pub record IsSafeLog (form : TextForm) (m k : ℕ) (log : List (Option Message)) : Type 0 where
   pub plans : Plans
-  pub lawful : AreLawful (m + k) plans log
+  pub lawful : AreLawfulAs (text_kind form) (m + k) plans log
   pub dense : AreDense (m + k) plans log
   pub safe : (t : ℕ) (receivers : List Listener) → All (ListensTo k m t log) receivers
       → AreSafeViews (m + k) m t plans log receivers
@@ -79,7 +83,9 @@ pub record IsSafeLog (m k : ℕ) (log : List (Option Message)) : Type 0 where
 
 -- a log that passes with d = m + k is safe
 abbrev pub WhatPassesIsSafe : Type 0
-WhatPassesIsSafe = (m k : ℕ) (log : List (Option Message)) → 0 < m → LogPasses (m + k) log → IsSafeLog m k log
+WhatPassesIsSafe =
+    (form : TextForm) (m k : ℕ) (log : List (Option Message)) → 0 < m → LogPasses form (m + k) log
+    → IsSafeLog form m k log
 
 -- the same receiver, when the station's slots are counted from n slots before: its entries were sent n slots later, and
 -- its own slots are the same
@@ -96,9 +102,9 @@ later n r = record {
 -- some plans are lawful and dense for the log with m + k slots in front and without the tags before its first text
 -- segment. They make each slot safe for any number of receivers of dwell m of the log as it is, with all its tags. The
 -- slots of the plans count from m + k slots before the log.
-pub record IsSafeRecording (m k : ℕ) (log : List (Option Message)) : Type 0 where
+pub record IsSafeRecording (form : TextForm) (m k : ℕ) (log : List (Option Message)) : Type 0 where
   pub plans : Plans
-  pub lawful : AreLawful (m + k) plans (from_first_text (preceded (m + k) log))
+  pub lawful : AreLawfulAs (text_kind form) (m + k) plans (from_first_text (preceded (m + k) log))
   pub dense : AreDense (m + k) plans (from_first_text (preceded (m + k) log))
   pub safe : (t : ℕ) (receivers : List Listener) → All (ListensTo k m t log) receivers
       → AreSafeViews (m + k) m (t + (m + k)) plans (preceded (m + k) log) (map (later (m + k)) receivers)
@@ -109,12 +115,13 @@ pub record IsSafeRecording (m k : ℕ) (log : List (Option Message)) : Type 0 wh
 -- slot safe for any number of receivers of the log as it is, with clocks of their own
 abbrev pub PlansOfARecordingAreSafe : Type 0
 PlansOfARecordingAreSafe =
-    (d m now n : ℕ) (plans : Plans) (log : List (Option Message)) (receivers : List Listener)
-    → AreLawful d plans (from_first_text (preceded n log)) → All (ListensByOwnClock d m now log) receivers
+    (form : TextForm) (d m now n : ℕ) (plans : Plans) (log : List (Option Message)) (receivers : List Listener)
+    → AreLawfulAs (text_kind form) d plans (from_first_text (preceded n log))
+    → All (ListensByOwnClock d m now log) receivers
     → AreSafeViews d m (now + n) plans (preceded n log) (map (later n) receivers)
 
 -- a log that passes as a recording with d = m + k is a safe recording
 abbrev pub WhatPassesAsARecordingIsSafe : Type 0
 WhatPassesAsARecordingIsSafe =
-    (m k : ℕ) (log : List (Option Message)) → 0 < m → LogPasses (m + k) (from_first_text (preceded (m + k) log))
-    → IsSafeRecording m k log
+    (form : TextForm) (m k : ℕ) (log : List (Option Message)) → 0 < m
+    → LogPasses form (m + k) (from_first_text (preceded (m + k) log)) → IsSafeRecording form m k log

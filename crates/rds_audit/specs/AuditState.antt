@@ -1,6 +1,6 @@
 -- The state of an audit, and how it changes. Lists have the newest first.
 use Rattle.std.specs.Prelude.{◌≡◌, ◌+◌, ◌-◌, ◌^◌, ◌==◌, ◌&&◌, ◌||◌, ℕ, Bool, true, false, Option}
-use Rattle.std.specs.Prelude.{is_some, max, min, nat_le, nat_lt, not, refl, if◌then◌else◌}
+use Rattle.std.specs.Prelude.{max, min, nat_le, nat_lt, not, refl, if◌then◌else◌}
 use Rattle.std.specs.Coded.{Coded, code_by, coded×, coded_ℕ, coded_bool, coded_option}
 use Rattle.rds_fields.specs.Tag.{PairFields}
 use Rattle.rds_receiver.specs.declared.fragment.Fragment.{Fragment}
@@ -9,12 +9,15 @@ use Rattle.rds_audit.specs.declared.audit.AuditFault.{AuditFault}
 use Rattle.rds_audit.specs.declared.audit.AuditFault.TheVariants.{Changed, NotOneText, EarlyFlag}
 use Rattle.rds_audit.specs.declared.audit.AuditFault.TheVariants.{EarlyTag, TagOutside}
 use Rattle.rds_audit.specs.declared.audited.Lengths.{Lengths}
+use Rattle.rds_audit.specs.declared.audited.Measured.{Measured}
 use Rattle.rds_audit.specs.declared.fault_set.FaultSet.{FaultSet}
 use Rattle.rds_audit.specs.declared.log_start.LogStart.{LogStart}
 use Rattle.rds_audit.specs.declared.log_start.LogStart.TheVariants.{Complete, Running}
+use Rattle.rds_audit.specs.declared.text_form.TextForm.{TextForm}
+use Rattle.rds_audit.specs.declared.text_form.TextForm.TheVariants.{Plain, Padded}
 use Rattle.rds_audit.specs.Ages.{Ages, aged, restarted}
-use Rattle.rds_audit.specs.ReignsState.{ReignsState, joined_state, no_content, reigns_code, tagged_state}
-use Rattle.rds_audit.specs.Lengths.{Gauge, narrowed, pair_end}
+use Rattle.rds_audit.specs.ReignsState.{ReignsState, joined_state, measured_in, no_content, reigns_code, tagged_state}
+use Rattle.rds_audit.specs.Lengths.{Gauge, pair_end}
 use Rattle.rds_audit.specs.Listing.{none_broken}
 
 -- a service: the number of spans, which stops at 2 ^ 64 - 1; the ages of the spans and the content of the current one;
@@ -24,38 +27,34 @@ pub record SpansState : Type 0 where
   pub reigns : ReignsState
   pub broken : FaultSet
 
--- an audit: its programme, the spacing, where its log begins, both services, and the first fault
+-- an audit: its programme, the spacing, where its log begins, the form of its texts, both services, and the first fault
 pub record AuditState : Type 0 where
   pub programme : ℕ
   pub distance : ℕ
   pub start : LogStart
+  pub form : TextForm
   pub text : SpansState
   pub name : SpansState
   pub fault : Option AuditFault
 
 -- ---- how the state of a service changes
 
--- a fragment that allows these lengths fits some text, and leaves some of the lengths before it
-abbrev pub leaves_a_length : Option Lengths → Lengths → Bool
-leaves_a_length allowed l = is_some allowed && nat_le (narrowed allowed l).least (narrowed allowed l).most
-
 -- the rules that a span breaks, of these lengths and with tags that end there: it also breaks that of tags, if they end
 -- past each of its lengths
 abbrev pub judged_ends : Lengths → ℕ → FaultSet → FaultSet
 judged_ends l end f = record f { tag_outside = f.tag_outside || nat_lt l.most end }
 
--- the same after a fragment that allows these lengths
-abbrev pub judged_fragment : Option Lengths → Lengths → ℕ → FaultSet → FaultSet
-judged_fragment allowed l end f =
-    judged_ends (narrowed allowed l) end
-    record f { not_one_text = f.not_one_text || not (leaves_a_length allowed l) }
+-- the same after a fragment that leaves this
+abbrev pub judged_fragment : Measured → ℕ → FaultSet → FaultSet
+judged_fragment m end f = judged_ends m.lengths end record f { not_one_text = f.not_one_text || not m.fits }
 
 -- a fragment joined the current span
 abbrev pub put_in : Gauge → Fragment → SpansState → SpansState
 put_in g p s = record {
   count = s.count;
-  reigns = joined_state (g.allowed p.address p.bytes) p.address p.bytes s.reigns;
-  broken = judged_fragment (g.allowed p.address p.bytes) s.reigns.content.lengths s.reigns.content.tags_end s.broken;
+  reigns =
+      joined_state (measured_in g p.address p.bytes s.reigns.content).lengths p.address p.bytes s.reigns;
+  broken = judged_fragment (measured_in g p.address p.bytes s.reigns.content) s.reigns.content.tags_end s.broken;
 }
 
 -- a fragment joined the current span, which had its bytes already
@@ -166,6 +165,21 @@ start_back Running = refl
 abbrev pub start_code : Coded LogStart
 start_code = code_by Bool coded_bool is_running start_if start_back
 
+abbrev pub is_padded : TextForm → Bool
+is_padded Plain = false
+is_padded Padded = true
+
+abbrev pub form_if : Bool → TextForm
+form_if false = Plain
+form_if true = Padded
+
+pub form_back : (f : TextForm) → form_if (is_padded f) ≡ f
+form_back Plain = refl
+form_back Padded = refl
+
+abbrev pub form_code : Coded TextForm
+form_code = code_by Bool coded_bool is_padded form_if form_back
+
 abbrev pub faults_code : Coded FaultSet
 faults_code =
     code_by ((Bool × Bool) × (Bool × (Bool × Bool)))
@@ -190,14 +204,15 @@ spans_code =
 
 abbrev pub audit_code : Coded AuditState
 audit_code =
-    code_by ((ℕ × (ℕ × LogStart)) × (Option AuditFault × (SpansState × SpansState)))
-    (coded× (coded× coded_ℕ (coded× coded_ℕ start_code))
+    code_by ((ℕ × (ℕ × (LogStart × TextForm))) × (Option AuditFault × (SpansState × SpansState)))
+    (coded× (coded× coded_ℕ (coded× coded_ℕ (coded× start_code form_code)))
     (coded× (coded_option fault_code) (coded× spans_code spans_code)))
-    (λ l. ((l.programme, (l.distance, l.start)), (l.fault, (l.text, l.name))))
+    (λ l. ((l.programme, (l.distance, (l.start, l.form))), (l.fault, (l.text, l.name))))
     (λ p. record {
       programme = p.0.0;
       distance = p.0.1.0;
-      start = p.0.1.1;
+      start = p.0.1.1.0;
+      form = p.0.1.1.1;
       text = p.1.1.0;
       name = p.1.1.1;
       fault = p.1.0;

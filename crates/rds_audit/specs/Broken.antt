@@ -1,26 +1,37 @@
 -- What a fault of each name means, over the rules of the audit (this project's own). Lists have the newest first.
-use Rattle.std.specs.Prelude.{◌≡◌, ◌⊎◌, ◌≤◌, ◌<◌, ◌+◌, ◌++◌, ◌∷◌, [], ℕ, List, Option, length}
+use Rattle.std.specs.Prelude.{◌≡◌, ◌⊎◌, ◌≤◌, ◌<◌, ◌+◌, ◌++◌, ◌∷◌, [], ℕ, Bool, true, false, List, Option, length}
 use Rattle.std.specs.List.{AllByRecursion}
 use Rattle.rds_fields.specs.declared.message.Message.{Message}
 use Rattle.rds_audit.specs.declared.audit.AuditFault.{AuditFault}
 use Rattle.rds_audit.specs.declared.audit.AuditFault.TheVariants.{Changed, NotOneText, EarlyFlag}
 use Rattle.rds_audit.specs.declared.audit.AuditFault.TheVariants.{EarlyTag, TagOutside}
+use Rattle.rds_receiver.specs.declared.fragment.Fragment.{Fragment}
+use Rattle.rds_audit.specs.Forms.{text_kind}
+use Rattle.rds_audit.specs.declared.text_form.TextForm.{TextForm}
+use Rattle.rds_audit.specs.Lengths.{is_other, sent_last}
 use Rattle.rds_audit.specs.Listing.{IsFaultOf}
 use Rattle.rds_audit.specs.ListingLaws.{IsFormedMessage}
 use Rattle.rds_audit.specs.Reigns.{Reign, reigns}
-use Rattle.rds_audit.specs.Rules.{AreUnchanged, HaveOneValue, LogPasses}
-use Rattle.rds_safety.specs.Lawful.{Kind, names, texts}
+use Rattle.rds_audit.specs.Rules.{HaveOneValue, LogPasses}
+use Rattle.rds_safety.specs.Lawful.{Kind, names}
 use Rattle.rds_safety.specs.Marks.{Mark, Nothing, Sends, Tagged, marks, name_mark, text_mark}
 
+-- the newest of these fragments has other bytes than its address was sent with last
+abbrev pub has_other_bytes : List Fragment → Bool
+has_other_bytes [] = false
+has_other_bytes (p ∷ older) = is_other (sent_last p.address older) p.bytes
+
 -- the rule that a fragment breaks first, by the newest reign with it: the reign opened before its broadcast can have
--- started; or else an address was sent with other bytes; or else no value has its fragments; or else one has, and tags
--- end past each such value
+-- started; or else no value has its fragments, and the newest one has other bytes than its address was sent with last;
+-- or
+-- else no value has them; or else one has, and tags end past each such value
 abbrev pub BreaksByFragment : Kind → List Reign → AuditFault → Type 0
 BreaksByFragment kind [] fault = ⊥
 BreaksByFragment kind (r ∷ older) EarlyFlag = r.opened < r.start
-BreaksByFragment kind (r ∷ older) Changed = (r.start ≤ r.opened) × (AreUnchanged r.fragments → ⊥)
+BreaksByFragment kind (r ∷ older) Changed =
+    (r.start ≤ r.opened) × (has_other_bytes r.fragments ≡ true) × (HaveOneValue kind r.fragments [] → ⊥)
 BreaksByFragment kind (r ∷ older) NotOneText =
-    (r.start ≤ r.opened) × AreUnchanged r.fragments × (HaveOneValue kind r.fragments [] → ⊥)
+    (r.start ≤ r.opened) × (has_other_bytes r.fragments ≡ false) × (HaveOneValue kind r.fragments [] → ⊥)
 BreaksByFragment kind (r ∷ older) TagOutside =
     (r.start ≤ r.opened) × HaveOneValue kind r.fragments [] × (HaveOneValue kind r.fragments r.tags → ⊥)
 BreaksByFragment kind (r ∷ older) EarlyTag = ⊥
@@ -43,19 +54,20 @@ BreaksRule d kind (Sends p) before fault = BreaksByFragment kind (reigns d (Send
 BreaksRule d kind (Tagged pair) before fault =
     BreaksByTags d kind (length before) (reigns d (Tagged pair ∷ before)) fault
 
--- the log passes up to some slot, and this is the rule that its next slot breaks first, for texts or for names
-pub record FailsBy (d : ℕ) (log : List (Option Message)) (fault : AuditFault) : Type 0 where
+-- the log passes up to some slot, and this is the rule that its next slot breaks first, for texts of this form or for
+-- names
+pub record FailsBy (form : TextForm) (d : ℕ) (log : List (Option Message)) (fault : AuditFault) : Type 0 where
   pub later : List (Option Message)
   pub newest : Option Message
   pub before : List (Option Message)
   pub slots : log ≡ later ++ newest ∷ before
-  pub passed : LogPasses d before
-  pub breaks : BreaksRule d texts (text_mark newest) (marks text_mark before) fault
+  pub passed : LogPasses form d before
+  pub breaks : BreaksRule d (text_kind form) (text_mark newest) (marks text_mark before) fault
       ⊎ BreaksRule d names (name_mark newest) (marks name_mark before) fault
 
 -- the fault of a log of messages in the form that is sent has the name of the rule that its first failing slot breaks
 -- first
 abbrev pub FaultsBreakTheirRules : Type 0
 FaultsBreakTheirRules =
-    (d : ℕ) (log : List (Option Message)) (fault : AuditFault) → AllByRecursion IsFormedMessage log
-    → IsFaultOf d log fault → FailsBy d log fault
+    (form : TextForm) (d : ℕ) (log : List (Option Message)) (fault : AuditFault) → AllByRecursion IsFormedMessage log
+    → IsFaultOf form d log fault → FailsBy form d log fault

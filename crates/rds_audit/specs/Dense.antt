@@ -8,7 +8,9 @@ use Rattle.rds_encoder.specs.Plan.{Broadcast, Covers, HasNumber}
 use Rattle.rds_receiver.specs.declared.fragment.Fragment.{Fragment}
 use Rattle.rds_safety.specs.Lawful.{IsLawful, Kind}
 use Rattle.rds_safety.specs.Marks.{IsMarkIn, Mark, Nothing, Sends, Tagged, marks, name_mark, text_mark}
-use Rattle.rds_safety.specs.Plans.{AreLawful, Plans}
+use Rattle.rds_safety.specs.Plans.{AreLawfulAs, Plans}
+use Rattle.rds_audit.specs.Forms.{text_kind}
+use Rattle.rds_audit.specs.declared.text_form.TextForm.{TextForm}
 
 -- a fragment or tags were sent in the slot
 pub record IsMarked (sent : List Mark) (slot : ℕ) : Type 0 where
@@ -51,8 +53,8 @@ pub record HasPlan (d : ℕ) (kind : Kind) (sent : List Mark) : Type 0 where
   pub lawful : IsLawful d kind plan sent
   pub dense : IsDense d plan sent
 
--- the log has plans of texts and of names that are lawful and dense
-pub record HasPlans (d : ℕ) (log : List (Option Message)) : Type 0 where
+-- the log has plans of texts of this form, and of names, that are lawful and dense
+pub record HasPlans (form : TextForm) (d : ℕ) (log : List (Option Message)) : Type 0 where
   pub plans : Plans
-  pub lawful : AreLawful d plans log
+  pub lawful : AreLawfulAs (text_kind form) d plans log
   pub dense : AreDense d plans log

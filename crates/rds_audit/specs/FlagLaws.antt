@@ -13,6 +13,7 @@ use Rattle.rds_safety.specs.Safe.{Listener, ShowsNoTags}
 use Rattle.rds_audit.specs.Dense.{AreDense}
 use Rattle.rds_audit.specs.Reigns.{AlternateFlags, IsOfEachTwo, Reign, reigns}
 use Rattle.rds_audit.specs.Rules.{LogPasses}
+use Rattle.rds_audit.specs.declared.text_form.TextForm.TheVariants.{Plain}
 
 -- once the receiver heard a segment, it heard one of each later reign that another one follows by slot `now`
 abbrev pub HearsEachReign : (Message → Option Fragment) → ℕ → Input → List Reign → Type 0
@@ -76,6 +77,7 @@ pub record NamesAreSafeByFlag (d : ℕ) (log : List (Option Message)) : Type 0 w
       → HearsEachReign name_fragment now r.input (reigns d (marks name_mark log))
       → IfSome r.view.name (IsOfItsSource plans.name r.input (run_by_flag name_fragment r.input))
 
--- this holds for each log that passes
+-- this holds for each log that passes without padding
 abbrev pub WhatPassesIsSafeByTheFlag : Type 0
-WhatPassesIsSafeByTheFlag = (d : ℕ) (log : List (Option Message)) → 0 < d → LogPasses d log → IsSafeByFlag d log
+WhatPassesIsSafeByTheFlag =
+    (d : ℕ) (log : List (Option Message)) → 0 < d → LogPasses Plain d log → IsSafeByFlag d log

@@ -1,5 +1,6 @@
 -- The audit of a log of sent groups. Read the files in this order: the rules of a log, the list of all its faults, then
 -- the state of the audit, then the laws that lead from a log that passes to safety.
+pub mod Forms
 pub mod Dense
 pub mod Recording
 pub mod Judging

@@ -1,9 +1,10 @@
 -- The list of all faults of a log (this project's own rule). It judges spans. A span is a reign with two marks. Other
--- bytes at an address of the current span begin a span too, as though the flag had turned. Each span has each fault at
+-- bytes at an address of the current span begin a span too, as though the flag had turned, if no value has both. Each
+-- span has each fault at
 -- most once, in the first slot in which it breaks the rule. Lists have the newest first.
 use Rattle.std.specs.Prelude.{◌≡◌, ◌+◌, ◌==◌, ◌&&◌, ◌||◌, [], ◌∷◌, ℕ, Bool, true, false, List, Option, Some, None}
-use Rattle.std.specs.Prelude.{is_some, length, map, max, nat_le, nat_lt, not, if◌then◌else◌}
-use Rattle.std.specs.List.{list_all, list_any}
+use Rattle.std.specs.Prelude.{length, map, max, nat_lt, not, if◌then◌else◌}
+use Rattle.std.specs.List.{list_any}
 use Rattle.rds_fields.specs.declared.message.Message.{Message}
 use Rattle.rds_fields.specs.Tag.{PairFields}
 use Rattle.rds_receiver.specs.declared.fragment.Fragment.{Fragment}
@@ -13,7 +14,8 @@ use Rattle.rds_audit.specs.declared.audit.AuditFault.TheVariants.{Changed, NotOn
 use Rattle.rds_audit.specs.declared.audit.AuditFault.TheVariants.{EarlyTag, TagOutside}
 use Rattle.rds_audit.specs.declared.audited.Lengths.{Lengths}
 use Rattle.rds_audit.specs.declared.fault_set.FaultSet.{FaultSet}
-use Rattle.rds_audit.specs.Lengths.{Gauge, lengths_of, name_gauge, sent_last, tags_end, text_gauge}
+use Rattle.rds_audit.specs.Lengths.{Gauge, all_fit, changes, gauge_of, lengths_of, name_gauge, tags_end}
+use Rattle.rds_audit.specs.declared.text_form.TextForm.{TextForm}
 use Rattle.rds_audit.specs.Reigns.{Reign, SentTags, opened_from, past_newest, with_fragment, with_tags}
 use Rattle.rds_safety.specs.Marks.{Mark, Nothing, Sends, Tagged, marks, name_mark, text_mark}
 
@@ -28,12 +30,6 @@ pub record Span : Type 0 where
 
 abbrev pub reigns_of : List Span → List Reign
 reigns_of rs = map (λ (r : Span). r.reign) rs
-
-abbrev pub same_bytes : List ℕ → List ℕ → Bool
-same_bytes [] [] = true
-same_bytes [] (c ∷ cs) = false
-same_bytes (b ∷ bs) [] = false
-same_bytes (b ∷ bs) (c ∷ cs) = b == c && same_bytes bs cs
 
 -- the span that a fragment opens, which can have started in the slot `start`
 abbrev pub first_of_span : ℕ → Fragment → ℕ → Bool → Bool → Span
@@ -54,20 +50,19 @@ turned d slot p is_changed r older =
     let is_early = nat_lt slot (due_after d r older) in
     first_of_span slot p (if is_early then r.reign.last + 1 else due_after d r older) is_changed is_early ∷ r ∷ older
 
--- these spans after a fragment with the flag of r, less than d slots after r: it joins r, except if r has other bytes
--- at its address
-abbrev pub joined : ℕ → ℕ → Fragment → Option (List ℕ) → Span → List Span → List Span
-joined d slot p None r older = span_with slot p r ∷ older
-joined d slot p (Some bytes) r older =
-    if same_bytes p.bytes bytes then span_with slot p r ∷ older
-    else turned d slot p true r older
+-- these spans after a fragment with the flag of r, less than d slots after r: it joins r, except if it changes the
+-- value
+-- of r
+abbrev pub joined : Gauge → ℕ → ℕ → Fragment → Span → List Span → List Span
+joined g d slot p r older =
+    if changes g r.reign.fragments p then turned d slot p true r older else span_with slot p r ∷ older
 
 -- these spans after one more fragment
-abbrev pub spans_after : ℕ → ℕ → Fragment → List Span → List Span
-spans_after d slot p [] = first_of_span slot p 0 false false ∷ []
-spans_after d slot p (r ∷ older) =
+abbrev pub spans_after : Gauge → ℕ → ℕ → Fragment → List Span → List Span
+spans_after g d slot p [] = first_of_span slot p 0 false false ∷ []
+spans_after g d slot p (r ∷ older) =
     if is_same r.reign.flag p.flag
-    then (if nat_lt slot (r.reign.last + d) then joined d slot p (sent_last p.address r.reign.fragments) r older
+    then (if nat_lt slot (r.reign.last + d) then joined g d slot p r older
     else first_of_span slot p (r.reign.last + d) false false ∷ r ∷ older)
     else turned d slot p false r older
 
@@ -77,27 +72,26 @@ spans_tagged slot pair [] = []
 spans_tagged slot pair (r ∷ older) = record r { reign = with_tags slot pair r.reign } ∷ older
 
 -- these spans after one more mark
-abbrev pub spans_marked : ℕ → ℕ → Mark → List Span → List Span
-spans_marked d slot Nothing rs = rs
-spans_marked d slot (Sends p) rs = spans_after d slot p rs
-spans_marked d slot (Tagged pair) rs = spans_tagged slot pair rs
+abbrev pub spans_marked : Gauge → ℕ → ℕ → Mark → List Span → List Span
+spans_marked g d slot Nothing rs = rs
+spans_marked g d slot (Sends p) rs = spans_after g d slot p rs
+spans_marked g d slot (Tagged pair) rs = spans_tagged slot pair rs
 
 -- the spans of the marks of a service
-abbrev pub spans : ℕ → List Mark → List Span
-spans d [] = []
-spans d (mark ∷ before) = spans_marked d (length before) mark (spans d before)
+abbrev pub spans : Gauge → ℕ → List Mark → List Span
+spans g d [] = []
+spans g d (mark ∷ before) = spans_marked g d (length before) mark (spans g d before)
 
 -- ---- what a span breaks
 
--- the lengths that the fragments of a span leave. A fragment that fits no text leaves them as they are
+-- the lengths that the fragments of a span leave. Of texts without padding, a fragment that fits no text leaves them as
+-- they are; of texts with padding, one that fits none beside those before it
 abbrev pub lengths_in : Gauge → Span → Lengths
-lengths_in g r = lengths_of g.allowed g.longest r.reign.fragments
+lengths_in g r = lengths_of g r.reign.fragments
 
--- each fragment fits some text, and they leave a length
+-- each fragment fits those before it
 abbrev pub fits : Gauge → Span → Bool
-fits g r =
-    list_all (λ (p : Fragment). is_some (g.allowed p.address p.bytes)) r.reign.fragments
-    && nat_le (lengths_in g r).least (lengths_in g r).most
+fits g r = all_fit g r.reign.fragments
 
 -- tags came less than d slots after the start
 abbrev pub has_early_tags : ℕ → Span → Bool
@@ -112,6 +106,14 @@ broken_by g d r = record {
   early_tag = has_early_tags d r;
   tag_outside = nat_lt (lengths_in g r).most (tags_end r.reign.tags);
 }
+
+-- this fault is one of these
+abbrev pub has_fault : FaultSet → AuditFault → Bool
+has_fault f Changed = f.changed
+has_fault f EarlyFlag = f.early_flag
+has_fault f NotOneText = f.not_one_text
+has_fault f EarlyTag = f.early_tag
+has_fault f TagOutside = f.tag_outside
 
 -- ---- the list
 
@@ -149,8 +151,8 @@ not_before old new = record {
 -- span did not have
 abbrev pub added : Gauge → ℕ → Mark → List Mark → FaultSet
 added g d mark before =
-    let older = spans d before in
-    let newer = spans d (mark ∷ before) in
+    let older = spans g d before in
+    let newer = spans g d (mark ∷ before) in
     if length newer == length older
     then not_before (broken_newest g d before older) (broken_newest g d (mark ∷ before) newer)
     else broken_newest g d (mark ∷ before) newer
@@ -170,10 +172,10 @@ both f g = record {
   tag_outside = f.tag_outside || g.tag_outside;
 }
 
--- the faults that the newest slot of a log adds to its list, for texts and for names
-abbrev pub slot_adds : ℕ → Option Message → List (Option Message) → FaultSet
-slot_adds d newest before =
-    both (added text_gauge d (text_mark newest) (marks text_mark before))
+-- the faults that the newest slot of a log adds to its list, for texts of this form and for names
+abbrev pub slot_adds : TextForm → ℕ → Option Message → List (Option Message) → FaultSet
+slot_adds form d newest before =
+    both (added (gauge_of form) d (text_mark newest) (marks text_mark before))
     (added name_gauge d (name_mark newest) (marks name_mark before))
 
 -- ---- the order of the faults of a slot
@@ -190,10 +192,10 @@ or_else None next = next
 or_else (Some fault) next = Some fault
 
 -- the fault of a log: the first one of the first slot that adds any to its list
-abbrev pub first_fault : ℕ → List (Option Message) → Option AuditFault
-first_fault d [] = None
-first_fault d (newest ∷ before) = or_else (first_fault d before) (first_of (slot_adds d newest before))
+abbrev pub first_fault : TextForm → ℕ → List (Option Message) → Option AuditFault
+first_fault form d [] = None
+first_fault form d (newest ∷ before) = or_else (first_fault form d before) (first_of (slot_adds form d newest before))
 
 -- this is the fault of the log
-abbrev pub IsFaultOf : ℕ → List (Option Message) → AuditFault → Type 0
-IsFaultOf d log fault = first_fault d log ≡ Some fault
+abbrev pub IsFaultOf : TextForm → ℕ → List (Option Message) → AuditFault → Type 0
+IsFaultOf form d log fault = first_fault form d log ≡ Some fault

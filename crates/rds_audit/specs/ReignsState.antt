@@ -1,12 +1,12 @@
 -- The state of the reigns of a service.
-use Rattle.std.specs.Prelude.{◌≡◌, ◌≤◌, ◌⊎◌}
-use Rattle.std.specs.Prelude.{ℕ, Bool, true, List, Option, Some, None, is_some, max}
+use Rattle.std.specs.Prelude.{◌&&◌, ℕ, Bool, List, Option, Some, None, max, not}
 use Rattle.std.specs.Prelude.{refl, replicate, slice_index_or, slice_set}
 use Rattle.std.specs.Coded.{Coded, code_by, coded×, coded_ℕ, coded_bool, coded_list, coded_option}
 use Rattle.rds_fields.specs.Tag.{PairFields}
 use Rattle.rds_audit.specs.declared.audited.Lengths.{Lengths}
 use Rattle.rds_audit.specs.Ages.{Ages}
-use Rattle.rds_audit.specs.Lengths.{narrowed, pair_end}
+use Rattle.rds_audit.specs.declared.audited.Measured.{Measured}
+use Rattle.rds_audit.specs.Lengths.{Gauge, is_other, pair_end}
 
 -- the content of a reign: the bytes at each address, the lengths that its fragments allow, and the greatest end of its
 -- tags
@@ -28,32 +28,28 @@ no_content longest = record { cells = replicate 16 None; lengths = record { leas
 abbrev pub cell_at : ℕ → ContentState → Option (List ℕ)
 cell_at a c = slice_index_or c.cells a None
 
--- the address holds nothing, or these bytes
-abbrev pub HoldsNoOther : ℕ → List ℕ → ContentState → Type 0
-HoldsNoOther address bytes c = (cell_at address c ≡ None) ⊎ (cell_at address c ≡ Some bytes)
+-- what a fragment leaves of the lengths
+abbrev pub measured_in : Gauge → ℕ → List ℕ → ContentState → Measured
+measured_in g address bytes c = g.measure c.cells c.lengths address bytes
 
--- some length is in both ranges
-pub record HasCommonLength (allowed : Option Lengths) (l : Lengths) : Type 0 where
-  pub some : is_some allowed ≡ true
-  pub room : (narrowed allowed l).least ≤ (narrowed allowed l).most
+-- a fragment changes the value: its address was sent with other bytes, and no value has both
+abbrev pub changes_in : Gauge → ℕ → List ℕ → ContentState → Bool
+changes_in g address bytes c =
+    is_other (cell_at address c) bytes && not (g.bends && (measured_in g address bytes c).fits)
 
--- the content with these bytes at an address
-abbrev pub taken : Option Lengths → ℕ → List ℕ → ContentState → ContentState
-taken allowed address bytes c =
-    record {
-      cells = slice_set c.cells address (Some bytes);
-      lengths = narrowed allowed c.lengths;
-      tags_end = c.tags_end;
-    }
+-- the content with these bytes at an address, and with these lengths
+abbrev pub taken : Lengths → ℕ → List ℕ → ContentState → ContentState
+taken lengths address bytes c =
+    record { cells = slice_set c.cells address (Some bytes); lengths = lengths; tags_end = c.tags_end }
 
 -- the content with one more pair of tags
 abbrev pub tagged : PairFields → ContentState → ContentState
 tagged pair c = record { cells = c.cells; lengths = c.lengths; tags_end = max c.tags_end (pair_end pair) }
 
 -- the state after a fragment joined the current reign
-abbrev pub joined_state : Option Lengths → ℕ → List ℕ → ReignsState → ReignsState
-joined_state allowed address bytes st =
-    record { ages = record st.ages { since_last = 0 }; content = taken allowed address bytes st.content }
+abbrev pub joined_state : Lengths → ℕ → List ℕ → ReignsState → ReignsState
+joined_state lengths address bytes st =
+    record { ages = record st.ages { since_last = 0 }; content = taken lengths address bytes st.content }
 
 -- the state after tags were sent
 abbrev pub tagged_state : PairFields → ReignsState → ReignsState

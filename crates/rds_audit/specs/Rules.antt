@@ -5,15 +5,17 @@ use Rattle.std.specs.List.{AllByRecursion}
 use Rattle.rds_fields.specs.declared.message.Message.{Message}
 use Rattle.rds_fields.specs.Tag.{BothEndIn, PairFields}
 use Rattle.rds_receiver.specs.declared.fragment.Fragment.{Fragment}
-use Rattle.rds_safety.specs.Lawful.{IsFragmentOf, Kind, names, texts}
+use Rattle.rds_safety.specs.Lawful.{Kind, names}
 use Rattle.rds_safety.specs.Marks.{IsMarkIn, Mark, Sends, Tagged, marks, name_mark, text_mark}
+use Rattle.rds_audit.specs.Forms.{text_kind}
 use Rattle.rds_audit.specs.Reigns.{Reign, SentTags, reigns}
+use Rattle.rds_audit.specs.declared.text_form.TextForm.{TextForm}
 
 -- some valid value has all of the fragments, and all of the tags end in it
 pub record HaveOneValue (kind : Kind) (fragments : List Fragment) (tags : List SentTags) : Type 0 where
   pub value : List ℕ
   pub valid : kind.IsValue value
-  pub has : AllByRecursion (IsFragmentOf (kind.body value)) fragments
+  pub has : AllByRecursion (kind.HasPart value) fragments
   pub ends : AllByRecursion (λ (s : SentTags). BothEndIn (length value) s.pair) tags
 
 -- the reign can be a broadcast from its start to its last slot: it starts no later than its first fragment, its tags
@@ -35,9 +37,9 @@ pub record Passes (d : ℕ) (kind : Kind) (sent : List Mark) : Type 0 where
   pub reigns : AllByRecursion (CanBeBroadcast d kind) (reigns d sent)
   pub tagged : (t : ℕ) (pair : PairFields) → IsMarkIn sent t (Tagged pair) → IsAfterFragment sent t
 
--- a log passes: its texts pass, and its names pass
-pub record LogPasses (d : ℕ) (log : List (Option Message)) : Type 0 where
-  pub text : Passes d texts (marks text_mark log)
+-- a log passes: its texts of this form pass, and its names pass
+pub record LogPasses (form : TextForm) (d : ℕ) (log : List (Option Message)) : Type 0 where
+  pub text : Passes d (text_kind form) (marks text_mark log)
   pub name : Passes d names (marks name_mark log)
 
 -- no address changed: each was sent with the same bytes only

@@ -3,7 +3,7 @@ use Rattle.std.specs.Prelude.{ℕ, ◌≡◌, ◌<◌, ◌≤◌, ◌==◌, List
 use Rattle.rds_fields.specs.Stored.{is_set}
 use Rattle.rds_audit.specs.Ages.{Ages}
 use Rattle.rds_audit.specs.ReignsState.{ContentState, ReignsState}
-use Rattle.rds_audit.specs.AuditState.{AuditState, SpansState, start_if}
+use Rattle.rds_audit.specs.AuditState.{AuditState, SpansState, form_if, start_if}
 use Rattle.rds_audit.specs.declared.audit.AuditFault.{AuditFault}
 use Rattle.rds_audit.specs.declared.audit.AuditFault.TheVariants.{Changed, NotOneText, EarlyFlag}
 use Rattle.rds_audit.specs.declared.audit.AuditFault.TheVariants.{EarlyTag, TagOutside}
@@ -73,6 +73,7 @@ audit_stored l = record {
   programme = l.pi;
   distance = l.distance;
   start = start_if (is_set l.is_running);
+  form = form_if (is_set l.is_padded);
   text = spans_stored l.text;
   name = spans_stored l.name;
   fault = fault_stored l.fault;
@@ -96,4 +97,5 @@ pub record KeepsLog (old new : StoredAudit) : Type 0 where
   pub programme : new.pi ≡ old.pi
   pub distance : new.distance ≡ old.distance
   pub start : new.is_running ≡ old.is_running
+  pub form : new.is_padded ≡ old.is_padded
   pub fault : new.fault ≡ old.fault

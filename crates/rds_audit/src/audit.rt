@@ -2,20 +2,22 @@
 ghost use Rattle.std.specs.Prelude.{◌≡◌, ◌+◌, ◌-◌, ◌<◌, ◌^◌, ◌↔◌, [], ℕ, List, Option, None, IsTrue, length, min};
 ghost use Rattle.rds_block.specs.declared.group.Group.{Group};
 ghost use Rattle.rds_audit.specs.declared.log_start.LogStart.TheVariants as LogStart;
+ghost use Rattle.rds_audit.specs.declared.text_form.TextForm.TheVariants as TextForm;
 ghost use Rattle.rds_audit.specs.AuditLaws.{IsSafeLog, IsSafeRecording};
 ghost use Rattle.rds_audit.specs.AuditAt.{AuditAt, FollowsLog, TakesAll, AuditTakesSlot};
 ghost use Rattle.rds_audit.specs.AuditAt.{WhereItFollows, WhereTheAuditStands};
 ghost use Rattle.rds_audit.specs.Dense.{HasPlans};
 ghost use Rattle.rds_audit.specs.FlagLaws.{NamesAreSafeByFlag, TextsAreSafeByFlag};
+ghost use Rattle.rds_audit.specs.Lengths.{gauge_of, name_gauge};
 ghost use Rattle.rds_audit.specs.Listing.{spans};
 ghost use Rattle.rds_audit.specs.Reigns.{AlternateFlags, reigns};
 ghost use Rattle.rds_audit.specs.Rules.{LogPasses};
 ghost use Rattle.rds_audit.specs.Stored.{IsStoredAudit, audit_stored};
 ghost use Rattle.rds_safety.specs.Marks.{marks, name_mark, text_mark};
 
-use crate::audited::{Names, Texts};
+use crate::audited::Names;
 use crate::stored::{StoredAudit, StoredSpans};
-use crate::{FaultSet, LogStart};
+use crate::{FaultSet, LogStart, TextForm};
 use rds_block::{Blocks, Group};
 use rds_fields::{Distance, Dwell, Late};
 use std::marker::Model;
@@ -74,27 +76,30 @@ impl Audit {
         ensures follows { FollowsLog pi (dwell + late) result [] }
         ensures passed { result.fault ≡ None }
         ensures start { result.start ≡ LogStart.Complete }
+        ensures form { result.form ≡ TextForm.Plain }
     {
-        Audit::starting(pi, dwell, late, LogStart::Complete)
+        Audit::starting(pi, dwell, late, LogStart::Complete, TextForm::Plain)
     }
 
-    /// Does the same as [`new`](Self::new) for a log that begins so.
-    pub fn starting(pi: u16, dwell: Dwell, late: Late, start: LogStart) -> Audit
+    /// Does the same as [`new`](Self::new) for a log that begins so, and whose texts have this form.
+    pub fn starting(pi: u16, dwell: Dwell, late: Late, start: LogStart, form: TextForm) -> Audit
         ensures stands { AuditAt pi (dwell + late) result [] }
         ensures follows { FollowsLog pi (dwell + late) result [] }
         ensures passed { result.fault ≡ None }
         ensures start { result.start ≡ start }
+        ensures form { result.form ≡ form }
     {
         let distance = Distance::new(dwell, late);
         Audit {
             state: StoredAudit {
                 tags: 0,
-                text: StoredSpans::new::<Texts>(distance, start),
+                text: StoredSpans::of_texts(distance, start, form),
                 name: StoredSpans::new::<Names>(distance, start),
                 distance: distance.get(),
                 pi,
                 fault: AuditFault::code(None),
                 is_running: start.stored(),
+                is_padded: form.stored(),
             },
         }
     }
@@ -151,12 +156,12 @@ impl Audit {
     /// first text segment.
     pub fn passed(&self) -> bool
         ensures fault { IsTrue result ↔ (self.now.fault ≡ None) }
-        ensures passes { WhereTheAuditStands self.now (λ d heard. IsTrue result ↔ LogPasses d heard) }
-        ensures plans { WhereTheAuditStands self.now (λ d heard. IsTrue result ↔ HasPlans d heard) }
+        ensures passes { WhereTheAuditStands self.now (λ d heard. IsTrue result ↔ LogPasses self.now.form d heard) }
+        ensures plans { WhereTheAuditStands self.now (λ d heard. IsTrue result ↔ HasPlans self.now.form d heard) }
         ensures safe { WhereTheAuditStands self.now (λ d heard. (m k : ℕ) → 0 < m → m + k ≡ d
-            → IsTrue result → IsSafeLog m k heard) }
+            → IsTrue result → IsSafeLog self.now.form m k heard) }
         ensures recording { (pi m k : ℕ) (log : List (Option Group)) → (s : AuditAt pi (m + k) self.now log)
-            → self.now.start ≡ LogStart.Running → 0 < m → IsTrue result → IsSafeRecording m k s.heard }
+            → self.now.start ≡ LogStart.Running → 0 < m → IsTrue result → IsSafeRecording self.now.form m k s.heard }
     {
         self.state.passed()
     }
@@ -165,7 +170,7 @@ impl Audit {
     /// number stops at 2^64 - 1.
     pub fn texts(&self) -> u64
         ensures { WhereItFollows self.now (λ d heard. result
-            ≡ min (length (spans d (marks text_mark heard))) (2 ^ 64 - 1)) }
+            ≡ min (length (spans (gauge_of self.now.form) d (marks text_mark heard))) (2 ^ 64 - 1)) }
     {
         self.state.text.count
     }
@@ -173,9 +178,15 @@ impl Audit {
     /// Returns how many names the log has so far, as for texts.
     pub fn names(&self) -> u64
         ensures { WhereItFollows self.now (λ d heard. result
-            ≡ min (length (spans d (marks name_mark heard))) (2 ^ 64 - 1)) }
+            ≡ min (length (spans name_gauge d (marks name_mark heard))) (2 ^ 64 - 1)) }
     {
         self.state.name.count
+    }
+
+    /// Returns whether some text has all segments of the current text, with padding, for a person: if not, receivers
+    /// show a mistake too. No contract speaks of it.
+    pub fn fits_padded(&self) -> bool {
+        self.state.text.reigns.fits_padded()
     }
 
     /// Returns how many pairs of tags were judged so far, for a person. No contract speaks of it.
@@ -187,8 +198,9 @@ impl Audit {
     /// has no dwell, and heard a segment of each text, shows no mix.
     pub fn texts_turn_the_flag(&self) -> bool
         ensures turns { WhereTheAuditStands self.now (λ d heard. IsTrue result
-            ↔ (LogPasses d heard × AlternateFlags (reigns d (marks text_mark heard)))) }
-        ensures safe { WhereTheAuditStands self.now (λ d heard. IsTrue result → TextsAreSafeByFlag d heard) }
+            ↔ (LogPasses self.now.form d heard × AlternateFlags (reigns d (marks text_mark heard)))) }
+        ensures safe { WhereTheAuditStands self.now (λ d heard. self.now.form ≡ TextForm.Plain → IsTrue result
+            → TextsAreSafeByFlag d heard) }
     {
         self.state.texts_turn_the_flag()
     }
@@ -197,8 +209,9 @@ impl Audit {
     /// has no dwell, and heard a segment of each name, shows no mix.
     pub fn names_turn_the_flag(&self) -> bool
         ensures turns { WhereTheAuditStands self.now (λ d heard. IsTrue result
-            ↔ (LogPasses d heard × AlternateFlags (reigns d (marks name_mark heard)))) }
-        ensures safe { WhereTheAuditStands self.now (λ d heard. IsTrue result → NamesAreSafeByFlag d heard) }
+            ↔ (LogPasses self.now.form d heard × AlternateFlags (reigns d (marks name_mark heard)))) }
+        ensures safe { WhereTheAuditStands self.now (λ d heard. self.now.form ≡ TextForm.Plain → IsTrue result
+            → NamesAreSafeByFlag d heard) }
     {
         self.state.names_turn_the_flag()
     }

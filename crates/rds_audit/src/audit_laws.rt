@@ -6,9 +6,12 @@ ghost use Rattle.rds_audit.specs.AuditLaws.{WhatPassesIsSafe};
 ghost use Rattle.rds_audit.specs.Broken.{FaultsBreakTheirRules};
 ghost use Rattle.rds_audit.specs.FlagLaws.{WhatPassesIsSafeByTheFlag, WithoutPauseFlagsAlternate};
 ghost use Rattle.rds_audit.specs.ListingLaws.{SpansAreReigns, WhatHasNoFaultPasses, WhatPassesAddsNothing};
-ghost use Rattle.rds_safety.specs.Lawful.{names, texts};
+ghost use Rattle.rds_audit.specs.Forms.{text_kind};
+ghost use Rattle.rds_audit.specs.Lengths.{gauge_of, name_gauge};
+ghost use Rattle.rds_audit.specs.declared.text_form.TextForm.{TextForm};
+ghost use Rattle.rds_safety.specs.Lawful.{names};
 
-use rds_safety::{own_clocks, plan_laws, safe_by_plans, safe_by_the_flag};
+use rds_safety::{own_clocks, plan_laws, safe_by_padded_plans, safe_by_plans, safe_by_the_flag};
 
 /// States that a log passes exactly if it has plans of texts and of names that are lawful and dense.
 pub fn passes_by_plans()
@@ -19,7 +22,7 @@ pub fn passes_by_plans()
 
 /// States that for each lawful and dense plan, the broadcasts with a sent segment are the reigns, in order.
 pub fn broadcasts_are_the_reigns()
-    ensures texts { BroadcastsAreTheReigns texts }
+    ensures texts { (form : TextForm) → BroadcastsAreTheReigns (text_kind form) }
     ensures names { BroadcastsAreTheReigns names }
 {
     plan_laws();
@@ -31,6 +34,7 @@ pub fn what_passes_is_safe()
 {
     passes_by_plans();
     safe_by_plans();
+    safe_by_padded_plans();
 }
 
 /// States that plans which are lawful for what the audit judges of a recording make the views of all receivers of the
@@ -42,6 +46,7 @@ pub fn what_passes_as_a_recording_is_safe()
 {
     passes_by_plans();
     safe_by_plans();
+    safe_by_padded_plans();
     own_clocks();
 }
 
@@ -65,7 +70,7 @@ pub fn what_passes_is_safe_by_the_flag()
 
 /// States that up to the first fault the list of a log judges the reigns of the log, and is empty.
 pub fn the_list_judges_the_reigns()
-    ensures texts { SpansAreReigns texts }
-    ensures names { SpansAreReigns names }
+    ensures texts { (form : TextForm) → SpansAreReigns (gauge_of form) }
+    ensures names { SpansAreReigns name_gauge }
     ensures empty { WhatPassesAddsNothing }
 {}

@@ -1,11 +1,10 @@
 //! The content of a reign: its segments and tags.
-ghost use Rattle.std.specs.Prelude.{◌≡◌, ◌+◌, ◌<◌, ◌≤◌, ◌↔◌, IsOk, IsErr, IsTrue, IfOk, IfErr, None, Some};
-ghost use Rattle.rds_audit.specs.ReignsState.{HasCommonLength, HoldsNoOther, cell_at, no_content, tagged, taken};
-ghost use Rattle.rds_audit.specs.Lengths.{narrowed, pair_end, tag_end};
+ghost use Rattle.std.specs.Prelude.{◌≡◌, ◌<◌, ◌≤◌, ◌↔◌, IsTrue, None, Some};
+ghost use Rattle.rds_audit.specs.ReignsState.{cell_at, changes_in, measured_in, no_content, tagged, taken};
+ghost use Rattle.rds_audit.specs.Lengths.{measured_by, pair_end, tag_end};
 ghost use Rattle.rds_audit.specs.Stored.{ages_stored, cell_stored, content_stored};
 
-use crate::AuditFault;
-use crate::audited::{Audited, Lengths};
+use crate::audited::{Audited, Lengths, Measured, greatest_below};
 use crate::stored::{StoredCell, StoredReigns};
 use rds_fields::{Tag, TagPair};
 
@@ -41,23 +40,42 @@ impl StoredReigns {
         self.sent_at(address) == Some(bytes)
     }
 
-    /// Takes a segment, whatever the segments and tags before. One that fits no value leaves the lengths as they are.
-    /// Returns whether some value has the segments.
+    /// Takes a segment, whatever the segments and tags before. Returns whether some value has it beside the segments
+    /// before it.
     pub(crate) fn put<S: Audited>(&mut self, address: u8, bytes: [u8; 4]) -> bool
         requires { address < S.gauge.segments }
-        ensures fits { IsTrue result
-            ↔ HasCommonLength (S.gauge.allowed address bytes) (content_stored self.old).lengths }
+        ensures fits { result ≡ (measured_in S.gauge address bytes (content_stored self.old)).fits }
         ensures taken { content_stored self.new
-            ≡ taken (S.gauge.allowed address bytes) address bytes (content_stored self.old) }
+            ≡ taken (measured_in S.gauge address bytes (content_stored self.old)).lengths address bytes
+            (content_stored self.old) }
         ensures ages { ages_stored self.new ≡ ages_stored self.old }
     {
+        let measured = S::measure(self, address, bytes);
         self.cells[address as usize] = StoredCell { bytes, is_sent: 1 };
-        let Some(allowed) = S::lengths(address, bytes) else {
-            return false;
+        self.least = measured.lengths.least;
+        self.most = measured.lengths.most;
+        measured.fits
+    }
+
+    /// Returns what a segment leaves that allows these lengths.
+    pub(crate) fn narrowed(&self, allowed: Option<Lengths>) -> Measured
+        ensures { result ≡ measured_by allowed (content_stored self.now).lengths }
+    {
+        let Some(allowed) = allowed else {
+            return Measured {
+                lengths: Lengths {
+                    least: self.least,
+                    most: self.most,
+                },
+                fits: false,
+            };
         };
-        self.least = self.least.max(allowed.least);
-        self.most = self.most.min(allowed.most);
-        self.least <= self.most
+        let least = self.least.max(allowed.least);
+        let most = self.most.min(allowed.most);
+        Measured {
+            lengths: Lengths { least, most },
+            fits: least <= most,
+        }
     }
 
     /// Takes the ends of a pair of tags, wherever they are.
@@ -68,22 +86,30 @@ impl StoredReigns {
         self.tags_end = self.tags_end.max(end_of_pair(pair));
     }
 
-    /// Refuses a segment whose address was sent with other bytes. Error `Changed`.
-    pub(crate) fn check_unchanged(&self, address: u8, bytes: [u8; 4]) -> Result<(), AuditFault>
-        requires { address < 16 }
-        ensures same { IsOk result ↔ HoldsNoOther address bytes (content_stored self.now) }
-        ensures fault { IfErr result (λ fault. fault ≡ AuditFault.Changed) }
+    /// Returns whether the address was sent with other bytes, and no value has both.
+    pub(crate) fn is_changed_by<S: Audited>(&self, address: u8, bytes: [u8; 4]) -> bool
+        requires { address < S.gauge.segments }
+        ensures { result ≡ changes_in S.gauge address bytes (content_stored self.now) }
     {
-        if let Some(held) = self.sent_at(address) {
-            if held != bytes {
-                return Err(AuditFault::Changed);
-            }
+        let Some(held) = self.sent_at(address) else {
+            return false;
+        };
+        if held == bytes {
+            return false;
         }
-        Ok(())
+        if !S::BENDS {
+            return true;
+        }
+        !S::measure(self, address, bytes).fits
+    }
+
+    /// Returns whether some text has all of the segments, with padding. For a person; no contract speaks of it.
+    pub(crate) fn fits_padded(&self) -> bool {
+        greatest_below(65, &self.cells).is_some()
     }
 
     /// Returns the bytes that were sent at the address, if any.
-    fn sent_at(&self, address: u8) -> Option<[u8; 4]>
+    pub(crate) fn sent_at(&self, address: u8) -> Option<[u8; 4]>
         requires { address < 16 }
         ensures { result ≡ cell_at address (content_stored self.now) }
     {

@@ -1,6 +1,6 @@
 //! The rules that a text, a name or a slot breaks.
 ghost use Rattle.std.specs.Prelude.{◌≡◌, ◌↔◌, IsTrue, Some, None};
-ghost use Rattle.rds_audit.specs.Listing.{first_of, none_broken, not_before};
+ghost use Rattle.rds_audit.specs.Listing.{first_of, has_fault, none_broken, not_before};
 ghost use Rattle.rds_audit.specs.Stored.{AreBits, faults_stored};
 
 use crate::AuditFault;
@@ -28,6 +28,19 @@ impl FaultSet {
             not_one_text: false,
             early_tag: false,
             tag_outside: false,
+        }
+    }
+
+    /// Returns whether this fault is there.
+    pub fn has(self, fault: AuditFault) -> bool
+        ensures { result ≡ has_fault self fault }
+    {
+        match fault {
+            AuditFault::Changed => self.changed,
+            AuditFault::EarlyFlag => self.early_flag,
+            AuditFault::NotOneText => self.not_one_text,
+            AuditFault::EarlyTag => self.early_tag,
+            AuditFault::TagOutside => self.tag_outside,
         }
     }
 

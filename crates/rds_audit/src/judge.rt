@@ -1,10 +1,12 @@
 //! How a stored audit takes a slot, and what it says of the log.
-ghost use Rattle.std.specs.Prelude.{◌≡◌, ◌+◌, ◌<◌, ◌↔◌, ◌⊎◌, ◌∷◌, ℕ, true, false, List, Option, None, Some, Err, IsTrue};
+ghost use Rattle.std.specs.Prelude.{◌≡◌, ◌+◌, ◌<◌, ◌↔◌, ◌⊎◌, ◌∷◌, ℕ, true};
+ghost use Rattle.std.specs.Prelude.{false, List, Option, None, Some, Err, IsTrue};
 ghost use Rattle.rds_block.specs.declared.group.Group.{Group};
 ghost use Rattle.rds_fields.specs.declared.message.Message.{Message};
 ghost use Rattle.rds_receiver.specs.Receipts.{Hears};
 ghost use Rattle.rds_audit.specs.declared.audit.AuditFault.{AuditFault};
 ghost use Rattle.rds_audit.specs.declared.log_start.LogStart.TheVariants as LogStart;
+ghost use Rattle.rds_audit.specs.declared.text_form.TextForm.TheVariants as TextForm;
 ghost use Rattle.rds_audit.specs.AuditLaws.{IsSafeLog, IsSafeRecording};
 ghost use Rattle.rds_audit.specs.AuditAt.{AuditAt, EndsSlot, ListsMessage};
 ghost use Rattle.rds_audit.specs.AuditAt.{TakesAll, AuditTakesSlot, WhereTheAuditStands};
@@ -16,7 +18,7 @@ ghost use Rattle.rds_audit.specs.Rules.{LogPasses};
 ghost use Rattle.rds_audit.specs.Stored.{IsStoredAudit, KeepsLog, audit_stored};
 ghost use Rattle.rds_safety.specs.Marks.{marks, name_mark, text_mark};
 
-use crate::audited::{Names, Texts};
+use crate::audited::Names;
 use crate::stored::StoredAudit;
 use crate::{
     AuditFault, FaultSet, passes_by_plans, the_list_judges_the_reigns,
@@ -39,6 +41,7 @@ impl StoredAudit {
         ensures again { (fault : AuditFault) → (audit_stored self.old).fault ≡ Some fault
             → (result ≡ Err fault) × (self.new ≡ self.old) }
         ensures start { (audit_stored self.new).start ≡ (audit_stored self.old).start }
+        ensures form { (audit_stored self.new).form ≡ (audit_stored self.old).form }
         ensures good { IsStoredAudit self.old ↔ IsStoredAudit self.new }
     {
         if let Some(known) = AuditFault::of_code(self.fault) {
@@ -62,6 +65,7 @@ impl StoredAudit {
         ensures again { (fault : AuditFault) → (audit_stored self.old).fault ≡ Some fault
             → (audit_stored self.new).fault ≡ Some fault }
         ensures start { (audit_stored self.new).start ≡ (audit_stored self.old).start }
+        ensures form { (audit_stored self.new).form ≡ (audit_stored self.old).form }
         ensures good { IsStoredAudit self.old ↔ IsStoredAudit self.new }
     {
         let found = self.hear_group(group);
@@ -77,13 +81,16 @@ impl StoredAudit {
     /// Returns whether the log passes so far.
     pub fn passed(&self) -> bool
         ensures fault { IsTrue result ↔ ((audit_stored self.now).fault ≡ None) }
-        ensures passes { WhereTheAuditStands (audit_stored self.now) (λ d heard. IsTrue result ↔ LogPasses d heard) }
-        ensures plans { WhereTheAuditStands (audit_stored self.now) (λ d heard. IsTrue result ↔ HasPlans d heard) }
+        ensures passes { WhereTheAuditStands (audit_stored self.now) (λ d heard. IsTrue result ↔ LogPasses
+            (audit_stored self.now).form d heard) }
+        ensures plans { WhereTheAuditStands (audit_stored self.now) (λ d heard. IsTrue result ↔ HasPlans
+            (audit_stored self.now).form d heard) }
         ensures safe { WhereTheAuditStands (audit_stored self.now) (λ d heard. (m k : ℕ) → 0 < m → m + k ≡ d
-            → IsTrue result → IsSafeLog m k heard) }
+            → IsTrue result → IsSafeLog (audit_stored self.now).form m k heard) }
         ensures recording { (pi m k : ℕ) (log : List (Option Group))
             → (s : AuditAt pi (m + k) (audit_stored self.now) log)
-            → (audit_stored self.now).start ≡ LogStart.Running → 0 < m → IsTrue result → IsSafeRecording m k s.heard }
+            → (audit_stored self.now).start ≡ LogStart.Running → 0 < m → IsTrue result
+            → IsSafeRecording (audit_stored self.now).form m k s.heard }
     {
         // Prover: calls of laws, which give the clauses `plans`, `safe` and `recording` (docs/PROVER.md, "Idioms").
         passes_by_plans();
@@ -95,9 +102,9 @@ impl StoredAudit {
     /// Returns whether the log passes so far and turned the A/B flag with each new text.
     pub fn texts_turn_the_flag(&self) -> bool
         ensures turns { WhereTheAuditStands (audit_stored self.now) (λ d heard. IsTrue result
-            ↔ (LogPasses d heard × AlternateFlags (reigns d (marks text_mark heard)))) }
+            ↔ (LogPasses (audit_stored self.now).form d heard × AlternateFlags (reigns d (marks text_mark heard)))) }
         ensures safe { WhereTheAuditStands (audit_stored self.now)
-            (λ d heard. IsTrue result → TextsAreSafeByFlag d heard) }
+            (λ d heard. (audit_stored self.now).form ≡ TextForm.Plain → IsTrue result → TextsAreSafeByFlag d heard) }
     {
         // Prover: calls of laws (docs/PROVER.md, "Idioms").
         the_list_judges_the_reigns();
@@ -108,9 +115,9 @@ impl StoredAudit {
     /// Returns whether the log passes so far and turned the A/B flag with each new name.
     pub fn names_turn_the_flag(&self) -> bool
         ensures turns { WhereTheAuditStands (audit_stored self.now) (λ d heard. IsTrue result
-            ↔ (LogPasses d heard × AlternateFlags (reigns d (marks name_mark heard)))) }
+            ↔ (LogPasses (audit_stored self.now).form d heard × AlternateFlags (reigns d (marks name_mark heard)))) }
         ensures safe { WhereTheAuditStands (audit_stored self.now)
-            (λ d heard. IsTrue result → NamesAreSafeByFlag d heard) }
+            (λ d heard. (audit_stored self.now).form ≡ TextForm.Plain → IsTrue result → NamesAreSafeByFlag d heard) }
     {
         // Prover: calls of laws (docs/PROVER.md, "Idioms").
         the_list_judges_the_reigns();
@@ -146,9 +153,11 @@ impl StoredAudit {
                 flag,
                 address,
                 bytes,
-            } => self
-                .text
-                .take::<Texts>(distance, Fragment::new(flag, address, bytes)),
+            } => self.text.take_text(
+                self.is_padded,
+                distance,
+                Fragment::new(flag, address, bytes),
+            ),
             Message::Name {
                 flag,
                 address,
@@ -161,7 +170,7 @@ impl StoredAudit {
                     FaultSet::none()
                 } else {
                     self.tags = self.tags.saturating_add(1);
-                    self.text.take_tags::<Texts>(distance, pair)
+                    self.text.take_text_tags(self.is_padded, distance, pair)
                 }
             }
             Message::Announce { .. } | Message::Other => FaultSet::none(),
@@ -185,6 +194,7 @@ impl StoredAudit {
         ensures programme { self.new.pi ≡ self.old.pi }
         ensures distance { self.new.distance ≡ self.old.distance }
         ensures start { self.new.is_running ≡ self.old.is_running }
+        ensures form { self.new.is_padded ≡ self.old.is_padded }
         ensures first { (audit_stored self.old).fault ≡ None → (audit_stored self.new).fault ≡ fault }
         ensures again { (known : AuditFault) → (audit_stored self.old).fault ≡ Some known
             → (audit_stored self.new).fault ≡ Some known }

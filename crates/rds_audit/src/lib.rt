@@ -13,6 +13,7 @@ mod log_start;
 mod reigns;
 mod spans;
 mod stored;
+mod text_form;
 
 pub use audit::{Audit, AuditFault};
 pub use audit_laws::{
@@ -22,3 +23,4 @@ pub use audit_laws::{
 pub use fault_set::FaultSet;
 pub use log_start::LogStart;
 pub use stored::{StoredAudit, StoredCell, StoredFaults, StoredReigns, StoredSpans};
+pub use text_form::TextForm;

@@ -1,15 +1,17 @@
 //! The spans of a service: what a list of faults judges.
 ghost use Rattle.std.specs.Prelude.{◌≡◌, ◌+◌, ◌≤◌, ◌<◌, ◌^◌, ℕ, List};
+ghost use Rattle.rds_audit.specs.Lengths.{gauge_of};
 ghost use Rattle.rds_audit.specs.Listing.{added};
 ghost use Rattle.rds_audit.specs.AuditAt.{HoldsNewestSpans, HoldsSpans, WhereSpansHold};
-ghost use Rattle.rds_audit.specs.AuditState.{aged_in, judged_ends, opened_in, put_in, repeated_in, tagged_in};
+ghost use Rattle.rds_fields.specs.Stored.{is_set};
+ghost use Rattle.rds_audit.specs.AuditState.{aged_in, form_if, judged_ends, opened_in, put_in, repeated_in, tagged_in};
 ghost use Rattle.rds_audit.specs.Stored.{spans_stored};
 ghost use Rattle.rds_audit.specs.Recording.{silent_as};
 ghost use Rattle.rds_safety.specs.Marks.{Mark, Sends, Tagged};
 
-use crate::audited::Audited;
+use crate::audited::{Audited, PaddedTexts, Texts};
 use crate::stored::{StoredFaults, StoredReigns, StoredSpans};
-use crate::{FaultSet, LogStart};
+use crate::{FaultSet, LogStart, TextForm};
 use rds_fields::{Distance, TagPair};
 use rds_receiver::Fragment;
 
@@ -25,6 +27,50 @@ impl StoredSpans {
             apart: 0,
             reigns: StoredReigns::new::<S>(distance, start),
             broken: StoredFaults::none(),
+            repeats: 0,
+        }
+    }
+
+    /// Makes the state of texts of this form before the first slot of a log that begins so.
+    pub(crate) fn of_texts(distance: Distance, start: LogStart, form: TextForm) -> StoredSpans
+        requires { 0 < distance }
+        ensures { HoldsSpans (gauge_of form) distance (silent_as start distance) (spans_stored result) }
+    {
+        match form {
+            TextForm::Plain => StoredSpans::new::<Texts>(distance, start),
+            TextForm::Padded => StoredSpans::new::<PaddedTexts>(distance, start),
+        }
+    }
+
+    /// Does what [`take`](Self::take) does for texts of the stored form.
+    #[inline(always)]
+    pub(crate) fn take_text(&mut self, is_padded: u8, distance: u32, fragment: Fragment) -> FaultSet
+        requires { fragment.address < 16 }
+        ensures added { WhereSpansHold (gauge_of (form_if (is_set is_padded))) distance (spans_stored self.old)
+            (λ sent. result ≡ added (gauge_of (form_if (is_set is_padded))) distance (Sends fragment) sent) }
+        ensures holds { WhereSpansHold (gauge_of (form_if (is_set is_padded))) distance (spans_stored self.old)
+            (λ sent. HoldsNewestSpans (gauge_of (form_if (is_set is_padded))) distance (Sends fragment) sent
+            (spans_stored self.new)) }
+    {
+        if is_padded == 0 {
+            self.take::<Texts>(distance, fragment)
+        } else {
+            self.take::<PaddedTexts>(distance, fragment)
+        }
+    }
+
+    /// Does what [`take_tags`](Self::take_tags) does for texts of the stored form.
+    pub(crate) fn take_text_tags(&mut self, is_padded: u8, distance: u32, pair: TagPair) -> FaultSet
+        ensures added { WhereSpansHold (gauge_of (form_if (is_set is_padded))) distance (spans_stored self.old)
+            (λ sent. result ≡ added (gauge_of (form_if (is_set is_padded))) distance (Tagged pair) sent) }
+        ensures holds { WhereSpansHold (gauge_of (form_if (is_set is_padded))) distance (spans_stored self.old)
+            (λ sent. HoldsNewestSpans (gauge_of (form_if (is_set is_padded))) distance (Tagged pair) sent
+            (spans_stored self.new)) }
+    {
+        if is_padded == 0 {
+            self.take_tags::<Texts>(distance, pair)
+        } else {
+            self.take_tags::<PaddedTexts>(distance, pair)
         }
     }
 
@@ -42,6 +88,8 @@ impl StoredSpans {
             && self.reigns.has(fragment.address, fragment.bytes)
         {
             // what the span has already breaks no further rule
+            // Prover: a call of a law (docs/PROVER.md, "Idioms").
+            S::exact();
             self.reigns.renew();
             return FaultSet::none();
         }
@@ -58,13 +106,14 @@ impl StoredSpans {
         ensures holds { WhereSpansHold S.gauge distance (spans_stored self.old)
             (λ sent. HoldsNewestSpans S.gauge distance (Sends fragment) sent (spans_stored self.new)) }
     {
+        // Prover: a call of a law (docs/PROVER.md, "Idioms").
+        S::exact();
         if !self.reigns.joins(distance, fragment.flag) {
             return self.begin::<S>(distance, fragment, false);
         }
         if self
             .reigns
-            .check_unchanged(fragment.address, fragment.bytes)
-            .is_err()
+            .is_changed_by::<S>(fragment.address, fragment.bytes)
         {
             return self.begin::<S>(distance, fragment, true);
         }
@@ -80,6 +129,8 @@ impl StoredSpans {
         ensures holds { WhereSpansHold S.gauge distance (spans_stored self.old)
             (λ sent. HoldsNewestSpans S.gauge distance (Tagged pair) sent (spans_stored self.new)) }
     {
+        // Prover: a call of a law (docs/PROVER.md, "Idioms").
+        S::exact();
         let before = self.broken.get();
         self.add_tags(distance, pair);
         self.broken.get().not_in(before)
@@ -99,6 +150,7 @@ impl StoredSpans {
             (opened_in distance S.gauge.longest is_changed fragment.flag (spans_stored self.old)) }
         ensures faults { result ≡ (spans_stored self.new).broken }
     {
+        self.repeats = u8::from(self.reigns.has(fragment.address, fragment.bytes));
         self.open::<S>(distance, fragment.flag, is_changed);
         self.put::<S>(fragment);
         self.broken.get()

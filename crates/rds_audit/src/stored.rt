@@ -57,6 +57,9 @@ pub struct StoredSpans {
     pub apart: u32,
     pub reigns: StoredReigns,
     pub broken: StoredFaults,
+    /// Whether the first segment of the current one has the bytes that the one before had last at its address. No
+    /// contract speaks of it.
+    pub repeats: u8,
 }
 
 /// The plain numbers of an audit. Its calls do what those of an [`Audit`](crate::Audit) do. Invalid numbers give
@@ -75,6 +78,8 @@ pub struct StoredAudit {
     pub fault: u8,
     /// Whether the station was on air before the log began.
     pub is_running: u8,
+    /// Whether texts may have padding.
+    pub is_padded: u8,
 }
 
 impl AuditFault {

@@ -1,10 +1,14 @@
 use Rattle.rds_audit.specs.AuditLaws.{PlansOfARecordingAreSafe}
+use Rattle.rds_safety.specs.Laws.{LawfulPlansAreSafeByOwnClocksAs}
+use Rattle.rds_audit.proofs.PassedLogs.{by_form}
 use Rattle.rds_audit.proofs.SafeRecordings.{safe_by_own_clocks, safe_recording}
 use Rattle.rds_audit.proofs.audit_laws.what_passes_as_a_recording_is_safe.Goals as goal
 
 pub returns : goal.returns
 returns c =
-    let by_plans : PlansOfARecordingAreSafe = safe_by_own_clocks c.safe_by_plans.ensures.own_clocks in
+    let by_plans : PlansOfARecordingAreSafe = safe_by_own_clocks
+    (by_form LawfulPlansAreSafeByOwnClocksAs c.safe_by_plans.ensures.own_clocks
+    c.safe_by_padded_plans.ensures.own_clocks) in
     record {
       by_plans = by_plans;
       passes = safe_recording c.passes_by_plans.ensures by_plans c.own_clocks.ensures.late c.own_clocks.ensures.slow;

@@ -1,6 +1,6 @@
 use Rattle.std.proofs.Common.{◌∙◌, sym, ap, refl}
 use Rattle.rds_fields.specs.Stored.{is_set}
-use Rattle.rds_audit.specs.AuditState.{start_if}
+use Rattle.rds_audit.specs.AuditState.{form_if, start_if}
 use Rattle.rds_audit.specs.Stored.{audit_stored, fault_stored}
 use Rattle.rds_audit.specs.Listing.{first_of}
 use Rattle.rds_audit.proofs.ListingSteps.{group_listed, takes_all}
@@ -25,6 +25,7 @@ returns-then-is_empty-clause-takes c stored =
     (c.none.ensures ∙ sym (c.is_empty.ensures.0 c.if-is_empty.true)))
     (ends.keeps.programme ∙ heard.keeps.programme) (ends.keeps.distance ∙ heard.keeps.distance)
     (ap (λ n. start_if (is_set n)) (ends.keeps.start ∙ heard.keeps.start))
+    (ap (λ n. form_if (is_set n)) (ends.keeps.form ∙ heard.keeps.form))
     (returns-then-is_empty-clause-first c) (returns-then-is_empty-clause-again c)
 
 pub returns-clause-first : goal.returns-clause-first
@@ -44,5 +45,5 @@ returns-clause-takes c stored =
     c.hear_group-found.result c.hear_group-found.result stored heard.keeps.distance (heard.lists stored) ends.holds
     refl)
     (ends.programme ∙ heard.keeps.programme) (ends.distance ∙ heard.keeps.distance) (ap (λ n. start_if (is_set n))
-    (ends.start ∙ heard.keeps.start))
+    (ends.start ∙ heard.keeps.start)) (ap (λ n. form_if (is_set n)) (ends.form ∙ heard.keeps.form))
     (returns-clause-first c) (returns-clause-again c)

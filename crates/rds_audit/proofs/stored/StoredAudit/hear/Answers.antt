@@ -10,18 +10,18 @@ use Rattle.rds_audit.proofs.stored.StoredAudit.hear.Goals as goal
 pub returns-in-Text-clause-lists : goal.returns-in-Text-clause-lists
 returns-in-Text-clause-lists c stored =
     let is : c.args.message ≡ text_of c.new.result = c.in-Text.is ∙ sym (ap text_of c.new.ensures.place) in
-    rw is (texts_listed (audit_stored c.args.self.now) _ (Some (text_of c.new.result)) c.take.result
-    stored.some refl refl (λ judged h. text_counts _ judged _ _ _)
-    (c.take.ensures.holds stored.some stored.distance) (c.take.ensures.added stored.some stored.distance))
+    rw is (texts_listed (audit_stored c.args.self.now) _ (Some (text_of c.new.result)) c.take_text.result
+    stored.some refl refl refl (λ judged h. text_counts _ judged _ _ _)
+    (c.take_text.ensures.holds stored.some stored.distance) (c.take_text.ensures.added stored.some stored.distance))
 
 pub returns-in-Name-clause-lists : goal.returns-in-Name-clause-lists
 returns-in-Name-clause-lists c stored =
     let is : c.args.message ≡ name_of c.new-in-Name.result = c.in-Name.is
     ∙ sym (ap name_of c.new-in-Name.ensures.place) in
-    rw is (names_listed (audit_stored c.args.self.now) _ (Some (name_of c.new-in-Name.result)) c.take-in-Name.result
-    stored.some refl refl (λ judged h. name_counts _ judged _ _ _)
-    (c.take-in-Name.ensures.holds stored.some stored.distance)
-    (c.take-in-Name.ensures.added stored.some stored.distance))
+    rw is (names_listed (audit_stored c.args.self.now) _ (Some (name_of c.new-in-Name.result)) c.take.result
+    stored.some refl refl refl (λ judged h. name_counts _ judged _ _ _)
+    (c.take.ensures.holds stored.some stored.distance)
+    (c.take.ensures.added stored.some stored.distance))
 
 pub returns-then-awaits_text-clause-lists : goal.returns-then-awaits_text-clause-lists
 returns-then-awaits_text-clause-lists c stored =
@@ -32,13 +32,14 @@ returns-then-awaits_text-clause-lists c stored =
 
 pub returns-else-awaits_text-clause-lists : goal.returns-else-awaits_text-clause-lists
 returns-else-awaits_text-clause-lists c stored =
-    let lists = texts_listed (audit_stored c.args.self.now) _ (Some (Tags c.in-Tags.pair)) c.take_tags.result
-    stored.some refl refl
+    let lists = texts_listed (audit_stored c.args.self.now) _ (Some (Tags c.in-Tags.pair)) c.take_text_tags.result
+    stored.some refl refl refl
     (λ judged h. elim (c.awaits_text.ensures.begun c.if-awaits_text.false) [
       | inl complete ↦ tags_complete _ judged c.in-Tags.pair complete
       | inr open_now ↦ tags_count _ judged c.in-Tags.pair (sym (text_open _ judged (audit_stored c.args.self.now) h)
           ∙ open_now)
-    ]) (c.take_tags.ensures.holds stored.some stored.distance) (c.take_tags.ensures.added stored.some stored.distance)
+    ]) (c.take_text_tags.ensures.holds stored.some stored.distance)
+    (c.take_text_tags.ensures.added stored.some stored.distance)
     in
     rw c.in-Tags.is lists
 

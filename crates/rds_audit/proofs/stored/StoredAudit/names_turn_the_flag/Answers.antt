@@ -2,6 +2,7 @@ use Rattle.std.proofs.Common.{◌≡◌, ◌∙◌, false, subst, sym, true}
 use Rattle.rds_audit.specs.Recording.{judged_as}
 use Rattle.rds_audit.specs.Reigns.{AlternateFlags}
 use Rattle.rds_audit.specs.Rules.{LogPasses}
+use Rattle.rds_audit.specs.declared.text_form.TextForm.{TextForm}
 use Rattle.rds_safety.specs.Marks.{marks, name_mark}
 use Rattle.rds_audit.specs.Stored.{audit_stored}
 use Rattle.rds_audit.proofs.ListingSteps.{log_passes}
@@ -10,7 +11,8 @@ use Rattle.rds_audit.proofs.stored.StoredAudit.names_turn_the_flag.Goals as goal
 pub returns-then-passed-clause-turns : goal.returns-then-passed-clause-turns
 returns-then-passed-clause-turns c pi d log s =
     let judged = judged_as (audit_stored c.args.self.now).start d s.heard in
-    let passes : LogPasses d judged = (c.passed.ensures.passes pi d log s).0 c.if-passed.true in
+    let passes : LogPasses (audit_stored c.args.self.now).form d judged =
+    (c.passed.ensures.passes pi d log s).0 c.if-passed.true in
     let same = c.the_list_judges_the_reigns.ensures.names d (marks name_mark judged) passes.name in
     let turns = (log_passes d (audit_stored c.args.self.now) judged (c.passed.ensures.fault.0 c.if-passed.true)
     s.holds).1.name.ages.turns in (
@@ -20,9 +22,11 @@ returns-then-passed-clause-turns c pi d log s =
     )
 
 pub returns-then-passed-clause-safe : goal.returns-then-passed-clause-safe
-returns-then-passed-clause-safe c pi d log s turns =
+returns-then-passed-clause-safe c pi d log s plain turns =
     let both = (returns-then-passed-clause-turns c pi d log s).0 turns in
-    let safe = c.what_passes_is_safe_by_the_flag.ensures.safe d _ s.lasts both.0 in
+    let safe = c.what_passes_is_safe_by_the_flag.ensures.safe d _ s.lasts
+    (subst (λ (f : TextForm). LogPasses f d (judged_as (audit_stored c.args.self.now).start d s.heard)) plain
+    both.0) in
     record {
       plans = safe.plans;
       lawful = safe.lawful;

@@ -16,15 +16,16 @@ returns-clause-passes c pi d log s =
 pub returns-clause-plans : goal.returns-clause-plans
 returns-clause-plans c pi d log s =
     let exactly = returns-clause-passes c pi d log s in
-    let plans = c.passes_by_plans.ensures d _ s.lasts in
+    let plans = c.passes_by_plans.ensures (audit_stored c.args.self.now).form d _ s.lasts in
     (λ is_so. plans.0 (exactly.0 is_so), λ has. exactly.1 (plans.1 has))
 
 pub returns-clause-safe : goal.returns-clause-safe
 returns-clause-safe c pi d log s m k pos same is_so =
     let exactly = returns-clause-passes c pi d log s in
-    c.what_passes_is_safe.ensures m k _ pos (rw same (exactly.0 is_so))
+    c.what_passes_is_safe.ensures (audit_stored c.args.self.now).form m k _ pos (rw same (exactly.0 is_so))
 
 pub returns-clause-recording : goal.returns-clause-recording
 returns-clause-recording c pi m k log s running pos passed =
-    safe_as_it_is c.what_passes_as_a_recording_is_safe.ensures.passes m k _ s.heard running pos
+    safe_as_it_is c.what_passes_as_a_recording_is_safe.ensures.passes
+    (audit_stored c.args.self.now).form m k _ s.heard running pos
     ((returns-clause-passes c pi (m + k) log s).0 passed)

@@ -17,7 +17,8 @@ returns-then-has-clause-holds g c pos low sent h =
     in
     subst (λ (s : SpansState). HoldsNewestSpans gauge c.args.distance (Sends p) sent s)
     (sym (ap (λ (r : StoredReigns). spans_stored record c.args.self.now { reigns = r }) c.renew.ensures))
-    (repeated_follows gauge g.met.S.Audited.few c.args.distance pos sent p (spans c.args.distance sent)
+    (repeated_follows gauge c.exact.ensures g.met.S.Audited.few c.args.distance pos sent p
+    (spans gauge c.args.distance sent)
     (spans_stored c.args.self.now) formed h
     (c.joins.ensures.0 c.if-joins.true) (c.has.ensures.0 c.if-has.true)).0
 
@@ -27,7 +28,8 @@ returns-then-has-clause-added g c pos low sent h =
     let p = c.args.fragment in
     let formed : IsFormed gauge.segments p = record { address = c.requires; four = search rules; fits = search rules }
     in
-    let follows = repeated_follows gauge g.met.S.Audited.few c.args.distance pos sent p (spans c.args.distance sent)
+    let follows = repeated_follows gauge c.exact.ensures g.met.S.Audited.few c.args.distance pos sent p
+    (spans gauge c.args.distance sent)
     (spans_stored c.args.self.now) formed h
     (c.joins.ensures.0 c.if-joins.true) (c.has.ensures.0 c.if-has.true) in
     c.none.ensures ∙ none_new (spans_stored c.args.self.now).broken

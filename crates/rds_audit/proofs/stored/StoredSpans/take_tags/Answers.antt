@@ -12,14 +12,15 @@ returns-clause-holds g c pos low sent h =
     let gauge = g.S.Audited.gauge in
     subst (λ (s : SpansState). HoldsNewestSpans gauge c.args.distance (Tagged c.args.pair) sent s)
     (sym c.add_tags.ensures)
-    (tags_follow gauge g.met.S.Audited.few c.args.distance pos sent c.args.pair (spans c.args.distance sent)
+    (tags_follow gauge c.exact.ensures g.met.S.Audited.few c.args.distance pos sent c.args.pair
+    (spans gauge c.args.distance sent)
     (spans_stored c.args.self.now) h).0
 
 pub returns-clause-added : goal.returns-clause-added
 returns-clause-added g c pos low sent h =
     let gauge = g.S.Audited.gauge in
-    let follows = tags_follow gauge g.met.S.Audited.few c.args.distance pos sent c.args.pair
-    (spans c.args.distance sent) (spans_stored c.args.self.now) h in
+    let follows = tags_follow gauge c.exact.ensures g.met.S.Audited.few c.args.distance pos sent c.args.pair
+    (spans gauge c.args.distance sent) (spans_stored c.args.self.now) h in
     c.not_in.ensures
     ∙ added_more gauge c.args.distance (Tagged c.args.pair) sent c.get-before.result c.get.result follows.1
     (c.get-before.ensures ∙ h.broken)

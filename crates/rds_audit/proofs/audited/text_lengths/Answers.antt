@@ -2,7 +2,7 @@ use Rattle.std.proofs.Common.{◌≡◌, ◌+◌, ◌-◌, ◌*◌, length, drop
 use Rattle.std.proofs.lemmas.List.{drop_all, length-drop, take_all}
 use Rattle.rds_audit.specs.Lengths.{lengths_from}
 use Rattle.rds_audit.proofs.LengthSteps.{bad, ended, on, spaces_are, then_some_is}
-use Rattle.rds_audit.proofs.audited.TextsAudited.lengths.Goals as goal
+use Rattle.rds_audit.proofs.audited.text_lengths.Goals as goal
 
 pub loop-place-init : goal.loop-place-init
 loop-place-init c = ap (λ i. lengths_from i c.args.bytes) (omega arith)

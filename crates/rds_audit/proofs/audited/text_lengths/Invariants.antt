@@ -1,6 +1,6 @@
 use Rattle.std.proofs.Common.{◌≡◌, ◌+◌, ◌*◌, drop}
 use Rattle.rds_audit.specs.Lengths.{lengths_from}
-use Rattle.rds_audit.proofs.audited.TextsAudited.lengths.Given as goal
+use Rattle.rds_audit.proofs.audited.text_lengths.Given as goal
 
 abbrev pub invariant-loop-place : goal.invariant-loop-place
 invariant-loop-place l = lengths_from (4 * l.fn.address) l.fn.bytes ≡ lengths_from (4 * l.fn.address + l.place)

@@ -1,0 +1,203 @@
+-- Lemmas: services whose segments allow ranges of lengths: texts without padding, and names. What a fragment leaves of
+-- the lengths is what all fragments allow together, and no fragment changes the value exactly if no address changed.
+use Rattle.std.proofs.Common.{◌≡◌, ◌⊎◌, ◌≤◌, ◌&&◌, ℕ, Bool, true, false, nat_eq, max, min, not, List, [], ◌∷◌}
+use Rattle.std.proofs.Common.{Option}
+use Rattle.std.proofs.Common.{Some, None, cond, refl, sym, ap, ◌∙◌, inl, inr, arith}
+use Rattle.std.specs.Prelude.{is_some}
+use Rattle.std.specs.List.{AllByRecursion}
+use Rattle.std.proofs.lemmas.Bool.{and_from, and_parts, eqb-true, leb-true, le-leb}
+use Rattle.rds_receiver.specs.declared.fragment.Fragment.{Fragment}
+use Rattle.rds_safety.specs.Lawful.{Kind}
+use Rattle.rds_audit.specs.declared.audited.Lengths.{Lengths}
+use Rattle.rds_audit.specs.Lengths.{AllJoin, Gauge, IsExact, IsFormed, all_fit, common_lengths}
+use Rattle.rds_audit.specs.Lengths.{is_other, lengths_of, measured_after, measured_by, narrowed, same_bytes, sent_last}
+use Rattle.rds_audit.specs.Lengths.{tags_end}
+use Rattle.rds_audit.specs.Reigns.{SentTags}
+use Rattle.rds_audit.specs.Rules.{AreUnchanged, HaveOneValue}
+use Rattle.rds_audit.proofs.Members.{all_in}
+use Rattle.rds_audit.proofs.SentCells.{EachAllows, cell_from, holds_unchanged, unchanged_by}
+use Rattle.rds_audit.proofs.SpanOrder.{bytes_same, same_bytes_are}
+
+-- no address changed, and some length is allowed by each fragment and reaches the ends of the tags
+pub record AreRanged (allowed : ℕ → List ℕ → Option Lengths) (longest : ℕ) (fragments : List Fragment)
+    (tags : List SentTags) : Type 0 where
+  pub unchanged : AreUnchanged fragments
+  pub each : AllByRecursion (λ (p : Fragment). is_some (allowed p.address p.bytes) ≡ true) fragments
+  pub room : (common_lengths allowed longest fragments).least ≤ (common_lengths allowed longest fragments).most
+  pub ends : tags_end tags ≤ (common_lengths allowed longest fragments).most
+
+narrowed_twice : (o : Option Lengths) (l : Lengths) → narrowed o (narrowed o l) ≡ narrowed o l
+narrowed_twice None l = refl
+narrowed_twice (Some k) l =
+    let least : max (max l.least k.least) k.least ≡ max l.least k.least = omega arith in
+    let most : min (min l.most k.most) k.most ≡ min l.most k.most = omega arith in
+    λ i. record { least = least i; most = most i }
+
+narrowed_swap : (o k : Option Lengths) (l : Lengths) → narrowed o (narrowed k l) ≡ narrowed k (narrowed o l)
+narrowed_swap None k l = refl
+narrowed_swap (Some o) None l = refl
+narrowed_swap (Some o) (Some k) l =
+    let least : max (max l.least k.least) o.least ≡ max (max l.least o.least) k.least = omega arith in
+    let most : min (min l.most k.most) o.most ≡ min (min l.most o.most) k.most = omega arith in
+    λ i. record { least = least i; most = most i }
+
+-- the last bytes that were sent at an address narrow nothing again
+narrowed_again : (allowed : ℕ → List ℕ → Option Lengths) (longest a : ℕ) (sent : List Fragment) (bytes : List ℕ)
+    → sent_last a sent ≡ Some bytes
+    → narrowed (allowed a bytes) (common_lengths allowed longest sent) ≡ common_lengths allowed longest sent
+narrowed_again allowed longest a [] bytes e = absurd (cc)
+narrowed_again allowed longest a (q ∷ older) bytes e =
+    by (nat_eq a q.address) refl e (narrowed_again allowed longest a older bytes)
+  where
+    by : (v : Bool) → nat_eq a q.address ≡ v → cond v (Some q.bytes) (sent_last a older) ≡ Some bytes
+        → (sent_last a older ≡ Some bytes → narrowed (allowed a bytes) (common_lengths allowed longest older)
+        ≡ (common_lengths allowed longest older))
+        → narrowed (allowed a bytes) (narrowed (allowed q.address q.bytes) (common_lengths allowed longest older))
+        ≡ narrowed (allowed q.address q.bytes) (common_lengths allowed longest older)
+    by true n e rest =
+        let same : q.bytes ≡ bytes = cc in
+        let mine : allowed a bytes ≡ allowed q.address q.bytes = ap (allowed a) (sym same)
+        ∙ ap (λ x. allowed x q.bytes) (eqb-true a q.address n) in
+        ap (λ o. narrowed o (narrowed (allowed q.address q.bytes) (common_lengths allowed longest older))) mine
+        ∙ narrowed_twice (allowed q.address q.bytes) (common_lengths allowed longest older)
+    by false n e rest = narrowed_swap (allowed a bytes) (allowed q.address q.bytes)
+        (common_lengths allowed longest older)
+        ∙ ap (narrowed (allowed q.address q.bytes)) (rest e)
+
+measured_lengths : (o : Option Lengths) (l : Lengths) → (measured_by o l).lengths ≡ narrowed o l
+measured_lengths None l = refl
+measured_lengths (Some k) l = refl
+
+narrower : (o : Option Lengths) (l : Lengths) → (measured_by o l).lengths.most ≤ l.most
+narrower None l = omega arith
+narrower (Some k) l = omega arith
+
+measured_fits : (o : Option Lengths) (l : Lengths) → (measured_by o l).fits ≡ true
+    → (is_some o ≡ true) × ((narrowed o l).least ≤ (narrowed o l).most)
+measured_fits None l e = absurd (cc)
+measured_fits (Some k) l e = (refl, leb-true _ _ e)
+
+fits_measured : (o : Option Lengths) (l : Lengths) → is_some o ≡ true → (narrowed o l).least ≤ (narrowed o l).most
+    → (measured_by o l).fits ≡ true
+fits_measured None l some room = absurd (cc)
+fits_measured (Some k) l some room = le-leb _ _ room
+
+-- once no length is left, none is left later
+room_before : (o : Option Lengths) (l : Lengths) → (narrowed o l).least ≤ (narrowed o l).most → l.least ≤ l.most
+room_before None l room = room
+room_before (Some k) l room = omega (arith, room)
+
+-- a service with ranges
+abbrev pub ranged : Kind → ℕ → ℕ → (ℕ → List ℕ → Option Lengths) → Gauge
+ranged kind segments longest allowed = record {
+  kind = kind;
+  segments = segments;
+  longest = longest;
+  measure = λ cells l address bytes. measured_by (allowed address bytes) l;
+  bends = false;
+}
+
+module _ (kind : Kind) (segments longest : ℕ) (allowed : ℕ → List ℕ → Option Lengths) where
+  abbrev its : Gauge
+  its = ranged kind segments longest allowed
+
+  lengths_are : (fragments : List Fragment) → lengths_of its fragments ≡ common_lengths allowed longest fragments
+  lengths_are [] = refl
+  lengths_are (p ∷ older) = measured_lengths (allowed p.address p.bytes) (lengths_of its older)
+      ∙ ap (narrowed (allowed p.address p.bytes)) (lengths_are older)
+
+  fit_parts : (fragments : List Fragment) → all_fit its fragments ≡ true
+      → EachAllows allowed fragments
+      × ((common_lengths allowed longest fragments).least ≤ (common_lengths allowed longest fragments).most)
+  fit_parts [] e = (tt, omega arith)
+  fit_parts (p ∷ older) e =
+      let parts = and_parts (measured_after its older p).fits (all_fit its older) e in
+      let rest = fit_parts older parts.1 in
+      let mine = measured_fits (allowed p.address p.bytes) (common_lengths allowed longest older)
+      (ap (λ (l : Lengths). (measured_by (allowed p.address p.bytes) l).fits) (sym (lengths_are older)) ∙ parts.0) in
+      ((mine.0, rest.0), mine.1)
+
+  parts_fit : (fragments : List Fragment) → EachAllows allowed fragments
+      → (common_lengths allowed longest fragments).least ≤ (common_lengths allowed longest fragments).most
+      → all_fit its fragments ≡ true
+  parts_fit [] each room = refl
+  parts_fit (p ∷ older) each room =
+      and_from _ _
+      (ap (λ (l : Lengths). (measured_by (allowed p.address p.bytes) l).fits) (lengths_are older)
+      ∙ fits_measured (allowed p.address p.bytes) (common_lengths allowed longest older) each.0 room)
+      (parts_fit older each.1 (room_before (allowed p.address p.bytes) (common_lengths allowed longest older) room))
+
+  no_change : (o : Option (List ℕ)) (bytes : List ℕ) (b : Bool) → (o ≡ None) ⊎ (o ≡ Some bytes)
+      → (is_other o bytes && b) ≡ false
+  no_change o bytes b (inl e) = rw e refl
+  no_change o bytes b (inr e) = rw (e, bytes_same bytes bytes refl) refl
+
+  no_other : (o : Option (List ℕ)) (bytes : List ℕ) → (is_other o bytes && true) ≡ false
+      → (o ≡ None) ⊎ (o ≡ Some bytes)
+  no_other None bytes e = inl refl
+  no_other (Some held) bytes e = by (same_bytes bytes held) refl e
+    where
+      by : (v : Bool) → same_bytes bytes held ≡ v → (not v && true) ≡ false
+          → (Some held ≡ None) ⊎ (Some held ≡ Some bytes)
+      by true same e = inr (ap Some (sym (same_bytes_are bytes held same)))
+      by false same e = absurd (let bad : true ≡ false = e in cc)
+
+  unchanged_join : (fragments : List Fragment) → AreUnchanged fragments → AllJoin its fragments
+  unchanged_join [] u = tt
+  unchanged_join (p ∷ older) u = (
+    no_change (sent_last p.address older) p.bytes _ (holds_unchanged p older u),
+    unchanged_join older u.1,
+  )
+
+  join_unchanged : (fragments : List Fragment) → AllJoin its fragments → AreUnchanged fragments
+  join_unchanged [] j = tt
+  join_unchanged (p ∷ older) j = unchanged_by p older (join_unchanged older j.1)
+      (no_other (sent_last p.address older) p.bytes j.0)
+
+  sent_again : (older : List Fragment) (p : Fragment) → sent_last p.address older ≡ Some p.bytes
+      → ((measured_after its older p).lengths ≡ lengths_of its older)
+      × (all_fit its older ≡ true → (measured_after its older p).fits ≡ true)
+  sent_again older p last =
+      let same = narrowed_again allowed longest p.address older p.bytes last in (
+        measured_lengths (allowed p.address p.bytes) (lengths_of its older)
+            ∙ ap (narrowed (allowed p.address p.bytes)) (lengths_are older) ∙ same ∙ sym (lengths_are older),
+        λ fit.
+            let parts = fit_parts older fit in
+            let w = cell_from older p.address p.bytes last in
+            let some : is_some (allowed w.0.address w.0.bytes) ≡ true = all_in
+            (λ (q : Fragment). is_some (allowed q.address q.bytes) ≡ true) w.0 older parts.0 w.1 in
+            let mine : is_some (allowed p.address p.bytes) ≡ true = ap (λ a. is_some (allowed a p.bytes)) (sym w.2)
+            ∙ ap (λ (bs : List ℕ). is_some (allowed w.0.address bs)) (sym w.3) ∙ some in
+            ap (λ (l : Lengths). (measured_by (allowed p.address p.bytes) l).fits) (lengths_are older)
+            ∙ fits_measured (allowed p.address p.bytes) (common_lengths allowed longest older) mine
+            (omega (arith, ap (λ (l : Lengths). l.least) same, ap (λ (l : Lengths). l.most) same, parts.1)),
+      )
+
+  -- a service with ranges is measured exactly if its values are
+  pub ranged_is_exact : ((fragments : List Fragment) (tags : List SentTags) → HaveOneValue kind fragments tags
+      → AreRanged allowed longest fragments tags)
+      → ((fragments : List Fragment) (tags : List SentTags) → HaveOneValue kind fragments tags
+      → AllByRecursion (IsFormed segments) fragments)
+      → ((fragments : List Fragment) (tags : List SentTags) → AllByRecursion (IsFormed segments) fragments
+      → AreRanged allowed longest fragments tags → HaveOneValue kind fragments tags)
+      → IsExact its
+  ranged_is_exact measured formed one = record {
+    measured = λ fragments tags has.
+        let m = measured fragments tags has in
+        record {
+          joins = unchanged_join fragments m.unchanged;
+          fit = parts_fit fragments m.each m.room;
+          ends = omega (arith, m.ends, ap (λ (l : Lengths). l.most) (lengths_are fragments));
+        };
+    formed = formed;
+    one = λ fragments tags good m.
+        let parts = fit_parts fragments m.fit in
+        one fragments tags good record {
+          unchanged = join_unchanged fragments m.joins;
+          each = parts.0;
+          room = parts.1;
+          ends = omega (arith, m.ends, ap (λ (l : Lengths). l.most) (lengths_are fragments));
+        };
+    narrower = λ cells l address bytes. narrower (allowed address bytes) l;
+    again = λ older p good last. sent_again older p last;
+  }
