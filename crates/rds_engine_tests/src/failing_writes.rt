@@ -3,7 +3,7 @@
 use crate::logs::{TWO_LINES, TWO_TEXTS};
 use crate::same::same;
 use crate::scripts::{ENCODED, ENCODED_LOG, SIMULATED, SIMULATED_OUTPUT, config};
-use rds_audit::LogStart;
+use rds_audit::{LogStart, TextForm};
 use rds_fields::{Dwell, Late};
 use rds_io::{LogFault, Told};
 use rds_log::{Auditing, LogNotes, MOST_READS, NoNews, Stop, audit, audit_with_notes, decode};
@@ -99,6 +99,7 @@ fn listed_to(writer: Stubborn) -> Result<Result<(), LogFault>, Fail> {
         dwell: Dwell::new(128).ok_or("dwell")?,
         late: Late::new(0).ok_or("late")?,
         start: LogStart::Complete,
+        form: TextForm::Plain,
         stop: Stop::LogEnd,
     };
     let answer = audit_with_notes(

@@ -15,8 +15,6 @@ mod logs;
 #[cfg(test)]
 mod programs;
 #[cfg(test)]
-mod row_causes;
-#[cfg(test)]
 mod same;
 #[cfg(test)]
 mod scripts;

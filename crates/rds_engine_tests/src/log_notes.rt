@@ -1,6 +1,6 @@
 //! Tests of the notes on a log. The expected notes are written by hand.
 
-use rds_audit::{AuditFault, LogStart};
+use rds_audit::{AuditFault, LogStart, TextForm};
 use rds_fields::{Dwell, Late};
 use rds_io::{LogFault, Told};
 use rds_log::{
@@ -149,6 +149,7 @@ fn slot_of_a_no(rt: HostRuntime) -> Result<(), Fail> {
                 dwell: dwell(m)?,
                 late: Late::new(k).ok_or("late")?,
                 start: LogStart::Complete,
+                form: TextForm::Plain,
                 stop: Stop::FirstFault,
             },
             MOST_READS,
@@ -169,6 +170,7 @@ fn slot_of_a_no(rt: HostRuntime) -> Result<(), Fail> {
             paused: None,
             spacing: u32::from(m) + u32::from(k),
             cause: None,
+            is_harmless: false,
         };
         assert_eq!(rt; notes.no, Some(wanted));
     }
@@ -182,6 +184,7 @@ fn auditing(stop: Stop) -> Result<Auditing, Fail> {
         dwell: dwell(8)?,
         late: Late::new(0).ok_or("late")?,
         start: LogStart::Complete,
+        form: TextForm::Plain,
         stop,
     })
 }

@@ -8,7 +8,7 @@ use thiserror::Error;
 ///
 /// `Display` gives the text for the user, in one line. Places count characters from 1, except where a variant counts
 /// bytes. Receivers count from 0. A lateness is a number of slots.
-#[derive(Clone, Copy, Debug, PartialEq, Eq, Error)]
+#[derive(Clone, Copy, Debug, Error)]
 pub enum RowCause {
     /// The record has this many fields, not four.
     #[error("expected 4 fields (COMMAND,ARGUMENT,FREE,RECEPTIONS), found {0}")]
@@ -115,7 +115,7 @@ pub enum RowCause {
 }
 
 /// A number in the argument of `tags`. The variants have the order of the argument.
-#[derive(Clone, Copy, Debug, PartialEq, Eq)]
+#[derive(Clone, Copy, Debug)]
 pub enum TagNumber {
     Toggle,
     Running,
