@@ -66,9 +66,9 @@
  * come from the machine code of the library (tests/stack), rounded up for other versions of the compiler. The stack of
  * memcpy and memset comes on top.
  *
- *     rdsrt_version                     32   32    rdsrt_encoder_wait                32   32
- *     rdsrt_receiver_init               64   32    rdsrt_audit_init                  32   32
- *     rdsrt_receiver_init_confirming    32   32    rdsrt_audit_init_running          32   32
+ *     rdsrt_version                     32   32    rdsrt_audit_init                  32   32
+ *     rdsrt_receiver_init               64   32    rdsrt_audit_init_running          32   32
+ *     rdsrt_receiver_init_confirming    32   32    rdsrt_audit_init_with             32   32
  *     rdsrt_receiver_slot              256  192    rdsrt_audit_slot                 192  192
  *     rdsrt_receiver_view              256  224    rdsrt_audit_all_faults           224  224
  *     rdsrt_receiver_held               32   32    rdsrt_audit_passed                32   32
@@ -81,6 +81,7 @@
  *     rdsrt_encoder_set_tags            64   32    rdsrt_text_from_utf8             160  160
  *     rdsrt_encoder_tick                64   32    rdsrt_type_name                   96   96
  *     rdsrt_encoder_on_air             128  128    rdsrt_code_name                   96   96
+ *     rdsrt_encoder_wait                32   32
  *
  * YOU PROMISE for every call:
  *  - You call _init first. No call notices that you did not: a struct of zeros has PI 0000, so it shows nothing of your
@@ -106,7 +107,7 @@ extern "C" {
 #endif
 
 /* The number of this interface. It changes with every size, offset, code or call below. */
-#define RDSRT_ABI 6
+#define RDSRT_ABI 7
 
 /* The version of this header. rdsrt_version() returns the version of the linked library. */
 #define RDSRT_VERSION_MAJOR 0
@@ -163,7 +164,7 @@ enum rdsrt_code {
 /* A receiver, an encoder and an audit. Only the library reads and writes the numbers in them. */
 struct rdsrt_receiver { uint32_t own_[66]; };
 struct rdsrt_encoder { uint32_t own_[29]; };
-struct rdsrt_audit { uint64_t own_[34]; };
+struct rdsrt_audit { uint64_t own_[35]; };
 
 /* The faults that a slot adds to the list of all faults: 1 for each of them, else 0 (RDSRT_FAULT_.. has their
  * meaning). */
@@ -306,6 +307,16 @@ uint32_t rdsrt_audit_init(struct rdsrt_audit *audit, uint16_t pi, uint16_t dwell
  * their text may be older; no receiver of the recording shows them. */
 uint32_t rdsrt_audit_init_running(struct rdsrt_audit *audit, uint16_t pi, uint16_t dwell, uint16_t late);
 
+/* The flags of an audit, in any sum. */
+#define RDSRT_AUDIT_RUNNING UINT32_C(1)   /* the log is a recording, as for rdsrt_audit_init_running */
+#define RDSRT_AUDIT_PADDED  UINT32_C(2)   /* bytes behind the carriage return of a text do not count */
+
+/* Does the same with these flags. With RDSRT_AUDIT_PADDED a text may have any bytes behind its carriage return, and any
+ * segments behind the one that has it; all may change at any time (FORMATS.md, "Texts with padding"). Receivers show
+ * nothing of them.
+ * Returns RDSRT_OK, or RDSRT_BAD_ARGUMENT if a number is out of range or a bit of `flags` is no flag. */
+uint32_t rdsrt_audit_init_with(struct rdsrt_audit *audit, uint16_t pi, uint16_t dwell, uint16_t late, uint32_t flags);
+
 /* Ends a slot. count is 4 if this group was sent, and 0 if nothing was sent (blocks may be NULL).
  * Returns RDSRT_OK until a rule is broken, and then, in this and in every later slot, the code of that fault
  * (RDSRT_FAULT_..). Returns RDSRT_BAD_ARGUMENT for any other count: then no slot has ended. */
@@ -381,7 +392,7 @@ RDSRT_IS_(sizeof(struct rdsrt_version) == 16 && offsetof(struct rdsrt_version, m
 RDSRT_IS_(offsetof(struct rdsrt_version, minor) == 8 && offsetof(struct rdsrt_version, patch) == 12);
 RDSRT_IS_(sizeof(struct rdsrt_receiver) == 264);
 RDSRT_IS_(sizeof(struct rdsrt_encoder) == 116);
-RDSRT_IS_(sizeof(struct rdsrt_audit) == 272);
+RDSRT_IS_(sizeof(struct rdsrt_audit) == 280);
 RDSRT_IS_(sizeof(struct rdsrt_faults) == 5 && offsetof(struct rdsrt_faults, early_flag) == 1);
 RDSRT_IS_(offsetof(struct rdsrt_faults, not_one_text) == 2 && offsetof(struct rdsrt_faults, early_tag) == 3);
 RDSRT_IS_(offsetof(struct rdsrt_faults, tag_outside) == 4);

@@ -145,7 +145,7 @@ class Faults:
         """The program notes that slots are absent by the times, or that few slots have a group."""
         b = self.b
         cannot = "Cannot sayThe program answers yes with M = 8 (0.70 s), but the log does not show enough. Judged in "
-        few = "Lost slots: 1 of 2 slots have a group of C201, less than nine tenths: the yes says nothing of what was sent in the others."
+        few = "Lost slots: 1 of 2 slots have a group of C201, less than nine tenths: nothing is known of what was sent in the others."
         rows = [
             ("absent", f"{HI} 0\n{HI} 3\n", "Lost slots: The log spans 35 slots by its times and has 2 lines. "),
             ("few", f"{HI} 0\n{NOTHING}\n", few),

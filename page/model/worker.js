@@ -60,8 +60,8 @@ function lossyOf({ pi, m, w, lost, passes }) {
   return { ...shown, codes };
 }
 
-const auditing = ({ pi, m, k, running }, ...more) =>
-  ["audit", ...more, "--pi", pi, "--m", m, "--k", k, ...running ? ["--running"] : []];
+const auditing = ({ pi, m, k, running, padded }, ...more) =>
+  ["audit", ...more, "--pi", pi, "--m", m, "--k", k, ...running ? ["--running"] : [], ...padded ? ["--padded"] : []];
 
 function head(count) {
   let end = 0;

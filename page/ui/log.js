@@ -71,7 +71,7 @@ class LogTab extends Tab {
   /* Returns when display and verdict are shown. The workers read the page's own bytes: the file may change. */
   /** @param {string | Uint8Array} content @param {any} [settings] */
   open(content, settings = {}) {
-    const { m, k, w, running = false, lost = [], example = "", file = "", pi } = settings;
+    const { m, k, w, running = false, padded = false, lost = [], example = "", file = "", pi } = settings;
     const bytes = typeof content === "string" ? encoder.encode(content) : content;
     // a link holds no longer text
     const text = bytes.length > links.MOST_PLAIN ? null : decoder.decode(bytes);
@@ -81,6 +81,7 @@ class LogTab extends Tab {
     this.nameFile(file);
     this.setFields({ example, m, k, w: w || "" });
     $("log-running").checked = running;
+    $("log-padded").checked = padded;
     for (const program of [this.display, this.judge]) program.keep(bytes);
     return this.look({ opens: true, pi });
   }
@@ -122,7 +123,8 @@ class LogTab extends Tab {
   /* What the form holds. A window makes what it shows later by its length less one. */
   asking() {
     const [m, k, w] = ["m", "k", "w"].map((name) => Number(this.value(name)));
-    return { pi: this.value("pi"), m, k: k + Math.max(0, w - 1), w, running: $("log-running").checked };
+    const [running, padded] = ["running", "padded"].map((name) => $(`log-${name}`).checked);
+    return { pi: this.value("pi"), m, k: k + Math.max(0, w - 1), w, running, padded };
   }
 
   prepare() {
@@ -257,13 +259,14 @@ class LogTab extends Tab {
   options() {
     // an example may begin with lost slots
     const lost = this.lost.size || this.hadLost ? `&lost=${links.inLetters(this.lost)}` : "";
-    return `pi=${this.value("pi")}&${super.options()}${$("log-running").checked ? "&running=1" : ""}${lost}`;
+    const boxes = ["running", "padded"].filter((name) => $(`log-${name}`).checked).map((name) => `&${name}=1`);
+    return `pi=${this.value("pi")}&${super.options()}${boxes.join("")}${lost}`;
   }
 
-  settingsOf({ given, option }, { pi, running = false, lost = [] }) {
+  settingsOf({ given, option }, { pi, running = false, padded = false, lost = [] }) {
     return {
       pi: given.get("pi") ?? pi, lost: given.has("lost") ? links.slotsOf(given.get("lost")) : lost,
-      running: option("running", 0, 1, Number(running)) === 1,
+      running: option("running", 0, 1, Number(running)) === 1, padded: option("padded", 0, 1, Number(padded)) === 1,
     };
   }
 
@@ -273,7 +276,7 @@ class LogTab extends Tab {
 
 
   begin(compiled) {
-    super.begin(["pi", "m", "k", "w", "running"], () => this.look());
+    super.begin(["pi", "m", "k", "w", "running", "padded"], () => this.look());
     Object.assign(this, { display: new Program(compiled, PATIENCE), judge: new Program(compiled) });
     // a log finds its workers ready
     for (const program of [this.display, this.judge]) program.next();

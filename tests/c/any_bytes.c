@@ -162,9 +162,11 @@ static void audit(void) {
     struct rdsrt_audit *a = (struct rdsrt_audit *)any(sizeof *a);
     unsigned dwell = roll(3), late = roll(1200);
     if (roll(4) == 0) {
-        uint32_t code = roll(2) ? rdsrt_audit_init(a, 0xC201, (uint16_t)dwell, (uint16_t)late)
-                                : rdsrt_audit_init_running(a, 0xC201, (uint16_t)dwell, (uint16_t)late);
-        CHECK(code == (dwell && late <= 1024 ? RDSRT_OK : RDSRT_BAD_ARGUMENT));
+        unsigned call = roll(3), flags = call == 2 ? roll(6) : 0;
+        uint32_t code = call == 2 ? rdsrt_audit_init_with(a, 0xC201, (uint16_t)dwell, (uint16_t)late, flags)
+                        : call    ? rdsrt_audit_init_running(a, 0xC201, (uint16_t)dwell, (uint16_t)late)
+                                  : rdsrt_audit_init(a, 0xC201, (uint16_t)dwell, (uint16_t)late);
+        CHECK(code == (dwell && late <= 1024 && flags < 4 ? RDSRT_OK : RDSRT_BAD_ARGUMENT));
     }
     for (int i = 0; i < 8; i++) {
         size_t count = roll(3) ? 4 : roll(7);

@@ -222,6 +222,26 @@ static void recording(void) {
     CHECK(rdsrt_audit_passed(&it) == 0);
 }
 
+/* With the flag for padding a segment behind the carriage return may have any bytes, and other ones later; the text up
+ * to it may not change. */
+static void padding(void) {
+    static const uint16_t behind[4] = {0xC201, 0x2141, 0x0000, 0x0D0A};
+    static const uint16_t others[4] = {0xC201, 0x2141, 0x5A5A, 0x2020};
+    struct rdsrt_audit it;
+    CHECK(rdsrt_audit_init_with(&it, 0xC201, 8, 0, 4) == RDSRT_BAD_ARGUMENT);
+    CHECK(rdsrt_audit_init_with(&it, 0xC201, 0, 0, RDSRT_AUDIT_PADDED) == RDSRT_BAD_ARGUMENT);
+    CHECK(rdsrt_audit_init_with(&it, 0xC201, 8, 0, 0) == RDSRT_OK);
+    CHECK(rdsrt_audit_slot(&it, hi, 4) == RDSRT_OK && rdsrt_audit_slot(&it, behind, 4) == RDSRT_FAULT_NOT_ONE_TEXT);
+    CHECK(rdsrt_audit_init_with(&it, 0xC201, 8, 0, RDSRT_AUDIT_PADDED) == RDSRT_OK);
+    CHECK(rdsrt_audit_slot(&it, hi, 4) == RDSRT_OK && rdsrt_audit_slot(&it, behind, 4) == RDSRT_OK);
+    CHECK(rdsrt_audit_slot(&it, others, 4) == RDSRT_OK && rdsrt_audit_texts(&it) == 1);
+    CHECK(rdsrt_audit_slot(&it, tags_of_hi, 4) == RDSRT_FAULT_EARLY_TAG);
+    CHECK(rdsrt_audit_init_with(&it, 0xC201, 8, 0, RDSRT_AUDIT_PADDED | RDSRT_AUDIT_RUNNING) == RDSRT_OK);
+    CHECK(rdsrt_audit_slot(&it, behind, 4) == RDSRT_OK && rdsrt_audit_slot(&it, hi, 4) == RDSRT_OK);
+    CHECK(rdsrt_audit_slot(&it, tags_of_hi, 4) == RDSRT_OK);
+    CHECK(rdsrt_audit_slot(&it, changed_hi, 4) == RDSRT_FAULT_CHANGED);
+}
+
 static void audit(void) {
     static const uint16_t ended[4] = {0xC201, 0x2141, 0x4142, 0x0D20};
     static const uint16_t long_tag[4] = {0xC201, 0xB158, 0x8012, 0x0000};
@@ -358,6 +378,7 @@ int main(void) {
     audit();
     all_faults();
     recording();
+    padding();
     flags();
     times();
     times_of_lines();

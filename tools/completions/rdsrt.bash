@@ -12,7 +12,7 @@ _rdsrt() {
         help) offered='decode audit witness slots encode sim help' ;;
         decode) offered='--pi --m --confirm --why --quiet --json-notes --help' ;;
         witness) offered='--pi --m --lose --flag-alone --quiet --json-notes --help' ;;
-        audit) offered='--pi --m --k --running --all --quiet --json-notes --help' ;;
+        audit) offered='--pi --m --k --running --padded --all --quiet --json-notes --help' ;;
         slots) offered='--pi --grain --m --quiet --json-notes --help' ;;
         encode) offered='--pi --m --k --pty --tp --quiet --json-notes --help' ;;
         sim) offered='--pi --m --k --pty --tp --confirm --flag-alone --why --quiet --json-notes --help' ;;

@@ -22,6 +22,7 @@ complete -c rdsrt -n "$no_help witness" -l lose -x -d 'Prints the mixes of a rec
 complete -c rdsrt -n "$no_help witness" -l flag-alone -d 'The receiver of --lose follows the A/B flag alone, as radios without a dwell do'
 complete -c rdsrt -n "$no_help audit encode sim" -s k -l k -x -d 'Lateness K in slots, 0 to 1024'
 complete -c rdsrt -n "$no_help audit" -l running -d 'The station was on air before the log began'
+complete -c rdsrt -n "$no_help audit" -l padded -d 'Bytes behind the carriage return of a text do not count'
 complete -c rdsrt -n "$no_help audit" -l all -d 'Prints each fault of the log'
 complete -c rdsrt -n "$no_help slots" -l grain -x -d 'Milliseconds by which the times may be off, 0 to 87'
 complete -c rdsrt -n "$no_help encode sim" -l pty -x -d 'Programme type (PTY) in each group, 0 to 31'

@@ -30,8 +30,8 @@ use Rattle.clap.specs.declared.builder.action.ArgAction.TheVariants as action
 use Rattle.clap.specs.declared.builder.value_parser.ValueParser.{ValueParser}
 use Rattle.clap.specs.declared.error.kind.ErrorKind.{ErrorKind}
 use Rattle.clap.proofs.OnLiterals.{clap_on_literals}
-use Rattle.rds_cli.specs.CommandLine.{audit_app, decode_app, late_app, log_app, log_readers_app, sim_app, slots_app}
-use Rattle.rds_cli.specs.CommandLine.{station_app, timed_app, whole_app, witness_app}
+use Rattle.rds_cli.specs.CommandLine.{audit_app, decode_app, judging_app, late_app, log_app, log_readers_app, sim_app}
+use Rattle.rds_cli.specs.CommandLine.{slots_app, station_app, timed_app, whole_app, witness_app}
 
 none_first : (a b : Kinds) → or_else a b ≡ [] → a ≡ []
 none_first [] b e = refl
@@ -367,6 +367,6 @@ built_taken a words top subs e =
 -- words that the definition answers by no kind are taken
 pub taken : (words : List Text) → fault_of whole_app words ≡ [] → takes whole_app words ≡ true
 unfolding clap_on_literals log_readers_app witness_app log_app decode_app late_app station_app sim_app slots_app
-    timed_app audit_app
+    timed_app judging_app audit_app
 taken words e = and_both (is_simple whole_app) _ refl (built_taken (built whole_app) (argument_words whole_app words)
     refl refl e)

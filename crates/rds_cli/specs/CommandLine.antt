@@ -75,6 +75,10 @@ tp_rule = flag_rule (codes "tp")
 abbrev pub running_rule : Rule
 running_rule = flag_rule (codes "running")
 
+-- `--padded`
+abbrev pub padded_rule : Rule
+padded_rule = flag_rule (codes "padded")
+
 -- `--all`
 abbrev pub all_rule : Rule
 all_rule = flag_rule (codes "all")
@@ -128,9 +132,13 @@ decode_app name = with_rule (with_rule (log_app name) confirm_rule) why_rule
 unfoldable pub late_app : Text → App
 late_app name = with_rule (log_app name) late_rule
 
+-- a subcommand that judges a log
+unfoldable pub judging_app : Text → App
+judging_app name = with_rule (with_rule (late_app name) running_rule) padded_rule
+
 -- the subcommand that audits a log
 unfoldable pub audit_app : Text → App
-audit_app name = with_rule (with_rule (late_app name) running_rule) all_rule
+audit_app name = with_rule (judging_app name) all_rule
 
 -- the subcommand that looks for lost slots that make a mix, or for the mixes of given ones
 unfoldable pub witness_app : Text → App
@@ -235,6 +243,9 @@ tp_in = flag_in (codes "tp")
 abbrev pub running_in : List Row → Bool
 running_in = flag_in (codes "running")
 
+abbrev pub padded_in : List Row → Bool
+padded_in = flag_in (codes "padded")
+
 abbrev pub all_in : List Row → Bool
 all_in = flag_in (codes "all")
 
@@ -285,7 +296,7 @@ task_in name rows =
     (λ window. with_station (λ programme late. Simulate programme late window (flag_alone_in rows) (why_in rows)) rows)
     (window_in rows)
     else if bytes_eq name (codes "audit")
-    then option_map (λ late. Audit late (running_in rows) (all_in rows)) (late_in rows)
+    then option_map (λ late. Audit late (running_in rows) (padded_in rows) (all_in rows)) (late_in rows)
     else if bytes_eq name (codes "witness") then Some (witness_in rows)
     else if bytes_eq name (codes "slots")
     then option_map (λ grain. Slots grain (has_value (codes "pi") rows)) (grain_in rows)

@@ -84,16 +84,28 @@ losing lose dwell alone = record { task = Lose alone; pi = codes "C201"; lose = 
 
 abbrev pub auditing : ℕ → ℕ → Requested
 auditing dwell late =
-    record { task = Audit late false false; pi = codes "C201"; lose = []; dwell = dwell; file = None }
+    record { task = Audit late false false false; pi = codes "C201"; lose = []; dwell = dwell; file = None }
 
 -- the audit of the log of a running station
 abbrev pub auditing_running : ℕ → Requested
 auditing_running dwell =
-    record { task = Audit 0 true false; pi = codes "C201"; lose = []; dwell = dwell; file = None }
+    record { task = Audit 0 true false false; pi = codes "C201"; lose = []; dwell = dwell; file = None }
+
+-- the audit of texts with padding
+abbrev pub auditing_padded : ℕ → Requested
+auditing_padded dwell =
+    record { task = Audit 0 false true false; pi = codes "C201"; lose = []; dwell = dwell; file = None }
 
 -- the list of all faults of such a log
 abbrev pub listing_running : ℕ → Requested
-listing_running dwell = record { task = Audit 0 true true; pi = codes "C201"; lose = []; dwell = dwell; file = None }
+listing_running dwell = record {
+  task = Audit 0 true false true;
+  pi = codes "C201";
+  lose = [];
+  dwell = dwell;
+  file =
+      None;
+}
 
 abbrev pub filling : ℕ → ℕ → Requested
 filling dwell grain = record { task = Slots grain false; pi = codes "0000"; lose = []; dwell = dwell; file = None }

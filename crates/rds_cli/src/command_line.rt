@@ -3,10 +3,10 @@ ghost use Rattle.std.specs.Prelude.{◌≡◌, IfOk, codes, false};
 ghost use Rattle.clap.specs.Words.{App, app_of, new_app, rule_of, with_rule, with_subcommand};
 ghost use Rattle.clap.specs.declared.builder.command.Command.TheViews.{out-Command};
 ghost use Rattle.rds_cli.specs.CommandLine.{audit_app, confirm_rule, decode_app, dwell_rule, file_rule};
-ghost use Rattle.rds_cli.specs.CommandLine.{all_rule, flag_alone_rule, flag_rule, grain_rule, late_app, late_rule};
-ghost use Rattle.rds_cli.specs.CommandLine.{json_notes_rule, log_app, number_rule, own_pi_rule, pi_rule};
-ghost use Rattle.rds_cli.specs.CommandLine.{pty_rule, quiet_rule};
-ghost use Rattle.rds_cli.specs.CommandLine.{running_rule, sim_app, slots_app, station_app, timed_app, top_app, tp_rule};
+ghost use Rattle.rds_cli.specs.CommandLine.{all_rule, flag_alone_rule, flag_rule, grain_rule, judging_app, late_app};
+ghost use Rattle.rds_cli.specs.CommandLine.{json_notes_rule, late_rule, log_app, number_rule, own_pi_rule};
+ghost use Rattle.rds_cli.specs.CommandLine.{padded_rule, pi_rule, pty_rule, quiet_rule, running_rule};
+ghost use Rattle.rds_cli.specs.CommandLine.{sim_app, slots_app, station_app, timed_app, top_app, tp_rule};
 ghost use Rattle.rds_cli.specs.CommandLine.{lose_rule, whole_app, why_rule, witness_app};
 
 use clap::builder::ValueParser;
@@ -165,6 +165,19 @@ fn running<'a>(alloc: Global) -> Arg<'a>
         "The station was on air before the log began, as in a recording. The audit then\n\
          takes M + K lost slots before the first line. So the first text may have started\n\
          at any time, and RT+ tags before the first text segment are not judged.",
+    )
+}
+
+/// Makes the flag `--padded`.
+fn padded<'a>(alloc: Global) -> Arg<'a>
+    ensures rule { rule_of result ≡ padded_rule }
+    ensures local { result.global ≡ false }
+{
+    let help = "Bytes behind the carriage return of a text do not count";
+    flag(alloc, "padded", help).long_help(
+        "Bytes behind the carriage return of a text do not count: the rest of its segment and\n\
+         all segments behind that one. Some encoders fill a text with them, and receivers show\n\
+         nothing of them. They may be any bytes, and they may change.",
     )
 }
 
@@ -357,6 +370,21 @@ fn late_reader<'a>(alloc: Global, name: &'a str, page: Page<'a>) -> Result<Comma
     log_reader(alloc, name, page)?.arg(late(alloc))
 }
 
+/// Makes a subcommand that judges a log.
+#[tactic(auto, unfolding(crate::specs::CommandLine::judging_app))]
+fn judging_reader<'a>(
+    alloc: Global,
+    name: &'a str,
+    page: Page<'a>,
+) -> Result<Command<'a>, AllocError>
+    ensures app { IfOk result (λ c. app_of c ≡ judging_app name.entry.now) }
+    ensures local { IfOk result (λ c. (out-Command c).has_globals ≡ false) }
+{
+    late_reader(alloc, name, page)?
+        .arg(running(alloc))?
+        .arg(padded(alloc))
+}
+
 /// Makes the subcommand `audit`.
 #[tactic(auto, unfolding(crate::specs::CommandLine::audit_app))]
 fn audit<'a>(alloc: Global) -> Result<Command<'a>, AllocError>
@@ -396,9 +424,7 @@ fn audit<'a>(alloc: Global) -> Result<Command<'a>, AllocError>
                    $ rdsrt audit --pi C201 --m 8 examples/flags.log\n  \
                    no 4 EarlyFlag",
     };
-    late_reader(alloc, "audit", page)?
-        .arg(running(alloc))?
-        .arg(all(alloc))
+    judging_reader(alloc, "audit", page)?.arg(all(alloc))
 }
 
 /// Makes the subcommand `witness`.

@@ -1,7 +1,8 @@
 //! What the definition of the command line says of written-out arguments.
 ghost use Rattle.std.specs.Prelude.{[], codes, false, true};
 ghost use Rattle.rds_cli.specs.CommandLine.{AskFor, AskForHelp, default_dwell};
-ghost use Rattle.rds_cli.specs.Examples.{AreNotTaken, CallForHelp, auditing, auditing_running, confirming, decoding};
+ghost use Rattle.rds_cli.specs.Examples.{AreNotTaken, CallForHelp, auditing, auditing_padded};
+ghost use Rattle.rds_cli.specs.Examples.{auditing_running, confirming, decoding};
 ghost use Rattle.rds_cli.specs.Examples.{decoding_why, encoding, filling, filling_one, from_file, listing_running};
 ghost use Rattle.rds_cli.specs.Examples.{losing, simulating, simulating_flag_alone, simulating_confirmed, typed};
 ghost use Rattle.rds_cli.specs.Examples.{witnessing};
@@ -23,6 +24,8 @@ pub fn words_of_the_examples()
     ensures audit_late { AskFor (typed (codes "rdsrt audit --pi C201 --m 4 --k 2")) (auditing 4 2) }
     ensures audit_running { AskFor (typed (codes "rdsrt audit --running --pi C201"))
         (auditing_running default_dwell) }
+    ensures audit_padded { AskFor (typed (codes "rdsrt audit --padded --pi C201"))
+        (auditing_padded default_dwell) }
     ensures audit_all { AskFor (typed (codes "rdsrt audit --running --all --pi C201"))
         (listing_running default_dwell) }
     ensures witness { AskFor (typed (codes "rdsrt witness --pi C201 --m 8")) (witnessing 8) }

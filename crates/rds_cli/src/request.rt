@@ -52,6 +52,8 @@ pub enum Task {
         late: Late,
         /// Whether the station was on air before the log began.
         running: bool,
+        /// Whether texts may have padding.
+        padded: bool,
         /// Whether each fault is printed, or the first one alone.
         lists_all: bool,
     },
@@ -185,6 +187,7 @@ fn task_of(name: &str, inner: &ArgMatches<'_>) -> Option<Task>
         "audit" => Some(Task::Audit {
             late: slots_of(inner, "k")?,
             running: is_given(inner, "running"),
+            padded: is_given(inner, "padded"),
             lists_all: is_given(inner, "all"),
         }),
         "witness" => Some(witness_of(inner)),

@@ -9,6 +9,7 @@ use Rattle.rds_audit.specs.Listing.{IsFaultOf, slot_adds}
 use Rattle.rds_audit.specs.Recording.{counted_as, judged_as}
 use Rattle.rds_audit.specs.Rules.{LogPasses}
 use Rattle.rds_audit.specs.declared.log_start.LogStart.{LogStart}
+use Rattle.rds_audit.specs.declared.text_form.TextForm.{TextForm}
 use Rattle.rds_audit.specs.Stored.{IsStoredAudit, audit_stored}
 use Rattle.rds_audit.specs.declared.audit.AuditFault.{AuditFault}
 use Rattle.rds_audit.specs.declared.stored.StoredAudit.{StoredAudit}
@@ -36,6 +37,10 @@ fault_found s = (audit_stored s).fault
 abbrev pub start_in : StoredAudit → LogStart
 start_in s = (audit_stored s).start
 
+-- the form of its texts
+abbrev pub form_in : StoredAudit → TextForm
+form_in s = (audit_stored s).form
+
 -- and this of its number of slots and of the messages of its log, as they are judged
 abbrev pub WhereItHeard : StoredAudit → (ℕ → List (Option Message) → Type 0) → Type 0
 WhereItHeard s Holds =
@@ -57,7 +62,7 @@ abbrev pub Adds : StoredAudit → Option Group → FaultSet → Type 0
 Adds s slot found =
     (pi d : ℕ) (log : List (Option Group)) (lies : FollowsInMemory pi d s log) (message : Option Message)
     → Hears pi slot message
-    → found ≡ slot_adds d (counted_as (start_in s) (judged_as (start_in s) d lies.at.at.heard) message)
+    → found ≡ slot_adds (form_in s) d (counted_as (start_in s) (judged_as (start_in s) d lies.at.at.heard) message)
     (judged_as (start_in s) d lies.at.at.heard)
 
 -- the fault of a result
@@ -66,9 +71,9 @@ fault_in (Ok done) = None
 fault_in (Err fault) = Some fault
 
 -- the code is that of the fault of the log, or says that it passes
-abbrev pub Tells : ℕ → ℕ → List (Option Message) → Type 0
-Tells code d heard = (found : Option AuditFault) × (code ≡ code_of found)
-    × MatchOption found (LogPasses d heard) (λ fault. IsFaultOf d heard fault)
+abbrev pub Tells : TextForm → ℕ → ℕ → List (Option Message) → Type 0
+Tells form code d heard = (found : Option AuditFault) × (code ≡ code_of found)
+    × MatchOption found (LogPasses form d heard) (λ fault. IsFaultOf form d heard fault)
 
 -- the code is that of a fault, or the code for no fault
 abbrev pub IsFaultCode : ℕ → Type 0

@@ -1,5 +1,8 @@
 -- The codes that the calls return, by their names in C, and the number of this interface (this project's own).
-use Rattle.std.specs.Prelude.{◌≡◌, ℕ, Option, Some, None, Ok, Err}
+use Rattle.std.specs.Prelude.{◌≡◌, ◌==◌, ◌||◌, ℕ, Option, Some, None, Ok, Err}
+use Rattle.rds_audit.specs.AuditState.{form_if, start_if}
+use Rattle.rds_audit.specs.declared.log_start.LogStart.{LogStart}
+use Rattle.rds_audit.specs.declared.text_form.TextForm.{TextForm}
 use Rattle.rds_fields.specs.declared.pair.Which.TheVariants.{One, Two}
 use Rattle.rds_assembly.specs.declared.text.TextRefused.{TextRefused}
 use Rattle.rds_assembly.specs.declared.text.TextRefused.TheVariants.{TooLong, BadByte}
@@ -12,7 +15,7 @@ use Rattle.rds_ffi.specs.declared.reply.RdsrtReply.{RdsrtReply}
 
 -- it changes with every size, offset, code or call of the header
 abbrev pub RDSRT_ABI : ℕ
-RDSRT_ABI = 6
+RDSRT_ABI = 7
 
 -- the times do not tell how many slots were lost
 abbrev pub RDSRT_UNKNOWN : ℕ
@@ -80,6 +83,29 @@ RDSRT_FAULT_EARLY_TAG = 20
 
 abbrev pub RDSRT_FAULT_TAG_OUTSIDE : ℕ
 RDSRT_FAULT_TAG_OUTSIDE = 21
+
+-- ---- the flags of an audit
+
+-- the station was on air before the log began
+abbrev pub RDSRT_AUDIT_RUNNING : ℕ
+RDSRT_AUDIT_RUNNING = 1
+
+-- texts may have padding
+abbrev pub RDSRT_AUDIT_PADDED : ℕ
+RDSRT_AUDIT_PADDED = 2
+
+-- both
+abbrev pub all_flags : ℕ
+all_flags = 3
+
+-- where a log with these flags begins, and the form of its texts
+abbrev pub start_by : ℕ → LogStart
+start_by flags = start_if (flags == RDSRT_AUDIT_RUNNING || flags == all_flags)
+
+abbrev pub form_by : ℕ → TextForm
+form_by flags = form_if (flags == RDSRT_AUDIT_PADDED || flags == all_flags)
+
+-- ---- replies
 
 -- the code of an encoder's reply, with the slots to wait
 abbrev pub reply_of : Reply → RdsrtReply

@@ -1,26 +1,30 @@
 //! An audit in the caller's memory.
-ghost use Rattle.std.specs.Prelude.{◌≡◌, ◌≢◌, ◌+◌, ◌-◌, ◌<◌, ◌≤◌, ◌^◌, ◌↔◌, ℕ, [], ◌∷◌, List, None, Option, Some, length, min};
+ghost use Rattle.std.specs.Prelude.{◌≡◌, ◌≢◌, ◌+◌, ◌-◌, ◌<◌, ◌≤◌, ◌^◌, ◌↔◌, ℕ};
+ghost use Rattle.std.specs.Prelude.{[], ◌∷◌, List, None, Option, Some, length, min};
+ghost use Rattle.std.specs.Prelude.{IfSome, IsSome};
 ghost use Rattle.rds_block.specs.declared.group.Group.{Group};
 ghost use Rattle.rds_audit.specs.AuditLaws.{IsSafeLog, IsSafeRecording};
 ghost use Rattle.rds_audit.specs.Dense.{HasPlans};
 ghost use Rattle.rds_audit.specs.FlagLaws.{NamesAreSafeByFlag, TextsAreSafeByFlag};
+ghost use Rattle.rds_audit.specs.Lengths.{gauge_of, name_gauge};
 ghost use Rattle.rds_audit.specs.Listing.{spans};
 ghost use Rattle.rds_audit.specs.Reigns.{AlternateFlags, reigns};
 ghost use Rattle.rds_audit.specs.Rules.{LogPasses};
 ghost use Rattle.rds_audit.specs.Stored.{AreBits, faults_stored};
 ghost use Rattle.rds_audit.specs.declared.audit.AuditFault.{AuditFault};
 ghost use Rattle.rds_audit.specs.declared.log_start.LogStart.TheVariants as LogStart;
+ghost use Rattle.rds_audit.specs.declared.text_form.TextForm.TheVariants as TextForm;
 ghost use Rattle.rds_ffi.specs.AuditInMemory.{Adds, AuditInMemory, FollowsInMemory, IsFaultCode, Tells};
 ghost use Rattle.rds_ffi.specs.AuditInMemory.{WhereItFollowed, WhereAuditFollows, WhereItHeard, WhereItIs, fault_found};
 ghost use Rattle.rds_ffi.specs.AuditInMemory.{fault_in};
-ghost use Rattle.rds_ffi.specs.AuditInMemory.{start_in};
-ghost use Rattle.rds_ffi.specs.Codes.{RDSRT_BAD_ARGUMENT, RDSRT_OK, code_of};
+ghost use Rattle.rds_ffi.specs.AuditInMemory.{form_in, start_in};
+ghost use Rattle.rds_ffi.specs.Codes.{RDSRT_BAD_ARGUMENT, RDSRT_OK, all_flags, code_of, form_by, start_by};
 ghost use Rattle.rds_ffi.specs.Slots.{Bring, IsCount};
 ghost use Rattle.rds_safety.specs.Marks.{marks, name_mark, text_mark};
 
 use crate::codes;
 use crate::slots::{slot_of, spacing_of};
-use rds_audit::{Audit, AuditFault, LogStart, StoredAudit, StoredFaults};
+use rds_audit::{Audit, AuditFault, LogStart, StoredAudit, StoredFaults, TextForm};
 
 /// Makes an audit of this programme before the first slot. The dwell and the lateness are in slots.
 ///
@@ -33,10 +37,11 @@ pub extern "C" fn rdsrt_audit_init(audit: &mut StoredAudit, pi: u16, dwell: u16,
     ensures stands { result ≡ RDSRT_OK → AuditInMemory pi (dwell + late) audit.new [] }
     ensures follows { result ≡ RDSRT_OK → FollowsInMemory pi (dwell + late) audit.new [] }
     ensures start { result ≡ RDSRT_OK → start_in audit.new ≡ LogStart.Complete }
+    ensures form { result ≡ RDSRT_OK → form_in audit.new ≡ TextForm.Plain }
     ensures bad { result ≢ RDSRT_OK → result ≡ RDSRT_BAD_ARGUMENT }
     ensures kept { result ≢ RDSRT_OK → audit.new ≡ audit.old }
 {
-    begun(audit, pi, dwell, late, LogStart::Complete)
+    begun(audit, pi, dwell, late, LogStart::Complete, TextForm::Plain)
 }
 
 /// Does what [`rdsrt_audit_init`] does for a log whose station was on air before the log began.
@@ -55,25 +60,77 @@ pub extern "C" fn rdsrt_audit_init_running(
     ensures stands { result ≡ RDSRT_OK → AuditInMemory pi (dwell + late) audit.new [] }
     ensures follows { result ≡ RDSRT_OK → FollowsInMemory pi (dwell + late) audit.new [] }
     ensures start { result ≡ RDSRT_OK → start_in audit.new ≡ LogStart.Running }
+    ensures form { result ≡ RDSRT_OK → form_in audit.new ≡ TextForm.Plain }
     ensures bad { result ≢ RDSRT_OK → result ≡ RDSRT_BAD_ARGUMENT }
     ensures kept { result ≢ RDSRT_OK → audit.new ≡ audit.old }
 {
-    begun(audit, pi, dwell, late, LogStart::Running)
+    begun(audit, pi, dwell, late, LogStart::Running, TextForm::Plain)
 }
 
-/// Makes an audit of a log that begins so.
-fn begun(audit: &mut StoredAudit, pi: u16, dwell: u16, late: u16, start: LogStart) -> u32
+/// Does what [`rdsrt_audit_init`] does for a log as these flags say: `RDSRT_AUDIT_RUNNING` if the station was on air
+/// before the log began, `RDSRT_AUDIT_PADDED` if texts may have padding, both or none.
+///
+/// # Errors
+///
+/// As [`rdsrt_audit_init`], and for other flags.
+#[unsafe(no_mangle)]
+pub extern "C" fn rdsrt_audit_init_with(
+    audit: &mut StoredAudit,
+    pi: u16,
+    dwell: u16,
+    late: u16,
+    flags: u32,
+) -> u32
+    ensures code { result ≡ RDSRT_OK ↔ ((0 < dwell) × (late ≤ 1024) × (flags ≤ all_flags)) }
+    ensures stands { result ≡ RDSRT_OK → AuditInMemory pi (dwell + late) audit.new [] }
+    ensures follows { result ≡ RDSRT_OK → FollowsInMemory pi (dwell + late) audit.new [] }
+    ensures start { result ≡ RDSRT_OK → start_in audit.new ≡ start_by flags }
+    ensures form { result ≡ RDSRT_OK → form_in audit.new ≡ form_by flags }
+    ensures bad { result ≢ RDSRT_OK → result ≡ RDSRT_BAD_ARGUMENT }
+    ensures kept { result ≢ RDSRT_OK → audit.new ≡ audit.old }
+{
+    let Some((start, form)) = read_flags(flags) else {
+        return codes::BAD_ARGUMENT;
+    };
+    begun(audit, pi, dwell, late, start, form)
+}
+
+/// Returns where a log with these flags begins, and the form of its texts. `None` if a bit of them is no flag.
+fn read_flags(flags: u32) -> Option<(LogStart, TextForm)>
+    ensures range { IsSome result ↔ (flags ≤ all_flags) }
+    ensures start { IfSome result (λ both. both.0 ≡ start_by flags) }
+    ensures form { IfSome result (λ both. both.1 ≡ form_by flags) }
+{
+    match flags {
+        0 => Some((LogStart::Complete, TextForm::Plain)),
+        codes::AUDIT_RUNNING => Some((LogStart::Running, TextForm::Plain)),
+        codes::AUDIT_PADDED => Some((LogStart::Complete, TextForm::Padded)),
+        codes::ALL_FLAGS => Some((LogStart::Running, TextForm::Padded)),
+        _ => None,
+    }
+}
+
+/// Makes an audit of a log that begins so, and whose texts have this form.
+fn begun(
+    audit: &mut StoredAudit,
+    pi: u16,
+    dwell: u16,
+    late: u16,
+    start: LogStart,
+    form: TextForm,
+) -> u32
     ensures code { result ≡ RDSRT_OK ↔ ((0 < dwell) × (late ≤ 1024)) }
     ensures stands { result ≡ RDSRT_OK → AuditInMemory pi (dwell + late) audit.new [] }
     ensures follows { result ≡ RDSRT_OK → FollowsInMemory pi (dwell + late) audit.new [] }
     ensures start { result ≡ RDSRT_OK → start_in audit.new ≡ start }
+    ensures form { result ≡ RDSRT_OK → form_in audit.new ≡ form }
     ensures bad { result ≢ RDSRT_OK → result ≡ RDSRT_BAD_ARGUMENT }
     ensures kept { result ≢ RDSRT_OK → audit.new ≡ audit.old }
 {
     let Some((dwell, late)) = spacing_of(dwell, late) else {
         return codes::BAD_ARGUMENT;
     };
-    *audit = Audit::starting(pi, dwell, late, start).store();
+    *audit = Audit::starting(pi, dwell, late, start, form).store();
     codes::OK
 }
 
@@ -87,11 +144,12 @@ fn begun(audit: &mut StoredAudit, pi: u16, dwell: u16, late: u16, start: LogStar
 pub extern "C" fn rdsrt_audit_slot(audit: &mut StoredAudit, blocks: &[u16]) -> u32
     ensures code { result ≢ RDSRT_BAD_ARGUMENT ↔ IsCount blocks.now }
     ensures start { result ≢ RDSRT_BAD_ARGUMENT → start_in audit.new ≡ start_in audit.old }
+    ensures form { result ≢ RDSRT_BAD_ARGUMENT → form_in audit.new ≡ form_in audit.old }
     ensures stands { result ≢ RDSRT_BAD_ARGUMENT → WhereItIs audit.old (λ pi d log.
         (slot : Option Group) × Bring blocks.now slot × AuditInMemory pi d audit.new (slot ∷ log)) }
     ensures follows { result ≢ RDSRT_BAD_ARGUMENT → fault_found audit.old ≡ None → WhereAuditFollows audit.old
         (λ pi d log. (slot : Option Group) × Bring blocks.now slot × FollowsInMemory pi d audit.new (slot ∷ log)) }
-    ensures which { result ≢ RDSRT_BAD_ARGUMENT → WhereItHeard audit.new (Tells result) }
+    ensures which { result ≢ RDSRT_BAD_ARGUMENT → WhereItHeard audit.new (Tells (form_in audit.new) result) }
     ensures again { result ≢ RDSRT_BAD_ARGUMENT → (fault : AuditFault) → fault_found audit.old ≡ Some fault
         → (result ≡ code_of (Some fault)) × (audit.new ≡ audit.old) }
     ensures codes { result ≢ RDSRT_BAD_ARGUMENT → IsFaultCode result }
@@ -118,6 +176,7 @@ pub extern "C" fn rdsrt_audit_all_faults(
     ensures code { result ≡ RDSRT_OK ↔ IsCount blocks.now }
     ensures bad { result ≢ RDSRT_OK → result ≡ RDSRT_BAD_ARGUMENT }
     ensures start { result ≡ RDSRT_OK → start_in audit.new ≡ start_in audit.old }
+    ensures form { result ≡ RDSRT_OK → form_in audit.new ≡ form_in audit.old }
     ensures stands { result ≡ RDSRT_OK → WhereItIs audit.old (λ pi d log.
         (slot : Option Group) × Bring blocks.now slot × AuditInMemory pi d audit.new (slot ∷ log)) }
     ensures follows { result ≡ RDSRT_OK → WhereAuditFollows audit.old (λ pi d log.
@@ -139,12 +198,13 @@ pub extern "C" fn rdsrt_audit_all_faults(
 #[unsafe(no_mangle)]
 pub extern "C" fn rdsrt_audit_passed(audit: &StoredAudit) -> u32
     ensures few { result ≤ 1 }
-    ensures passes { WhereItHeard audit.now (λ d heard. result ≡ 1 ↔ LogPasses d heard) }
-    ensures plans { WhereItHeard audit.now (λ d heard. result ≡ 1 ↔ HasPlans d heard) }
+    ensures passes { WhereItHeard audit.now (λ d heard. result ≡ 1 ↔ LogPasses (form_in audit.now) d heard) }
+    ensures plans { WhereItHeard audit.now (λ d heard. result ≡ 1 ↔ HasPlans (form_in audit.now) d heard) }
     ensures safe { WhereItHeard audit.now (λ d heard. (m k : ℕ) → 0 < m → m + k ≡ d
-        → result ≡ 1 → IsSafeLog m k heard) }
+        → result ≡ 1 → IsSafeLog (form_in audit.now) m k heard) }
     ensures recording { (pi m k : ℕ) (log : List (Option Group)) → (lies : AuditInMemory pi (m + k) audit.now log)
-        → start_in audit.now ≡ LogStart.Running → 0 < m → result ≡ 1 → IsSafeRecording m k lies.at.heard }
+        → start_in audit.now ≡ LogStart.Running → 0 < m → result ≡ 1
+        → IsSafeRecording (form_in audit.now) m k lies.at.heard }
 {
     u32::from(audit.passed())
 }
@@ -154,7 +214,7 @@ pub extern "C" fn rdsrt_audit_passed(audit: &StoredAudit) -> u32
 #[unsafe(no_mangle)]
 pub extern "C" fn rdsrt_audit_texts(audit: &StoredAudit) -> u64
     ensures { WhereItFollowed audit.now (λ d judged. result
-        ≡ min (length (spans d (marks text_mark judged))) (2 ^ 64 - 1)) }
+        ≡ min (length (spans (gauge_of (form_in audit.now)) d (marks text_mark judged))) (2 ^ 64 - 1)) }
 {
     audit.text.count
 }
@@ -163,7 +223,7 @@ pub extern "C" fn rdsrt_audit_texts(audit: &StoredAudit) -> u64
 #[unsafe(no_mangle)]
 pub extern "C" fn rdsrt_audit_names(audit: &StoredAudit) -> u64
     ensures { WhereItFollowed audit.now (λ d judged. result
-        ≡ min (length (spans d (marks name_mark judged))) (2 ^ 64 - 1)) }
+        ≡ min (length (spans name_gauge d (marks name_mark judged))) (2 ^ 64 - 1)) }
 {
     audit.name.count
 }
@@ -173,8 +233,9 @@ pub extern "C" fn rdsrt_audit_names(audit: &StoredAudit) -> u64
 pub extern "C" fn rdsrt_audit_texts_turn_the_flag(audit: &StoredAudit) -> u32
     ensures few { result ≤ 1 }
     ensures turns { WhereItHeard audit.now (λ d heard. result ≡ 1
-        ↔ (LogPasses d heard × AlternateFlags (reigns d (marks text_mark heard)))) }
-    ensures safe { WhereItHeard audit.now (λ d heard. result ≡ 1 → TextsAreSafeByFlag d heard) }
+        ↔ (LogPasses (form_in audit.now) d heard × AlternateFlags (reigns d (marks text_mark heard)))) }
+    ensures safe { WhereItHeard audit.now (λ d heard. form_in audit.now ≡ TextForm.Plain → result ≡ 1
+        → TextsAreSafeByFlag d heard) }
 {
     u32::from(audit.texts_turn_the_flag())
 }
@@ -184,8 +245,9 @@ pub extern "C" fn rdsrt_audit_texts_turn_the_flag(audit: &StoredAudit) -> u32
 pub extern "C" fn rdsrt_audit_names_turn_the_flag(audit: &StoredAudit) -> u32
     ensures few { result ≤ 1 }
     ensures turns { WhereItHeard audit.now (λ d heard. result ≡ 1
-        ↔ (LogPasses d heard × AlternateFlags (reigns d (marks name_mark heard)))) }
-    ensures safe { WhereItHeard audit.now (λ d heard. result ≡ 1 → NamesAreSafeByFlag d heard) }
+        ↔ (LogPasses (form_in audit.now) d heard × AlternateFlags (reigns d (marks name_mark heard)))) }
+    ensures safe { WhereItHeard audit.now (λ d heard. form_in audit.now ≡ TextForm.Plain → result ≡ 1
+        → NamesAreSafeByFlag d heard) }
 {
     u32::from(audit.names_turn_the_flag())
 }

@@ -1,7 +1,7 @@
 //! The codes that calls return. Contracts use their names in C, from `specs/Codes`.
 
 /// The number of this interface. It changes with every size, offset, code or call of the C header.
-pub(crate) const ABI: u32 = 6;
+pub(crate) const ABI: u32 = 7;
 
 /// The times do not tell how many slots were lost.
 pub(crate) const UNKNOWN: u32 = u32::MAX;
@@ -53,3 +53,12 @@ pub(crate) const NO_CHARACTER: u32 = 13;
 
 /// The output does not fit.
 pub(crate) const NO_ROOM: u32 = 14;
+
+/// A flag of an audit: the station was on air before the log began.
+pub(crate) const AUDIT_RUNNING: u32 = 1;
+
+/// A flag of an audit: texts may have padding.
+pub(crate) const AUDIT_PADDED: u32 = 2;
+
+/// All flags of an audit.
+pub(crate) const ALL_FLAGS: u32 = 3;

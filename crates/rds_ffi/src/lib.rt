@@ -23,7 +23,7 @@ const _: () = prove!(size_of::<rds_receiver::StoredReceiver>() == 264);
 
 const _: () = prove!(size_of::<rds_encoder::StoredEncoder>() == 116);
 
-const _: () = prove!(size_of::<rds_audit::StoredAudit>() == 272);
+const _: () = prove!(size_of::<rds_audit::StoredAudit>() == 280);
 
 const _: () = prove!(size_of::<rds_audit::StoredFaults>() == 5);
 

@@ -21,6 +21,7 @@ use Rattle.rds_audit.specs.declared.audit.AuditFault.{AuditFault}
 use Rattle.rds_audit.specs.declared.audit.AuditFault.TheVariants.{Changed, NotOneText, EarlyFlag, EarlyTag, TagOutside}
 use Rattle.rds_audit.specs.declared.fault_set.FaultSet.{FaultSet}
 use Rattle.rds_audit.specs.declared.log_start.LogStart.{LogStart}
+use Rattle.rds_audit.specs.declared.text_form.TextForm.{TextForm}
 use Rattle.rds_log.specs.Audit.{SlotsFail, SlotsPass, judged, spacing}
 use Rattle.rds_log.specs.FaultList.{AreAdded, AreFaultsOf, AnswersYes, Audits, BeginsWithNo, FindsFaults, IsNo}
 use Rattle.rds_log.specs.FaultList.{LinesAnswer, LinesGoOn, SaysNo}
@@ -41,42 +42,46 @@ use Rattle.rds_log.specs.declared.log_line.LogLine.TheVariants.{Skip, Slot}
 
 -- what an audit without a fault took passes
 pub slots_pass : (a : Auditing) (state : AuditState) (slots : List (Option Group))
-    → AuditAt a.pi (spacing a) state slots → state.start ≡ a.start → state.fault ≡ None → SlotsPass a slots
-slots_pass a state slots s begins none = record {
+    → AuditAt a.pi (spacing a) state slots → state.start ≡ a.start → state.form ≡ a.form → state.fault ≡ None
+    → SlotsPass a slots
+slots_pass a state slots s begins form none = record {
   heard = s.heard;
   are = s.are;
   passes =
       let all = judged a s.heard in
-      let held : LogPasses (spacing a) all × HoldsLog (spacing a) all state =
-      subst (λ (o : Option AuditFault). MatchOption o (LogPasses (spacing a) all × HoldsLog (spacing a) all state)
-      (IsFaultOf (spacing a) all)) none
+      let held : LogPasses state.form (spacing a) all × HoldsLog (spacing a) all state =
+      subst (λ (o : Option AuditFault). MatchOption o (LogPasses state.form (spacing a) all
+      × HoldsLog (spacing a) all state) (IsFaultOf state.form (spacing a) all)) none
       (subst (λ (st : LogStart). HasJudged (spacing a) state (judged_as st (spacing a) s.heard)) begins s.holds) in
-      held.0;
+      subst (λ (f : TextForm). LogPasses f (spacing a) all) form held.0;
 }
 
 -- slots that fail with the newest one
 pub fails_at : (a : Auditing) (state after : AuditState) (number : ℕ) (slots : List (Option Group))
     (slot : Option Group) (fault : AuditFault)
-    → AuditAt a.pi (spacing a) state slots → state.start ≡ a.start → state.fault ≡ None → number ≡ length slots
-    → (stands : AuditAt a.pi (spacing a) after (slot ∷ slots)) → after.start ≡ a.start
-    → IsFaultOf (spacing a) (judged_as after.start (spacing a) stands.heard) fault
+    → AuditAt a.pi (spacing a) state slots → state.start ≡ a.start → state.form ≡ a.form → state.fault ≡ None
+    → number ≡ length slots
+    → (stands : AuditAt a.pi (spacing a) after (slot ∷ slots)) → after.start ≡ a.start → after.form ≡ a.form
+    → IsFaultOf after.form (spacing a) (judged_as after.start (spacing a) stands.heard) fault
     → SlotsFail a number fault (slot ∷ slots)
-fails_at a state after number slots slot fault s begins passed count stands start is = record {
+fails_at a state after number slots slot fault s begins form passed count stands start same is = record {
   newest = slot;
   before = slots;
   cut = refl;
   number = count;
-  passed = slots_pass a state slots s begins passed;
+  passed = slots_pass a state slots s begins form passed;
   heard = stands.heard;
   are = stands.are;
-  fault_is = subst (λ (st : LogStart). IsFaultOf (spacing a) (judged_as st (spacing a) stands.heard) fault) start is;
+  fault_is = subst (λ (f : TextForm). IsFaultOf f (spacing a) (judged a stands.heard) fault) same
+      (subst (λ (st : LogStart). IsFaultOf after.form (spacing a) (judged_as st (spacing a) stands.heard) fault) start
+      is);
 }
 
 -- the fault in the state of an audit is that of its log
 pub fault_of : (d : ℕ) (state : AuditState) (fault : AuditFault) (judged : List (Option Message))
-    → state.fault ≡ Some fault → HasJudged d state judged → IsFaultOf d judged fault
-fault_of d state fault judged some has = subst (λ (o : Option AuditFault). MatchOption o (LogPasses d judged
-    × HoldsLog d judged state) (λ f. IsFaultOf d judged f)) some has
+    → state.fault ≡ Some fault → HasJudged d state judged → IsFaultOf state.form d judged fault
+fault_of d state fault judged some has = subst (λ (o : Option AuditFault). MatchOption o (LogPasses state.form d judged
+    × HoldsLog d judged state) (λ f. IsFaultOf state.form d judged f)) some has
 
 -- ---- the lines of a slot
 
@@ -175,28 +180,32 @@ adds a LogEnd (Some fault) (Some other) t slots slot all found wants had first a
 -- what one more slot adds
 faults_of_more : (a : Auditing) (l after : AuditState) (slots : List (Option Group)) (slot : Option Group)
     (faults : List FaultSet) (found : FaultSet) (s : FollowsLog a.pi (spacing a) l slots) → l.start ≡ a.start
+    → l.form ≡ a.form
     → (heard : List (Option Message)) → AreHeard a.pi (slot ∷ slots) heard → TakesAll l after slot found
     → AreFaultsOf a slots faults → AreFaultsOf a (slot ∷ slots) (found ∷ faults)
-faults_of_more a l after slots slot faults found s begins [] hear takes of = absurd hear
-faults_of_more a l after slots slot faults found s begins (m ∷ h) hear takes of =
+faults_of_more a l after slots slot faults found s begins form [] hear takes of = absurd hear
+faults_of_more a l after slots slot faults found s begins form (m ∷ h) hear takes of =
     let each = of.each in
     record {
       each = omega (arith, each);
       heard = m ∷ h;
       are = hear;
-      added = subst (λ (x : List (Option Message)). AreAdded (spacing a) x (found ∷ faults))
+      added = subst (λ (x : List (Option Message)). AreAdded a.form (spacing a) x (found ∷ faults))
           (sym (judged_step a.start (spacing a) m h)) (adds, older);
     }
   where
-    adds : found ≡ slot_adds (spacing a) (counted_as a.start (judged a h) m) (judged a h)
+    adds : found ≡ slot_adds a.form (spacing a) (counted_as a.start (judged a h) m) (judged a h)
     adds =
-        subst (λ (x : List (Option Message)). found ≡ slot_adds (spacing a) (counted_as a.start (judged a x) m)
+        subst (λ (x : List (Option Message)). found ≡ slot_adds a.form (spacing a) (counted_as a.start (judged a x) m)
         (judged a x)) (same_heard a.pi slots s.at.heard h s.at.are hear.1)
-        (subst (λ (st : LogStart). found ≡ slot_adds (spacing a) (counted_as st (judged_as st (spacing a) s.at.heard) m)
-        (judged_as st (spacing a) s.at.heard)) begins (takes.adds a.pi (spacing a) slots s m hear.0))
+        (subst (λ (f : TextForm). found ≡ slot_adds f (spacing a) (counted_as a.start (judged a s.at.heard) m)
+        (judged a s.at.heard)) form
+        (subst (λ (st : LogStart). found ≡ slot_adds l.form (spacing a)
+        (counted_as st (judged_as st (spacing a) s.at.heard) m)
+        (judged_as st (spacing a) s.at.heard)) begins (takes.adds a.pi (spacing a) slots s m hear.0)))
 
-    older : AreAdded (spacing a) (judged a h) faults
-    older = subst (λ (x : List (Option Message)). AreAdded (spacing a) (judged a x) faults)
+    older : AreAdded a.form (spacing a) (judged a h) faults
+    older = subst (λ (x : List (Option Message)). AreAdded a.form (spacing a) (judged a x) faults)
         (same_heard a.pi slots of.heard h of.are hear.1) of.added
 
 -- the answer that the list gives
@@ -230,9 +239,11 @@ takes_slot a l after w out now lines line slot found says taken goes_on takes ou
         stop = keeps ∙ s.stop;
         audit = takes.follows a.pi (spacing a) s.slots s.audit;
         begins = takes.start ∙ s.begins;
+        form = takes.form ∙ s.form;
         list = record {
           faults = found ∷ s.list.faults;
-          are = faults_of_more a l.audit after.audit s.slots slot s.list.faults found s.audit s.begins stands.heard
+          are = faults_of_more a l.audit after.audit s.slots slot s.list.faults found s.audit s.begins s.form
+              stands.heard
               stands.are takes s.list.are;
           lines = ap (λ (x : List ℕ). x ++ lines_for a.stop l.slots found) s.list.lines
               ∙ ap (λ n. list_lines a.stop s.list.faults ++ lines_for a.stop n found) (count ∙ sym each);
@@ -262,15 +273,16 @@ takes_slot a l after w out now lines line slot found says taken goes_on takes ou
     fails : (fault : AuditFault) → l.audit.fault ≡ None → after.audit.fault ≡ Some fault
         → SlotsFail a l.slots fault (slot ∷ s.slots)
     fails fault none some =
-        fails_at a l.audit after.audit l.slots s.slots slot fault s.audit.at s.begins none s.count stands
-        (takes.start ∙ s.begins)
+        fails_at a l.audit after.audit l.slots s.slots slot fault s.audit.at s.begins s.form none s.count stands
+        (takes.start ∙ s.begins) (takes.form ∙ s.form)
         (fault_of (spacing a) after.audit fault (judged_as after.audit.start (spacing a) stands.heard) some
         stands.holds)
 
     further : Says a.stop a after.audit.fault (slot ∷ s.slots) (taken.total ++ lines_for a.stop l.slots found)
     further =
         adds a a.stop l.audit.fault after.audit.fault l.slots s.slots slot taken.total found wanted s.first takes.first
-        takes.again (slots_pass a after.audit (slot ∷ s.slots) stands (takes.start ∙ s.begins)) fails
+        takes.again (slots_pass a after.audit (slot ∷ s.slots) stands (takes.start ∙ s.begins)
+        (takes.form ∙ s.form)) fails
 
     none_now : (o : Option AuditFault) → first_of found ≡ o → after.is_done ≡ false → a.stop ≡ FirstFault
         → after.audit.fault ≡ None
@@ -311,6 +323,7 @@ takes_skip a l after w out lines line says audit slots keeps same taken =
         stop = keeps ∙ s.stop;
         audit = rw audit s.audit;
         begins = rw audit s.begins;
+        form = rw audit s.form;
         list = s.list;
         first = rw audit s.first;
         wants = λ going first. rw audit (s.wants (sym same ∙ going) first);
@@ -321,9 +334,10 @@ takes_skip a l after w out lines line says audit slots keeps same taken =
 
 -- before the first line
 pub audited_none : (a : Auditing) (l : Auditor) → FollowsLog a.pi (spacing a) l.audit [] → l.audit.start ≡ a.start
-    → l.audit.fault ≡ None → l.slots ≡ 0 → l.stop ≡ a.stop → l.is_done ≡ false → HasAudited a l [] []
-audited_none a l follows begins none slots keeps going =
-    let passes = slots_pass a l.audit [] follows.at begins none in
+    → l.audit.form ≡ a.form → l.audit.fault ≡ None → l.slots ≡ 0 → l.stop ≡ a.stop → l.is_done ≡ false
+    → HasAudited a l [] []
+audited_none a l follows begins form none slots keeps going =
+    let passes = slots_pass a l.audit [] follows.at begins form none in
     record {
       slots = [];
       say = refl;
@@ -331,6 +345,7 @@ audited_none a l follows begins none slots keeps going =
       stop = keeps;
       audit = follows;
       begins = begins;
+      form = form;
       list = record {
         faults = [];
         are = record { each = refl; heard = []; are = tt; added = tt };

@@ -9,6 +9,7 @@ use Rattle.rds_audit.specs.Recording.{judged_as}
 use Rattle.rds_audit.specs.Rules.{LogPasses}
 use Rattle.rds_audit.specs.declared.audit.AuditFault.{AuditFault}
 use Rattle.rds_audit.specs.declared.log_start.LogStart.{LogStart}
+use Rattle.rds_audit.specs.declared.text_form.TextForm.{TextForm}
 use Rattle.rds_audit.specs.declared.log_start.LogStart.TheVariants.{Complete, Running}
 use Rattle.rds_log.specs.Audit.{IsSafe, SlotsAreSafe, SlotsFail, SlotsHaveNoPlans, SlotsPass}
 use Rattle.rds_log.specs.FaultList.{Audits, BeginsWithNoPlans, FindsFaults, Means}
@@ -19,10 +20,10 @@ use Rattle.rds_io.specs.declared.fault.LogFault.{LogFault}
 
 -- a log that passes is safe as it is
 pub safe_as_it_is : WhatPassesIsSafe → WhatPassesAsARecordingIsSafe
-    → (start : LogStart) (m k : ℕ) (heard : List (Option Message)) → 0 < m
-    → LogPasses (m + k) (judged_as start (m + k) heard) → IsSafe start m k heard
-safe_as_it_is complete running Complete m k heard pos passes = complete m k heard pos passes
-safe_as_it_is complete running Running m k heard pos passes = running m k heard pos passes
+    → (start : LogStart) (form : TextForm) (m k : ℕ) (heard : List (Option Message)) → 0 < m
+    → LogPasses form (m + k) (judged_as start (m + k) heard) → IsSafe start form m k heard
+safe_as_it_is complete running Complete form m k heard pos passes = complete form m k heard pos passes
+safe_as_it_is complete running Running form m k heard pos passes = running form m k heard pos passes
 
 -- a yes goes with slots that pass, and a no with slots that fail
 pub meaning : (a : Auditing) (reads : ℕ) (r w : Traffic) (result : Result Bool LogFault)

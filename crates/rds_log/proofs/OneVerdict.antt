@@ -13,6 +13,7 @@ use Rattle.rds_receiver.specs.OneView.{same_heard}
 use Rattle.rds_receiver.specs.Receipts.{AreHeard}
 use Rattle.rds_audit.specs.AuditLaws.{WhatHasAFaultDoesNotPass}
 use Rattle.rds_audit.specs.Judging.{judged_more}
+use Rattle.rds_audit.specs.declared.text_form.TextForm.{TextForm}
 use Rattle.rds_audit.specs.Listing.{IsFaultOf, first_fault, first_of, or_else, slot_adds}
 use Rattle.rds_audit.specs.declared.audit.AuditFault.{AuditFault}
 use Rattle.rds_audit.specs.declared.fault_set.FaultSet.{FaultSet}
@@ -130,11 +131,11 @@ more_heard pi (s ∷ more) slots (m ∷ heard) other p q =
     (m ∷ newer, ap (λ (l : List (Option Message)). m ∷ l) is)
 
 -- a log that goes on after a fault has it
-fault_stays : (d : ℕ) (newer log : List (Option Message)) (fault : AuditFault) → IsFaultOf d log fault
-    → IsFaultOf d (newer ++ log) fault
-fault_stays d [] log fault p = p
-fault_stays d (m ∷ newer) log fault p = ap (λ (o : Option AuditFault). or_else o
-    (first_of (slot_adds d m (newer ++ log)))) (fault_stays d newer log fault p)
+fault_stays : (form : TextForm) (d : ℕ) (newer log : List (Option Message)) (fault : AuditFault)
+    → IsFaultOf form d log fault → IsFaultOf form d (newer ++ log) fault
+fault_stays form d [] log fault p = p
+fault_stays form d (m ∷ newer) log fault p = ap (λ (o : Option AuditFault). or_else o
+    (first_of (slot_adds form d m (newer ++ log)))) (fault_stays form d newer log fault p)
 
 -- slots that go on after a fault do not pass
 fails_for_good : WhatHasAFaultDoesNotPass
@@ -144,7 +145,8 @@ fails_for_good fails a t fault more slots some fail pass =
     let (newer, same) = more_heard a.pi more slots pass.heard fail.heard pass.are fail.are in
     let (later, e) = judged_more a.start (spacing a) newer fail.heard in
     let goes_on : judged a pass.heard ≡ later ++ judged a fail.heard = ap (judged a) same ∙ e in
-    fails (spacing a) (judged a pass.heard) fault some (rw goes_on (fault_stays (spacing a) later (judged a fail.heard)
+    fails a.form (spacing a) (judged a pass.heard) fault some (rw goes_on (fault_stays a.form (spacing a) later
+    (judged a fail.heard)
     fault fail.fault_is)) pass.passes
 
 -- and those that do not pass fail at one slot, with one fault
@@ -158,7 +160,8 @@ fails_once fails a t u f g [] slots all some same p q =
     let number : t ≡ u = omega (arith, count, first, second, p.number, q.number) in
     let heard : p.heard ≡ q.heard = same_heard a.pi slots p.heard q.heard p.are (rw same at q.are) in
     let both : Some f ≡ Some g =
-    sym p.fault_is ∙ ap (λ (h : List (Option Message)). first_fault (spacing a) (judged a h)) heard ∙ q.fault_is in
+    sym p.fault_is ∙ ap (λ (h : List (Option Message)). first_fault a.form (spacing a)
+    (judged a h)) heard ∙ q.fault_is in
     let fault : f ≡ g = (cc) in
     ap (λ (n : ℕ). no_line n f) number ∙ ap (no_line u) fault
 fails_once fails a t u f g (s ∷ more) slots all some same p q =
@@ -229,16 +232,16 @@ one_number a n m bytes p q =
     p.number ∙ ap length slots ∙ sym q.number
 
 -- a log has one list of faults
-one_list : (d : ℕ) (log : List (Option Message)) (fs gs : List FaultSet) → length fs ≡ length gs → AreAdded d log fs
-    → AreAdded d log gs → fs ≡ gs
-one_list d log [] [] same p q = refl
-one_list d log [] (g ∷ gs) same p q = absurd (cc)
-one_list d log (f ∷ fs) [] same p q = absurd (cc)
-one_list d [] (f ∷ fs) (g ∷ gs) same p q = absurd p
-one_list d (m ∷ log) (f ∷ fs) (g ∷ gs) same p q =
+one_list : (form : TextForm) (d : ℕ) (log : List (Option Message)) (fs gs : List FaultSet) → length fs ≡ length gs
+    → AreAdded form d log fs → AreAdded form d log gs → fs ≡ gs
+one_list form d log [] [] same p q = refl
+one_list form d log [] (g ∷ gs) same p q = absurd (cc)
+one_list form d log (f ∷ fs) [] same p q = absurd (cc)
+one_list form d [] (f ∷ fs) (g ∷ gs) same p q = absurd p
+one_list form d (m ∷ log) (f ∷ fs) (g ∷ gs) same p q =
     let one : f ≡ g = p.0 ∙ sym q.0 in
     let shorter : length fs ≡ length gs = omega (arith, same) in
-    let all : fs ≡ gs = one_list d log fs gs shorter p.1 q.1 in
+    let all : fs ≡ gs = one_list form d log fs gs shorter p.1 q.1 in
     (cc)
 
 -- lines have one output
@@ -249,7 +252,7 @@ one_output a lines written other p q =
     let heard = same_heard a.pi q.slots p.list.are.heard q.list.are.heard (rw slots at p.list.are.are) q.list.are.are in
     let each : length p.list.faults ≡ length q.list.faults = p.list.are.each ∙ ap length slots ∙ sym q.list.are.each in
     let faults : p.list.faults ≡ q.list.faults =
-    one_list (spacing a) (judged a q.list.are.heard) p.list.faults q.list.faults each
+    one_list a.form (spacing a) (judged a q.list.are.heard) p.list.faults q.list.faults each
     (rw heard at p.list.are.added) q.list.are.added in
     p.list.lines ∙ ap (list_lines a.stop) faults ∙ sym q.list.lines
 

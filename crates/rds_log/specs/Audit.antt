@@ -1,7 +1,8 @@
 -- When the slots and the bytes of a log pass the audit, and what that means. Lists of slots and of lines have the
 -- newest
--- first. a says how the log is judged: its programme, M, K, whether it begins with its station, and where the audit
--- stops.
+-- first. a says how the log is judged: its programme, M, K, whether it begins with its station, the form of its texts,
+-- and
+-- where the audit stops.
 use Rattle.std.specs.Prelude.{◌≡◌, ◌+◌, ◌∷◌, ℕ, List, Option, length}
 use Rattle.rds_block.specs.declared.group.Group.{Group}
 use Rattle.rds_fields.specs.declared.message.Message.{Message}
@@ -13,6 +14,8 @@ use Rattle.rds_audit.specs.Recording.{judged_as}
 use Rattle.rds_audit.specs.Rules.{LogPasses}
 use Rattle.rds_audit.specs.declared.audit.AuditFault.{AuditFault}
 use Rattle.rds_audit.specs.declared.log_start.LogStart.{LogStart}
+use Rattle.rds_audit.specs.declared.text_form.TextForm.{TextForm}
+use Rattle.rds_audit.specs.declared.text_form.TextForm.TheVariants.{Plain}
 use Rattle.rds_audit.specs.declared.log_start.LogStart.TheVariants.{Complete, Running}
 use Rattle.rds_log.specs.LogLines.{AreLines, Line}
 use Rattle.rds_log.specs.LogWrites.{AreSlots}
@@ -28,7 +31,7 @@ spacing a = a.dwell + a.late
 
 -- the settings for the first fault of a complete log
 abbrev pub complete : ℕ → ℕ → ℕ → Auditing
-complete pi m k = record { pi = pi; dwell = m; late = k; start = Complete; stop = FirstFault }
+complete pi m k = record { pi = pi; dwell = m; late = k; start = Complete; form = Plain; stop = FirstFault }
 
 -- what is judged of the messages of a log
 abbrev pub judged : Auditing → List (Option Message) → List (Option Message)
@@ -40,7 +43,7 @@ judged a heard = judged_as a.start (spacing a) heard
 pub record SlotsPass (a : Auditing) (slots : List (Option Group)) : Type 0 where
   pub heard : List (Option Message)
   pub are : AreHeard a.pi slots heard
-  pub passes : LogPasses (spacing a) (judged a heard)
+  pub passes : LogPasses a.form (spacing a) (judged a heard)
 
 -- the newest slot has number t, those before it pass, and this is the fault of all
 pub record SlotsFail (a : Auditing) (t : ℕ) (fault : AuditFault) (slots : List (Option Group)) : Type 0 where
@@ -51,25 +54,25 @@ pub record SlotsFail (a : Auditing) (t : ℕ) (fault : AuditFault) (slots : List
   pub passed : SlotsPass a before
   pub heard : List (Option Message)
   pub are : AreHeard a.pi slots heard
-  pub fault_is : IsFaultOf (spacing a) (judged a heard) fault
+  pub fault_is : IsFaultOf a.form (spacing a) (judged a heard) fault
 
--- a log that begins so is safe as it is
-abbrev pub IsSafe : LogStart → ℕ → ℕ → List (Option Message) → Type 0
-IsSafe Complete m k heard = IsSafeLog m k heard
-IsSafe Running m k heard = IsSafeRecording m k heard
+-- a log that begins so, with texts of this form, is safe as it is
+abbrev pub IsSafe : LogStart → TextForm → ℕ → ℕ → List (Option Message) → Type 0
+IsSafe Complete form m k heard = IsSafeLog form m k heard
+IsSafe Running form m k heard = IsSafeRecording form m k heard
 
 -- no receiver of this dwell breaks any part of the promise over these slots, provided that no group reaches it later
 -- than the settings allow; it may lose groups and restart at any time
 pub record SlotsAreSafe (a : Auditing) (slots : List (Option Group)) : Type 0 where
   pub heard : List (Option Message)
   pub are : AreHeard a.pi slots heard
-  pub safe : IsSafe a.start a.dwell a.late heard
+  pub safe : IsSafe a.start a.form a.dwell a.late heard
 
 -- these slots, as they are judged, have no lawful and dense plans
 pub record SlotsHaveNoPlans (a : Auditing) (slots : List (Option Group)) : Type 0 where
   pub heard : List (Option Message)
   pub are : AreHeard a.pi slots heard
-  pub none : HasPlans (spacing a) (judged a heard) → ⊥
+  pub none : HasPlans a.form (spacing a) (judged a heard) → ⊥
 
 -- ---- bytes
 

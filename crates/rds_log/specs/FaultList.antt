@@ -13,6 +13,7 @@ use Rattle.rds_audit.specs.declared.audit.AuditFault.TheVariants.{Changed, NotOn
 use Rattle.rds_audit.specs.declared.audit.AuditFault.TheVariants.{EarlyTag, TagOutside}
 use Rattle.rds_audit.specs.declared.fault_set.FaultSet.{FaultSet}
 use Rattle.rds_audit.specs.Listing.{first_of, slot_adds}
+use Rattle.rds_audit.specs.declared.text_form.TextForm.{TextForm}
 use Rattle.rds_log.specs.Audit.{SlotsAreSafe, SlotsFail, SlotsHaveNoPlans, SlotsPass, StopsAtSlot, WholePasses}
 use Rattle.rds_log.specs.Audit.{judged, spacing}
 use Rattle.rds_log.specs.LogLines.{AreLines, Line}
@@ -73,17 +74,18 @@ list_lines stop (f ∷ before) = list_lines stop before ++ lines_for stop (lengt
 -- ---- the faults of slots
 
 -- these are the faults that the newest slots of a log add to its list, one set for each of them
-abbrev pub AreAdded : ℕ → List (Option Message) → List FaultSet → Type 0
-AreAdded d judged [] = Unit {0}
-AreAdded d [] (f ∷ older) = ⊥
-AreAdded d (newest ∷ before) (f ∷ older) = (f ≡ slot_adds d newest before) × AreAdded d before older
+abbrev pub AreAdded : TextForm → ℕ → List (Option Message) → List FaultSet → Type 0
+AreAdded form d judged [] = Unit {0}
+AreAdded form d [] (f ∷ older) = ⊥
+AreAdded form d (newest ∷ before) (f ∷ older) =
+    (f ≡ slot_adds form d newest before) × AreAdded form d before older
 
 -- these are the faults that each of the slots adds to the list of its log, as the log is judged
 pub record AreFaultsOf (a : Auditing) (slots : List (Option Group)) (faults : List FaultSet) : Type 0 where
   pub each : length faults ≡ length slots
   pub heard : List (Option Message)
   pub are : AreHeard a.pi slots heard
-  pub added : AreAdded (spacing a) (judged a heard) faults
+  pub added : AreAdded a.form (spacing a) (judged a heard) faults
 
 -- ---- the list of slots
 

@@ -11,7 +11,7 @@ use crate::laws::what_an_answer_means;
 use crate::news::{News, NoNews};
 use crate::notes::LogNotes;
 use crate::run_log::run;
-use rds_audit::LogStart;
+use rds_audit::{LogStart, TextForm};
 use rds_fields::{Dwell, Late};
 use rds_io::{LogFault, TellingRead, TellingWrite};
 
@@ -35,6 +35,8 @@ pub struct Auditing {
     pub late: Late,
     /// Whether the log begins with its station.
     pub start: LogStart,
+    /// Whether its texts may have padding.
+    pub form: TextForm,
     /// Where the audit stops.
     pub stop: Stop,
 }
@@ -89,6 +91,7 @@ pub fn audit_within<R: TellingRead, W: TellingWrite>(
         dwell,
         late,
         start: LogStart::Complete,
+        form: TextForm::Plain,
         stop: Stop::FirstFault,
     };
     audit_with_notes(

@@ -105,7 +105,7 @@ impl Auditor {
         ensures audited { HasAudited how result [] [] }
     {
         Auditor {
-            audit: Audit::starting(how.pi, how.dwell, how.late, how.start),
+            audit: Audit::starting(how.pi, how.dwell, how.late, how.start, how.form),
             slots: 0,
             stop: how.stop,
             is_done: false,
@@ -148,7 +148,7 @@ impl Auditor {
             }
             Stop::LogEnd => {
                 push_faults(slot, found, output);
-                self.faults.count(said, found, self.audit.texts(), place);
+                self.faults.count(said, found, &self.audit, place);
             }
         }
     }

@@ -149,12 +149,14 @@ impl TakesLines for Decoder {
     fn line<W: TellingWrite>(
         &mut self,
         said: LogLine,
-        _source: &Source,
+        source: &Source,
         output: &mut Lines<OUTPUT_ROOM>,
         _writer: &mut W,
     ) -> Result<bool, WriteFault> {
         let heard = said;
+        let lost = said;
         self.heard.line(self.pi, heard);
+        self.heard.lost(self.pi, lost, source);
         match said {
             LogLine::Skip => Ok(true),
             LogLine::Slot(group) => {

@@ -2,9 +2,9 @@
 
 use crate::line_time::LineTime;
 use crate::log_line::LogLine;
-use crate::notes::is_name;
+use crate::notes::{harmless_in, is_name};
 use crate::source::Source;
-use rds_audit::{AuditFault, FaultSet};
+use rds_audit::{Audit, AuditFault, FaultSet};
 
 /// Where a fault stands in a log (this project's own rule).
 #[derive(Clone, Copy, Debug, PartialEq, Eq)]
@@ -22,6 +22,8 @@ pub struct FaultPlace {
 pub struct FaultCount {
     pub fault: AuditFault,
     pub count: u64,
+    /// How many of them may be harmless ([`NoNote`](crate::NoNote) says when).
+    pub harmless: u64,
     pub first: FaultPlace,
     pub last: FaultPlace,
 }
@@ -56,15 +58,23 @@ impl FaultNotes {
         }
     }
 
-    /// Counts the faults of a slot, whose line says this. The audit has so many texts by then.
-    pub(crate) fn count(&mut self, said: LogLine, found: FaultSet, texts: u64, place: FaultPlace) {
+    /// Counts the faults of a slot, whose line says this. The audit took the slot.
+    pub(crate) fn count(
+        &mut self,
+        said: LogLine,
+        found: FaultSet,
+        audit: &Audit,
+        place: FaultPlace,
+    ) {
+        let sent = said;
+        let harmless = harmless_in(audit, sent);
         self.slots = self.slots.saturating_add(1);
         if is_name(said) {
-            self.names.add(found, place);
-        } else if texts == 0 {
-            self.before.add(found, place);
+            self.names.add(found, harmless, place);
+        } else if audit.texts() == 0 {
+            self.before.add(found, harmless, place);
         } else {
-            self.texts.add(found, place);
+            self.texts.add(found, harmless, place);
         }
     }
 }
@@ -86,37 +96,41 @@ impl FaultCounts {
         FaultCounts { counts: [None; 5] }
     }
 
-    /// Counts the faults of a slot.
-    fn add(&mut self, found: FaultSet, place: FaultPlace) {
+    /// Counts the faults of a slot, and which of them may be harmless.
+    fn add(&mut self, found: FaultSet, harmless: FaultSet, place: FaultPlace) {
         let faults = [
-            (found.changed, AuditFault::Changed),
-            (found.early_flag, AuditFault::EarlyFlag),
-            (found.not_one_text, AuditFault::NotOneText),
-            (found.early_tag, AuditFault::EarlyTag),
-            (found.tag_outside, AuditFault::TagOutside),
+            AuditFault::Changed,
+            AuditFault::EarlyFlag,
+            AuditFault::NotOneText,
+            AuditFault::EarlyTag,
+            AuditFault::TagOutside,
         ];
-        for (count, (has, fault)) in self.counts.iter_mut().zip(faults) {
-            if has {
-                *count = Some(one_more(*count, fault, place));
+        for (count, fault) in self.counts.iter_mut().zip(faults) {
+            if found.has(fault) {
+                *count = Some(one_more(*count, fault, harmless.has(fault), place));
             }
         }
     }
 }
 
-/// Returns the count with one more fault.
-fn one_more(count: Option<FaultCount>, fault: AuditFault, place: FaultPlace) -> FaultCount {
-    match count {
-        Some(before) => FaultCount {
-            fault,
-            count: before.count.saturating_add(1),
-            first: before.first,
-            last: place,
-        },
-        None => FaultCount {
-            fault,
-            count: 1,
-            first: place,
-            last: place,
-        },
+/// Returns the count with one more fault, which may be harmless or not.
+fn one_more(
+    count: Option<FaultCount>,
+    fault: AuditFault,
+    is_harmless: bool,
+    place: FaultPlace,
+) -> FaultCount {
+    let before = count.unwrap_or(FaultCount {
+        fault,
+        count: 0,
+        harmless: 0,
+        first: place,
+        last: place,
+    });
+    FaultCount {
+        count: before.count.saturating_add(1),
+        harmless: before.harmless.saturating_add(u64::from(is_harmless)),
+        last: place,
+        ..before
     }
 }

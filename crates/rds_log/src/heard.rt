@@ -1,7 +1,13 @@
 //! The programmes of the groups of a log, for a person. No contract says that these are the groups of the log.
 
-use crate::log_line::LogLine;
+use crate::log_line::{BLOCKS, LogLine};
+use crate::source::Source;
 use rds_block::Blocks;
+use rds_fields::{Message, RTPLUS_AID, RTPLUS_CODE};
+use rds_io::word_at;
+
+/// The code of group type 3A, which announces applications.
+const ANNOUNCEMENT: u8 = 6;
 
 /// How many groups of each type the wanted programme has (this project's own rule).
 #[derive(Clone, Copy)]
@@ -41,11 +47,49 @@ impl GroupCounts {
     }
 }
 
+/// Which application has which group type by the newest groups 3A of a log (this project's own rule).
+#[derive(Clone, Copy)]
+pub struct Announced {
+    /// The group type of RadioText Plus, as five bits.
+    pub rtplus: Option<u8>,
+    /// The application of group 11A.
+    pub in_11a: Option<u16>,
+}
+
+impl Announced {
+    /// Starts before the first group.
+    fn new() -> Announced {
+        Announced {
+            rtplus: None,
+            in_11a: None,
+        }
+    }
+
+    /// Takes a group 3A.
+    // Cold path.
+    #[inline(never)]
+    fn take(&mut self, group: Blocks) {
+        let Message::Announce { code, aid, .. } = Message::of_blocks(group) else {
+            return;
+        };
+        if aid == RTPLUS_AID {
+            self.rtplus = Some(code.get());
+        }
+        if code.get() == RTPLUS_CODE {
+            self.in_11a = Some(aid);
+        }
+    }
+}
+
 /// The programmes of a log's groups, for a person who gave the PI of another programme (this project's own rule).
 #[derive(Clone, Copy)]
 pub struct Heard {
     /// The groups of the wanted programme.
     pub counts: GroupCounts,
+    /// The applications that it announces.
+    pub announced: Announced,
+    /// The number of its groups with one lost block of the last three: lost slots.
+    pub damaged: u64,
     /// Whether a group of the wanted programme was read. If so, the fields after this one mean nothing.
     pub wanted: bool,
     /// The number of groups that were read, of any programme.
@@ -61,6 +105,8 @@ impl Heard {
     pub(crate) fn new() -> Heard {
         Heard {
             counts: GroupCounts::new(),
+            announced: Announced::new(),
+            damaged: 0,
             wanted: false,
             groups: 0,
             first: None,
@@ -85,10 +131,40 @@ impl Heard {
         };
         let own = group.pi();
         if own == pi {
+            if group.kind() == ANNOUNCEMENT {
+                self.announced.take(group);
+            }
             self.counts.add(group);
         }
         if !self.wanted {
             self.look(pi, own);
+        }
+    }
+
+    /// Takes the line that this source read last. Counts it if it is a lost slot with all blocks of a group of the
+    /// wanted
+    /// programme but one of the last three.
+    #[inline(always)]
+    pub(crate) fn lost(&mut self, pi: u16, said: LogLine, source: &Source) {
+        match said {
+            LogLine::Slot(None) => self.damage(pi, source.start()),
+            LogLine::Slot(Some(_)) | LogLine::Skip => {}
+        }
+    }
+
+    /// Takes the first bytes of a slot without a group.
+    // Cold path.
+    #[inline(never)]
+    fn damage(&mut self, pi: u16, line: &[u8]) {
+        if line.len() < BLOCKS || word_at(line, 0) != Some(pi) {
+            return;
+        }
+        let others = (word_at(line, 5), word_at(line, 10), word_at(line, 15));
+        if let (None, Some(_), Some(_))
+        | (Some(_), None, Some(_))
+        | (Some(_), Some(_), None) = others
+        {
+            self.damaged = self.damaged.saturating_add(1);
         }
     }
 

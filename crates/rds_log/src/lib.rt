@@ -39,7 +39,7 @@ pub use decode_log::{Decoding, MOST_READS, decode, decode_with_notes, decode_wit
 pub use fault_notes::{FaultCount, FaultCounts, FaultNotes, FaultPlace};
 pub use filler::{Filling, Gap, SlotCounts, Times, comment_of};
 pub use gather_log::gather;
-pub use heard::{GroupCounts, Heard};
+pub use heard::{Announced, GroupCounts, Heard};
 pub use laws::{
     bytes_have_one_verdict, bytes_write_one_output, filled_texts_are_logs, what_an_answer_means,
 };

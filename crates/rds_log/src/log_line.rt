@@ -13,7 +13,7 @@ use rds_block::Blocks;
 use rds_io::{four_words, word_at};
 
 /// The number of bytes of the four blocks of a slot line and the spaces between them.
-const BLOCKS: usize = 19;
+pub(crate) const BLOCKS: usize = 19;
 
 /// The most bytes that are kept of a line: as many as a note on a malformed line shows. The first 21 of them decide the
 /// meaning: the blocks, the byte after them, and one more, since a carriage return counts only at the end of a line.

@@ -9,7 +9,7 @@ use crate::news::News;
 use crate::segment_cause::SegmentCause;
 use crate::source::Source;
 use arrayvec::ArrayVec;
-use rds_audit::{Audit, AuditFault};
+use rds_audit::{Audit, AuditFault, FaultSet};
 use rds_fields::Message;
 
 /// A malformed line (this project's own rule).
@@ -41,6 +41,9 @@ pub struct NoNote {
     pub spacing: u32,
     /// For `NotOneText`, what is wrong with the segment.
     pub cause: Option<SegmentCause>,
+    /// Whether the fault may be harmless. For `NotOneText`, if a text with padding has all segments of the text. For
+    /// `EarlyTag`, if both tags are empty. For `EarlyFlag`, if the first segment is the same as in the text before.
+    pub is_harmless: bool,
 }
 
 /// A pause of M + K slots or more without a text segment or tags (this project's own rule).
@@ -58,6 +61,8 @@ impl NoNote {
     #[inline(never)]
     pub(crate) fn of(audit: &Audit, said: LogLine, at: FaultPlace, fault: AuditFault) -> NoNote {
         let sent = said;
+        let taken = said;
+        let harmless = harmless_in(audit, taken);
         let of_name = is_name(said);
         let stored = audit.store();
         let current = if of_name { stored.name } else { stored.text };
@@ -96,6 +101,35 @@ impl NoNote {
                 }
                 _ => None,
             },
+            is_harmless: harmless.has(fault),
+        }
+    }
+}
+
+/// Returns which faults may be harmless in the slot of this line, which the audit took: a text with padding has all
+/// segments of the text, both tags are empty, or the first segment is the same as in the text before.
+pub(crate) fn harmless_in(audit: &Audit, said: LogLine) -> FaultSet {
+    let sent = said;
+    let of_name = is_name(said);
+    let stored = audit.store();
+    let current = if of_name { stored.name } else { stored.text };
+    FaultSet {
+        early_flag: current.repeats != 0,
+        not_one_text: !of_name && stored.is_padded == 0 && audit.fits_padded(),
+        early_tag: has_empty_tags(sent),
+        ..FaultSet::none()
+    }
+}
+
+/// Returns whether a line has a group of two tags without a piece of the text.
+fn has_empty_tags(said: LogLine) -> bool {
+    let LogLine::Slot(Some(group)) = said else {
+        return false;
+    };
+    match Message::of_blocks(group) {
+        Message::Tags(pair) => pair.one().class() == 0 && pair.two().class() == 0,
+        Message::Text { .. } | Message::Name { .. } | Message::Announce { .. } | Message::Other => {
+            false
         }
     }
 }

@@ -30,12 +30,33 @@ pub(crate) fn push_found(of: FaultOf, judged: u64, count: FaultCount, line: &mut
     if count.count == 1 {
         let _ = write!(line, " in ");
         push_place(count.first, line);
-        return;
+    } else {
+        let _ = write!(line, ", first in ");
+        push_place(count.first, line);
+        let _ = write!(line, ", last in ");
+        push_place(count.last, line);
     }
-    let _ = write!(line, ", first in ");
-    push_place(count.first, line);
-    let _ = write!(line, ", last in ");
-    push_place(count.last, line);
+    if count.harmless > 0 {
+        let _ = write!(line, "; in {} of them ", count.harmless);
+        push_harmless(count.fault, line);
+    }
+}
+
+/// Appends why a fault may be harmless.
+fn push_harmless(fault: AuditFault, line: &mut Line) {
+    let _ = match fault {
+        AuditFault::NotOneText => write!(
+            line,
+            "it may be harmless: receivers show nothing behind the carriage return. To judge the text without it: \
+             --padded"
+        ),
+        AuditFault::EarlyTag => write!(line, "both tags are empty, so no receiver shows them"),
+        AuditFault::EarlyFlag => write!(
+            line,
+            "the first segment is that of the text before: only a new text needs a flip"
+        ),
+        AuditFault::Changed | AuditFault::TagOutside => Ok(()),
+    };
 }
 
 /// Appends the slot of a fault, its line, and the time in this line, if it has one.
@@ -55,6 +76,10 @@ pub(crate) fn push_no(no: NoNote, request: &Request<'_>, line: &mut Line) {
     push_place(no.at, line);
     let _ = write!(line, ": ");
     push_rule(no, line);
+    if no.is_harmless {
+        let _ = write!(line, ". Here ");
+        push_harmless(no.fault, line);
+    }
     let _ = write!(line, ". To list all faults: rdsrt audit --all");
     push_audit_options(request.task, line);
     push_input(request, line);
@@ -68,7 +93,13 @@ pub(crate) fn push_no(no: NoNote, request: &Request<'_>, line: &mut Line) {
 
 /// Appends the options of this audit that are not the default: the lateness and the start of the log.
 fn push_audit_options(task: Task, line: &mut Line) {
-    let Task::Audit { late, running, .. } = task else {
+    let Task::Audit {
+        late,
+        running,
+        padded,
+        ..
+    } = task
+    else {
         return;
     };
     if late.get() > 0 {
@@ -76,6 +107,9 @@ fn push_audit_options(task: Task, line: &mut Line) {
     }
     if running {
         let _ = write!(line, " --running");
+    }
+    if padded {
+        let _ = write!(line, " --padded");
     }
 }
 

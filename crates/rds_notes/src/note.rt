@@ -3,15 +3,15 @@
 use arrayvec::ArrayVec;
 use rds_arrivals::{Break, Grain};
 use rds_cli::{End, Request, Task};
-use rds_fields::RTPLUS_CODE;
+use rds_fields::{RTPLUS_AID, RTPLUS_CODE};
 use rds_io::LogFault;
 use rds_log::{FaultCount, Gap, GroupCounts, Lack, LogNotes, NoNote, SlotNotes};
 use rds_script::{EarlySet, ScriptNotes};
 use std::io::{self, ErrorKind};
 
 /// The most notes of a run: one for each kind of fault of a text, of a name and of tags before the first text, and at
-/// most ten others.
-const MOST_NOTES: usize = 25;
+/// most thirteen others.
+const MOST_NOTES: usize = 28;
 
 /// The group type 2A as five bits: RadioText.
 const TEXT_GROUPS: u8 = 4;
@@ -82,6 +82,16 @@ pub(crate) struct OtherGroups<'a> {
     pub(crate) others: u64,
 }
 
+/// The groups in which the programme has its tags, if these are others than those that were read.
+#[derive(Clone, Copy)]
+pub(crate) struct Elsewhere {
+    /// Their type, as five bits.
+    pub(crate) code: u8,
+    pub(crate) groups: u64,
+    /// Whether an audit would have judged them.
+    pub(crate) judges: bool,
+}
+
 /// Why the lost slots of a log cannot be counted by its times.
 #[derive(Clone, Copy)]
 pub(crate) struct CoarseTimes {
@@ -126,6 +136,12 @@ pub(crate) enum Note<'a> {
     Few(u64, u64, &'a str),
     /// So many groups 2B were not read.
     ShortTexts(u64),
+    /// The tags of the programme are in other groups.
+    TagsElsewhere(Elsewhere),
+    /// The groups of tags carry this other application.
+    OtherApplication(u16),
+    /// So many groups of the programme had one lost block, and so many none.
+    Damaged(u64, u64, &'a str),
     /// Why this PI code was refused.
     BadPi(&'a str),
     /// Why the window of `sim` was refused.
@@ -148,6 +164,8 @@ pub(crate) fn notes_of<'a>(run: &'a Run<'a>) -> Notes<'a> {
         note_faults(run, &mut notes);
         note_slots(run, &mut notes);
         note_groups(run, &mut notes);
+        note_tags(run, &mut notes);
+        note_damaged(run, &mut notes);
     }
     if let Some(note) = end_note(run) {
         add(note, &mut notes);
@@ -255,6 +273,53 @@ fn note_groups<'a>(run: &'a Run<'a>, notes: &mut Notes<'a>) {
     } else if short > 0 {
         add(Note::ShortTexts(short), notes);
     }
+}
+
+/// Notes where the tags of the programme are, if they are not in the groups that were read as tags.
+fn note_tags<'a>(run: &'a Run<'a>, notes: &mut Notes<'a>) {
+    if !reads_log(run) {
+        return;
+    }
+    let heard = run.log.heard;
+    if let Some(code) = heard.announced.rtplus
+        && code != RTPLUS_CODE
+        && heard.counts.of(code) > 0
+    {
+        add(
+            Note::TagsElsewhere(Elsewhere {
+                code,
+                groups: heard.counts.of(code),
+                judges: matches!(run.request.task, Task::Audit { .. }),
+            }),
+            notes,
+        );
+    }
+    if let Some(aid) = heard.announced.in_11a
+        && aid != RTPLUS_AID
+        && heard.counts.of(RTPLUS_CODE) > 0
+    {
+        add(Note::OtherApplication(aid), notes);
+    }
+}
+
+/// Notes how many groups `decode` could not use, since one block was lost.
+fn note_damaged<'a>(run: &'a Run<'a>, notes: &mut Notes<'a>) {
+    let heard = run.log.heard;
+    if matches!(run.request.task, Task::Decode { .. }) && reads_log(run) && heard.damaged > 0 {
+        add(
+            Note::Damaged(heard.damaged, heard.counts.total(), run.request.pi),
+            notes,
+        );
+    }
+}
+
+/// Returns whether a run read a log of its programme, and no fault ended it.
+fn reads_log(run: &Run<'_>) -> bool {
+    let of_log = match run.request.task {
+        Task::Decode { .. } | Task::Witness | Task::Lose { .. } | Task::Audit { .. } => true,
+        Task::Encode(..) | Task::Simulate { .. } | Task::Slots(..) => false,
+    };
+    of_log && matches!(run.end, End::Done)
 }
 
 /// Notes what an audit judged, and whether much of the log is missing.

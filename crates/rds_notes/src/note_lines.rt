@@ -1,7 +1,7 @@
 //! The sentences of notes.
 
 use crate::fault_lines::{push_found, push_no};
-use crate::note::{CoarseTimes, Judged, Note, OtherGroups, Run};
+use crate::note::{CoarseTimes, Elsewhere, Judged, Note, OtherGroups, Run};
 use arrayvec::ArrayVec;
 use rds_arrivals::Break;
 use rds_cli::{Request, Task};
@@ -42,6 +42,9 @@ pub(crate) fn push_note(note: Note<'_>, line: &mut Line) {
         Note::Judged(judged) => push_judged(judged, line),
         Note::Few(groups, slots, pi) => push_few(groups, slots, pi, line),
         Note::ShortTexts(short) => push_short(short, "", "read", line),
+        Note::TagsElsewhere(elsewhere) => push_elsewhere(elsewhere, line),
+        Note::OtherApplication(aid) => push_other_application(aid, line),
+        Note::Damaged(damaged, whole, pi) => push_damaged(damaged, whole, pi, line),
         Note::BadPi(pi) => push_pi(pi, line),
         Note::BadWindow => push_window(line),
         Note::BadSpans => push_spans(line),
@@ -93,8 +96,48 @@ fn push_few(groups: u64, slots: u64, pi: &str, line: &mut Line) {
     push_count(slots, "slot has", "slots have", line);
     let _ = write!(
         line,
-        " a group of {pi}, less than nine tenths: the yes says nothing of what was sent in the others"
+        " a group of {pi}, less than nine tenths: nothing is known of what was sent in the others"
     );
+}
+
+/// Appends that the tags of the programme are in other groups than those that were read.
+fn push_elsewhere(elsewhere: Elsewhere, line: &mut Line) {
+    let name = group_name(elsewhere.code);
+    let _ = write!(line, "RT+ is in group ");
+    push(name.as_slice(), line);
+    let _ = write!(line, " by the 3A groups, not in 11A: ");
+    push_count(elsewhere.groups, "group ", "groups ", line);
+    push(name.as_slice(), line);
+    let be = if elsewhere.groups == 1 { "was" } else { "were" };
+    let verb = if elsewhere.judges { "judged" } else { "read" };
+    let _ = write!(line, " {be} not {verb}");
+}
+
+/// Appends that group 11A carries another application than the tags.
+fn push_other_application(aid: u16, line: &mut Line) {
+    let _ = write!(
+        line,
+        "group 11A carries the application {aid:04X} by the 3A groups, not RT+: these groups were read as tags"
+    );
+}
+
+/// Appends how many groups of the programme were lost for one block.
+fn push_damaged(damaged: u64, whole: u64, pi: &str, line: &mut Line) {
+    let all = damaged.saturating_add(whole);
+    let _ = write!(line, "{damaged} of ");
+    push_count(all, "group", "groups", line);
+    let _ = write!(
+        line,
+        " of {pi} had one lost block: rdsrt uses whole groups only"
+    );
+}
+
+/// Returns the name of a group type, given as five bits: its number, and A or B.
+pub(crate) fn group_name(code: u8) -> ArrayVec<u8, 4> {
+    let mut name = ArrayVec::new();
+    let version = if code & 1 == 0 { 'A' } else { 'B' };
+    let _ = write!(name, "{}{version}", code >> 1);
+    name
 }
 
 /// Appends a number of things.

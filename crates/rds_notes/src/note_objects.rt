@@ -2,7 +2,7 @@
 //! and rows from 1.
 
 use crate::note::{FaultOf, Note};
-use crate::note_lines::{BEGUN, Line, push};
+use crate::note_lines::{BEGUN, Line, group_name, push};
 use rds_arrivals::Break;
 use rds_audit::AuditFault;
 use rds_encoder::Refusal;
@@ -65,6 +65,20 @@ pub(crate) fn push_object(note: Note<'_>, sentence: &[u8], line: &mut Line) {
             push_number("slots", slots, line);
         }
         Note::ShortTexts(short) => push_one("short", "groups", short, line),
+        Note::TagsElsewhere(elsewhere) => {
+            push_kind("tags_elsewhere", line);
+            push_text("group", group_name(elsewhere.code).as_slice(), line);
+            push_number("groups", elsewhere.groups, line);
+        }
+        Note::OtherApplication(aid) => {
+            push_kind("other_application", line);
+            let _ = write!(line, ",\"application\":\"{aid:04X}\"");
+        }
+        Note::Damaged(damaged, whole, _) => {
+            push_kind("damaged", line);
+            push_number("damaged", damaged, line);
+            push_number("whole", whole, line);
+        }
         Note::BadPi(_) => push_fault("pi", line),
         Note::BadWindow => push_fault("confirm", line),
         Note::BadSpans => push_fault("lose", line),
@@ -121,6 +135,7 @@ fn push_no(no: NoNote, line: &mut Line) {
     }
     push_number("needed", u64::from(no.spacing), line);
     push_cause(no.cause, line);
+    push_flag("harmless", no.is_harmless, line);
 }
 
 /// Appends what is wrong with a segment.
@@ -163,6 +178,7 @@ fn push_found(of: FaultOf, judged: u64, count: FaultCount, line: &mut Line) {
     };
     push_text("of", of, line);
     push_number("count", count.count, line);
+    push_number("harmless", count.harmless, line);
     push_number("judged", judged, line);
     push_place("first_", count.first, line);
     push_place("last_", count.last, line);

@@ -15,7 +15,7 @@ use Rattle.rds_world.specs.ReceiverKind.{dwell_of, lateness_of}
 use Rattle.rds_world.specs.declared.receiver_kind.ReceiverKind.{ReceiverKind}
 use Rattle.rds_world.specs.declared.receiver_kind.ReceiverKind.TheVariants.{Confirming, FlagAlone, WithDwell}
 use Rattle.rds_world.specs.declared.world.Config.{Config}
-use Rattle.rds_audit.specs.AuditState.{start_if}
+use Rattle.rds_audit.specs.AuditState.{form_if, start_if}
 use Rattle.rds_log.specs.Decode.{Decodes}
 use Rattle.rds_log.specs.FaultList.{Audits}
 use Rattle.rds_log.specs.Fill.{Fills}
@@ -78,7 +78,7 @@ abbrev pub mark_of : Task → List ℕ
 mark_of (Decode window why) = []
 mark_of (Encode programme late) = codes "# "
 mark_of (Simulate programme late window alone why) = []
-mark_of (Audit late running all) = []
+mark_of (Audit late running padded all) = []
 mark_of Witness = []
 mark_of (Lose alone) = []
 mark_of (Slots grain only) = codes "# "
@@ -161,9 +161,16 @@ stop_if true = LogEnd
 
 -- how `audit` judges a log: for receivers that are tuned so and whose groups come at most so late. With `running` the
 -- log begins inside the output of its station
-abbrev pub auditing_of : Tuning → ℕ → Bool → Bool → Auditing
-auditing_of t late running all =
-    record { pi = t.programme; dwell = t.dwell; late = late; start = start_if running; stop = stop_if all }
+abbrev pub auditing_of : Tuning → ℕ → Bool → Bool → Bool → Auditing
+auditing_of t late running padded all =
+    record {
+      pi = t.programme;
+      dwell = t.dwell;
+      late = late;
+      start = start_if running;
+      form = form_if padded;
+      stop = stop_if all;
+    }
 
 -- how `slots` fills a log for receivers that are tuned so: by this grain in microseconds, and by the lines of their
 -- programme alone or of all
@@ -222,9 +229,9 @@ TaskRuns (Encode programme late) lose t r w status =
 TaskRuns (Simulate programme late window alone why) lose t r w status =
     SimulationRuns why (simulated_station t programme late window alone) (Simulate programme late window alone why) r w
     status
-TaskRuns (Audit late running all) lose t r w status =
-    EngineRuns (Audits (auditing_of t late running all) (2 ^ 32) r.traffic) verdict_status (Audit late running all) w
-    status
+TaskRuns (Audit late running padded all) lose t r w status =
+    EngineRuns (Audits (auditing_of t late running padded all) (2 ^ 32) r.traffic) verdict_status
+    (Audit late running padded all) w status
 TaskRuns Witness lose t r w status = EngineRuns (Witnesses t r.traffic) witness_status Witness w status
 TaskRuns (Lose alone) lose t r w status = LossRuns (bursts_in lose) alone t r w status
 TaskRuns (Slots grain only) lose t r w status =

@@ -84,8 +84,8 @@ pub task_by : {P Q U V : Type 0} → (P → Q) → (U → V) → (task : Task) (
     (status : ℕ) → TaskRuns task lose t (record { traffic = r; ReadFailed = P; Untouched = U }) w status
     → TaskRuns task lose t (record { traffic = r; ReadFailed = Q; Untouched = V }) w status
 task_by says rests (Decode window why) lose t r w status ran = ran
-task_by says rests (Audit late running false) lose t r w status ran = ran
-task_by says rests (Audit late running true) lose t r w status ran = ran
+task_by says rests (Audit late running padded false) lose t r w status ran = ran
+task_by says rests (Audit late running padded true) lose t r w status ran = ran
 task_by says rests Witness lose t r w status ran = ran
 task_by says rests (Lose alone) lose t r w status ran =
     loss_by _ _ rests (bursts_in lose) alone t r w status ran

@@ -4,7 +4,7 @@ ghost use Rattle.std.specs.Prelude.{List, None, codes, decimal, false, true, ifâ
 ghost use Rattle.rds_io.specs.Told.{PutsNothing, Traffic, traffic};
 ghost use Rattle.rds_log.specs.LogWrites.{tuned};
 ghost use Rattle.clap.specs.Words.{kind_of};
-ghost use Rattle.rds_audit.specs.AuditState.{start_if};
+ghost use Rattle.rds_audit.specs.AuditState.{form_if, start_if};
 ghost use Rattle.rds_cli.specs.Asks.{ReadAs};
 ghost use Rattle.rds_cli.specs.CommandLine.{IsPi};
 ghost use Rattle.rds_program.specs.Run as specs;
@@ -22,7 +22,7 @@ use crate::status::{FAULT, NO, OK, REFUSED, write_no_memory};
 use clap::Error;
 use clap::error::ErrorKind;
 use rds_arrivals::Grain;
-use rds_audit::LogStart;
+use rds_audit::{LogStart, TextForm};
 use rds_cli::{End, Programme, Request, Task, identification_of, read_words};
 use rds_fields::{Dwell, Head, Late};
 use rds_io::{Lines, LogFault, TellingRead, TellingWrite, put};
@@ -209,6 +209,7 @@ fn run_task<R: TellingRead, W: TellingWrite, N: News>(
         Task::Audit {
             late,
             running,
+            padded,
             lists_all,
         } => {
             let auditing = Auditing {
@@ -216,6 +217,7 @@ fn run_task<R: TellingRead, W: TellingWrite, N: News>(
                 dwell,
                 late,
                 start: start_of(running),
+                form: form_of(padded),
                 stop: stop_of(lists_all),
             };
             let log = &mut report.log;
@@ -400,6 +402,17 @@ fn start_of(running: bool) -> LogStart
         LogStart::Running
     } else {
         LogStart::Complete
+    }
+}
+
+/// Returns the form of the texts of an audit.
+fn form_of(padded: bool) -> TextForm
+    ensures { result â‰¡ form_if padded }
+{
+    if padded {
+        TextForm::Padded
+    } else {
+        TextForm::Plain
     }
 }
 

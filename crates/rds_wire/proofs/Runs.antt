@@ -284,10 +284,11 @@ shows_before displays printed output line t part content is single f all sh = by
 
 -- a log to which a run of `audit` says yes has safe plans
 pub passed_by_the_program : WhatPassesIsSafeOnTheWire → WhatTheProgramPassesIsSafe
-passed_by_the_program law pi m k running all log output some ran zero_is = by ran.ran.outcome ran.ran.ran ran.ran.ended
+passed_by_the_program law pi m k running padded all log output some ran zero_is = by ran.ran.outcome ran.ran.ran
+    ran.ran.ended
   where
     a : Auditing
-    a = auditing_of (tuned pi m) k running all
+    a = auditing_of (tuned pi m) k running padded all
 
     first : Traffic
     first = record ran.w { after = ran.ran.mid; failures_after = ran.ran.failures }
@@ -296,10 +297,11 @@ passed_by_the_program law pi m k running all log output some ran zero_is = by ra
     rest = record ran.w { before = ran.ran.mid; failures_before = ran.ran.failures }
 
     by : (outcome : Result Bool LogFault) → Audits a (2 ^ 32) ran.r first outcome
-        → EndsWith verdict_status (Audit k running all) outcome rest ran.status → HasSafePlans a log
+        → EndsWith verdict_status (Audit k running padded all) outcome rest ran.status → HasSafePlans a log
     by (Ok true) answers ended =
         let whole = consumed ran.r.before ran.r.after log answers.text ran.given answers.read answers.end in
-        law a answers.number log some (subst (λ (text : List ℕ). WholePasses a answers.number text) whole answers.passes)
+        law a answers.number log some (subst (λ
+        (text : List ℕ). WholePasses a answers.number text) whole answers.passes)
     by (Ok false) answers ended = absurd (let status = ended.0 in omega (arith, status, zero_is))
     by (Err fault) answers ended = absurd (let status = ended.0 in omega (arith, status, zero_is))
 

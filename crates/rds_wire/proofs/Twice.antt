@@ -13,10 +13,12 @@ use Rattle.rds_safety.specs.ConfirmedLaws.{LawfulPlansAreSafeConfirmed}
 use Rattle.rds_safety.specs.Late.{HasEntry, Input}
 use Rattle.rds_safety.specs.Laws.{ARunHasOneSource}
 use Rattle.rds_safety.specs.Marks.{IsMarkIn, Tagged, marks, text_mark}
+use Rattle.rds_safety.specs.Lawful.{texts}
 use Rattle.rds_safety.specs.Plans.{AreLawful}
 use Rattle.rds_safety.specs.Safe.{Listener}
 use Rattle.rds_world.specs.Slots.{log as log_of}
 use Rattle.rds_audit.specs.AuditLaws.{WhatPassesIsSafe}
+use Rattle.rds_audit.specs.declared.text_form.TextForm.TheVariants.{Plain}
 use Rattle.rds_view_lines.specs.Output.{Display}
 use Rattle.rds_view_lines.specs.ViewParts.{Part}
 use Rattle.rds_log.specs.FilledLog.{IsLogOf}
@@ -123,7 +125,7 @@ lawful_is_safe_twice laws pi m w k log sent air is lawful tags x p y q t one oth
     let lr : Listens r = listens pi m w k log sent is x p t one ra in
     let ls : Listens s = listens pi m w k log sent is y q t other rb in
     shown_safely laws.source d m t air (first_entries (t + 1) sent) r s (Shows p t) (Shows q t) upto lawful.text.spaced
-    (laws.safe w k m t air.plans (first_entries (t + 1) sent) (r ∷ s ∷ []) (lawful_first d (t + 1) air.plans sent
+    (laws.safe w k m t air.plans (first_entries (t + 1) sent) (r ∷ s ∷ []) (lawful_first texts d (t + 1) air.plans sent
     lawful)
     (All-cons Listens r (s ∷ []) lr (All-cons Listens s [] ls (All-nil Listens)))) lr.shows ls.shows
     (shows pi m w k log sent is x p t one ra) (shows pi m w k log sent is y q t other rb)
@@ -147,7 +149,7 @@ encoded_is_safe_twice laws encoder head m w k script log is_head some encoded =
 pub passed_is_safe_twice : TwiceLaws → WhatPassesIsSafe → WhatPassesIsSafeIfHeardTwice
 passed_is_safe_twice laws audits pi m w k n stop log some whole =
     let messages = whole.pass.heard in
-    let passed = audits m (lateness_of_two w k) messages some whole.pass.passes in
+    let passed = audits Plain m (lateness_of_two w k) messages some whole.pass.passes in
     let is : IsLogOf log whole.slots = record { lines = whole.lines; are = whole.are; say = whole.say } in
     let has : HasMessages pi log messages = record { slots = whole.slots; has = is; heard = whole.pass.are } in
     record {

@@ -9,7 +9,7 @@ use Rattle.rds_receiver.specs.Shown.{IsView}
 use Rattle.rds_safety.specs.Late.{HasEntry}
 use Rattle.rds_safety.specs.Lawful.{IsLawful, Kind}
 use Rattle.rds_safety.specs.Marks.{IsMarkIn, Mark, Sends, Tagged, marks, name_mark, text_mark}
-use Rattle.rds_safety.specs.Plans.{AreLawful, Plans}
+use Rattle.rds_safety.specs.Plans.{AreLawfulAs, Plans}
 use Rattle.rds_encoder.specs.Plan.{Broadcast}
 use Rattle.rds_view_lines.specs.Output.{Display}
 use Rattle.rds_log.specs.LogWrites.{AreDisplays}
@@ -53,9 +53,9 @@ kind_first d n kind plan of sent lawful = record {
 }
 
 -- so are both plans
-pub lawful_first : (d n : ℕ) (plans : Plans) (sent : List (Option Message)) → AreLawful d plans sent
-    → AreLawful d plans (first_entries n sent)
-lawful_first d n plans sent lawful =
+pub lawful_first : (kind : Kind) (d n : ℕ) (plans : Plans) (sent : List (Option Message))
+    → AreLawfulAs kind d plans sent → AreLawfulAs kind d plans (first_entries n sent)
+lawful_first kind d n plans sent lawful =
     record {
       text = kind_first d n _ plans.text text_mark sent lawful.text;
       name = kind_first d n _ plans.name name_mark sent lawful.name;

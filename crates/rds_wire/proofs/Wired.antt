@@ -13,10 +13,13 @@ use Rattle.rds_encoder.specs.Laws.{TagsAreOfTheTextOnAir}
 use Rattle.rds_receiver.specs.Receipts.{AreHeard}
 use Rattle.rds_receiver.specs.Shown.{IsView}
 use Rattle.rds_safety.specs.Late.{HasEntry}
-use Rattle.rds_safety.specs.Laws.{ARunHasOneSource, LawfulPlansAreSafeByOwnClocks}
+use Rattle.rds_safety.specs.Laws.{ARunHasOneSource, LawfulPlansAreSafeByOwnClocksAs}
 use Rattle.rds_safety.specs.Marks.{IsMarkIn, Tagged, marks, text_mark}
 use Rattle.rds_safety.specs.OwnClock.{ListensByOwnClock}
-use Rattle.rds_safety.specs.Plans.{AreLawful}
+use Rattle.rds_safety.specs.Plans.{AreLawful, AreLawfulAs}
+use Rattle.rds_audit.specs.Forms.{text_kind}
+use Rattle.rds_audit.specs.declared.text_form.TextForm.{TextForm}
+use Rattle.rds_audit.specs.declared.text_form.TextForm.TheVariants.{Plain}
 use Rattle.rds_safety.specs.Safe.{Listener}
 use Rattle.rds_world.specs.Event.{Event}
 use Rattle.rds_world.specs.Slots.{plans_of}
@@ -91,7 +94,7 @@ entry_at (x ∷ older) t below = elim (cases_lt t (length older)) [
 -- the laws of the crates below about all logs
 pub record LogLaws : Type 0 where
   pub clocks : ClockLaws
-  pub safe : LawfulPlansAreSafeByOwnClocks
+  pub safe : (form : TextForm) → LawfulPlansAreSafeByOwnClocksAs (text_kind form)
   pub recording : PlansOfARecordingAreSafe
   pub source : ARunHasOneSource
 
@@ -140,13 +143,13 @@ module _ (a : Auditing) (log : List ℕ) (sent : List (Option Group)) (messages 
 -- ---- logs with lawful plans
 
 -- a complete log with lawful plans is safe on the wire
-pub lawful_is_safe : LogLaws → (stop : Stop) (pi m k : ℕ) (log : List ℕ) (sent : List (Option Group))
+pub lawful_is_safe : LogLaws → (form : TextForm) (stop : Stop) (pi m k : ℕ) (log : List ℕ) (sent : List (Option Group))
     (messages : List (Option Message)) (air : StationPlans) → IsLogOf log sent → AreHeard pi sent messages
-    → AreLawful (m + k) air.plans messages
+    → AreLawfulAs (text_kind form) (m + k) air.plans messages
     → ((slot : ℕ) (pair : PairFields) → IsMarkIn (marks text_mark messages) slot (Tagged pair) → air.HasTags slot pair)
-    → IsSafeOnTheWire (record { pi = pi; dwell = m; late = k; start = Complete; stop = stop }) log air
-lawful_is_safe laws stop pi m k log sent messages air is heard lawful tags x p y q t u now one other ra rb =
-    let a : Auditing = record { pi = pi; dwell = m; late = k; start = Complete; stop = stop } in
+    → IsSafeOnTheWire (record { pi = pi; dwell = m; late = k; start = Complete; form = form; stop = stop }) log air
+lawful_is_safe laws form stop pi m k log sent messages air is heard lawful tags x p y q t u now one other ra rb =
+    let a : Auditing = record { pi = pi; dwell = m; late = k; start = Complete; form = form; stop = stop } in
     let r = listener a log sent messages now is heard x p t one ra in
     let s = listener a log sent messages now is heard y q u other rb in
     let Listens = ListensByOwnClock (m + k) m now (first_entries (now + 1) messages) in
@@ -154,8 +157,8 @@ lawful_is_safe laws stop pi m k log sent messages air is heard lawful tags x p y
     let ls : Listens s = listens a log sent messages now is heard y q u other rb laws.clocks in
     shown_safely laws.source (m + k) m now air (first_entries (now + 1) messages) r s (Shows p t) (Shows q u) upto
     lawful.text.spaced
-    (laws.safe (m + k) m now air.plans (first_entries (now + 1) messages) (r ∷ s ∷ [])
-    (lawful_first (m + k) (now + 1) air.plans messages lawful)
+    (laws.safe form (m + k) m now air.plans (first_entries (now + 1) messages) (r ∷ s ∷ [])
+    (lawful_first (text_kind form) (m + k) (now + 1) air.plans messages lawful)
     (All-cons Listens r (s ∷ []) lr (All-cons Listens s [] ls (All-nil Listens)))) lr.shows ls.shows
     (shows a log sent messages now is heard x p t one ra) (shows a log sent messages now is heard y q u other rb)
   where
@@ -165,14 +168,15 @@ lawful_is_safe laws stop pi m k log sent messages air is heard lawful tags x p y
         (tags slot pair it.0, omega (arith, it.1))
 
 -- so is the log of a running station, by plans that count from m + k slots before it
-pub recording_is_safe : LogLaws → (stop : Stop) (pi m k : ℕ) (log : List ℕ) (sent : List (Option Group))
+pub recording_is_safe : LogLaws → (form : TextForm) (stop : Stop) (pi m k : ℕ) (log : List ℕ) (sent : List
+    (Option Group))
     (messages : List (Option Message)) (air : StationPlans) → IsLogOf log sent → AreHeard pi sent messages
-    → AreLawful (m + k) air.plans (from_first_text (preceded (m + k) messages))
+    → AreLawfulAs (text_kind form) (m + k) air.plans (from_first_text (preceded (m + k) messages))
     → ((slot : ℕ) (pair : PairFields) → IsMarkIn (marks text_mark (preceded (m + k) messages)) slot (Tagged pair)
     → air.HasTags slot pair)
-    → IsSafeOnTheWire (record { pi = pi; dwell = m; late = k; start = Running; stop = stop }) log air
-recording_is_safe laws stop pi m k log sent messages air is heard lawful tags x p y q t u now one other ra rb =
-    let a : Auditing = record { pi = pi; dwell = m; late = k; start = Running; stop = stop } in
+    → IsSafeOnTheWire (record { pi = pi; dwell = m; late = k; start = Running; form = form; stop = stop }) log air
+recording_is_safe laws form stop pi m k log sent messages air is heard lawful tags x p y q t u now one other ra rb =
+    let a : Auditing = record { pi = pi; dwell = m; late = k; start = Running; form = form; stop = stop } in
     let r = listener a log sent messages now is heard x p t one ra in
     let s = listener a log sent messages now is heard y q u other rb in
     let Listens = ListensByOwnClock (m + k) m now (first_entries (now + 1) messages) in
@@ -180,19 +184,20 @@ recording_is_safe laws stop pi m k log sent messages air is heard lawful tags x 
     let ls : Listens s = listens a log sent messages now is heard y q u other rb laws.clocks in
     shown_safely laws.source (m + k) m (now + (m + k)) air (preceded (m + k) (first_entries (now + 1) messages))
     (later (m + k) r) (later (m + k) s) (Shows p t) (Shows q u) upto lawful.text.spaced
-    (laws.recording (m + k) m now (m + k) air.plans (first_entries (now + 1) messages) (r ∷ s ∷ []) cut
+    (laws.recording form (m + k) m now (m + k) air.plans (first_entries (now + 1) messages) (r ∷ s ∷ []) cut
     (All-cons Listens r (s ∷ []) lr (All-cons Listens s [] ls (All-nil Listens)))) lr.shows ls.shows
     (shows a log sent messages now is heard x p t one ra) (shows a log sent messages now is heard y q u other rb)
   where
     n : ℕ
     n = now + 1 + (m + k)
 
-    cut : AreLawful (m + k) air.plans (from_first_text (preceded (m + k) (first_entries (now + 1) messages)))
+    cut : AreLawfulAs (text_kind form) (m + k) air.plans (from_first_text (preceded (m + k) (first_entries
+        (now + 1) messages)))
     cut =
-        subst (λ (l : List (Option Message)). AreLawful (m + k) air.plans (from_first_text l))
+        subst (λ (l : List (Option Message)). AreLawfulAs (text_kind form) (m + k) air.plans (from_first_text l))
         (preceded_first (m + k) (now + 1) messages)
-        (subst (AreLawful (m + k) air.plans) (settled_first n (preceded (m + k) messages))
-        (lawful_first (m + k) n air.plans (from_first_text (preceded (m + k) messages)) lawful))
+        (subst (AreLawfulAs (text_kind form) (m + k) air.plans) (settled_first n (preceded (m + k) messages))
+        (lawful_first (text_kind form) (m + k) n air.plans (from_first_text (preceded (m + k) messages)) lawful))
 
     upto : AreTagsUpTo (now + (m + k)) air (marks text_mark (preceded (m + k) (first_entries (now + 1) messages)))
     upto slot pair mark =
@@ -240,7 +245,7 @@ pub encoded_is_safe : LogLaws → EncoderLaws → WhatIsEncodedIsSafeOnTheWire
 encoded_is_safe laws encoder head m k script log is_head some encoded =
     let events = encoded.write.events in
     let has = log_of_script encoder head m k script log is_head some encoded in
-    lawful_is_safe laws FirstFault head.pi m k log has.sent (log_of (m + k) events) (aired (m + k) events)
+    lawful_is_safe laws Plain FirstFault head.pi m k log has.sent (log_of (m + k) events) (aired (m + k) events)
     (is_log_of log has.sent has.cut) has.heard
     has.lawful (λ slot pair is. (tagged encoder.tags (m + k) events slot pair is).0)
 
@@ -251,11 +256,12 @@ pub record AuditLaws : Type 0 where
   pub complete : WhatPassesIsSafe
   pub running : WhatPassesAsARecordingIsSafe
 
-passed_from : LogLaws → AuditLaws → (start : LogStart) (stop : Stop) (pi m k n : ℕ) (log : List ℕ) → 0 < m
-    → WholePasses (record { pi = pi; dwell = m; late = k; start = start; stop = stop }) n log
-    → HasSafePlans (record { pi = pi; dwell = m; late = k; start = start; stop = stop }) log
-passed_from laws audits Complete stop pi m k n log some whole =
-    let safe = audits.complete m k whole.pass.heard some whole.pass.passes in
+passed_from : LogLaws → AuditLaws → (start : LogStart) (form : TextForm) (stop : Stop) (pi m k n : ℕ) (log : List ℕ)
+    → 0 < m
+    → WholePasses (record { pi = pi; dwell = m; late = k; start = start; form = form; stop = stop }) n log
+    → HasSafePlans (record { pi = pi; dwell = m; late = k; start = start; form = form; stop = stop }) log
+passed_from laws audits Complete form stop pi m k n log some whole =
+    let safe = audits.complete form m k whole.pass.heard some whole.pass.passes in
     let is : IsLogOf log whole.slots = record { lines = whole.lines; are = whole.are; say = whole.say } in
     record {
       slots = whole.slots;
@@ -264,15 +270,15 @@ passed_from laws audits Complete stop pi m k n log some whole =
       heard = whole.pass.are;
       plans = safe.plans;
       lawful = safe.lawful;
-      safe = lawful_is_safe laws stop pi m k log whole.slots whole.pass.heard
+      safe = lawful_is_safe laws form stop pi m k log whole.slots whole.pass.heard
           (record {
             plans = safe.plans;
             HasTags = λ slot pair. IsMarkIn (marks text_mark whole.pass.heard) slot (Tagged pair);
           })
           is whole.pass.are safe.lawful (λ slot pair mark. mark);
     }
-passed_from laws audits Running stop pi m k n log some whole =
-    let safe = audits.running m k whole.pass.heard some whole.pass.passes in
+passed_from laws audits Running form stop pi m k n log some whole =
+    let safe = audits.running form m k whole.pass.heard some whole.pass.passes in
     let is : IsLogOf log whole.slots = record { lines = whole.lines; are = whole.are; say = whole.say } in
     record {
       slots = whole.slots;
@@ -281,7 +287,7 @@ passed_from laws audits Running stop pi m k n log some whole =
       heard = whole.pass.are;
       plans = safe.plans;
       lawful = safe.lawful;
-      safe = recording_is_safe laws stop pi m k log whole.slots whole.pass.heard
+      safe = recording_is_safe laws form stop pi m k log whole.slots whole.pass.heard
           (record {
             plans = safe.plans;
             HasTags = λ slot pair. IsMarkIn (marks text_mark (preceded (m + k) whole.pass.heard)) slot (Tagged pair);
@@ -292,4 +298,4 @@ passed_from laws audits Running stop pi m k n log some whole =
 -- the law of audits
 pub passed_is_safe : LogLaws → AuditLaws → WhatPassesIsSafeOnTheWire
 passed_is_safe laws audits a n log some whole =
-    passed_from laws audits a.start a.stop a.pi a.dwell a.late n log some whole
+    passed_from laws audits a.start a.form a.stop a.pi a.dwell a.late n log some whole

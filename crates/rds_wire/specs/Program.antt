@@ -41,12 +41,13 @@ WhatTheProgramEncodesIsSafe =
     (station_of (record { pi = pi; tp = programme.tp; pty = programme.pty }) m k)) script log)
     × IsSafeOnTheWire (complete pi m k) output (aired (m + k) encoded.write.events)
 
--- a log to which the program says yes with M and K, by status 0, has safe plans; also that of a running station
+-- a log to which the program says yes with M and K, by status 0, has safe plans; also that of a running
+-- station, and with padding
 abbrev pub WhatTheProgramPassesIsSafe : Type 0
 WhatTheProgramPassesIsSafe =
-    (pi m k : ℕ) (running all : Bool) (log output : List ℕ) → 0 < m
-    → (ran : Ran (Audit k running all) (tuned pi m) log output) → ran.status ≡ 0
-    → HasSafePlans (auditing_of (tuned pi m) k running all) log
+    (pi m k : ℕ) (running padded all : Bool) (log output : List ℕ) → 0 < m
+    → (ran : Ran (Audit k running padded all) (tuned pi m) log output) → ran.status ≡ 0
+    → HasSafePlans (auditing_of (tuned pi m) k running padded all) log
 
 -- what the program decodes with M shows what such receivers print
 abbrev pub WhatTheProgramDecodesIsPrinted : Type 0

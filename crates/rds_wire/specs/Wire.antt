@@ -7,7 +7,8 @@ use Rattle.rds_fields.specs.declared.message.Message.{Message}
 use Rattle.rds_encoder.specs.Tags.{pair_on_air}
 use Rattle.rds_receiver.specs.Receipts.{AreHeard}
 use Rattle.rds_safety.specs.Marks.{IsMarkIn, Tagged, marks, text_mark}
-use Rattle.rds_safety.specs.Plans.{AreLawful, Plans}
+use Rattle.rds_safety.specs.Plans.{AreLawfulAs, Plans}
+use Rattle.rds_audit.specs.Forms.{text_kind}
 use Rattle.rds_world.specs.Event.{Event}
 use Rattle.rds_world.specs.Slots.{entries, plans_of}
 use Rattle.rds_world.specs.declared.receiver_kind.ReceiverKind.TheVariants.{WithDwell}
@@ -91,7 +92,7 @@ pub record HasSafePlans (a : Auditing) (log : List ℕ) : Type 0 where
   pub messages : List (Option Message)
   pub heard : AreHeard a.pi slots messages
   pub plans : Plans
-  pub lawful : AreLawful (spacing a) plans (judged a messages)
+  pub lawful : AreLawfulAs (text_kind a.form) (spacing a) plans (judged a messages)
   pub safe : IsSafeOnTheWire a log record {
     plans = plans;
     HasTags = λ slot pair.

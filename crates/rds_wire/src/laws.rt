@@ -13,7 +13,7 @@ use rds_arrivals::filled_logs_are_own_clocks;
 use rds_audit::{what_passes_as_a_recording_is_safe, what_passes_is_safe};
 use rds_encoder::sent_is_of_what_is_on_air;
 use rds_log::filled_texts_are_logs;
-use rds_safety::{one_source, own_clocks, safe_by_plans, safe_if_confirmed};
+use rds_safety::{one_source, own_clocks, safe_by_padded_plans, safe_by_plans, safe_if_confirmed};
 use rds_world::{a_station_is_safe, the_encoder_is_lawful};
 
 /// States the law of scripts: what `decode` prints for the log that `encode` wrote, with slots lost and groups at most
@@ -24,6 +24,7 @@ pub fn what_is_encoded_is_safe_on_the_wire()
     own_clocks();
     one_source();
     safe_by_plans();
+    safe_by_padded_plans();
     what_passes_as_a_recording_is_safe();
     a_station_is_safe();
     the_encoder_is_lawful();
@@ -38,6 +39,7 @@ pub fn what_passes_is_safe_on_the_wire()
     own_clocks();
     one_source();
     safe_by_plans();
+    safe_by_padded_plans();
     what_passes_is_safe();
     what_passes_as_a_recording_is_safe();
 }

@@ -5,12 +5,13 @@ import functools
 import os
 from typing import Any, Dict, Iterator, List, Tuple
 
-ABI = 6
+ABI = 7
 NAME = f"librdsrt.so.{ABI}"
 DEFAULT_DWELL = 128
 OK, DONE, BAD_ARGUMENT, SILENT, HELD, NO_TEXT, OUT_OF_TEXT_1, OUT_OF_TEXT_2 = 0, 1, 2, 3, 4, 5, 6, 7
 TOO_LONG, BAD_BYTE, BAD_TAGS = 8, 9, 10
 UNKNOWN = 0xFFFFFFFF
+AUDIT_RUNNING, AUDIT_PADDED = 1, 2
 
 u8, u16, u32, u64, size_t = ctypes.c_uint8, ctypes.c_uint16, ctypes.c_uint32, ctypes.c_uint64, ctypes.c_size_t
 Blocks = u16 * 4
@@ -76,8 +77,8 @@ class Version(ctypes.Structure):
     _fields_ = [("abi", u32), ("major", u32), ("minor", u32), ("patch", u32)]
 
 
-Receiver, Encoder, Audit = u32 * 66, u32 * 29, u64 * 34
-SIZES: Dict[Any, int] = {Receiver: 264, Encoder: 116, Audit: 272, Faults: 5, View: 84, OnAir: 75, Tags: 8, Reply: 8,
+Receiver, Encoder, Audit = u32 * 66, u32 * 29, u64 * 35
+SIZES: Dict[Any, int] = {Receiver: 264, Encoder: 116, Audit: 280, Faults: 5, View: 84, OnAir: 75, Tags: 8, Reply: 8,
                          Wait: 12, HeldSegments: 8, Label: 32}
 ANY = ctypes.c_void_p
 CALLS: Dict[str, Tuple[Any, List[Any]]] = {
@@ -97,8 +98,7 @@ CALLS: Dict[str, Tuple[Any, List[Any]]] = {
     "encoder_tick": (u32, [ANY, u8, ANY]),
     "encoder_on_air": (None, [ANY, ANY]),
     "encoder_wait": (None, [ANY, ANY]),
-    "audit_init": (u32, [ANY, u16, u16, u16]),
-    "audit_init_running": (u32, [ANY, u16, u16, u16]),
+    "audit_init_with": (u32, [ANY, u16, u16, u16, u32]),
     "audit_slot": (u32, [ANY, ANY, size_t]),
     "audit_all_faults": (u32, [ANY, ANY, size_t, ANY]),
     "audit_passed": (u32, [ANY]),

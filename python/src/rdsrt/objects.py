@@ -355,7 +355,7 @@ class Audit(_Plain):
     The verdict means nothing for groups that a receiver got.
 
     A complete log begins when the station starts. With `running=True` the station was on air before the first slot, as
-    in a recording.
+    in a recording. With `padded=True` texts may have padding: bytes behind the carriage return of a text do not count.
 
     A station that sends segments less often than every `dwell` + `late` slots can get a fault although it keeps the
     spacing."""
@@ -363,12 +363,12 @@ class Audit(_Plain):
     _type = c.Audit
 
     def __init__(self, pi: SupportsIndex, dwell: SupportsIndex = c.DEFAULT_DWELL, late: SupportsIndex = 0, *,
-                 running: bool = False):
+                 running: bool = False, padded: bool = False):
         self._pi, self._slots = in_range("pi", pi, 0, 0xFFFF), 0
         self._dwell, self._late = in_range("dwell", dwell, 1, 0xFFFF), in_range("late", late, 0, 1024)
         self._its = self._type()
-        init = c.library().rdsrt_audit_init_running if running else c.library().rdsrt_audit_init
-        init(self._its, self.pi, self.dwell, self.late)
+        flags = (c.AUDIT_RUNNING if running else 0) | (c.AUDIT_PADDED if padded else 0)
+        c.library().rdsrt_audit_init_with(self._its, self.pi, self.dwell, self.late, flags)
 
     def __repr__(self) -> str:
         verdict = "passed" if self.passed else "not passed"

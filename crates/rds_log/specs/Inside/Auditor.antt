@@ -19,6 +19,7 @@ pub record HasAudited (a : Auditing) (l : Auditor) (lines : List Line) (total : 
   pub stop : l.stop ≡ a.stop
   pub audit : FollowsLog a.pi (spacing a) l.audit slots
   pub begins : l.audit.start ≡ a.start
+  pub form : l.audit.form ≡ a.form
   pub list : SlotsList a slots total
   pub first : MatchOption l.audit.fault (SlotsPass a slots × (total ≡ []))
       (λ fault. SaysNo a.stop a fault slots total)

@@ -1,12 +1,12 @@
 use Rattle.std.proofs.Common.{refl}
 use Rattle.clap.proofs.OnLiterals.{clap_on_literals}
-use Rattle.rds_cli.specs.CommandLine.{audit_app, decode_app, late_app, log_app, log_readers_app, sim_app, slots_app}
-use Rattle.rds_cli.specs.CommandLine.{station_app, timed_app, witness_app}
+use Rattle.rds_cli.specs.CommandLine.{audit_app, decode_app, judging_app, late_app, log_app, log_readers_app, sim_app}
+use Rattle.rds_cli.specs.CommandLine.{slots_app, station_app, timed_app, witness_app}
 use Rattle.rds_cli.proofs.laws.words_of_the_examples.Goals as goal
 
 pub returns : goal.returns
-unfolding clap_on_literals log_app decode_app late_app station_app sim_app slots_app timed_app audit_app log_readers_app
-    witness_app
+unfolding clap_on_literals log_app decode_app late_app station_app sim_app slots_app timed_app judging_app audit_app
+    log_readers_app witness_app
 returns c = record {
   decode = record { taken = refl; ask = refl };
   decode_other = record { taken = refl; ask = refl };
@@ -18,6 +18,7 @@ returns c = record {
   audit = record { taken = refl; ask = refl };
   audit_late = record { taken = refl; ask = refl };
   audit_running = record { taken = refl; ask = refl };
+  audit_padded = record { taken = refl; ask = refl };
   audit_all = record { taken = refl; ask = refl };
   witness = record { taken = refl; ask = refl };
   witness_lose = record { taken = refl; ask = refl };

@@ -5,8 +5,8 @@ use Rattle.std.proofs.lemmas.Bool.{not-true}
 use Rattle.clap.specs.Words.{App, HasKind, fault_of, found_of, is_simple, is_simple_and_free, kind_of, rows_of}
 use Rattle.clap.specs.Words.{subcommand_of, takes}
 use Rattle.clap.specs.declared.parser.matches.ArgMatches.TheViews.{out-ArgMatches, out-SubCommand}
-use Rattle.rds_cli.specs.CommandLine.{audit_app, asked_of, decode_app, is_shown, late_app, log_app, log_readers_app}
-use Rattle.rds_cli.specs.CommandLine.{sim_app, slots_app, station_app, timed_app, witness_app}
+use Rattle.rds_cli.specs.CommandLine.{audit_app, asked_of, decode_app, is_shown, judging_app, late_app, log_app}
+use Rattle.rds_cli.specs.CommandLine.{log_readers_app, sim_app, slots_app, station_app, timed_app, witness_app}
 use Rattle.rds_cli.proofs.ErrorKinds.{answered_by}
 use Rattle.rds_cli.proofs.Taken.{taken}
 use Rattle.rds_cli.proofs.request.parse.Goals as goal
@@ -16,13 +16,15 @@ returns-in-Err-clause-err c = λ h. c.in-Err.ensures.passes
     (ap (λ (a : App). takes a (map (λ w. w.now) c.args.words.now)) c.in_ok-whole.ensures.app ∙ h)
 
 pub returns-clause-kinds : goal.returns-clause-kinds
-unfolding log_app decode_app late_app station_app sim_app slots_app timed_app audit_app log_readers_app witness_app
+unfolding log_app decode_app late_app station_app sim_app slots_app timed_app judging_app audit_app log_readers_app
+    witness_app
 returns-clause-kinds c =
     sym (ap (λ (a : App). fault_of a (map (λ w. w.now) c.args.words.now)) c.in_ok-whole.ensures.app)
     ∙ c.in-Ok.ensures.kinds (ap is_simple_and_free c.in_ok-whole.ensures.app)
 
 pub returns-in-Err-clause-kinds : goal.returns-in-Err-clause-kinds
-unfolding log_app decode_app late_app station_app sim_app slots_app timed_app audit_app log_readers_app witness_app
+unfolding log_app decode_app late_app station_app sim_app slots_app timed_app judging_app audit_app log_readers_app
+    witness_app
 returns-in-Err-clause-kinds c =
     subst (λ (a : App). HasKind (fault_of a (map (λ w. w.now) c.args.words.now)) c.in-Err.error)
     c.in_ok-whole.ensures.app (c.in-Err.ensures.kinds (ap is_simple_and_free c.in_ok-whole.ensures.app))
@@ -49,7 +51,8 @@ no_part f g (Some a) p = absurd (no p)
     no e = cc
 
 pub returns-in_default-clause-ok : goal.returns-in_default-clause-ok
-unfolding log_app decode_app late_app station_app sim_app slots_app timed_app audit_app log_readers_app witness_app
+unfolding log_app decode_app late_app station_app sim_app slots_app timed_app judging_app audit_app log_readers_app
+    witness_app
 returns-in_default-clause-ok c =
     let found = (out-ArgMatches c.in-Ok.matches).subcommand in
     let nothing = no_part (λ b. (out-SubCommand (box_value b)).name.now)
@@ -60,7 +63,8 @@ returns-in_default-clause-ok c =
     ∙ ap (λ (a : App). subcommand_of a (map (λ w. w.now) c.args.words.now)) c.in_ok-whole.ensures.app)
 
 pub returns-in_default-clause-kinds : goal.returns-in_default-clause-kinds
-unfolding log_app decode_app late_app station_app sim_app slots_app timed_app audit_app log_readers_app witness_app
+unfolding log_app decode_app late_app station_app sim_app slots_app timed_app judging_app audit_app log_readers_app
+    witness_app
 returns-in_default-clause-kinds c =
     sym (ap (λ (a : App). fault_of a (map (λ w. w.now) c.args.words.now)) c.in_ok-whole.ensures.app)
     ∙ c.in-Ok.ensures.kinds (ap is_simple_and_free c.in_ok-whole.ensures.app)
@@ -69,7 +73,8 @@ pub returns-in_default-clause-taken : goal.returns-in_default-clause-taken
 returns-in_default-clause-taken c = taken (map (λ w. w.now) c.args.words.now) (returns-in_default-clause-kinds c)
 
 pub returns-clause-ok : goal.returns-clause-ok
-unfolding log_app decode_app late_app station_app sim_app slots_app timed_app audit_app log_readers_app witness_app
+unfolding log_app decode_app late_app station_app sim_app slots_app timed_app judging_app audit_app log_readers_app
+    witness_app
 returns-clause-ok c =
     let found = (out-ArgMatches c.in-Ok.matches).subcommand in
     let there = both_parts (λ b. (out-SubCommand (box_value b)).name.now)
