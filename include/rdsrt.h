@@ -222,7 +222,8 @@ uint32_t rdsrt_receiver_init(struct rdsrt_receiver *receiver, uint16_t pi, uint1
 uint32_t rdsrt_receiver_init_confirming(struct rdsrt_receiver *receiver, uint16_t pi, uint16_t dwell, uint16_t window);
 
 /* Ends a slot. count is 4 if these four blocks were received, and 0 if not (blocks may be NULL). A group with a lost
- * block is a lost slot: pass count 0. A group of another programme counts as a lost slot.
+ * block is a lost slot: pass count 0, also if block 1 alone is lost. Do not put in your PI: the group may be of another
+ * station. A group of another programme counts as a lost slot.
  * Returns RDSRT_CHANGED if the view may have changed, RDSRT_OK if it did not, and RDSRT_BAD_ARGUMENT for any other
  * count: then no slot has ended. */
 uint32_t rdsrt_receiver_slot(struct rdsrt_receiver *receiver, const uint16_t *blocks, size_t count);

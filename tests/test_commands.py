@@ -35,6 +35,7 @@ RUN = [
     ("./rdsrt slots spy.log > station.log", {"spy.log": SPY}, {}, "", ("station.log", SLOTS)),
     ("./rdsrt audit --running --pi C201 spy.log", {"spy.log": SPY.replace(".176", ".088")}, {},
      "yes 2\nrdsrt: judged in 2 slots: 2 texts, 0 names, 0 pairs of tags\n", None),
+    ("sed -nE 's/^G:", {"radio.txt": "PC201\nG:C201214048490D20\nS20\n"}, {}, '0 text "HI"\n', None),
     ("capture | redsea ", {}, {"capture": "true", "redsea": f"printf '{SPY}'"}, "", ("station.log", SLOTS)),
     ("sed -E 's/^([0-9A-Fa-f]{4} [Bb][0-7].[08]) ", {"station.log": f"{HI}\nC201 B140 0000 0000\n"}, {},
      "yes 2\nrdsrt: judged in 2 slots, 1 without a group: 1 text, 0 names, 0 pairs of tags\n", None),

@@ -172,8 +172,8 @@ class V4l2(Case):
             self.check(said, raised.exception.strerror, said)
 
     def test_what_is_no_radio(self):
-        for words, status, said in [(["/dev/null"], 1, "Inappropriate ioctl for device"),
-                                    (["/dev/radio-none"], 1, "No such file or directory"), ([], 2, "file"),
+        for words, status, said in [(["/dev/null"], 1, "v4l2: /dev/null: Inappropriate ioctl for device"),
+                                    (["/dev/radio-none"], 1, "v4l2: /dev/radio-none: No such file or directory"), ([], 2, "file"),
                                     (["--frequency", "x", "/dev/null"], 2, "--frequency")]:
             done = subprocess.run([V4L2, *words], capture_output=True, text=True, timeout=SECONDS)
             self.check(f"{words}", (done.returncode, said in done.stderr), (status, True))

@@ -39,7 +39,7 @@ LAYOUTS = {
     # the pages are those that include/rdsrt.h names
     "install": Layout(
         {MANUAL: "share/man/man1/rdsrt.1", **{it: f"share/doc/rdsrt/{os.path.basename(it)}"
-                                              for it in ("docs/DEFINITIONS.md", "docs/FORMATS.md")}},
+                                              for it in ("docs/DEFINITIONS.md", "docs/FORMATS.md", "docs/GUIDE.md")}},
         {}, [(r"\./rdsrt\b", "rdsrt")]),
     # all commands run in the top folder
     "tarball": Layout(

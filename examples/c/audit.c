@@ -5,12 +5,13 @@
  *     cc audit.c $(pkg-config --cflags --libs rdsrt) -Wl,-rpath,$(pkg-config --variable=libdir rdsrt) -o audit
  *     ./audit C201 < log
  *
- * Arguments: PI [DWELL [LATE]]. `./install ~/rdsrt` installs the library. */
+ * Arguments: [--running] [--padded] PI [DWELL [LATE]]. `./install ~/rdsrt` installs the library. */
 #include <rdsrt.h>
 
 #include "log.h"
 
 #include <stdlib.h>
+#include <string.h>
 
 static const char *fault_name(uint32_t code) {
     switch (code) {
@@ -27,13 +28,19 @@ int main(int count, char **words) {
     struct line line;
     uint16_t blocks[4];
     unsigned long slot = 0, number = 0;
+    uint32_t flags = 0;
+    for (; count > 1 && words[1][0] == '-'; count--, words++) {
+        if (strcmp(words[1], "--running") == 0) flags |= RDSRT_AUDIT_RUNNING;
+        else if (strcmp(words[1], "--padded") == 0) flags |= RDSRT_AUDIT_PADDED;
+        else break;
+    }
     unsigned long pi = count > 1 ? strtoul(words[1], NULL, 16) : 0x10000;
     unsigned long dwell = count > 2 ? strtoul(words[2], NULL, 10) : RDSRT_DEFAULT_DWELL;
     unsigned long late = count > 3 ? strtoul(words[3], NULL, 10) : 0;
 
     if (pi > 0xFFFF || dwell > 0xFFFF || late > 0xFFFF
-        || rdsrt_audit_init(&audit, (uint16_t)pi, (uint16_t)dwell, (uint16_t)late) != RDSRT_OK) {
-        fputs("usage: audit PI [DWELL [LATE]] < log\n", stderr);
+        || rdsrt_audit_init_with(&audit, (uint16_t)pi, (uint16_t)dwell, (uint16_t)late, flags) != RDSRT_OK) {
+        fputs("usage: audit [--running] [--padded] PI [DWELL [LATE]] < log\n", stderr);
         return 2;
     }
     while (next_line(&line)) {

@@ -277,6 +277,15 @@ class Audits(unittest.TestCase):
         audit.take([HI, *lost, (0xC201, 0x2140, 0x594F, 0x0D20), name, (0xC201, 0xA150, 0x4849, 0x2020)])
         self.assertEqual((audit.passed, audit.texts_turn_the_flag, audit.names_turn_the_flag), (True, False, True))
 
+    def test_padding(self):
+        """Bytes behind the carriage return do not count; those before it do."""
+        hi, behind, others = (0xC201, 0x2140, 0x4849, 0x0D20), (0xC201, 0x2141, 0, 0x0D0A), (0xC201, 0x2141, 0x5A5A, 0x2020)
+        self.assertEqual(Audit(0xC201, 8).take([hi, behind]), (1, Fault.NOT_ONE_TEXT))
+        audit = Audit(0xC201, 8, padded=True)
+        self.assertIsNone(audit.take([hi, behind, others, hi]))
+        self.assertEqual(audit.texts, 1)
+        self.assertEqual(audit.slot((0xC201, 0x2140, 0x594F, 0x0D20)), Fault.CHANGED)
+
     def test_lateness(self):
         other = (0xC201, 0x2150, 0x594F, 0x0D20)
         groups = [HI, other, None, None, (0xC201, 0x2140, 0x4841, 0x0D20)]

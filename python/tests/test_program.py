@@ -74,12 +74,13 @@ class BesideTheProgram(unittest.TestCase):
         rng, faults = random.Random(10), 0
         for number in range(40):
             groups = by_chance.groups(rng, rng.choice((2, 4, 8)), rng.choice((40, 400)), rng.choice((0.8, 1)))
-            log, running = by_chance.log_of(groups), ["--running"] * (number % 2)
-            audit = Audit(0xC201, 30, running=bool(running))
+            log, running, padded = by_chance.log_of(groups), number % 2, number // 2 % 2
+            audit = Audit(0xC201, 30, running=bool(running), padded=bool(padded))
             mine = [f"no {slot} {fault}" for slot, group in enumerate(read_log(io.BytesIO(log)))
                     for fault in audit.all_faults(group)]
             faults += len(mine)
-            lines, notes = by_chance.ran_with_notes("audit", "--all", "--pi", "C201", "--m", "30", *running, log=log)
+            lines, notes = by_chance.ran_with_notes("audit", "--all", "--pi", "C201", "--m", "30", *["--running"] * running,
+                                                    *["--padded"] * padded, log=log)
             self.assertEqual(lines, mine or [f"yes {audit.slots}"])
             texts = re.search(r"(\d+) texts?, (\d+) names?", notes)
             self.assertEqual((int(texts[1]), int(texts[2])) if texts else (0, 0), (audit.texts, audit.names))

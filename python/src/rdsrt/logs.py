@@ -1,4 +1,6 @@
 """Groups, logs, and groups with times of arrival."""
+from __future__ import annotations
+
 import ctypes
 import functools
 import operator
@@ -7,6 +9,8 @@ from typing import Iterable, Iterator, List, Optional, Sequence, SupportsIndex, 
 
 from . import _library as c
 
+Integer = SupportsIndex
+"""An int, or a number of another type that is one, as of NumPy."""
 Group = Tuple[int, int, int, int]
 """The four blocks of a group, 0 to 0xFFFF each, without their check bits."""
 _BLOCK = "([0-9A-Fa-f]{4}|----)"
@@ -16,7 +20,7 @@ _DATED = re.compile(r"@?\d{4}[/-]")
 _MOST = 2 ** 64 - 1
 
 
-def in_range(what: str, number: SupportsIndex, least: int, most: int) -> int:
+def in_range(what: str, number: Integer, least: int, most: int) -> int:
     """Returns the number as an int. ctypes would cut a larger one silently."""
     try:
         it = operator.index(number)
@@ -115,7 +119,7 @@ def read_timed(lines: Iterable[Union[str, bytes]], first: int = 1) -> Iterator[T
             yield (time - (_year_1970() if _DATED.match(after) else 0)) / 1e6, group
 
 
-def blocks_of(group: Sequence[SupportsIndex]) -> List[int]:
+def blocks_of(group: Sequence[Integer]) -> List[int]:
     """Returns the four blocks of a group. Raises TypeError or ValueError if it is not a group."""
     if isinstance(group, (str, bytes, bytearray, memoryview, dict)) or not hasattr(group, "__getitem__"):
         raise TypeError(f"a group is a tuple of four numbers and not {type(group).__name__}")
@@ -129,7 +133,7 @@ def blocks_of(group: Sequence[SupportsIndex]) -> List[int]:
     return blocks
 
 
-def format_group(group: Optional[Sequence[SupportsIndex]]) -> str:
+def format_group(group: Optional[Sequence[Integer]]) -> str:
     """Returns the line of a log for this group, or for None the line of a lost slot. The line has no line end."""
     return "---- ---- ---- ----" if group is None else " ".join(f"{it:04X}" for it in blocks_of(group))
 

@@ -1,11 +1,13 @@
 """Receivers, encoders and audits: the structs of the C library as Python objects."""
+from __future__ import annotations
+
 import ctypes
 import enum
-from typing import Any, Dict, Iterable, Iterator, List, NamedTuple, Optional, Sequence, SupportsIndex, Tuple, TypeVar
+from typing import Any, Dict, Iterable, Iterator, List, NamedTuple, Optional, Sequence, Tuple, TypeVar
 
 from . import _library as c
 from .characters import InvalidText, coded, require_str, shown, symbols
-from .logs import Group, blocks_of, in_range, timed_slots
+from .logs import Group, Integer, blocks_of, in_range, timed_slots
 from .views import ContentType, Item, Segments, Tag, View, content_type_of
 
 _Any = TypeVar("_Any", bound="_Plain")
@@ -78,7 +80,7 @@ def library_version() -> str:
     return f"{it.major}.{it.minor}.{it.patch}"
 
 
-def _blocks(group: Optional[Sequence[SupportsIndex]]) -> Tuple[Any, int]:
+def _blocks(group: Optional[Sequence[Integer]]) -> Tuple[Any, int]:
     """Returns a group as the library takes it: blocks and their count."""
     return (None, 0) if group is None else (c.Blocks(*blocks_of(group)), 4)
 
@@ -159,8 +161,8 @@ class Receiver(_Plain):
     _type = c.Receiver
     _window: Optional[int]
 
-    def __init__(self, pi: SupportsIndex, dwell: SupportsIndex = c.DEFAULT_DWELL, *,
-                 window: Optional[SupportsIndex] = None):
+    def __init__(self, pi: Integer, dwell: Integer = c.DEFAULT_DWELL, *,
+                 window: Optional[Integer] = None):
         self._pi, self._dwell = in_range("pi", pi, 0, 0xFFFF), in_range("dwell", dwell, 1, 0xFFFF)
         self._window = None if window is None else in_range("window", window, 2, 0xFF)
         self._its = self._type()
@@ -178,7 +180,7 @@ class Receiver(_Plain):
         """The window in slots. None if the receiver shows what it received once."""
         return self._window
 
-    def slot(self, group: Optional[Sequence[SupportsIndex]]) -> bool:
+    def slot(self, group: Optional[Sequence[Integer]]) -> bool:
         """Ends a slot with this group, or with None if no whole group arrived. Returns whether the view may have
         changed."""
         blocks, count = _blocks(group)
@@ -203,7 +205,7 @@ class Receiver(_Plain):
         text, name = (Segments(tuple(a for a in range(16) if of.held >> a & 1), of.age) for of in (it.text, it.name))
         return text, name
 
-    def watch(self, groups: Iterable[Optional[Sequence[SupportsIndex]]]) -> Iterator[Tuple[int, View]]:
+    def watch(self, groups: Iterable[Optional[Sequence[Integer]]]) -> Iterator[Tuple[int, View]]:
         """Takes these slots. Yields the number of each slot that changed the view, from 0, and the view."""
         return self._changes(enumerate(groups))
 
@@ -213,7 +215,7 @@ class Receiver(_Plain):
         each slot that changed the view, in seconds, and the view."""
         return self._changes(timed_slots(timed, grain, self.dwell))
 
-    def _changes(self, slots: Iterable[Tuple[_Key, Optional[Sequence[SupportsIndex]]]]) -> Iterator[Tuple[_Key, View]]:
+    def _changes(self, slots: Iterable[Tuple[_Key, Optional[Sequence[Integer]]]]) -> Iterator[Tuple[_Key, View]]:
         last = self.view
         for key, group in slots:
             if self.slot(group) and (view := self.view) != last:
@@ -230,8 +232,8 @@ class Encoder(_Plain):
     __slots__ = ("_pty", "_tp", "_late")
     _type = c.Encoder
 
-    def __init__(self, pi: SupportsIndex, *, pty: SupportsIndex = 0, tp: bool = False, dwell: SupportsIndex = c.DEFAULT_DWELL,
-                 late: SupportsIndex = 0):
+    def __init__(self, pi: Integer, *, pty: Integer = 0, tp: bool = False, dwell: Integer = c.DEFAULT_DWELL,
+                 late: Integer = 0):
         self._pi, self._pty, self._tp = in_range("pi", pi, 0, 0xFFFF), in_range("pty", pty, 0, 31), bool(tp)
         self._dwell, self._late = in_range("dwell", dwell, 1, 0xFFFF), in_range("late", late, 0, 1024)
         self._its = c.Encoder()
@@ -267,7 +269,7 @@ class Encoder(_Plain):
         its = coded(name)
         self._raise(c.library().rdsrt_encoder_set_name(self._its, its, len(its)), name, 8)
 
-    def set_tags(self, *tags: Tuple[SupportsIndex, SupportsIndex, SupportsIndex], toggle: bool = False,
+    def set_tags(self, *tags: Tuple[Integer, Integer, Integer], toggle: bool = False,
                  running: bool = True) -> None:
         """Gives the text on air up to two tags, in place of those before. A tag is its content type, the place of its
         first character from 0 and its number of characters (an escape is one), up to 64, of the second tag 32. Raises
@@ -362,7 +364,7 @@ class Audit(_Plain):
     __slots__ = ("_late", "_slots")
     _type = c.Audit
 
-    def __init__(self, pi: SupportsIndex, dwell: SupportsIndex = c.DEFAULT_DWELL, late: SupportsIndex = 0, *,
+    def __init__(self, pi: Integer, dwell: Integer = c.DEFAULT_DWELL, late: Integer = 0, *,
                  running: bool = False, padded: bool = False):
         self._pi, self._slots = in_range("pi", pi, 0, 0xFFFF), 0
         self._dwell, self._late = in_range("dwell", dwell, 1, 0xFFFF), in_range("late", late, 0, 1024)
@@ -374,7 +376,7 @@ class Audit(_Plain):
         verdict = "passed" if self.passed else "not passed"
         return f"<Audit of {self.pi:04X}, dwell {self.dwell}, late {self.late}: {self.slots} slots, {verdict}>"
 
-    def slot(self, group: Optional[Sequence[SupportsIndex]]) -> Optional[Fault]:
+    def slot(self, group: Optional[Sequence[Integer]]) -> Optional[Fault]:
         """Ends a slot in which this group was sent, or None. Returns the fault from the slot that breaks a rule on, and
         before it None."""
         blocks, count = _blocks(group)
@@ -382,7 +384,7 @@ class Audit(_Plain):
         self._slots += 1
         return Fault(code) if code else None
 
-    def all_faults(self, group: Optional[Sequence[SupportsIndex]]) -> Tuple[Fault, ...]:
+    def all_faults(self, group: Optional[Sequence[Integer]]) -> Tuple[Fault, ...]:
         """Ends a slot in which this group was sent, or None, also after a fault. Returns the faults that the slot adds to
         the list of all faults. Each text or name has each fault at most once, in the first slot in which it breaks the
         rule. Other bytes at an address of a text begin a new text (FORMATS.md, "All faults of a log")."""
@@ -392,7 +394,7 @@ class Audit(_Plain):
         self._slots += 1
         return tuple(Fault[name.upper()] for name, _ in found._fields_ if getattr(found, name))
 
-    def take(self, groups: Iterable[Optional[Sequence[SupportsIndex]]]) -> Optional[Tuple[int, Fault]]:
+    def take(self, groups: Iterable[Optional[Sequence[Integer]]]) -> Optional[Tuple[int, Fault]]:
         """Takes these slots up to the first fault. Returns the number of its slot, from 0 at the start of the audit,
         and the fault; or None if no rule is broken."""
         for group in groups:
