@@ -4,9 +4,9 @@ import random
 import re
 import subprocess
 
-from tests.page_support import (EVERY_100, HI, NOTHING, SEED, YO, ChromiumCase, FirefoxCase, call, click,
-                                first_examples, move, of, open_script, run_program, settle, shown, text_of, to_tab,
-                                verdict_of)
+from tests.page_support import (EVERY_100, HI, NOTHING, SEED, YO, ChromiumCase, FirefoxCase, call, click, example,
+                                first_examples, move, of, open_script, run_program, settle, settled_verdict, shown,
+                                text_of, to_tab, verdict_of)
 from tests.slot import SLOT
 from tests.support import PROGRAM
 
@@ -214,6 +214,33 @@ class Faults:
         self.check("up to the no", "Lost slots: The first 3 lines span 108 slots by the times in them. " in said, True, said)
         said = verdict_of(b, f"{HI} 0.00\n{HI} 9.40\n", 8)
         self.check("after a yes", "Lost slots: The log spans 108 slots by its times and has 2 lines. " in said, True, said)
+
+    def test_a_malformed_last_line_hides_no_mix(self):
+        """A recording that was cut: the search and the displays are over the slots before its last line."""
+        b = self.b
+        said = verdict_of(b, example("flags.log").decode() + "C201 21\n", 8)
+        self.check("a witness is found", "a receiver that loses slots 2 to 3" in said, True, said)
+        click(b, "#witness button")
+        settle(b)
+        self.check("the mix is red", results(b, "log")[1] > 0, True)
+
+    def test_a_search_that_was_left_is_not_the_answer(self):
+        """M changes while the page looks for a witness. The search before it ends late."""
+        b = self.b
+        verdict_of(b, f"{HI}\n", 8)
+        b.run("""{ const it = $log.logTab.judge; const ask = it.ask.bind(it);
+            const late = (call, given, more) => new Promise((done, fail) => {
+              more.signal.addEventListener("abort", () => setTimeout(() => fail(new Error("left")), 20));
+              setTimeout(() => ask(call, given, more).then(done, fail), 400);
+            });
+            it.ask = (call, ...more) => call === "witness" ? late(call, ...more) : ask(call, ...more); }""")
+        to_tab(b, "log")
+        call(b, "probe.open", "log", example("flags.log").decode(), {"pi": "C201", "m": 9, "k": 0})
+        b.until("document.querySelector('#verdict').textContent.includes('Looking for')")
+        call(b, "probe.choose", "log-m", "8")
+        settle(b)
+        said = settled_verdict(b)
+        self.check("the search for M = 8", "a receiver that loses slots 2 to 3" in said, True, said)
 
     def test_a_worker_that_ends_is_said(self):
         """The page does not wait for ever."""

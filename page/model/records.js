@@ -1,4 +1,4 @@
-
+/* Reads the records of a script, to put their texts into fields. The program alone says which row is malformed. */
 /* A field and what ends it, as the program reads them. Quotation marks within a field are letters of it. */
 const FIELD = /(?:"([^"]*(?:""[^"]*)*)"?)?([^,\r\n]*)(,|\r\n|[\r\n]|$)/y;
 

@@ -33,7 +33,8 @@ function isWhole(bytes, at) {
   return isFirstHalf && !isMissing(bytes, at + 10) && !isMissing(bytes, at + 15);
 }
 
-/* Reads a log up to a malformed line: the first byte of each slot, and the programmes, by their numbers of groups. */
+/* Reads a log up to a malformed line: the first byte of each slot, where the slots end, and the programmes, by their
+   numbers of groups. */
 /** @param {(share: number) => void} tell */
 export function read(bytes, malformed = Infinity, tell = () => {}) {
   const most = Math.floor((bytes.length + 1) / (BLOCKS + 1)) + 1;
@@ -53,7 +54,7 @@ export function read(bytes, malformed = Infinity, tell = () => {}) {
   const programmes = [];
   counts.forEach((groups, pi) => { if (groups) programmes.push([pi, groups]); });
   programmes.sort((one, other) => other[1] - one[1]);
-  return { starts: starts.slice(0, count), count, malformed, programmes };
+  return { starts: starts.slice(0, count), count, end: Math.min(start, bytes.length), malformed, programmes };
 }
 
 /* Returns the group of a slot; null if a block is missing. */

@@ -50,9 +50,11 @@ function lossyOf({ pi, m, w, lost, passes }) {
   const again = (it) => shownBy(it.words, values, it);
   const both = () => ({ whole: again(kept.whole), alone: again(kept.alone) });
   const shown = logs.whileLost(state.bytes, state.log, lost, both);
+  // witness prints nothing of a log with a malformed line
+  const read = state.bytes.subarray(0, state.log.end);
   const losing = ["witness", "--pi", pi, "--m", m, "--lose", lines.spansOf(lost).join(",")];
   const mark = (which, ...more) => {
-    if (shown[which] !== kept[which]) displays.markMixes(shown[which].view, run([...losing, ...more]).output);
+    if (shown[which] !== kept[which]) displays.markMixes(shown[which].view, run([...losing, ...more], read).output);
   };
   if (!w && !passes) mark("whole");
   mark("alone", "--flag-alone");

@@ -1,4 +1,4 @@
-
+/* Calls the module: words and input go into its memory, and output, status and notes come back. */
 const HEAP = 1 << 20;
 const ROOM = 1 << 16;
 const NOTES = 1 << 14;

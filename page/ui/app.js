@@ -1,3 +1,4 @@
+/* Begins the page: its tabs, the examples, what is dropped on it, and the address. */
 import * as rdsrt from "../program/rdsrt.js";
 import * as links from "./links.js";
 import { logTab } from "./log.js";

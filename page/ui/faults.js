@@ -1,3 +1,4 @@
+/* The list of what `audit --all` notes on a log. */
 import { $, grouped, make, nodesOf, told } from "./parts.js";
 
 /* A quoted line keeps its digits as they are. */

@@ -197,10 +197,11 @@ class LogTab extends Tab {
     const { no, answer, log } = this;
     if (!no || !answer.isSure) return;
     const slots = Math.min(log.count, no.slot + SEARCHED);
-    const given = { pi, m, slots, end: log.starts[slots] ?? this.bytes.length, isAll: slots === log.count };
+    const given = { pi, m, slots, end: log.starts[slots] ?? log.end, isAll: slots === log.count };
     const failed = ({ message }) => ({ lost: null, shown: [], failure: message });
-    this.witness = w ? failed(NO_SEARCH) : await this.judge.ask("witness", given, { signal }).catch(failed);
+    const witness = w ? failed(NO_SEARCH) : await this.judge.ask("witness", given, { signal }).catch(failed);
     if (signal.aborted) return;
+    this.witness = witness;
     verdict.showWitness({ ...this.witness, k }, this.actions);
     if (log.count > LONG) this.judge.stop();
   }
@@ -273,7 +274,6 @@ class LogTab extends Tab {
   afterLink({ given }) {
     if (given.has("pi") && given.get("pi") !== this.value("pi")) throw links.damaged();
   }
-
 
   begin(compiled) {
     super.begin(["pi", "m", "k", "w", "running", "padded"], () => this.look());

@@ -1,3 +1,4 @@
+/* Small pieces that the tabs share: numbers in words, templates of index.html, and the display of a radio. */
 import { kindOf, wordsOfTag } from "../model/displays.js";
 import { hex } from "../model/lines.js";
 
