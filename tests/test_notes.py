@@ -18,6 +18,8 @@ DECODE, AUDIT, WITNESS = (f"{it} --pi C201" for it in ("decode", "audit", "witne
 ENCODE, SIM = "encode --pi C201 --m 1", "sim --pi C201 --m 1"
 LOOKS = "; a log line looks like C201 2140 4849 0D20"
 RUNNING = ". If the station was on air before the log began: --running"
+PADDING = (". Here it may be harmless: receivers show nothing behind the carriage return. To judge the text without it: "
+           "--padded")
 # a malformed line of a log, and the cause; blocks are counted from 1
 LINES = [
     ("C201 21400 4849 0D20", "block 2 has 5 characters, expected 4"),
@@ -113,12 +115,20 @@ NOES = [
     (b"C201 B148 2002 0000\n", 0, 1, 8, 0, "RT+ tags came before any text"),
     (worked_rows.TAGS_AFTER_FOUR, 4, 5, 4, 0, "an RT+ tag ends past the end of its text"),
     (b"C201 2140 4849 0D58\n", 0, 1, 4, 0,
-     "the segments fit no text: byte 0x58 at place 3, after the carriage return"),
-    (b"C201 2141 4802 0D20\n", 0, 1, 4, 0, "the segments fit no text: byte 0x02 at place 5"),
+     f"the segments fit no text: byte 0x58 at place 3, after the carriage return{PADDING}"),
+    # the text may end before that segment
+    (b"C201 2141 4802 0D20\n", 0, 1, 4, 0, f"the segments fit no text: byte 0x02 at place 5{PADDING}"),
+    (b"C201 2140 4802 0D20\n", 0, 1, 4, 0, "the segments fit no text: byte 0x02 at place 1"),
     (HI + b"C201 2142 4142 4344\n", 1, 2, 4, 0,
-     "the segments fit no text: a segment past the carriage return at place 2"),
+     f"the segments fit no text: a segment past the carriage return at place 2{PADDING}"),
     (b"C201 2142 4142 4344\n" + HI, 1, 2, 4, 0,
-     "the segments fit no text: a carriage return at place 2, before a segment that was sent"),
+     f"the segments fit no text: a carriage return at place 2, before a segment that was sent{PADDING}"),
+    (HI + b"C201 B140 0000 0000\n", 1, 2, 4, 0,
+     "RT+ tags came less than M + K = 4 slots after their text started, in slot 0. Here both tags are empty, so no receiver "
+     "shows them"),
+    (HI + HI.replace(b"2140", b"2150") + HI, 2, 3, 4, 0,
+     "a text reused the A/B flag less than M + K = 4 slots after the last group of the text before the previous one, in "
+     "slot 0. Here the first segment is that of the text before: only a new text needs a flip"),
     (b"C201 A541 5003 5020\n", 0, 1, 4, 0, "the segments fit no name (PTYN): byte 0x03 at place 5"),
 ]
 # the time of a line, and how a note shows it
@@ -313,7 +323,7 @@ class Warnings(ProgramCase):
         for log, slot, line, m, k, rule in NOES:
             got = noted(f"{AUDIT} --m {m} --k {k}", log)
             told = f"slot {slot} (line {line}): {rule}{next_commands(m, k)}"
-            may_be_old = "RT+ tags came" in rule and rule.endswith(("in slot 0", "any text"))
+            may_be_old = "RT+ tags came" in rule and ("in slot 0" in rule or rule.endswith("any text"))
             self.check(f"note on a no: {rule}", (got[0], got[2]), (1, note(told + RUNNING * may_be_old)))
         running = noted(f"{AUDIT} --m 8 --running", worked_rows.FLAG_AFTER_FIVE)[2]
         self.check("--running is not named again", RUNNING in running, False)
@@ -374,6 +384,9 @@ class Warnings(ProgramCase):
                  "no 2A, 10A or 11A group of C201: the search says nothing; 1 group 2B was not read"),
                 (plain, DECODE, "no 2A, 10A or 11A group of C201"),
                 (second * 2, DECODE, "no 2A, 10A or 11A group of C201; 2 groups 2B were not read"),
+                (text + b"C201 3019 0000 4BD7\n" + b"C201 C808 2006 0000\n" * 2, DECODE,
+                 "RT+ is in group 12B by the 3A groups, not in 11A: 2 groups 12B were not read"),
+                (text + b"C201 ---- 4849 0D20\n" * 2, DECODE, "2 of 3 groups of C201 had one lost block: rdsrt uses whole groups only"),
                 (text + second, DECODE, "1 group 2B was not read")):
             got = noted(words, log)
             self.check(f"{words} of {log}", (got[0], got[2]), (0, note(told)))
@@ -437,22 +450,27 @@ OBJECTS = [
                                   {"kind": "fault", "fault": "row", "row": 2}]),
     ("decode --pi X", b"", [{"kind": "fault", "fault": "pi"}]),
     (f"{AUDIT} --m 4", HI + b"C201 2150 594F 0D20 12.5\n" + HI,
-     [{"kind": "no", "fault": "EarlyFlag", "of": "text", "slot": 2, "line": 3, "earlier": 0, "needed": 4}]),
+     [{"kind": "no", "fault": "EarlyFlag", "of": "text", "slot": 2, "line": 3, "earlier": 0, "needed": 4,
+       "harmless": False}]),
     (f"{AUDIT} --m 4", HI + b"C201 B148 2002 0000 @2024/06/01 07:58:12.08\n",
      [{"kind": "no", "fault": "EarlyTag", "of": "tags", "slot": 1, "line": 2, "time": "2024/06/01 07:58:12.08",
-       "earlier": 0, "first": 0, "needed": 4}]),
+       "earlier": 0, "first": 0, "needed": 4, "harmless": False}]),
     (f"{AUDIT} --m 4", b"C201 2140 4802 0D20\n",
      [{"kind": "no", "fault": "NotOneText", "of": "text", "slot": 0, "line": 1, "needed": 4, "cause": "byte", "byte": 2,
-       "place": 1}]),
+       "place": 1, "harmless": False}]),
     (f"{AUDIT} --m 8 --all", HI + b"C201 B148 2002 0000 12.5\n",
-     [{"kind": "faults", "fault": "EarlyTag", "of": "text", "count": 1, "judged": 1, "first_slot": 1, "first_line": 2,
-       "first_time": "12.5", "last_slot": 1, "last_line": 2, "last_time": "12.5"},
+     [{"kind": "faults", "fault": "EarlyTag", "of": "text", "count": 1, "harmless": 0, "judged": 1, "first_slot": 1,
+       "first_line": 2, "first_time": "12.5", "last_slot": 1, "last_line": 2, "last_time": "12.5"},
       {"kind": "judged", "slots": 2, "empty": 0, "texts": 1, "names": 0, "tags": 1, "short": 0}]),
     (AUDIT, HI.rstrip() + b" 0.1\n" + LOST,
      [{"kind": "judged", "slots": 2, "empty": 1, "texts": 1, "names": 0, "tags": 0, "short": 0},
       {"kind": "few", "groups": 1, "slots": 2}]),
     (AUDIT, b"C201 2940 4849 0D20\n", [{"kind": "nothing", "short": 1}]),
     (DECODE, HI + b"C201 2940 4849 0D20\n", [{"kind": "short", "groups": 1}]),
+    (DECODE, HI + b"C201 3018 0000 4BD7\nC201 C008 2006 0000\n", [{"kind": "tags_elsewhere", "group": "12A", "groups": 1}]),
+    (WITNESS, HI + b"C201 3016 0000 C563\nC201 B008 2006 0000\n", [{"kind": "other_application", "application": "C563"}]),
+    (DECODE, HI + b"C201 2140 ---- 0D20\nC201 ---- ---- 0D20\n---- 2140 4849 0D20\nF201 2140 4849 ----\n" + LOST,
+     [{"kind": "damaged", "damaged": 1, "whole": 1}]),
     ("decode --pi ABCD", HI + b"F201 2140 4849 0D20\n",
      [{"kind": "no_group", "slots": 2, "first": "C201", "groups": 1, "others": 1}]),
     (DECODE, HI.rstrip() + b" 0.0\n" + HI.rstrip() + b" 9.0\n", [{"kind": "lack", "slots": 103, "lines": 2, "start": True}]),

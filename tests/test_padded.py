@@ -26,7 +26,7 @@ def random_log(rng):
 class Padded(ProgramCase):
     def test_random_logs_beside_both_plain_checks(self):
         rng, answers = random.Random(SEED), collections.Counter()
-        for number in range(500):
+        for number in range(1000):
             log, dwell = random_log(rng), rng.randrange(1, 5)
             wanted = plain_padded.answer_by_reigns(log, dwell)
             slot = None if wanted.startswith("yes") else int(wanted.split()[1])
