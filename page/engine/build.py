@@ -1,14 +1,15 @@
 #!/usr/bin/env python3
-"""Writes engine.js (the module), examples.js (the examples) and page.js (the ES modules of the page, joined in the order of
-their imports). All three are plain scripts: a browser loads no module for a page that was opened from a disk.
+"""Writes index.html: one file with the style, the module, the examples and the ES modules of the page, joined in the order of
+their imports. These are plain scripts: a browser loads no module for a page that was opened from a disk. The policy of the
+page names each of them by its sum.
 
-usage: build.py MODULE EXAMPLES OUT      writes all of them
-       build.py --scripts OUT            writes page.js alone
+usage: build.py MODULE EXAMPLES OUT
 """
 import base64
 import csv
 import glob
 import gzip
+import hashlib
 import io
 import json
 import os
@@ -66,9 +67,9 @@ def tunnel(folder, receiver=1):
     return {"name": "A long tunnel", "text": text.getvalue(), "from": ENCODE, "pi": "C201", "m": 8, "lost": lost}
 
 
-def write(out, name, constant, value):
-    with open(os.path.join(out, name), "w", encoding="utf-8") as file:
-        file.write(f'"use strict";\nconst {constant} = {json.dumps(value, ensure_ascii=False, indent=1)};\n')
+def constant(name, value):
+    """A script with one constant. No end of an element is in it."""
+    return f'"use strict";\nconst {name} = {json.dumps(value, ensure_ascii=False, indent=1)};\n'.replace("</", "<\\/")
 
 
 def read(name):
@@ -110,28 +111,43 @@ def joined(path):
     return done, "".join(done.values())
 
 
-def write_scripts(out):
-    """Writes page.js: the text of the worker's script, and the script of the page."""
+def page_script():
+    """The text of the worker's script, and the script of the page."""
     (for_worker, worker), (for_page, page) = joined(WORKER), joined(PAGE)
     there = {os.path.relpath(it, PAGE_FOLDER) for it in glob.glob(os.path.join(PAGE_FOLDER, "*/*.js"))}
     there -= {it for it in there if it.startswith("out/")}
     if there - {*for_worker, *for_page}:
         sys.exit(f"build.py: nothing imports {', '.join(sorted(there - {*for_worker, *for_page}))}")
-    with open(os.path.join(out, "page.js"), "w", encoding="utf-8") as file:
-        file.write(f'"use strict";\nconst RDSRT_WORKER = {json.dumps(worker, ensure_ascii=False)};\n{page}')
+    return constant("RDSRT_WORKER", worker) + page
+
+
+def one_file(scripts):
+    """The page with its style and these scripts in it, each by the name under which index.html asks for it."""
+    html, sums = read("index.html"), {"script": [], "style": []}
+    parts = [("style", '<link rel="stylesheet" href="style.css">', read("style.css"))]
+    parts += [("script", f'<script src="{name}"></script>', text) for name, text in scripts.items()]
+    for kind, tag, text in parts:
+        if html.count(tag) != 1 or f"</{kind}" in text:
+            sys.exit(f"build.py: index.html has not one {tag}, or its text ends the element")
+        html = html.replace(tag, f"<{kind}>{text}</{kind}>")
+        sums[kind].append(f"'sha256-{base64.b64encode(hashlib.sha256(text.encode()).digest()).decode()}'")
+    for kind, found in sums.items():
+        html = html.replace(f"{kind}-src 'self'", f"{kind}-src {' '.join(found)}", 1)
+    return html
 
 
 def main():
-    if sys.argv[1:2] == ["--scripts"]:
-        write_scripts(sys.argv[2])
-        return
     module, examples, out = sys.argv[1:]
     with open(module, "rb") as file:
         packed = gzip.compress(file.read(), 9, mtime=0)
-    write(out, "engine.js", "RDSRT_ENGINE", base64.b64encode(packed).decode())
-    write_scripts(out)
     logs, scripts = [*shown(examples, LOGS), tunnel(examples)], [*shown(examples, SCRIPTS), restarts()]
-    write(out, "examples.js", "RDSRT_EXAMPLES", {"log": logs, "script": scripts})
+    html = one_file({
+        "engine.js": constant("RDSRT_ENGINE", base64.b64encode(packed).decode()),
+        "examples.js": constant("RDSRT_EXAMPLES", {"log": logs, "script": scripts}),
+        "page.js": page_script(),
+    })
+    with open(os.path.join(out, "index.html"), "w", encoding="utf-8", newline="\n") as file:
+        file.write(html)
 
 
 if __name__ == "__main__":

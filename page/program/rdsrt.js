@@ -10,7 +10,7 @@ const decoder = new TextDecoder();
 /** @type {any} */
 let module = null;
 
-/* Compiles the module, which comes packed in engine.js: a page that was opened from a disk may fetch nothing. */
+/* Compiles the module, which the page has packed in it: one that was opened from a disk may fetch nothing. */
 export async function load() {
   const packed = Uint8Array.from(atob(RDSRT_ENGINE), (letter) => letter.charCodeAt(0));
   const plain = new Blob([packed]).stream().pipeThrough(new DecompressionStream("gzip"));
