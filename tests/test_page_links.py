@@ -83,7 +83,7 @@ class Links:
         with served(FOLDER) as url:
             visit(b, url)
             fetched = [it for it in b.fetched() if it.startswith(url.removesuffix("index.html"))]
-            self.check("files of the page are fetched", len(fetched) > 3, True)
+            self.check("the page is one file", {re.sub("#.*", "", it) for it in fetched} - {url}, set())
             click(b, "#tab-script")
             call(b, "probe.choose", "script-example", 1)
             b.drag(*[call(b, "probe.place", "script", 1, "receiver 1")] * 2)
@@ -112,6 +112,19 @@ class Links:
             for more in ("&slot=9999999&receiver=9", "&slot=x&receiver="):
                 visit(b, f"{re.sub('&slot=.*', '', link)}{more}&end")
                 self.check(f"a link with {more}", [printed(b), sight(b)[1] < 2], [before, True])
+
+    def test_what_is_no_link_is_refused(self):
+        """A road has no more slots than the first one. An example has a number."""
+        b = self.b
+        rows = b"text,A,1,G\n" + b"-,,1,L\n-,,1,G\n" * 10_000
+        visit(b, f"{URL}#road={packed(rows)}&&slot=0&end")
+        b.until("document.querySelector('#road-saved').textContent !== ''")
+        self.check("a long road", text_of(b, "#road-saved"),
+                   "The link holds a road of more than 96 slots. The page does not open it.")
+        self.check("the first road stays", b.run("document.querySelectorAll('#road-texts input').length"), 3)
+        for name in ("map", "__proto__", "-1", "99"):
+            visit(b, f"{URL}#script&example={name}")
+            self.check(f"example={name}", (text_of(b, "#script-fault"), hidden(b)), ("", ["log"]))
 
     def test_a_link_of_a_log_keeps_its_options_and_lost_slots(self):
         """It keeps the slot too, and stays in the address."""

@@ -63,7 +63,7 @@ class Road:
         b = self.b
         self.check("it stops at the mix", b.until(f"{CAR} === 54 && !probe.plays('road')"), True)
         texts = lambda: [text_of(b, f"#road-{it} .text") for it in ("air", "dwell", "alone")]
-        self.check("displays", texts(), ["B7: closed today", "— dropped —", "B7: opened today"])
+        self.check("displays", texts(), ["B7: closed today", "— nothing until it is sure —", "B7: opened today"])
         self.check("words", text_of(b, "#road-says"), "“B7: opened today” was never on air. The receiver with rdsrt "
                    "shows no text (dropped). It shows the next one when it is complete: in slot 80.")
         call(b, "probe.moveCar", 20)
@@ -97,8 +97,15 @@ class Road:
         call(b, "probe.moveCar", 60)
         self.check("the mix", text_of(b, "#road-alone .text"), "Heav icee on the A9")
         self.check("the program says so", shown(b), wanted(call(b, "probe.roadAsScript")))
+        before = shown(b)
         typed(1, "\u2603")
-        self.check("a refused text", "is not in the RDS character table" in text_of(b, "#road-says"), True, text_of(b, "#road-says"))
+        self.check("a refused text", text_of(b, "#road-says"),
+                   "Text 2: '\u2603' at character 1 is not in the RDS character table.")
+        invalid = lambda: b.run("[...document.querySelectorAll('#road-texts input')].map(it => it.ariaInvalid)")
+        self.check("its field is marked, and the road before stays", (invalid(), shown(b)), ([None, "true", None], before))
+        typed(1, "x" * 64)
+        self.check("its field takes 64 characters", (b.run("document.querySelectorAll('#road-texts input')[1].maxLength"), invalid()),
+                   (64, [None] * 3))
 
     def test_keys_move_tunnels_and_car(self):
         b = self.b

@@ -142,7 +142,7 @@ async function openAddress() {
   /** @type {any} */
   const it = linked ?? TABS.find(({ id }) => id === hash.split("&")[0]) ?? logTab;
   const number = given.get("example");
-  const example = RDSRT_EXAMPLES[it.id]?.[number] ? number : null;
+  const example = /^\d+$/.test(number ?? "") && RDSRT_EXAMPLES[it.id]?.[number] ? number : null;
   // what is open already is left as it is
   const isOpen = hash === links.hashOf(it) && (it !== logTab || logTab.bytes.length > 0);
   const opens = !isOpen && (linked || example !== null);

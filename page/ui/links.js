@@ -9,6 +9,7 @@ export const MOST_PLAIN = 4_000_000;
 const MOST_SLOTS = MOST_PLAIN / 20;
 class Refusal extends Error {}
 export const damaged = () => new Refusal("The link is damaged: an option of it is wrong.");
+export const tooLong = (most) => new Refusal(`The link holds a road of more than ${most} slots. The page does not open it.`);
 /* A link without it at its end was cut. */
 const END = "&end";
 const FROM_DISK = "This page was opened from a disk, so its links are of no use to others.";

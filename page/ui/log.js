@@ -19,6 +19,8 @@ const PATIENCE = 20_000;
 const NO_SEARCH = { message: "the search is for a receiver without a window" };
 const KINDS = ["nothing", "text", "name", "tags", "other"];
 const LONGEST_LINE = 96;
+/* A log of noise has thousands of programmes. */
+const MOST_PROGRAMMES = 50;
 const encoder = new TextEncoder();
 const decoder = new TextDecoder("utf-8", { ignoreBOM: true });
 /** @type {any} */
@@ -93,7 +95,7 @@ class LogTab extends Tab {
 
   take(log, pi) {
     const optionOf = (code, count) => new Option(`${code} (${counted(count, "group")})`, code);
-    const options = log.programmes.map(([code, count]) => optionOf(lines.hex(code), count));
+    const options = log.programmes.slice(0, MOST_PROGRAMMES).map(([code, count]) => optionOf(lines.hex(code), count));
     this.log = log;
     $("log-pi").replaceChildren(...options.length ? options : [new Option("no group", "C201")]);
     if (options.some(({ value }) => value === pi)) $("log-pi").value = pi;

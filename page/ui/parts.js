@@ -77,16 +77,16 @@ function lettersOf(view, slot, origins) {
 }
 
 /* Shows a display as a car has it, and returns it in words. `origins` returns the hues of a mix, four letters each. */
-/** @param {{ led?: string, none?: string, origins?: () => number[] }} how */
+/** @param {{ led?: string, none?: string, mixed?: string, origins?: () => number[] }} how */
 export function radio(root, caption, view, slot, how = {}) {
-  const { led: calm = "", none: other, origins = () => [] } = how;
+  const { led: calm = "", none: other, mixed: bad = "mix", origins = () => [] } = how;
   const all = partsAt(view, slot);
   const [text, name, ...tags] = all;
   const none = other ?? (view?.at("text", slot)?.why || "no text");
   const mixes = namesOf(all.filter(({ state }) => state === "mix"));
   const pieces = tags.map(({ value }) => value).filter(Boolean).map((tag) =>
     make("span", {}, make("b", { textContent: kindOf(tag) }), tag.text));
-  const mixed = mixes.includes("text") ? "mix" : `${mixes.join(" and ")}: mix`;
+  const mixed = mixes.includes("text") ? bad : `${mixes.join(" and ")}: ${bad}`;
   const led = mixes.length ? mixed : calm;
   const letters = text.value === null ? `— ${none} —` : lettersOf(view, slot, origins);
   root.replaceChildren(...filled("display", { caption, led, name: name.value ?? " ", text: letters, tags: pieces }));

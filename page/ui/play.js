@@ -41,5 +41,9 @@ export class Play {
   }
 
   /* Starts without being asked for by a hand: not if the reader wants no motion. */
-  greet(end) { if (!matchMedia("(prefers-reduced-motion: reduce)").matches) this.start(end); }
+  greet(from, end) {
+    if (matchMedia("(prefers-reduced-motion: reduce)").matches) return;
+    this.slots.move(from);
+    this.start(end);
+  }
 }

@@ -9,9 +9,12 @@ import * as links from "./links.js";
 import { $, filled, make, nodesOf, radio, soon, told, whyNoMix } from "./parts.js";
 import { Timeline } from "./timeline.js";
 
-/* The first tunnels [from, to), and the letters of a text that a car gets whole between two of them. */
+/* The first tunnels [from, to), and the slot in which the first text is there: the drive begins in it. */
 const TUNNELS = [[26, 47], [55, 71]];
-const LONGEST = 24;
+const BEGIN = 18;
+/* The letters of a text. */
+const LONGEST = 64;
+const UNSURE = "nothing until it is sure";
 const STEPS = { ArrowRight: 1, ArrowLeft: -1, ArrowUp: 1, ArrowDown: -1, Home: -Infinity, End: Infinity };
 const within = (low, slot, high) => Math.max(low, Math.min(slot, high));
 
@@ -24,9 +27,13 @@ class Road {
   /** @type {any} */ link = null;
   /** @type {any} */ held = null;
   /** @type {any} */ played = null;
+  /** @type {any} */ fault = null;
+  /** @type {Map<any, any>} */ fields = new Map();
   air = new View();
   dwell = new View();
   alone = new View();
+  /* The slots of the first road: no link has more. */
+  most = 0;
   isMoved = false;
   isPlaying = false;
   /** @type {any} */ program;
@@ -48,7 +55,9 @@ class Road {
     const places = tunnels ?? starts.map((from, i) => [from, ends[i] + 1]);
     this.tunnels = places.map(([from, to], i) => this.tunnel(from, to, i));
     $("road-band").replaceChildren(...this.tunnels.flatMap(({ place, exit }) => [place, exit]), this.car);
-    $("road-texts").replaceChildren(...this.rows.filter(({ command }) => command === "text").map(this.fieldOf, this));
+    const texts = this.rows.filter(({ command }) => command === "text");
+    this.fields = new Map(texts.map((row, i) => [row, this.fieldOf(row, i)]));
+    $("road-texts").replaceChildren(...this.fields.values());
     this.placeTunnels();
     return this.play();
   }
@@ -151,6 +160,11 @@ class Road {
     this.text = records.write(this.rows);
     if (this.link) links.keep(this);
     const played = await this.program.ask("play", { ...RDSRT_EXAMPLES.script[0], text: this.text });
+    this.fault = lines.noteOf(played.notes, "fault") ?? null;
+    const wrong = this.fault && this.rows[this.fault.row - 1];
+    for (const [row, field] of this.fields) field.ariaInvalid = row === wrong ? "true" : null;
+    // the road before stays
+    if (this.fault && this.played) { this.tell(this.timeline.cursor); return; }
     const values = new Texts(played.values);
     const [air, dwell, alone] = [played.air, played.views[0], played.alone[0]].map((packed) => new View(packed, values));
     air.shadeTexts();
@@ -175,8 +189,8 @@ class Road {
     const sourceOf = (at) => this.rows[at].receptions[0] === "G" ? at : -1;
     const origins = () => player.originsOf(played, sourceOf, slot).map((at) => air.shadeAt(at));
     const onAir = radio($("road-air"), "On air", air, slot, { none: "silence" });
-    const shown = radio($("road-dwell"), "A receiver with rdsrt", dwell, slot);
-    const other = radio($("road-alone"), "An ordinary radio", alone, slot, { origins });
+    const shown = radio($("road-dwell"), "A receiver with rdsrt", dwell, slot, { none: UNSURE });
+    const other = radio($("road-alone"), "An ordinary radio", alone, slot, { origins, mixed: "never sent" });
     this.car.style.left = this.percent(slot + 0.5);
     this.tell(slot);
     return `On air ${onAir}. A receiver with rdsrt: ${shown}. An ordinary radio: ${other}`;
@@ -187,12 +201,18 @@ class Road {
     if (!played) return;
     const mix = this.longestMix();
     const run = alone.at("text", slot);
-    const later = mix && `The ordinary radio shows a mix from ${lines.time(mix.from)} on.`;
+    const later = mix && `The ordinary radio shows a text that was never sent from ${lines.time(mix.from)} on.`;
     const now = run?.state === "mix" && `“${run.value}” was never on air. ${whyNoMix(dwell, alone, slot)}`;
-    const calm = "No display shows a mix on this road. Drag the ends of the tunnels.";
-    const fault = lines.noteOf(played.notes, "fault");
-    const words = fault ? nodesOf(told(fault.text)) : [now || later || calm];
+    const calm = "Each display shows texts that were sent. Drag the ends of the tunnels.";
+    const words = this.fault ? this.whyRefused() : [now || later || calm];
     $("road-says").replaceChildren(...words);
+  }
+
+  /* What is wrong with a text, by its field: a visitor has no rows. */
+  whyRefused() {
+    const number = [...this.fields.keys()].indexOf(this.rows[this.fault.row - 1]) + 1;
+    const { text } = this.fault;
+    return nodesOf(number ? `Text ${number}: ${told(text.split("ARGUMENT: ")[1] ?? text)}` : told(text));
   }
 
   choose() {}
@@ -204,12 +224,14 @@ class Road {
   moreSight() { return ""; }
 
   async open(text, hash) {
+    if (records.read(text).length > this.most) throw links.tooLong(this.most);
     await this.take(text);
     this.link = { text: this.text, options: this.options(), hash, isNow: true };
   }
 
   begin(compiled, open) {
     const { text, m, k, pty } = RDSRT_EXAMPLES.script[0];
+    this.most = records.read(text).length;
     this.program = new Program(compiled);
     this.car = $("road-car");
     this.timeline = new Timeline(this, AXIS);
@@ -224,7 +246,7 @@ class Road {
     const mix = this.played && this.longestMix();
     if (!mix || !$("road").checkVisibility()) return;
     this.timeline.move(mix.from);
-    this.timeline.play.greet(mix.from);
+    this.timeline.play.greet(BEGIN, mix.from);
   }
 }
 

@@ -71,7 +71,7 @@ export function showWitness({ slot, lost, shown, upto = null, failure = "", k = 
     return;
   }
   const [first, last] = lost;
-  const slots = first === last ? `slot ${first}` : `slots ${first} to ${last}`;
+  const slots = first === last ? `slot ${number(first)}` : `slots ${number(first)} to ${number(last)}`;
   const given = { slots, shown: shown.join("; "), lose: () => actions.lose(slot, first, last) };
   $("witness").replaceWith(...filled("found-witness", given));
 }
