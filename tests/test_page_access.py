@@ -20,7 +20,7 @@ class Access:
         """Arrows choose the tabs."""
         b = self.b
         wanted = {
-            "log": ["tab-log", "log-example", "log-file", "log-pi", "log-m", "log-k", "log-w", "log-running",
+            "log": ["tab-log", "log-example", "log-file", "log-pi", "log-m", "log-k", "log-w", "log-running", "log-padded",
                     "log-share", "log-lose", "CANVAS", "SUMMARY"],
             "script": ["tab-script", "script-example", "script-file", "script-m", "script-k", "script-w",
                        "script-share", "CANVAS", "SUMMARY"],

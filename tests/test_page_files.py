@@ -137,6 +137,17 @@ class Files:
         first_examples(b)
         self.check("an example is complete", of(b, "#log-running", "checked"), False)
 
+    def test_padding_does_not_count_by_a_switch(self):
+        b = self.b
+        call(b, "probe.drop", "own.log", f"{HI}\nC201 2141 2020 2020\n")
+        settle(b)
+        self.check("spaces behind the carriage return", text_of(b, "#verdict h2"), "✗ NotOneText with M = 128 (11.2 s)")
+        click(b, "#log-padded")
+        settle(b)
+        self.check("with the switch", (text_of(b, "#verdict h2"), text_of(b, "#audit-command")),
+                   ("✓ Passes with M = 128 (11.2 s)",
+                    "rdsrt audit --all --pi C201 --m 128 --k 0 --running --padded"))
+
     def test_a_file_is_read_as_the_program_reads_its_bytes(self):
         """With a byte-order mark the program refuses a log, so the page does."""
         b = self.b

@@ -159,7 +159,7 @@ class Links:
             damaged = "The link is damaged: an option of it is wrong."
             for name, broken, why in (
                     *((f"has {more}", f"{bare}{more}&end", damaged) for more in
-                      ("", "&m=0", "&m=65536", "&m=x", "&m=8&k=1025", "&m=8&w=1", "&m=8&running=2", "&m=8&lost=1-",
+                      ("", "&m=0", "&m=65536", "&m=x", "&m=8&k=1025", "&m=8&w=1", "&m=8&running=2", "&m=8&padded=2", "&m=8&lost=1-",
                        "&m=8&lost=4.2-3", "&m=8&lost=3-2",
                        "&m=8&lost=<b>", "&m=8&pi=FFFF", "&m=8&pi=")),
                     ("holds none", f"{url}#log=nonsense&end", "The link has no log."),
