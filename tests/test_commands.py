@@ -99,7 +99,7 @@ NOT_HERE = [
     (r"bin/rdsrt decode |pip install ", "tests/release runs it in a fresh system"),
     (r"bench/", "measures for minutes, by hand when the code has changed"),
     (r"rtl_fm |(?:examples/)?v4l2 --frequency ", "it needs a tuner"),
-    (r"apt-get install ", "installs packages"),
+    (r"apt-get (?:install |update$)", "installs packages"),
     (r"\./rdsrt$", "the program without arguments, named in a sentence"),
 ]
 

@@ -75,7 +75,7 @@ HABITS = {
              radio=["NEWS AT TEN", "none", "ROCK SONG"])],
     "flips the flag without a new text, for example every 10 s": [
         Play([*OLD, *sent("NEWS AT TEN", 1), *OLD], ["no 6 EarlyFlag"],
-             "in 1 of them the first segment is that of the text before: only a new text needs a flip",
+             "in 1 of them the text before is the same as the one before it: only a new text needs a flip",
              radio=["NEWS AT TEN", "none", "NEWS AT TEN", "none", "NEWS AT TEN"])],
     "changes its texts faster than every M + K slots": [
         Play([*OLD, *BETWEEN, *NEW], ["no 6 EarlyFlag"], lost=range(3, 6), radio=MIXED),

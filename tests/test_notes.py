@@ -128,7 +128,7 @@ NOES = [
      "shows them"),
     (HI + HI.replace(b"2140", b"2150") + HI, 2, 3, 4, 0,
      "a text reused the A/B flag less than M + K = 4 slots after the last group of the text before the previous one, in "
-     "slot 0. Here the first segment is that of the text before: only a new text needs a flip"),
+     "slot 0. Here the text before is the same as the one before it: only a new text needs a flip"),
     (b"C201 A541 5003 5020\n", 0, 1, 4, 0, "the segments fit no name (PTYN): byte 0x03 at place 5"),
 ]
 # the time of a line, and how a note shows it
@@ -560,4 +560,7 @@ class WhereNotesGo(ProgramCase):
             if fine and "C201" in words and not words.startswith(("encode", "sim")):
                 told = noted(words, given)[2]
                 wanted = told if re.fullmatch("rdsrt: judged in .*\n", told) and words.startswith("audit") else ""
+                if name == "contrary announcement":
+                    wanted = note("group 11A carries the application CD46 by the 3A groups, not RT+: these groups were read "
+                                  "as tags")
                 self.check(f"no warning on the row {name}: {words}", told, wanted)

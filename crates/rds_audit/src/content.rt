@@ -108,6 +108,15 @@ impl StoredReigns {
         greatest_below(65, &self.cells).is_some()
     }
 
+    /// Returns a sum of the segments. For a person; no contract speaks of it.
+    pub(crate) fn sum(&self) -> u32 {
+        let mut sum = 0u32;
+        for cell in self.cells {
+            sum = (sum ^ u32::from_le_bytes(cell.bytes)).wrapping_mul(16_777_619);
+        }
+        sum
+    }
+
     /// Returns the bytes that were sent at the address, if any.
     pub(crate) fn sent_at(&self, address: u8) -> Option<[u8; 4]>
         requires { address < 16 }

@@ -28,6 +28,7 @@ impl StoredSpans {
             reigns: StoredReigns::new::<S>(distance, start),
             broken: StoredFaults::none(),
             repeats: 0,
+            sum: 0,
         }
     }
 
@@ -150,7 +151,9 @@ impl StoredSpans {
             (opened_in distance S.gauge.longest is_changed fragment.flag (spans_stored self.old)) }
         ensures faults { result ≡ (spans_stored self.new).broken }
     {
-        self.repeats = u8::from(self.reigns.has(fragment.address, fragment.bytes));
+        let sum = self.reigns.sum();
+        self.repeats = u8::from(self.count > 1 && sum == self.sum);
+        self.sum = sum;
         self.open::<S>(distance, fragment.flag, is_changed);
         self.put::<S>(fragment);
         self.broken.get()

@@ -57,9 +57,10 @@ pub struct StoredSpans {
     pub apart: u32,
     pub reigns: StoredReigns,
     pub broken: StoredFaults,
-    /// Whether the first segment of the current one has the bytes that the one before had last at its address. No
-    /// contract speaks of it.
+    /// Whether the one before the current one had the same segments as the one before that. No contract speaks of it.
     pub repeats: u8,
+    /// A sum of the segments of the one before the current one. No contract speaks of it.
+    pub sum: u32,
 }
 
 /// The plain numbers of an audit. Its calls do what those of an [`Audit`](crate::Audit) do. Invalid numbers give

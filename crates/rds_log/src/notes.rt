@@ -42,7 +42,7 @@ pub struct NoNote {
     /// For `NotOneText`, what is wrong with the segment.
     pub cause: Option<SegmentCause>,
     /// Whether the fault may be harmless. For `NotOneText`, if a text with padding has all segments of the text. For
-    /// `EarlyTag`, if both tags are empty. For `EarlyFlag`, if the first segment is the same as in the text before.
+    /// `EarlyTag`, if both tags are empty. For `EarlyFlag`, if the text before had the same segments as the one before it.
     pub is_harmless: bool,
 }
 
@@ -107,7 +107,7 @@ impl NoNote {
 }
 
 /// Returns which faults may be harmless in the slot of this line, which the audit took: a text with padding has all
-/// segments of the text, both tags are empty, or the first segment is the same as in the text before.
+/// segments of the text, both tags are empty, or the text before had the same segments as the one before it.
 pub(crate) fn harmless_in(audit: &Audit, said: LogLine) -> FaultSet {
     let sent = said;
     let of_name = is_name(said);

@@ -53,7 +53,7 @@ fn push_harmless(fault: AuditFault, line: &mut Line) {
         AuditFault::EarlyTag => write!(line, "both tags are empty, so no receiver shows them"),
         AuditFault::EarlyFlag => write!(
             line,
-            "the first segment is that of the text before: only a new text needs a flip"
+            "the text before is the same as the one before it: only a new text needs a flip"
         ),
         AuditFault::Changed | AuditFault::TagOutside => Ok(()),
     };

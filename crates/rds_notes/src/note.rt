@@ -19,6 +19,9 @@ const TEXT_GROUPS: u8 = 4;
 /// The group type 2B.
 const SHORT_TEXT_GROUPS: u8 = 5;
 
+/// The group type 3A: announcements.
+const ANNOUNCEMENTS: u8 = 6;
+
 /// The group type 10A: the programme type name.
 const NAME_GROUPS: u8 = 20;
 
@@ -282,7 +285,7 @@ fn note_tags<'a>(run: &'a Run<'a>, notes: &mut Notes<'a>) {
     }
     let heard = run.log.heard;
     if let Some(code) = heard.announced.rtplus
-        && code != RTPLUS_CODE
+        && !is_read(code)
         && heard.counts.of(code) > 0
     {
         add(
@@ -300,6 +303,11 @@ fn note_tags<'a>(run: &'a Run<'a>, notes: &mut Notes<'a>) {
     {
         add(Note::OtherApplication(aid), notes);
     }
+}
+
+/// Returns whether groups of this type are read: texts, announcements, names and tags.
+fn is_read(code: u8) -> bool {
+    [TEXT_GROUPS, ANNOUNCEMENTS, NAME_GROUPS, RTPLUS_CODE].contains(&code)
 }
 
 /// Notes how many groups `decode` could not use, since one block was lost.
