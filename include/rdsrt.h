@@ -69,8 +69,8 @@
  *     rdsrt_version                     32   32    rdsrt_audit_init                  32   32
  *     rdsrt_receiver_init               64   32    rdsrt_audit_init_running          32   32
  *     rdsrt_receiver_init_confirming    32   32    rdsrt_audit_init_with             32   32
- *     rdsrt_receiver_slot              256  192    rdsrt_audit_slot                 192  192
- *     rdsrt_receiver_view              256  224    rdsrt_audit_all_faults           224  224
+ *     rdsrt_receiver_slot              256  192    rdsrt_audit_slot                 384  384
+ *     rdsrt_receiver_view              256  224    rdsrt_audit_all_faults           416  416
  *     rdsrt_receiver_held               32   32    rdsrt_audit_passed                32   32
  *     rdsrt_slot_time                   32   32    rdsrt_audit_texts                 32   32
  *     rdsrt_time_in                    160  128    rdsrt_audit_names                 32   32
@@ -310,7 +310,7 @@ uint32_t rdsrt_audit_init_running(struct rdsrt_audit *audit, uint16_t pi, uint16
 
 /* The flags of an audit, in any sum. */
 #define RDSRT_AUDIT_RUNNING UINT32_C(1)   /* the log is a recording, as for rdsrt_audit_init_running */
-#define RDSRT_AUDIT_PADDED  UINT32_C(2)   /* bytes behind the carriage return of a text do not count */
+#define RDSRT_AUDIT_PADDED UINT32_C(2)    /* bytes behind the carriage return of a text do not count */
 
 /* Does the same with these flags. With RDSRT_AUDIT_PADDED a text may have any bytes behind its carriage return, and any
  * segments behind the one that has it; all may change at any time (FORMATS.md, "Texts with padding"). Receivers show
