@@ -29,7 +29,8 @@ EXPLAINED = [
      "Slot 1 (line 2): a text changed without a flip of the A/B flag. This slot",
      "Flip the flag with every change"),
     ("NotOneText", ["C201 2140 4849 0D21"],
-     "Slot 0 (line 1): the segments fit no text: byte 0x21 at place 3, after the carriage return. This slot", "end the text with one carriage return"),
+     "Slot 0 (line 1): the segments fit no text: byte 0x21 at place 3, after the carriage return. Here it may be harmless: "
+     "receivers show nothing behind the carriage return. This slot", "end the text with one carriage return"),
     ("NotOneText", ["C201 A140 0148 4949"],
      "Slot 0 (line 1): the segments fit no name (PTYN): byte 0x01 at place 0. This slot", "A name has eight printable characters"),
     ("EarlyTag", ["# note", "C201 B158 8012 0985"],

@@ -7,7 +7,7 @@ export const number = (n) => n.toLocaleString("en");
 export const grouped = (note) =>
   note.replace(/(?<![\d/:.])\d{4,}(?![\d/:]|\.\d)/g, (digits) => number(Number(digits)));
 /* A sentence of the program: with a capital letter, and without its advice for a terminal. */
-const ADVICE = /(?:\. To list all|: put rdsrt) .*/;
+const ADVICE = /(?:\. To judge|\. To list all|: put rdsrt) .*/;
 export const told = (text) => `${text.slice(0, 1).toUpperCase()}${text.slice(1).replace(ADVICE, "")}.`;
 /** @type {(id: string) => any} */
 export const $ = (id) => document.getElementById(id);
