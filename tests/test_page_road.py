@@ -63,7 +63,7 @@ class Road:
         b = self.b
         self.check("it stops at the mix", b.until(f"{CAR} === 54 && !probe.plays('road')"), True)
         texts = lambda: [text_of(b, f"#road-{it} .text") for it in ("air", "dwell", "alone")]
-        self.check("displays", texts(), ["B7: closed today", "— nothing until it is sure —", "B7: opened today"])
+        self.check("displays", texts(), ["B7: closed today", "— waits to be sure —", "B7: opened today"])
         self.check("words", text_of(b, "#road-says"), "“B7: opened today” was never on air. The receiver with rdsrt "
                    "shows no text (dropped). It shows the next one when it is complete: in slot 80.")
         call(b, "probe.moveCar", 20)

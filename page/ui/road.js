@@ -14,7 +14,7 @@ const TUNNELS = [[26, 47], [55, 71]];
 const BEGIN = 18;
 /* The letters of a text. */
 const LONGEST = 64;
-const UNSURE = "nothing until it is sure";
+const UNSURE = "waits to be sure";
 const STEPS = { ArrowRight: 1, ArrowLeft: -1, ArrowUp: 1, ArrowDown: -1, Home: -Infinity, End: Infinity };
 const within = (low, slot, high) => Math.max(low, Math.min(slot, high));
 
