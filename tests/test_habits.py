@@ -3,10 +3,10 @@
 The radio with the flag alone is `decode --m 65535`. The dwell is 8 slots. A row may have more than one log.
 """
 import re
-import subprocess
 from typing import NamedTuple
 
-from tests.support import PROGRAM, SECONDS, Case, text_of
+from tests.support import Case, text_of
+from tests.test_notes import noted
 from tests.test_pace import segments_of
 
 DWELL = 8
@@ -113,9 +113,8 @@ HABITS = {
 
 def done(words, log):
     """Returns the output lines and the notes of a command over a log."""
-    run = subprocess.run([PROGRAM, *words], input="".join(f"{it}\n" for it in log).encode(), capture_output=True,
-                         timeout=SECONDS)
-    return run.stdout.decode().splitlines(), run.stderr.decode()
+    _, output, notes = noted(" ".join(words), "".join(f"{it}\n" for it in log).encode())
+    return output.decode().splitlines(), notes
 
 
 def shown(log, lost):
