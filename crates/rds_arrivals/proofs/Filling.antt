@@ -1,22 +1,19 @@
 -- Lemmas: a filled log is heard by an own clock that counts no slot too few.
-use Rattle.std.proofs.Common.{◌≡◌, ◌⊎◌, ◌+◌, ◌-◌, ◌*◌, ◌<◌, ◌≤◌, ℕ, zero, suc, List, [], ◌∷◌, false, length, true}
+use Rattle.std.proofs.Common.{◌≡◌, ◌⊎◌, ◌+◌, ◌-◌, ◌<◌, ◌≤◌, ℕ, zero, suc, List, [], ◌∷◌, length}
 use Rattle.std.proofs.Common.{Option, Some, None, max, refl, sym, ap, inl, inr, arith}
-use Rattle.std.proofs.Math.Nat.{le-max_right, max-eq_right}
+use Rattle.std.proofs.Math.Nat.{le-max_right}
 use Rattle.std.specs.List.{All}
 use Rattle.std.proofs.lemmas.List.Elements.{All-head, All-tail}
-use Rattle.rds_safety.specs.Late.{CameFrom, HasEntry, IsHeardInOrder, IsHeardLate}
+use Rattle.rds_safety.specs.Late.{CameFrom, HasEntry, IsHeardInOrder}
 use Rattle.rds_safety.specs.OwnClock.{IsHeardByOwnClock}
 use Rattle.rds_safety.proofs.Entries.{before_end}
 use Rattle.rds_safety.proofs.OnTime.{nothing_in_order, one_more_in_order}
-use Rattle.rds_safety.proofs.OwnClocks.{true_clock}
-use Rattle.rds_arrivals.specs.Arrivals.{IsBreak, and_lost, filled, hour, is_break, lost_before, lost_between}
-use Rattle.rds_arrivals.specs.Arrivals.{lost_until, lost_within, nineteen_slots}
-use Rattle.rds_arrivals.specs.Coarse.{AreCoarse, IsCoarse, begun_at, followed_by, newest_stretch}
-use Rattle.rds_arrivals.specs.declared.stretch.Stretch.{Stretch}
-use Rattle.rds_arrivals.specs.Delivered.{AreBelowASlot, AreOf, AreToldInTime, Delivery, EachTwo, IsLater, IsOnItsWay}
-use Rattle.rds_arrivals.specs.Delivered.{IsUnbroken, KeepsPace, arrivals, delivered_input, oldest_slot, origins}
+use Rattle.rds_arrivals.specs.Arrivals.{and_lost, filled, lost_before, lost_between}
+use Rattle.rds_arrivals.specs.Arrivals.{lost_until}
+use Rattle.rds_arrivals.specs.Delivered.{AreBelowASlot, AreOf, Delivery, EachTwo, IsLater, IsOnItsWay}
+use Rattle.rds_arrivals.specs.Delivered.{KeepsPace, arrivals, delivered_input, origins}
 use Rattle.rds_arrivals.specs.Laws.{AreDelivered}
-use Rattle.rds_arrivals.proofs.Counting.{IsAcross, IsWithin, are_lost, between_cases, break_cases}
+use Rattle.rds_arrivals.proofs.Counting.{IsAcross, IsWithin, are_lost, between_cases}
 
 lost_long : {X : Type 0} (n : ℕ) (before : List (Option X)) → length (and_lost n before) ≡ n + length before
 lost_long zero before = omega arith
@@ -43,11 +40,6 @@ lost_in_order log first zero heard from order = order
 lost_in_order log first (suc n) heard from order =
     one_more_in_order log first (and_lost n heard) (and_lost n from) None None (lost_in_order log first n heard from
     order) refl (λ r u s e a. absurd (cc))
-
--- the station's slot of the newest delivery, or none
-abbrev latest : {X : Type 0} → List (Delivery X) → ℕ
-latest [] = 0
-latest (d ∷ before) = d.slot
 
 -- the slots on air of the entries
 abbrev from_of : {X : Type 0} → ℕ → ℕ → List (Delivery X) → List (Option ℕ)
@@ -245,106 +237,6 @@ own_clock grain spread m first lost log d before wide some are =
 
 -- ---- exact: the delays vary by no more than the grain, and no break is among them
 
--- the times say as many slots from one delivery to the next as the station had
-same_between : {X : Type 0} (grain spread m least ahead : ℕ) (d e : Delivery X) → AreBelowASlot grain spread
-    → spread ≤ grain
-    → e.slot < d.slot → (IsBreak e.arrival.time d.arrival.time → ⊥) → IsOnItsWay least ahead spread d
-    → IsOnItsWay least ahead spread e
-    → d.slot ≡ e.slot + lost_between grain m e.arrival.time d.arrival.time + 1
-same_between {X} grain spread m least ahead d e wide small later whole late early = by
-    (between_cases grain m e.arrival.time d.arrival.time)
-  where
-    by : IsAcross grain m e.arrival.time d.arrival.time ⊎ IsWithin grain m e.arrival.time d.arrival.time
-        → d.slot ≡ e.slot + lost_between grain m e.arrival.time d.arrival.time + 1
-    by (inl across) = absurd (whole across.is)
-    by (inr within) =
-        let lost = are_lost grain (d.arrival.time - e.arrival.time) in
-        omega (
-          arith,
-          within.after,
-          within.lost,
-          wide,
-          small,
-          later,
-          lost.passed,
-          lost.no_more,
-          late.at_least,
-          late.at_most,
-          early.at_least,
-          early.at_most,
-        )
-
--- so the log has as many, if no more were known before
-same_count : {X : Type 0} (grain spread m least ahead : ℕ) (d e : Delivery X) (before : List (Delivery X))
-    → AreBelowASlot grain spread → spread ≤ grain
-    → e.slot < d.slot → (IsBreak e.arrival.time d.arrival.time → ⊥) → IsOnItsWay least ahead spread d
-    → IsOnItsWay least ahead spread e
-    → d.arrival.told ≤ lost_between grain m e.arrival.time d.arrival.time
-    → d.slot ≡ e.slot + lost_at grain m (e ∷ before) d + 1
-same_count grain spread m least ahead d e before wide small later whole late early told =
-    rw (max-eq_right told) (same_between grain spread m least ahead d e wide small later whole late early)
-
--- so after the newest the receiver counts the station's next slot
-next_is : {X : Type 0} (grain spread m least ahead : ℕ) (d : Delivery X) (before : List (Delivery X))
-    → AreBelowASlot grain spread → spread ≤ grain
-    → EachTwo IsLater (d ∷ before) → EachTwo IsUnbroken (d ∷ before) → All (IsOnItsWay least ahead spread) (d ∷ before)
-    → AreToldInTime grain m (d ∷ before)
-    → oldest_slot (d ∷ before) + length (from_of grain m (d ∷ before)) ≡ d.slot + 1
-next_is grain spread m least ahead d [] wide small later whole ways told = (let none = max-eq_right told.0
-    in let more = long grain m d [] in omega (arith, none, more))
-next_is {X} grain spread m least ahead d (e ∷ before) wide small later whole ways told =
-    let way = All-head (IsOnItsWay {X = X} least ahead spread) d (e ∷ before) ways in
-    let rest = All-tail (IsOnItsWay {X = X} least ahead spread) d (e ∷ before) ways in
-    let way_before = All-head (IsOnItsWay {X = X} least ahead spread) e before rest in
-    let count = same_count grain spread m least ahead d e before wide small later.0 whole.0 way way_before told.0 in
-    let more = long grain m d (e ∷ before) in
-    let older = next_is grain spread m least ahead e before wide small later.1 whole.1 rest told.1 in
-    omega (arith, count, more, older)
-
-true_slots : {X : Type 0} (grain spread m least ahead : ℕ) (d : Delivery X) (before : List (Delivery X))
-    → AreBelowASlot grain spread → spread ≤ grain
-    → EachTwo IsLater (d ∷ before) → EachTwo IsUnbroken (d ∷ before) → All (IsOnItsWay least ahead spread) (d ∷ before)
-    → AreToldInTime grain m (d ∷ before)
-    → (t s : ℕ) → CameFrom (delivered_input grain m (oldest_slot (d ∷ before)) 0 (d ∷ before)) t s → s ≡ t
-true_slots {X} grain spread m least ahead d [] wide small later whole ways told t s p = by
-    (came_cases grain m d.slot d [] t s p)
-  where
-    by : ((t + 1 ≡ d.slot + length (from_of grain m (d ∷ []))) × (s ≡ d.slot))
-        ⊎ CameFrom (delivered_input {X = X} grain m d.slot 0 []) t s → s ≡ t
-    by (inl a) = omega (arith, a.0, a.1, next_is grain spread m least ahead d [] wide small later whole ways told)
-    by (inr a) = absurd a
-true_slots {X} grain spread m least ahead d (e ∷ before) wide small later whole ways told t s p =
-    by (came_cases grain m (oldest_slot (e ∷ before)) d (e ∷ before) t s p) (next_is grain spread m least ahead d
-    (e ∷ before) wide small later whole ways told)
-    (true_slots grain spread m least ahead e before wide small later.1 whole.1
-    (All-tail (IsOnItsWay {X = X} least ahead spread) d (e ∷ before) ways) told.1 t s)
-  where
-    by : ((t + 1 ≡ oldest_slot (e ∷ before) + length (from_of grain m (d ∷ e ∷ before))) × (s ≡ d.slot))
-        ⊎ CameFrom (delivered_input grain m (oldest_slot (e ∷ before)) 0 (e ∷ before)) t s
-        → oldest_slot (e ∷ before) + length (from_of grain m (d ∷ e ∷ before)) ≡ d.slot + 1
-        → (CameFrom (delivered_input grain m (oldest_slot (e ∷ before)) 0 (e ∷ before)) t s → s ≡ t) → s ≡ t
-    by (inl a) next older = omega (arith, a.0, a.1, next)
-    by (inr a) next older = older a
-
--- if the delays vary by no more than the grain, a receiver of the filled log is on time
-pub on_time : {X : Type 0} (grain spread m least ahead : ℕ) (log : List (Option X)) (d : Delivery X)
-    (before : List (Delivery X)) → AreBelowASlot grain spread → spread ≤ grain
-    → AreOf log (d ∷ before) → EachTwo IsLater (d ∷ before) → EachTwo IsUnbroken (d ∷ before)
-    → All (IsOnItsWay least ahead spread) (d ∷ before) → AreToldInTime grain m (d ∷ before)
-    → IsHeardLate 0 log (delivered_input grain m (oldest_slot (d ∷ before)) 0 (d ∷ before))
-    × (oldest_slot (d ∷ before) + length (heard_of grain m (d ∷ before)) ≡ d.slot + 1)
-on_time grain spread m least ahead log d before wide small of later whole ways told =
-    let order = in_order grain m (oldest_slot (d ∷ before)) log (d ∷ before) of later in
-    let next = next_is grain spread m least ahead d before wide small later whole ways told in
-    let beside = order.beside in (
-      (true_clock log (delivered_input grain m (oldest_slot (d ∷ before)) 0 (d ∷ before))).0
-          (order, true_slots grain spread m least ahead d before wide small later whole ways told),
-      omega
-          (arith, next, beside),
-    )
-
--- ---- even delays
-
 -- if the delays vary by no more than the spread, the times keep pace
 pub keep_pace : {X : Type 0} (least ahead spread : ℕ) (given : List (Delivery X))
     → All (IsOnItsWay least ahead spread) given → EachTwo (KeepsPace spread) given
@@ -360,95 +252,3 @@ keep_pace {X} least ahead spread (d ∷ e ∷ before) ways =
     )
 
 -- ---- the times of even delays are not coarse
-
--- the stretch that ends with this delivery has as many slots as the station
-record EndsWith {X : Type 0} (least ahead spread : ℕ) (d : Delivery X) (s : Stretch) : Type 0 where
-  pub oldest : Delivery X
-  pub way : IsOnItsWay least ahead spread oldest
-  pub first : s.first ≡ oldest.arrival.time
-  pub last : s.last ≡ d.arrival.time
-  pub slots : d.slot ≡ oldest.slot + s.slots
-
-begins_with : {X : Type 0} (least ahead spread : ℕ) (d : Delivery X) → IsOnItsWay least ahead spread d
-    → EndsWith least ahead spread d (begun_at d.arrival.time)
-begins_with least ahead spread d way = record { oldest = d; way = way; first = refl; last = refl; slots = omega arith }
-
-ends_with : {X : Type 0} (grain spread m least ahead : ℕ) (d : Delivery X) (before : List (Delivery X))
-    → AreBelowASlot grain spread → spread ≤ grain
-    → EachTwo IsLater (d ∷ before) → All (IsOnItsWay least ahead spread) (d ∷ before)
-    → AreToldInTime grain m (d ∷ before)
-    → EndsWith least ahead spread d (followed_by grain (newest_stretch grain (arrivals before)) d.arrival.told
-    d.arrival.time)
-ends_with {X} grain spread m least ahead d [] wide small later ways told = begins_with least ahead spread d
-    (All-head (IsOnItsWay {X = X} least ahead spread) d [] ways)
-ends_with {X} grain spread m least ahead d (e ∷ before) wide small later ways told =
-    let way = All-head (IsOnItsWay {X = X} least ahead spread) d (e ∷ before) ways in
-    let rest = All-tail (IsOnItsWay {X = X} least ahead spread) d (e ∷ before) ways in
-    let way_before = All-head (IsOnItsWay {X = X} least ahead spread) e before rest in
-    let older = ends_with grain spread m least ahead e before wide small later.1 rest told.1 in
-    goes_on (followed_by grain (newest_stretch grain (arrivals before)) e.arrival.told e.arrival.time) older way
-    way_before (break_cases e.arrival.time d.arrival.time)
-  where
-    goes_on : (s : Stretch) → EndsWith least ahead spread e s → IsOnItsWay least ahead spread d
-        → IsOnItsWay least ahead spread e
-        → ((is_break e.arrival.time d.arrival.time ≡ true) × IsBreak e.arrival.time d.arrival.time)
-        ⊎ ((is_break e.arrival.time d.arrival.time ≡ false) × (e.arrival.time ≤ d.arrival.time)
-        × (d.arrival.time ≤ e.arrival.time + hour))
-        → EndsWith least ahead spread d (followed_by grain (Some s) d.arrival.told d.arrival.time)
-    goes_on s older way way_before (inl b) = rw (older.last, b.0) (begins_with least ahead spread d way)
-    goes_on s older way way_before (inr w) =
-        let whole : IsBreak e.arrival.time d.arrival.time → ⊥ = λ b. omega (arith, b, w.1) in
-        let count : d.slot ≡ e.slot + lost_between grain 0 e.arrival.time d.arrival.time + 1 =
-        same_between grain spread 0 least ahead d e wide small later.0 whole way way_before in
-        let lost : d.slot ≡ e.slot + lost_within grain (d.arrival.time - e.arrival.time) + 1 = rw w.0 at count in
-        let in_time : d.arrival.told ≤ lost_within grain (d.arrival.time - e.arrival.time) = rw w.0 at told.0 in
-        let slots = older.slots in
-        rw (older.last, w.0, max-eq_right in_time) record {
-          oldest = older.oldest;
-          way = older.way;
-          first = older.first;
-          last = refl;
-          slots = omega
-              (arith, lost, slots);
-        }
-
-not_coarse : {X : Type 0} (grain spread least ahead : ℕ) (d : Delivery X) (s : Stretch) → spread ≤ grain
-    → IsOnItsWay least ahead spread d → EndsWith least ahead spread d s → IsCoarse grain s → ⊥
-not_coarse grain spread least ahead d s small way ends coarse = omega (
-  arith,
-  small,
-  way.at_most,
-  way.at_least,
-  ends.way.at_least,
-  ends.way.at_most,
-  ends.first,
-  ends.last,
-  ends.slots,
-  coarse,
-)
-
--- if the delays vary by no more than the grain, the times are not coarse
-pub fine : {X : Type 0} (grain spread m least ahead : ℕ) (given : List (Delivery X)) → AreBelowASlot grain spread
-    → spread ≤ grain → EachTwo IsLater given
-    → All (IsOnItsWay least ahead spread) given → AreToldInTime grain m given → AreCoarse grain (arrivals given) → ⊥
-fine grain spread m least ahead [] wide small later ways told coarse = coarse
-fine {X} grain spread m least ahead (d ∷ before) wide small later ways told (inl now) =
-    not_coarse grain spread least ahead d _ small (All-head (IsOnItsWay {X = X} least ahead spread) d before ways)
-    (ends_with grain spread m least ahead d before wide small later ways told) now
-fine {X} grain spread m least ahead (d ∷ before) wide small later ways told (inr earlier) =
-    fine grain spread m least ahead before wide small (shorter IsLater d before later)
-    (All-tail (IsOnItsWay {X = X} least ahead spread) d before ways) told.1 earlier
-
--- ---- the bound is needed: 19 slots are 1,664,000 µs; the first of two groups is late by the spread
-
--- if grain and spread are a slot or more together, fewer slots may be counted than passed
-pub too_few : (grain spread m : ℕ) → nineteen_slots ≤ 19 * (grain + spread) → spread ≤ nineteen_slots
-    → lost_between grain m spread nineteen_slots + 1 < 19
-too_few grain spread m narrow early = by (between_cases grain m spread nineteen_slots)
-  where
-    by : IsAcross grain m spread nineteen_slots ⊎ IsWithin grain m spread nineteen_slots
-        → lost_between grain m spread nineteen_slots + 1 < 19
-    by (inl across) = absurd (omega (arith, across.is, early))
-    by (inr within) =
-        let lost = are_lost grain (nineteen_slots - spread) in
-        omega (arith, within.lost, narrow, early, lost.passed, lost.no_more)

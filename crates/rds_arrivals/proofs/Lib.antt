@@ -4,6 +4,5 @@ pub mod Digits
 pub mod Filling
 pub mod Fractions
 pub mod Minutes
-pub mod TooFew
 pub mod Short
 pub mod WorkedRows

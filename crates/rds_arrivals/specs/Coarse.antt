@@ -1,10 +1,8 @@
 -- Times that are too coarse to count slots by: in a stretch of a log without a break, more slots are counted than its
 -- clock has room for (this project's own rule). Lists have the newest first.
-use Rattle.std.specs.Prelude.{◌+◌, ◌-◌, ◌*◌, ◌/◌, ◌<◌, ◌≤◌, ◌⊎◌, ℕ, List, [], ◌∷◌, IfSome, None, Option, Some, max}
+use Rattle.std.specs.Prelude.{◌+◌, ◌-◌, ◌*◌, ◌/◌, ◌<◌, ◌⊎◌, ℕ, List, [], ◌∷◌, IfSome, None, Option, Some, max}
 use Rattle.std.specs.Prelude.{if◌then◌else◌}
-use Rattle.std.specs.List.{All}
 use Rattle.rds_arrivals.specs.Arrivals.{Arrival, is_break, lost_within, nineteen_slots}
-use Rattle.rds_arrivals.specs.Delivered.{AreBelowASlot, AreToldInTime, Delivery, EachTwo, IsLater, IsOnItsWay, arrivals}
 use Rattle.rds_arrivals.specs.declared.stretch.Stretch.{Stretch}
 
 -- a stretch of one group
@@ -36,10 +34,3 @@ IsCoarse grain s = room grain s < s.slots
 abbrev pub AreCoarse : {X : Type 0} → ℕ → List (Arrival X) → Type 0
 AreCoarse grain [] = ⊥
 AreCoarse grain (a ∷ before) = IfSome (newest_stretch grain (a ∷ before)) (IsCoarse grain) ⊎ AreCoarse grain before
-
--- if the delays of the groups vary by at most the grain, and no slot was told too early, their times are not coarse
-abbrev pub EvenLogsAreNotCoarse : Type 0 → Type 0
-EvenLogsAreNotCoarse X =
-    (grain spread m least ahead : ℕ) (given : List (Delivery X)) → AreBelowASlot grain spread → spread ≤ grain
-    → EachTwo IsLater given → All (IsOnItsWay least ahead spread) given → AreToldInTime grain m given
-    → AreCoarse grain (arrivals given) → ⊥

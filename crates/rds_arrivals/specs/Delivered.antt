@@ -2,7 +2,7 @@
 -- Lists have the newest first.
 use Rattle.std.specs.Prelude.{◌+◌, ◌*◌, ◌<◌, ◌≤◌, ◌⊎◌, ℕ, List, [], ◌∷◌, Option, Some}
 use Rattle.rds_safety.specs.Late.{InputOf, IsOfItsOrigin}
-use Rattle.rds_arrivals.specs.Arrivals.{Arrival, IsBreak, and_lost, filled, lost_until, nineteen_slots}
+use Rattle.rds_arrivals.specs.Arrivals.{Arrival, IsBreak, and_lost, filled, nineteen_slots}
 
 -- an arrival, and the station's slot in which it was sent
 pub record Delivery (X : Type 0) : Type 0 where
@@ -47,16 +47,6 @@ KeepsPace spread newer older =
     ⊎ (nineteen_slots * newer.slot + 19 * older.arrival.time
     ≤ nineteen_slots * older.slot + 19 * (newer.arrival.time + spread))
 
--- what was known before each group is no more than its own time says
-abbrev pub AreToldInTime : {X : Type 0} → ℕ → ℕ → List (Delivery X) → Type 0
-AreToldInTime grain m [] = Unit {0}
-AreToldInTime grain m (d ∷ before) =
-    (d.arrival.told ≤ lost_until grain m (arrivals before) d.arrival.time) × AreToldInTime grain m before
-
--- there is no break
-abbrev pub IsUnbroken : {X : Type 0} → Delivery X → Delivery X → Type 0
-IsUnbroken newer older = IsBreak older.arrival.time newer.arrival.time → ⊥
-
 -- a delivery came `least` to `least` + `spread` after the start of its slot, by a clock that is `ahead`. Both ends
 -- are in nineteenths of a microsecond, the spread in microseconds
 pub record IsOnItsWay {X : Type 0} (least ahead spread : ℕ) (d : Delivery X) : Type 0 where
@@ -66,9 +56,3 @@ pub record IsOnItsWay {X : Type 0} (least ahead spread : ℕ) (d : Delivery X) :
 -- the grain and the spread together are less than a slot
 abbrev pub AreBelowASlot : ℕ → ℕ → Type 0
 AreBelowASlot grain spread = 19 * (grain + spread) < nineteen_slots
-
--- the station's slot of the oldest delivery
-abbrev pub oldest_slot : {X : Type 0} → List (Delivery X) → ℕ
-oldest_slot [] = 0
-oldest_slot (d ∷ []) = d.slot
-oldest_slot (newer ∷ older ∷ before) = oldest_slot (older ∷ before)

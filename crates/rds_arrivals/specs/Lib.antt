@@ -1,7 +1,8 @@
--- The slots that a log of received groups lacks, by the times of arrival.
+-- The slots that a log lacks by the times of its groups, and the times in its text.
 pub mod Arrivals
 pub mod Delivered
 pub mod Coarse
 pub mod Breaks
 pub mod Stamps
+-- What the laws say of filled logs.
 pub mod Laws

@@ -1,8 +1,6 @@
 //! Laws about filled logs: a receiver of one counts no slot too few.
 ghost use Rattle.rds_block.specs.declared.group.Group.{Group};
-ghost use Rattle.rds_fields.specs.declared.message.Message.{Message};
-ghost use Rattle.rds_arrivals.specs.Coarse.{EvenLogsAreNotCoarse};
-ghost use Rattle.rds_arrivals.specs.Laws.{ASlotIsTooMuch, EvenDelaysKeepPace, EvenLogsAreOnTime};
+ghost use Rattle.rds_arrivals.specs.Laws.{EvenDelaysKeepPace};
 ghost use Rattle.rds_arrivals.specs.Laws.{FilledLogsAreOwnClocks, LostSlotsAreCounted, OneCount};
 
 /// States which number of lost slots is counted, and that there is one.
@@ -16,17 +14,4 @@ pub fn lost_slots_are_counted()
 pub fn filled_logs_are_own_clocks()
     ensures pace { EvenDelaysKeepPace Group }
     ensures own_clock { FilledLogsAreOwnClocks Group }
-{}
-
-/// States that a receiver of a filled log is on time if the delays vary by no more than the grain, no slot was told too
-/// early, and no time breaks. Without the last premise, the times are still not coarse.
-pub fn filled_logs_are_on_time()
-    ensures groups { EvenLogsAreOnTime Group }
-    ensures messages { EvenLogsAreOnTime Message }
-    ensures fine { EvenLogsAreNotCoarse Group }
-{}
-
-/// States that the log may have too few slots if the delays vary by a slot less the grain, or more.
-pub fn a_slot_is_too_much()
-    ensures { ASlotIsTooMuch }
 {}

@@ -19,9 +19,7 @@ mod stretch;
 
 pub use grain::Grain;
 pub use last_minute::LastMinute;
-pub use laws::{
-    a_slot_is_too_much, filled_logs_are_on_time, filled_logs_are_own_clocks, lost_slots_are_counted,
-};
+pub use laws::{filled_logs_are_own_clocks, lost_slots_are_counted};
 pub use lost::{Break, lost_between, slots_in, time_of};
 pub use stamp::{Stamp, stamp_after, stamp_in};
 pub use stretch::Stretch;

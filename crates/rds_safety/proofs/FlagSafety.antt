@@ -1,6 +1,5 @@
 -- Lemmas: a receiver with the flag bit alone that heard a segment of each broadcast before news shows the value of its
--- run's
--- source, and tags of that text; and two such receivers show neighbours.
+-- run's source, and tags of that text; and two such receivers show neighbours.
 use Rattle.std.proofs.Common.{◌≡◌, ◌≢◌, ◌⊎◌, ◌+◌, ◌<◌, ◌≤◌, ℕ, zero, suc, Bool, true, false, List, [], ◌∷◌, length}
 use Rattle.std.proofs.Common.{slice_index, Option, Some, None, cond, refl, sym, ap, ◌∙◌, subst, inl, inr, arith}
 use Rattle.std.specs.Prelude.{IfSome}

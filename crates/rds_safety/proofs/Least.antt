@@ -3,7 +3,7 @@
 -- nothing in n slots, then the second segment of `BBBBDDD`. For it the two came less than its dwell apart, so it shows
 -- `AAAADDD`, which nobody set. If j is n + k, the first came k slots late and the second on time. By a clock of its own
 -- any j will do.
-use Rattle.std.proofs.Common.{◌≡◌, ◌≢◌, ◌⊎◌, ◌+◌, ◌-◌, ◌<◌, ◌≤◌, ℕ, zero, suc, true, false, List, [], ◌∷◌, length}
+use Rattle.std.proofs.Common.{◌≡◌, ◌≢◌, ◌⊎◌, ◌+◌, ◌-◌, ◌<◌, ℕ, zero, suc, true, false, List, [], ◌∷◌, length}
 use Rattle.std.proofs.Common.{slice_index, Option, Some, None, refl, sym, ap, ◌∙◌, subst, inl, inr, arith}
 use Rattle.std.specs.Prelude.{IfSome, nat_lt}
 use Rattle.std.specs.FinMap.{empty, get, insert}
@@ -25,17 +25,15 @@ use Rattle.rds_receiver.specs.declared.fragment.Fragment.{Fragment}
 use Rattle.rds_receiver.specs.Run.{run, run_at, run_before}
 use Rattle.rds_receiver.specs.Shown.{ShowsView, ShownView}
 use Rattle.rds_receiver.specs.Tags.{item_of, pair_held, tag_of}
-use Rattle.rds_safety.specs.Late.{CameFrom, HasEntry, Input, IsHeardInOrder, IsHeardLate, SentIn}
+use Rattle.rds_safety.specs.Late.{HasEntry, Input, IsHeardLate, SentIn}
 use Rattle.rds_safety.specs.Lawful.{HasOne, HasFragment, HasTags, IsLawful, names, texts}
 use Rattle.rds_safety.specs.Laws.{ShowsAMix}
 use Rattle.rds_safety.specs.Marks.{IsMarkIn, Mark, Nothing, Sends, Tagged, marks, name_mark, text_mark}
-use Rattle.rds_safety.specs.OwnClock.{ListensByOwnClock, ListensBySlowClock}
 use Rattle.rds_safety.specs.Plans.{AreLawful}
 use Rattle.rds_safety.specs.Safe.{AreSafeViews, Listener, ListensTo, RunWasOnAir}
 use Rattle.rds_safety.specs.Source.{text_run}
 use Rattle.rds_safety.proofs.Bytes.{get-put}
-use Rattle.rds_safety.proofs.OnTime.{input_of, nothing_heard, nothing_in_order, one_more, one_more_in_order}
-use Rattle.rds_safety.proofs.OwnClocks.{late_listens}
+use Rattle.rds_safety.proofs.OnTime.{input_of, nothing_heard, one_more}
 
 -- a segment of one character, and one of three and a carriage return
 abbrev pub four : ℕ → List ℕ
@@ -257,26 +255,6 @@ is_late k n = one_more k (log (n + k)) k (quiet n) (quiet_origins n) (Some (n + 
     (inl (omega (arith, quiet_long (n + k)), refl)) (omega (arith, quiet_long n), omega (arith, quiet_long n))
     (λ r u s e a. (let r_is : n + k + 1 ≡ r = cc in omega (arith, all_from_first k n u s a)))
 
--- the first message and then nothing is heard in order
-pub quiet_in_order : (n : ℕ) (sent : List (Option Message)) → SentIn sent 0 first_message
-    → IsHeardInOrder sent (input_of 0 (quiet n) (quiet_origins n))
-quiet_in_order zero sent s = one_more_in_order sent 0 [] [] (Some 0) first_message (nothing_in_order sent 0) s
-    (λ r u s e a. absurd a)
-quiet_in_order (suc n) sent s = one_more_in_order sent 0 (quiet n) (quiet_origins n) None None (quiet_in_order n sent s)
-    refl (λ r u s e a. absurd (cc))
-
--- the two messages are heard in order
-pub in_order : (n j : ℕ) → IsHeardInOrder (log j) (input 0 n j)
-in_order n j = one_more_in_order (log j) 0 (quiet n) (quiet_origins n) (Some (j + 1)) last_message
-    (quiet_in_order n (log j) (inr (first_sent j)))
-    (inl (omega (arith, quiet_long j), refl))
-    (λ r u s e a. (let r_is : j + 1 ≡ r = cc in omega (arith, all_from_first 0 n u s a)))
-
--- it hears what was sent by slot j + 1
-pub sent_by : (n j t s : ℕ) → CameFrom (input 0 n j) t s → s ≤ j + 1
-sent_by n j t s (inl p) = (let e = p.1 in let s_is : s ≡ j + 1 = cc in omega arith)
-sent_by n j t s (inr p) = omega (arith, all_from_first 0 n t s p)
-
 -- its run is both segments
 abbrev pub first_segment : ℕ → Segment
 first_segment k = record { slot = k + 0; fragment = first_fragment }
@@ -349,17 +327,6 @@ receiver k n j = record { input = input k n j; view = view k n }
 listens : (k n : ℕ) → ListensTo k (n + 2) (n + k + 1) (log (n + k)) (receiver k n (n + k))
 listens k n = record { late = is_late k n; now = omega (arith, quiet_long n); shows = shows k n }
 
-listens_by_own_clock : (n j : ℕ) → ListensByOwnClock (j + 2) (n + 2) (j + 1) (log j) (receiver 0 n j)
-listens_by_own_clock n j = record {
-  heard = record {
-    order = in_order n j;
-    between = λ t u r s p q near. omega (arith, sent_by n j u s q);
-    since = λ t s p near. omega arith;
-    past = sent_by n j;
-  };
-  shows = shows 0 n;
-}
-
 -- no broadcast has that text, so it was not on air
 pub one_byte : (a b : ℕ) (xs ys : List ℕ) → ◌≡◌ {A = List ℕ} (a ∷ xs) (b ∷ ys) → a ≡ b
 one_byte a b xs ys e = cc
@@ -413,35 +380,3 @@ one_slot_less m k h =
     let slots : m - 2 + k + 1 ≡ m + k - 1 = omega arith in
     subst (λ (x : ℕ). ShowsAMix (m + k - 1) x (ListensTo k x)) e
     (subst (λ (x : ℕ). ShowsAMix x (m - 2 + 2) (ListensTo k (m - 2 + 2))) slots (at_two_or_more (m - 2) k))
-
--- so it does for a receiver with a slow clock
-pub one_slot_less_by_slow_clock : (m k : ℕ) → 1 < m → ShowsAMix (m + k - 1) m (ListensBySlowClock k m)
-one_slot_less_by_slow_clock m k h =
-    let late = one_slot_less m k h in
-    record {
-      plans = late.plans;
-      log = late.log;
-      lawful = late.lawful;
-      t = late.t;
-      receiver = late.receiver;
-      listens = late_listens k m late.t late.log late.receiver late.listens;
-      mix = late.mix;
-      shown = late.shown;
-      of_none = late.of_none;
-      fails = late.fails;
-    }
-
-by_own_clock : (n j : ℕ) → ShowsAMix (j + 1) (n + 2) (ListensByOwnClock (j + 2) (n + 2))
-by_own_clock n j = mixes (n + 2) j (j + 1) (ListensByOwnClock (j + 2) (n + 2)) (receiver 0 n j) refl
-    (listens_by_own_clock n j)
-
--- so it does for a receiver with a clock of its own
-pub one_slot_less_by_own_clock : (d m : ℕ) → 1 < d → 1 < m → ShowsAMix (d - 1) m (ListensByOwnClock d m)
-one_slot_less_by_own_clock d m g h =
-    let d_is : d - 2 + 2 ≡ d = omega arith in
-    let m_is : m - 2 + 2 ≡ m = omega arith in
-    let slots : d - 2 + 1 ≡ d - 1 = omega arith in
-    subst (λ (x : ℕ). ShowsAMix (d - 1) x (ListensByOwnClock d x)) m_is
-    (subst (λ (x : ℕ). ShowsAMix (d - 1) (m - 2 + 2) (ListensByOwnClock x (m - 2 + 2))) d_is
-    (subst (λ (x : ℕ). ShowsAMix x (m - 2 + 2) (ListensByOwnClock (d - 2 + 2) (m - 2 + 2))) slots
-    (by_own_clock (m - 2) (d - 2))))

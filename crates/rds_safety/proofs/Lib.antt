@@ -13,13 +13,9 @@ pub mod Safety
 pub mod OnTime
 pub mod OwnClocks
 pub mod Least
-pub mod LeastConfirmed
-pub mod LooserClocks
 pub mod HeldWhole
 pub mod ConfirmedDelivery
 pub mod FlagRuns
 pub mod FlagSafety
 pub mod FlagSlots
-pub mod FlagBounds
-pub mod FlagCuts
 pub mod WorkedRows

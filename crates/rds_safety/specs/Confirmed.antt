@@ -72,12 +72,3 @@ pub record ListensConfirmed (w k m t : ℕ) (log : List (Option Message)) (r : L
   pub now : next_slot raw ≡ t + 1
   pub confirmed : r.input ≡ confirmed_input w m raw
   pub shows : ShowsView m r.input.first r.input.heard r.view
-
--- up to slot t the receiver of dwell m heard the log at most k slots late and with at most one wrong message; it shows
--- the view of all that it heard
-pub record ListensOnce (k m t : ℕ) (log : List (Option Message)) (r : Listener) : Type 0 where
-  pub heard : IsHeardWithWrong k log r.input
-  pub one : (u v : ℕ) (x y : Message) → HasEntry r.input.first r.input.heard u (Some x)
-      → HasEntry r.input.first r.input.heard v (Some y) → u < v → WasSent r.input u ⊎ WasSent r.input v
-  pub now : next_slot r.input ≡ t + 1
-  pub shows : ShowsView m r.input.first r.input.heard r.view

@@ -7,11 +7,10 @@ use Rattle.rds_encoder.specs.Plan.{Broadcast, HasNumber}
 use Rattle.rds_receiver.specs.Receipts.{name_fragment, text_fragment}
 use Rattle.rds_receiver.specs.declared.fragment.Fragment.{Fragment}
 use Rattle.rds_safety.specs.Late.{CameFrom, HasEntry, Input}
-use Rattle.rds_safety.specs.Laws.{ShowsAMix}
 use Rattle.rds_safety.specs.Near.{ListensNear}
 use Rattle.rds_safety.specs.Plans.{AreLawful, Plans}
 use Rattle.rds_safety.specs.Safe.{AreSafeViews, Listener}
-use Rattle.rds_safety.specs.Confirmed.{ListensConfirmed, ListensOnce}
+use Rattle.rds_safety.specs.Confirmed.{ListensConfirmed}
 use Rattle.rds_safety.specs.Confirmed.{lateness_of_two}
 
 -- the confirmed messages are near the log, for the lateness of two receipts
@@ -27,15 +26,6 @@ LawfulPlansAreSafeConfirmed =
     (w k m t : ℕ) (plans : Plans) (log : List (Option Message)) (receivers : List Listener)
     → AreLawful (m + lateness_of_two w k) plans log → All (ListensConfirmed w k m t log) receivers
     → AreSafeViews (m + lateness_of_two w k) m t plans log receivers
-
--- plans that are lawful for one slot less are not enough
-abbrev pub OneSlotLessMixesConfirmed : Type 0
-OneSlotLessMixesConfirmed =
-    (w k m : ℕ) → 1 < w → 2 < m → ShowsAMix (m + lateness_of_two w k - 1) m (ListensConfirmed w k m)
-
--- for a receiver that shows what it heard once, no spacing is enough: one wrong message makes a mix
-abbrev pub OneWrongMessageMixes : Type 0
-OneWrongMessageMixes = (d m : ℕ) → 0 < d → 1 < m → ShowsAMix d m (ListensOnce 0 m)
 
 -- a segment of a service with this address came in this slot
 pub record CameAt (pick : Message → Option Fragment) (raw : Input) (slot address : ℕ) : Type 0 where

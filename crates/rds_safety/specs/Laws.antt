@@ -136,27 +136,6 @@ pub record ShowsAMix (slots m : ℕ) (Listens : ℕ → List (Option Message) �
   pub of_none : (k : ℕ) (b : Broadcast) → HasNumber plans.text k b → b.bytes ≡ mix → ⊥
   pub fails : (d : ℕ) → AreSafeViews d m t plans log (receiver ∷ []) → ⊥
 
--- there are plans that are lawful for d slots, and a receiver of dwell m that listens in this way and whose view is not
--- safe for d
-pub record IsUnsafe (d m : ℕ) (Listens : ℕ → List (Option Message) → Listener → Type 0) : Type 0 where
-  pub plans : Plans
-  pub log : List (Option Message)
-  pub lawful : AreLawful d plans log
-  pub t : ℕ
-  pub receiver : Listener
-  pub listens : Listens t log receiver
-  pub fails : AreSafeViews d m t plans log (receiver ∷ []) → ⊥
-
 -- plans that are lawful for m + k - 1 slots are not enough
 abbrev pub OneSlotLessMixes : Type 0
 OneSlotLessMixes = (m k : ℕ) → 1 < m → ShowsAMix (m + k - 1) m (ListensTo k m)
-
--- if fewer than m slots of a receiver's own clock are fewer than d of the station, plans that are lawful for d - 1
--- slots are not enough
-abbrev pub OneSlotLessMixesByOwnClock : Type 0
-OneSlotLessMixesByOwnClock = (d m : ℕ) → 1 < d → 1 < m → ShowsAMix (d - 1) m (ListensByOwnClock d m)
-
--- if a receiver's clock counts at most k slots too few within m, plans that are lawful for m + k - 1 slots are not
--- enough
-abbrev pub OneSlotLessMixesForSlowClocks : Type 0
-OneSlotLessMixesForSlowClocks = (m k : ℕ) → 1 < m → ShowsAMix (m + k - 1) m (ListensBySlowClock k m)

@@ -1,5 +1,5 @@
 -- Plans of broadcasts, late inputs, and when views are safe. Nothing here refers to a world or an audit. Read the files
--- in this order; ClockBounds, which says that no bound can be looser, can wait.
+-- in this order.
 pub mod Marks
 pub mod Lawful
 pub mod Late
@@ -11,9 +11,7 @@ pub mod Near
 pub mod Confirmed
 pub mod Laws
 pub mod ConfirmedLaws
-pub mod ClockBounds
 pub mod FlagAlone
 pub mod FlagLaws
-pub mod FlagBounds
 -- Lemmas that crates above use.
 pub mod Flags

@@ -1,7 +1,4 @@
 //! Laws about all plans, logs and inputs: when views are safe, and that no bound can be looser.
-ghost use Rattle.rds_safety.specs.ClockBounds.{OneSlotAheadIsUnsafe, OneSlotMoreBetweenMixes};
-ghost use Rattle.rds_safety.specs.ClockBounds.{OneSlotMoreSinceIsUnsafe, OwnClocksHaveTheseBounds};
-ghost use Rattle.rds_safety.specs.FlagBounds.{OneFlagTwiceMixes, OneSlotMoreCutsByFlag, OneSlotMoreMixesByFlag};
 ghost use Rattle.rds_safety.specs.FlagLaws.{NamesByFlagAreNew, NamesByFlagAreOfTheirSource, NamesWithADwellAreNew};
 ghost use Rattle.rds_safety.specs.FlagLaws.{NewSourcesAreNear, TextsWithADwellAreNew};
 ghost use Rattle.rds_safety.specs.FlagLaws.{TagsByFlagAreOfTheirText, TextsByFlagAreHeldAlone, TextsByFlagAreNew};
@@ -16,11 +13,10 @@ ghost use Rattle.rds_safety.specs.Laws.{LawfulPlansAreSafeForSlowClocks, LawfulP
 ghost use Rattle.rds_safety.specs.Laws.{LawfulIsLawfulPadded, LawfulPlansAreSafeAs, LawfulPlansAreSafeByOwnClocksAs};
 ghost use Rattle.rds_safety.specs.Laws.{LawfulPlansAreSafeForSlowClocksAs, LawfulPlansAreSafeNearAs};
 ghost use Rattle.rds_safety.specs.Laws.{NoSlotLateIsOnTime, OnTimeIsNoSlotLate, OneSlotLessMixes};
-ghost use Rattle.rds_safety.specs.Laws.{OneSlotLessMixesByOwnClock, OneSlotLessMixesForSlowClocks};
 ghost use Rattle.rds_safety.specs.Laws.{PlanLaws, TheTrueClockIsNoSlotLate};
 ghost use Rattle.rds_safety.specs.Lawful.{padded_texts};
-ghost use Rattle.rds_safety.specs.ConfirmedLaws.{LawfulPlansAreSafeConfirmed, OneSlotLessMixesConfirmed};
-ghost use Rattle.rds_safety.specs.ConfirmedLaws.{OneWrongMessageMixes, WhoConfirmsListensNear};
+ghost use Rattle.rds_safety.specs.ConfirmedLaws.{LawfulPlansAreSafeConfirmed};
+ghost use Rattle.rds_safety.specs.ConfirmedLaws.{WhoConfirmsListensNear};
 ghost use Rattle.rds_safety.specs.ConfirmedLaws.{WhoHearsBothSegmentsTwiceShowsTheName};
 ghost use Rattle.rds_safety.specs.ConfirmedLaws.{WhoHearsEachSegmentTwiceShowsTheText};
 
@@ -82,42 +78,26 @@ pub fn own_clocks()
     ensures no_slot_late { TheTrueClockIsNoSlotLate }
 {}
 
-/// States that one slot less of spacing is not enough: neither M + K - 1 for late groups and slow clocks, nor d - 1 for
-/// own clocks. There are plans, a log and a receiver that shows a text of no broadcast.
+/// States that one slot less of spacing, M + K - 1, is not enough: there are plans, a log and a receiver that shows a
+/// text of no broadcast.
 pub fn the_dwell_is_the_least()
-    ensures late { OneSlotLessMixes }
-    ensures own_clock { OneSlotLessMixesByOwnClock }
-    ensures slow_clock { OneSlotLessMixesForSlowClocks }
+    ensures { OneSlotLessMixes }
 {}
 
 /// States what holds for receivers that get wrong groups and show only what they heard twice within W slots, if no
 /// segment and no pair of tags is wrong twice within W slots:
 ///
-/// - plans lawful for M + K + W - 1 make each slot safe, and one slot less is not enough, if W > 1 and M > 2;
+/// - plans lawful for M + K + W - 1 make each slot safe, if W > 1;
 /// - a text or name is shown if each of its segments came twice, less than W slots apart, within M slots of a broadcast
 ///   in which the receiver heard nothing wrong and nothing late.
-///
-/// For a receiver that shows what it heard once, no spacing is enough (if M > 1).
 pub fn safe_if_confirmed()
     ensures near { WhoConfirmsListensNear }
     ensures safe { LawfulPlansAreSafeConfirmed }
     ensures text { WhoHearsEachSegmentTwiceShowsTheText }
     ensures name { WhoHearsBothSegmentsTwiceShowsTheName }
-    ensures least { OneSlotLessMixesConfirmed }
-    ensures once { OneWrongMessageMixes }
 {
     plan_laws();
 }
-
-/// States that none of the three bounds of a receiver's own clock can be one slot looser. With one slot more between
-/// two entries, a receiver shows a text of no broadcast. With one slot more since an entry, or an entry one slot ahead
-/// of the station, it shows what is not safe.
-pub fn each_bound_is_needed()
-    ensures bounds { OwnClocksHaveTheseBounds }
-    ensures between { OneSlotMoreBetweenMixes }
-    ensures since { OneSlotMoreSinceIsUnsafe }
-    ensures past { OneSlotAheadIsUnsafe }
-{}
 
 /// States what a receiver with the flag bit alone shows: no mix, if it hears a segment of each broadcast, and if each
 /// broadcast turns the flag, keeps the bytes or is the empty text.
@@ -152,13 +132,4 @@ pub fn often_is_enough()
 pub fn the_flag_alone_is_a_long_dwell()
     ensures heard { TheFlagAloneIsADwellWhileHeard }
     ensures long { TheFlagAloneIsALongDwell }
-{}
-
-/// States that each premise about receivers with the flag bit alone is needed. If the flag does not turn, or if each
-/// text lasts for n slots and the receiver hears a segment only in each n + 1, it can show a text of no broadcast. If
-/// it hears one only in each d + 1, it can show tags of another text.
-pub fn the_flag_asks_no_less()
-    ensures turns { OneFlagTwiceMixes }
-    ensures often { OneSlotMoreMixesByFlag }
-    ensures tags { OneSlotMoreCutsByFlag }
 {}

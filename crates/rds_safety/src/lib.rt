@@ -7,7 +7,7 @@
 mod laws;
 
 pub use laws::{
-    each_bound_is_needed, often_is_enough, on_time, one_source, own_clocks, plan_laws,
-    safe_by_padded_plans, safe_by_plans, safe_by_the_flag, safe_if_confirmed,
-    the_dwell_is_the_least, the_flag_alone_is_a_long_dwell, the_flag_asks_no_less,
+    often_is_enough, on_time, one_source, own_clocks, plan_laws, safe_by_padded_plans,
+    safe_by_plans, safe_by_the_flag, safe_if_confirmed, the_dwell_is_the_least,
+    the_flag_alone_is_a_long_dwell,
 };

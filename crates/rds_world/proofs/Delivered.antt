@@ -1,6 +1,5 @@
 -- Lemmas: a receiver of a world that got on time each free one of enough slots of a broadcast shows it, as each
--- receiver
--- of a station does.
+-- receiver of a station does.
 use Rattle.std.proofs.Common.{◌≡◌, ◌+◌, ◌-◌, ◌≤◌, ℕ, inl, inr, Bool, true, false, List, [], ◌∷◌, ◌++◌, length-append}
 use Rattle.std.proofs.Common.{Option, Some, refl, sym, ap, ◌∙◌, subst, arith, length}
 use Rattle.std.specs.Prelude.{slice_index_or}

@@ -8,13 +8,12 @@ use Rattle.rds_receiver.specs.Receipts.{name_fragment, text_fragment}
 use Rattle.rds_receiver.specs.declared.fragment.Fragment.{Fragment}
 use Rattle.rds_safety.specs.FlagAlone.{HearsOneIn}
 use Rattle.rds_safety.specs.FlagLaws.{NamesByFlagAreNew, NamesByFlagAreOfTheirSource, TagsByFlagAreOfTheirText}
-use Rattle.rds_safety.specs.FlagLaws.{TextsByFlagAreNew, TextsByFlagAreOfTheirSource, WhoGetsSomeHearsOneIn}
-use Rattle.rds_safety.specs.FlagLaws.{WhoHearsOneInHearsEach, WhoHearsOneInHearsTextBeforeTags, WhoLosesFewGetsSome}
+use Rattle.rds_safety.specs.FlagLaws.{TextsByFlagAreNew, TextsByFlagAreOfTheirSource}
+use Rattle.rds_safety.specs.FlagLaws.{WhoHearsOneInHearsEach, WhoHearsOneInHearsTextBeforeTags}
 use Rattle.rds_safety.specs.Late.{Input}
 use Rattle.rds_world.specs.FlagStation.{NamesOfAStationAreNew, NamesOfAStationAreOfTheirSource}
 use Rattle.rds_world.specs.FlagStation.{TagsOfAStationAreOfTheirText, TextsOfAStationAreNew}
-use Rattle.rds_world.specs.FlagStation.{TextsOfAStationAreOfTheirSource, TheStationSendsOneIn}
-use Rattle.rds_world.specs.FlagStation.{WhoGetsSomeShowsTextsOfTheirSource, WhoLosesFewShowsTextsOfTheirSource}
+use Rattle.rds_world.specs.FlagStation.{TextsOfAStationAreOfTheirSource}
 use Rattle.rds_world.specs.Station.{TheEncoderIsLawful, station_plans}
 use Rattle.rds_world.proofs.FlagStation.{keeps_each, turns}
 
@@ -72,15 +71,3 @@ names_are_new lawful new enough d now told r some slots listens often =
     let each = enough d (2 * d) now name_fragment (station_plans d told).name r.input law.name.spaced often in
     let is_new = new d now (station_plans d told).name (sent_log d told) r law.name listens in
     (λ first. is_new.0 (each.0 (lasts.0 first)), λ first. is_new.1 (each.1 (lasts.1 first)))
-
-pub some_are_enough : TextsOfAStationAreOfTheirSource → TheStationSendsOneIn → WhoGetsSomeHearsOneIn
-    → WhoGetsSomeShowsTextsOfTheirSource
-some_are_enough safe sends enough d r now told l some slots first listens lends gets =
-    safe d now told l some slots first listens (enough r (2 * d) now text_fragment (station_plans d told).text
-    (sent_log d told) l.input listens.order (sends d r told some lends) gets)
-
-pub few_losses_are_harmless : WhoGetsSomeShowsTextsOfTheirSource → WhoLosesFewGetsSome
-    → WhoLosesFewShowsTextsOfTheirSource
-few_losses_are_harmless safe enough d r most now told l got some slots first listens lends few loses =
-    safe d r now told l some slots first listens lends (enough most r (2 * d) now text_fragment
-    (station_plans d told).text l.input got few loses)

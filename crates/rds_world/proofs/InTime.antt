@@ -1,6 +1,5 @@
 -- Lemmas: each message that a receiver of a world got was sent at most k slots before or is wrong, if its receptions
--- are
--- due.
+-- are due.
 use Rattle.std.proofs.Common.{◌≡◌, ◌+◌, ◌-◌, ◌<◌, ◌≤◌, ℕ, zero, suc, List, [], ◌∷◌, Option, Some, None, refl, sym}
 use Rattle.std.proofs.Common.{subst, ◌∙◌, inl, inr, arith, length}
 use Rattle.std.specs.Prelude.{IfSome, slice_index_or}

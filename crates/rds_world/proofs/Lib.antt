@@ -11,6 +11,5 @@ pub mod StationDelivered
 pub mod Delivered
 pub mod FlagStation
 pub mod FlagSafeStation
-pub mod SendsOne
 pub mod RestartMixes
 pub mod WorkedRows

@@ -1,6 +1,6 @@
 -- Lemmas: the ring of the last wrong messages of a receiver, slot by slot.
-use Rattle.std.proofs.Common.{◌≡◌, ◌≢◌, ◌⊎◌, ◌≤◌, ℕ, inl, inr, zero, suc, Bool, true, false, List, [], ◌∷◌, Option}
-use Rattle.std.proofs.Common.{Some, None, nat_eq, take, length, refl, sym, ap, subst, arith}
+use Rattle.std.proofs.Common.{◌≡◌, ◌≢◌, ◌⊎◌, ◌≤◌, ℕ, inl, inr, Bool, true, false, List, Option}
+use Rattle.std.proofs.Common.{nat_eq, length, refl, sym, ap, subst, arith}
 use Rattle.std.proofs.lemmas.Bool.Decides.{nat_tests}
 use Rattle.std.proofs.lemmas.List.{get_or_past}
 use Rattle.std.specs.Cmp.Lexicographic.{other_text, pointwise, same_text}
@@ -10,24 +10,7 @@ use Rattle.rds_fields.specs.declared.message.Message.TheVariants.{Text, Name, An
 use Rattle.rds_world.specs.declared.event.Reception.{Reception}
 use Rattle.rds_world.specs.declared.event.Reception.TheVariants.{Got, Lost, Wrong, Restart}
 use Rattle.rds_world.specs.Event.{Event}
-use Rattle.rds_world.specs.Wrong.{IsFit, IsFitTo, with_wrong, wrong_of}
-
-shorter : {X : Type 0} (n : ℕ) (xs : List X) → take n (take (suc n) xs) ≡ take n xs
-shorter zero xs = refl
-shorter (suc n) [] = refl
-shorter (suc n) (x ∷ xs) = ap (λ ys. x ∷ ys) (shorter n xs)
-
-take_again : {X : Type 0} (n : ℕ) (x : X) (xs : List X) → take n (x ∷ take n xs) ≡ take n (x ∷ xs)
-take_again zero x xs = refl
-take_again (suc n) x xs = ap (λ ys. x ∷ ys) (shorter n xs)
-
--- a ring of n places needs no more than the last n entries
-pub with_again : (n : ℕ) (r : Reception) (wrong : List (Option Message))
-    → take n (with_wrong r (take n wrong)) ≡ take n (with_wrong r wrong)
-with_again n (Got back) wrong = take_again n None wrong
-with_again n Lost wrong = take_again n None wrong
-with_again n (Wrong message) wrong = take_again n (Some message) wrong
-with_again n Restart wrong = refl
+use Rattle.rds_world.specs.Wrong.{IsFit, IsFitTo, wrong_of}
 
 -- a reception that does not keep the premise is a wrong message
 pub breaks_by : (window : Option ℕ) (wrong : List (Option Message)) (r : Reception) → (IsFit window wrong r → ⊥)
@@ -61,10 +44,3 @@ same_by_test (Announce f a b) (Announce g c d) e = grind (arith, e, nat_tests)
 same_by_test (Tags p) (Tags q) e = ap Tags (grind (arith, e, nat_tests))
 same_by_test Other Other e = refl
 same_by_test x y e = absurd (grind (arith, e))
-
-pub test_of_same : (x : Message) → eq-value.it x x ≡ true
-test_of_same (Text f a b) = grind (arith, nat_tests, bytes_tell)
-test_of_same (Name f a b) = grind (arith, nat_tests, bytes_tell)
-test_of_same (Announce f a b) = grind (arith, nat_tests)
-test_of_same (Tags p) = grind (arith, nat_tests)
-test_of_same Other = refl

@@ -10,7 +10,6 @@ use Rattle.rds_assembly.specs.Body.{segment_of, text_body}
 use Rattle.rds_assembly.specs.Cells.{Cells}
 use Rattle.rds_assembly.specs.OwnSegments.{all_text}
 use Rattle.rds_assembly.specs.ServiceLaws.{no_name_of_none}
-use Rattle.rds_encoder.specs.Entries.{text_moves}
 use Rattle.rds_encoder.specs.Plan.{Broadcast, HasNumber}
 use Rattle.rds_receiver.specs.Shown.{ShownView}
 use Rattle.rds_safety.specs.FlagAlone.{ShowsByFlag}
@@ -23,8 +22,7 @@ use Rattle.rds_safety.proofs.OnTime.{input_of, no_slot_late}
 use Rattle.rds_world.specs.declared.event.Command.{Command}
 use Rattle.rds_world.specs.declared.event.Command.TheVariants.{Quiet, Restart, SetText}
 use Rattle.rds_world.specs.Event.{Event}
-use Rattle.rds_world.specs.FlagStation.{IsEmptyAfter, IsFirstAfterRestart, MixesAStation}
-use Rattle.rds_world.specs.Slots.{entries, log, plans_of}
+use Rattle.rds_world.specs.FlagStation.{MixesAStation}
 
 abbrev slot : Command → Event
 slot command = record { command = command; free = true; receptions = [] }
@@ -39,9 +37,6 @@ older = record { start = 1; end = 3; flag = false; bytes = older_text }
 abbrev newer : Broadcast
 newer = record { start = 5; end = 5; flag = false; bytes = newer_text }
 
-planned : (plans_of 1 events).text ≡ newer ∷ older ∷ []
-planned = refl
-
 abbrev first_of_newer : Option Message
 first_of_newer = Some (Text false 0 (four 66))
 
@@ -50,9 +45,6 @@ last_of_older = Some (Text false 1 (three_and_end 67))
 
 abbrev sent : List (Option Message)
 sent = first_of_newer ∷ None ∷ last_of_older ∷ None ∷ Some (Text false 0 (four 65)) ∷ None ∷ []
-
-sent_is : log 1 events ≡ sent
-sent_is = refl
 
 -- the receiver got each slot
 abbrev input : Input
@@ -121,21 +113,3 @@ a_restart_mixes = record {
 }
 
 -- ---- with the empty text between, as the premise asks
-
-abbrev with_empty : List Event
-with_empty = slot (SetText newer_text) ∷ slot Quiet ∷ slot (SetText []) ∷ slot Restart ∷ slot Quiet
-    ∷ slot (SetText older_text) ∷ slot Quiet ∷ []
-
-planned_with_empty : (plans_of 1 with_empty).text
-    ≡ record { start = 6; end = 6; flag = true; bytes = newer_text }
-    ∷ record { start = 4; end = 5; flag = false; bytes = [] }
-    ∷ record { start = 1; end = 2; flag = false; bytes = older_text }
-    ∷ []
-planned_with_empty = refl
-
-first_is_empty : IsFirstAfterRestart IsEmptyAfter 1 (text_moves (entries with_empty))
-first_is_empty = (λ ok on. (cc), (λ ok on. refl, (λ ok on. tt, tt)))
-
--- without it the premise fails
-first_is_none : IsFirstAfterRestart IsEmptyAfter 1 (text_moves (entries events)) → ⊥
-first_is_none first = (let none = first.0 refl refl in cc)

@@ -2,21 +2,21 @@
 -- or name that it accepts. After a restart the flag is 0 again. So the first text or name has to be one that a receiver
 -- can join to what it holds: the empty text, or the newest one with flag 0 again. Lists have the newest first.
 use Rattle.std.specs.Prelude.{◌≡◌, ◌+◌, ◌-◌, ◌*◌, ◌<◌, ◌≤◌, ◌⊎◌}
-use Rattle.std.specs.Prelude.{ℕ, Bool, true, List, [], ◌∷◌, Option, Some, None, IfSome, is_ok, if◌then◌else◌}
+use Rattle.std.specs.Prelude.{ℕ, true, List, [], ◌∷◌, Option, Some, None, IfSome, is_ok, if◌then◌else◌}
 use Rattle.rds_encoder.specs.Entries.{Entry, Move, Begin, Set, End, name_moves, slot_of, text_moves}
 use Rattle.rds_encoder.specs.Plan.{Broadcast, HasNumber, on_air, plan_of}
 use Rattle.rds_encoder.specs.Reply.{reply_to}
 use Rattle.rds_encoder.specs.Sent.{sent_log}
 use Rattle.rds_receiver.specs.Receipts.{name_fragment, text_fragment}
-use Rattle.rds_safety.specs.FlagAlone.{EachLasts, GetsSome, HearsOneIn, IsFilled, IsNews, ListensByFlag}
-use Rattle.rds_safety.specs.FlagAlone.{LosesInARow, SendsOneIn, TurnsTheFlag, run_by_flag}
+use Rattle.rds_safety.specs.FlagAlone.{EachLasts, HearsOneIn, IsFilled, IsNews, ListensByFlag}
+use Rattle.rds_safety.specs.FlagAlone.{TurnsTheFlag, run_by_flag}
 use Rattle.rds_safety.specs.FlagLaws.{HasNewSource, IsOfItsSource, ShowsEmptyText, ShowsTagsOfText}
 use Rattle.rds_safety.specs.Marks.{marks, text_mark}
 use Rattle.rds_safety.specs.OwnClock.{IsTrueClock}
 use Rattle.rds_safety.specs.Safe.{Listener, ShowsNoTags}
 use Rattle.rds_world.specs.Event.{Event}
 use Rattle.rds_world.specs.Slots.{SetValues, log, plans_of}
-use Rattle.rds_world.specs.Station.{AreEndedSlots, IsFreeIn, station_plans}
+use Rattle.rds_world.specs.Station.{AreEndedSlots, station_plans}
 
 -- nothing was planned before, or x is empty
 abbrev pub IsEmptyAfter : List Broadcast → List ℕ → Type 0
@@ -136,45 +136,6 @@ NamesOfAStationAreNew =
     → HasNewSource IsFilled (station_plans d told).name now r.input (run_by_flag name_fragment r.input))
     × (IsFirstAfterRestart (IsSafeAfter d) d (name_moves told)
     → HasNewSource IsNews (station_plans d told).name now r.input (run_by_flag name_fragment r.input))
-
--- two slots were free, both in slot `from` or later and before slot `before`
-pub record LendsTwoBetween (told : List Entry) (from before : ℕ) : Type 0 where
-  pub one : ℕ
-  pub two : ℕ
-  pub one_free : IsFreeIn told one
-  pub two_free : IsFreeIn told two
-  pub since : from ≤ one
-  pub later : one < two
-  pub until : two < before
-
--- two of each r slots in a row of one broadcast were free
-abbrev pub LendsTwoIn : ℕ → List Broadcast → List Entry → Type 0
-LendsTwoIn r plan told =
-    (k u : ℕ) (b : Broadcast) → HasNumber plan k b → b.start ≤ u → u + r ≤ b.end + 1 → LendsTwoBetween told u (u + r)
-
--- if two of each r slots in a row of a text are free, each r slots in a row of a text send a segment of it
-abbrev pub TheStationSendsOneIn : Type 0
-TheStationSendsOneIn =
-    (d r : ℕ) (told : List Entry) → 0 < d → LendsTwoIn r (station_plans d told).text told
-    → SendsOneIn r text_fragment (station_plans d told).text (sent_log d told)
-
--- then it is enough that a receiver gets r slots in a row of each 2d, whatever is sent in them
-abbrev pub WhoGetsSomeShowsTextsOfTheirSource : Type 0
-WhoGetsSomeShowsTextsOfTheirSource =
-    (d r now : ℕ) (told : List Entry) (l : Listener) → 0 < d → AreEndedSlots told
-    → IsFirstAfterRestart (IsSafeAfter d) d (text_moves told) → ListensByFlag now (sent_log d told) l
-    → LendsTwoIn r (station_plans d told).text told
-    → GetsSome r (2 * d) text_fragment (station_plans d told).text now l.input
-    → IfSome l.view.text (IsOfItsSource (station_plans d told).text l.input (run_by_flag text_fragment l.input))
-
--- it is enough that it loses at most 2d - 2r + 1 slots in a row, and gets r slots in a row after each loss
-abbrev pub WhoLosesFewShowsTextsOfTheirSource : Type 0
-WhoLosesFewShowsTextsOfTheirSource =
-    (d r most now : ℕ) (told : List Entry) (l : Listener) (got : ℕ → Bool) → 0 < d → AreEndedSlots told
-    → IsFirstAfterRestart (IsSafeAfter d) d (text_moves told) → ListensByFlag now (sent_log d told) l
-    → LendsTwoIn r (station_plans d told).text told → most + 2 * r ≤ 2 * d + 1
-    → LosesInARow most r text_fragment now l.input got
-    → IfSome l.view.text (IsOfItsSource (station_plans d told).text l.input (run_by_flag text_fragment l.input))
 
 -- there are slots of a station with a spacing of d, and a receiver with the flag bit alone that got each of them on
 -- time and shows a text that nobody set

@@ -25,6 +25,6 @@ pub use slots::{PlayRefused, play};
 pub use station_laws::{
     a_confirmed_station_is_safe, a_restart_mixes, a_station_is_safe, a_station_is_safe_by_the_flag,
     on_air_is_delivered, only_what_was_on_air_is_shown, the_encoder_is_lawful,
-    the_station_turns_the_flag, two_slots_are_enough, what_is_fit_keeps_the_premise,
+    the_station_turns_the_flag, what_is_fit_keeps_the_premise,
 };
 pub use world::{Config, World};

@@ -6,17 +6,15 @@ ghost use Rattle.rds_world.specs.FlagStation.{ARestartMixes, InOneLifeNothingIsA
 ghost use Rattle.rds_world.specs.FlagStation.{NamesOfAStationAreOfTheirSource, TagsOfAStationAreOfTheirText};
 ghost use Rattle.rds_world.specs.FlagStation.{TextsOfAStationAreNew, TextsOfAStationAreOfTheirSource};
 ghost use Rattle.rds_world.specs.FlagStation.{TheEmptyTextIsEnough};
-ghost use Rattle.rds_world.specs.FlagStation.{TheStationKeepsEach, TheStationSendsOneIn, TheStationTurnsTheFlag};
-ghost use Rattle.rds_world.specs.FlagStation.{WhoGetsSomeShowsTextsOfTheirSource, WhoLosesFewShowsTextsOfTheirSource};
+ghost use Rattle.rds_world.specs.FlagStation.{TheStationKeepsEach, TheStationTurnsTheFlag};
 ghost use Rattle.rds_world.specs.SafeSlots.{EveryWorldShowsOnlyWhatWasOnAir};
 ghost use Rattle.rds_world.specs.Station.{SlotsOfAWorldAreSlots, TheEncoderIsLawful, WhoHearsAStationIsSafe};
 ghost use Rattle.rds_world.specs.ConfirmedStation.{WhoConfirmsAStationIsSafe};
 ghost use Rattle.rds_world.specs.Wrong.{TheFitKeepThePremise};
 
 use rds_encoder::{
-    broadcasts_are_spaced, even_turns_are_the_texts, numbers_name_broadcasts,
-    on_air_from_its_start_on, on_air_is_sent_whole, on_air_is_what_covers_the_slot,
-    planned_is_what_was_on_air, sent_is_of_what_is_on_air,
+    broadcasts_are_spaced, numbers_name_broadcasts, on_air_from_its_start_on, on_air_is_sent_whole,
+    on_air_is_what_covers_the_slot, planned_is_what_was_on_air, sent_is_of_what_is_on_air,
 };
 use rds_safety::{often_is_enough, safe_by_plans, safe_by_the_flag, safe_if_confirmed};
 
@@ -105,20 +103,6 @@ pub fn a_station_is_safe_by_the_flag()
     the_encoder_is_lawful();
     safe_by_the_flag();
     often_is_enough();
-}
-
-/// States that of two free slots of a text, one after the other, one sends a segment. So a receiver with the flag bit
-/// alone shows no mix if it gets enough slots in a row of each 2d, or loses few enough in a row.
-pub fn two_slots_are_enough()
-    ensures sends { TheStationSendsOneIn }
-    ensures texts { WhoGetsSomeShowsTextsOfTheirSource }
-    ensures losses { WhoLosesFewShowsTextsOfTheirSource }
-{
-    on_air_from_its_start_on();
-    on_air_is_what_covers_the_slot();
-    even_turns_are_the_texts();
-    often_is_enough();
-    a_station_is_safe_by_the_flag();
 }
 
 /// States that a receiver with the flag bit alone can show a text that nobody set, although it loses nothing, if

@@ -1,4 +1,3 @@
-use Rattle.rds_safety.proofs.LeastConfirmed.{one_slot_less_confirmed, one_wrong_mixes}
 use Rattle.rds_safety.proofs.Safety.{are_safe_confirmed}
 use Rattle.rds_safety.proofs.Confirmed.{confirmed_listens}
 use Rattle.rds_safety.proofs.ConfirmedDelivery.{name_shown_twice, text_shown_twice}
@@ -11,12 +10,6 @@ returns-clause-near c = confirmed_listens
 
 pub returns-clause-safe : goal.returns-clause-safe
 returns-clause-safe c = are_safe_confirmed c.plan_laws.ensures texts text_service
-
-pub returns-clause-least : goal.returns-clause-least
-returns-clause-least c = one_slot_less_confirmed
-
-pub returns-clause-once : goal.returns-clause-once
-returns-clause-once c = one_wrong_mixes
 
 pub returns-clause-text : goal.returns-clause-text
 returns-clause-text c = text_shown_twice c.plan_laws.ensures
