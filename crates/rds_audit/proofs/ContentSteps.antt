@@ -9,9 +9,8 @@ use Rattle.rds_receiver.specs.declared.fragment.Fragment.{Fragment}
 use Rattle.rds_audit.specs.declared.audited.Lengths.{Lengths}
 use Rattle.rds_audit.specs.AuditAt.{HoldsContent}
 use Rattle.rds_audit.specs.ReignsState.{ContentState, measured_in, no_content, tagged, taken}
-use Rattle.rds_audit.specs.Lengths.{Gauge, IsExact, IsFormed, pair_end, sent_cells, sent_last}
+use Rattle.rds_audit.specs.Lengths.{Gauge, IsFormed, pair_end, sent_cells, sent_last}
 use Rattle.rds_audit.specs.Reigns.{SentTags}
-use Rattle.rds_audit.specs.Rules.{HaveOneValue}
 
 -- the content without fragments and tags
 pub empty_content : (g : Gauge) → HoldsContent g [] [] (no_content g.longest)
@@ -22,9 +21,6 @@ empty_content g = record {
   lengths = refl;
   ends = refl;
 }
-
-pub empty_one : (g : Gauge) → IsExact g → HaveOneValue g.kind [] []
-empty_one g exact = exact.one [] [] tt record { joins = tt; fit = refl; ends = omega arith }
 
 module _ (g : Gauge) (few : g.segments ≤ 16) (p : Fragment) (fragments : List Fragment) (tags : List SentTags)
     (c : ContentState) (h : HoldsContent g fragments tags c) (formed : IsFormed g.segments p) where

@@ -1,13 +1,12 @@
 -- Lemmas: what a text with padding can have, byte by byte and segment by segment.
-use Rattle.std.proofs.Common.{◌≡◌, ◌+◌, ◌-◌, ◌*◌, ◌<◌, ◌&&◌, ℕ, suc, Bool, true, false, nat_eq}
-use Rattle.std.proofs.Common.{List, length, get_or, map, set, min, drop, drop-cons, slice_index, Option, Some}
+use Rattle.std.proofs.Common.{◌≡◌, ◌+◌, ◌-◌, ◌*◌, ◌<◌, ◌&&◌, ℕ, suc, Bool, true, false}
+use Rattle.std.proofs.Common.{List, length, get_or, map, set, min, drop, drop-cons, Option, Some}
 use Rattle.std.proofs.Common.{None, cond, not, refl}
 use Rattle.std.proofs.Common.{sym, ap, ◌∙◌, arith}
 use Rattle.std.proofs.lemmas.Bool.{false_from_ne_true, le-ltb, lt-ltb}
 use Rattle.std.proofs.lemmas.Bool.Decides.{nat_tests}
 use Rattle.std.proofs.lemmas.List.{get_or-map}
 use Rattle.rds_fields.specs.Stored.{is_set}
-use Rattle.rds_assembly.specs.Value.{is_text_byte}
 use Rattle.rds_audit.specs.declared.stored.StoredCell.{StoredCell}
 use Rattle.rds_audit.specs.Stored.{cell_stored}
 use Rattle.rds_audit.specs.declared.audited.Lengths.{Lengths}
@@ -19,31 +18,10 @@ use Rattle.rds_audit.proofs.SpanOrder.{bytes_same, same_bytes_are}
 next : (k : ℕ) → suc k ≡ k + 1
 next k = omega arith
 
-on_place : (i k : ℕ) → i + k + 1 ≡ i + (k + 1)
-on_place i k = omega arith
-
--- a byte before the end leaves the test to those behind it
-pub goes_on : (n i k : ℕ) (bs : List ℕ) → k < length bs → i + k < n → is_text_byte (slice_index bs k) ≡ true
-    → allows n (i + k) (drop k bs) ≡ allows n (i + (k + 1)) (drop (k + 1) bs)
-goes_on n i k bs h less good = ap (allows n (i + k)) (drop-cons bs k 0 h) ∙ rw (lt-ltb (i + k) n less, good)
-    (ap (λ j. allows n j (drop (suc k) bs)) (on_place i k) ∙ ap (λ m. allows n (i + (k + 1)) (drop m bs)) (next k))
-
-pub no_text : (n i k : ℕ) (bs : List ℕ) → k < length bs → i + k < n → is_text_byte (slice_index bs k) ≡ false
-    → allows n (i + k) (drop k bs) ≡ false
-no_text n i k bs h less bad = ap (allows n (i + k)) (drop-cons bs k 0 h) ∙ rw (lt-ltb (i + k) n less, bad) refl
-
 -- behind the end all is allowed
 pub behind : (n i k : ℕ) (bs : List ℕ) → k < length bs → n < i + k → allows n (i + k) (drop k bs) ≡ true
 behind n i k bs h past = ap (allows n (i + k)) (drop-cons bs k 0 h)
     ∙ rw (le-ltb (i + k) n (omega arith), lt-ltb n (i + k) past) refl
-
--- at the end stands a carriage return
-pub at_end : (n i k : ℕ) (bs : List ℕ) → k < length bs → i + k ≡ n
-    → allows n (i + k) (drop k bs) ≡ nat_eq (slice_index bs k) 13
-at_end n i k bs h here = ap (allows n (i + k)) (drop-cons bs k 0 h)
-    ∙ rw (le-ltb (i + k) n (omega arith), le-ltb n (i + k) (omega arith)) refl
-
--- ---- segment by segment
 
 -- an address at which nothing was sent allows all
 pub cell_none : (n k : ℕ) (cells : List (Option (List ℕ))) → k < length cells → get_or cells k None ≡ None
@@ -87,19 +65,6 @@ lower ok limit back h fails = by (limit - back - 1) (omega arith) fails
     by : (n : ℕ) → limit - back ≡ suc n → ok n ≡ false
         → greatest_below ok (limit - back) ≡ greatest_below ok (limit - (back + 1))
     by n e fails = ap (greatest_below ok) e ∙ rw fails (ap (greatest_below ok) (omega (arith, e)))
-
-pub here : (ok : ℕ → Bool) (limit back : ℕ) → back < limit → ok (limit - back - 1) ≡ true
-    → greatest_below ok (limit - back) ≡ Some (limit - back - 1)
-here ok limit back h fine = by (limit - back - 1) (omega arith) fine
-  where
-    by : (n : ℕ) → limit - back ≡ suc n → ok n ≡ true → greatest_below ok (limit - back) ≡ Some n
-    by n e fine = ap (greatest_below ok) e ∙ rw fine refl
-
--- ---- whether a segment changes the value
-
-pub not_sent : (g : Gauge) (address : ℕ) (bytes : List ℕ) (c : ContentState) → cell_at address c ≡ None
-    → false ≡ changes_in g address bytes c
-not_sent g address bytes c e = rw e refl
 
 pub sent_same : (g : Gauge) (address : ℕ) (bytes held : List ℕ) (c : ContentState) → cell_at address c ≡ Some held
     → held ≡ bytes → false ≡ changes_in g address bytes c

@@ -33,9 +33,6 @@ pub record CanHave (n i : ℕ) (bs : List ℕ) : Type 0 where
   pub below : (k : ℕ) → k < length bs → i + k < n → is_text_byte (slice_index bs k) ≡ true
   pub end : (k : ℕ) → k < length bs → i + k ≡ n → slice_index bs k ≡ 13
 
-on_place : (i k : ℕ) → i + 1 + k ≡ i + suc k
-on_place i k = omega arith
-
 can_have : (n i : ℕ) (bs : List ℕ) → allows n i bs ≡ true → CanHave n i bs
 can_have n i [] e = record { below = λ k h l. absurd (omega arith); end = λ k h l. absurd (omega arith) }
 can_have n i (b ∷ bs) e = by (cases_lt i n) e (can_have n (i + 1) bs)

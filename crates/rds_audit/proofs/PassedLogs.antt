@@ -1,5 +1,5 @@
 -- Lemmas: a log passes exactly if it has plans, and then it is safe.
-use Rattle.std.proofs.Common.{◌+◌, ◌<◌, ◌∷◌, ℕ, List, Option, arith}
+use Rattle.std.proofs.Common.{◌+◌, ◌<◌, ℕ, List, Option, arith}
 use Rattle.rds_fields.specs.declared.message.Message.{Message}
 use Rattle.rds_audit.specs.AuditLaws.{IsSafeLog, PassesExactlyByPlans}
 use Rattle.rds_audit.specs.Dense.{HasPlans}
@@ -12,7 +12,6 @@ use Rattle.rds_safety.specs.Marks.{marks, name_mark, text_mark}
 use Rattle.rds_audit.specs.Rules.{LogPasses}
 use Rattle.rds_audit.proofs.Matching.{passes}
 use Rattle.rds_audit.proofs.Planning.{has_plan}
-use Rattle.rds_audit.proofs.Sending.{dense_before, lawful_before}
 
 module _ (laws : PlanLaws) (form : TextForm) (d : ℕ) (log : List (Option Message)) where
   log_has_plans : 0 < d → LogPasses form d log → HasPlans form d log
@@ -35,24 +34,6 @@ module _ (laws : PlanLaws) (form : TextForm) (d : ℕ) (log : List (Option Messa
 
 pub passes_by_plans : PlanLaws → PassesExactlyByPlans
 passes_by_plans laws form d log pos = (log_has_plans laws form d log pos, plans_pass laws form d log)
-
--- a log that passes also passed before its newest slot: its plans are plans of the earlier slots
-pub passed_before : PassesExactlyByPlans → (form : TextForm) (d : ℕ) (newest : Option Message) (before : List
-    (Option Message)) → 0 < d
-    → LogPasses form d (newest ∷ before) → LogPasses form d before
-passed_before law form d newest before pos h =
-    let w = (law form d (newest ∷ before) pos).0 h in
-    (law form d before pos).1 record {
-      plans = w.plans;
-      lawful = record {
-        text = lawful_before d (text_kind form) w.plans.text (text_mark newest) (marks text_mark before) w.lawful.text;
-        name = lawful_before d names w.plans.name (name_mark newest) (marks name_mark before) w.lawful.name;
-      };
-      dense = record {
-        text = dense_before d w.plans.text (text_mark newest) (marks text_mark before) w.dense.text;
-        name = dense_before d w.plans.name (name_mark newest) (marks name_mark before) w.dense.name;
-      };
-    }
 
 -- both laws of plans, for texts of this form
 pub by_form : (P : Kind → Type 0) → P texts → P padded_texts → (form : TextForm) → P (text_kind form)

@@ -1,6 +1,5 @@
 -- Lemmas: what a receiver shows stays the same if the tags that it heard before the first text segment of a log are
--- left
--- out of its input.
+-- left out of its input.
 use Rattle.std.proofs.Common.{◌≡◌, ◌⊎◌, ◌+◌, ◌<◌, ◌&&◌, ℕ, suc, Bool, true, false, List, [], ◌∷◌, Option, Some, None}
 use Rattle.std.proofs.Common.{length, refl, sym, ap, ◌∙◌, inl, inr, arith}
 use Rattle.std.specs.Prelude.{nat_lt, if◌then◌else◌}

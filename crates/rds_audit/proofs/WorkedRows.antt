@@ -1,6 +1,5 @@
 -- Short logs calculated by hand, and the faults of each one. Lists have the newest first, except the faults: they stand
--- in
--- the order in which `audit --all` prints them.
+-- in the order in which `audit --all` prints them.
 use Rattle.std.proofs.Common.{◌≡◌, ◌++◌, ℕ, true, false, List, [], ◌∷◌, Option, Some, None, length, map, refl}
 use Rattle.std.specs.Prelude.{if◌then◌else◌}
 use Rattle.rds_fields.specs.declared.message.Message.{Message}

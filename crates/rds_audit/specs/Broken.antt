@@ -23,8 +23,7 @@ has_other_bytes (p ∷ older) = is_other (sent_last p.address older) p.bytes
 
 -- the rule that a fragment breaks first, by the newest reign with it: the reign opened before its broadcast can have
 -- started; or else no value has its fragments, and the newest one has other bytes than its address was sent with last;
--- or
--- else no value has them; or else one has, and tags end past each such value
+-- or else no value has them; or else one has, and tags end past each such value
 abbrev pub BreaksByFragment : Kind → List Reign → AuditFault → Type 0
 BreaksByFragment kind [] fault = ⊥
 BreaksByFragment kind (r ∷ older) EarlyFlag = r.opened < r.start

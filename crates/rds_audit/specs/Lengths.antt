@@ -193,8 +193,7 @@ pub record AreMeasured (g : Gauge) (fragments : List Fragment) (tags : List Sent
   pub ends : tags_end tags ≤ (lengths_of g fragments).most
 
 -- the gauge is exact: fragments and tags have one value exactly if they are measured so and the fragments are formed;
--- no
--- fragment makes the greatest length greater; and what was sent last at an address changes nothing
+-- no fragment makes the greatest length greater; and what was sent last at an address changes nothing
 pub record IsExact (g : Gauge) : Type 0 where
   pub measured : (fragments : List Fragment) (tags : List SentTags) → HaveOneValue g.kind fragments tags
       → AreMeasured g fragments tags

@@ -1,7 +1,6 @@
 -- The list of all faults of a log (this project's own rule). It judges spans. A span is a reign with two marks. Other
 -- bytes at an address of the current span begin a span too, as though the flag had turned, if no value has both. Each
--- span has each fault at
--- most once, in the first slot in which it breaks the rule. Lists have the newest first.
+-- span has each fault at most once, in the first slot in which it breaks the rule. Lists have the newest first.
 use Rattle.std.specs.Prelude.{◌≡◌, ◌+◌, ◌==◌, ◌&&◌, ◌||◌, [], ◌∷◌, ℕ, Bool, true, false, List, Option, Some, None}
 use Rattle.std.specs.Prelude.{length, map, max, nat_lt, not, if◌then◌else◌}
 use Rattle.std.specs.List.{list_any}
@@ -51,8 +50,7 @@ turned d slot p is_changed r older =
     first_of_span slot p (if is_early then r.reign.last + 1 else due_after d r older) is_changed is_early ∷ r ∷ older
 
 -- these spans after a fragment with the flag of r, less than d slots after r: it joins r, except if it changes the
--- value
--- of r
+-- value of r
 abbrev pub joined : Gauge → ℕ → ℕ → Fragment → Span → List Span → List Span
 joined g d slot p r older =
     if changes g r.reign.fragments p then turned d slot p true r older else span_with slot p r ∷ older
@@ -156,11 +154,6 @@ added g d mark before =
     if length newer == length older
     then not_before (broken_newest g d before older) (broken_newest g d (mark ∷ before) newer)
     else broken_newest g d (mark ∷ before) newer
-
--- the faults that each slot adds
-abbrev pub listed : Gauge → ℕ → List Mark → List FaultSet
-listed g d [] = []
-listed g d (mark ∷ before) = added g d mark before ∷ listed g d before
 
 -- the faults of both
 abbrev pub both : FaultSet → FaultSet → FaultSet

@@ -14,4 +14,3 @@ pub mod Meaning
 pub mod OneVerdict
 pub mod Filled
 pub mod FilledText
-pub mod Pacing

@@ -551,38 +551,6 @@ tags_confirmed w m first heard old new pair is rest now held over if_again if_no
         over (λ y. omega (arith, y, old_run, st.display.dwell))
         ∙ ap (λ (gs : List Segment). pair_left_of w n (begins_in gs) (Some (n, pair))) (sym none)
 
--- an announcement or another message needs no confirmation
-pub announcement_confirmed : (w m first : ℕ) (heard : List (Option Message)) (s : ReceiverState) (code bits aid : ℕ)
-    → HoldsBy (Some w) m (first + length heard) first s heard
-    → Counts (Some w) m first s heard (Announce code bits aid) true
-announcement_confirmed w m first heard s code bits aid st = record {
-  display = st.display;
-  lasts = record {
-    window = st.lasts.window;
-    two = st.lasts.two;
-    texts = st.lasts.texts;
-    names = st.lasts.names;
-    pair = st.lasts.pair;
-  };
-  kept = refl;
-}
-
-pub other_confirmed : (w m first : ℕ) (heard : List (Option Message)) (s : ReceiverState)
-    → HoldsBy (Some w) m (first + length heard) first s heard → Counts (Some w) m first s heard Other true
-other_confirmed w m first heard s st = record {
-  display = st.display;
-  lasts = record {
-    window = st.lasts.window;
-    two = st.lasts.two;
-    texts = st.lasts.texts;
-    names = st.lasts.names;
-    pair = st.lasts.pair;
-  };
-  kept = refl;
-}
-
--- ---- with or without a window
-
 -- without a window each message counts
 pub each_counts : (m first : ℕ) (heard : List (Option Message)) (s : ReceiverState) (message : Message)
     → HoldsBy None m (first + length heard) first s heard → Counts None m first s heard message true
