@@ -306,6 +306,16 @@ class Live(ProgramCase):
             self.check(f"audit {options}", [it for it in done.stderr.decode().splitlines() if "by " in it],
                        [f"rdsrt: {count}: put rdsrt slots before this command"])
 
+    def test_after_a_no_the_note_comes_if_as_many_slots_lack_as_would_have_cured_it(self):
+        """At M = 8 the third text comes 2 slots after the first one: it lacks 6, or one fewer, since times are rounded. A
+        lack of one slot is never told."""
+        for m, second, lacks in ((8, 0.70, True), (8, 0.61, False), (8, 0.50, False), (3, 0.36, True), (3, 0.34, False),
+                                 (40, 1.20, False), (40, 1.40, True)):
+            lines = [f"{HI} 0.00\n", "C201 2150 594F 0D20 0.09\n", f"{HI} {second:.2f}\n"]
+            done = subprocess.run([PROGRAM, "audit", "--pi", "C201", "--m", str(m)], input="".join(lines).encode(),
+                                  capture_output=True, timeout=SECONDS)
+            self.check(f"M = {m}, {second} s", (done.stdout, b"put rdsrt slots" in done.stderr), (b"no 2 EarlyFlag\n", lacks))
+
     def test_a_log_of_other_programmes_alone_has_status_1(self):
         """It has groups, and none of them is of the programme and has a time."""
         other = "C202 2140 4849 0D20 {}\n".format

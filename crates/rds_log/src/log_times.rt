@@ -5,8 +5,8 @@ use crate::filler::{comment_of, stamp_of};
 use crate::news::News;
 use rds_arrivals::{Break, LastMinute, slots_in};
 
-/// The first lines of a log, in each of which a time is looked for. A log that ends in them is short, and one whose first
-/// reads do is live.
+/// The first lines of a log, in each of which a time is looked for. A log that ends in them is short, and one whose
+/// first reads do is live.
 pub(crate) const FIRST: u64 = 512;
 
 /// A second in slots, rounded up. Times may be whole seconds.
@@ -87,7 +87,13 @@ impl LogTimes {
 
     /// Returns by how much the log is too short for its times, up to its newest time.
     pub fn lack_so_far(&self) -> Option<Lack> {
-        self.lack_of(self.lines, true)
+        self.lack_of(self.lines, true, SECOND)
+    }
+
+    /// Returns the same, also if so many slots are missing or one fewer, two at least: times are rounded, and a group
+    /// may come a slot late.
+    pub fn lack_of_some(&self, few: u64) -> Option<Lack> {
+        self.lack_of(self.lines, true, few.saturating_sub(2).max(1).min(SECOND))
     }
 
     /// Returns by how much a log of so many slots is too short for its times. After a break its start decides.
@@ -95,16 +101,16 @@ impl LogTimes {
         if self.is_broken {
             self.lack_so_far()
         } else {
-            self.lack_of(slots, false)
+            self.lack_of(slots, false, SECOND)
         }
     }
 
-    /// Returns the slots from the first time to the newest one, and these lines, if the slots are more by over a
-    /// second. `None` if a person was told.
-    fn lack_of(&self, lines: u64, is_of_start: bool) -> Option<Lack> {
+    /// Returns the slots from the first time to the newest one, and these lines, if the slots are more by over so many.
+    /// `None` if a person was told.
+    fn lack_of(&self, lines: u64, is_of_start: bool, few: u64) -> Option<Lack> {
         let apart = self.newest.checked_sub(self.first?)?;
         let slots = slots_in(apart).saturating_add(1);
-        if self.is_told || slots <= lines.saturating_add(SECOND) {
+        if self.is_told || slots <= lines.saturating_add(few) {
             return None;
         }
         Some(Lack {

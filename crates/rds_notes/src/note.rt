@@ -355,14 +355,14 @@ fn reads_nothing(counts: &GroupCounts) -> bool {
     counts.of(TEXT_GROUPS) == 0 && counts.of(NAME_GROUPS) == 0 && counts.of(RTPLUS_CODE) == 0
 }
 
-/// Returns by how much a log has too few lines for its times. After a no the lines up to it decide: the log was not
-/// read to its end.
+/// Returns by how much a log has too few lines for its times. After a no the lines up to it decide, since the log was
+/// not read to its end: also if as many are missing as would have made it no fault.
 fn lack_of(run: &Run<'_>) -> Option<Lack> {
     let times = run.log.read.times;
-    match run.end {
-        End::Done if run.log.no.is_none() => times.lack(run.log.slots),
-        End::Done => times.lack_so_far(),
-        End::NotRun | End::BadPi | End::BadWindow | End::BadSpans | End::Fault(_) => None,
+    match (run.end, run.log.no) {
+        (End::Done, None) => times.lack(run.log.slots),
+        (End::Done, Some(no)) => times.lack_of_some(slots_to_cure(no)),
+        _ => None,
     }
 }
 
@@ -374,6 +374,15 @@ fn end_note<'a>(run: &'a Run<'a>) -> Option<Note<'a>> {
         End::BadWindow => Some(Note::BadWindow),
         End::BadSpans => Some(Note::BadSpans),
         End::Fault(_) if run.is_gone() => None,
+/// Returns how many slots more would have made this no fault: those that lack to the spacing.
+fn slots_to_cure(no: NoNote) -> u64 {
+    let had = match no.earlier {
+        Some(earlier) => no.at.slot.saturating_sub(earlier),
+        None => 0,
+    };
+    u64::from(no.spacing).saturating_sub(had)
+}
+
         End::Fault(fault) => Some(Note::Fault(fault, run)),
     }
 }
