@@ -1,9 +1,12 @@
+-- A text or a name: its bytes, its segments, and when held segments make it whole. Read the files in this order.
 pub mod Cells
-pub mod Whole
+pub mod Value
 pub mod Body
+pub mod Whole
+pub mod ServiceLaws
+-- The forms in memory. Callers do not need them.
 pub mod Held
 pub mod Lanes
-pub mod Value
 pub mod Filled
-pub mod ServiceLaws
+-- Lemmas that crates above use.
 pub mod OwnSegments

@@ -1,8 +1,10 @@
-pub mod Faults
-pub mod Laws
+-- The characters of bytes, the printed form of a text, how it is read, and what a display shows of it.
+pub mod Table
 pub mod Printed
-pub mod Displays
 pub mod ReadAs
 pub mod Stops
+pub mod Faults
+pub mod Displays
+pub mod Laws
+-- The state of the code. Callers do not need it.
 pub mod Stretches
-pub mod Table

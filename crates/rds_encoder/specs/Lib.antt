@@ -1,14 +1,17 @@
+-- What an encoder was told, what it replies, what is then on air, and what it sends. Read the files in this order.
 pub mod Entries
 pub mod Reply
 pub mod Plan
 pub mod Tags
 pub mod Round
 pub mod Sent
-pub mod State
-pub mod Stored
-pub mod Codes
-pub mod EncoderAt
+-- What the laws say of all entries.
 pub mod Spaced
 pub mod Laws
 pub mod Delivery
 pub mod Known
+-- The state of the code. Callers do not need it.
+pub mod State
+pub mod EncoderAt
+pub mod Stored
+pub mod Codes

@@ -1,12 +1,15 @@
+-- What the calls return.
 pub mod Codes
-pub mod Slots
-pub mod Viewed
-pub mod Held
 pub mod Names
 pub mod Labels
+-- The structs of the caller, and what they say.
+pub mod Slots
+pub mod Sent
+pub mod Viewed
+pub mod Tagged
+pub mod Texts
+pub mod Held
+-- The objects in the caller's memory.
 pub mod ReceiverInMemory
 pub mod EncoderInMemory
-pub mod Sent
-pub mod Texts
-pub mod Tagged
 pub mod AuditInMemory

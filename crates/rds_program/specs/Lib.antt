@@ -1,3 +1,5 @@
+-- What the program does with its arguments and its input.
 pub mod Run
-pub mod RunsBy
 pub mod Source
+-- Lemmas that crates above use.
+pub mod RunsBy

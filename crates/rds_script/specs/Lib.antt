@@ -6,7 +6,6 @@ pub mod OnAir
 pub mod Outcomes
 -- The promise of the calls: `simulate` and `encode` play a script.
 pub mod Play
--- Their notes beside the output.
 -- The state of the crate's objects, a file for each. Callers do not need them.
 pub mod Inside
 -- Lemmas that crates above use.
