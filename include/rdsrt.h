@@ -81,7 +81,7 @@
  *     rdsrt_encoder_set_tags            64   32    rdsrt_text_from_utf8             160  160
  *     rdsrt_encoder_tick                64   32    rdsrt_type_name                   96   96
  *     rdsrt_encoder_on_air             128  128    rdsrt_code_name                   96   96
- *     rdsrt_encoder_wait                32   32
+ *     rdsrt_encoder_wait                32   32    rdsrt_exchange_tag_group          96   96
  *
  * YOU PROMISE for every call:
  *  - You call _init first. No call notices that you did not: a struct of zeros has PI 0000, so it shows nothing of your
@@ -241,6 +241,15 @@ struct rdsrt_held { struct rdsrt_segments text, name; };
  * progress of a text that is not complete, or grey out one whose last segment came long ago. It shows no text of these
  * segments: the view has it once it is complete. */
 void rdsrt_receiver_held(const struct rdsrt_receiver *receiver, struct rdsrt_held *held);
+
+/* ---- Tags in another group type ---- */
+
+/* All calls read and write RT+ tags in group 11A. A station may have them in another type of version A: its groups 3A say
+ * which, with the application 4BD7. This call exchanges 11A and that type in the blocks of a group, in its own type and
+ * in a 3A. Make it for each group before rdsrt_receiver_slot and rdsrt_audit_slot, and after rdsrt_encoder_tick. The same
+ * call again exchanges them back. number: 5 to 9 or 11 to 13; with 11 nothing changes.
+ * Returns RDSRT_OK, or RDSRT_BAD_ARGUMENT for another number. */
+uint32_t rdsrt_exchange_tag_group(uint8_t number, uint16_t blocks[4]);
 
 /* ---- Times and slots ---- */
 

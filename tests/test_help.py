@@ -58,6 +58,8 @@ DECIDED = [
     ([*DECODE, "--confirm", "2", "--confirm", "2"], 2),
     *(([name, "--pi", "C201", "--confirm", "65"], 2) for name in COMMANDS if name not in ("decode", "sim")),
     (["sim", "--pi", "C201", "--k", "1023", "--confirm", "3"], 2),
+    *(([name, "--pi", "C201", f"--rtplus={given}"], 2) for name in OF_A_STATION for given in ("10A", "11B", "12", "")),
+    ([*DECODE, "--rtplus", "11A", "--rtplus", "11A"], 2), (["slots", "--rtplus", "12A"], 2),
     ([*DECODE, "--running"], 2), (["audit", "--pi", "C201", "--running", "--running"], 2),
     *(([name, "--pi", given], 2) for name in OF_A_STATION for given in ("", "C20", " C201", "C2011", "C20G")),
 ]

@@ -468,7 +468,7 @@ OBJECTS = [
     (AUDIT, b"C201 2940 4849 0D20\n", [{"kind": "nothing", "short": 1}]),
     (DECODE, HI + b"C201 2940 4849 0D20\n", [{"kind": "short", "groups": 1}]),
     (DECODE, HI + b"C201 3018 0000 4BD7\nC201 C008 2006 0000\n", [{"kind": "tags_elsewhere", "group": "12A", "groups": 1}]),
-    (WITNESS, HI + b"C201 3016 0000 C563\nC201 B008 2006 0000\n", [{"kind": "other_application", "application": "C563"}]),
+    (WITNESS, HI + b"C201 3016 0000 C563\nC201 B008 2006 0000\n", [{"kind": "other_application", "group": "11A", "application": "C563"}]),
     (DECODE, HI + b"C201 2140 ---- 0D20\nC201 ---- ---- 0D20\n---- 2140 4849 0D20\nF201 2140 4849 ----\n" + LOST,
      [{"kind": "damaged", "damaged": 1, "whole": 1}]),
     ("decode --pi ABCD", HI + b"F201 2140 4849 0D20\n",

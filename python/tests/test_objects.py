@@ -253,6 +253,27 @@ class Encoders(unittest.TestCase):
         self.assertEqual(Encoder(1, dwell=65535, late=1024).wait.silent, 65535 + 1024)
 
 
+class TagGroups(unittest.TestCase):
+    def test_both_types_change_places(self):
+        """In a group's own type, and in a 3A."""
+        for one, other in ((0xB008, 0xC008), (0x3016, 0x3018), (0x2140, 0x2140), (0xB808, 0xB808)):
+            for before, after in ((one, other), (other, one)):
+                self.assertEqual(rdsrt.exchange_tag_group(12, [0xC201, before, 1, 2]), (0xC201, after, 1, 2))
+        self.assertIsNone(rdsrt.exchange_tag_group(12, None))
+
+    def test_a_receiver_of_tags_in_12a(self):
+        receiver, tags = Receiver(0xC201), (0xC201, 0xC14F, 0x2002, 0)
+        for group in (HI, tags):
+            receiver.slot(rdsrt.exchange_tag_group(12, group))
+        self.assertEqual(receiver.view.tags[0].text, "HI")
+
+    def test_other_numbers(self):
+        for number in (-1, 0, 4, 10, 14, 256):
+            for group in (HI, None):
+                with self.assertRaises(ValueError):
+                    rdsrt.exchange_tag_group(number, group)
+
+
 class Audits(unittest.TestCase):
     def test_an_encoder_passes(self):
         encoder, audit = Encoder(0xC201, dwell=4), Audit(0xC201, dwell=4)

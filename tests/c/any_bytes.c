@@ -147,6 +147,13 @@ static void encoder(void) {
         sets(e);
         uint32_t code = rdsrt_encoder_tick(e, (uint8_t)roll(3), blocks);
         CHECK(code == RDSRT_SENT || (code == RDSRT_OK && memcmp(blocks, before, 8) == 0));
+        uint8_t number = (uint8_t)roll(16);
+        memcpy(before, blocks, 8);
+        code = rdsrt_exchange_tag_group(number, blocks);
+        CHECK((code == RDSRT_OK) == ((number >= 5 && number <= 9) || (number >= 11 && number <= 13)));
+        CHECK(code == RDSRT_OK || (code == RDSRT_BAD_ARGUMENT && memcmp(blocks, before, 8) == 0));
+        rdsrt_exchange_tag_group(number, blocks);
+        CHECK(memcmp(blocks, before, 8) == 0);
         rdsrt_encoder_on_air(e, air);
         CHECK(is_within(&air->text) && air->name.is_shown <= 1);
         rdsrt_encoder_wait(e, wait);

@@ -165,6 +165,20 @@ static void encoder(void) {
     CHECK(rdsrt_encoder_tick(&it, 1, blocks) == RDSRT_SENT && memcmp(blocks, hi, sizeof hi) == 0);
 }
 
+/* 11A and 12A change places, in a group's own type and in a 3A */
+static void tag_group(void) {
+    static const uint16_t groups[][2] = {
+        {0xB008, 0xC008}, {0xC008, 0xB008}, {0x3016, 0x3018}, {0x3018, 0x3016}, {0x2140, 0x2140}, {0xC808, 0xC808},
+        {0x3816, 0x3816}, {0x3014, 0x3014}};
+    for (size_t i = 0; i < sizeof groups / sizeof *groups; i++) {
+        uint16_t blocks[4] = {0xC201, groups[i][0], 0x2006, 0x4BD7};
+        CHECK(rdsrt_exchange_tag_group(12, blocks) == RDSRT_OK);
+        CHECK(blocks[0] == 0xC201 && blocks[1] == groups[i][1] && blocks[2] == 0x2006 && blocks[3] == 0x4BD7);
+        CHECK(rdsrt_exchange_tag_group(11, blocks) == RDSRT_OK && blocks[1] == groups[i][1]);
+        CHECK(rdsrt_exchange_tag_group(10, blocks) == RDSRT_BAD_ARGUMENT && blocks[1] == groups[i][1]);
+    }
+}
+
 static void tags_set(void) {
     struct rdsrt_encoder it = station();
     struct rdsrt_tags tags = {{4, 0, 3}, {0, 0, 0}, 1, 1};
@@ -374,6 +388,7 @@ int main(void) {
     held();
     names();
     encoder();
+    tag_group();
     tags_set();
     audit();
     all_faults();

@@ -15,6 +15,7 @@ complete -c rdsrt -n "not __fish_seen_subcommand_from help" -s h -l help -d 'Pri
 complete -c rdsrt -n "__fish_seen_subcommand_from help" -a "$commands"
 complete -c rdsrt -n "$no_help decode audit witness slots encode sim" -l pi -x -d 'PI code of the station'
 complete -c rdsrt -n "$no_help decode audit witness slots encode sim" -s m -l m -x -d 'Dwell M in slots, 1 to 65535'
+complete -c rdsrt -n "$no_help decode audit witness encode sim" -l rtplus -x -a '5A 6A 7A 8A 9A 11A 12A 13A' -d 'Group type of the RT+ tags'
 complete -c rdsrt -n "$no_help decode sim" -l confirm -x -d 'Shows only what was received twice within W slots, 2 to 255'
 complete -c rdsrt -n "$no_help decode sim" -l why -d 'Says why a text or a name is not shown any more'
 complete -c rdsrt -n "$no_help sim" -l flag-alone -d 'The receivers follow the A/B flag alone, as radios without a dwell do'

@@ -10,6 +10,7 @@ abbrev pub asked_by : Request → Requested
 asked_by r = record {
   task = r.task;
   pi = r.pi.now;
+  rtplus = r.rtplus;
   lose = r.lose.now;
   dwell = r.dwell;
   file = option_map (λ s. s.now) r.file;

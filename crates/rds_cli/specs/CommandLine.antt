@@ -110,11 +110,20 @@ json_notes_rule = flag_rule (codes "json-notes")
 abbrev pub file_rule : Rule
 file_rule = record (new_rule (codes "file")) { value_names = 1 }
 
+-- `--rtplus GROUP`, which is 11A if it is not given
+abbrev pub rtplus_rule : Rule
+rtplus_rule = record (new_rule (codes "rtplus")) {
+  long = Some (codes "rtplus");
+  value_names = 1;
+  defaults = codes "11A" ∷ [];
+}
+
 -- a subcommand that reads a log
 unfoldable pub log_app : Text → App
 log_app name =
-    with_rule (with_rule (with_rule (with_rule (with_rule (new_app name) pi_rule) dwell_rule) file_rule) quiet_rule)
-    json_notes_rule
+    with_rule
+    (with_rule (with_rule (with_rule (with_rule (with_rule (new_app name) pi_rule) dwell_rule) rtplus_rule) file_rule)
+    quiet_rule) json_notes_rule
 
 -- `--confirm W`, from 2 to 255, which may be given
 abbrev pub confirm_rule : Rule
@@ -195,11 +204,12 @@ TakesWords words = takes whole_app words ≡ true
 
 -- ---- the request of the arguments
 
--- the task, the argument of `--pi`, that of `--lose` or nothing, the dwell in slots, and the file to read if it is not
--- standard input. `--quiet` and `--json-notes` are about notes alone
+-- the task, the argument of `--pi`, the number of the group type of the tags, the argument of `--lose` or nothing, the
+-- dwell in slots, and the file to read if it is not standard input. `--quiet` and `--json-notes` are about notes alone
 pub record Requested : Type 0 where
   pub task : Task
   pub pi : Text
+  pub rtplus : ℕ
   pub lose : Text
   pub dwell : ℕ
   pub file : Option Text
@@ -302,10 +312,27 @@ task_in name rows =
     then option_map (λ grain. Slots grain (has_value (codes "pi") rows)) (grain_in rows)
     else None
 
-abbrev pub asked : Option Task → Option Text → Text → Option ℕ → Option Text → Option Requested
-asked (Some task) (Some pi) lose (Some dwell) file =
-    Some (record { task = task; pi = pi; lose = lose; dwell = dwell; file = file })
-asked _ _ _ _ _ = None
+abbrev pub asked : Option Task → Option Text → Option ℕ → Text → Option ℕ → Option Text → Option Requested
+asked (Some task) (Some pi) (Some rtplus) lose (Some dwell) file =
+    Some (record { task = task; pi = pi; rtplus = rtplus; lose = lose; dwell = dwell; file = file })
+asked _ _ _ _ _ _ = None
+
+-- the number of a group type of version A that the tags may have, by its name
+abbrev pub group_named : Text → Option ℕ
+group_named name =
+    if bytes_eq name (codes "5A") then Some 5
+    else if bytes_eq name (codes "6A") then Some 6
+    else if bytes_eq name (codes "7A") then Some 7
+    else if bytes_eq name (codes "8A") then Some 8
+    else if bytes_eq name (codes "9A") then Some 9
+    else if bytes_eq name (codes "11A") then Some 11
+    else if bytes_eq name (codes "12A") then Some 12
+    else if bytes_eq name (codes "13A") then Some 13
+    else None
+
+-- the group type of the tags; a command without the option has 11A
+abbrev pub rtplus_in : List Row → Option ℕ
+rtplus_in rows = option_map_or group_named (first_of (codes "rtplus") rows) (Some 11)
 
 -- the argument of `--pi`; the task of `slots` says whether it is given, and 0000 stands for none
 abbrev pub pi_in : Text → List Row → Option Text
@@ -314,7 +341,8 @@ pi_in name rows =
 
 -- the request of a subcommand and its options
 abbrev pub asked_of : Text × List Row → Option Requested
-asked_of p = asked (task_in p.0 p.1) (pi_in p.0 p.1) (lose_in p.1) (dwell_in p.1) (file_in p.1)
+asked_of p =
+    asked (task_in p.0 p.1) (pi_in p.0 p.1) (rtplus_in p.1) (lose_in p.1) (dwell_in p.1) (file_in p.1)
 
 -- the request of the arguments, as `clap`'s definition reads them
 abbrev pub asked_in : List Text → Option Requested

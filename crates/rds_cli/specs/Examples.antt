@@ -25,22 +25,24 @@ pub record CallForHelp (words : List Text) : Type 0 where
   pub kinds : fault_of whole_app words ≡ DisplayHelp ∷ InvalidSubcommand ∷ []
 
 abbrev pub decoding : Text → ℕ → Requested
-decoding pi dwell = record { task = Decode None false; pi = pi; lose = []; dwell = dwell; file = None }
+decoding pi dwell = record { task = Decode None false; pi = pi; rtplus = 11; lose = []; dwell = dwell; file = None }
 
 -- the same of what was heard twice within a window
 abbrev pub confirming : ℕ → ℕ → Requested
 confirming dwell window =
-    record { task = Decode (Some window) false; pi = codes "C201"; lose = []; dwell = dwell; file = None }
+    record { task = Decode (Some window) false; pi = codes "C201"; rtplus = 11; lose = []; dwell = dwell; file = None }
 
 -- the same with reasons, without a window
 abbrev pub decoding_why : ℕ → Requested
-decoding_why dwell = record { task = Decode None true; pi = codes "C201"; lose = []; dwell = dwell; file = None }
+decoding_why dwell =
+    record { task = Decode None true; pi = codes "C201"; rtplus = 11; lose = []; dwell = dwell; file = None }
 
 abbrev pub encoding : ℕ → ℕ → Requested
 encoding dwell pty =
     record {
       task = Encode (record { pty = pty; tp = false }) 0;
       pi = codes "C201";
+      rtplus = 11;
       lose = [];
       dwell = dwell;
       file = None;
@@ -50,6 +52,7 @@ abbrev pub simulating : ℕ → ℕ → Bool → ℕ → Requested
 simulating dwell pty tp late = record {
   task = Simulate (record { pty = pty; tp = tp }) late None false false;
   pi = codes "C201";
+  rtplus = 11;
   lose = [];
   dwell = dwell;
   file = None;
@@ -60,6 +63,7 @@ abbrev pub simulating_confirmed : ℕ → ℕ → Requested
 simulating_confirmed dwell window = record {
   task = Simulate (record { pty = 0; tp = false }) 0 (Some window) false false;
   pi = codes "C201";
+  rtplus = 11;
   lose = [];
   dwell = dwell;
   file = None;
@@ -70,49 +74,64 @@ abbrev pub simulating_flag_alone : ℕ → Bool → Requested
 simulating_flag_alone dwell why = record {
   task = Simulate (record { pty = 0; tp = false }) 0 None true why;
   pi = codes "C201";
+  rtplus = 11;
   lose = [];
   dwell = dwell;
   file = None;
 }
 
 abbrev pub witnessing : ℕ → Requested
-witnessing dwell = record { task = Witness; pi = codes "C201"; lose = []; dwell = dwell; file = None }
+witnessing dwell = record { task = Witness; pi = codes "C201"; rtplus = 11; lose = []; dwell = dwell; file = None }
 
 -- the mixes of a receiver that loses these slots; with the flag it follows the flag bit alone
 abbrev pub losing : Text → ℕ → Bool → Requested
-losing lose dwell alone = record { task = Lose alone; pi = codes "C201"; lose = lose; dwell = dwell; file = None }
+losing lose dwell alone =
+    record { task = Lose alone; pi = codes "C201"; rtplus = 11; lose = lose; dwell = dwell; file = None }
 
 abbrev pub auditing : ℕ → ℕ → Requested
 auditing dwell late =
-    record { task = Audit late false false false; pi = codes "C201"; lose = []; dwell = dwell; file = None }
+    record {
+      task = Audit late false false false;
+      pi = codes "C201";
+      rtplus = 11;
+      lose = [];
+      dwell = dwell;
+      file = None;
+    }
 
 -- the audit of the log of a running station
 abbrev pub auditing_running : ℕ → Requested
 auditing_running dwell =
-    record { task = Audit 0 true false false; pi = codes "C201"; lose = []; dwell = dwell; file = None }
+    record { task = Audit 0 true false false; pi = codes "C201"; rtplus = 11; lose = []; dwell = dwell; file = None }
 
 -- the audit of texts with padding
 abbrev pub auditing_padded : ℕ → Requested
 auditing_padded dwell =
-    record { task = Audit 0 false true false; pi = codes "C201"; lose = []; dwell = dwell; file = None }
+    record { task = Audit 0 false true false; pi = codes "C201"; rtplus = 11; lose = []; dwell = dwell; file = None }
 
 -- the list of all faults of such a log
 abbrev pub listing_running : ℕ → Requested
 listing_running dwell = record {
   task = Audit 0 true false true;
   pi = codes "C201";
+  rtplus = 11;
   lose = [];
   dwell = dwell;
-  file =
-      None;
+  file = None;
 }
 
 abbrev pub filling : ℕ → ℕ → Requested
-filling dwell grain = record { task = Slots grain false; pi = codes "0000"; lose = []; dwell = dwell; file = None }
+filling dwell grain =
+    record { task = Slots grain false; pi = codes "0000"; rtplus = 11; lose = []; dwell = dwell; file = None }
 
 -- the same of the lines of one programme
 abbrev pub filling_one : Text → ℕ → ℕ → Requested
-filling_one pi dwell grain = record { task = Slots grain true; pi = pi; lose = []; dwell = dwell; file = None }
+filling_one pi dwell grain =
+    record { task = Slots grain true; pi = pi; rtplus = 11; lose = []; dwell = dwell; file = None }
+
+-- the same with tags in groups nA
+abbrev pub tagged_in : ℕ → Requested → Requested
+tagged_in n asked = record asked { rtplus = n }
 
 -- the log in this file
 abbrev pub from_file : Text → Requested → Requested

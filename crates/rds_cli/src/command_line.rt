@@ -7,7 +7,7 @@ ghost use Rattle.rds_cli.specs.CommandLine.{all_rule, flag_alone_rule, flag_rule
 ghost use Rattle.rds_cli.specs.CommandLine.{json_notes_rule, late_rule, log_app, number_rule, own_pi_rule};
 ghost use Rattle.rds_cli.specs.CommandLine.{padded_rule, pi_rule, pty_rule, quiet_rule, running_rule};
 ghost use Rattle.rds_cli.specs.CommandLine.{sim_app, slots_app, station_app, timed_app, top_app, tp_rule};
-ghost use Rattle.rds_cli.specs.CommandLine.{lose_rule, whole_app, why_rule, witness_app};
+ghost use Rattle.rds_cli.specs.CommandLine.{lose_rule, rtplus_rule, whole_app, why_rule, witness_app};
 
 use clap::builder::ValueParser;
 use clap::{Arg, ArgAction, Command, value_parser};
@@ -77,6 +77,22 @@ fn dwell<'a>(alloc: Global) -> Arg<'a>
              A receiver drops a text if no part of it arrived for M slots. The station needs\n\
              the same M or a larger one. Then lost groups make no mix of two texts.",
     )
+}
+
+/// Makes the option `--rtplus`. `clap` accepts any text; `rtplus_of` checks the group type.
+fn rtplus<'a>(alloc: Global) -> Arg<'a>
+    ensures rule { rule_of result ≡ rtplus_rule }
+    ensures local { result.global ≡ false }
+{
+    Arg::new(alloc, "rtplus")
+        .long("rtplus")
+        .value_name("GROUP")
+        .default_value("11A")
+        .help("Group type of the RT+ tags, for example 12A")
+        .long_help(
+            "Group type of the RT+ tags: 5A, 6A, 7A, 8A, 9A, 11A, 12A or 13A. It is in the station's\n\
+             groups 3A with the application 4BD7. Tags in another type are not looked at.",
+        )
 }
 
 /// Makes the option `--confirm`, which has no default.
@@ -336,7 +352,9 @@ fn log_reader<'a>(alloc: Global, name: &'a str, page: Page<'a>) -> Result<Comman
     ensures app { IfOk result (λ c. app_of c ≡ log_app name.entry.now) }
     ensures local { IfOk result (λ c. (out-Command c).has_globals ≡ false) }
 {
-    let reader = tuned(alloc, name, page)?.arg(file(alloc))?;
+    let reader = tuned(alloc, name, page)?
+        .arg(rtplus(alloc))?
+        .arg(file(alloc))?;
     noted(alloc, reader)
 }
 

@@ -4,7 +4,8 @@ ghost use Rattle.rds_cli.specs.CommandLine.{AskFor, AskForHelp, default_dwell};
 ghost use Rattle.rds_cli.specs.Examples.{AreNotTaken, CallForHelp, auditing, auditing_padded};
 ghost use Rattle.rds_cli.specs.Examples.{auditing_running, confirming, decoding};
 ghost use Rattle.rds_cli.specs.Examples.{decoding_why, encoding, filling, filling_one, from_file, listing_running};
-ghost use Rattle.rds_cli.specs.Examples.{losing, simulating, simulating_flag_alone, simulating_confirmed, typed};
+ghost use Rattle.rds_cli.specs.Examples.{losing, simulating, simulating_flag_alone};
+ghost use Rattle.rds_cli.specs.Examples.{simulating_confirmed, tagged_in, typed};
 ghost use Rattle.rds_cli.specs.Examples.{witnessing};
 
 /// Shows the definition at work. The arguments of README's examples are taken and ask for these tasks. A dwell of 0
@@ -35,6 +36,9 @@ pub fn words_of_the_examples()
         (losing (codes "2-3") 8 true) }
     ensures witness_without_spans { AskFor (typed (codes "rdsrt witness --pi C201 -m 8 --flag-alone"))
         (losing [] 8 true) }
+    ensures decode_rtplus { AskFor (typed (codes "rdsrt decode --pi C201 --rtplus 12A"))
+        (tagged_in 12 (decoding (codes "C201") default_dwell)) }
+    ensures slots_rtplus { AreNotTaken (typed (codes "rdsrt slots --rtplus 12A")) }
     ensures decode_lose { AreNotTaken (typed (codes "rdsrt decode --pi C201 --lose 2-3")) }
     ensures slots { AskFor (typed (codes "rdsrt slots")) (filling default_dwell 20) }
     ensures slots_grain { AskFor (typed (codes "rdsrt slots --m 8 --grain 0")) (filling 8 0) }

@@ -10,4 +10,6 @@ mod request;
 
 pub use end::End;
 pub use laws::words_of_the_examples;
-pub use request::{Programme, Request, Task, identification_of, read_words, request_in};
+pub use request::{
+    Programme, Request, Task, group_named, identification_of, read_words, request_in,
+};

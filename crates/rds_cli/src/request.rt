@@ -3,14 +3,16 @@ ghost use Rattle.std.specs.Prelude.{◌≡◌, ◌⊎◌, ℕ, IfErr, IfNone, If
 ghost use Rattle.clap.specs.Words.{FailsBy, fault_of, found_of, kind_of, rows_of};
 ghost use Rattle.rds_cli.specs.Asks.{ReadAs, asked_by};
 ghost use Rattle.rds_cli.specs.CommandLine.{AreRefused, AskForHelp, IsPi, TakesWords, asked_in, asked_of};
-ghost use Rattle.rds_cli.specs.CommandLine.{file_in, flag_in, grain_in, has_value, is_shown, lose_in, pi_in};
-ghost use Rattle.rds_cli.specs.CommandLine.{programme_in, option_slots, task_in, whole_app, window_in, witness_in};
+ghost use Rattle.rds_cli.specs.CommandLine.{file_in, flag_in, grain_in, group_named};
+ghost use Rattle.rds_cli.specs.CommandLine.{has_value, is_shown, lose_in, pi_in};
+ghost use Rattle.rds_cli.specs.CommandLine.{programme_in, option_slots, rtplus_in};
+ghost use Rattle.rds_cli.specs.CommandLine.{task_in, whole_app, window_in, witness_in};
 
 use crate::command_line::whole;
 use clap::error::ErrorKind;
 use clap::{ArgMatches, Error};
 use rds_block::Place;
-use rds_fields::{Bounded, Dwell, Late};
+use rds_fields::{Bounded, Dwell, Late, TagGroup};
 use rds_io::word_at;
 use rds_receiver::Window;
 use std::alloc::Global;
@@ -75,6 +77,8 @@ pub struct Request<'a> {
     pub task: Task,
     /// The argument of `--pi`, unchecked.
     pub pi: &'a str,
+    /// The group type of the tags.
+    pub rtplus: TagGroup,
     /// The argument of `--lose`, unchecked. Empty if there is none.
     pub lose: &'a str,
     pub dwell: Dwell,
@@ -98,8 +102,8 @@ pub fn identification_of(given: &str) -> Option<u16>
     }
 }
 
-/// Reads the arguments, the program's own name first. `None` if they name no task or a number is out of its range;
-/// `clap` refuses both before.
+/// Reads the arguments, the program's own name first. `None` if `--rtplus` names no group type of the tags. It is also
+/// the answer if they name no task or a number is out of its range; `clap` refuses both before.
 ///
 /// # Errors
 ///
@@ -117,6 +121,7 @@ pub fn request_in<'a>(read: &Result<Option<Request<'a>>, Error>) -> Option<Reque
         Ok(Some(request)) => Some(Request {
             task: request.task,
             pi: request.pi,
+            rtplus: request.rtplus,
             lose: request.lose,
             dwell: request.dwell,
             file: request.file,
@@ -156,6 +161,7 @@ fn request_of<'a>(name: &'a str, inner: &ArgMatches<'a>) -> Option<Request<'a>>
     Some(Request {
         task: task_of(name, inner)?,
         pi: pi_of(name, inner)?,
+        rtplus: rtplus_of(inner)?,
         lose: lose_of(inner),
         dwell: slots_of(inner, "m")?,
         file: file_of(inner),
@@ -204,6 +210,33 @@ fn pi_of<'a>(name: &str, inner: &ArgMatches<'a>) -> Option<&'a str>
         return Some(pi);
     }
     if name == "slots" { Some("0000") } else { None }
+}
+
+/// Reads the group type of the tags. `None` if the argument names none.
+fn rtplus_of(inner: &ArgMatches<'_>) -> Option<TagGroup>
+    ensures { result ≡ rtplus_in (rows_of (found_of inner.now)) }
+{
+    match inner.get_str("rtplus") {
+        Some(name) => group_named(name),
+        None => Some(TagGroup::usual()),
+    }
+}
+
+/// Returns the group type of this name. `None` if the tags may not have it.
+pub fn group_named(name: &str) -> Option<TagGroup>
+    ensures { result ≡ group_named name.now }
+{
+    match name {
+        "5A" => TagGroup::new(5),
+        "6A" => TagGroup::new(6),
+        "7A" => TagGroup::new(7),
+        "8A" => TagGroup::new(8),
+        "9A" => TagGroup::new(9),
+        "11A" => TagGroup::new(11),
+        "12A" => TagGroup::new(12),
+        "13A" => TagGroup::new(13),
+        _ => None,
+    }
 }
 
 /// Reads the argument of `--lose`. Empty if there is none.

@@ -4,7 +4,7 @@ use crate::logs::{TWO_LINES, TWO_TEXTS};
 use crate::same::same;
 use crate::scripts::{ENCODED, ENCODED_LOG, SIMULATED, SIMULATED_OUTPUT, config};
 use rds_audit::{LogStart, TextForm};
-use rds_fields::{Dwell, Late};
+use rds_fields::{Dwell, Late, TagGroup};
 use rds_io::{LogFault, Told};
 use rds_log::{Auditing, LogNotes, MOST_READS, NoNews, Stop, audit, audit_with_notes, decode};
 use rds_receiver::Window;
@@ -96,6 +96,7 @@ fn audited_to(writer: Stubborn) -> Result<Result<(), LogFault>, Fail> {
 fn listed_to(writer: Stubborn) -> Result<Result<(), LogFault>, Fail> {
     let auditing = Auditing {
         pi: 0xC201,
+        rtplus: TagGroup::usual(),
         dwell: Dwell::new(128).ok_or("dwell")?,
         late: Late::new(0).ok_or("late")?,
         start: LogStart::Complete,

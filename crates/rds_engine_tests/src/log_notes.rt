@@ -1,7 +1,7 @@
 //! Tests of the notes on a log. The expected notes are written by hand.
 
 use rds_audit::{AuditFault, LogStart, TextForm};
-use rds_fields::{Dwell, Late};
+use rds_fields::{Dwell, Late, TagGroup};
 use rds_io::{LogFault, Told};
 use rds_log::{
     Auditing, Decoding, FaultPlace, LineCause, LineTime, LogNotes, MOST_READS, NoNews, NoNote,
@@ -34,6 +34,7 @@ fn dwell(slots: u16) -> Result<Dwell, Fail> {
 fn decoding(pi: u16, window: Option<Window>) -> Result<Decoding, Fail> {
     Ok(Decoding {
         pi,
+        rtplus: TagGroup::usual(),
         dwell: dwell(128)?,
         window,
         says_why: false,
@@ -76,6 +77,7 @@ fn bad_lines_of_all_calls(rt: HostRuntime) -> Result<(), Fail> {
         rt.alloc(),
         &mut Told::new(log.as_slice()),
         0xC201,
+        TagGroup::usual(),
         MOST_READS,
         &mut notes,
         &mut NoNews,
@@ -90,6 +92,7 @@ fn bad_lines_of_all_calls(rt: HostRuntime) -> Result<(), Fail> {
         &mut Told::new(log.as_slice()),
         &mut Told::new(&mut output),
         0xC201,
+        TagGroup::usual(),
         dwell(8)?,
         &mut notes,
         &mut NoNews,
@@ -146,6 +149,7 @@ fn slot_of_a_no(rt: HostRuntime) -> Result<(), Fail> {
             &mut Told::new(&mut output),
             Auditing {
                 pi: 0xC201,
+                rtplus: TagGroup::usual(),
                 dwell: dwell(m)?,
                 late: Late::new(k).ok_or("late")?,
                 start: LogStart::Complete,
@@ -181,6 +185,7 @@ fn slot_of_a_no(rt: HostRuntime) -> Result<(), Fail> {
 fn auditing(stop: Stop) -> Result<Auditing, Fail> {
     Ok(Auditing {
         pi: 0xC201,
+        rtplus: TagGroup::usual(),
         dwell: dwell(8)?,
         late: Late::new(0).ok_or("late")?,
         start: LogStart::Complete,

@@ -2,7 +2,7 @@
 
 use crate::logs::{Endless, LINE};
 use crate::same::same;
-use rds_fields::Dwell;
+use rds_fields::{Dwell, TagGroup};
 use rds_io::{LogFault, Told};
 use rds_log::{LogNotes, MOST_READS, NoNews, gather};
 use rds_witness::{Losing, bursts_of, lose_with_notes, witness};
@@ -64,6 +64,7 @@ fn lost(
     let dwell = Dwell::new(8).ok_or("dwell")?;
     let losing = Losing {
         pi: 0xC201,
+        rtplus: TagGroup::usual(),
         dwell,
         ahead: dwell,
         lost: bursts.as_slice(),
@@ -104,6 +105,7 @@ fn all_slots_are_kept(rt: HostRuntime) -> Result<(), Fail> {
         rt.alloc(),
         &mut Told::new(log),
         0xC201,
+        TagGroup::usual(),
         MOST_READS,
         &mut notes,
         &mut NoNews,
@@ -119,6 +121,7 @@ fn all_slots_are_kept(rt: HostRuntime) -> Result<(), Fail> {
         rt.alloc(),
         &mut two_lines,
         0xC201,
+        TagGroup::usual(),
         MOST_READS,
         &mut notes,
         &mut NoNews,
@@ -133,6 +136,7 @@ fn all_slots_are_kept(rt: HostRuntime) -> Result<(), Fail> {
         rt.alloc(),
         &mut Told::new(endless),
         0xC201,
+        TagGroup::usual(),
         3,
         &mut notes,
         &mut NoNews,

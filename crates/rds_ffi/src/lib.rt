@@ -13,6 +13,7 @@ mod label;
 mod receiver;
 mod reply;
 mod slots;
+mod tag_group;
 mod tags;
 mod text;
 mod version;

@@ -1,3 +1,4 @@
 pub mod Shifts
 pub mod OneGroup
 pub mod Written
+pub mod Exchange

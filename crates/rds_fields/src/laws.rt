@@ -1,11 +1,12 @@
 //! Laws about all messages and groups.
-ghost use Rattle.std.specs.Prelude.{◌≡◌, ◌≢◌};
+ghost use Rattle.std.specs.Prelude.{◌≡◌, ◌≢◌, ℕ};
 ghost use Rattle.rds_block.specs.declared.group.Group.{Group};
 ghost use Rattle.rds_fields.specs.declared.head.Head.{Head};
 ghost use Rattle.rds_fields.specs.declared.message.Message.{Message};
 ghost use Rattle.rds_fields.specs.declared.message.Message.TheVariants.{Other};
 ghost use Rattle.rds_fields.specs.Spells.{Spells};
 ghost use Rattle.rds_fields.specs.Canonical.{IsWritten};
+ghost use Rattle.rds_fields.specs.TagGroup.{MayCarryTags, exchanged};
 
 /// States that a group spells one message. So the group written for a message is read as that message again.
 pub fn one_message()
@@ -16,4 +17,11 @@ pub fn one_message()
 pub fn one_group()
     ensures { (m : Message) (head : Head) (g h : Group)
         → m ≢ Other → IsWritten m head g → IsWritten m head h → g ≡ h }
+{}
+
+/// States that two group types that are exchanged twice are as before, and that 11A is exchanged with itself: then
+/// nothing changes.
+pub fn an_exchange_is_its_own_inverse()
+    ensures inverse { (n : ℕ) (g : Group) → MayCarryTags n → exchanged n (exchanged n g) ≡ g }
+    ensures usual { (g : Group) → exchanged 11 g ≡ g }
 {}

@@ -20,13 +20,15 @@ mod pair;
 mod radiotext_plus;
 mod stored;
 mod tag;
+mod tag_group;
 
 pub use bounded::{Bounded, Dwell, Late};
 pub use distance::Distance;
 pub use head::Head;
-pub use laws::{one_group, one_message};
+pub use laws::{an_exchange_is_its_own_inverse, one_group, one_message};
 pub use message::Message;
 pub use pair::{TagPair, Which};
 pub use radiotext_plus::{RTPLUS_AID, RTPLUS_CODE, rtplus_announcement};
 pub use stored::{StoredPair, StoredTag};
 pub use tag::{Tag, TagRefused};
+pub use tag_group::TagGroup;

@@ -9,6 +9,7 @@ use Rattle.rds_io.specs.Waits.{IsLost, Waits}
 use Rattle.rds_io.specs.declared.told.WriteFault.{WriteFault}
 use Rattle.rds_io.proofs.Waiting.{waits_more, wrote_all}
 use Rattle.rds_audit.specs.Judging.{judged_step}
+use Rattle.rds_fields.specs.TagGroup.{exchanged_in}
 use Rattle.rds_audit.specs.AuditAt.{AuditAt, FollowsLog, HasJudged, HoldsLog, TakesAll}
 use Rattle.rds_audit.specs.AuditState.{AuditState}
 use Rattle.rds_audit.specs.Recording.{counted_as, judged_as}
@@ -222,19 +223,21 @@ not_true false never = refl
 
 -- a slot with these faults
 pub takes_slot : (a : Auditing) (l after : Auditor) (w : Traffic) (out now : List ℕ) (lines : List Line) (line : Line)
-    (slot : Option Group) (found : FaultSet) → LineSays line (Slot slot)
+    (said slot : Option Group) (found : FaultSet) → LineSays line (Slot said) → slot ≡ exchanged_in l.rtplus said
+    → after.rtplus ≡ l.rtplus
     → HasTaken (HasAudited a l) w out lines → (l.is_done ≡ true → ⊥) → TakesAll l.audit after.audit slot found
     → now ≡ out ++ lines_for l.stop l.slots found → after.slots ≡ l.slots + 1 → after.stop ≡ l.stop
     → (after.is_done ≡ true) ↔ ((l.stop ≡ FirstFault) × (first_of found ≢ None))
     → HasTaken (HasAudited a after) w now (line ∷ lines)
-takes_slot a l after w out now lines line slot found says taken goes_on takes output slots keeps done =
+takes_slot a l after w out now lines line said slot found says read rtplus taken goes_on takes output slots keeps done =
     let count = s.count in
     let each = s.list.are.each in
     record {
       total = taken.total ++ lines_for a.stop l.slots found;
       took = record {
         slots = slot ∷ s.slots;
-        say = inr (slot, s.slots, says, refl, s.say);
+        say = inr (said, s.slots, says, ap (λ (x : Option Group). x ∷ s.slots) exchanged, s.say);
+        rtplus = rtplus ∙ s.rtplus;
         count = omega (arith, count, slots);
         stop = keeps ∙ s.stop;
         audit = takes.follows a.pi (spacing a) s.slots s.audit;
@@ -263,6 +266,9 @@ takes_slot a l after w out now lines line slot found says taken goes_on takes ou
   where
     s : HasAudited a l lines taken.total
     s = taken.took
+
+    exchanged : slot ≡ exchanged_in a.rtplus said
+    exchanged = read ∙ ap (λ (n : ℕ). exchanged_in n said) s.rtplus
 
     wanted : a.stop ≡ FirstFault → l.audit.fault ≡ None
     wanted first = s.wants (not_true l.is_done goes_on) first
@@ -294,12 +300,13 @@ takes_slot a l after w out now lines line slot found says taken goes_on takes ou
 
 -- a slot without a fault
 pub takes_good_slot : (a : Auditing) (l after : Auditor) (w : Traffic) (out : List ℕ) (lines : List Line) (line : Line)
-    (slot : Option Group) (found : FaultSet) → LineSays line (Slot slot)
+    (said slot : Option Group) (found : FaultSet) → LineSays line (Slot said) → slot ≡ exchanged_in l.rtplus said
+    → after.rtplus ≡ l.rtplus
     → HasTaken (HasAudited a l) w out lines → (l.is_done ≡ true → ⊥) → TakesAll l.audit after.audit slot found
     → found ≡ none_broken → after.slots ≡ l.slots + 1 → after.stop ≡ l.stop → after.is_done ≡ l.is_done
     → HasTaken (HasAudited a after) w out (line ∷ lines)
-takes_good_slot a l after w out lines line slot found says taken goes_on takes none slots keeps same =
-    takes_slot a l after w out out lines line slot found says taken goes_on takes
+takes_good_slot a l after w out lines line said slot found says read rtplus taken goes_on takes none slots keeps same =
+    takes_slot a l after w out out lines line said slot found says read rtplus taken goes_on takes
     (sym (ap (λ (x : List ℕ). out ++ x) (nothing l.stop) ∙ append-nil out)) slots keeps
     (λ yes. absurd (goes_on (sym same ∙ yes)), λ some. absurd (some.1 (ap first_of none)))
   where
@@ -310,15 +317,16 @@ takes_good_slot a l after w out lines line slot found says taken goes_on takes n
 -- a line that is skipped
 pub takes_skip : (a : Auditing) (l after : Auditor) (w : Traffic) (out : List ℕ) (lines : List Line) (line : Line)
     → LineSays line Skip → after.audit ≡ l.audit → after.slots ≡ l.slots → after.stop ≡ l.stop
-    → after.is_done ≡ l.is_done
+    → after.is_done ≡ l.is_done → after.rtplus ≡ l.rtplus
     → HasTaken (HasAudited a l) w out lines → HasTaken (HasAudited a after) w out (line ∷ lines)
-takes_skip a l after w out lines line says audit slots keeps same taken =
+takes_skip a l after w out lines line says audit slots keeps same rtplus taken =
     let s = taken.took in
     record {
       total = taken.total;
       took = record {
         slots = s.slots;
         say = inl (says, s.say);
+        rtplus = rtplus ∙ s.rtplus;
         count = slots ∙ s.count;
         stop = keeps ∙ s.stop;
         audit = rw audit s.audit;
@@ -335,12 +343,14 @@ takes_skip a l after w out lines line says audit slots keeps same taken =
 -- before the first line
 pub audited_none : (a : Auditing) (l : Auditor) → FollowsLog a.pi (spacing a) l.audit [] → l.audit.start ≡ a.start
     → l.audit.form ≡ a.form → l.audit.fault ≡ None → l.slots ≡ 0 → l.stop ≡ a.stop → l.is_done ≡ false
+    → l.rtplus ≡ a.rtplus
     → HasAudited a l [] []
-audited_none a l follows begins form none slots keeps going =
+audited_none a l follows begins form none slots keeps going rtplus =
     let passes = slots_pass a l.audit [] follows.at begins form none in
     record {
       slots = [];
       say = refl;
+      rtplus = rtplus;
       count = slots;
       stop = keeps;
       audit = follows;

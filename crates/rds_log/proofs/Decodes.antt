@@ -1,7 +1,8 @@
 -- What the taker of `decode` takes, and what it has written at the end of a log.
-use Rattle.std.proofs.Common.{◌≡◌, ◌∷◌, ℕ, List, Option, inl, inr, refl}
+use Rattle.std.proofs.Common.{◌≡◌, ◌∷◌, ◌∙◌, ℕ, List, Option, ap, inl, inr, refl}
 use Rattle.std.specs.Prelude.{Err, Ok, Result}
 use Rattle.rds_block.specs.declared.group.Group.{Group}
+use Rattle.rds_fields.specs.TagGroup.{exchanged_in}
 use Rattle.rds_io.specs.Told.{Traffic}
 use Rattle.rds_io.proofs.Waiting.{waits_more}
 use Rattle.rds_log.specs.Decode.{Decodes}
@@ -19,15 +20,22 @@ use Rattle.rds_log.specs.declared.log_line.LogLine.TheVariants.{Skip, Slot}
 -- a line that is a slot
 pub takes_slot : (how : Decoding) (d after : Decoder) (w : Traffic) (before now : List ℕ) (lines : List Line)
     (line : Line) (slot : Option Group) → LineSays line (Slot slot)
-    → GivesChange d.views after.views slot before now
+    → GivesChange d.views after.views (exchanged_in d.rtplus slot) before now → after.rtplus ≡ d.rtplus
     → HasTaken (HasDecoded how d) w before lines → HasTaken (HasDecoded how after) w now (line ∷ lines)
-takes_slot how d after w before now lines line slot says gives has =
+takes_slot how d after w before now lines line slot says gives kept has =
     let (added, output, views) = gives how.says_why (tuning_of how) has.took.slots has.total has.took.views in
     record {
       total = _;
       took = record {
-        slots = slot ∷ has.took.slots;
-        say = inr (slot, has.took.slots, says, refl, has.took.say);
+        slots = exchanged_in d.rtplus slot ∷ has.took.slots;
+        say = inr (
+          slot,
+          has.took.slots,
+          says,
+          ap (λ (n : ℕ). exchanged_in n slot ∷ has.took.slots) has.took.rtplus,
+          has.took.say,
+        );
+        rtplus = kept ∙ has.took.rtplus;
         views = views;
       };
       waits = waits_more w before now has.total added has.waits output;
@@ -35,11 +43,16 @@ takes_slot how d after w before now lines line slot says gives has =
 
 -- a line that is skipped
 pub takes_skip : (how : Decoding) (d after : Decoder) (w : Traffic) (output : List ℕ) (lines : List Line) (line : Line)
-    → LineSays line Skip → after.views ≡ d.views
+    → LineSays line Skip → after.views ≡ d.views → after.rtplus ≡ d.rtplus
     → HasTaken (HasDecoded how d) w output lines → HasTaken (HasDecoded how after) w output (line ∷ lines)
-takes_skip how d after w output lines line says views has = record {
+takes_skip how d after w output lines line says views kept has = record {
   total = has.total;
-  took = record { slots = has.took.slots; say = inl (says, has.took.say); views = rw views has.took.views };
+  took = record {
+    slots = has.took.slots;
+    say = inl (says, has.took.say);
+    rtplus = kept ∙ has.took.rtplus;
+    views = rw views has.took.views;
+  };
   waits = has.waits;
 }
 

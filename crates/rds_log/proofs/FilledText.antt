@@ -10,6 +10,7 @@ use Rattle.std.proofs.lemmas.Bool.Decides.{eqb_tells}
 use Rattle.std.proofs.lemmas.List.{append-nil, drop_all, get_or-take, length-take}
 use Rattle.std.proofs.lemmas.List.Elements.{All-cons, All-head, All-nil, All-tail, All-take}
 use Rattle.rds_block.specs.declared.group.Group.{Group}
+use Rattle.rds_fields.proofs.Exchange.{nothing_exchanged_in}
 use Rattle.rds_arrivals.specs.Arrivals.{Arrival, and_lost, filled, lost_between, lost_until}
 use Rattle.rds_arrivals.specs.Breaks.{break_of}
 use Rattle.rds_arrivals.specs.Stamps.{stamp_in}
@@ -71,7 +72,7 @@ record HasCut (text : List ℕ) (slots : List (Option Group)) : Type 0 where
   pub cut : List Line
   pub text_is : text ≡ text_of cut []
   pub lines : All IsLine cut
-  pub say : AreSlots cut slots
+  pub say : AreSlots 11 cut slots
 
 more_text : (text line : List ℕ) (cut : List Line) → text ≡ text_of cut []
     → text ++ (line ++ codes "\n") ≡ text_of (line ∷ cut) []
@@ -86,7 +87,7 @@ with_slot text line slot slots had is says = record {
   cut = line ∷ had.cut;
   text_is = more_text text line had.cut had.text_is;
   lines = All-cons IsLine line had.cut is had.lines;
-  say = inr (slot, slots, says, refl, had.say);
+  say = inr (slot, slots, says, ap (λ (s : Option Group). s ∷ slots) (sym (nothing_exchanged_in slot)), had.say);
 }
 
 with_comment : (text line : List ℕ) (slots : List (Option Group)) → HasCut text slots → IsLine line → LineSays line Skip

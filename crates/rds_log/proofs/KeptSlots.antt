@@ -1,7 +1,8 @@
 -- How the slots that are kept go on by a line.
-use Rattle.std.proofs.Common.{◌≡◌, List, Option, [], ◌∷◌, ◌++◌, ap, inl, inr, reverse, ◌∙◌}
+use Rattle.std.proofs.Common.{◌≡◌, ℕ, List, Option, [], ◌∷◌, ◌++◌, ap, inl, inr, reverse, ◌∙◌}
 use Rattle.std.proofs.lemmas.List.{reverse-append}
 use Rattle.rds_block.specs.declared.group.Group.{Group}
+use Rattle.rds_fields.specs.TagGroup.{exchanged_in}
 use Rattle.rds_log.specs.LineSays.{LineSays}
 use Rattle.rds_log.specs.LogLines.{Line}
 use Rattle.rds_log.specs.LogWrites.{AreSlots}
@@ -9,24 +10,25 @@ use Rattle.rds_log.specs.declared.log_line.LogLine.{LogLine}
 use Rattle.rds_log.specs.declared.log_line.LogLine.TheVariants.{Skip, Slot}
 
 -- of an empty log no slot is kept
-pub keeps_none : (log : List (Option Group)) → log ≡ [] → AreSlots [] (reverse log)
-keeps_none log none = ap reverse none
+pub keeps_none : (n : ℕ) (log : List (Option Group)) → log ≡ [] → AreSlots n [] (reverse log)
+keeps_none n log none = ap reverse none
 
-pub keeps_slot : (lines : List Line) (line : Line) (slot : Option Group) (log after : List (Option Group))
-    → LineSays line (Slot slot) → AreSlots lines (reverse log) → after ≡ log ++ (slot ∷ [])
-    → AreSlots (line ∷ lines) (reverse after)
-keeps_slot lines line slot log after says had more =
-    inr (slot, reverse log, says, ap reverse more ∙ reverse-append log (slot ∷ []), had)
+pub keeps_slot : (n : ℕ) (lines : List Line) (line : Line) (slot : Option Group) (log after : List (Option Group))
+    → LineSays line (Slot slot) → AreSlots n lines (reverse log) → after ≡ log ++ (exchanged_in n slot ∷ [])
+    → AreSlots n (line ∷ lines) (reverse after)
+keeps_slot n lines line slot log after says had more =
+    inr (slot, reverse log, says, ap reverse more ∙ reverse-append log (exchanged_in n slot ∷ []), had)
 
 -- a line that was said to be a slot
-pub keeps_said : (lines : List Line) (line : Line) (said : LogLine) (slot : Option Group)
+pub keeps_said : (n : ℕ) (lines : List Line) (line : Line) (said : LogLine) (slot : Option Group)
     (log after : List (Option Group)) → LineSays line said → said ≡ Slot slot
-    → AreSlots lines (reverse log) → after ≡ log ++ (slot ∷ []) → AreSlots (line ∷ lines) (reverse after)
-keeps_said lines line said slot log after says is had more = keeps_slot lines line slot log after (rw is at says) had
-    more
+    → AreSlots n lines (reverse log) → after ≡ log ++ (exchanged_in n slot ∷ [])
+    → AreSlots n (line ∷ lines) (reverse after)
+keeps_said n lines line said slot log after says is had more = keeps_slot n lines line slot log after (rw is at says)
+    had more
 
 -- a line that is skipped
-pub keeps_skip : (lines : List Line) (line : Line) (said : LogLine) (log : List (Option Group)) → LineSays line said
-    → said ≡ Skip → AreSlots lines (reverse log)
-    → AreSlots (line ∷ lines) (reverse log)
-keeps_skip lines line said log says is had = inl (rw is at says, had)
+pub keeps_skip : (n : ℕ) (lines : List Line) (line : Line) (said : LogLine) (log : List (Option Group))
+    → LineSays line said → said ≡ Skip → AreSlots n lines (reverse log)
+    → AreSlots n (line ∷ lines) (reverse log)
+keeps_skip n lines line said log says is had = inl (rw is at says, had)

@@ -7,6 +7,7 @@ use Rattle.std.proofs.lemmas.Bool.Decides.{eqb_tells}
 use Rattle.std.proofs.lemmas.List.{append-nil}
 use Rattle.std.proofs.lemmas.List.Elements.{All-append, All-cons, All-nil}
 use Rattle.rds_block.specs.declared.group.Group.{Group}
+use Rattle.rds_fields.specs.TagGroup.{exchanged_in}
 use Rattle.rds_io.specs.Told.{Traffic}
 use Rattle.rds_fields.specs.declared.message.Message.{Message}
 use Rattle.rds_receiver.specs.OneView.{same_heard}
@@ -113,13 +114,13 @@ two_ends (l ∷ a) (l' ∷ b) x y e =
 -- ---- slots
 
 -- the slots of lines that go on after others go on after theirs
-more_slots : (newer lines : List Line) (all slots : List (Option Group)) → AreSlots (newer ++ lines) all
-    → AreSlots lines slots → (more : List (Option Group)) × (all ≡ more ++ slots)
-more_slots [] lines all slots p q = ([], same_slots lines all slots p q)
-more_slots (line ∷ newer) lines all slots (inl (skip, p)) q = more_slots newer lines all slots p q
-more_slots (line ∷ newer) lines all slots (inr (slot, older, says, e, p)) q =
-    let (more, is) = more_slots newer lines older slots p q in
-    (slot ∷ more, e ∙ ap (λ (l : List (Option Group)). slot ∷ l) is)
+more_slots : (n : ℕ) (newer lines : List Line) (all slots : List (Option Group)) → AreSlots n (newer ++ lines) all
+    → AreSlots n lines slots → (more : List (Option Group)) × (all ≡ more ++ slots)
+more_slots n [] lines all slots p q = ([], same_slots n lines all slots p q)
+more_slots n (line ∷ newer) lines all slots (inl (skip, p)) q = more_slots n newer lines all slots p q
+more_slots n (line ∷ newer) lines all slots (inr (slot, older, says, e, p)) q =
+    let (more, is) = more_slots n newer lines older slots p q in
+    (exchanged_in n slot ∷ more, e ∙ ap (λ (l : List (Option Group)). exchanged_in n slot ∷ l) is)
 
 more_heard : (pi : ℕ) (more slots : List (Option Group)) (heard other : List (Option Message))
     → AreHeard pi (more ++ slots) heard → AreHeard pi slots other
@@ -203,7 +204,7 @@ not_both : WhatHasAFaultDoesNotPass → (a : Auditing) (n t : ℕ) (fault : Audi
 not_both fails a n t fault bytes some p q =
     let (newer, are) = all_lines bytes q.lines q.begins in
     let lines : p.lines ≡ newer ++ q.lines = same_lines bytes p.lines (newer ++ q.lines) p.are are in
-    let (more, slots) = more_slots newer q.lines p.slots q.slots (rw lines at p.say) q.say in
+    let (more, slots) = more_slots a.rtplus newer q.lines p.slots q.slots (rw lines at p.say) q.say in
     fails_for_good fails a t fault more q.slots some q.fail (rw slots at p.pass)
 
 -- the lines that fail last go on after those that fail first
@@ -211,7 +212,7 @@ stops_once : WhatHasAFaultDoesNotPass → (a : Auditing) (t u : ℕ) (f g : Audi
     → (p : StopsAtSlot a t f bytes (Some [])) (q : StopsAtSlot a u g bytes (Some []))
     → (c : List Line) × (q.lines ≡ c ++ p.lines) → no_line t f ≡ no_line u g
 stops_once fails a t u f g bytes some p q (c, lines) =
-    let (more, slots) = more_slots c p.lines q.slots p.slots (rw lines at q.say) p.say in
+    let (more, slots) = more_slots a.rtplus c p.lines q.slots p.slots (rw lines at q.say) p.say in
     fails_once fails a t u f g more p.slots q.slots some slots p.fail q.fail
 
 one_no : WhatHasAFaultDoesNotPass → (a : Auditing) (t u : ℕ) (f g : AuditFault) (bytes : List ℕ) → 0 < spacing a
@@ -228,7 +229,7 @@ one_no fails a t u f g bytes some p q =
 one_number : (a : Auditing) (n m : ℕ) (bytes : List ℕ) → WholePasses a n bytes → WholePasses a m bytes → n ≡ m
 one_number a n m bytes p q =
     let lines : p.lines ≡ q.lines = same_lines bytes p.lines q.lines p.are q.are in
-    let slots : p.slots ≡ q.slots = same_slots q.lines p.slots q.slots (rw lines at p.say) q.say in
+    let slots : p.slots ≡ q.slots = same_slots a.rtplus q.lines p.slots q.slots (rw lines at p.say) q.say in
     p.number ∙ ap length slots ∙ sym q.number
 
 -- a log has one list of faults
@@ -248,7 +249,7 @@ one_list form d (m ∷ log) (f ∷ fs) (g ∷ gs) same p q =
 one_output : (a : Auditing) (lines : List Line) (written other : List ℕ) → LinesList a lines written
     → LinesList a lines other → written ≡ other
 one_output a lines written other p q =
-    let slots : p.slots ≡ q.slots = same_slots lines p.slots q.slots p.say q.say in
+    let slots : p.slots ≡ q.slots = same_slots a.rtplus lines p.slots q.slots p.say q.say in
     let heard = same_heard a.pi q.slots p.list.are.heard q.list.are.heard (rw slots at p.list.are.are) q.list.are.are in
     let each : length p.list.faults ≡ length q.list.faults = p.list.are.each ∙ ap length slots ∙ sym q.list.are.each in
     let faults : p.list.faults ≡ q.list.faults =
@@ -270,7 +271,7 @@ no_fault fails a LogEnd bytes r w q v some given same pass find =
     let lines : pass.passes.lines ≡ find.lines =
     same_lines bytes pass.passes.lines find.lines (rw first at pass.passes.are) (rw second at find.are) in
     let slots : pass.passes.slots ≡ find.list.slots =
-    same_slots find.lines pass.passes.slots find.list.slots (rw lines at pass.passes.say) find.list.say in
+    same_slots a.rtplus find.lines pass.passes.slots find.list.slots (rw lines at pass.passes.say) find.list.say in
     fails_for_good fails a first_of_all.number fault first_of_all.newer first_of_all.failed some first_of_all.fail
     (rw (slots ∙ first_of_all.cut) at pass.passes.pass)
 

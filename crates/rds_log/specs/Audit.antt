@@ -1,8 +1,6 @@
 -- When the slots and the bytes of a log pass the audit, and what that means. Lists of slots and of lines have the
--- newest
--- first. a says how the log is judged: its programme, M, K, whether it begins with its station, the form of its texts,
--- and
--- where the audit stops.
+-- newest first. a says how the log is judged: its programme and the group type of its tags, M, K, whether it begins
+-- with its station, the form of its texts, and where the audit stops.
 use Rattle.std.specs.Prelude.{◌≡◌, ◌+◌, ◌∷◌, ℕ, List, Option, length}
 use Rattle.rds_block.specs.declared.group.Group.{Group}
 use Rattle.rds_fields.specs.declared.message.Message.{Message}
@@ -29,9 +27,10 @@ use Rattle.rds_log.specs.declared.audit_log.Stop.TheVariants.{FirstFault}
 abbrev pub spacing : Auditing → ℕ
 spacing a = a.dwell + a.late
 
--- the settings for the first fault of a complete log
+-- the settings for the first fault of a complete log with tags in groups 11A
 abbrev pub complete : ℕ → ℕ → ℕ → Auditing
-complete pi m k = record { pi = pi; dwell = m; late = k; start = Complete; form = Plain; stop = FirstFault }
+complete pi m k =
+    record { pi = pi; rtplus = 11; dwell = m; late = k; start = Complete; form = Plain; stop = FirstFault }
 
 -- what is judged of the messages of a log
 abbrev pub judged : Auditing → List (Option Message) → List (Option Message)
@@ -81,7 +80,7 @@ pub record WholePasses (a : Auditing) (n : ℕ) (text : List ℕ) : Type 0 where
   pub lines : List Line
   pub are : AreLines text lines
   pub slots : List (Option Group)
-  pub say : AreSlots lines slots
+  pub say : AreSlots a.rtplus lines slots
   pub number : n ≡ length slots
   pub pass : SlotsPass a slots
 
@@ -91,5 +90,5 @@ pub record StopsAtSlot (a : Auditing) (t : ℕ) (fault : AuditFault) (text : Lis
   pub lines : List Line
   pub begins : BeginsWith text left lines
   pub slots : List (Option Group)
-  pub say : AreSlots lines slots
+  pub say : AreSlots a.rtplus lines slots
   pub fail : SlotsFail a t fault slots

@@ -121,7 +121,7 @@ pub record SlotsList (a : Auditing) (slots : List (Option Group)) (written : Lis
 -- the lines are good, and these are the lines of their faults
 pub record LinesList (a : Auditing) (lines : List Line) (written : List ℕ) : Type 0 where
   pub slots : List (Option Group)
-  pub say : AreSlots lines slots
+  pub say : AreSlots a.rtplus lines slots
   pub list : SlotsList a slots written
 
 -- and the audit goes on: if it stops at the first fault, the slots pass so far
@@ -207,7 +207,7 @@ pub record WholeIsSafe (a : Auditing) (r : Traffic) : Type 0 where
   pub lines : List Line
   pub are : AreLines text lines
   pub slots : List (Option Group)
-  pub say : AreSlots lines slots
+  pub say : AreSlots a.rtplus lines slots
   pub safe : SlotsAreSafe a slots
 
 -- the log begins with good lines, and the first of their slots have no plans
@@ -217,7 +217,7 @@ pub record BeginsWithNoPlans (a : Auditing) (r : Traffic) : Type 0 where
   pub lines : List Line
   pub begins : BeginsWith text r.after lines
   pub slots : List (Option Group)
-  pub say : AreSlots lines slots
+  pub say : AreSlots a.rtplus lines slots
   pub newer : List (Option Group)
   pub failed : List (Option Group)
   pub cut : slots ≡ newer ++ failed

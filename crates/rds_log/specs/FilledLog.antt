@@ -8,14 +8,14 @@ use Rattle.rds_log.specs.LogLines.{AreLines, IsLine, Line}
 use Rattle.rds_log.specs.LogWrites.{AreSlots}
 use Rattle.rds_log.specs.declared.filler.Filling.{Filling}
 
--- all lines of the text are good, and these are its slots
-pub record IsLogOf (text : List ℕ) (slots : List (Option Group)) : Type 0 where
+-- all lines of the text are good, and these are its slots, if its tags come in groups nA
+pub record IsLogOf (n : ℕ) (text : List ℕ) (slots : List (Option Group)) : Type 0 where
   pub lines : List Line
   pub are : AreLines text lines
-  pub say : AreSlots lines slots
+  pub say : AreSlots n lines slots
 
 -- the output of `slots` is a log: its slots are the groups, the slots that were lost between them, and those since
 abbrev pub FilledTextsAreLogs : Type 0
 FilledTextsAreLogs =
     (f : Filling) (lines : List Line) (s : SoFar) → All IsLine lines
-    → AreFilled f lines s → IsLogOf s.written (and_lost s.told (filled f.grain f.dwell s.came))
+    → AreFilled f lines s → IsLogOf 11 s.written (and_lost s.told (filled f.grain f.dwell s.came))

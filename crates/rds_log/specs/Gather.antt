@@ -9,18 +9,19 @@ use Rattle.rds_log.specs.Reads.{NextIsBad, ReadsUpTo}
 use Rattle.rds_io.specs.declared.fault.LogFault.{LogFault}
 use Rattle.rds_io.specs.declared.fault.LogFault.TheVariants.{BadLine, BadRow, Read, Write, TooLong, Memory}
 
--- all lines of the bytes are good, and these are the groups of their slots, the oldest first
-pub record HasSlots (text : List ℕ) (log : List (Option Group)) : Type 0 where
+-- all lines of the bytes are good, and these are the groups of their slots, the oldest first, if their tags come in
+-- groups nA
+pub record HasSlots (n : ℕ) (text : List ℕ) (log : List (Option Group)) : Type 0 where
   pub lines : List Line
   pub are : AreLines text lines
-  pub say : AreSlots lines (reverse log)
+  pub say : AreSlots n lines (reverse log)
 
 -- the reader was read to its end, and these are the groups of the slots
-pub record GathersAll (r : Traffic) (log : List (Option Group)) : Type 0 where
+pub record GathersAll (n : ℕ) (r : Traffic) (log : List (Option Group)) : Type 0 where
   pub text : List ℕ
   pub read : Consumes r.before r.after text
   pub end : IsAtEnd r.after
-  pub slots : HasSlots text log
+  pub slots : HasSlots n text log
   pub calm : IsCalm r
 
 -- the result without groups, with at most this many reads: each fault has its cause

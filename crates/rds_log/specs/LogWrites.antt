@@ -2,6 +2,7 @@
 -- text or a name is not shown any more. All lists have the newest first.
 use Rattle.std.specs.Prelude.{◌≡◌, ◌⊎◌, ℕ, Bool, false, true, List, [], ◌∷◌, None, Option, Some}
 use Rattle.rds_block.specs.declared.group.Group.{Group}
+use Rattle.rds_fields.specs.TagGroup.{exchanged_in}
 use Rattle.rds_receiver.specs.Receipts.{Tuning}
 use Rattle.rds_receiver.specs.NotShown.{AreWhys}
 use Rattle.rds_receiver.specs.Shown.{IsView}
@@ -16,20 +17,20 @@ use Rattle.rds_log.specs.declared.log_line.LogLine.TheVariants.{Skip, Slot}
 abbrev pub tuning_of : Decoding → Tuning
 tuning_of how = record { programme = how.pi; dwell = how.dwell; window = how.window; first = 0 }
 
--- the settings without a window and without reasons
+-- the settings without a window and without reasons, for tags in groups 11A
 abbrev pub plain : ℕ → ℕ → Decoding
-plain pi m = record { pi = pi; dwell = m; window = None; says_why = false }
+plain pi m = record { pi = pi; rtplus = 11; dwell = m; window = None; says_why = false }
 
 -- a receiver of this programme and this dwell without a window
 abbrev pub tuned : ℕ → ℕ → Tuning
 tuned pi m = tuning_of (plain pi m)
 
--- the lines are good, and these are their slots
-abbrev pub AreSlots : List Line → List (Option Group) → Type 0
-AreSlots [] slots = slots ≡ []
-AreSlots (line ∷ before) slots = (LineSays line Skip × AreSlots before slots)
-    ⊎ ((slot : Option Group) × (older : List (Option Group)) × LineSays line (Slot slot) × (slots ≡ slot ∷ older)
-    × AreSlots before older)
+-- the lines are good, and these are their slots, if their tags come in groups nA: these and groups 11A are exchanged
+abbrev pub AreSlots : ℕ → List Line → List (Option Group) → Type 0
+AreSlots n [] slots = slots ≡ []
+AreSlots n (line ∷ before) slots = (LineSays line Skip × AreSlots n before slots)
+    ⊎ ((slot : Option Group) × (older : List (Option Group)) × LineSays line (Slot slot)
+    × (slots ≡ exchanged_in n slot ∷ older) × AreSlots n before older)
 
 -- why a text and a name are not shown at the end of an input, if the lines say why
 abbrev pub SayWhys : Bool → Tuning → List (Option Group) → Option Whys → Type 0
@@ -58,7 +59,7 @@ pub record SlotsWrite (how : Decoding) (slots : List (Option Group)) (written : 
 -- the lines are good, and this is their output
 pub record LinesWrite (how : Decoding) (lines : List Line) (written : List ℕ) : Type 0 where
   pub slots : List (Option Group)
-  pub say : AreSlots lines slots
+  pub say : AreSlots how.rtplus lines slots
   pub write : SlotsWrite how slots written
 
 -- this is the output of the bytes of a log, all of whose lines are good

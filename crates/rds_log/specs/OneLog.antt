@@ -8,6 +8,7 @@ use Rattle.std.proofs.lemmas.Grind.{common_steps}
 use Rattle.rds_block.specs.declared.group.Group.{Group}
 use Rattle.rds_block.specs.SecondWord.{same_group}
 use Rattle.rds_block.specs.Words.{AreWordsOf}
+use Rattle.rds_fields.specs.TagGroup.{exchanged_in}
 use Rattle.rds_io.specs.Digits.{HasWord}
 use Rattle.rds_log.specs.FilledLog.{IsLogOf}
 use Rattle.rds_log.specs.LogLines.{AreLines, IsLine, Line, line_feed, text_of}
@@ -124,25 +125,27 @@ same_said line (Slot slot) Skip p q = absurd (not_both line slot q p)
 same_said line (Slot slot) (Slot other) p q = ap Slot (same_slot line slot other p.1 q.1)
 
 -- lines have one list of slots
-pub same_slots : (lines : List Line) (slots other : List (Option Group)) → AreSlots lines slots → AreSlots lines other
+pub same_slots : (n : ℕ) (lines : List Line) (slots other : List (Option Group)) → AreSlots n lines slots
+    → AreSlots n lines other
     → slots ≡ other
-same_slots [] slots other p q = p ∙ sym q
-same_slots (line ∷ before) slots other (inl (p, rest)) (inl (q, rest')) = same_slots before slots other rest rest'
-same_slots (line ∷ before) slots other (inl (p, rest)) (inr (slot, older, q, e, rest')) =
+same_slots n [] slots other p q = p ∙ sym q
+same_slots n (line ∷ before) slots other (inl (p, rest)) (inl (q, rest')) = same_slots n before slots other rest rest'
+same_slots n (line ∷ before) slots other (inl (p, rest)) (inr (slot, older, q, e, rest')) =
     absurd (not_both line slot p q)
-same_slots (line ∷ before) slots other (inr (slot, older, p, e, rest)) (inl (q, rest')) =
+same_slots n (line ∷ before) slots other (inr (slot, older, p, e, rest)) (inl (q, rest')) =
     absurd (not_both line slot q p)
-same_slots (line ∷ before) slots other (inr (slot, older, p, e, rest)) (inr (slot', older', q, f, rest')) =
-    let one : slot ≡ slot' = same_slot line slot slot' p.1 q.1 in
-    let all : older ≡ older' = same_slots before older older' rest rest' in
+same_slots n (line ∷ before) slots other (inr (slot, older, p, e, rest)) (inr (slot', older', q, f, rest')) =
+    let one : exchanged_in n slot ≡ exchanged_in n slot' = ap (exchanged_in n) (same_slot line slot slot' p.1 q.1) in
+    let all : older ≡ older' = same_slots n before older older' rest rest' in
     (cc)
 
 -- bytes are the log of one list of slots
-pub same_log : (text : List ℕ) (slots other : List (Option Group)) → IsLogOf text slots → IsLogOf text other
+pub same_log : (n : ℕ) (text : List ℕ) (slots other : List (Option Group)) → IsLogOf n text slots
+    → IsLogOf n text other
     → slots ≡ other
-same_log text slots other p q =
+same_log n text slots other p q =
     let lines : p.lines ≡ q.lines = same_lines text p.lines q.lines p.are q.are in
-    same_slots q.lines slots other (rw lines at p.say) q.say
+    same_slots n q.lines slots other (rw lines at p.say) q.say
 
 -- ---- lines that say slots
 

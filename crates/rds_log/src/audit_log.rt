@@ -12,7 +12,7 @@ use crate::news::{News, NoNews};
 use crate::notes::LogNotes;
 use crate::run_log::run;
 use rds_audit::{LogStart, TextForm};
-use rds_fields::{Dwell, Late};
+use rds_fields::{Dwell, Late, TagGroup};
 use rds_io::{LogFault, TellingRead, TellingWrite};
 
 /// Where an audit stops (this project's own rule).
@@ -29,6 +29,8 @@ pub enum Stop {
 pub struct Auditing {
     /// The programme.
     pub pi: u16,
+    /// The group type of its tags.
+    pub rtplus: TagGroup,
     /// The dwell M of the receivers.
     pub dwell: Dwell,
     /// The number K of slots by which their groups may come late.
@@ -41,8 +43,8 @@ pub struct Auditing {
     pub stop: Stop,
 }
 
-/// Audits the complete log of a station, one slot a line, and writes the answer line: `yes` with the number of slots,
-/// or `no` with the first slot that breaks a rule and the name of the fault.
+/// Audits the complete log of a station with tags in groups 11A, one slot a line, and writes the answer line: `yes`
+/// with the number of slots, or `no` with the first slot that breaks a rule and the name of the fault.
 ///
 /// If the answer is yes, no receiver with this dwell ever shows a mix of the log's texts, provided that its groups come
 /// at most this late. If the answer is no, no station that keeps its texts and names apart by M + K slots, and leaves
@@ -88,6 +90,7 @@ pub fn audit_within<R: TellingRead, W: TellingWrite>(
 {
     let auditing = Auditing {
         pi,
+        rtplus: TagGroup::usual(),
         dwell,
         late,
         start: LogStart::Complete,

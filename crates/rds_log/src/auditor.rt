@@ -21,6 +21,7 @@ use crate::run_log::{OUTPUT_ROOM, TakesLines};
 use crate::source::Source;
 use crate::verdict::{ANSWER_ROOM, push_no, push_yes};
 use rds_audit::{Audit, AuditFault, FaultSet};
+use rds_fields::TagGroup;
 use rds_io::{Lines, TellingWrite, WriteFault};
 
 /// The most bytes of the lines of a slot.
@@ -35,6 +36,7 @@ pub(crate) struct Auditor {
     /// Whether it stopped at a fault.
     is_done: bool,
     pi: u16,
+    rtplus: TagGroup,
     heard: Heard,
     faults: FaultNotes,
     no: Option<NoNote>,
@@ -67,20 +69,21 @@ impl TakesLines for Auditor {
         output: &mut Lines<OUTPUT_ROOM>,
         _writer: &mut W,
     ) -> Result<bool, WriteFault> {
-        // Prover: a matched value is copied by a new name before its second use (docs/PROVER.md, "Workarounds").
-        let heard = said;
-        let line = said;
-        self.heard.line(self.pi, heard);
         match said {
             LogLine::Skip => Ok(true),
             LogLine::Slot(group) => {
                 let slot = self.slots;
-                let found = self.audit.all_faults(group);
+                let read = self.rtplus.exchange_read(group);
+                // Prover: a value is copied by a new name before its second use (docs/PROVER.md, "Workarounds").
+                let heard = read;
+                let failed = read;
+                self.heard.slot(self.pi, heard);
+                let found = self.audit.all_faults(read);
                 self.slots += 1;
                 if found.is_empty() {
                     return Ok(true);
                 }
-                self.fail(slot, found, line, source, output);
+                self.fail(slot, found, LogLine::Slot(failed), source, output);
                 Ok(!self.is_done)
             }
         }
@@ -110,6 +113,7 @@ impl Auditor {
             stop: how.stop,
             is_done: false,
             pi: how.pi,
+            rtplus: how.rtplus,
             heard: Heard::new(),
             faults: FaultNotes::new(),
             no: None,

@@ -9,7 +9,7 @@ use crate::decoder::Decoder;
 use crate::news::{News, NoNews};
 use crate::notes::LogNotes;
 use crate::run_log::run;
-use rds_fields::Dwell;
+use rds_fields::{Dwell, TagGroup};
 use rds_io::{LogFault, TellingRead, TellingWrite};
 use rds_receiver::Window;
 
@@ -18,6 +18,8 @@ use rds_receiver::Window;
 pub struct Decoding {
     /// The programme.
     pub pi: u16,
+    /// The group type of its tags.
+    pub rtplus: TagGroup,
     /// The dwell M of the receiver.
     pub dwell: Dwell,
     /// With a window the receiver shows only what it heard twice within it.
@@ -29,7 +31,7 @@ pub struct Decoding {
 /// The most reads of a log. A longer log is too long.
 pub const MOST_READS: u64 = 1 << 32;
 
-/// Writes what a receiver of this programme and this dwell shows while it hears the log.
+/// Writes what a receiver of this programme and this dwell shows while it hears the log, with tags in groups 11A.
 ///
 /// The output for the lines of one read is written before the next read, in one write if the writer takes it whole.
 ///
@@ -66,6 +68,7 @@ pub fn decode_within<R: TellingRead, W: TellingWrite>(
 {
     let decoding = Decoding {
         pi,
+        rtplus: TagGroup::usual(),
         dwell,
         window: None,
         says_why: false,

@@ -17,6 +17,7 @@ use crate::news::News;
 use crate::run_log::{OUTPUT_ROOM, TakesLines};
 use crate::source::Source;
 use rds_block::Blocks;
+use rds_fields::TagGroup;
 use rds_io::{Lines, TellingWrite, WriteFault};
 use rds_receiver::{Receiver, Whys};
 use rds_view_lines::{KeptView, SLOT_ROOM, Stamp, show};
@@ -106,6 +107,7 @@ fn show_slot<const N: usize>(
 pub(crate) struct Decoder {
     pub(crate) views: ViewLines,
     pi: u16,
+    rtplus: TagGroup,
     pub(crate) heard: Heard,
 }
 
@@ -121,6 +123,7 @@ impl Decoder {
         Decoder {
             views: ViewLines::new(receiver, how.says_why),
             pi: how.pi,
+            rtplus: how.rtplus,
             heard: Heard::new(),
         }
     }
@@ -153,14 +156,16 @@ impl TakesLines for Decoder {
         output: &mut Lines<OUTPUT_ROOM>,
         _writer: &mut W,
     ) -> Result<bool, WriteFault> {
-        let heard = said;
-        let lost = said;
-        self.heard.line(self.pi, heard);
-        self.heard.lost(self.pi, lost, source);
         match said {
             LogLine::Skip => Ok(true),
             LogLine::Slot(group) => {
-                self.views.slot(group, output);
+                let read = self.rtplus.exchange_read(group);
+                // Prover: a value is copied by a new name before its second use (docs/PROVER.md, "Workarounds").
+                let heard = read;
+                let lost = read;
+                self.heard.slot(self.pi, heard);
+                self.heard.lost(self.pi, lost, source);
+                self.views.slot(read, output);
                 Ok(true)
             }
         }

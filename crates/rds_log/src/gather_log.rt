@@ -9,12 +9,13 @@ use crate::news::News;
 use crate::notes::LogNotes;
 use crate::source::Source;
 use rds_block::Blocks;
+use rds_fields::TagGroup;
 use rds_io::{LogFault, TellingRead};
 use std::alloc::Global;
 
-/// Reads a log to its end with at most `reads` reads, and returns the group of each of its slots, the oldest first.
-/// Takes notes for a person who asks for this programme, and tells the news. The new notes replace the old content of
-/// `notes`.
+/// Reads a log with tags in this group type to its end, with at most `reads` reads, and returns the group of each of
+/// its slots, the oldest first. Takes notes for a person who asks for this programme, and tells the news. The new notes
+/// replace the old content of `notes`.
 ///
 /// # Errors
 ///
@@ -23,12 +24,14 @@ pub fn gather<R: TellingRead, N: News>(
     alloc: Global,
     reader: &mut R,
     pi: u16,
+    rtplus: TagGroup,
     reads: u64,
     notes: &mut LogNotes,
     news: &mut N,
 ) -> Result<Vec<Option<Blocks>>, LogFault>
     requires { reads ≤ 2 ^ 32 }
-    ensures all { IfOk result (λ log. GathersAll (traffic R.remaining R.failures reader.old reader.new) log.items) }
+    ensures all { IfOk result (λ log. GathersAll rtplus
+        (traffic R.remaining R.failures reader.old reader.new) log.items) }
     ensures none { IfErr result (λ fault. GathersNone reads
         (traffic R.remaining R.failures reader.old reader.new) fault) }
     ensures reads { MadeReads reads (R.reads reader.old) (R.reads reader.new) result }
@@ -40,8 +43,8 @@ pub fn gather<R: TellingRead, N: News>(
     loop {
         match source.next(reader, &mut said) {
             Ok(true) => {
-                notes.heard.line(pi, said);
-                notes.read.line(said, &source, false, news);
+                let told = said;
+                notes.read.line(told, &source, false, news);
             }
             Ok(false) => {
                 notes.slots = slots.len() as u64;
@@ -56,7 +59,11 @@ pub fn gather<R: TellingRead, N: News>(
         let LogLine::Slot(group) = line else {
             continue;
         };
-        if slots.push(group).is_err() {
+        let read = rtplus.exchange_read(group);
+        // Prover: a value is copied by a new name before its second use (docs/PROVER.md, "Workarounds").
+        let heard = read;
+        notes.heard.slot(pi, heard);
+        if slots.push(read).is_err() {
             return Err(LogFault::Memory);
         }
     }

@@ -1,6 +1,7 @@
-//! The programmes of the groups of a log, for a person. No contract says that these are the groups of the log.
+//! The programmes of the groups of a log, for a person. No contract says that these are the groups of the log. A group
+//! type is that of the group with its tags in 11A, as `TagGroup` exchanges it.
 
-use crate::log_line::{BLOCKS, LogLine};
+use crate::log_line::BLOCKS;
 use crate::source::Source;
 use rds_block::Blocks;
 use rds_fields::{Message, RTPLUS_AID, RTPLUS_CODE};
@@ -52,7 +53,7 @@ impl GroupCounts {
 pub struct Announced {
     /// The group type of RadioText Plus, as five bits.
     pub rtplus: Option<u8>,
-    /// The application of group 11A.
+    /// The application of the groups that are read as tags.
     pub in_11a: Option<u16>,
 }
 
@@ -114,18 +115,9 @@ impl Heard {
         }
     }
 
-    /// Takes the meaning of a line.
+    /// Takes a slot, with tags in group 11A. Counts its group, if it is of the wanted programme.
     #[inline(always)]
-    pub(crate) fn line(&mut self, pi: u16, said: LogLine) {
-        match said {
-            LogLine::Slot(slot) => self.slot(pi, slot),
-            LogLine::Skip => {}
-        }
-    }
-
-    /// Takes a slot. Counts its group, if it is of the wanted programme.
-    #[inline(always)]
-    fn slot(&mut self, pi: u16, slot: Option<Blocks>) {
+    pub(crate) fn slot(&mut self, pi: u16, slot: Option<Blocks>) {
         let Some(group) = slot else {
             return;
         };
@@ -141,15 +133,19 @@ impl Heard {
         }
     }
 
-    /// Takes the line that this source read last. Counts it if it is a lost slot with all blocks of a group of the
-    /// wanted
-    /// programme but one of the last three.
+    /// Takes the slot of the line that this source read last. Counts it if it is a lost one, and its line has all
+    /// blocks of a group of the wanted programme but one of the last three.
     #[inline(always)]
-    pub(crate) fn lost(&mut self, pi: u16, said: LogLine, source: &Source) {
-        match said {
-            LogLine::Slot(None) => self.damage(pi, source.start()),
-            LogLine::Slot(Some(_)) | LogLine::Skip => {}
+    pub(crate) fn lost(&mut self, pi: u16, slot: Option<Blocks>, source: &Source) {
+        if slot.is_some() {
+            return;
         }
+        let line = source.start();
+        // Without its first block a line is of no programme.
+        if let Some(b'-') = line.first() {
+            return;
+        }
+        self.damage(pi, line);
     }
 
     /// Takes the first bytes of a slot without a group.

@@ -4,6 +4,7 @@ use crate::note::FaultOf;
 use crate::note_lines::{Line, push, push_count};
 use rds_audit::AuditFault;
 use rds_cli::{Request, Task};
+use rds_fields::TagGroup;
 use rds_log::{FaultCount, FaultPlace, NoNote, SegmentCause, fault_name};
 use std::io::Write;
 
@@ -113,9 +114,12 @@ fn push_audit_options(task: Task, line: &mut Line) {
     }
 }
 
-/// Appends the programme, the dwell and the file of a proposed command.
+/// Appends the programme, the dwell, the group type of the tags and the file of a proposed command.
 fn push_input(request: &Request<'_>, line: &mut Line) {
     let _ = write!(line, " --pi {} --m {}", request.pi, request.dwell.get());
+    if request.rtplus != TagGroup::usual() {
+        let _ = write!(line, " --rtplus {}A", request.rtplus.number());
+    }
     let Some(file) = request.file else {
         return;
     };

@@ -12,7 +12,7 @@ mod printing;
 mod screen;
 
 pub use note::Run;
-pub use printing::{print_notes, print_refusal};
+pub use printing::{print_no_group, print_notes, print_refusal};
 pub use screen::Screen;
 
 #[cfg(test)]

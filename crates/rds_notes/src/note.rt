@@ -3,7 +3,7 @@
 use arrayvec::ArrayVec;
 use rds_arrivals::{Break, Grain};
 use rds_cli::{End, Request, Task};
-use rds_fields::{RTPLUS_AID, RTPLUS_CODE};
+use rds_fields::{RTPLUS_AID, RTPLUS_CODE, TagGroup};
 use rds_io::LogFault;
 use rds_log::{FaultCount, Gap, GroupCounts, Lack, LogNotes, NoNote, SlotNotes};
 use rds_script::{EarlySet, ScriptNotes};
@@ -90,6 +90,10 @@ pub(crate) struct OtherGroups<'a> {
 pub(crate) struct Elsewhere {
     /// Their type, as five bits.
     pub(crate) code: u8,
+    /// The type of those that were read as tags.
+    pub(crate) read: u8,
+    /// Whether they can be read with `--rtplus`.
+    pub(crate) may_be_read: bool,
     pub(crate) groups: u64,
     /// Whether an audit would have judged them.
     pub(crate) judges: bool,
@@ -141,8 +145,8 @@ pub(crate) enum Note<'a> {
     ShortTexts(u64),
     /// The tags of the programme are in other groups.
     TagsElsewhere(Elsewhere),
-    /// The groups of tags carry this other application.
-    OtherApplication(u16),
+    /// The groups that were read as tags carry this other application. Their type is given as five bits.
+    OtherApplication(u16, u8),
     /// So many groups of the programme had one lost block, and so many none.
     Damaged(u64, u64, &'a str),
     /// Why this PI code was refused.
@@ -284,13 +288,17 @@ fn note_tags<'a>(run: &'a Run<'a>, notes: &mut Notes<'a>) {
         return;
     }
     let heard = run.log.heard;
+    let rtplus = run.request.rtplus;
+    let read = rtplus.exchange_code(RTPLUS_CODE);
     if let Some(code) = heard.announced.rtplus
         && !is_read(code)
         && heard.counts.of(code) > 0
     {
         add(
             Note::TagsElsewhere(Elsewhere {
-                code,
+                code: rtplus.exchange_code(code),
+                read,
+                may_be_read: code & 1 == 0 && TagGroup::new(code >> 1).is_some(),
                 groups: heard.counts.of(code),
                 judges: matches!(run.request.task, Task::Audit { .. }),
             }),
@@ -301,7 +309,7 @@ fn note_tags<'a>(run: &'a Run<'a>, notes: &mut Notes<'a>) {
         && aid != RTPLUS_AID
         && heard.counts.of(RTPLUS_CODE) > 0
     {
-        add(Note::OtherApplication(aid), notes);
+        add(Note::OtherApplication(aid, read), notes);
     }
 }
 
@@ -366,14 +374,6 @@ fn lack_of(run: &Run<'_>) -> Option<Lack> {
     }
 }
 
-/// Returns the note on why a run stopped. If nobody reads its output any more, no fault is noted.
-fn end_note<'a>(run: &'a Run<'a>) -> Option<Note<'a>> {
-    match run.end {
-        End::NotRun | End::Done => None,
-        End::BadPi => Some(Note::BadPi(run.request.pi)),
-        End::BadWindow => Some(Note::BadWindow),
-        End::BadSpans => Some(Note::BadSpans),
-        End::Fault(_) if run.is_gone() => None,
 /// Returns how many slots more would have made this no fault: those that lack to the spacing.
 fn slots_to_cure(no: NoNote) -> u64 {
     let had = match no.earlier {
@@ -383,6 +383,14 @@ fn slots_to_cure(no: NoNote) -> u64 {
     u64::from(no.spacing).saturating_sub(had)
 }
 
+/// Returns the note on why a run stopped. If nobody reads its output any more, no fault is noted.
+fn end_note<'a>(run: &'a Run<'a>) -> Option<Note<'a>> {
+    match run.end {
+        End::NotRun | End::Done => None,
+        End::BadPi => Some(Note::BadPi(run.request.pi)),
+        End::BadWindow => Some(Note::BadWindow),
+        End::BadSpans => Some(Note::BadSpans),
+        End::Fault(_) if run.is_gone() => None,
         End::Fault(fault) => Some(Note::Fault(fault, run)),
     }
 }

@@ -43,7 +43,7 @@ pub(crate) fn push_note(note: Note<'_>, line: &mut Line) {
         Note::Few(groups, slots, pi) => push_few(groups, slots, pi, line),
         Note::ShortTexts(short) => push_short(short, "", "read", line),
         Note::TagsElsewhere(elsewhere) => push_elsewhere(elsewhere, line),
-        Note::OtherApplication(aid) => push_other_application(aid, line),
+        Note::OtherApplication(aid, read) => push_other_application(aid, read, line),
         Note::Damaged(damaged, whole, pi) => push_damaged(damaged, whole, pi, line),
         Note::BadPi(pi) => push_pi(pi, line),
         Note::BadWindow => push_window(line),
@@ -55,7 +55,8 @@ pub(crate) fn push_note(note: Note<'_>, line: &mut Line) {
 /// Appends that the programme has no group of a text, a name or tags.
 fn push_nothing(short: u64, request: &Request<'_>, line: &mut Line) {
     let said = nothing_said(request);
-    let _ = write!(line, "no 2A, 10A or 11A group of {}{said}", request.pi);
+    let tags = request.rtplus.number();
+    let _ = write!(line, "no 2A, 10A or {tags}A group of {}{said}", request.pi);
     let verb = match request.task {
         Task::Audit { .. } => "judged",
         _ => "read",
@@ -105,19 +106,27 @@ fn push_elsewhere(elsewhere: Elsewhere, line: &mut Line) {
     let name = group_name(elsewhere.code);
     let _ = write!(line, "RT+ is in group ");
     push(name.as_slice(), line);
-    let _ = write!(line, " by the 3A groups, not in 11A: ");
+    let _ = write!(line, " by the 3A groups, not in ");
+    push(group_name(elsewhere.read).as_slice(), line);
+    let _ = write!(line, ": ");
     push_count(elsewhere.groups, "group ", "groups ", line);
     push(name.as_slice(), line);
     let be = if elsewhere.groups == 1 { "was" } else { "were" };
     let verb = if elsewhere.judges { "judged" } else { "read" };
     let _ = write!(line, " {be} not {verb}");
+    if elsewhere.may_be_read {
+        let _ = write!(line, "; give --rtplus ");
+        push(name.as_slice(), line);
+    }
 }
 
-/// Appends that group 11A carries another application than the tags.
-fn push_other_application(aid: u16, line: &mut Line) {
+/// Appends that the groups that were read as tags carry another application.
+fn push_other_application(aid: u16, read: u8, line: &mut Line) {
+    let _ = write!(line, "group ");
+    push(group_name(read).as_slice(), line);
     let _ = write!(
         line,
-        "group 11A carries the application {aid:04X} by the 3A groups, not RT+: these groups were read as tags"
+        " carries the application {aid:04X} by the 3A groups, not RT+: these groups were read as tags"
     );
 }
 

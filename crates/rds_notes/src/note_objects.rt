@@ -70,8 +70,9 @@ pub(crate) fn push_object(note: Note<'_>, sentence: &[u8], line: &mut Line) {
             push_text("group", group_name(elsewhere.code).as_slice(), line);
             push_number("groups", elsewhere.groups, line);
         }
-        Note::OtherApplication(aid) => {
+        Note::OtherApplication(aid, read) => {
             push_kind("other_application", line);
+            push_text("group", group_name(read).as_slice(), line);
             let _ = write!(line, ",\"application\":\"{aid:04X}\"");
         }
         Note::Damaged(damaged, whole, _) => {

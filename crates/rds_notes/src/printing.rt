@@ -24,6 +24,12 @@ pub fn print_refusal<N: TellingWrite>(error: &Error, screen: &mut N) {
     let _ = put(text.as_slice(), screen);
 }
 
+/// Prints which group types RadioText Plus may have: the arguments named another one.
+pub fn print_no_group<N: TellingWrite>(screen: &mut N) {
+    let line = b"rdsrt: --rtplus is one of 5A, 6A, 7A, 8A, 9A, 11A, 12A and 13A\n";
+    let _ = put(line, screen);
+}
+
 /// Prints the notes of a run.
 pub fn print_notes<N: TellingWrite>(run: &Run<'_>, screen: &mut N) {
     let is_json = run.request.json_notes;

@@ -2,7 +2,7 @@
 
 use crate::{Run, print_notes};
 use rds_cli::{End, Request, Task};
-use rds_fields::Dwell;
+use rds_fields::{Dwell, TagGroup};
 use rds_io::{LogFault, Told};
 use rds_log::{LogNotes, SlotNotes};
 use rds_script::ScriptNotes;
@@ -18,6 +18,7 @@ fn too_long(rt: HostRuntime) -> Result<(), Fail> {
                 says_why: false,
             },
             pi: "C201",
+            rtplus: TagGroup::usual(),
             lose: "",
             dwell: Dwell::new(128).ok_or("dwell")?,
             file: None,

@@ -7,14 +7,12 @@ use Rattle.clap.specs.declared.error.Error.{Error}
 use Rattle.clap.specs.declared.error.kind.ErrorKind.{ErrorKind}
 use Rattle.clap.specs.declared.error.kind.ErrorKind.TheVariants.{DisplayHelp, DisplayVersion, OutOfMemory}
 use Rattle.rds_io.specs.Told.{Traffic}
-use Rattle.rds_log.specs.LogWrites.{tuned}
-use Rattle.rds_receiver.specs.Receipts.{Tuning}
 use Rattle.rds_cli.specs.Asks.{ReadAs, asked_by}
 use Rattle.rds_cli.specs.CommandLine.{AreAnswered, Requested, IsPi}
 use Rattle.rds_cli.specs.CommandLine.{is_shown, whole_app}
 use Rattle.rds_cli.specs.declared.request.Request.{Request}
 use Rattle.rds_cli.specs.declared.request.Task.{Task}
-use Rattle.rds_program.specs.Run.{NoMemory, RefusesPi, RunsRead, RunsWords, TellsError, status_of}
+use Rattle.rds_program.specs.Run.{Listening, NoMemory, RefusesPi, RunsRead, RunsWords, TellsError, listening, status_of}
 
 -- ---- the status of an answer of `clap`
 
@@ -56,13 +54,13 @@ one_asked : {x y : Requested} → Some x ≡ Some y → x ≡ y
 one_asked e = cc
 
 -- what a run promises for the request that was read, it promises for the arguments
-pub by_words : (words : List (List ℕ)) (read : Result (Option Request) Error) (Engine : Task → List ℕ → Tuning → Type 0)
-    (Rests : Type 0) (w : Traffic) (status : ℕ)
+pub by_words : (words : List (List ℕ)) (read : Result (Option Request) Error) (Engine : Task → List ℕ → Listening
+    → Type 0) (Rests : Type 0) (w : Traffic) (status : ℕ)
     → ReadAs words read → RunsRead read Engine Rests w status → RunsWords words Engine Rests w status
 by_words words (Ok (Some request)) Engine Rests w status known ran = record {
   runs = λ asked pi given is.
       let same : asked_by request ≡ asked = one_asked (known.ok ∙ given.ask) in
-      inr (subst (λ (a : Requested). Engine a.task a.lose (tuned pi a.dwell)) same
+      inr (subst (λ (a : Requested). Engine a.task a.lose (listening a.rtplus pi a.dwell)) same
       (ran.runs pi (subst (λ (a : Requested). IsPi a.pi pi) (sym same) is)));
   fault_pi = λ asked given none.
       let same : asked_by request ≡ asked = one_asked (known.ok ∙ given.ask) in

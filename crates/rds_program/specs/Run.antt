@@ -97,6 +97,15 @@ PutsAfter task Memory w = TellsFault task (codes "fault memory") w
 
 -- ---- engines
 
+-- what the receivers of a run listen to: how they are tuned, and the group type nA of the tags
+pub record Listening : Type 0 where
+  pub tuning : Tuning
+  pub rtplus : ℕ
+
+-- to this programme with this dwell, and to tags in groups nA
+abbrev pub listening : ℕ → ℕ → ℕ → Listening
+listening n pi m = record { tuning = tuned pi m; rtplus = n }
+
 -- the status of the answer of an engine; 1 after a fault, and the line of the fault is written
 abbrev pub EndsWith : {X : Type 0} → (X → ℕ) → Task → Result X LogFault → Traffic → ℕ → Type 0
 EndsWith status_of task (Ok answer) w status = (status ≡ status_of answer) × PutsNothing w
@@ -151,8 +160,15 @@ simulated_station t programme late window alone =
     then Some (tuned_station t programme late (kind_for window alone)) else None
 
 -- how `decode` decodes a log: with this window or none, and with reasons or without
-abbrev pub decoding_of : Tuning → Option ℕ → Bool → Decoding
-decoding_of t window why = record { pi = t.programme; dwell = t.dwell; window = window; says_why = why }
+abbrev pub decoding_of : Listening → Option ℕ → Bool → Decoding
+decoding_of l window why =
+    record {
+      pi = l.tuning.programme;
+      rtplus = l.rtplus;
+      dwell = l.tuning.dwell;
+      window = window;
+      says_why = why;
+    }
 
 -- where `audit` stops: with `--all` at the end of the log
 abbrev pub stop_if : Bool → Stop
@@ -161,11 +177,12 @@ stop_if true = LogEnd
 
 -- how `audit` judges a log: for receivers that are tuned so and whose groups come at most so late. With `running` the
 -- log begins inside the output of its station
-abbrev pub auditing_of : Tuning → ℕ → Bool → Bool → Bool → Auditing
-auditing_of t late running padded all =
+abbrev pub auditing_of : Listening → ℕ → Bool → Bool → Bool → Auditing
+auditing_of l late running padded all =
     record {
-      pi = t.programme;
-      dwell = t.dwell;
+      pi = l.tuning.programme;
+      rtplus = l.rtplus;
+      dwell = l.tuning.dwell;
       late = late;
       start = start_if running;
       form = form_if padded;
@@ -193,12 +210,12 @@ pub record RefusesWindow (task : Task) (w : Traffic) (status : ℕ) : Type 0 whe
   pub status_is : status ≡ 2
   pub told : TellsFault task (codes "fault confirm") w
 
--- the simulation of this station ran, with reasons or without; without a station its window was refused, and nothing
--- was read
-abbrev pub SimulationRuns : Bool → Option Config → Task → ReaderOver → Traffic → ℕ → Type 0
-SimulationRuns why None task r w status = RefusesWindow task w status × r.Untouched
-SimulationRuns why (Some station) task r w status =
-    EngineRuns (Plays (with_form (Simulation why) station) (2 ^ 32) (script_in r)) done task w status
+-- the simulation of this station ran, with reasons or without, and with tags in groups nA; without a station its window
+-- was refused, and nothing was read
+abbrev pub SimulationRuns : Bool → ℕ → Option Config → Task → ReaderOver → Traffic → ℕ → Type 0
+SimulationRuns why n None task r w status = RefusesWindow task w status × r.Untouched
+SimulationRuns why n (Some station) task r w status =
+    EngineRuns (Plays (with_form (Simulation why n) station) (2 ^ 32) (script_in r)) done task w status
 
 -- the slots to lose were refused: they are no spans in ascending order
 pub record RefusesSpans (task : Task) (w : Traffic) (status : ℕ) : Type 0 where
@@ -212,30 +229,33 @@ pub record NoMemoryFor (task : Task) (w : Traffic) (status : ℕ) : Type 0 where
 
 -- a receiver lost these slots, with this dwell or with the flag bit alone, and a receiver that loses nothing was looked
 -- at for a dwell; without slots they were refused, and nothing was read
-abbrev pub LossRuns : Option (List Burst) → Bool → Tuning → ReaderOver → Traffic → ℕ → Type 0
-LossRuns None alone t r w status =
+abbrev pub LossRuns : Option (List Burst) → Bool → Listening → ReaderOver → Traffic → ℕ → Type 0
+LossRuns None alone l r w status =
     (RefusesSpans (Lose alone) w status ⊎ NoMemoryFor (Lose alone) w status) × r.Untouched
-LossRuns (Some lost) alone t r w status =
-    EngineRuns (Loses (lossy alone t) t.dwell lost r.traffic) witness_status (Lose alone) w status
-
--- the engine of the task ran, with receivers that are tuned so; the receiver of `decode` has the window of the task,
--- and the text gives the slots that the receiver of `Lose` loses
-abbrev pub TaskRuns : Task → List ℕ → Tuning → ReaderOver → Traffic → ℕ → Type 0
-TaskRuns (Decode window why) lose t r w status =
-    EngineRuns (Decodes (decoding_of t window why) (2 ^ 32) r.traffic) done (Decode window why) w status
-TaskRuns (Encode programme late) lose t r w status =
-    EngineRuns (Plays (with_form Log (tuned_station t programme late WithDwell)) (2 ^ 32) (script_in r)) done
-    (Encode programme late) w status
-TaskRuns (Simulate programme late window alone why) lose t r w status =
-    SimulationRuns why (simulated_station t programme late window alone) (Simulate programme late window alone why) r w
+LossRuns (Some lost) alone l r w status =
+    EngineRuns (Loses l.rtplus (lossy alone l.tuning) l.tuning.dwell lost r.traffic) witness_status (Lose alone) w
     status
-TaskRuns (Audit late running padded all) lose t r w status =
-    EngineRuns (Audits (auditing_of t late running padded all) (2 ^ 32) r.traffic) verdict_status
+
+-- the engine of the task ran, with receivers that listen so; the receiver of `decode` has the window of the task,
+-- and the text gives the slots that the receiver of `Lose` loses
+abbrev pub TaskRuns : Task → List ℕ → Listening → ReaderOver → Traffic → ℕ → Type 0
+TaskRuns (Decode window why) lose l r w status =
+    EngineRuns (Decodes (decoding_of l window why) (2 ^ 32) r.traffic) done (Decode window why) w status
+TaskRuns (Encode programme late) lose l r w status =
+    EngineRuns
+    (Plays (with_form (Log l.rtplus) (tuned_station l.tuning programme late WithDwell)) (2 ^ 32) (script_in r)) done
+    (Encode programme late) w status
+TaskRuns (Simulate programme late window alone why) lose l r w status =
+    SimulationRuns why l.rtplus (simulated_station l.tuning programme late window alone)
+    (Simulate programme late window alone why) r w status
+TaskRuns (Audit late running padded all) lose l r w status =
+    EngineRuns (Audits (auditing_of l late running padded all) (2 ^ 32) r.traffic) verdict_status
     (Audit late running padded all) w status
-TaskRuns Witness lose t r w status = EngineRuns (Witnesses t r.traffic) witness_status Witness w status
-TaskRuns (Lose alone) lose t r w status = LossRuns (bursts_in lose) alone t r w status
-TaskRuns (Slots grain only) lose t r w status =
-    EngineRuns (Fills (filling_of t (1000 * grain) only) r.traffic) times_status (Slots grain only) w status
+TaskRuns Witness lose l r w status =
+    EngineRuns (Witnesses l.rtplus l.tuning r.traffic) witness_status Witness w status
+TaskRuns (Lose alone) lose l r w status = LossRuns (bursts_in lose) alone l r w status
+TaskRuns (Slots grain only) lose l r w status =
+    EngineRuns (Fills (filling_of l.tuning (1000 * grain) only) r.traffic) times_status (Slots grain only) w status
 
 -- the programme identification is refused
 pub record RefusesPi (task : Task) (w : Traffic) (status : ℕ) : Type 0 where
@@ -260,11 +280,11 @@ reader_before remaining failures reader =
 -- the engine of a task ran over a reader that was in this state, and it found a failed read only if one of its reads
 -- failed
 pub record RunsFrom (reader : ReaderBefore) (w : Traffic) (status : ℕ) (task : Task) (lose : List ℕ)
-    (t : Tuning) : Type 0 where
+    (l : Listening) : Type 0 where
   pub r : Traffic
   pub starts : StartsFrom r reader.bytes reader.failures
   pub fails : HasFailed r → reader.ReadFailed
-  pub ran : TaskRuns task lose t
+  pub ran : TaskRuns task lose l
       (record { traffic = r; ReadFailed = reader.ReadFailed; Untouched = (r.after ≡ r.before) × IsCalm r }) w status
 
 -- the status of an answer of `clap`: 1 if the program is out of memory, 0 for help and the version, and 2 for a refusal
@@ -278,14 +298,16 @@ pub record TellsError (kind : ErrorKind) (w : Traffic) (status : ℕ) : Type 0 w
   pub no_memory : kind ≡ OutOfMemory → PutsLine (codes "fault memory\n") w
 
 -- the engine of a request ran, unless its programme identification is refused
-pub record AnswersRequest (asked : Requested) (Engine : Task → List ℕ → Tuning → Type 0) (Rests : Type 0) (w : Traffic)
+pub record AnswersRequest (asked : Requested) (Engine : Task → List ℕ → Listening → Type 0) (Rests : Type 0) (w :
+    Traffic)
     (status : ℕ) : Type 0 where
-  pub runs : (pi : ℕ) → IsPi asked.pi pi → Engine asked.task asked.lose (tuned pi asked.dwell)
+  pub runs : (pi : ℕ) → IsPi asked.pi pi → Engine asked.task asked.lose (listening asked.rtplus pi asked.dwell)
   pub fault_pi : ((pi : ℕ) → IsPi asked.pi pi → ⊥) → RefusesPi asked.task w status × Rests
 
 -- what the program does, given the result of reading its arguments: it writes the answer of `clap`, or it does nothing,
 -- or it runs a request. Rests holds if no engine ran
-abbrev pub RunsRead : Result (Option Request) Error → (Task → List ℕ → Tuning → Type 0) → Type 0 → Traffic → ℕ → Type 0
+abbrev pub RunsRead : Result (Option Request) Error → (Task → List ℕ → Listening → Type 0) → Type 0 → Traffic → ℕ →
+    Type 0
 RunsRead (Err error) Engine Rests w status = TellsError (kind_of error) w status × Rests
 RunsRead (Ok None) Engine Rests w status = (status ≡ 2) × PutsNothing w × Rests
 RunsRead (Ok (Some request)) Engine Rests w status = AnswersRequest (asked_by request) Engine Rests w status
@@ -293,10 +315,11 @@ RunsRead (Ok (Some request)) Engine Rests w status = AnswersRequest (asked_by re
 -- what the program does over these arguments: it runs the engine of their task, or it refuses their programme
 -- identification. The other fields give its status if the arguments name no task, ask for help, are refused or are not
 -- taken. In each case the program may be out of memory instead. Rests holds if no engine ran
-pub record RunsWords (words : List (List ℕ)) (Engine : Task → List ℕ → Tuning → Type 0) (Rests : Type 0) (w : Traffic)
+pub record RunsWords (words : List (List ℕ)) (Engine : Task → List ℕ → Listening → Type 0) (Rests : Type 0) (w :
+    Traffic)
     (status : ℕ) : Type 0 where
   pub runs : (asked : Requested) (pi : ℕ) → AskFor words asked → IsPi asked.pi pi
-      → (NoMemory w status × Rests) ⊎ Engine asked.task asked.lose (tuned pi asked.dwell)
+      → (NoMemory w status × Rests) ⊎ Engine asked.task asked.lose (listening asked.rtplus pi asked.dwell)
   pub fault_pi : (asked : Requested) → AskFor words asked → ((pi : ℕ) → IsPi asked.pi pi → ⊥)
       → (NoMemory w status ⊎ RefusesPi asked.task w status) × Rests
   pub nothing_asked : TakesWords words → asked_in words ≡ None

@@ -3,10 +3,8 @@ use Rattle.std.proofs.Common.{◌^◌, arith, inl, inr}
 use Rattle.std.proofs.Math.Logic.{∥∥₁_elim}
 use Rattle.std.specs.Prelude.{ℕ, Bool, List, None, Option, Some, false, true}
 use Rattle.rds_io.specs.Told.{Failed, Traffic}
-use Rattle.rds_receiver.specs.Receipts.{Tuning}
 use Rattle.rds_world.specs.declared.receiver_kind.ReceiverKind.TheVariants.{WithDwell}
 use Rattle.rds_world.specs.declared.world.Config.{Config}
-use Rattle.rds_log.specs.LogWrites.{tuned}
 use Rattle.rds_io.specs.ReadFailed.{SomeReadFailed}
 use Rattle.rds_script.specs.BorrowedReads.{plays_by}
 use Rattle.rds_script.specs.Play.{Plays, with_form}
@@ -16,18 +14,18 @@ use Rattle.rds_witness.specs.Spans.{bursts_in}
 use Rattle.rds_witness.specs.declared.burst.Burst.{Burst}
 use Rattle.rds_cli.specs.declared.request.Task.{Task}
 use Rattle.rds_cli.specs.declared.request.Task.TheVariants.{Audit, Decode, Encode, Lose, Simulate, Slots, Witness}
-use Rattle.rds_program.specs.Run.{LossRuns, NoMemory, EngineRuns, RunsWords, SimulationRuns, TaskRuns}
-use Rattle.rds_program.specs.Run.{done, simulated_station, tuned_station}
+use Rattle.rds_program.specs.Run.{EngineRuns, Listening, LossRuns, NoMemory, RunsWords, SimulationRuns, TaskRuns}
+use Rattle.rds_program.specs.Run.{done, listening, simulated_station, tuned_station}
 
 -- a run of engines that do more, with another statement for the case that no engine ran
-pub runs_by : {Rests Rested : Type 0} (words : List (List ℕ)) (Engine Weaker : Task → List ℕ → Tuning → Type 0)
+pub runs_by : {Rests Rested : Type 0} (words : List (List ℕ)) (Engine Weaker : Task → List ℕ → Listening → Type 0)
     (w : Traffic) (status : ℕ)
-    → ((task : Task) (lose : List ℕ) (t : Tuning) → Engine task lose t → Weaker task lose t) → (Rests → Rested)
+    → ((task : Task) (lose : List ℕ) (l : Listening) → Engine task lose l → Weaker task lose l) → (Rests → Rested)
     → RunsWords words Engine Rests w status → RunsWords words Weaker Rested w status
 runs_by words Engine Weaker w status engine rests did = record {
   runs = λ asked pi given is. elim (did.runs asked pi given is) [
     | inl memory ↦ inl (memory.0, rests memory.1)
-    | inr ran ↦ inr (engine asked.task asked.lose (tuned pi asked.dwell) ran)
+    | inr ran ↦ inr (engine asked.task asked.lose (listening asked.rtplus pi asked.dwell) ran)
   ];
   fault_pi = λ asked given none. let it = did.fault_pi asked given none in (it.0, rests it.1);
   nothing_asked = λ takes none. let it = did.nothing_asked takes none in (it.0, rests it.1);
@@ -37,7 +35,7 @@ runs_by words Engine Weaker w status engine rests did = record {
 }
 
 -- a program that is out of memory for its arguments keeps every promise
-pub runs_without_memory : {Rests : Type 0} (words : List (List ℕ)) (Engine : Task → List ℕ → Tuning → Type 0)
+pub runs_without_memory : {Rests : Type 0} (words : List (List ℕ)) (Engine : Task → List ℕ → Listening → Type 0)
     (w : Traffic) (status : ℕ) → NoMemory w status → Rests → RunsWords words Engine Rests w status
 runs_without_memory words Engine w status memory rests = record {
   runs = λ asked pi given is. inl (memory, rests);
@@ -63,38 +61,38 @@ script_by says how task known w status ran = record {
 }
 
 -- the run of a simulation, with other statements about its reads
-simulation_by : {P Q U V : Type 0} → (P → Q) → (U → V) → (why : Bool) (station : Option Config) (task : Task)
+simulation_by : {P Q U V : Type 0} → (P → Q) → (U → V) → (why : Bool) (n : ℕ) (station : Option Config) (task : Task)
     (r w : Traffic) (status : ℕ)
-    → SimulationRuns why station task (record { traffic = r; ReadFailed = P; Untouched = U }) w status
-    → SimulationRuns why station task (record { traffic = r; ReadFailed = Q; Untouched = V }) w status
-simulation_by says rests why None task r w status ran = (ran.0, rests ran.1)
-simulation_by says rests why (Some station) task r w status ran =
-    script_by says (with_form (Simulation why) station) task r.before w status ran
+    → SimulationRuns why n station task (record { traffic = r; ReadFailed = P; Untouched = U }) w status
+    → SimulationRuns why n station task (record { traffic = r; ReadFailed = Q; Untouched = V }) w status
+simulation_by says rests why n None task r w status ran = (ran.0, rests ran.1)
+simulation_by says rests why n (Some station) task r w status ran =
+    script_by says (with_form (Simulation why n) station) task r.before w status ran
 
 -- the run of a receiver that loses given slots, with other statements about its reads
-loss_by : (P Q : Type 0) {U V : Type 0} → (U → V) → (lost : Option (List Burst)) (alone : Bool) (t : Tuning)
+loss_by : (P Q : Type 0) {U V : Type 0} → (U → V) → (lost : Option (List Burst)) (alone : Bool) (l : Listening)
     (r w : Traffic) (status : ℕ)
-    → LossRuns lost alone t (record { traffic = r; ReadFailed = P; Untouched = U }) w status
-    → LossRuns lost alone t (record { traffic = r; ReadFailed = Q; Untouched = V }) w status
-loss_by P Q rests None alone t r w status ran = (ran.0, rests ran.1)
-loss_by P Q rests (Some lost) alone t r w status ran = ran
+    → LossRuns lost alone l (record { traffic = r; ReadFailed = P; Untouched = U }) w status
+    → LossRuns lost alone l (record { traffic = r; ReadFailed = Q; Untouched = V }) w status
+loss_by P Q rests None alone l r w status ran = (ran.0, rests ran.1)
+loss_by P Q rests (Some lost) alone l r w status ran = ran
 
 -- the run of a task, with other statements about its reads
-pub task_by : {P Q U V : Type 0} → (P → Q) → (U → V) → (task : Task) (lose : List ℕ) (t : Tuning) (r w : Traffic)
-    (status : ℕ) → TaskRuns task lose t (record { traffic = r; ReadFailed = P; Untouched = U }) w status
-    → TaskRuns task lose t (record { traffic = r; ReadFailed = Q; Untouched = V }) w status
-task_by says rests (Decode window why) lose t r w status ran = ran
-task_by says rests (Audit late running padded false) lose t r w status ran = ran
-task_by says rests (Audit late running padded true) lose t r w status ran = ran
-task_by says rests Witness lose t r w status ran = ran
-task_by says rests (Lose alone) lose t r w status ran =
-    loss_by _ _ rests (bursts_in lose) alone t r w status ran
-task_by says rests (Slots grain only) lose t r w status ran = ran
-task_by says rests (Encode programme late) lose t r w status ran =
-    script_by says (with_form Log (tuned_station t programme late WithDwell)) (Encode programme late) r.before w
-    status ran
-task_by says rests (Simulate programme late window alone why) lose t r w status ran =
-    simulation_by says rests why (simulated_station t programme late window alone)
+pub task_by : {P Q U V : Type 0} → (P → Q) → (U → V) → (task : Task) (lose : List ℕ) (l : Listening) (r w : Traffic)
+    (status : ℕ) → TaskRuns task lose l (record { traffic = r; ReadFailed = P; Untouched = U }) w status
+    → TaskRuns task lose l (record { traffic = r; ReadFailed = Q; Untouched = V }) w status
+task_by says rests (Decode window why) lose l r w status ran = ran
+task_by says rests (Audit late running padded false) lose l r w status ran = ran
+task_by says rests (Audit late running padded true) lose l r w status ran = ran
+task_by says rests Witness lose l r w status ran = ran
+task_by says rests (Lose alone) lose l r w status ran =
+    loss_by _ _ rests (bursts_in lose) alone l r w status ran
+task_by says rests (Slots grain only) lose l r w status ran = ran
+task_by says rests (Encode programme late) lose l r w status ran =
+    script_by says (with_form (Log l.rtplus) (tuned_station l.tuning programme late WithDwell)) (Encode programme late)
+    r.before w status ran
+task_by says rests (Simulate programme late window alone why) lose l r w status ran =
+    simulation_by says rests why l.rtplus (simulated_station l.tuning programme late window alone)
     (Simulate programme late window alone why) r w status ran
 
 -- a reader whose count of failures is always 0 never fails

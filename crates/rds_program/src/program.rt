@@ -10,7 +10,7 @@ ghost use Rattle.rds_cli.specs.CommandLine.{IsPi};
 ghost use Rattle.rds_program.specs.Run as specs;
 ghost use Rattle.rds_program.specs.Run.{EndsWith, IsUntouched, PutsAfter, PutsLine, RefusesPi, RunsFrom, RunsRead};
 ghost use Rattle.rds_program.specs.Run.{LossRuns, RunsWords};
-ghost use Rattle.rds_program.specs.Run.{SimulationRuns, TaskRuns, TellsFault, done, mark_of, reader_before};
+ghost use Rattle.rds_program.specs.Run.{SimulationRuns, TaskRuns, TellsFault, done, listening, mark_of, reader_before};
 ghost use Rattle.rds_program.specs.Run.{reader_over};
 ghost use Rattle.rds_program.specs.Run.{script_in, status_of, times_status};
 ghost use Rattle.rds_script.specs.Play.{Plays};
@@ -24,7 +24,7 @@ use clap::error::ErrorKind;
 use rds_arrivals::Grain;
 use rds_audit::{LogStart, TextForm};
 use rds_cli::{End, Programme, Request, Task, identification_of, read_words};
-use rds_fields::{Dwell, Head, Late};
+use rds_fields::{Dwell, Head, Late, TagGroup};
 use rds_io::{Lines, LogFault, TellingRead, TellingWrite, put};
 use rds_log::{
     Auditing, Decoding, Filling, MOST_READS, News, NoNews, Stop, Times, audit_with_notes,
@@ -145,7 +145,7 @@ fn answer<R: TellingRead, W: TellingWrite, N: News>(
     news: &mut N,
 ) -> u8
     ensures runs { (pi : ℕ) → IsPi request.now.pi.now pi
-        → TaskRuns request.now.task request.now.lose.now (tuned pi request.now.dwell)
+        → TaskRuns request.now.task request.now.lose.now (listening request.now.rtplus pi request.now.dwell)
         (reader_over R.remaining R.failures R.reads reader.old reader.new)
         (traffic W.contents W.failures writer.old writer.new) result }
     ensures fault_pi { ((pi : ℕ) → IsPi request.now.pi.now pi → ⊥)
@@ -170,16 +170,17 @@ fn run_task<R: TellingRead, W: TellingWrite, N: News>(
     report: &mut Report,
     news: &mut N,
 ) -> u8
-    ensures { TaskRuns request.now.task request.now.lose.now (tuned pi request.now.dwell)
+    ensures { TaskRuns request.now.task request.now.lose.now (listening request.now.rtplus pi request.now.dwell)
         (reader_over R.remaining R.failures R.reads reader.old reader.new)
         (traffic W.contents W.failures writer.old writer.new) result }
 {
     // Prover: a matched value is copied by a new name before its second use (docs/PROVER.md, "Workarounds").
-    let (asked, dwell) = (request.task, request.dwell);
+    let (asked, rtplus, dwell) = (request.task, request.rtplus, request.dwell);
     match request.task {
         Task::Decode { window, says_why } => {
             let decoding = Decoding {
                 pi,
+                rtplus,
                 dwell,
                 window,
                 says_why,
@@ -190,7 +191,7 @@ fn run_task<R: TellingRead, W: TellingWrite, N: News>(
         }
         Task::Encode(programme, late) => {
             let playing = Playing {
-                form: Form::Log,
+                form: Form::Log { rtplus },
                 config: station_of(pi, dwell, programme, late, ReceiverKind::WithDwell),
             };
             let encoded = run_script(playing, alloc, reader, writer, report);
@@ -204,7 +205,9 @@ fn run_task<R: TellingRead, W: TellingWrite, N: News>(
             says_why,
         } => {
             let station = simulated_station(pi, dwell, programme, late, window, flag_alone);
-            simulate(alloc, asked, says_why, station, reader, writer, report)
+            simulate(
+                alloc, asked, says_why, rtplus, station, reader, writer, report,
+            )
         }
         Task::Audit {
             late,
@@ -214,6 +217,7 @@ fn run_task<R: TellingRead, W: TellingWrite, N: News>(
         } => {
             let auditing = Auditing {
                 pi,
+                rtplus,
                 dwell,
                 late,
                 start: start_of(running),
@@ -235,7 +239,7 @@ fn run_task<R: TellingRead, W: TellingWrite, N: News>(
         }
         Task::Witness => {
             let log = &mut report.log;
-            match witness_with_notes(alloc, reader, writer, pi, dwell, log, news) {
+            match witness_with_notes(alloc, reader, writer, pi, rtplus, dwell, log, news) {
                 Ok(found) => answer_by(found, NO, OK, &mut report.end),
                 Err(fault) => fail_with(asked, fault, writer, &mut report.end),
             }
@@ -259,7 +263,7 @@ fn lose<R: TellingRead, W: TellingWrite, N: News>(
     report: &mut Report,
     news: &mut N,
 ) -> u8
-    ensures { LossRuns (bursts_in request.now.lose.now) flag_alone (tuned pi request.now.dwell)
+    ensures { LossRuns (bursts_in request.now.lose.now) flag_alone (listening request.now.rtplus pi request.now.dwell)
         (reader_over R.remaining R.failures R.reads reader.old reader.new)
         (traffic W.contents W.failures writer.old writer.new) result }
 {
@@ -274,6 +278,7 @@ fn lose<R: TellingRead, W: TellingWrite, N: News>(
     };
     let losing = Losing {
         pi,
+        rtplus: request.rtplus,
         dwell: dwell_for(flag_alone, request.dwell),
         ahead: request.dwell,
         lost: bursts.as_slice(),
@@ -291,18 +296,19 @@ fn dwell_for(alone: bool, dwell: Dwell) -> Dwell
     if alone { Dwell::longest() } else { dwell }
 }
 
-/// Simulates a station and its receivers, and says why texts and names are not shown any more, if that is asked for.
-/// Without a station the window is refused.
+/// Simulates a station, with its tags in this group type, and its receivers. Says why texts and names are not shown any
+/// more, if that is asked for. Without a station the window is refused.
 fn simulate<R: TellingRead, W: TellingWrite>(
     alloc: Global,
     task: Task,
     says_why: bool,
+    rtplus: TagGroup,
     station: Option<Config>,
     reader: &mut R,
     writer: &mut W,
     report: &mut Report,
 ) -> u8
-    ensures { SimulationRuns says_why station task
+    ensures { SimulationRuns says_why rtplus station task
         (reader_over R.remaining R.failures R.reads reader.old reader.new)
         (traffic W.contents W.failures writer.old writer.new) result }
 {
@@ -311,7 +317,7 @@ fn simulate<R: TellingRead, W: TellingWrite>(
         write_fault_text(task, b"fault confirm", writer);
         return REFUSED;
     };
-    let form = Form::Simulation { says_why };
+    let form = Form::Simulation { says_why, rtplus };
     let playing = Playing {
         form,
         config: station,

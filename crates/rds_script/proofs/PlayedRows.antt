@@ -58,8 +58,8 @@ names_receivers k form row records e says none (f ∷ older) say = none
 
 -- a record that says no event
 few_allowed : (form : Form) (n : ℕ) → IsAllowed form n → n ≤ MOST_RECEIVERS
-few_allowed (Simulation why) n allowed = allowed
-few_allowed Log n allowed = omega (arith, allowed)
+few_allowed (Simulation why rtplus) n allowed = allowed
+few_allowed (Log rtplus) n allowed = omega (arith, allowed)
 
 -- a row that says no event ends the rows of a script
 pub says_none : (k : Config) (form : Form) (row : Record) (records : List Record)
@@ -148,14 +148,6 @@ is_ready (Some before) w played asked events outcomes had allowed rows are has b
   how = inl (let counted = as_many_rows played.config played.receivers played.records events rows
       in omega (arith, has.0, counted));
 }
-
--- an event and an outcome for each slot
-pub as_many_outcomes : (config : Config) (events : List Event) (outcomes : List Outcome)
-    → AreOutcomes config events outcomes → length events ≡ length outcomes
-as_many_outcomes config [] [] are = refl
-as_many_outcomes config [] (o ∷ older) are = absurd are
-as_many_outcomes config (e ∷ before) [] are = absurd are
-as_many_outcomes config (e ∷ before) (o ∷ older) are = ap suc (as_many_outcomes config before older are.1)
 
 -- a slot more is played in a world whose receivers are watched
 pub plays_on : {T E : Type 0} (r : Result T E) (before now : Player) (played : Played)

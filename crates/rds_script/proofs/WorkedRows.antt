@@ -79,8 +79,7 @@ abbrev tag : ℕ → ℕ → ℕ → TagFields
 tag class start extra = record { class = class; start = start; extra = extra }
 
 -- M = 4: "ABCDEFGH" in slot 4, its title "AB" in slot 10, and in slot 14 an artist in its place. In slot 26 a radio
--- completes
--- the text, and shows it with the title
+-- completes the text, and shows it with the title
 abbrev letters : List ℕ
 letters = 0x41 ∷ 0x42 ∷ 0x43 ∷ 0x44 ∷ 0x45 ∷ 0x46 ∷ 0x47 ∷ 0x48 ∷ []
 

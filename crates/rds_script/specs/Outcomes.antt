@@ -15,6 +15,7 @@ use Rattle.rds_fields.specs.declared.pair.Which.TheVariants.{One, Two}
 use Rattle.rds_encoder.specs.Sent.{IsSent}
 use Rattle.rds_encoder.specs.declared.reply.Refusal.{Refusal}
 use Rattle.rds_encoder.specs.declared.reply.Refusal.TheVariants.{Silent, Held, NoText, OutOfText}
+use Rattle.rds_fields.specs.TagGroup.{exchanged_in}
 use Rattle.rds_fields.specs.declared.message.Message.{Message}
 use Rattle.rds_receiver.specs.NotShown.{whys_of}
 use Rattle.rds_receiver.specs.Receipts.{Tuning}
@@ -141,9 +142,9 @@ whys_after (reception.Wrong message) t heard = whys_of t heard
 
 -- the same, if the lines say why
 abbrev pub whys_said : Form → Reception → Config → Input → Option Whys
-whys_said Log r config input = None
-whys_said (Simulation false) r config input = None
-whys_said (Simulation true) r config input = Some (whys_after r (tuned_to config input) input.heard)
+whys_said (Log n) r config input = None
+whys_said (Simulation false n) r config input = None
+whys_said (Simulation true n) r config input = Some (whys_after r (tuned_to config input) input.heard)
 
 -- the same for receiver i after these slots, the newest of which has these receptions
 abbrev pub whys_at : Form → Config → List Reception → List Event → ℕ → Option Whys
@@ -157,10 +158,12 @@ receiver_changes slot (suc i) whys before now =
     receiver_changes slot i whys before now
     ++ change (receiver_stamp slot i) (whys i) (view_at before i) (view_at now i)
 
--- the lines of the reply and of the group
+-- the lines of the reply and of the group. The tags are sent in groups nA
 abbrev pub answer_lines : Form → ℕ → Command → Reply → Option Group → List ℕ
-answer_lines (Simulation why) slot command reply sent = reply_line [] slot command reply ++ sent_line slot sent
-answer_lines Log slot command reply sent = reply_line (codes "# ") slot command reply ++ log_line sent
+answer_lines (Simulation why n) slot command reply sent =
+    reply_line [] slot command reply ++ sent_line slot (exchanged_in n sent)
+answer_lines (Log n) slot command reply sent =
+    reply_line (codes "# ") slot command reply ++ log_line (exchanged_in n sent)
 
 -- the lines of the slot of an event after these earlier slots and views; a log has no receivers
 abbrev pub slot_lines : Form → Config → ℕ → Event → List Event → List ShownView → Outcome → List ℕ

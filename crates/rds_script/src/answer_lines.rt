@@ -25,7 +25,7 @@ pub(crate) const ANSWER_ROOM: usize = REPLY_ROOM + GROUP_ROOM;
 
 /// Appends the line of the reply, if there was a command, and then the line of the group.
 pub(crate) fn push_answer<const N: usize>(
-    form: Form,
+    form: &Form,
     slot: u64,
     command: &Command,
     answer: Answer,
@@ -33,17 +33,17 @@ pub(crate) fn push_answer<const N: usize>(
 )
     requires { length lines.old + ANSWER_ROOM ≤ N }
     ensures lines { lines.new
-        ≡ lines.old ++ answer_lines form slot command.now answer.reply answer.sent }
+        ≡ lines.old ++ answer_lines form.now slot command.now answer.reply answer.sent }
     ensures room { length lines.new ≤ length lines.old + ANSWER_ROOM }
 {
-    match form {
-        Form::Simulation { .. } => {
+    match *form {
+        Form::Simulation { rtplus, .. } => {
             push_reply(b"", slot, command, answer.reply, lines);
-            push_sent(slot, answer.sent, lines);
+            push_sent(slot, rtplus.exchange_sent(answer.sent), lines);
         }
-        Form::Log => {
+        Form::Log { rtplus } => {
             push_reply(b"# ", slot, command, answer.reply, lines);
-            push_log_line(answer.sent, lines);
+            push_log_line(rtplus.exchange_sent(answer.sent), lines);
         }
     }
 }

@@ -16,6 +16,7 @@ use crate::records::Records;
 use crate::row::RowRefused;
 use crate::watched::{ROW_ROOM, RowLines};
 use csv::ByteRecord;
+use rds_fields::TagGroup;
 use rds_io::{LogFault, TellingRead, TellingWrite};
 use rds_world::Config;
 use std::alloc::Global;
@@ -32,8 +33,8 @@ pub struct Playing {
 /// The most records of a script. A script with as many is too long.
 pub const MOST_RECORDS: u64 = 1 << 32;
 
-/// Plays a script with a station and up to eight receivers. Writes for each slot the reply to its command, the group,
-/// and the changes at each receiver.
+/// Plays a script with a station, which sends its tags in groups 11A, and up to eight receivers. Writes for each slot
+/// the reply to its command, the group, and the changes at each receiver.
 ///
 /// The output of the rows of one read is written before the next read, in one write if the writer takes it whole. A row
 /// that the read cuts belongs to the next read.
@@ -48,7 +49,7 @@ pub fn simulate<R: TellingRead + Drop, W: TellingWrite>(
     writer: &mut W,
     config: Config,
 ) -> Result<(), LogFault>
-    ensures { Plays (with_form (forms.Simulation false) config) (2 ^ 32) (reading R.remaining R.failures reader)
+    ensures { Plays (with_form (forms.Simulation false 11) config) (2 ^ 32) (reading R.remaining R.failures reader)
         (traffic W.contents W.failures writer.old writer.new) result }
 {
     simulate_within(alloc, reader, writer, config, MOST_RECORDS)
@@ -64,10 +65,13 @@ pub fn simulate_within<R: TellingRead + Drop, W: TellingWrite>(
     records: u64,
 ) -> Result<(), LogFault>
     requires { records ≤ 2 ^ 32 }
-    ensures { Plays (with_form (forms.Simulation false) config) records (reading R.remaining R.failures reader)
+    ensures { Plays (with_form (forms.Simulation false 11) config) records (reading R.remaining R.failures reader)
         (traffic W.contents W.failures writer.old writer.new) result }
 {
-    let form = Form::Simulation { says_why: false };
+    let form = Form::Simulation {
+        says_why: false,
+        rtplus: TagGroup::usual(),
+    };
     let playing = Playing { form, config };
     play_script(
         playing,
@@ -91,7 +95,7 @@ pub fn encode<R: TellingRead + Drop, W: TellingWrite>(
     writer: &mut W,
     config: Config,
 ) -> Result<(), LogFault>
-    ensures { Plays (with_form forms.Log config) (2 ^ 32) (reading R.remaining R.failures reader)
+    ensures { Plays (with_form (forms.Log 11) config) (2 ^ 32) (reading R.remaining R.failures reader)
         (traffic W.contents W.failures writer.old writer.new) result }
 {
     encode_within(alloc, reader, writer, config, MOST_RECORDS)
@@ -106,10 +110,12 @@ pub fn encode_within<R: TellingRead + Drop, W: TellingWrite>(
     records: u64,
 ) -> Result<(), LogFault>
     requires { records ≤ 2 ^ 32 }
-    ensures { Plays (with_form forms.Log config) records (reading R.remaining R.failures reader)
+    ensures { Plays (with_form (forms.Log 11) config) records (reading R.remaining R.failures reader)
         (traffic W.contents W.failures writer.old writer.new) result }
 {
-    let form = Form::Log;
+    let form = Form::Log {
+        rtplus: TagGroup::usual(),
+    };
     let playing = Playing { form, config };
     play_script(
         playing,

@@ -80,7 +80,7 @@ impl Player {
             Some(watched) => {
                 let slot = self.slot;
                 self.slot += 1;
-                match watched.play(self.form, slot, &event, lines, &mut self.wait) {
+                match watched.play(&self.form, slot, &event, lines, &mut self.wait) {
                     Ok(()) => Ok(()),
                     Err(why) => Err(RowRefused::NoRow(refused_cause(
                         why,

@@ -101,7 +101,7 @@ impl Watched {
     /// Plays the slot of an event, and appends its lines. Notes the first thing that was set too early.
     pub(crate) fn play(
         &mut self,
-        form: Form,
+        form: &Form,
         slot: u64,
         event: &SlotEvent,
         lines: &mut RowLines,
@@ -115,7 +115,7 @@ impl Watched {
             OnOk result (CanBeTaken config receivers event.now events)) }
         ensures outcome { WhereWatchedStands self.old (λ config receivers events.
             OnOk result ((o : Outcome) × IsOutcome config event.now events o × (o.views ≡ views_kept self.new)
-            × (lines.new ≡ lines.old ++ (slot_lines form config slot event.now events (views_kept self.old) o
+            × (lines.new ≡ lines.old ++ (slot_lines form.now config slot event.now events (views_kept self.old) o
             ++ compared_lines config slot (length o.views) event.now events (views_kept self.old) o.views)))) }
         ensures refused { WhereWatchedStands self.old (λ config receivers events.
             IfErr result (IsStepRefused config receivers event.now events)) }
@@ -171,7 +171,7 @@ fn nothing_shown(receivers: usize) -> ArrayVec<KeptView, MOST_RECEIVERS>
 /// Appends the changes at each receiver, and keeps its view. Skips a receiver whose view did not change. In most slots
 /// none did.
 fn push_views(
-    form: Form,
+    form: &Form,
     slot: u64,
     world: &World,
     event: &SlotEvent,
@@ -182,7 +182,7 @@ fn push_views(
     requires room { length lines.old + MOST_RECEIVERS * SLOT_ROOM ≤ OUTPUT_ROOM }
     ensures lines { length shown.old ≡ length world.now.receivers
         → WhereWorldStands world.now (λ config events. lines.new ≡ lines.old ++ receiver_changes slot (length shown.old)
-        (whys_at form config event.now.receptions events) (map view_kept shown.old) (map view_kept shown.new)) }
+        (whys_at form.now config event.now.receptions events) (map view_kept shown.old) (map view_kept shown.new)) }
     ensures views { length shown.old ≡ length world.now.receivers
         → WhereWorldStands world.now (λ config events.
         WereShown config (length shown.old) events (map view_kept shown.old)
@@ -213,13 +213,20 @@ fn push_views(
 }
 
 /// Returns why receiver i shows no text and no name after the slot of this event, if the lines say why.
-fn whys_of(form: Form, event: &SlotEvent, i: usize, receiver: &Receiver) -> Option<Whys>
+fn whys_of(form: &Form, event: &SlotEvent, i: usize, receiver: &Receiver) -> Option<Whys>
     ensures { (config : Config) (input : Input) → HasHeard config input receiver.now
-        → result ≡ whys_said form (slice_index_or event.now.receptions i Lost) config input }
+        → result ≡ whys_said form.now (slice_index_or event.now.receptions i Lost) config input }
 {
     match form {
-        Form::Simulation { says_why: true } => Some(whys_after(reception_of(event, i), receiver)),
-        Form::Simulation { says_why: false } | Form::Log => None,
+        Form::Simulation { says_why: true, .. } => Some(whys_after(
+            reception_of(event, i),
+            receiver,
+        )),
+        Form::Simulation {
+            says_why: false,
+            ..
+        }
+        | Form::Log { .. } => None,
     }
 }
 

@@ -141,12 +141,13 @@ some_slots (suc n) slots some = omega arith
 
 -- what `slots` writes is received
 pub filled_is_received : FilledTextsAreLogs → FilledLogsAreOwnClocks Group → WhatSlotsWritesIsReceived
-filled_is_received logs clocks a f spread log sent newest before lines s got wide some dwell is given all fill came
+filled_is_received logs clocks a f spread log sent newest before lines s got wide some dwell usual is given all fill
+    came
     got_is few =
     let now = newest.slot + s.told in
     let slots : List (Option Group) = and_lost s.told (filled f.grain f.dwell (arrivals (newest ∷ before))) in
-    let same : got ≡ slots = same_log s.written got slots got_is
-    (subst (λ (l : List (Arrival Group)). IsLogOf s.written (and_lost s.told (filled f.grain f.dwell l))) came
+    let same : got ≡ slots = same_log 11 s.written got slots got_is
+    (subst (λ (l : List (Arrival Group)). IsLogOf 11 s.written (and_lost s.told (filled f.grain f.dwell l))) came
     (logs f lines s all fill)) in
     let from = and_lost s.told (filled f.grain f.dwell (origins (newest ∷ before))) in
     let own = clocks f.grain spread f.dwell 0 s.told sent newest before wide some given in
@@ -157,7 +158,7 @@ filled_is_received logs clocks a f spread log sent newest before lines s got wid
     first_all (length got - 1 + 1) got (omega (arith, long)) ∙ same in
     record {
       sent = sent;
-      log_has = is;
+      log_has = rw usual is;
       reached = omega (arith, long);
       few = few;
       origins = kept_origins a.pi slots from;

@@ -31,6 +31,8 @@ use Rattle.rds_log.specs.FilledLog.{IsLogOf}
 use Rattle.rds_log.specs.LineSays.{IsLaidOut, IsSkipped, SaysSlot}
 use Rattle.rds_log.specs.OneLog.{says_group, says_none}
 use Rattle.rds_log.specs.LogLines.{IsLine, Line, content_length, line_feed, text_of}
+use Rattle.rds_fields.specs.TagGroup.{MayCarryTags, exchanged, exchanged_in}
+use Rattle.rds_fields.proofs.Exchange.{exchanged_in_twice, low_below, other_below}
 use Rattle.rds_log.specs.LogWrites.{AreSlots}
 use Rattle.rds_receiver.specs.Shown.{ShownView}
 use Rattle.rds_receiver.specs.declared.why.Whys.{Whys}
@@ -56,11 +58,11 @@ join one other p q = join_lines one other p q
 -- ---- lines more
 
 -- the text has these lines, and ends between lines
-pub record HasCut (text : List ℕ) (slots : List (Option Group)) : Type 0 where
+pub record HasCut (n : ℕ) (text : List ℕ) (slots : List (Option Group)) : Type 0 where
   pub cut : List Line
   pub text_is : text ≡ text_of cut []
   pub lines : All IsLine cut
-  pub say : AreSlots cut slots
+  pub say : AreSlots n cut slots
 
 -- bytes after a text go on with its last line
 pub text_more : (closed : List Line) (begun bytes : Line) → text_of closed begun ++ bytes ≡ text_of closed
@@ -69,8 +71,8 @@ text_more [] begun bytes = refl
 text_more (line ∷ before) begun bytes = append_assoc (text_of before line) (line_feed ∷ begun) bytes
 
 -- such a text is a log
-pub is_log_of : (text : List ℕ) (slots : List (Option Group)) → HasCut text slots → IsLogOf text slots
-is_log_of text slots had = record {
+pub is_log_of : (n : ℕ) (text : List ℕ) (slots : List (Option Group)) → HasCut n text slots → IsLogOf n text slots
+is_log_of n text slots had = record {
   lines = had.cut;
   are = (had.cut, [], had.text_is, had.lines, All-nil _, inl (refl, refl));
   say = had.say;
@@ -83,10 +85,11 @@ more_text text line cut is =
     ap (λ (l : List ℕ). l ++ (line ++ codes "\n")) is ∙ sym (append_assoc (text_of cut []) line (codes "\n"))
     ∙ ap (λ (l : List ℕ). l ++ codes "\n") (text_more cut [] line)
 
-with_slot : (text line : List ℕ) (slot : Option Group) (slots : List (Option Group)) → HasCut text slots → IsLine line
+with_slot : (n : ℕ) (text line : List ℕ) (slot : Option Group) (slots : List (Option Group)) → HasCut n text slots
+    → IsLine line
     → IsLaidOut line × SaysSlot line slot
-    → HasCut (text ++ (line ++ codes "\n")) (slot ∷ slots)
-with_slot text line slot slots had is says = record {
+    → HasCut n (text ++ (line ++ codes "\n")) (exchanged_in n slot ∷ slots)
+with_slot n text line slot slots had is says = record {
   cut = line ∷ had.cut;
   text_is = more_text text line had.cut had.text_is;
   lines = All-cons IsLine line had.cut is had.lines;
@@ -94,17 +97,19 @@ with_slot text line slot slots had is says = record {
 }
 
 -- a comment changes no slot
-pub with_comment : (text line : List ℕ) (slots : List (Option Group)) → HasCut text slots → IsLine line → IsSkipped line
-    → HasCut (text ++ (line ++ codes "\n")) slots
-with_comment text line slots had is says = record {
+pub with_comment : (n : ℕ) (text line : List ℕ) (slots : List (Option Group)) → HasCut n text slots → IsLine line
+    → IsSkipped line
+    → HasCut n (text ++ (line ++ codes "\n")) slots
+with_comment n text line slots had is says = record {
   cut = line ∷ had.cut;
   text_is = more_text text line had.cut had.text_is;
   lines = All-cons IsLine line had.cut is had.lines;
   say = inl (says, had.say);
 }
 
-same_text : (text other : List ℕ) (slots : List (Option Group)) → text ≡ other → HasCut text slots → HasCut other slots
-same_text text other slots same had = subst (λ (l : List ℕ). HasCut l slots) same had
+same_text : (n : ℕ) (text other : List ℕ) (slots : List (Option Group)) → text ≡ other → HasCut n text slots
+    → HasCut n other slots
+same_text n text other slots same had = subst (λ (l : List ℕ). HasCut n l slots) same had
 
 -- ---- replies
 
@@ -122,12 +127,12 @@ refusals NoText = feedless (codes " notext") refl
 refusals (OutOfText One) = feedless (codes " outoftext 1") refl
 refusals (OutOfText Two) = feedless (codes " outoftext 2") refl
 
-with_mark : (text stamp thing content : List ℕ) (slots : List (Option Group)) → IsLine stamp → IsLine thing
-    → IsLine content → HasCut text slots
-    → HasCut (text ++ (codes "# " ++ line_of stamp thing content)) slots
-with_mark text stamp thing content slots s t c had =
-    same_text _ _ slots (ap (λ (l : List ℕ). text ++ (codes "# " ++ l)) ends)
-    (with_comment text (codes "# " ++ (stamp ++ (thing ++ content))) slots had
+with_mark : (n : ℕ) (text stamp thing content : List ℕ) (slots : List (Option Group)) → IsLine stamp → IsLine thing
+    → IsLine content → HasCut n text slots
+    → HasCut n (text ++ (codes "# " ++ line_of stamp thing content)) slots
+with_mark n text stamp thing content slots s t c had =
+    same_text n _ _ slots (ap (λ (l : List ℕ). text ++ (codes "# " ++ l)) ends)
+    (with_comment n text (codes "# " ++ (stamp ++ (thing ++ content))) slots had
     (join (codes "# ") (stamp ++ (thing ++ content)) (feedless (codes "# ") refl)
     (join stamp (thing ++ content) s (join thing content t c)))
     (inr (inr (inl refl))))
@@ -135,14 +140,14 @@ with_mark text stamp thing content slots s t c had =
     ends : (stamp ++ (thing ++ content)) ++ codes "\n" ≡ line_of stamp thing content
     ends = ap (λ (l : List ℕ). l ++ codes "\n") (sym (append_assoc stamp thing content))
 
-with_reply : (text : List ℕ) (slot : ℕ) (c : Command) (r : Reply) (slots : List (Option Group)) → HasCut text slots
-    → HasCut (text ++ reply_line (codes "# ") slot c r) slots
-with_reply text slot c reply.Quiet slots had = same_text text (text ++ []) slots (sym (append-nil text)) had
-with_reply text slot c Restarted slots had = with_mark text (slot_stamp slot) (codes "restart") [] slots (stamps slot)
-    (feedless (codes "restart") refl) (feedless [] refl) had
-with_reply text slot c Done slots had = with_mark text (slot_stamp slot) (thing_set c) (codes " ok") slots (stamps slot)
-    (things c) (feedless (codes " ok") refl) had
-with_reply text slot c (Refused refusal) slots had = with_mark text (slot_stamp slot) (thing_set c)
+with_reply : (n : ℕ) (text : List ℕ) (slot : ℕ) (c : Command) (r : Reply) (slots : List (Option Group))
+    → HasCut n text slots → HasCut n (text ++ reply_line (codes "# ") slot c r) slots
+with_reply n text slot c reply.Quiet slots had = same_text n text (text ++ []) slots (sym (append-nil text)) had
+with_reply n text slot c Restarted slots had = with_mark n text (slot_stamp slot) (codes "restart") [] slots
+    (stamps slot) (feedless (codes "restart") refl) (feedless [] refl) had
+with_reply n text slot c Done slots had = with_mark n text (slot_stamp slot) (thing_set c) (codes " ok") slots
+    (stamps slot) (things c) (feedless (codes " ok") refl) had
+with_reply n text slot c (Refused refusal) slots had = with_mark n text (slot_stamp slot) (thing_set c)
     (refusal_content refusal) slots (stamps slot) (things c) (refusals refusal) had
 
 -- ---- groups
@@ -341,6 +346,24 @@ spelled_fits m h g head is w =
     }
     by Other is s at to = absurd is
 
+-- a group with exchanged types still fits
+exchanged_fits : (n : ℕ) (g : Group) → MayCarryTags n → Fits g → Fits (exchanged n g)
+exchanged_fits n g may f = by g.version refl
+  where
+    most : n < 16
+    most = (let upto = may.most in omega (arith, upto))
+
+    by : (version : Bool) → g.version ≡ version → Fits (exchanged n g)
+    by true is = rw is record { pi = f.pi; number = f.number; pty = f.pty; low = f.low; c = f.c; d = f.d }
+    by false is = rw is record {
+      pi = f.pi;
+      number = other_below 11 n g.number 16 (omega arith) most f.number;
+      pty = f.pty;
+      low = low_below n g.number g.low may f.low;
+      c = f.c;
+      d = f.d;
+    }
+
 sent_fits : (h : Head) (message : Option Message) (g : Group) → IsHead h → AreSendable message
     → IsSent h message (Some g) → Fits g
 sent_fits h None g head is sent = absurd sent
@@ -353,14 +376,19 @@ abbrev pub groups_sent : List Outcome → List (Option Group)
 groups_sent [] = []
 groups_sent (o ∷ older) = o.sent ∷ groups_sent older
 
-with_log_line : (h : Head) (text : List ℕ) (message : Option Message) (sent : Option Group)
-    (slots : List (Option Group)) → IsHead h → AreSendable message → IsSent h message sent → HasCut text slots
-    → HasCut (text ++ log_line sent) (sent ∷ slots)
-with_log_line h text message None slots head is of had =
-    with_slot text (codes "---- ---- ---- ----") None slots had (feedless (codes "---- ---- ---- ----") refl) dashes
-with_log_line h text message (Some g) slots head is of had =
-    let fits = sent_fits h message g head is of in
-    with_slot text (block_digits g) (Some g) slots had (group_line g fits) (group_says g fits)
+with_log_line : (n : ℕ) (h : Head) (text : List ℕ) (message : Option Message) (sent : Option Group)
+    (slots : List (Option Group)) → MayCarryTags n → IsHead h → AreSendable message → IsSent h message sent
+    → HasCut n text slots
+    → HasCut n (text ++ log_line (exchanged_in n sent)) (sent ∷ slots)
+with_log_line n h text message None slots may head is of had =
+    with_slot n text (codes "---- ---- ---- ----") None slots had (feedless (codes "---- ---- ---- ----") refl) dashes
+with_log_line n h text message (Some g) slots may head is of had =
+    let fits = exchanged_fits n g may (sent_fits h message g head is of) in
+    let line = block_digits (exchanged n g) in
+    subst (λ (slot : Option Group). HasCut n (text ++ (line ++ codes "\n")) (slot ∷ slots))
+    (exchanged_in_twice n (Some g) may)
+    (with_slot n text line (Some (exchanged n g)) slots had (group_line (exchanged n g) fits)
+    (group_says (exchanged n g) fits))
 
 -- without receivers there is no change
 no_changes : (n slot : ℕ) (whys : ℕ → Option Whys) (before now : List ShownView) → n ≡ 0
@@ -381,32 +409,34 @@ joined text reply line changes none =
     (sym (append-nil (reply ++ line)) ∙ ap (λ (l : List ℕ). (reply ++ line) ++ l) (sym none)
     ∙ sym (append-nil ((reply ++ line) ++ changes)))
 
-cut_of : (h : Head) (m k : ℕ) (events : List Event) (outcomes : List Outcome) → IsHead h → HasNoReceivers events
-    → AreOutcomes (station_of h m k) events outcomes
-    → HasCut (lines_of Log (station_of h m k) events outcomes) (groups_sent outcomes)
-cut_of h m k [] [] head none are = record { cut = []; text_is = refl; lines = All-nil IsLine; say = refl }
-cut_of h m k [] (o ∷ older) head none are = absurd are
-cut_of h m k (e ∷ before) [] head none are = absurd are
-cut_of h m k (e ∷ before) (o ∷ older) head none are =
-    let had = cut_of h m k before older head none.1 are.1 in
-    let text = lines_of Log (station_of h m k) before older in
+cut_of : (n : ℕ) (h : Head) (m k : ℕ) (events : List Event) (outcomes : List Outcome) → MayCarryTags n → IsHead h
+    → HasNoReceivers events → AreOutcomes (station_of h m k) events outcomes
+    → HasCut n (lines_of (Log n) (station_of h m k) events outcomes) (groups_sent outcomes)
+cut_of n h m k [] [] may head none are = record { cut = []; text_is = refl; lines = All-nil IsLine; say = refl }
+cut_of n h m k [] (o ∷ older) may head none are = absurd are
+cut_of n h m k (e ∷ before) [] may head none are = absurd are
+cut_of n h m k (e ∷ before) (o ∷ older) may head none are =
+    let had = cut_of n h m k before older may head none.1 are.1 in
+    let text = lines_of (Log n) (station_of h m k) before older in
     let reply = reply_line (codes "# ") (length older) o.command o.reply in
-    let replied = with_reply text (length older) o.command o.reply (groups_sent older) had in
-    let said = with_log_line h (text ++ reply) (sent_in (m + k) e.free (commanded e.command (entries before))) o.sent
-    (groups_sent older) head
+    let replied = with_reply n text (length older) o.command o.reply (groups_sent older) had in
+    let said = with_log_line n h (text ++ reply) (sent_in (m + k) e.free (commanded e.command (entries before))) o.sent
+    (groups_sent older) may head
     (sent_is_sendable (m + k) e.free (commanded e.command (entries before))) are.0.sent replied in
-    let whys = whys_at Log (station_of h m k) e.receptions (e ∷ before) in
+    let whys = whys_at (Log n) (station_of h m k) e.receptions (e ∷ before) in
     let alone = no_changes (length o.views) (length older) whys (newest_views older) o.views
     (are.0.receivers ∙ none.0) in
-    same_text ((text ++ reply) ++ log_line o.sent) (lines_of Log (station_of h m k) (e ∷ before) (o ∷ older))
+    same_text n ((text ++ reply) ++ log_line (exchanged_in n o.sent))
+    (lines_of (Log n) (station_of h m k) (e ∷ before) (o ∷ older))
     (o.sent ∷ groups_sent older)
-    (joined text reply (log_line o.sent)
+    (joined text reply (log_line (exchanged_in n o.sent))
     (receiver_changes (length older) (length o.views) whys (newest_views older) o.views) alone) said
 
 -- the output of `encode` is a log, and its slots are the groups that were sent
-pub encoded_cut : (h : Head) (m k : ℕ) (events : List Event) (outcomes : List Outcome) (log : List ℕ) → IsHead h
+pub encoded_cut : (n : ℕ) (h : Head) (m k : ℕ) (events : List Event) (outcomes : List Outcome) (log : List ℕ)
+    → MayCarryTags n → IsHead h
     → HasNoReceivers events → AreOutcomes (station_of h m k) events outcomes
-    → log ≡ lines_of Log (station_of h m k) events outcomes → HasCut log (groups_sent outcomes)
-encoded_cut h m k events outcomes log head none are is =
-    same_text (lines_of Log (station_of h m k) events outcomes) log (groups_sent outcomes) (sym is)
-    (cut_of h m k events outcomes head none are)
+    → log ≡ lines_of (Log n) (station_of h m k) events outcomes → HasCut n log (groups_sent outcomes)
+encoded_cut n h m k events outcomes log may head none are is =
+    same_text n (lines_of (Log n) (station_of h m k) events outcomes) log (groups_sent outcomes) (sym is)
+    (cut_of n h m k events outcomes may head none are)

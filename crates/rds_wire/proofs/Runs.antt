@@ -14,19 +14,20 @@ use Rattle.rds_io.specs.Told.{Failed, Traffic}
 use Rattle.rds_io.specs.declared.fault.LogFault.{LogFault}
 use Rattle.rds_io.specs.declared.fault.LogFault.TheVariants.{BadLine, BadRow, Memory, Read, TooLong, Write}
 use Rattle.rds_io.specs.declared.told.WriteFault.{WriteFault}
-use Rattle.rds_log.specs.Audit.{WholePasses, complete}
+use Rattle.rds_log.specs.Audit.{WholePasses}
 use Rattle.rds_fields.specs.declared.head.Head.{Head}
 use Rattle.rds_log.specs.Decode.{Decodes}
 use Rattle.rds_log.specs.FaultList.{Audits}
 use Rattle.rds_log.specs.FilledLog.{IsLogOf}
 use Rattle.rds_log.specs.LineSays.{IsSkipped}
 use Rattle.rds_log.specs.LogLines.{AreLines, IsLine, Line, text_of}
-use Rattle.rds_log.specs.LogWrites.{LinesWrite, LogWrites, tuned}
+use Rattle.rds_log.specs.LogWrites.{LinesWrite, LogWrites}
 use Rattle.rds_log.specs.OneLog.{same_lines, same_log}
 use Rattle.rds_log.specs.Outputs.{StopsBetween, WroteLines}
 use Rattle.rds_log.specs.declared.audit_log.Auditing.{Auditing}
 use Rattle.rds_log.specs.declared.decode_log.Decoding.{Decoding}
-use Rattle.rds_program.specs.Run.{EndsWith, PutsLine, auditing_of, decoding_of, done, script_in, verdict_status}
+use Rattle.rds_program.specs.Run.{EndsWith, PutsLine, auditing_of, decoding_of}
+use Rattle.rds_program.specs.Run.{done, listening, script_in, verdict_status}
 use Rattle.rds_script.specs.Play.{HasRecords, Plays, WroteRows, with_form}
 use Rattle.rds_script.specs.Rows.{Record}
 use Rattle.rds_script.specs.declared.form.Form.TheVariants.{Log}
@@ -38,7 +39,7 @@ use Rattle.rds_wire.specs.Program.{Ran, WhatTheProgramDecodesIsPrinted, WhatTheP
 use Rattle.rds_wire.specs.Program.{WhatTheProgramPassesIsSafe, over}
 use Rattle.rds_wire.specs.Received.{IsReceived}
 use Rattle.rds_wire.specs.Wire.{Encodes, HasSafePlans, IsHead, WhatIsEncodedIsSafeOnTheWire}
-use Rattle.rds_wire.specs.Wire.{WhatPassesIsSafeOnTheWire, station_of}
+use Rattle.rds_wire.specs.Wire.{WhatPassesIsSafeOnTheWire, complete_in, station_of}
 use Rattle.rds_wire.proofs.Logs.{HasCut, is_log_of, more_text, with_comment}
 use Rattle.rds_wire.proofs.Printed.{decimal_line, empty_line, feedless, join_lines}
 use Rattle.rds_wire.proofs.Reading.{In, all_lines, are_lines, changes_text, contains_from_in, in_from_contains}
@@ -126,13 +127,14 @@ module _ (how : Playing) (script output : List ℕ) (known : Option (List ℕ)) 
       ))
 
 -- a run of `encode` wrote the log of the first records, and the line of its fault
-wrote : (programme : Programme) (pi m k : ℕ) (script output : List ℕ)
-    → Ran (Encode programme k) (tuned pi m) script output
-    → Wrote (with_form Log (station_of (record { pi = pi; tp = programme.tp; pty = programme.pty }) m k)) script output
-wrote programme pi m k script output ran = by ran.ran.outcome ran.ran.ran ran.ran.ended
+wrote : (programme : Programme) (n pi m k : ℕ) (script output : List ℕ)
+    → Ran (Encode programme k) (listening n pi m) script output
+    → Wrote (with_form (Log n) (station_of (record { pi = pi; tp = programme.tp; pty = programme.pty }) m k)) script
+        output
+wrote programme n pi m k script output ran = by ran.ran.outcome ran.ran.ran ran.ran.ended
   where
     how : Playing
-    how = with_form Log (station_of (record { pi = pi; tp = programme.tp; pty = programme.pty }) m k)
+    how = with_form (Log n) (station_of (record { pi = pi; tp = programme.tp; pty = programme.pty }) m k)
 
     first : Traffic
     first = record ran.w { after = ran.ran.mid; failures_after = ran.ran.failures }
@@ -150,10 +152,10 @@ wrote programme pi m k script output ran = by ran.ran.outcome ran.ran.ran ran.ra
         wrote_rows how script output ran.r.before first rest ran.given ran.fresh refl ran.wrote ran.unfailed
         plays.records plays.wrote (inl (same_known ran.w.after output plays.wrote.written ran.wrote
         (ended.1.bytes ∙ fresh_has ran.w.before ran.ran.mid plays.wrote.written ran.fresh plays.wrote.wrote)))
-    by (Err (BadLine n)) plays ended = absurd plays
-    by (Err (BadRow n)) plays ended =
-        fault plays.0.records plays.0.wrote (codes "fault row " ++ decimal n)
-        (join_lines (codes "fault row ") (decimal n) (feedless (codes "fault row ") refl) (decimal_line n)) ended.1
+    by (Err (BadLine line)) plays ended = absurd plays
+    by (Err (BadRow row)) plays ended =
+        fault plays.0.records plays.0.wrote (codes "fault row " ++ decimal row)
+        (join_lines (codes "fault row ") (decimal row) (feedless (codes "fault row ") refl) (decimal_line row)) ended.1
     by (Err Read) plays ended =
         fault plays.0 plays.1 (codes "fault read") (feedless (codes "fault read") refl) ended.1
     by (Err Memory) plays ended =
@@ -164,18 +166,20 @@ wrote programme pi m k script output ran = by ran.ran.outcome ran.ran.ran ran.ra
         absurd (no_failure ran.w.failures_before ran.ran.failures (sym ended.1.calm ∙ ran.unfailed) plays.failed)
 
 -- a receiver of the output is one of the log
-of_log : (log output : List ℕ) (sent : List (Option Group)) → HasCut log sent → EndsAs log output → HasCut output sent
-of_log log output sent had (inl same) = subst (λ (l : List ℕ). HasCut l sent) (sym same) had
-of_log log output sent had (inr (line, is, skipped, same)) =
-    subst (λ (l : List ℕ). HasCut l sent) (sym same) (with_comment log line sent had is skipped)
+of_log : (n : ℕ) (log output : List ℕ) (sent : List (Option Group)) → HasCut n log sent → EndsAs log output
+    → HasCut n output sent
+of_log n log output sent had (inl same) = subst (λ (l : List ℕ). HasCut n l sent) (sym same) had
+of_log n log output sent had (inr (line, is, skipped, same)) =
+    subst (λ (l : List ℕ). HasCut n l sent) (sym same) (with_comment n log line sent had is skipped)
 
-received_of : (a : Auditing) (log output : List ℕ) (sent got : List (Option Group)) (t now : ℕ) → HasCut log sent
-    → HasCut output sent → IsReceived a output got t now → IsReceived a log got t now
+received_of : (a : Auditing) (log output : List ℕ) (sent got : List (Option Group)) (t now : ℕ)
+    → HasCut a.rtplus log sent
+    → HasCut a.rtplus output sent → IsReceived a output got t now → IsReceived a log got t now
 received_of a log output sent got t now had has r =
-    let same = same_log output sent r.sent (is_log_of output sent has) r.log_has in
+    let same = same_log a.rtplus output sent r.sent (is_log_of a.rtplus output sent has) r.log_has in
     record {
       sent = r.sent;
-      log_has = subst (IsLogOf log) same (is_log_of log sent had);
+      log_has = subst (IsLogOf a.rtplus log) same (is_log_of a.rtplus log sent had);
       reached = r.reached;
       few = r.few;
       origins = r.origins;
@@ -184,16 +188,17 @@ received_of a log output sent got t now had has r =
 
 -- what a run of `encode` writes is safe on the wire
 pub encoded_by_the_program : WhatIsEncodedIsSafeOnTheWire → EncoderLaws → WhatTheProgramEncodesIsSafe
-encoded_by_the_program law encoder programme pi m k script output fits type some ran =
+encoded_by_the_program law encoder programme n pi m k script output may fits type some ran =
     let head : Head = record { pi = pi; tp = programme.tp; pty = programme.pty } in
     let is_head : IsHead head = record { pi = fits; pty = type } in
-    let it = wrote programme pi m k script output ran in
-    let has = log_of_script encoder head m k script it.log is_head some it.encoded in
-    let all = of_log it.log output has.sent has.cut it.ends in
-    let a = complete pi m k in (
+    let it = wrote programme n pi m k script output ran in
+    let has = log_of_script encoder n head m k script it.log may is_head some it.encoded in
+    let all = of_log n it.log output has.sent has.cut it.ends in
+    let a = complete_in n pi m k in (
       it.log,
       it.encoded,
-      λ x p y q t u now one other ra rb. law head m k script it.log is_head some it.encoded x p y q t u now one other
+      λ x p y q t u now one other ra rb. law n head m k script it.log may is_head some it.encoded x p y q t u now one
+          other
           (received_of a it.log output has.sent one.write.slots t now has.cut all ra)
           (received_of a it.log output has.sent other.write.slots u now has.cut all rb),
     )
@@ -284,11 +289,11 @@ shows_before displays printed output line t part content is single f all sh = by
 
 -- a log to which a run of `audit` says yes has safe plans
 pub passed_by_the_program : WhatPassesIsSafeOnTheWire → WhatTheProgramPassesIsSafe
-passed_by_the_program law pi m k running padded all log output some ran zero_is = by ran.ran.outcome ran.ran.ran
+passed_by_the_program law n pi m k running padded all log output some ran zero_is = by ran.ran.outcome ran.ran.ran
     ran.ran.ended
   where
     a : Auditing
-    a = auditing_of (tuned pi m) k running padded all
+    a = auditing_of (listening n pi m) k running padded all
 
     first : Traffic
     first = record ran.w { after = ran.ran.mid; failures_after = ran.ran.failures }
@@ -308,16 +313,16 @@ passed_by_the_program law pi m k running padded all log output some ran zero_is 
 -- ---- `decode`
 
 -- what a run of `decode` printed
-abbrev Shown : Option ℕ → ℕ → ℕ → List ℕ → List ℕ → Type 0
-Shown window pi m received output = (printed : List ℕ) × Prints pi m window received printed
+abbrev Shown : Option ℕ → ℕ → ℕ → ℕ → List ℕ → List ℕ → Type 0
+Shown window n pi m received output = (printed : List ℕ) × Prints n pi m window received printed
     × ((t : ℕ) (part : Part) (content : List ℕ) → Shows output t part content → Shows printed t part content)
 
 -- what a run of `decode` writes is printed for its log
 pub decoded_by_the_program : WhatTheProgramDecodesIsPrinted
-decoded_by_the_program window why pi m received output ran = by ran.ran.outcome ran.ran.ran ran.ran.ended
+decoded_by_the_program window why n pi m received output ran = by ran.ran.outcome ran.ran.ran ran.ran.ended
   where
     how : Decoding
-    how = decoding_of (tuned pi m) window why
+    how = decoding_of (listening n pi m) window why
 
     first : Traffic
     first = record ran.w { after = ran.ran.mid; failures_after = ran.ran.failures }
@@ -327,7 +332,7 @@ decoded_by_the_program window why pi m received output ran = by ran.ran.outcome 
 
     fault : (lines : List Line) (line : Line) (more : List ℕ) (wrote : WroteLines (LinesWrite how) first lines)
         (text : List ℕ) → received ≡ text_of lines line ++ more → All IsLine lines → IsLine line → IsLine text
-        → get_or text 0 0 ≡ 102 → PutsLine (text ++ codes "\n") rest → Shown window pi m received output
+        → get_or text 0 0 ≡ 102 → PutsLine (text ++ codes "\n") rest → Shown window n pi m received output
     fault lines line more wrote text cut are is single f told =
         let all = has_more ran.ran.mid ran.w.after wrote.written (text ++ codes "\n") output
         (fresh_has ran.w.before ran.ran.mid wrote.written ran.fresh wrote.wrote) ran.wrote
@@ -339,7 +344,7 @@ decoded_by_the_program window why pi m received output ran = by ran.ran.outcome 
         )
 
     between : (least : ℕ) (stops : StopsBetween (LinesWrite how) ran.r first least) (text : List ℕ) → IsLine text
-        → get_or text 0 0 ≡ 102 → PutsLine (text ++ codes "\n") rest → Shown window pi m received output
+        → get_or text 0 0 ≡ 102 → PutsLine (text ++ codes "\n") rest → Shown window n pi m received output
     between least stops text single f told =
         let read = all_bytes ran.r.before ran.r.after received (text_of stops.closed stops.reads.begun) ran.given
         stops.reads.read in
@@ -347,7 +352,7 @@ decoded_by_the_program window why pi m received output ran = by ran.ran.outcome 
         single f told
 
     by : (outcome : Result (Unit {0}) LogFault) → Decodes how (2 ^ 32) ran.r first outcome
-        → EndsWith done (Decode window why) outcome rest ran.status → Shown window pi m received output
+        → EndsWith done (Decode window why) outcome rest ran.status → Shown window n pi m received output
     by (Ok done) all ended =
         let text = consumed ran.r.before ran.r.after received all.text ran.given all.read all.end in
         let same = same_known ran.w.after output all.written ran.wrote
@@ -357,19 +362,20 @@ decoded_by_the_program window why pi m received output ran = by ran.ran.outcome 
           record { lines = writes.cut; begins = inr (refl, writes.are); why = why; write = writes.write },
           λ t part content sh. subst (λ (l : List ℕ). Shows l t part content) same sh,
         )
-    by (Err (BadLine n)) (text, read, stops, calm) ended =
+    by (Err (BadLine number)) (text, read, stops, calm) ended =
         let bytes = all_bytes ran.r.before ran.r.after received text ran.given read in
-        fault stops.lines stops.next.line (stops.next.rest ++ bytes.0) stops.wrote (codes "fault line " ++ decimal n)
+        fault stops.lines stops.next.line (stops.next.rest ++ bytes.0) stops.wrote (codes "fault line " ++ decimal
+            number)
         (bytes.2 ∙ ap (λ (l : List ℕ). l ++ bytes.0) stops.next.cut
         ∙ append_assoc (text_of stops.lines stops.next.line) stops.next.rest bytes.0) stops.next.bad.lines
         stops.next.bad.is_line
-        (join_lines (codes "fault line ") (decimal n) (feedless (codes "fault line ") refl)
-        (decimal_line n)) refl ended.1
+        (join_lines (codes "fault line ") (decimal number) (feedless (codes "fault line ") refl)
+        (decimal_line number)) refl ended.1
     by (Err Read) (stops, failed) ended =
         between 0 stops (codes "fault read") (feedless (codes "fault read") refl) refl ended.1
     by (Err TooLong) (stops, calm) ended =
         between (2 ^ 32) stops (codes "fault too long") (feedless (codes "fault too long") refl) refl ended.1
     by (Err Write) (text, read, stops, calm) ended =
         absurd (no_failure ran.w.failures_before ran.ran.failures (sym ended.1.calm ∙ ran.unfailed) stops.wrote.failed)
-    by (Err (BadRow n)) all ended = absurd all
+    by (Err (BadRow row)) all ended = absurd all
     by (Err Memory) all ended = absurd all

@@ -38,10 +38,10 @@ use Rattle.rds_wire.proofs.Views.{displays_long, lawful_first, mark_in_first, vi
 use Rattle.rds_wire.proofs.Wired.{EncoderLaws, entry_at, log_of_script, shown}
 
 -- bytes are heard as one list of messages
-same_messages : (pi : ℕ) (log : List ℕ) (one other : List (Option Message)) → HasMessages pi log one
-    → HasMessages pi log other → one ≡ other
-same_messages pi log one other p q =
-    let slots = same_log log p.slots q.slots p.has q.has in
+same_messages : (n pi : ℕ) (log : List ℕ) (one other : List (Option Message)) → HasMessages n pi log one
+    → HasMessages n pi log other → one ≡ other
+same_messages n pi log one other p q =
+    let slots = same_log n log p.slots q.slots p.has q.has in
     same_heard pi q.slots one other (subst (λ (l : List (Option Group)). AreHeard pi l one) slots p.heard) q.heard
 
 -- the laws of the crates below
@@ -49,9 +49,9 @@ pub record TwiceLaws : Type 0 where
   pub safe : LawfulPlansAreSafeConfirmed
   pub source : ARunHasOneSource
 
-module _ (pi m w k : ℕ) (log : List ℕ) (sent : List (Option Message)) (is : HasMessages pi log sent)
-    (received printed : List ℕ) (t : ℕ) (p : Prints pi m (Some w) received printed)
-    (r : IsReceivedWithWrong pi w k log p.write.slots t) where
+module _ (n pi m w k : ℕ) (log : List ℕ) (sent : List (Option Message)) (is : HasMessages n pi log sent)
+    (received printed : List ℕ) (t : ℕ) (p : Prints n pi m (Some w) received printed)
+    (r : IsReceivedWithWrong n pi w k log p.write.slots t) where
   abbrev tuning : Tuning
   tuning = record { programme = pi; dwell = m; window = Some w; first = 0 }
 
@@ -76,7 +76,7 @@ module _ (pi m w k : ℕ) (log : List ℕ) (sent : List (Option Message)) (is : 
   heard_first : IsHeardWithWrong k (first_entries (t + 1) sent) raw
   heard_first =
       let late = r.late in
-      let same = same_messages pi log r.sent sent r.log_has is in
+      let same = same_messages n pi log r.sent sent r.log_has is in
       let beside = late.beside in
       record {
         beside = late.beside;
@@ -113,22 +113,22 @@ module _ (pi m w k : ℕ) (log : List ℕ) (sent : List (Option Message)) (is : 
       (omega (arith, few, displays_long p.why tuning p.write.slots _ p.write.write.are)) display.1 sh
 
 -- a log with lawful plans is safe for such receivers
-lawful_is_safe_twice : TwiceLaws → (pi m w k : ℕ) (log : List ℕ) (sent : List (Option Message)) (air : StationPlans)
-    → HasMessages pi log sent → AreLawful (m + lateness_of_two w k) air.plans sent
+lawful_is_safe_twice : TwiceLaws → (n pi m w k : ℕ) (log : List ℕ) (sent : List (Option Message)) (air : StationPlans)
+    → HasMessages n pi log sent → AreLawful (m + lateness_of_two w k) air.plans sent
     → ((slot : ℕ) (pair : PairFields) → IsMarkIn (marks text_mark sent) slot (Tagged pair) → air.HasTags slot pair)
-    → IsSafeIfHeardTwice pi m w k log air
-lawful_is_safe_twice laws pi m w k log sent air is lawful tags x p y q t one other ra rb =
+    → IsSafeIfHeardTwice n pi m w k log air
+lawful_is_safe_twice laws n pi m w k log sent air is lawful tags x p y q t one other ra rb =
     let d = m + lateness_of_two w k in
-    let r = listener pi m w k log sent is x p t one ra in
-    let s = listener pi m w k log sent is y q t other rb in
+    let r = listener n pi m w k log sent is x p t one ra in
+    let s = listener n pi m w k log sent is y q t other rb in
     let Listens = ListensConfirmed w k m t (first_entries (t + 1) sent) in
-    let lr : Listens r = listens pi m w k log sent is x p t one ra in
-    let ls : Listens s = listens pi m w k log sent is y q t other rb in
+    let lr : Listens r = listens n pi m w k log sent is x p t one ra in
+    let ls : Listens s = listens n pi m w k log sent is y q t other rb in
     shown_safely laws.source d m t air (first_entries (t + 1) sent) r s (Shows p t) (Shows q t) upto lawful.text.spaced
     (laws.safe w k m t air.plans (first_entries (t + 1) sent) (r ∷ s ∷ []) (lawful_first texts d (t + 1) air.plans sent
     lawful)
     (All-cons Listens r (s ∷ []) lr (All-cons Listens s [] ls (All-nil Listens)))) lr.shows ls.shows
-    (shows pi m w k log sent is x p t one ra) (shows pi m w k log sent is y q t other rb)
+    (shows n pi m w k log sent is x p t one ra) (shows n pi m w k log sent is y q t other rb)
   where
     upto : AreTagsUpTo t air (marks text_mark (first_entries (t + 1) sent))
     upto slot pair mark =
@@ -137,27 +137,27 @@ lawful_is_safe_twice laws pi m w k log sent air is lawful tags x p y q t one oth
 
 -- the law of scripts for receivers that show only what they heard twice
 pub encoded_is_safe_twice : TwiceLaws → EncoderLaws → WhatIsEncodedIsSafeIfHeardTwice
-encoded_is_safe_twice laws encoder head m w k script log is_head some encoded =
+encoded_is_safe_twice laws encoder n head m w k script log may is_head some encoded =
     let late = lateness_of_two w k in
     let events = encoded.write.events in
-    let has = log_of_script encoder head m late script log is_head some encoded in
-    lawful_is_safe_twice laws head.pi m w k log (log_of (m + late) events) (aired (m + late) events)
-    (record { slots = has.sent; has = is_log_of log has.sent has.cut; heard = has.heard }) has.lawful
+    let has = log_of_script encoder n head m late script log may is_head some encoded in
+    lawful_is_safe_twice laws n head.pi m w k log (log_of (m + late) events) (aired (m + late) events)
+    (record { slots = has.sent; has = is_log_of n log has.sent has.cut; heard = has.heard }) has.lawful
     (λ slot pair is. (tagged encoder.tags (m + late) events slot pair is).0)
 
 -- the law of audits for them
 pub passed_is_safe_twice : TwiceLaws → WhatPassesIsSafe → WhatPassesIsSafeIfHeardTwice
-passed_is_safe_twice laws audits pi m w k n stop log some whole =
+passed_is_safe_twice laws audits n pi m w k slots stop log some whole =
     let messages = whole.pass.heard in
     let passed = audits Plain m (lateness_of_two w k) messages some whole.pass.passes in
-    let is : IsLogOf log whole.slots = record { lines = whole.lines; are = whole.are; say = whole.say } in
-    let has : HasMessages pi log messages = record { slots = whole.slots; has = is; heard = whole.pass.are } in
+    let is : IsLogOf n log whole.slots = record { lines = whole.lines; are = whole.are; say = whole.say } in
+    let has : HasMessages n pi log messages = record { slots = whole.slots; has = is; heard = whole.pass.are } in
     record {
       messages = messages;
       has = has;
       plans = passed.plans;
       lawful = passed.lawful;
-      safe = lawful_is_safe_twice laws pi m w k log messages
+      safe = lawful_is_safe_twice laws n pi m w k log messages
           (record {
             plans = passed.plans;
             HasTags = λ slot pair. IsMarkIn (marks text_mark messages) slot (Tagged pair);

@@ -6,6 +6,7 @@ use Rattle.std.proofs.lemmas.Bool.{cases_lt}
 use Rattle.std.proofs.lemmas.List.{length-map}
 use Rattle.std.proofs.lemmas.List.Elements.{All-cons, All-nil}
 use Rattle.rds_block.specs.declared.group.Group.{Group}
+use Rattle.rds_fields.specs.TagGroup.{MayCarryTags}
 use Rattle.rds_fields.specs.declared.head.Head.{Head}
 use Rattle.rds_fields.specs.declared.message.Message.{Message}
 use Rattle.rds_fields.specs.Tag.{PairFields}
@@ -99,8 +100,8 @@ pub record LogLaws : Type 0 where
   pub source : ARunHasOneSource
 
 module _ (a : Auditing) (log : List ℕ) (sent : List (Option Group)) (messages : List (Option Message)) (now : ℕ)
-    (is : IsLogOf log sent) (heard : AreHeard a.pi sent messages) where
-  module _ (received printed : List ℕ) (t : ℕ) (p : Prints a.pi a.dwell None received printed)
+    (is : IsLogOf a.rtplus log sent) (heard : AreHeard a.pi sent messages) where
+  module _ (received printed : List ℕ) (t : ℕ) (p : Prints a.rtplus a.pi a.dwell None received printed)
       (r : IsReceived a log p.write.slots t now) where
     -- the display in slot t
     display : (d : Display) × HasEntry 0 p.write.write.displays t d
@@ -125,7 +126,7 @@ module _ (a : Auditing) (log : List ℕ) (sent : List (Option Group)) (messages 
         let got = first_entries (t + 1) p.write.slots in
         let reached = r.reached in
         let long = length-map got (own_group a.pi) ∙ first_length (t + 1) p.write.slots (omega (arith, reached)) in
-        let same = same_log log r.sent sent r.log_has is in
+        let same = same_log a.rtplus log r.sent sent r.log_has is in
         let came = r.came in
         record {
           heard = by_own_clock laws a t now sent (map (own_group a.pi) got) messages view.0 r.origins heard
@@ -142,14 +143,19 @@ module _ (a : Auditing) (log : List ℕ) (sent : List (Option Group)) (messages 
 
 -- ---- logs with lawful plans
 
+abbrev settings : LogStart → TextForm → Stop → ℕ → ℕ → ℕ → ℕ → Auditing
+settings start form stop n pi m k =
+    record { pi = pi; rtplus = n; dwell = m; late = k; start = start; form = form; stop = stop }
+
 -- a complete log with lawful plans is safe on the wire
-pub lawful_is_safe : LogLaws → (form : TextForm) (stop : Stop) (pi m k : ℕ) (log : List ℕ) (sent : List (Option Group))
-    (messages : List (Option Message)) (air : StationPlans) → IsLogOf log sent → AreHeard pi sent messages
+pub lawful_is_safe : LogLaws → (form : TextForm) (stop : Stop) (n pi m k : ℕ) (log : List ℕ)
+    (sent : List (Option Group))
+    (messages : List (Option Message)) (air : StationPlans) → IsLogOf n log sent → AreHeard pi sent messages
     → AreLawfulAs (text_kind form) (m + k) air.plans messages
     → ((slot : ℕ) (pair : PairFields) → IsMarkIn (marks text_mark messages) slot (Tagged pair) → air.HasTags slot pair)
-    → IsSafeOnTheWire (record { pi = pi; dwell = m; late = k; start = Complete; form = form; stop = stop }) log air
-lawful_is_safe laws form stop pi m k log sent messages air is heard lawful tags x p y q t u now one other ra rb =
-    let a : Auditing = record { pi = pi; dwell = m; late = k; start = Complete; form = form; stop = stop } in
+    → IsSafeOnTheWire (settings Complete form stop n pi m k) log air
+lawful_is_safe laws form stop n pi m k log sent messages air is heard lawful tags x p y q t u now one other ra rb =
+    let a : Auditing = settings Complete form stop n pi m k in
     let r = listener a log sent messages now is heard x p t one ra in
     let s = listener a log sent messages now is heard y q u other rb in
     let Listens = ListensByOwnClock (m + k) m now (first_entries (now + 1) messages) in
@@ -168,15 +174,15 @@ lawful_is_safe laws form stop pi m k log sent messages air is heard lawful tags 
         (tags slot pair it.0, omega (arith, it.1))
 
 -- so is the log of a running station, by plans that count from m + k slots before it
-pub recording_is_safe : LogLaws → (form : TextForm) (stop : Stop) (pi m k : ℕ) (log : List ℕ) (sent : List
-    (Option Group))
-    (messages : List (Option Message)) (air : StationPlans) → IsLogOf log sent → AreHeard pi sent messages
+pub recording_is_safe : LogLaws → (form : TextForm) (stop : Stop) (n pi m k : ℕ) (log : List ℕ)
+    (sent : List (Option Group))
+    (messages : List (Option Message)) (air : StationPlans) → IsLogOf n log sent → AreHeard pi sent messages
     → AreLawfulAs (text_kind form) (m + k) air.plans (from_first_text (preceded (m + k) messages))
     → ((slot : ℕ) (pair : PairFields) → IsMarkIn (marks text_mark (preceded (m + k) messages)) slot (Tagged pair)
     → air.HasTags slot pair)
-    → IsSafeOnTheWire (record { pi = pi; dwell = m; late = k; start = Running; form = form; stop = stop }) log air
-recording_is_safe laws form stop pi m k log sent messages air is heard lawful tags x p y q t u now one other ra rb =
-    let a : Auditing = record { pi = pi; dwell = m; late = k; start = Running; form = form; stop = stop } in
+    → IsSafeOnTheWire (settings Running form stop n pi m k) log air
+recording_is_safe laws form stop n pi m k log sent messages air is heard lawful tags x p y q t u now one other ra rb =
+    let a : Auditing = settings Running form stop n pi m k in
     let r = listener a log sent messages now is heard x p t one ra in
     let s = listener a log sent messages now is heard y q u other rb in
     let Listens = ListensByOwnClock (m + k) m now (first_entries (now + 1) messages) in
@@ -188,20 +194,20 @@ recording_is_safe laws form stop pi m k log sent messages air is heard lawful ta
     (All-cons Listens r (s ∷ []) lr (All-cons Listens s [] ls (All-nil Listens)))) lr.shows ls.shows
     (shows a log sent messages now is heard x p t one ra) (shows a log sent messages now is heard y q u other rb)
   where
-    n : ℕ
-    n = now + 1 + (m + k)
+    first : ℕ
+    first = now + 1 + (m + k)
 
     cut : AreLawfulAs (text_kind form) (m + k) air.plans (from_first_text (preceded (m + k) (first_entries
         (now + 1) messages)))
     cut =
         subst (λ (l : List (Option Message)). AreLawfulAs (text_kind form) (m + k) air.plans (from_first_text l))
         (preceded_first (m + k) (now + 1) messages)
-        (subst (AreLawfulAs (text_kind form) (m + k) air.plans) (settled_first n (preceded (m + k) messages))
-        (lawful_first (text_kind form) (m + k) n air.plans (from_first_text (preceded (m + k) messages)) lawful))
+        (subst (AreLawfulAs (text_kind form) (m + k) air.plans) (settled_first first (preceded (m + k) messages))
+        (lawful_first (text_kind form) (m + k) first air.plans (from_first_text (preceded (m + k) messages)) lawful))
 
     upto : AreTagsUpTo (now + (m + k)) air (marks text_mark (preceded (m + k) (first_entries (now + 1) messages)))
     upto slot pair mark =
-        let it = mark_in_first text_mark n (preceded (m + k) messages) slot (Tagged pair)
+        let it = mark_in_first text_mark first (preceded (m + k) messages) slot (Tagged pair)
         (subst (λ (l : List (Option Message)). IsMarkIn (marks text_mark l) slot (Tagged pair))
         (sym (preceded_first (m + k) (now + 1) messages)) mark) in
         (tags slot pair it.0, omega (arith, it.1))
@@ -215,17 +221,18 @@ pub record EncoderLaws : Type 0 where
   pub tags : TagsAreOfTheTextOnAir
 
 -- what follows of the log of a script: its slots, what receivers of the programme hear in them, and that this is lawful
-pub record HasLog (head : Head) (m k : ℕ) (log : List ℕ) (events : List Event) : Type 0 where
+pub record HasLog (n : ℕ) (head : Head) (m k : ℕ) (log : List ℕ) (events : List Event) : Type 0 where
   pub sent : List (Option Group)
-  pub cut : HasCut log sent
+  pub cut : HasCut n log sent
   pub heard : AreHeard head.pi sent (log_of (m + k) events)
   pub lawful : AreLawful (m + k) (plans_of (m + k) events) (log_of (m + k) events)
 
 -- the log of a script has all that
-pub log_of_script : EncoderLaws → (head : Head) (m k : ℕ) (script log : List ℕ) → IsHead head → 0 < m
-    → (encoded : Encodes (with_form Log (station_of head m k)) script log)
-    → HasLog head m k log encoded.write.events
-log_of_script encoder head m k script log is_head some encoded =
+pub log_of_script : EncoderLaws → (n : ℕ) (head : Head) (m k : ℕ) (script log : List ℕ) → MayCarryTags n
+    → IsHead head → 0 < m
+    → (encoded : Encodes (with_form (Log n) (station_of head m k)) script log)
+    → HasLog n head m k log encoded.write.events
+log_of_script encoder n head m k script log may is_head some encoded =
     let events = encoded.write.events in
     let outcomes = encoded.write.write.outcomes in
     let are = encoded.write.write.are in
@@ -234,7 +241,7 @@ log_of_script encoder head m k script log is_head some encoded =
     let none = rows_name_none config say.receivers encoded.records events say.allowed say.rows in
     record {
       sent = groups_sent outcomes;
-      cut = encoded_cut head m k events outcomes log is_head none are encoded.write.write.lines;
+      cut = encoded_cut n head m k events outcomes log may is_head none are encoded.write.write.lines;
       heard = groups_are_heard (station_of head m k) events outcomes are;
       lawful = log_is_lawful encoder.lawful encoder.slots (m + k) events (omega (arith, some))
           (rows_set config say.receivers encoded.records events say.rows);
@@ -242,11 +249,11 @@ log_of_script encoder head m k script log is_head some encoded =
 
 -- the law of scripts
 pub encoded_is_safe : LogLaws → EncoderLaws → WhatIsEncodedIsSafeOnTheWire
-encoded_is_safe laws encoder head m k script log is_head some encoded =
+encoded_is_safe laws encoder n head m k script log may is_head some encoded =
     let events = encoded.write.events in
-    let has = log_of_script encoder head m k script log is_head some encoded in
-    lawful_is_safe laws Plain FirstFault head.pi m k log has.sent (log_of (m + k) events) (aired (m + k) events)
-    (is_log_of log has.sent has.cut) has.heard
+    let has = log_of_script encoder n head m k script log may is_head some encoded in
+    lawful_is_safe laws Plain FirstFault n head.pi m k log has.sent (log_of (m + k) events) (aired (m + k) events)
+    (is_log_of n log has.sent has.cut) has.heard
     has.lawful (λ slot pair is. (tagged encoder.tags (m + k) events slot pair is).0)
 
 -- ---- audits
@@ -256,13 +263,13 @@ pub record AuditLaws : Type 0 where
   pub complete : WhatPassesIsSafe
   pub running : WhatPassesAsARecordingIsSafe
 
-passed_from : LogLaws → AuditLaws → (start : LogStart) (form : TextForm) (stop : Stop) (pi m k n : ℕ) (log : List ℕ)
-    → 0 < m
-    → WholePasses (record { pi = pi; dwell = m; late = k; start = start; form = form; stop = stop }) n log
-    → HasSafePlans (record { pi = pi; dwell = m; late = k; start = start; form = form; stop = stop }) log
-passed_from laws audits Complete form stop pi m k n log some whole =
+passed_from : LogLaws → AuditLaws → (start : LogStart) (form : TextForm) (stop : Stop) (n pi m k slots : ℕ)
+    (log : List ℕ) → 0 < m
+    → WholePasses (settings start form stop n pi m k) slots log
+    → HasSafePlans (settings start form stop n pi m k) log
+passed_from laws audits Complete form stop n pi m k slots log some whole =
     let safe = audits.complete form m k whole.pass.heard some whole.pass.passes in
-    let is : IsLogOf log whole.slots = record { lines = whole.lines; are = whole.are; say = whole.say } in
+    let is : IsLogOf n log whole.slots = record { lines = whole.lines; are = whole.are; say = whole.say } in
     record {
       slots = whole.slots;
       has = is;
@@ -270,16 +277,16 @@ passed_from laws audits Complete form stop pi m k n log some whole =
       heard = whole.pass.are;
       plans = safe.plans;
       lawful = safe.lawful;
-      safe = lawful_is_safe laws form stop pi m k log whole.slots whole.pass.heard
+      safe = lawful_is_safe laws form stop n pi m k log whole.slots whole.pass.heard
           (record {
             plans = safe.plans;
             HasTags = λ slot pair. IsMarkIn (marks text_mark whole.pass.heard) slot (Tagged pair);
           })
           is whole.pass.are safe.lawful (λ slot pair mark. mark);
     }
-passed_from laws audits Running form stop pi m k n log some whole =
+passed_from laws audits Running form stop n pi m k slots log some whole =
     let safe = audits.running form m k whole.pass.heard some whole.pass.passes in
-    let is : IsLogOf log whole.slots = record { lines = whole.lines; are = whole.are; say = whole.say } in
+    let is : IsLogOf n log whole.slots = record { lines = whole.lines; are = whole.are; say = whole.say } in
     record {
       slots = whole.slots;
       has = is;
@@ -287,7 +294,7 @@ passed_from laws audits Running form stop pi m k n log some whole =
       heard = whole.pass.are;
       plans = safe.plans;
       lawful = safe.lawful;
-      safe = recording_is_safe laws form stop pi m k log whole.slots whole.pass.heard
+      safe = recording_is_safe laws form stop n pi m k log whole.slots whole.pass.heard
           (record {
             plans = safe.plans;
             HasTags = λ slot pair. IsMarkIn (marks text_mark (preceded (m + k) whole.pass.heard)) slot (Tagged pair);
@@ -297,5 +304,5 @@ passed_from laws audits Running form stop pi m k n log some whole =
 
 -- the law of audits
 pub passed_is_safe : LogLaws → AuditLaws → WhatPassesIsSafeOnTheWire
-passed_is_safe laws audits a n log some whole =
-    passed_from laws audits a.start a.form a.stop a.pi a.dwell a.late n log some whole
+passed_is_safe laws audits a slots log some whole =
+    passed_from laws audits a.start a.form a.stop a.rtplus a.pi a.dwell a.late slots log some whole

@@ -89,7 +89,7 @@ fits = record {
   d = omega arith;
 }
 
-has_hi : IsLogOf (codes "C201 2140 4849 0D20\n") (Some hi ∷ [])
+has_hi : IsLogOf 11 (codes "C201 2140 4849 0D20\n") (Some hi ∷ [])
 has_hi = record {
   lines = codes "C201 2140 4849 0D20" ∷ [];
   are = (
@@ -104,7 +104,7 @@ has_hi = record {
   say = inr (Some hi, [], group_says hi fits, refl, refl);
 }
 
-hi_is_lost : LosesSlots (codes "C201 2140 4849 0D20\n") (None ∷ [])
+hi_is_lost : LosesSlots 11 (codes "C201 2140 4849 0D20\n") (None ∷ [])
 hi_is_lost = record { sent = Some hi ∷ []; log_has = has_hi; lost = (inl refl, tt); few = omega arith }
 
 -- to a receiver of another programme the group is nothing
@@ -125,14 +125,14 @@ lost = codes "---- ---- ---- ----"
 abbrev hi_alone : List (Option Group)
 hi_alone = None ∷ None ∷ Some hi ∷ []
 
-has_three : IsLogOf three hi_alone
+has_three : IsLogOf 11 three hi_alone
 has_three = record {
   lines = lost ∷ lost ∷ codes "C201 2140 4849 0D20" ∷ [];
   are = (lost ∷ lost ∷ codes "C201 2140 4849 0D20" ∷ [], [], refl, lines, empty_line, inl (refl, refl));
   say = inr (None, None ∷ Some hi ∷ [], dashes, refl, inr (None, Some hi ∷ [], dashes, refl, hi_says));
 }
   where
-    hi_says : AreSlots (codes "C201 2140 4849 0D20" ∷ []) (Some hi ∷ [])
+    hi_says : AreSlots 11 (codes "C201 2140 4849 0D20" ∷ []) (Some hi ∷ [])
     hi_says = inr (Some hi, [], group_says hi fits, refl, refl)
 
     dashed : IsLine lost
@@ -171,7 +171,8 @@ one_late = record {
     record {
       order = record {
         beside = refl;
-        each = of_origins hi_alone (Some 0 ∷ None ∷ []) (Some hi ∷ None ∷ []) (inr (inr (inl (refl, refl))), (refl, tt));
+        each = of_origins hi_alone (Some 0 ∷ None ∷ []) (Some hi ∷ None ∷ []) (inr (inr (inl (refl, refl))), (refl,
+            tt));
         rising = λ t u r s p q less. absurd (omega (arith, less, (origin t r p).0, (origin u s q).0));
       };
       past = λ t s p. omega (arith, (origin t s p).1);
@@ -238,7 +239,7 @@ came_so m k t now got r =
       first = 0;
       heard = map (own_group 0xC201) (first_entries (t + 1) got);
       origins = r.origins;
-    }) (same_log three r.sent hi_alone r.log_has has_three) r.came
+    }) (same_log 11 three r.sent hi_alone r.log_has has_three) r.came
 
 -- but not two slots late
 two_late : IsReceived (complete 0xC201 1 1) three (Some hi ∷ None ∷ None ∷ []) 2 2 → ⊥
@@ -409,8 +410,10 @@ next_letters = record {
 two_letters_on : AreSafe 30 40 lettered (showing (alone (codes " \"A\"") (codes " none")))
     (showing (alone (codes " \"C\"") (codes " none"))) → ⊥
 two_letters_on safe =
-    let a = number_of safe.texts.k (codes " \"A\"") (λ e. omega (arith, e)) (safe.texts.first.text (codes " \"A\"") refl) in
-    let c = number_of safe.texts.l (codes " \"C\"") (λ e. omega (arith, e)) (safe.texts.second.text (codes " \"C\"") refl) in
+    let a = number_of safe.texts.k (codes " \"A\"") (λ e. omega (arith, e)) (safe.texts.first.text (codes " \"A\"")
+        refl) in
+    let c = number_of safe.texts.l (codes " \"C\"") (λ e. omega (arith, e)) (safe.texts.second.text (codes " \"C\"")
+        refl) in
     omega (arith, a, c, safe.texts.near.0, safe.texts.near.1)
 
 two_names_on : AreSafe 30 40 lettered (showing (alone (codes " none") (codes " \"C\"")))

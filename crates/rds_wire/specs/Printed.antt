@@ -7,13 +7,14 @@ use Rattle.rds_log.specs.Reads.{BeginsWith}
 use Rattle.rds_view_lines.specs.Output.{none_content}
 use Rattle.rds_view_lines.specs.ViewParts.{Part, line_in}
 
--- `decode` with this window or none, with reasons or without, printed this for the first lines of a received log: for
--- all lines, or for those before a malformed one
-pub record Prints (pi m : ℕ) (window : Option ℕ) (received printed : List ℕ) : Type 0 where
+-- `decode` for tags in groups nA, with this window or none, with reasons or without, printed this for the first lines
+-- of a received log: for all lines, or for those before a malformed one
+pub record Prints (n pi m : ℕ) (window : Option ℕ) (received printed : List ℕ) : Type 0 where
   pub lines : List Line
   pub begins : BeginsWith received (Some []) lines
   pub why : Bool
-  pub write : LinesWrite record { pi = pi; dwell = m; window = window; says_why = why } lines printed
+  pub write : LinesWrite record { pi = pi; rtplus = n; dwell = m; window = window; says_why = why } lines
+      printed
 
 -- the newest line of the part up to slot t has this content
 pub record IsNewest (printed : List ℕ) (t : ℕ) (part : Part) (content : List ℕ) : Type 0 where

@@ -5,15 +5,13 @@ use Rattle.rds_cli.specs.declared.request.Programme.{Programme}
 use Rattle.rds_cli.specs.declared.request.Task.{Task}
 use Rattle.rds_cli.specs.declared.request.Task.TheVariants.{Audit, Decode, Encode}
 use Rattle.rds_io.specs.Told.{Traffic}
-use Rattle.rds_log.specs.Audit.{complete}
-use Rattle.rds_log.specs.LogWrites.{tuned}
-use Rattle.rds_program.specs.Run.{ReaderOver, TaskRuns, auditing_of}
-use Rattle.rds_receiver.specs.Receipts.{Tuning}
+use Rattle.rds_fields.specs.TagGroup.{MayCarryTags}
+use Rattle.rds_program.specs.Run.{Listening, ReaderOver, TaskRuns, auditing_of, listening}
 use Rattle.rds_script.specs.Play.{with_form}
 use Rattle.rds_script.specs.declared.form.Form.TheVariants.{Log}
 use Rattle.rds_view_lines.specs.ViewParts.{Part}
 use Rattle.rds_wire.specs.Printed.{Prints, Shows}
-use Rattle.rds_wire.specs.Wire.{Encodes, HasSafePlans, IsSafeOnTheWire, aired, station_of}
+use Rattle.rds_wire.specs.Wire.{Encodes, HasSafePlans, IsSafeOnTheWire, aired, complete_in, station_of}
 
 -- a reader of which only its bytes and its count of failures matter
 abbrev pub over : Traffic → ReaderOver
@@ -21,7 +19,7 @@ over r = record { traffic = r; ReadFailed = Unit {0}; Untouched = Unit {0} }
 
 -- a run of this task over this input, with a writer that had nothing, wrote this output, and no write failed. It may
 -- have ended at a fault
-pub record Ran (task : Task) (t : Tuning) (input output : List ℕ) : Type 0 where
+pub record Ran (task : Task) (l : Listening) (input output : List ℕ) : Type 0 where
   pub lose : List ℕ
   pub status : ℕ
   pub r : Traffic
@@ -30,29 +28,31 @@ pub record Ran (task : Task) (t : Tuning) (input output : List ℕ) : Type 0 whe
   pub fresh : w.before ≡ Some []
   pub wrote : w.after ≡ Some output
   pub unfailed : w.failures_after ≡ 0
-  pub ran : TaskRuns task lose t (over r) w status
+  pub ran : TaskRuns task lose l (over r) w status
 
--- what the program encodes with M and K is safe on the wire, by the texts that the script sets
+-- what the program encodes with M and K is safe on the wire, by the texts that the script sets; the tags may be in any
+-- group type that may carry them
 abbrev pub WhatTheProgramEncodesIsSafe : Type 0
 WhatTheProgramEncodesIsSafe =
-    (programme : Programme) (pi m k : ℕ) (script output : List ℕ) → pi < 2 ^ 16 → programme.pty < 32 → 0 < m
-    → Ran (Encode programme k) (tuned pi m) script output
-    → (log : List ℕ) × (encoded : Encodes (with_form Log
+    (programme : Programme) (n pi m k : ℕ) (script output : List ℕ) → MayCarryTags n → pi < 2 ^ 16
+    → programme.pty < 32 → 0 < m
+    → Ran (Encode programme k) (listening n pi m) script output
+    → (log : List ℕ) × (encoded : Encodes (with_form (Log n)
     (station_of (record { pi = pi; tp = programme.tp; pty = programme.pty }) m k)) script log)
-    × IsSafeOnTheWire (complete pi m k) output (aired (m + k) encoded.write.events)
+    × IsSafeOnTheWire (complete_in n pi m k) output (aired (m + k) encoded.write.events)
 
 -- a log to which the program says yes with M and K, by status 0, has safe plans; also that of a running
 -- station, and with padding
 abbrev pub WhatTheProgramPassesIsSafe : Type 0
 WhatTheProgramPassesIsSafe =
-    (pi m k : ℕ) (running padded all : Bool) (log output : List ℕ) → 0 < m
-    → (ran : Ran (Audit k running padded all) (tuned pi m) log output) → ran.status ≡ 0
-    → HasSafePlans (auditing_of (tuned pi m) k running padded all) log
+    (n pi m k : ℕ) (running padded all : Bool) (log output : List ℕ) → 0 < m
+    → (ran : Ran (Audit k running padded all) (listening n pi m) log output) → ran.status ≡ 0
+    → HasSafePlans (auditing_of (listening n pi m) k running padded all) log
 
 -- what the program decodes with M shows what such receivers print
 abbrev pub WhatTheProgramDecodesIsPrinted : Type 0
 WhatTheProgramDecodesIsPrinted =
-    (window : Option ℕ) (why : Bool) (pi m : ℕ) (received output : List ℕ)
-    → Ran (Decode window why) (tuned pi m) received output
-    → (printed : List ℕ) × Prints pi m window received printed
+    (window : Option ℕ) (why : Bool) (n pi m : ℕ) (received output : List ℕ)
+    → Ran (Decode window why) (listening n pi m) received output
+    → (printed : List ℕ) × Prints n pi m window received printed
     × ((t : ℕ) (part : Part) (content : List ℕ) → Shows output t part content → Shows printed t part content)

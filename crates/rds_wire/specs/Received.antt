@@ -1,5 +1,6 @@
 -- What reaches a receiver of a log (this project's own rule). Slots are lost, and groups come late, or the receiver has
--- a clock of its own. `a` has the programme, the dwell M and the lateness K. Lists have the newest first.
+-- a clock of its own. `a` has the programme, the group type of the tags, the dwell M and
+-- the lateness K. Lists have the newest first.
 use Rattle.std.specs.Prelude.{◌≡◌, ◌⊎◌, ◌<◌, ◌+◌, ◌-◌, ◌^◌, ◌==◌}
 use Rattle.std.specs.Prelude.{ℕ, List, Option, None, Some, drop, if◌then◌else◌, length, map}
 use Rattle.std.specs.List.{AllZip}
@@ -29,7 +30,7 @@ Came a t now sent input =
 -- a receiver of the log got these slots. When the station has reached slot `now`, it has reached slot t
 pub record IsReceived (a : Auditing) (log : List ℕ) (got : List (Option Group)) (t now : ℕ) : Type 0 where
   pub sent : List (Option Group)
-  pub log_has : IsLogOf log sent
+  pub log_has : IsLogOf a.rtplus log sent
   pub reached : t < length got
   pub few : length got < 2 ^ 64
   pub origins : List (Option ℕ)
@@ -40,14 +41,14 @@ pub record IsReceived (a : Auditing) (log : List ℕ) (got : List (Option Group)
   }
 
 -- the receiver got each slot of the log in its time, or lost it
-pub record LosesSlots (log : List ℕ) (got : List (Option Group)) : Type 0 where
+pub record LosesSlots (n : ℕ) (log : List ℕ) (got : List (Option Group)) : Type 0 where
   pub sent : List (Option Group)
-  pub log_has : IsLogOf log sent
+  pub log_has : IsLogOf n log sent
   pub lost : AllZip (λ (group slot : Option Group). (slot ≡ None) ⊎ (slot ≡ group)) sent got
   pub few : length got < 2 ^ 64
 
 -- so the log is received in each slot, with any programme, dwell and lateness
 abbrev pub WhoLosesSlotsReceives : Type 0
 WhoLosesSlotsReceives =
-    (a : Auditing) (log : List ℕ) (got : List (Option Group)) (t : ℕ) → LosesSlots log got → t < length got
+    (a : Auditing) (log : List ℕ) (got : List (Option Group)) (t : ℕ) → LosesSlots a.rtplus log got → t < length got
     → IsReceived a log got t t

@@ -2,13 +2,14 @@
 -- (this project's own rule). Here d is m + k + w - 1. Lists have the newest first.
 use Rattle.std.specs.Prelude.{◌+◌, ◌<◌, ◌^◌, ℕ, List, Option, Some, length}
 use Rattle.rds_block.specs.declared.group.Group.{Group}
+use Rattle.rds_fields.specs.TagGroup.{MayCarryTags}
 use Rattle.rds_fields.specs.declared.head.Head.{Head}
 use Rattle.rds_fields.specs.declared.message.Message.{Message}
 use Rattle.rds_receiver.specs.Receipts.{AreHeard}
 use Rattle.rds_safety.specs.Confirmed.{IsHeardWithWrong, NoWrongConfirmed, lateness_of_two}
 use Rattle.rds_safety.specs.Marks.{IsMarkIn, Tagged, marks, text_mark}
 use Rattle.rds_safety.specs.Plans.{AreLawful, Plans}
-use Rattle.rds_log.specs.Audit.{WholePasses, complete}
+use Rattle.rds_log.specs.Audit.{WholePasses}
 use Rattle.rds_log.specs.FilledLog.{IsLogOf}
 use Rattle.rds_log.specs.declared.audit_log.Stop.{Stop}
 use Rattle.rds_script.specs.Play.{with_form}
@@ -16,19 +17,19 @@ use Rattle.rds_script.specs.declared.form.Form.TheVariants.{Log}
 use Rattle.rds_wire.specs.Printed.{Prints, Shows}
 use Rattle.rds_wire.specs.Received.{first_entries}
 use Rattle.rds_wire.specs.Safe.{AreSafe, StationPlans}
-use Rattle.rds_wire.specs.Wire.{Encodes, IsHead, aired, station_of}
+use Rattle.rds_wire.specs.Wire.{Encodes, IsHead, aired, complete_in, station_of}
 
--- receivers of this programme hear these messages in the slots of a log
-pub record HasMessages (pi : ℕ) (log : List ℕ) (messages : List (Option Message)) : Type 0 where
+-- receivers of this programme hear these messages in the slots of a log with tags in groups nA
+pub record HasMessages (n pi : ℕ) (log : List ℕ) (messages : List (Option Message)) : Type 0 where
   pub slots : List (Option Group)
-  pub has : IsLogOf log slots
+  pub has : IsLogOf n log slots
   pub heard : AreHeard pi slots messages
 
 -- a receiver got these slots. In each slot up to t it heard a message that the log has at most k slots before, in the
 -- order of sending, or nothing, or a wrong message; no segment and no pair of tags is wrong twice within w slots
-pub record IsReceivedWithWrong (pi w k : ℕ) (log : List ℕ) (got : List (Option Group)) (t : ℕ) : Type 0 where
+pub record IsReceivedWithWrong (n pi w k : ℕ) (log : List ℕ) (got : List (Option Group)) (t : ℕ) : Type 0 where
   pub sent : List (Option Message)
-  pub log_has : HasMessages pi log sent
+  pub log_has : HasMessages n pi log sent
   pub reached : t < length got
   pub few : length got < 2 ^ 64
   pub heard : List (Option Message)
@@ -38,27 +39,28 @@ pub record IsReceivedWithWrong (pi w k : ℕ) (log : List ℕ) (got : List (Opti
   pub once : NoWrongConfirmed w record { first = 0; heard = heard; origins = origins }
 
 -- whatever two such receivers of the log print is safe
-abbrev pub IsSafeIfHeardTwice : ℕ → ℕ → ℕ → ℕ → List ℕ → StationPlans → Type 0
-IsSafeIfHeardTwice pi m w k log air =
+abbrev pub IsSafeIfHeardTwice : ℕ → ℕ → ℕ → ℕ → ℕ → List ℕ → StationPlans → Type 0
+IsSafeIfHeardTwice n pi m w k log air =
     (received printed other_received other_printed : List ℕ) (t : ℕ)
-    → (one : Prints pi m (Some w) received printed) → (other : Prints pi m (Some w) other_received other_printed)
-    → IsReceivedWithWrong pi w k log one.write.slots t → IsReceivedWithWrong pi w k log other.write.slots t
+    → (one : Prints n pi m (Some w) received printed)
+    → (other : Prints n pi m (Some w) other_received other_printed)
+    → IsReceivedWithWrong n pi w k log one.write.slots t → IsReceivedWithWrong n pi w k log other.write.slots t
     → AreSafe (m + lateness_of_two w k) t air (Shows printed t) (Shows other_printed t)
 
 -- the log that `encode` writes with a lateness of k + w - 1 is safe for receivers with a window of w slots
 abbrev pub WhatIsEncodedIsSafeIfHeardTwice : Type 0
 WhatIsEncodedIsSafeIfHeardTwice =
-    (head : Head) (m w k : ℕ) (script log : List ℕ) → IsHead head → 0 < m
-    → (encoded : Encodes (with_form Log (station_of head m (lateness_of_two w k))) script log)
-    → IsSafeIfHeardTwice head.pi m w k log (aired (m + lateness_of_two w k) encoded.write.events)
+    (n : ℕ) (head : Head) (m w k : ℕ) (script log : List ℕ) → MayCarryTags n → IsHead head → 0 < m
+    → (encoded : Encodes (with_form (Log n) (station_of head m (lateness_of_two w k))) script log)
+    → IsSafeIfHeardTwice n head.pi m w k log (aired (m + lateness_of_two w k) encoded.write.events)
 
 -- some plans are lawful for the messages of the log, and by them it is safe for receivers with a window of w slots
-pub record HasPlansForTwo (pi m w k : ℕ) (log : List ℕ) : Type 0 where
+pub record HasPlansForTwo (n pi m w k : ℕ) (log : List ℕ) : Type 0 where
   pub messages : List (Option Message)
-  pub has : HasMessages pi log messages
+  pub has : HasMessages n pi log messages
   pub plans : Plans
   pub lawful : AreLawful (m + lateness_of_two w k) plans messages
-  pub safe : IsSafeIfHeardTwice pi m w k log record {
+  pub safe : IsSafeIfHeardTwice n pi m w k log record {
     plans = plans;
     HasTags = λ slot pair. IsMarkIn (marks text_mark messages) slot (Tagged pair);
   }
@@ -66,5 +68,6 @@ pub record HasPlansForTwo (pi m w k : ℕ) (log : List ℕ) : Type 0 where
 -- a complete log to which `audit` says yes with a lateness of k + w - 1 has such plans, wherever the audit would stop
 abbrev pub WhatPassesIsSafeIfHeardTwice : Type 0
 WhatPassesIsSafeIfHeardTwice =
-    (pi m w k n : ℕ) (stop : Stop) (log : List ℕ) → 0 < m
-    → WholePasses (record (complete pi m (lateness_of_two w k)) { stop = stop }) n log → HasPlansForTwo pi m w k log
+    (n pi m w k slots : ℕ) (stop : Stop) (log : List ℕ) → 0 < m
+    → WholePasses (record (complete_in n pi m (lateness_of_two w k)) { stop = stop }) slots log
+    → HasPlansForTwo n pi m w k log

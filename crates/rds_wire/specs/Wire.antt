@@ -2,6 +2,7 @@
 -- show. The log is one that `encode` wrote for a script, or one to which `audit` said yes. Lists have the newest first.
 use Rattle.std.specs.Prelude.{◌≡◌, ◌<◌, ◌+◌, ◌^◌, ℕ, List, None, Option, Some}
 use Rattle.rds_block.specs.declared.group.Group.{Group}
+use Rattle.rds_fields.specs.TagGroup.{MayCarryTags}
 use Rattle.rds_fields.specs.declared.head.Head.{Head}
 use Rattle.rds_fields.specs.declared.message.Message.{Message}
 use Rattle.rds_encoder.specs.Tags.{pair_on_air}
@@ -36,8 +37,8 @@ slot_of_plans Running d now = now + d
 abbrev pub IsSafeOnTheWire : Auditing → List ℕ → StationPlans → Type 0
 IsSafeOnTheWire a log air =
     (received printed other_received other_printed : List ℕ) (t u now : ℕ)
-    → (one : Prints a.pi a.dwell None received printed)
-    → (other : Prints a.pi a.dwell None other_received other_printed)
+    → (one : Prints a.rtplus a.pi a.dwell None received printed)
+    → (other : Prints a.rtplus a.pi a.dwell None other_received other_printed)
     → IsReceived a log one.write.slots t now → IsReceived a log other.write.slots u now
     → AreSafe (spacing a) (slot_of_plans a.start (spacing a) now) air (Shows printed t) (Shows other_printed u)
 
@@ -71,12 +72,17 @@ aired d events = record {
   HasTags = λ slot pair. pair_on_air d (entries (first_entries (slot + 1) events)) ≡ Some pair;
 }
 
--- the log that `encode` writes for any script is safe on the wire: what receivers show was on air by the script
+-- the first fault of a complete log with tags in groups nA
+abbrev pub complete_in : ℕ → ℕ → ℕ → ℕ → Auditing
+complete_in n pi m k = record (complete pi m k) { rtplus = n }
+
+-- the log that `encode` writes for any script is safe on the wire: what receivers show was on air by the script. Both
+-- have the tags in the same group type
 abbrev pub WhatIsEncodedIsSafeOnTheWire : Type 0
 WhatIsEncodedIsSafeOnTheWire =
-    (head : Head) (m k : ℕ) (script log : List ℕ) → IsHead head → 0 < m
-    → (encoded : Encodes (with_form Log (station_of head m k)) script log)
-    → IsSafeOnTheWire (complete head.pi m k) log (aired (m + k) encoded.write.events)
+    (n : ℕ) (head : Head) (m k : ℕ) (script log : List ℕ) → MayCarryTags n → IsHead head → 0 < m
+    → (encoded : Encodes (with_form (Log n) (station_of head m k)) script log)
+    → IsSafeOnTheWire (complete_in n head.pi m k) log (aired (m + k) encoded.write.events)
 
 -- ---- the law of audits
 
@@ -88,7 +94,7 @@ messages_of_plans Running d messages = preceded d messages
 -- some plans are lawful for what `audit` judges of the messages of the log, and by them the log is safe on the wire
 pub record HasSafePlans (a : Auditing) (log : List ℕ) : Type 0 where
   pub slots : List (Option Group)
-  pub has : IsLogOf log slots
+  pub has : IsLogOf a.rtplus log slots
   pub messages : List (Option Message)
   pub heard : AreHeard a.pi slots messages
   pub plans : Plans

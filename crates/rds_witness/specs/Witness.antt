@@ -33,21 +33,21 @@ abbrev pub Answers : (Bool → List ℕ → Type 0) → Traffic → Result Bool 
 Answers Is w (Ok found) = WroteAnswer Is found w
 Answers Is w (Err fault) = WrotePartOfAnswer Is w
 
--- the log was read to its end and answered, or a fault came, which has its cause
-abbrev pub AnswersLog : (List (Option Group) → Bool → List ℕ → Type 0) → Traffic → Traffic → Result Bool LogFault
+-- the log, whose tags come in groups nA, was read to its end and answered, or a fault came, which has its cause
+abbrev pub AnswersLog : ℕ → (List (Option Group) → Bool → List ℕ → Type 0) → Traffic → Traffic → Result Bool LogFault
     → Type 0
-AnswersLog Is r w (Ok found) = (log : List (Option Group)) × GathersAll r log × WroteAnswer (Is log) found w
-AnswersLog Is r w (Err Write) = (log : List (Option Group)) × GathersAll r log × WrotePartOfAnswer (Is log) w
-AnswersLog Is r w (Err Memory) = IsCalm r × PutsNothing w
-AnswersLog Is r w (Err (BadLine n)) = GathersNone (2 ^ 32) r (BadLine n) × PutsNothing w
-AnswersLog Is r w (Err Read) = GathersNone (2 ^ 32) r Read × PutsNothing w
-AnswersLog Is r w (Err TooLong) = GathersNone (2 ^ 32) r TooLong × PutsNothing w
-AnswersLog Is r w (Err (BadRow n)) = ⊥
+AnswersLog n Is r w (Ok found) = (log : List (Option Group)) × GathersAll n r log × WroteAnswer (Is log) found w
+AnswersLog n Is r w (Err Write) = (log : List (Option Group)) × GathersAll n r log × WrotePartOfAnswer (Is log) w
+AnswersLog n Is r w (Err Memory) = IsCalm r × PutsNothing w
+AnswersLog n Is r w (Err (BadLine line)) = GathersNone (2 ^ 32) r (BadLine line) × PutsNothing w
+AnswersLog n Is r w (Err Read) = GathersNone (2 ^ 32) r Read × PutsNothing w
+AnswersLog n Is r w (Err TooLong) = GathersNone (2 ^ 32) r TooLong × PutsNothing w
+AnswersLog n Is r w (Err (BadRow row)) = ⊥
 
--- the result of `witness`
-abbrev pub Witnesses : Tuning → Traffic → Traffic → Result Bool LogFault → Type 0
-Witnesses t r w result = AnswersLog (IsAnswer t) r w result
+-- the result of `witness` for a log whose tags come in groups nA
+abbrev pub Witnesses : ℕ → Tuning → Traffic → Traffic → Result Bool LogFault → Type 0
+Witnesses n t r w result = AnswersLog n (IsAnswer t) r w result
 
 -- the result of `witness` with given lost slots
-abbrev pub Loses : Tuning → ℕ → List Burst → Traffic → Traffic → Result Bool LogFault → Type 0
-Loses t ahead lost r w result = AnswersLog (IsLossAnswer t ahead lost) r w result
+abbrev pub Loses : ℕ → Tuning → ℕ → List Burst → Traffic → Traffic → Result Bool LogFault → Type 0
+Loses n t ahead lost r w result = AnswersLog n (IsLossAnswer t ahead lost) r w result

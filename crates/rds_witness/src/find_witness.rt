@@ -12,15 +12,15 @@ ghost use Rattle.rds_witness.specs.Witness.{Answers, Witnesses};
 use crate::mix_lines::{ROOM, push_mixes};
 use crate::search::{Found, find};
 use rds_block::Blocks;
-use rds_fields::Dwell;
+use rds_fields::{Dwell, TagGroup};
 use rds_io::{Lines, LogFault, TellingRead, TellingWrite, WriteFault, put};
 use rds_log::{LogNotes, MOST_READS, News, NoNews, gather};
 use std::alloc::Global;
 
-/// Reads a log of all groups of a station, one slot a line, and looks for a burst of lost slots after which a receiver
-/// shows a mix. If there is one, writes the lost slots and the line of each mix of the first slot that has one, and
-/// returns true. If not, writes that no witness was found, and returns false. Then no burst makes a receiver show a
-/// mix, or none before the slot at which the line says that the search stopped.
+/// Reads a log of all groups of a station with tags in groups 11A, one slot a line, and looks for a burst of lost slots
+/// after which a receiver shows a mix. If there is one, writes the lost slots and the line of each mix of the first
+/// slot that has one, and returns true. If not, writes that no witness was found, and returns false. Then no burst
+/// makes a receiver show a mix, or none before the slot at which the line says that the search stopped.
 ///
 /// A tag of a pair that the station replaced in the run of its text does not count as a mix.
 ///
@@ -34,29 +34,33 @@ pub fn witness<R: TellingRead, W: TellingWrite>(
     pi: u16,
     dwell: Dwell,
 ) -> Result<bool, LogFault>
-    ensures witnesses { Witnesses (tuned pi dwell) (traffic R.remaining R.failures reader.old reader.new)
+    ensures witnesses { Witnesses 11 (tuned pi dwell) (traffic R.remaining R.failures reader.old reader.new)
         (traffic W.contents W.failures writer.old writer.new) result }
     ensures reads { MadeReads (2 ^ 32) (R.reads reader.old) (R.reads reader.new) result }
 {
     let (mut notes, mut news) = (LogNotes::new(), NoNews);
-    witness_with_notes(alloc, reader, writer, pi, dwell, &mut notes, &mut news)
+    let rtplus = TagGroup::usual();
+    witness_with_notes(
+        alloc, reader, writer, pi, rtplus, dwell, &mut notes, &mut news,
+    )
 }
 
-/// Does what [`witness`] does, and takes notes for a person. The output and the answer are the same.
+/// Does what [`witness`] does for tags in this group type, and takes notes for a person.
 pub fn witness_with_notes<R: TellingRead, W: TellingWrite, N: News>(
     alloc: Global,
     reader: &mut R,
     writer: &mut W,
     pi: u16,
+    rtplus: TagGroup,
     dwell: Dwell,
     notes: &mut LogNotes,
     news: &mut N,
 ) -> Result<bool, LogFault>
-    ensures witnesses { Witnesses (tuned pi dwell) (traffic R.remaining R.failures reader.old reader.new)
+    ensures witnesses { Witnesses rtplus (tuned pi dwell) (traffic R.remaining R.failures reader.old reader.new)
         (traffic W.contents W.failures writer.old writer.new) result }
     ensures reads { MadeReads (2 ^ 32) (R.reads reader.old) (R.reads reader.new) result }
 {
-    let log = gather(alloc, reader, pi, MOST_READS, notes, news)?;
+    let log = gather(alloc, reader, pi, rtplus, MOST_READS, notes, news)?;
     let Ok(found) = find(alloc, log.as_slice(), pi, dwell) else {
         return Err(LogFault::Memory);
     };

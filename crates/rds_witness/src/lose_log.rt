@@ -19,7 +19,7 @@ use crate::checking::slots_until;
 use crate::mix_lines::{ROOM, push_mixes_of};
 use crate::seen::AllSeen;
 use rds_block::Blocks;
-use rds_fields::Dwell;
+use rds_fields::{Dwell, TagGroup};
 use rds_io::{Lines, LogFault, TellingRead, TellingWrite, WriteFault, put};
 use rds_log::{LogNotes, MOST_READS, News, gather};
 use rds_receiver::{Receiver, StoredReceiver};
@@ -29,6 +29,8 @@ use std::alloc::{AllocError, Global};
 #[derive(Clone, Copy)]
 pub struct Losing<'a> {
     pub pi: u16,
+    /// The group type of the tags.
+    pub rtplus: TagGroup,
     /// The dwell of the receiver.
     pub dwell: Dwell,
     /// A thing is no mix if a receiver that loses nothing shows it less than so many slots later.
@@ -51,12 +53,21 @@ pub fn lose_with_notes<R: TellingRead, W: TellingWrite, N: News>(
     notes: &mut LogNotes,
     news: &mut N,
 ) -> Result<bool, LogFault>
-    ensures loses { Loses (tuned losing.now.pi losing.now.dwell) losing.now.ahead losing.now.lost.now
+    ensures loses { Loses losing.now.rtplus (tuned losing.now.pi losing.now.dwell) losing.now.ahead
+        losing.now.lost.now
         (traffic R.remaining R.failures reader.old reader.new)
         (traffic W.contents W.failures writer.old writer.new) result }
     ensures reads { MadeReads (2 ^ 32) (R.reads reader.old) (R.reads reader.new) result }
 {
-    let log = gather(alloc, reader, losing.pi, MOST_READS, notes, news)?;
+    let log = gather(
+        alloc,
+        reader,
+        losing.pi,
+        losing.rtplus,
+        MOST_READS,
+        notes,
+        news,
+    )?;
     let Ok(lines) = lines_of(alloc, log.as_slice(), losing) else {
         return Err(LogFault::Memory);
     };

@@ -13,7 +13,7 @@ use clap::Error;
 use rds_cli::{Request, Task, identification_of, read_words, request_in};
 use rds_io::{Told, put};
 use rds_log::NoNews;
-use rds_notes::{Run, Screen, print_notes, print_refusal};
+use rds_notes::{Run, Screen, print_no_group, print_notes, print_refusal};
 use rds_program::{Report, no_words, run_read, source_of, texts, words_of};
 use std::io::{ErrorKind, IsTerminal, Stderr};
 use std::process::ExitCode;
@@ -76,11 +76,11 @@ fn run_request<'a>(
 
 /// Prints help, or why the arguments are refused.
 fn refuse(rt: &HostRuntime, read: Result<Option<Request<'_>>, Error>) -> u8 {
-    // A terminal shows the reason already: it is standard output.
-    if let Err(error) = &read
-        && !rt.stdout().is_terminal()
-    {
-        print_refusal(error, &mut notes(rt));
+    match &read {
+        Ok(_) => print_no_group(&mut notes(rt)),
+        // A terminal shows the reason already: it is standard output.
+        Err(_) if rt.stdout().is_terminal() => {}
+        Err(error) => print_refusal(error, &mut notes(rt)),
     }
     run_read(
         rt.alloc(),

@@ -22,11 +22,11 @@ from ._library import DEFAULT_DWELL, NoLibrary
 from .characters import InvalidText, closest, closest_name
 from .logs import Group, MalformedLine, format_group, read_log, read_timed, slot_time, slots, timed_slots
 from .objects import (Audit, Encoder, Fault, Held, NoText, OutOfText, Receiver, Refused, Silent, Wait,
-                      library_version)
+                      exchange_tag_group, library_version)
 from .views import ContentType, Item, Segments, Tag, View, type_name
 
 __all__ = ["Audit", "ContentType", "DEFAULT_DWELL", "Encoder", "Fault", "Group", "Held", "InvalidText", "Item",
            "MalformedLine", "NoLibrary", "NoText", "OutOfText", "Receiver", "Refused", "Segments", "Silent", "Tag",
-           "View", "Wait", "closest", "closest_name", "format_group", "library_version", "read_log", "read_timed",
-           "slot_time", "slots", "timed_slots", "type_name"]
+           "View", "Wait", "closest", "closest_name", "exchange_tag_group", "format_group", "library_version",
+           "read_log", "read_timed", "slot_time", "slots", "timed_slots", "type_name"]
 __version__ = "0.2.0"

@@ -98,6 +98,7 @@ CALLS: Dict[str, Tuple[Any, List[Any]]] = {
     "encoder_tick": (u32, [ANY, u8, ANY]),
     "encoder_on_air": (None, [ANY, ANY]),
     "encoder_wait": (None, [ANY, ANY]),
+    "exchange_tag_group": (u32, [u8, ANY]),
     "audit_init_with": (u32, [ANY, u16, u16, u16, u32]),
     "audit_slot": (u32, [ANY, ANY, size_t]),
     "audit_all_faults": (u32, [ANY, ANY, size_t, ANY]),

@@ -85,6 +85,24 @@ def _blocks(group: Optional[Sequence[Integer]]) -> Tuple[Any, int]:
     return (None, 0) if group is None else (c.Blocks(*blocks_of(group)), 4)
 
 
+def exchange_tag_group(number: Integer, group: Optional[Sequence[Integer]]) -> Optional[Group]:
+    """Returns the group with the group types 11A and `number`A exchanged: its own type, and the one that a 3A gives to an
+    application. The same call again exchanges them back. A lost slot (None) stays.
+
+    All objects read and write RT+ tags in group 11A. If a station has them in another type, which its groups 3A name,
+    exchange each group before `slot`, and each one that `tick` returns. Raises ValueError unless the number is 5 to 9 or
+    11 to 13.
+    """
+    blocks, _ = _blocks(group)
+    number = in_range("a group type of tags", number, 0, 255)
+    if c.library().rdsrt_exchange_tag_group(number, blocks if blocks else c.Blocks()) != c.OK:
+        raise ValueError(f"RT+ tags are in groups 5A to 9A or 11A to 13A and not in {number}A")
+    if group is None:
+        return None
+    one, two, three, four = blocks
+    return one, two, three, four
+
+
 def _text_of(it: c.Text) -> Optional[str]:
     return shown(bytes(it.bytes[:it.length])) if it.is_shown else None
 

@@ -14,7 +14,8 @@ use Rattle.rds_log.specs.declared.auditor.Auditor.{Auditor}
 -- the auditor took these lines, and this is their list
 pub record HasAudited (a : Auditing) (l : Auditor) (lines : List Line) (total : List ℕ) : Type 0 where
   pub slots : List (Option Group)
-  pub say : AreSlots lines slots
+  pub say : AreSlots a.rtplus lines slots
+  pub rtplus : l.rtplus ≡ a.rtplus
   pub count : l.slots ≡ length slots
   pub stop : l.stop ≡ a.stop
   pub audit : FollowsLog a.pi (spacing a) l.audit slots

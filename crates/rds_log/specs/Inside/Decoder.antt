@@ -1,5 +1,5 @@
 -- The state of the taker of `decode` after these lines, the newest first.
-use Rattle.std.specs.Prelude.{◌≢◌, [], ℕ, List, Option}
+use Rattle.std.specs.Prelude.{◌≡◌, ◌≢◌, [], ℕ, List, Option}
 use Rattle.rds_block.specs.declared.group.Group.{Group}
 use Rattle.rds_log.specs.LogLines.{Line}
 use Rattle.rds_log.specs.LogWrites.{AreSlots, LinesWrite, tuning_of}
@@ -10,7 +10,8 @@ use Rattle.rds_log.specs.declared.decoder.Decoder.{Decoder}
 -- the decoder took these lines, and this is their output
 pub record HasDecoded (how : Decoding) (d : Decoder) (lines : List Line) (total : List ℕ) : Type 0 where
   pub slots : List (Option Group)
-  pub say : AreSlots lines slots
+  pub say : AreSlots how.rtplus lines slots
+  pub rtplus : d.rtplus ≡ how.rtplus
   pub views : ViewsStandAt how.says_why (tuning_of how) d.views slots total
 
 -- the output of the lines that it took

@@ -24,6 +24,8 @@ returns c = record {
   witness_lose = record { taken = refl; ask = refl };
   witness_flag_alone = record { taken = refl; ask = refl };
   witness_without_spans = record { taken = refl; ask = refl };
+  decode_rtplus = record { taken = refl; ask = refl };
+  slots_rtplus = record { taken = refl; refused = refl };
   decode_lose = record { taken = refl; refused = refl };
   slots = record { taken = refl; ask = refl };
   slots_grain = record { taken = refl; ask = refl };

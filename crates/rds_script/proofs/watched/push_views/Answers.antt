@@ -13,7 +13,7 @@ pub loop-i-init : goal.loop-i-init
 loop-i-init c = record {
   count = refl;
   room = omega arith;
-  lines = λ config events s. no_changes c.args.slot (whys_at c.args.form config c.args.event.now.receptions events)
+  lines = λ config events s. no_changes c.args.slot (whys_at c.args.form.now config c.args.event.now.receptions events)
       c.args.lines.now _ _;
   views = λ config events s were i below. absurd (omega (arith, below));
   later = λ i l. refl;
@@ -26,7 +26,7 @@ loop-i-preserved c =
       count = grind (arith, common_steps);
       room = omega (arith, c.show.ensures.room, c.loop-i.invariant.room);
       lines = λ config events s. next_changes c.args.slot c.loop-i.i
-          (whys_at c.args.form config c.args.event.now.receptions events) c.whys_of-whys.result
+          (whys_at c.args.form.now config c.args.event.now.receptions events) c.whys_of-whys.result
           c.args.shown.now c.loop-i.shown c.index-shown-i.result c.show.new.shown c.args.lines.now c.loop-i.lines
           c.show.new.lines within
           c.loop-i.invariant.later (c.loop-i.invariant.lines config events s) c.show.ensures.changes
@@ -56,7 +56,7 @@ loop-i-preserved-then-stays c =
     record {
       count = c.loop-i.invariant.count;
       room = omega (arith, c.loop-i.invariant.room);
-      lines = λ config events s. stay_changes c.args.slot i (whys_at c.args.form config c.args.event.now.receptions
+      lines = λ config events s. stay_changes c.args.slot i (whys_at c.args.form.now config c.args.event.now.receptions
           events) initial now c.args.lines.now c.loop-i.lines same (c.loop-i.invariant.lines config events s);
       views = λ config events s were j below. elim (at_last j i below) [
         | inl less ↦ c.loop-i.invariant.views config events s were j less
@@ -70,7 +70,8 @@ loop-i-preserved-then-stays c =
 
 pub returns-then-all_stay-clause-lines : goal.returns-then-all_stay-clause-lines
 returns-then-all_stay-clause-lines c same config events s =
-    none_changes c.args.slot (length c.args.shown.now) (whys_at c.args.form config c.args.event.now.receptions events)
+    none_changes c.args.slot (length c.args.shown.now) (whys_at c.args.form.now config c.args.event.now.receptions
+        events)
     (map view_kept c.args.shown.now) c.args.lines.now
 
 pub returns-then-all_stay-clause-views : goal.returns-then-all_stay-clause-views

@@ -5,5 +5,6 @@ pub returns-clause-decoded : goal.returns-clause-decoded
 returns-clause-decoded c = record {
   slots = [];
   say = refl;
+  rtplus = refl;
   views = c.new.ensures.stands _ (c.tuned-receiver.ensures.stands 0);
 }
