@@ -46,7 +46,7 @@ pub same_output : (how : Decoding) (text written other : List ℕ) → LogWrites
 same_output how text written other p q =
     let lines : p.cut ≡ q.cut = same_lines text p.cut q.cut p.are q.are in
     let slots : p.write.slots ≡ q.write.slots = same_slots how.rtplus q.cut p.write.slots q.write.slots (rw lines at
-        p.write.say)
+    p.write.say)
     q.write.say in
     let displays : p.write.write.displays ≡ q.write.write.displays = same_displays how.says_why (tuning_of how)
     q.write.slots p.write.write.displays q.write.write.displays (rw slots at p.write.write.are) q.write.write.are in

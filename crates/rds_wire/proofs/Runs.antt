@@ -130,7 +130,7 @@ module _ (how : Playing) (script output : List ℕ) (known : Option (List ℕ)) 
 wrote : (programme : Programme) (n pi m k : ℕ) (script output : List ℕ)
     → Ran (Encode programme k) (listening n pi m) script output
     → Wrote (with_form (Log n) (station_of (record { pi = pi; tp = programme.tp; pty = programme.pty }) m k)) script
-        output
+    output
 wrote programme n pi m k script output ran = by ran.ran.outcome ran.ran.ran ran.ran.ended
   where
     how : Playing
@@ -365,7 +365,7 @@ decoded_by_the_program window why n pi m received output ran = by ran.ran.outcom
     by (Err (BadLine number)) (text, read, stops, calm) ended =
         let bytes = all_bytes ran.r.before ran.r.after received text ran.given read in
         fault stops.lines stops.next.line (stops.next.rest ++ bytes.0) stops.wrote (codes "fault line " ++ decimal
-            number)
+        number)
         (bytes.2 ∙ ap (λ (l : List ℕ). l ++ bytes.0) stops.next.cut
         ∙ append_assoc (text_of stops.lines stops.next.line) stops.next.rest bytes.0) stops.next.bad.lines
         stops.next.bad.is_line

@@ -171,8 +171,13 @@ one_late = record {
     record {
       order = record {
         beside = refl;
-        each = of_origins hi_alone (Some 0 ∷ None ∷ []) (Some hi ∷ None ∷ []) (inr (inr (inl (refl, refl))), (refl,
-            tt));
+        each = of_origins hi_alone (Some 0 ∷ None ∷ []) (Some hi ∷ None ∷ []) (
+          inr (inr (inl (refl, refl))),
+          (
+            refl,
+            tt,
+          ),
+        );
         rising = λ t u r s p q less. absurd (omega (arith, less, (origin t r p).0, (origin u s q).0));
       };
       past = λ t s p. omega (arith, (origin t s p).1);
@@ -411,9 +416,9 @@ two_letters_on : AreSafe 30 40 lettered (showing (alone (codes " \"A\"") (codes 
     (showing (alone (codes " \"C\"") (codes " none"))) → ⊥
 two_letters_on safe =
     let a = number_of safe.texts.k (codes " \"A\"") (λ e. omega (arith, e)) (safe.texts.first.text (codes " \"A\"")
-        refl) in
+    refl) in
     let c = number_of safe.texts.l (codes " \"C\"") (λ e. omega (arith, e)) (safe.texts.second.text (codes " \"C\"")
-        refl) in
+    refl) in
     omega (arith, a, c, safe.texts.near.0, safe.texts.near.1)
 
 two_names_on : AreSafe 30 40 lettered (showing (alone (codes " none") (codes " \"C\"")))

@@ -6,8 +6,12 @@ use Rattle.rds_log.proofs.gather_log.gather.Goals as goal
 pub loop-told-init : goal.loop-told-init
 loop-told-init g c =
     record {
-      stands = ([], c.new-source.ensures.stands _, keeps_none c.args.rtplus c.new-slots.result.items
-          c.new-slots.ensures.items);
+      stands = (
+        [],
+        c.new-source.ensures.stands _,
+        keeps_none c.args.rtplus c.new-slots.result.items
+            c.new-slots.ensures.items,
+      );
     }
 
 pub loop-told-preserved : goal.loop-told-preserved
@@ -31,6 +35,10 @@ loop-told-preserved-in_default g c =
     let (lines, stands, had) = c.loop-told.invariant.stands in
     let (line, said, further, starts) = rw c.in-Ok-true.field-0-test at (c.in-Ok-true.ensures.gives _ _ lines stands) in
     record {
-      stands = (line ∷ lines, further, keeps_skip c.args.rtplus lines line _ c.loop-told.slots.items said
-          c.in_default.is had);
+      stands = (
+        line ∷ lines,
+        further,
+        keeps_skip c.args.rtplus lines line _ c.loop-told.slots.items said
+            c.in_default.is had,
+      );
     }

@@ -71,7 +71,7 @@ loop-i-preserved-then-stays c =
 pub returns-then-all_stay-clause-lines : goal.returns-then-all_stay-clause-lines
 returns-then-all_stay-clause-lines c same config events s =
     none_changes c.args.slot (length c.args.shown.now) (whys_at c.args.form.now config c.args.event.now.receptions
-        events)
+    events)
     (map view_kept c.args.shown.now) c.args.lines.now
 
 pub returns-then-all_stay-clause-views : goal.returns-then-all_stay-clause-views

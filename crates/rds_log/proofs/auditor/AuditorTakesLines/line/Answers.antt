@@ -11,7 +11,7 @@ pub returns-then-is_empty-clause-takes : goal.returns-then-is_empty-clause-takes
 returns-then-is_empty-clause-takes g c how start lines line says starts has =
     takes_good_slot how c.args.self.now _ _ _ lines line c.in-Slot.group c.exchange_read-read.result
     c.all_faults-found.result (rw c.in-Slot.is at says) c.exchange_read-read.ensures refl has c.requires.wants
-        c.all_faults-found.ensures (c.is_empty.ensures.0 c.if-is_empty.true)
+    c.all_faults-found.ensures (c.is_empty.ensures.0 c.if-is_empty.true)
     refl refl refl
 
 pub returns-else-is_empty-clause-takes : goal.returns-else-is_empty-clause-takes

@@ -93,7 +93,7 @@ returns-in-Ok-clause-outcome c config receivers events s =
     let back = take_at new (drop (length new) old) (length old) kept in
     let whys = whys_at c.args.form.now config c.args.event.now.receptions (c.args.event.now ∷ events) in
     let answer = answer_lines c.args.form.now c.args.slot c.event.inside.command c.in-Ok.answer.reply
-        c.in-Ok.answer.sent in
+    c.in-Ok.answer.sent in
     let compared = compared_lines config c.args.slot (length views) c.args.event.now events (views_kept c.args.self.now)
     views in
     let now : (i : ℕ) → i < length views
