@@ -91,7 +91,7 @@ HABITS = {
         Play([IN_11A, *OLD * 3, THIRTY], ["no 10 TagOutside"], radio=["NEWS AT TEN"])],
     "sends RT+ in another group than 11A, for example in 12A": [
         Play([IN_12A, *OLD, *OLD, *BETWEEN, FOUR_IN_12A], ["yes 11"],
-             "RT+ is in group 12A by the 3A groups, not in 11A: 1 group 12A was not judged; give --rtplus 12A"),
+             "RT+ is in group 12A by the 3A groups, not in 11A: 1 group 12A was not judged. Give --rtplus 12A"),
         Play([IN_12A, *OLD, *OLD, *BETWEEN, FOUR_IN_12A], ["no 10 EarlyTag"], options=("--rtplus", "12A")),
         Play([IN_12A, *OLD, *OLD, *BETWEEN * 3, FOUR_IN_12A], ["yes 17"], options=("--rtplus", "12A"))],
     "uses 11A for another application": [

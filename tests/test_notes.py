@@ -488,11 +488,18 @@ class Objects(ProgramCase):
             status, output, told = noted(f"{words} --json-notes", given)
             got = [json.loads(it) for it in told.splitlines()]
             plain = noted(words, given)
-            self.check(f"{words}: the sentences", "".join(note(it.pop("text")) for it in got), plain[2], given)
+            sentences = [". ".join(filter(None, (it.pop("text"), it.pop("advice", None)))) for it in got]
+            self.check(f"{words}: the sentences", "".join(map(note, sentences)), plain[2], given)
             self.check(f"{words}: status and output", (status, output), plain[:2], given)
             facts = [{name: it.get(name) for name in one} if one["kind"] == "coarse" else it
                      for it, one in zip(got, wanted)]
             self.check(f"{words}: the facts", (len(got), facts), (len(wanted), wanted), given)
+
+    def test_what_to_try_next_has_a_key_of_its_own(self):
+        no = json.loads(noted(f"{AUDIT} --m 4 --json-notes", HI + b"C201 B148 2002 0000\n")[2])
+        self.check("a no", (no["text"].count("rdsrt"), no["advice"].count("rdsrt")), (0, 2))
+        yes = json.loads(noted(f"{AUDIT} --m 4 --json-notes", HI)[2])
+        self.check("a yes", "advice" in yes, False)
 
     def test_with_quiet_only_faults_are_objects(self):
         got = noted(f"{ENCODE} --json-notes --quiet", b"text,HI,1,\nx\n")[2]

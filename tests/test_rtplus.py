@@ -78,7 +78,7 @@ class Rtplus(ProgramCase):
         self.check("the commands", re.findall("rdsrt (?:audit|witness) [^.]*", no[2]),
                    ["rdsrt audit --all --pi C201 --m 8 --rtplus 12A", "rdsrt witness --pi C201 --m 8 --rtplus 12A"])
         self.check("other tags", noted("decode --pi C201 --rtplus 12A", log.replace(b"3018", b"3016") + b"C201 B14F 2002 0000\n")[2],
-                   note("RT+ is in group 11A by the 3A groups, not in 12A: 1 group 11A was not read; give --rtplus 11A"))
+                   note("RT+ is in group 11A by the 3A groups, not in 12A: 1 group 11A was not read. Give --rtplus 11A"))
         self.check("another application", noted("decode --pi C201 --rtplus 12A", log.replace(b"4BD7", b"CD46"))[2],
                    note("group 12A carries the application CD46 by the 3A groups, not RT+: these groups were read as tags"))
         self.check("nothing to read", noted("audit --pi C201 --rtplus 13A", b"C201 B14F 2002 0000\n")[2],

@@ -267,7 +267,7 @@ class Live(ProgramCase):
     def test_a_command_that_reads_a_log_notes_that_it_lacks_slots(self):
         """The note comes while the log is still open, and once; not for a log with all its slots."""
         line = f"{HI} {{}}\n".format
-        lacks = "rdsrt: the first 2 lines span 23 slots by the times in them: put rdsrt slots before this command\n"
+        lacks = "rdsrt: the first 2 lines span 23 slots by the times in them. Put rdsrt slots before this command\n"
         for command in ("decode", "audit", "witness"):
             words = [PROGRAM, command, "--pi", "C201"]
             with subprocess.Popen(words, stdin=subprocess.PIPE, stdout=subprocess.DEVNULL, stderr=subprocess.PIPE,
@@ -277,12 +277,12 @@ class Live(ProgramCase):
                 self.check(f"{command}, live", program.stderr.readline() if is_there else None, lacks.encode())
                 program.stdin.write(line("9.0").encode())
                 program.stdin.close()
-                self.check(f"{command}, once", b"put rdsrt slots" in program.stderr.read(), False)
+                self.check(f"{command}, once", b"Put rdsrt slots" in program.stderr.read(), False)
         whole = "".join(line(f"{number * NINETEEN_SLOTS / 19e6:.2f}") for number in range(200)).encode()
         many = "".join(line(f"{number / 4:.2f}") for number in range(4000)).encode()
         for name, given, wanted in (("whole", whole, 0), ("long", many, 1), ("no times", f"{HI}\n".encode() * 9, 0)):
             done = subprocess.run([PROGRAM, *DECODE], input=given, capture_output=True, timeout=SECONDS)
-            self.check(f"a {name} log", done.stderr.count(b"put rdsrt slots"), wanted)
+            self.check(f"a {name} log", done.stderr.count(b"Put rdsrt slots"), wanted)
         for day in ("2024-06-01", "2024-06-03"):
             times = [f"2024-06-01T00:00:{second:02}Z" for second in range(9)] + [f"{day}T00:00:09Z"]
             _, slots, comments, _ = filled([f"{HI} {time}" for time in times], "--m", "8")
@@ -290,7 +290,7 @@ class Live(ProgramCase):
             for command in ("decode", "audit", "witness"):
                 done = subprocess.run([PROGRAM, command, "--pi", "C201", "--m", "8"], input=log, capture_output=True,
                                       timeout=SECONDS)
-                self.check(f"{command} of a filled log to {day}", done.stderr.count(b"put rdsrt slots"), 0)
+                self.check(f"{command} of a filled log to {day}", done.stderr.count(b"Put rdsrt slots"), 0)
         quiet = subprocess.run([PROGRAM, *DECODE, "--quiet"], input=many, capture_output=True, timeout=SECONDS)
         self.check("--quiet", quiet.stderr, b"")
 
@@ -304,7 +304,7 @@ class Live(ProgramCase):
             done = subprocess.run([PROGRAM, "audit", "--running", "--pi", "C201", *options.split()],
                                   input="".join(lines).encode(), capture_output=True, timeout=SECONDS)
             self.check(f"audit {options}", [it for it in done.stderr.decode().splitlines() if "by " in it],
-                       [f"rdsrt: {count}: put rdsrt slots before this command"])
+                       [f"rdsrt: {count}. Put rdsrt slots before this command"])
 
     def test_after_a_no_the_note_comes_if_as_many_slots_lack_as_would_have_cured_it(self):
         """At M = 8 the third text comes 2 slots after the first one: it lacks 6, or one fewer, since times are rounded. A
@@ -314,7 +314,7 @@ class Live(ProgramCase):
             lines = [f"{HI} 0.00\n", "C201 2150 594F 0D20 0.09\n", f"{HI} {second:.2f}\n"]
             done = subprocess.run([PROGRAM, "audit", "--pi", "C201", "--m", str(m)], input="".join(lines).encode(),
                                   capture_output=True, timeout=SECONDS)
-            self.check(f"M = {m}, {second} s", (done.stdout, b"put rdsrt slots" in done.stderr), (b"no 2 EarlyFlag\n", lacks))
+            self.check(f"M = {m}, {second} s", (done.stdout, b"Put rdsrt slots" in done.stderr), (b"no 2 EarlyFlag\n", lacks))
 
     def test_a_log_of_other_programmes_alone_has_status_1(self):
         """It has groups, and none of them is of the programme and has a time."""

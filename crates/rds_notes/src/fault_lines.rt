@@ -11,6 +11,27 @@ use std::io::Write;
 /// A longer name of a file is not repeated in a command.
 const LONGEST: usize = 256;
 
+/// What to try if only the bytes behind a carriage return are wrong.
+const PADDED: &str = "To judge the text without it: --padded";
+
+/// Appends what to try after so many faults.
+pub(crate) fn push_found_advice(count: FaultCount, line: &mut Line) {
+    if count.harmless > 0 && is_cured_by_padding(count.fault) {
+        let _ = write!(line, "{PADDED}");
+    }
+}
+
+/// Returns whether a fault that may be harmless is none with `--padded`.
+fn is_cured_by_padding(fault: AuditFault) -> bool {
+    match fault {
+        AuditFault::NotOneText => true,
+        AuditFault::Changed
+        | AuditFault::EarlyFlag
+        | AuditFault::EarlyTag
+        | AuditFault::TagOutside => false,
+    }
+}
+
 /// Appends how often a fault came, of so many texts or names, and where it came first and last.
 pub(crate) fn push_found(of: FaultOf, judged: u64, count: FaultCount, line: &mut Line) {
     match of {
@@ -48,8 +69,7 @@ fn push_harmless(fault: AuditFault, line: &mut Line) {
     let _ = match fault {
         AuditFault::NotOneText => write!(
             line,
-            "it may be harmless: receivers show nothing behind the carriage return. To judge the text without it: \
-             --padded"
+            "it may be harmless: receivers show nothing behind the carriage return"
         ),
         AuditFault::EarlyTag => write!(line, "both tags are empty, so no receiver shows them"),
         AuditFault::EarlyFlag => write!(
@@ -72,8 +92,8 @@ fn push_place(place: FaultPlace, line: &mut Line) {
     let _ = write!(line, ")");
 }
 
-/// Appends which rule the log breaks first, and what to try next.
-pub(crate) fn push_no(no: NoNote, request: &Request<'_>, line: &mut Line) {
+/// Appends which rule the log breaks first.
+pub(crate) fn push_no(no: NoNote, line: &mut Line) {
     push_place(no.at, line);
     let _ = write!(line, ": ");
     push_rule(no, line);
@@ -81,7 +101,14 @@ pub(crate) fn push_no(no: NoNote, request: &Request<'_>, line: &mut Line) {
         let _ = write!(line, ". Here ");
         push_harmless(no.fault, line);
     }
-    let _ = write!(line, ". To list all faults: rdsrt audit --all");
+}
+
+/// Appends what to try after a no.
+pub(crate) fn push_no_advice(no: NoNote, request: &Request<'_>, line: &mut Line) {
+    if no.is_harmless && is_cured_by_padding(no.fault) {
+        let _ = write!(line, "{PADDED}. ");
+    }
+    let _ = write!(line, "To list all faults: rdsrt audit --all");
     push_audit_options(request.task, line);
     push_input(request, line);
     let _ = write!(

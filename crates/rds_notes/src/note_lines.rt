@@ -1,6 +1,6 @@
 //! The sentences of notes.
 
-use crate::fault_lines::{push_found, push_no};
+use crate::fault_lines::{push_found, push_found_advice, push_no, push_no_advice};
 use crate::note::{CoarseTimes, Elsewhere, Judged, Note, OtherGroups, Run};
 use arrayvec::ArrayVec;
 use rds_arrivals::Break;
@@ -29,7 +29,7 @@ pub(crate) type Line = ArrayVec<u8, ROOM>;
 pub(crate) fn push_note(note: Note<'_>, line: &mut Line) {
     match note {
         Note::SetTooEarly(wait) => push_wait(wait, line),
-        Note::BrokenRule(no, request) => push_no(no, request, line),
+        Note::BrokenRule(no, _) => push_no(no, line),
         Note::Found(of, judged, count) => push_found(of, judged, count, line),
         Note::Lacking(lack) => push_lack(lack, line),
         Note::Untimed(groups) => push_untimed(groups, line),
@@ -49,6 +49,22 @@ pub(crate) fn push_note(note: Note<'_>, line: &mut Line) {
         Note::BadWindow => push_window(line),
         Note::BadSpans => push_spans(line),
         Note::Fault(fault, run) => push_fault(fault, run, line),
+    }
+}
+
+/// Appends what to try, if the note has an advice.
+pub(crate) fn push_advice(note: Note<'_>, line: &mut Line) {
+    match note {
+        Note::BrokenRule(no, request) => push_no_advice(no, request, line),
+        Note::Found(_, _, count) => push_found_advice(count, line),
+        Note::Lacking(_) => {
+            let _ = write!(line, "Put rdsrt slots before this command");
+        }
+        Note::TagsElsewhere(elsewhere) if elsewhere.may_be_read => {
+            let _ = write!(line, "Give --rtplus ");
+            push(group_name(elsewhere.code).as_slice(), line);
+        }
+        _ => {}
     }
 }
 
@@ -114,10 +130,6 @@ fn push_elsewhere(elsewhere: Elsewhere, line: &mut Line) {
     let be = if elsewhere.groups == 1 { "was" } else { "were" };
     let verb = if elsewhere.judges { "judged" } else { "read" };
     let _ = write!(line, " {be} not {verb}");
-    if elsewhere.may_be_read {
-        let _ = write!(line, "; give --rtplus ");
-        push(name.as_slice(), line);
-    }
 }
 
 /// Appends that the groups that were read as tags carry another application.
@@ -222,7 +234,6 @@ pub(crate) fn push_lack(lack: Lack, line: &mut Line) {
         let _ = write!(line, "the log spans {slots} slots by its times and has ");
         push_count(lines, "line", "lines", line);
     }
-    let _ = write!(line, ": put rdsrt slots before this command");
 }
 
 /// Appends that nobody knows how many slots were lost at a break of a log, and why.

@@ -11,8 +11,8 @@ use rds_log::{FaultCount, FaultPlace, NoNote, SegmentCause, fault_name};
 use rds_script::{EarlySet, Thing};
 use std::io::Write;
 
-/// Appends the object of a note with this sentence.
-pub(crate) fn push_object(note: Note<'_>, sentence: &[u8], line: &mut Line) {
+/// Appends the object of a note with this sentence and this advice. Without an advice it is empty.
+pub(crate) fn push_object(note: Note<'_>, sentence: &[u8], advice: &[u8], line: &mut Line) {
     match note {
         Note::SetTooEarly(wait) => push_wait(wait, line),
         Note::BrokenRule(no, _) => push_no(no, line),
@@ -90,6 +90,9 @@ pub(crate) fn push_object(note: Note<'_>, sentence: &[u8], line: &mut Line) {
         sentence.strip_prefix(BEGUN).unwrap_or(sentence),
         line,
     );
+    if !advice.is_empty() {
+        push_text("advice", advice, line);
+    }
     push(b"}", line);
 }
 

@@ -2,7 +2,7 @@
 //! object.
 
 use crate::note::{Note, Run, notes_of};
-use crate::note_lines::{Line, begun, push_note};
+use crate::note_lines::{Line, begun, push, push_advice, push_note};
 use crate::note_objects::push_object;
 use arrayvec::ArrayVec;
 use clap::Error;
@@ -44,10 +44,15 @@ pub(crate) fn print_note<N: TellingWrite>(note: Note<'_>, is_json: bool, screen:
     let value = note;
     let mut line = begun();
     push_note(note, &mut line);
+    let mut advice = Line::new();
+    push_advice(note, &mut advice);
     if is_json {
         let mut object = Line::new();
-        push_object(value, line.as_slice(), &mut object);
+        push_object(value, line.as_slice(), advice.as_slice(), &mut object);
         line = object;
+    } else if !advice.is_empty() {
+        push(b". ", &mut line);
+        push(advice.as_slice(), &mut line);
     }
     let _ = writeln!(line);
     let _ = put(line.as_slice(), screen);
