@@ -1,6 +1,6 @@
 """Arguments and inputs that several tests give the program."""
 from tests.support import bytes_of
-from tests.worked_rows import CHANGED, ENCODED_SCRIPT, HI, MIXED_LOG, TAGS_ON_AIR
+from tests.worked_rows import CHANGED, ENCODED_SCRIPT, HI, MIXED_LOG, TAGGED_LOG, TAGS_ON_AIR
 
 DECODE = ["decode", "--pi", "C201"]
 SIM = ["sim", "--pi", "C201", "--pty", "10"]
@@ -23,6 +23,7 @@ ENGINES = [
     ([*SIM, "--m", "4"], TAGS_ON_AIR, b""),
     ([*ENCODE, "--m", "1"], ENCODED_SCRIPT * 3, b"# "),
     (AUDIT, HI * 3, b""),
+    ([*AUDIT, "--all", "--m", "4"], CHANGED + TAGGED_LOG, b""),
     (WITNESS, FLAGS, b""),
     (LOSE, FLAGS, b""),
     (SLOTS, TIMED, b"# "),

@@ -25,6 +25,8 @@ class FailingCalls(ProgramCase):
             for number in range(1, len(given) + 9):
                 whole, _, _ = given[:number - 1].rpartition(b"\n")
                 wanted = b"" if words in (AUDIT, LOSE, WITNESS) or not whole else ran(words, whole + b"\n")[1]
+                # the yes of a list of faults is at its end
+                wanted = b"" if wanted.startswith(b"yes") else wanted
                 got, calls = self.failing(words, given, READ_MOST=1, READ_FAILS=number)
                 if "R" not in calls:
                     self.check(f"reads of a byte by {words[0]}", got, ran(words, given))

@@ -7,8 +7,6 @@
 #[cfg(test)]
 mod audit_engine;
 #[cfg(test)]
-mod failing_writes;
-#[cfg(test)]
 mod log_notes;
 #[cfg(test)]
 mod logs;

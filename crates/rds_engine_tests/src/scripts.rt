@@ -1,6 +1,5 @@
 //! Scripts without an end, readers that fail, and memory that is refused.
 
-use crate::failing_writes::Stubborn;
 use crate::same::same;
 use arrayvec::ArrayVec;
 use rds_block::Place;
@@ -342,42 +341,5 @@ fn refused_memory_in_a_log(rt: HostRuntime) -> Result<(), Fail> {
         config(1)?,
     );
     ends_whole_or_for_memory(&rt, done, &page, ENCODED_LOG);
-    Ok(())
-}
-
-/// A script of 200,000 rows whose first line of output can't be written is not read to its end.
-#[test]
-fn writes_row_by_row(rt: HostRuntime) -> Result<(), Fail> {
-    // Prover: as in `too_long`.
-    let _dwell = Dwell::longest();
-    let _kind = ReceiverKind::WithDwell;
-    let _window: Option<Window> = None;
-    let mut script = Vec::from_slice(rt.alloc(), b"text,HI,1,G\n")?;
-    for _ in 1..200_000 {
-        script.extend_from_slice(b"-,,1,G\n")?;
-    }
-    let reads = Cell::new(0);
-    let mut taken = Vec::new(rt.alloc());
-    let done = simulate(
-        rt.alloc(),
-        Told::new(Lasting {
-            line: b"",
-            left: script.as_slice(),
-            again: false,
-            fails_at: 0,
-            error: ErrorKind::Other,
-            reads: &reads,
-        }),
-        &mut Told::new(Stubborn {
-            taken: &mut taken,
-            most: 20,
-            fails_at: 1,
-            with_error: true,
-            writes: &Cell::new(0),
-        }),
-        config(4)?,
-    );
-    same(&rt, done, Err(LogFault::Write));
-    assert!(rt; reads.get() < 10);
     Ok(())
 }
