@@ -130,10 +130,10 @@ def open_script(b, text, **options):
     call(b, "probe.open", "script", text, options)
 
 
-def verdict_of(b, log, m):
-    """Opens a log, and returns its verdict."""
+def verdict_of(b, log, m, **more):
+    """Opens a log, and returns its verdict. With `fill=False` the page adds no lost slots by its times."""
     to_tab(b, "log")
-    call(b, "probe.open", "log", log, {"pi": "C201", "m": m, "k": 0})
+    call(b, "probe.open", "log", log, {"pi": "C201", "m": m, "k": 0, **more})
     return settled_verdict(b)
 
 

@@ -152,11 +152,11 @@ class Faults:
             ("few of this station", f"{HI} 0\n{OTHER} {SLOT:.2f}\n", few),
         ]
         for name, log, wanted in rows:
-            said = verdict_of(b, log, 8)
+            said = verdict_of(b, log, 8, fill=False)
             colour = b.run("getComputedStyle(document.querySelector('#verdict')).borderLeftColor")
             self.check(name, [cannot in said, wanted in said, colour], [True, True, call(b, "probe.colour", "other")], said)
         nine = "".join(f"{HI} {number * SLOT:.2f}\n" for number in range(9))
-        said = verdict_of(b, f"{nine}{NOTHING}\n", 8)
+        said = verdict_of(b, f"{nine}{NOTHING}\n", 8, fill=False)
         self.check("nine slots in ten", "✓ Passes with M = 8" in said, True, said)
 
     def test_the_card_is_grey_if_the_program_notes_it(self):
@@ -170,7 +170,7 @@ class Faults:
                 lines.append(f"{line} {now * SLOT:.2f}\n" if is_timed and line != NOTHING else f"{line}\n")
             log = "".join(lines)
             kinds = {it["kind"] for it in json_notes("audit --pi C201 --m 8", log)}
-            verdict_of(b, log, 8)
+            verdict_of(b, log, 8, fill=False)
             grey = of(b, "#verdict", "className") == "verdict empty"
             self.check(f"seed {SEED}, log {number}: grey", grey, bool(kinds & {"few", "lack", "nothing", "no_group"}), log)
             greys += grey
@@ -185,7 +185,7 @@ class Faults:
             lines = [f"{HI if dice.random() < share else OTHER}{f' {slot * SLOT:.2f}' if is_timed else ''}\n"
                      for slot in range(dice.choice([40, 400]))]
             log = f"{HI}{' 0' if is_timed else ''}\n" + "".join(lines[1:])
-            got, wanted = (verdict_of(b, it, 32) for it in (log, log.replace(OTHER, NOTHING)))
+            got, wanted = (verdict_of(b, it, 32, fill=False) for it in (log, log.replace(OTHER, NOTHING)))
             self.check(f"seed {SEED}, log {number}", got, wanted, log)
             headings.add(wanted.split(" with ")[0])
         self.check_all("several verdicts", len(headings) > 1, True)
@@ -199,7 +199,7 @@ class Faults:
                 ("a gap after the no", f"{HI} 0.00\n{tags} 0.10\n{HI} 99.00\n", "✗ EarlyTag with M = 8 (0.70 s)",
                  "verdict no")]
         for name, log, heading, kind in rows:
-            said = verdict_of(b, log, 8)
+            said = verdict_of(b, log, 8, fill=False)
             got = text_of(b, "#verdict h2"), of(b, "#verdict", "className"), "EarlyTag" in said
             self.check(name, got, (heading, kind, True), said)
             settle(b)
@@ -209,10 +209,10 @@ class Faults:
     def test_lost_slots_before_a_no_are_those_of_the_lines_up_to_it(self):
         b = self.b
         tags = "C201 B158 8002 0000"
-        said = verdict_of(b, f"# noted\n{HI} 0.00\n{tags} 9.40\n{HI} 9.50\n{HI} 99.50\n", 8)
+        said = verdict_of(b, f"# noted\n{HI} 0.00\n{tags} 9.40\n{HI} 9.50\n{HI} 99.50\n", 8, fill=False)
         # the second group comes 107 slots after the first; a comment is no line of a slot
         self.check("up to the no", "Lost slots: The first 3 lines span 108 slots by the times in them. " in said, True, said)
-        said = verdict_of(b, f"{HI} 0.00\n{HI} 9.40\n", 8)
+        said = verdict_of(b, f"{HI} 0.00\n{HI} 9.40\n", 8, fill=False)
         self.check("after a yes", "Lost slots: The log spans 108 slots by its times and has 2 lines. " in said, True, said)
 
     def test_a_malformed_last_line_hides_no_mix(self):

@@ -162,7 +162,7 @@ class LogTab:
             notes = run_program(["audit", "--pi", "C201", "--m", str(m), "--k", "0"], log.encode())[2]
             at = re.search(r"^slot \d+ \(line (\d+)", "\n".join(notes), re.M)
             before = "".join(log.splitlines(keepends=True)[:int(at[1])] if at else log)
-            lacks = any("put rdsrt slots" in it for it in run_program(["decode", "--pi", "C201"], before.encode())[2])
+            lacks = any("Put rdsrt slots" in it for it in run_program(["decode", "--pi", "C201"], before.encode())[2])
             said = text_of(b, "#verdict")
             self.check(f"seed {SEED}, times {number}: noted", "rdsrt slots adds them" in said, lacks, log)
             if lacks:

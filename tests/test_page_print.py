@@ -1,5 +1,5 @@
 """The page on paper: what is shown, without its controls."""
-from tests.page_support import HI, YO, ChromiumCase, call, first_examples, settle, to_tab
+from tests.page_support import HI, YO, ChromiumCase, call, first_examples, settle, text_of, to_tab
 
 # of a text with its ground
 CONTRAST = 4.5
@@ -23,6 +23,7 @@ class Chromium(ChromiumCase):
         settle(b)
         on("print")
         self.check("a log on paper", ({*b.run(SHOWN)}, low()), ({"DIV", "FIGURE", "CANVAS"}, []))
+        self.check("what log it is", text_of(b, "#log-paper")[:-len("2026-11-30")], "own.log · C201, M = 128, K = 0 · ")
         self.check("one page of A4", b.run("document.documentElement.scrollHeight") < 1100, True)
         to_tab(b, "script")
         self.check("a script on paper", ({*b.run(SHOWN)}, low()), ({"FIGURE", "CANVAS"}, []))

@@ -2,6 +2,7 @@
 import * as rdsrt from "../program/rdsrt.js";
 import * as answers from "./answers.js";
 import * as displays from "./displays.js";
+import * as filled from "./filled.js";
 import * as lines from "./lines.js";
 import * as logs from "./slots.js";
 import * as player from "./player.js";
@@ -82,6 +83,8 @@ function audit(asked) {
 }
 
 const REQUESTS = {
+  fill: filled.filledOf,
+
   keep({ bytes }) { Object.assign(state, { bytes, log: null, pi: "" }); },
 
   open(_, tell) {

@@ -65,8 +65,8 @@ const textAt = (at, length) => decoder.decode(new Uint8Array(module.memory.buffe
 /* A last note without room is left out. */
 const notesOf = (text) => text.split("\n").slice(0, -1).map((line) => line.startsWith("{") ? JSON.parse(line) : line);
 
-/* Runs the program, and again with more memory or room if it lacked them. */
-export function run(words, input) {
+/* Runs the program, and again with more memory or room if it lacked them. The output stands in the module's memory. */
+function ran(words, input) {
   const given = encoder.encode(["rdsrt", ...words].join("\n"));
   const bytes = typeof input === "string" ? encoder.encode(input) : input;
   let room = ROOM + 4 * bytes.length;
@@ -78,11 +78,25 @@ export function run(words, input) {
     else if (length > room) {
       room = length;
       heap = Math.max(heap, HEAP + 2 * room);
-    } else return { status, output: textAt(at.output, length), notes: notesOf(textAt(at.notes, Math.min(noted, NOTES))) };
+    } else {
+      const output = new Uint8Array(module.memory.buffer, at.output, length);
+      return { status, output, notes: notesOf(textAt(at.notes, Math.min(noted, NOTES))) };
+    }
   }
 }
 
+export function run(words, input) {
+  const { output, ...more } = ran(words, input);
+  return { output: decoder.decode(output), ...more };
+}
+
 export const ask = (words, input) => run([...words, "--json-notes"], input);
+
+/* The same, with the bytes of the output. */
+export function askForBytes(words, input) {
+  const { output, ...more } = ran([...words, "--json-notes"], input);
+  return { output: output.slice(), ...more };
+}
 
 export const windowWords = (window) => window ? ["--confirm", window] : [];
 export const command = (words) => ["rdsrt", ...words].join(" ");

@@ -141,10 +141,10 @@ export async function open(tab, hash, text, defaults) {
   if (isLink) hold(tab, { text, options: tab.options(), hash });
 }
 
-/* Slots as a link has them: 2-4.9 is 2, 3, 4 and 9. */
+/* Slots as a link has them: 2-4.9 is 2, 3, 4 and 9. Those from `most` on are left out. */
 export const inLetters = (slots) => lines.spansOf(slots).join(".");
 
-export function slotsOf(letters) {
+export function slotsOf(letters, most = MOST_SLOTS) {
   const all = new Set();
   let next = 0;
   if (!letters) return all;
@@ -153,7 +153,7 @@ export function slotsOf(letters) {
     const [first, last = first] = span.split("-").map(Number);
     if (first < next || last < first) throw damaged();
     next = last + 1;
-    for (let slot = first; slot <= last && slot < MOST_SLOTS; slot++) all.add(slot);
+    for (let slot = first; slot <= last && slot < most; slot++) all.add(slot);
   }
   return all;
 }

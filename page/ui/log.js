@@ -1,12 +1,13 @@
 /* The tab of a log. One worker shows what receivers show, another one judges. */
 import { Marks, Texts, View } from "../model/displays.js";
+import { lineInFile } from "../model/filled.js";
 import * as lines from "../model/lines.js";
 import * as logs from "../model/slots.js";
 import { Program } from "../program/program.js";
 import * as faults from "./faults.js";
 import * as groups from "./groups.js";
 import * as links from "./links.js";
-import { $, counted, make, number, radio, whyNoMix } from "./parts.js";
+import { $, counted, latest, number, radio, whyNoMix } from "./parts.js";
 import { Tab } from "./tab.js";
 import * as verdict from "./verdict.js";
 
@@ -28,7 +29,10 @@ const NO_LOG = { count: 0, end: 0, starts: [] };
 const empty = () => ({ view: new View(), alone: new View(), codes: new Uint8Array(0), answer: null, witness: null });
 
 class LogTab extends Tab {
-  bytes = new Uint8Array(0);
+  /* the bytes of the file, and those that are judged and shown */
+  file = new Uint8Array(0);
+  bytes = this.file;
+  /** @type {any} */ filled = null;
   log = NO_LOG;
   /** @type {Set<number>} */ lost = new Set();
   hadLost = false;
@@ -41,6 +45,7 @@ class LogTab extends Tab {
   /** @type {any} */ witness = null;
   /** @type {any} */ display;
   /** @type {any} */ judge;
+  /** @type {any} */ filler;
 
   constructor() {
     super("log");
@@ -64,6 +69,40 @@ class LogTab extends Tab {
     return this.look();
   }
 
+  /* All of a span are lost, or received again if all were lost. */
+  choosesSpans = true;
+  chooseSpan(one, other) {
+    const first = Math.min(one, other);
+    const span = Array.from({ length: Math.abs(one - other) + 1 }, (_, i) => first + i);
+    const isLost = span.every((slot) => this.lost.has(slot));
+    return this.lose(span.filter((slot) => isLost || !this.lost.has(slot)));
+  }
+
+  /* The spans of lost slots, as they are typed. */
+  typed() {
+    const letters = this.value("spans").replaceAll(/\s/g, "").replaceAll(",", ".");
+    try {
+      this.lost = links.slotsOf(letters, this.log.count);
+      this.field("spans").ariaInvalid = null;
+    } catch {
+      this.field("spans").ariaInvalid = "true";
+      return;
+    }
+    this.look();
+  }
+
+  /* A slot, a time in the lines of the log, or minutes and seconds since its first slot. */
+  go() {
+    const text = this.value("go").trim();
+    const [, hours = 0, minutes, seconds] = /^(?:(\d+):)?(\d+):(\d+(?:\.\d+)?)$/.exec(text) ?? [];
+    const since = () => Math.floor((3600 * Number(hours) + 60 * Number(minutes) + Number(seconds)) / lines.SLOT);
+    const found = /^\d+$/.test(text) || !text ? Number(text) : logs.slotWith(this.bytes, this.log, text);
+    const slot = found < 0 && minutes !== undefined ? since() : found;
+    const isThere = slot >= 0 && slot < this.log.count;
+    this.field("go").ariaInvalid = isThere ? null : "true";
+    if (isThere) this.goTo(slot);
+  }
+
   key(key, event) {
     if (key !== "l" || event.ctrlKey || event.metaKey) return false;
     this.lose([this.timeline.cursor]);
@@ -73,25 +112,50 @@ class LogTab extends Tab {
   /* Returns when display and verdict are shown. The workers read the page's own bytes: the file may change. */
   /** @param {string | Uint8Array} content @param {any} [settings] */
   open(content, settings = {}) {
-    const { m, k, w, running = false, padded = false, lost = [], example = "", file = "", pi } = settings;
+    const { m, k, w, running = false, padded = false, fill = true, lost = [], example = "", file = "", pi } = settings;
     const bytes = typeof content === "string" ? encoder.encode(content) : content;
     // a link holds no longer text
     const text = bytes.length > links.MOST_PLAIN ? null : decoder.decode(bytes);
-    Object.assign(this, empty(), { log: NO_LOG, bytes, text, lost: new Set(lost) });
+    Object.assign(this, empty(), { log: NO_LOG, file: bytes, bytes, filled: null, text, lost: new Set(lost) });
     this.hadLost = example !== "" && this.lost.size > 0;
     this.home(false);
     this.nameFile(file);
     this.setFields({ example, m, k, w: w || "" });
     $("log-running").checked = running;
     $("log-padded").checked = padded;
-    for (const program of [this.display, this.judge]) program.keep(bytes);
+    $("log-fill").checked = fill;
     return this.look({ opens: true, pi });
+  }
+
+  /* Puts the lost slots of a log with times in, by a worker of its own: two keep what comes of it. */
+  async fill(signal) {
+    const given = { bytes: this.file, m: Number(this.value("m")) };
+    const wants = $("log-fill").checked;
+    const filled = wants ? await latest(signal, this.filler.ask("fill", given, { signal })) : null;
+    this.filler.stop();
+    Object.assign(this, { filled, bytes: filled?.bytes ?? this.file });
+    for (const program of [this.display, this.judge]) program.keep(this.bytes);
+    $("log-fills").hidden = wants && !filled;
+    const breaks = filled?.breaks ? `, at ${counted(filled.breaks, "break")} of the times at least M each` : "";
+    const added = filled && `${counted(filled.added, "lost slot")} added by the times${breaks}`;
+    $("log-filled").textContent = added ?? "Add the lost slots by the times";
   }
 
   async read(pi, signal) {
     const tell = (share) => { $("log-progress").value = share; };
-    this.take(await this.display.ask("open", {}, { signal, tell }), pi);
+    this.take(await latest(signal, this.display.ask("open", {}, { signal, tell })), pi);
   }
+
+  /* The notes with the lines of the file. */
+  inFile(notes) {
+    const { filled } = this;
+    if (!filled) return notes;
+    const of = (line) => lineInFile(filled, Number(line));
+    const inText = (text) => text.replace(/\(line (\d+)/g, (_, line) => `(line ${of(line)}`);
+    return notes.map(({ text, ...more }) => ({ ...more, text: inText(text) }));
+  }
+
+  commandOf(command) { return this.filled ? `rdsrt slots --m ${this.filled.m} | ${command}` : command; }
 
   take(log, pi) {
     const optionOf = (code, count) => new Option(`${code} (${counted(count, "group")})`, code);
@@ -131,15 +195,26 @@ class LogTab extends Tab {
 
   prepare() {
     $("log-unlose").hidden = !this.lost.size;
+    if (document.activeElement !== $("log-spans")) $("log-spans").value = lines.spansOf(this.lost).join(",");
     const [m, k, w] = ["m", "k", "w"].map((name) => this.value(name));
     const words = [this.value("pi"), `M = ${m}`, `K = ${k}`, w && `W = ${w}`];
-    $("log-options").textContent = words.filter(Boolean).join(", ");
+    const options = words.filter(Boolean).join(", ");
+    $("log-options").textContent = options;
+    const [file, added] = ["file-name", "filled"].map((name) => $(`log-${name}`).textContent);
+    const day = new Date().toISOString().slice(0, 10);
+    $("log-paper").textContent = [file, options, this.filled && added, day].filter(Boolean).join(" · ");
   }
 
   async show(signal, { opens = false, pi }) {
-    if (this.log === NO_LOG) await this.read(pi, signal);
-    links.keep(this);
     const asked = this.asking();
+    // at a break of the times `slots` adds M slots
+    if (this.filled?.breaks && this.filled.m !== asked.m) Object.assign(this, { log: NO_LOG, answer: null, witness: null });
+    if (this.log === NO_LOG) {
+      await this.fill(signal);
+      await this.read(pi ?? asked.pi, signal);
+      asked.pi = this.value("pi");
+    }
+    links.keep(this);
     const { answer } = this;
     // lost slots change nothing of what was sent
     const isAnswered = answer?.of === JSON.stringify(asked);
@@ -152,7 +227,7 @@ class LogTab extends Tab {
   }
 
   async showDisplay(asked, fit, signal) {
-    const shown = await this.display.ask("decode", asked, { signal });
+    const shown = await latest(signal, this.display.ask("decode", asked, { signal }));
     if (shown.log) this.take(shown.log, asked.pi);
     // the slots before a malformed line may be those of another programme
     if (this.value("pi") !== asked.pi) this.look({ opens: fit });
@@ -161,13 +236,14 @@ class LogTab extends Tab {
     const [view, alone] = [shown.view, shown.alone].map((packed) => new View(packed, values));
     Object.assign(this, { view, alone, codes: shown.codes, pi: parseInt(asked.pi, 16), w: asked.w });
     this.timeline.show(this.lanes(), this.log.count, { fit });
-    this.tellLines("log", shown.command, shown.output);
+    this.tellLines("log", this.commandOf(shown.command), shown.output);
   }
 
   async showAnswer(asked, signal) {
-    const audit = await this.judge.ask("audit", asked, { signal });
+    const told = await latest(signal, this.judge.ask("audit", asked, { signal }));
+    const audit = { ...told, notes: this.inFile(told.notes), first: this.inFile(told.first) };
     this.answer = { ...verdict.show({ ...asked, audit }, this.actions), audit, of: JSON.stringify(asked) };
-    this.tellLines("audit", audit.command, audit.output);
+    this.tellLines("audit", this.commandOf(audit.command), audit.output);
     faults.show({ ...audit, isSure: this.answer.isSure });
     // the faults have marks
     if (this.no && this.timeline.lanes.length) this.timeline.show(this.lanes(), this.log.count);
@@ -240,6 +316,7 @@ class LogTab extends Tab {
   /* Empty if there is more than blocks in the line, maybe a time: slots may be missing before it. */
   elapsed(slot) {
     const { starts, count } = this.log;
+    if (this.filled) return super.elapsed(slot);
     const isBare = !count || this.lineAt(starts[Math.min(slot, count - 1)]).length <= logs.BLOCKS;
     return isBare ? super.elapsed(slot) : "";
   }
@@ -263,13 +340,15 @@ class LogTab extends Tab {
     // an example may begin with lost slots
     const lost = this.lost.size || this.hadLost ? `&lost=${links.inLetters(this.lost)}` : "";
     const boxes = ["running", "padded"].filter((name) => $(`log-${name}`).checked).map((name) => `&${name}=1`);
-    return `pi=${this.value("pi")}&${super.options()}${boxes.join("")}${lost}`;
+    const fill = $("log-fill").checked ? "" : "&fill=0";
+    return `pi=${this.value("pi")}&${super.options()}${boxes.join("")}${fill}${lost}`;
   }
 
-  settingsOf({ given, option }, { pi, running = false, padded = false, lost = [] }) {
+  settingsOf({ given, option }, { pi, running = false, padded = false, fill = true, lost = [] }) {
     return {
       pi: given.get("pi") ?? pi, lost: given.has("lost") ? links.slotsOf(given.get("lost")) : lost,
       running: option("running", 0, 1, Number(running)) === 1, padded: option("padded", 0, 1, Number(padded)) === 1,
+      fill: option("fill", 0, 1, Number(fill)) === 1,
     };
   }
 
@@ -279,10 +358,16 @@ class LogTab extends Tab {
 
   begin(compiled) {
     super.begin(["pi", "m", "k", "w", "running", "padded"], () => this.look());
-    Object.assign(this, { display: new Program(compiled, PATIENCE), judge: new Program(compiled) });
+    $("log-fill").oninput = () => {
+      Object.assign(this, empty(), { log: NO_LOG });
+      this.look({ opens: true, pi: this.value("pi") });
+    };
+    Object.assign(this, { display: new Program(compiled, PATIENCE), judge: new Program(compiled), filler: new Program(compiled) });
     // a log finds its workers ready
     for (const program of [this.display, this.judge]) program.next();
     $("log-lose").onclick = () => this.lose([this.timeline.cursor]);
+    $("log-spans").onchange = () => this.typed();
+    $("log-go").onchange = () => this.go();
     $("log-unlose").onclick = () => { this.lost.clear(); this.look(); };
   }
 }

@@ -6,9 +6,8 @@ export const number = (n) => n.toLocaleString("en");
 /* A note with commas in its long numbers. Those of a time stay as they are. */
 export const grouped = (note) =>
   note.replace(/(?<![\d/:.])\d{4,}(?![\d/:]|\.\d)/g, (digits) => number(Number(digits)));
-/* A sentence of the program: with a capital letter, and without its advice for a terminal. */
-const ADVICE = /(?:\. To judge|\. To list all|: put rdsrt) .*/;
-export const told = (text) => `${text.slice(0, 1).toUpperCase()}${text.slice(1).replace(ADVICE, "")}.`;
+/* A sentence of the program, with a capital letter. */
+export const told = (text) => `${text.slice(0, 1).toUpperCase()}${text.slice(1)}.`;
 /** @type {(id: string) => any} */
 export const $ = (id) => document.getElementById(id);
 /** @type {(tag: string, props?: object, ...inside: (string | Node)[]) => any} */
@@ -26,6 +25,14 @@ export function filled(id, given) {
   for (const it of named("value")) it.append(...[given[it.dataset.value]].flat());
   for (const it of named("act")) it.onclick = given[it.dataset.act];
   return [...copy.children];
+}
+
+/* The answer to a question, unless another look has taken the place of this one meanwhile. */
+/** @param {AbortSignal} signal @param {Promise<any>} answer @returns {Promise<any>} */
+export async function latest(signal, answer) {
+  const it = await answer;
+  signal.throwIfAborted();
+  return it;
 }
 
 export const counted = (n, one) => `${number(n)} ${one}${n === 1 ? "" : "s"}`;

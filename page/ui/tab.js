@@ -81,6 +81,9 @@ export class Tab {
   problem() { return problemOf(this.field("form")); }
 
   choose() {}
+  choosesSpans = false;
+  /** @param {number} from @param {number} to */
+  chooseSpan(from, to) { console.assert(from <= to); }
   elapsed(slot) { return lines.time(slot); }
   key() { return false; }
 

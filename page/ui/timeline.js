@@ -5,6 +5,7 @@ import { Play } from "./play.js";
 
 const LEAST = 8;
 const STILL = 3;
+const WHEEL = 1.25;
 const PHONE = 560;
 const GUTTERS = [74, 132];
 
@@ -54,8 +55,11 @@ export class Timeline {
     const { canvas } = this;
     canvas.onpointerdown = (event) => this.press(event);
     canvas.onkeydown = (event) => this.key(event);
+    canvas.addEventListener("wheel", (event) => this.turn(event), { passive: false });
     for (const button of this.root.querySelectorAll("[data-do]")) button.onclick = () => this.act(button.dataset.do);
     new ResizeObserver(() => this.draw()).observe(canvas);
+    // paper has another width, and no frames
+    matchMedia("print").addEventListener("change", () => this.paint());
   }
 
   show(lanes, count, { fit = false } = {}) {
@@ -122,19 +126,30 @@ export class Timeline {
     return this.lanes.find(({ top, height }) => y >= top && y < top + height);
   }
 
+  /* The slot under the pointer keeps its place. */
+  turn(event) {
+    if (event.shiftKey || !event.deltaY) return;
+    event.preventDefault();
+    this.zoom(event.deltaY < 0 ? 1 / WHEEL : WHEEL, this.slotAt(event));
+  }
+
+  /* With Shift a drag chooses a span, of which the tab says what it means. */
   press(event) {
     if (event.button || !event.isPrimary) return;
     const { canvas, from } = this;
+    const chooses = event.shiftKey && this.tab.choosesSpans;
+    const first = this.slotUnder(event);
     const { group } = this.laneAt(event) ?? {};
     let isDrag = false;
     canvas.focus();
     canvas.setPointerCapture(event.pointerId);
     canvas.onpointermove = ({ clientX }) => {
       isDrag ||= Math.abs(clientX - event.clientX) > STILL;
-      if (isDrag) this.showFrom(from - (clientX - event.clientX) / this.room * this.across);
+      if (isDrag && !chooses) this.showFrom(from - (clientX - event.clientX) / this.room * this.across);
     };
     canvas.onpointerup = canvas.onpointercancel = (released) => {
       canvas.onpointermove = canvas.onpointerup = canvas.onpointercancel = null;
+      if (isDrag && chooses) this.tab.chooseSpan(first, this.slotUnder(released));
       if (isDrag) return;
       if (group !== undefined) this.tab.choose(group);
       this.move(this.slotUnder(released), { keep: true });
