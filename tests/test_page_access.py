@@ -148,7 +148,7 @@ class Chromium(Access, ChromiumCase):
         self.check("and the slot",
                    [value for role, name, value in nodes if role == "slider" and name == "Slot of the log"], [4])
         told = of(b, "#log-time canvas", "ariaValueText")
-        self.check("and what is shown there", "The receiver shows “POP  FM”, mix" in told, True)
+        self.check("and what is shown there", "A receiver with rdsrt: “POP  FM”, mix" in told, True)
         self.check("and the verdict",
                    [role for role, name, _ in nodes if role == "heading" and "EarlyFlag" in (name or "")], ["heading"])
         b.run("document.querySelector('#log-lines').closest('details').open = true")

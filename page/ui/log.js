@@ -333,7 +333,7 @@ class LogTab extends Tab {
     const rest = slot < log.count ? this.lineAt(log.starts[slot]).slice(logs.BLOCKS) : "";
     $("log-group").replaceChildren(...groups.ofSlot(bytes, log, slot, this.pi), rest);
     this.putAddressSoon();
-    return `${what}. The receiver shows ${shown}. An ordinary radio: ${other}.`;
+    return `${what}. A receiver with rdsrt: ${shown}. An ordinary radio: ${other}.`;
   }
 
   options() {

@@ -7,7 +7,7 @@ const LEAST = 8;
 const STILL = 3;
 const WHEEL = 1.25;
 const PHONE = 560;
-const GUTTERS = [74, 132];
+const GUTTERS = [90, 132];
 
 const STEPS = { ArrowRight: 1, ArrowLeft: -1, PageDown: 16, PageUp: -16, Home: -Infinity, End: Infinity };
 /** @type {Record<string, [string, (it: Timeline) => void]>} */
