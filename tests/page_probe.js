@@ -65,6 +65,12 @@ const probe = (() => {
     return Math.max(...all);
   }
 
+  async function timeOf(what) {
+    const from = performance.now();
+    await what();
+    return performance.now() - from;
+  }
+
   /* The milliseconds that this machine takes now for a fixed piece of work with strings, as tasks of the page are. */
   function yardstick() {
     const from = performance.now();
@@ -222,7 +228,7 @@ const probe = (() => {
 
   return {
     bars, choose, colour, contrasts, displays, drop, dropAll, faint, idle, inksOf, keepBack, letGo, longestTask, pass, pick,
-    place, run, runs, stopClock, swatches, textOfLog, ticks, yardstick,
+    place, run, runs, stopClock, swatches, textOfLog, ticks, timeOf, yardstick,
     isReady: () => $app.state.ready || at("no-engine").textContent !== "",
     codes: (tab, name) => [...laneOf(timelineOf(tab), name).codes],
     lanes: (tab) => timelineOf(tab).lanes.map(({ name }) => name),

@@ -163,17 +163,26 @@ def example_of(b, tab, name):
 
 def longest_task(b, does, most):
     """Returns the longest task of the page while a script, and all that it causes, goes on: in milliseconds of the machine
-    with the yardstick. A fixed piece of work before and after it says how fast this machine is now. Of three tries the
-    best one counts."""
-    longest, pause = [], "new Promise(done => setTimeout(done, 300))"
-    waits = f"async () => {{ await ({does}); await {pause}; await probe.idle(); }}"
+    with the yardstick. A fixed piece of work before and after it says how fast this machine is now."""
+    pause = "new Promise(done => setTimeout(done, 300))"
+    return least_of_three(b, f"probe.longestTask(async () => {{ await ({does}); await {pause}; await probe.idle(); }})", most)
+
+
+def answer_time(b, does, most):
+    """Returns how long a script, and all that it causes, goes on, in the same milliseconds."""
+    return least_of_three(b, f"probe.timeOf(async () => {{ await ({does}); await probe.idle(); }})", most)
+
+
+def least_of_three(b, measured, most):
+    """Returns the least value of a script in three tries, in milliseconds of the machine with the yardstick."""
+    values = []
     # the first yardstick is not compiled yet
     b.run("probe.yardstick()")
-    while len(longest) < 3 and (not longest or longest[-1] > most):
-        task, *yards = b.run(f"(async () => [probe.yardstick(), await probe.longestTask({waits}), probe.yardstick()])()"
-                             ".then(([before, task, after]) => [task, before, after])")
-        longest.append(round(task * 2 * YARDSTICK / sum(yards)))
-    return min(longest)
+    while len(values) < 3 and (not values or values[-1] > most):
+        value, *yards = b.run(f"(async () => [probe.yardstick(), await {measured}, probe.yardstick()])()"
+                              ".then(([before, value, after]) => [value, before, after])")
+        values.append(round(value * 2 * YARDSTICK / sum(yards)))
+    return min(values)
 
 
 def first_examples(b):

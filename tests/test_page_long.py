@@ -5,8 +5,8 @@ import re
 import tempfile
 import time
 
-from tests.page_support import (HI, NOTHING, URL, ChromiumCase, FirefoxCase, call, idle, longest_task, move, of, printed,
-                                program, settle, shown, text_of, to_tab, verdict_of, visit)
+from tests.page_support import (HI, NOTHING, URL, ChromiumCase, FirefoxCase, answer_time, call, idle, longest_task, move, of,
+                                printed, program, settle, shown, text_of, to_tab, verdict_of, visit)
 from tests.slot import SLOT
 from tests.support import PROMPT
 
@@ -14,7 +14,9 @@ from tests.support import PROMPT
 LONGEST_TASK = 600
 MOST_MEMORY = 1 << 30
 ROWS, RECEIVERS = 200_000, 8
-# a day of slots, whose flag turns every two slots
+# milliseconds of the same machine: there the log of a day is answered within 5,000
+LONGEST_ANSWER = 15_000
+# a day of slots
 DAY = 982_000
 TYPED = "Song of the night"
 # each 997th of a million changes is compared
@@ -29,12 +31,19 @@ def script_of(count):
     return "".join(f"{row(slot)},{1 if slot % 3 else 0},GLGGGGGG\n" for slot in range(count))
 
 
-def turning():
-    """Returns the log of a day with a text of its own in every two slots."""
+def turning(stay=1):
+    """Returns the log of a day, with each text of two segments for so many rounds."""
     for number in range(DAY // 2):
-        text = f"{number:06d}X\r".encode().hex().upper()
+        text = f"{number // stay:06d}X\r".encode().hex().upper()
         for segment, half in enumerate((text[:8], text[8:])):
-            yield f"C201 21{4 + number % 2}{segment} {half[:4]} {half[4:]}\n"
+            yield f"C201 21{4 + number // stay % 2}{segment} {half[:4]} {half[4:]}\n"
+
+
+def recorded():
+    """Returns the lines of a day with a text for a minute, as a receiver that lost one group in thirty writes them."""
+    for slot, line in enumerate(turning(342)):
+        if slot % 30:
+            yield f"{line[:-1]} {slot * SLOT:.2f}\n"
 
 
 def file_of(b, path):
@@ -186,6 +195,20 @@ class Chromium(Long, ChromiumCase):
                 ".map(i => [text.from(i), text.value(i)])])($log.logTab.view.parts)")
         self.check("some of what is shown", b.run(some), [len(told), told[::EACH]])
         self.check("its answer", text_of(b, "#verdict h2 code"), "EarlyFlag")
+
+    def test_the_log_of_a_day_with_times_is_answered_soon(self):
+        """The page adds its lost slots first."""
+        b = self.b
+        with tempfile.NamedTemporaryFile("w", suffix=".log") as file:
+            file.writelines(recorded())
+            file.flush()
+            file_of(b, file.name)
+            longest = longest_task(b, "probe.openFile(day)", LONGEST_TASK)
+            took = answer_time(b, "probe.openFile(day)", LONGEST_ANSWER)
+        self.check(f"no task of more than {LONGEST_TASK} ms", longest <= LONGEST_TASK or longest, True)
+        self.check(f"within {LONGEST_ANSWER} ms", took <= LONGEST_ANSWER or took, True)
+        self.check("the answer", (text_of(b, "#log-filled"), text_of(b, "#verdict h2")),
+                   (f"{DAY // 30:,} lost slots added by the times", "✓ Passes with M = 128 (11.2 s)"))
 
     def nothing_holds_up(self, b):
         """Measures each step over the open log."""
