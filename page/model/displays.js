@@ -101,6 +101,10 @@ export function labelOf(value) {
   return value && wordsOfTag(value);
 }
 
+/* The letters of a text by fours, as its segments have them. */
+const FOUR = /(?:\\x[0-9A-F]{2}|[^]){1,4}/gu;
+export const foursOf = (text) => text?.match(FOUR) ?? [];
+
 export class Texts {
   /** @param {{ text: string, ends: Int32Array, shades: Uint8Array }} packed */
   constructor({ text, ends, shades }) {
@@ -223,8 +227,15 @@ export class View {
     [...numbers].filter((number) => number !== NOTHING).forEach((number, i) => { values.shades[number] = i % SHADES; });
   }
 
-  /* The shade of the text in a slot. */
-  shadeAt(slot) { return this.parts.text.piece(this.parts.text.indexAt(slot)).shade; }
+  /* The shade of each four letters of a mix: that of the newest text up to a slot that has them at their place. */
+  shadesOf(fours, slot) {
+    const { text } = this.parts;
+    return fours.map((letters, i) => {
+      let at = text.indexAt(slot);
+      while (at >= 0 && foursOf(text.value(at))[i] !== letters) at--;
+      return at < 0 ? "" : text.piece(at).shade;
+    });
+  }
 
   lanes(text, more, first) {
     const names = { text, name: "  its name", tag1: "  its tag 1", tag2: "  its tag 2" };

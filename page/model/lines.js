@@ -31,7 +31,6 @@ export const noteOf = (notes, kind) => notes.find((note) => note.kind === kind);
 /* The second block has the group type with its version, and for a text its A/B flag and the address of its segment. */
 const KIND_SHIFT = 11;
 export const FLAG_BIT = 0x10;
-export const ADDRESS = 0x0F;
 export const typeOf = (group) => `${group[1] >> 12}${group[1] >> KIND_SHIFT & 1 ? "B" : "A"}`;
 
 /* The kinds of groups. In a list of codes FLAG marks a text whose A/B flag is 1. */

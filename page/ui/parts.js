@@ -1,5 +1,5 @@
 /* Small pieces that the tabs share: numbers in words, templates of index.html, and the display of a radio. */
-import { kindOf, wordsOfTag } from "../model/displays.js";
+import { foursOf, kindOf, wordsOfTag } from "../model/displays.js";
 import { hex } from "../model/lines.js";
 
 export const number = (n) => n.toLocaleString("en");
@@ -74,19 +74,18 @@ const partsAt = (view, slot) => Object.entries(WORDS).map(([part, words]) => {
 const namesOf = (all) => [...new Set(all.map(({ name }) => name))];
 const isStale = ({ state }) => state === "old" || state === "replaced";
 
-/* The letters of a text in its hue; those of a mix, each four of them, in the hues of the texts that they came from. */
-const FOUR = /(?:\\x[0-9A-F]{2}|[^]){1,4}/gu;
-function lettersOf(view, slot, origins) {
+/* The letters of a text in its hue; those of a mix, each four of them, in the hue of the text on air that has them there. */
+function lettersOf(view, slot, air) {
   const { label, mix, shade } = view.parts.text.piece(view.parts.text.indexAt(slot));
-  const hues = mix ? origins() : [];
-  const pieces = mix ? label.match(FOUR) : [label];
+  const pieces = mix ? foursOf(label) : [label];
+  const hues = mix && air ? air.shadesOf(pieces, slot) : [];
   return pieces.map((textContent, i) => make("span", { className: `hue-${mix ? hues[i] ?? "" : shade}`, textContent }));
 }
 
-/* Shows a display as a car has it, and returns it in words. `origins` returns the hues of a mix, four letters each. */
-/** @param {{ led?: string, none?: string, mixed?: string, origins?: () => number[] }} how */
+/* Shows a display as a car has it, and returns it in words. `air` has the texts of the station. */
+/** @param {{ led?: string, none?: string, mixed?: string, air?: any }} how */
 export function radio(root, caption, view, slot, how = {}) {
-  const { led: calm = "", none: other, mixed: bad = "mix", origins = () => [] } = how;
+  const { led: calm = "", none: other, mixed: bad = "mix", air } = how;
   const all = partsAt(view, slot);
   const [text, name, ...tags] = all;
   const none = other ?? (view?.at("text", slot)?.why || "no text");
@@ -95,7 +94,7 @@ export function radio(root, caption, view, slot, how = {}) {
     make("span", {}, make("b", { textContent: kindOf(tag) }), tag.text));
   const mixed = mixes.includes("text") ? bad : `${mixes.join(" and ")}: ${bad}`;
   const led = mixes.length ? mixed : calm;
-  const letters = text.value === null ? `— ${none} —` : lettersOf(view, slot, origins);
+  const letters = text.value === null ? `— ${none} —` : lettersOf(view, slot, air);
   root.replaceChildren(...filled("display", { caption, led, name: name.value ?? " ", text: letters, tags: pieces }));
   root.querySelector(".text").classList.toggle("none", text.value === null);
   root.classList.toggle("mixed", mixes.length > 0);

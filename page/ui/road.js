@@ -2,7 +2,6 @@
 import { AXIS } from "../display/painter.js";
 import { Texts, View } from "../model/displays.js";
 import * as lines from "../model/lines.js";
-import * as player from "../model/player.js";
 import * as records from "../model/records.js";
 import { Program } from "../program/program.js";
 import * as links from "./links.js";
@@ -185,12 +184,10 @@ class Road {
   }
 
   showSlot(slot) {
-    const { air, dwell, alone, played } = this;
-    const sourceOf = (at) => this.rows[at].receptions[0] === "G" ? at : -1;
-    const origins = () => player.originsOf(played, sourceOf, slot).map((at) => air.shadeAt(at));
+    const { air, dwell, alone } = this;
     const onAir = radio($("road-air"), "On air", air, slot, { none: "silence" });
     const shown = radio($("road-dwell"), "A receiver with rdsrt", dwell, slot, { none: UNSURE });
-    const other = radio($("road-alone"), "An ordinary radio", alone, slot, { origins, mixed: "never sent" });
+    const other = radio($("road-alone"), "An ordinary radio", alone, slot, { air, mixed: "never sent" });
     this.car.style.left = this.percent(slot + 0.5);
     this.tell(slot);
     return `On air ${onAir}. A receiver with rdsrt: ${shown}. An ordinary radio: ${other}`;

@@ -1,7 +1,6 @@
 /* The tab of a script: a station and up to eight receivers, each beside one with the flag bit alone. */
 import { Texts, View } from "../model/displays.js";
 import * as lines from "../model/lines.js";
-import * as player from "../model/player.js";
 import * as records from "../model/records.js";
 import { Program } from "../program/program.js";
 import * as links from "./links.js";
@@ -143,11 +142,6 @@ class ScriptTab extends Tab {
     return [...nodesOf(told(this.fault.text)), " The rows after it are not played."];
   }
 
-  sourceOf(slot, receiver) {
-    const reception = this.rows[slot]?.receptions[receiver] ?? "L";
-    return reception[0] === "G" ? slot - Number(reception.slice(1)) : -1;
-  }
-
   receptionInWords(letter, slot) {
     if (letter[0] !== "G") return { L: "loses", R: "restarts", W: "gets a wrong group" }[letter[0]] ?? "";
     return letter.length > 1 ? `gets slot ${slot - Number(letter.slice(1))}` : "gets";
@@ -163,9 +157,8 @@ class ScriptTab extends Tab {
     const none = isPlayed ? undefined : UNPLAYED;
     const named = (what) => receivers ? `Receiver ${chosen}, ${what}` : "No receiver";
     const got = orUnplayed(this.receptionInWords(row?.receptions[chosen] ?? "", slot));
-    const sent = reply ? `${reply.what} ${reply.reply}` : orUnplayed(player.sentIn(this, slot) ? "sends" : "");
-    const origins = () => player.originsOf(this, (at) => this.sourceOf(at, chosen), slot).map((at) => air.shadeAt(at));
-    const stale = { led: orUnplayed(staleAt(alone, slot)), none, origins };
+    const sent = reply ? `${reply.what} ${reply.reply}` : orUnplayed(this.codes[slot] ? "sends" : "");
+    const stale = { led: orUnplayed(staleAt(alone, slot)), none, air };
     const onAir = radio($("script-air"), "On air", air, slot, { led: sent, none: orUnplayed("silence") });
     const shown = radio($("script-radio"), named("with rdsrt"), view, slot, { led: got, none });
     const other = radio($("script-alone"), named("ordinary radio"), alone, slot, stale);
