@@ -26,7 +26,7 @@ pub use bounded::{Bounded, Dwell, Late};
 pub use distance::Distance;
 pub use head::Head;
 pub use laws::{an_exchange_is_its_own_inverse, one_group, one_message};
-pub use message::Message;
+pub use message::{ANNOUNCEMENT_CODE, Message, NAME_CODE, RADIOTEXT_CODE};
 pub use pair::{TagPair, Which};
 pub use radiotext_plus::{RTPLUS_AID, RTPLUS_CODE, rtplus_announcement};
 pub use stored::{StoredPair, StoredTag};

@@ -8,13 +8,13 @@ use crate::{Head, RTPLUS_CODE, TagPair, one_message};
 use rds_block::{Blocks, Group, Place};
 
 /// The code of group type 2A, which carries RadioText.
-const RADIOTEXT: u8 = 4;
+pub const RADIOTEXT_CODE: u8 = 4;
 
 /// The code of group type 3A, which carries announcements of an application.
-const ANNOUNCEMENT: u8 = 6;
+pub const ANNOUNCEMENT_CODE: u8 = 6;
 
 /// The code of group type 10A, which carries the programme type name.
-const TYPE_NAME: u8 = 20;
+pub const NAME_CODE: u8 = 20;
 
 /// The message of a group (IEC 62106, groups 2A, 3A and 10A; IEC 62106-6, RadioText Plus in group 11A).
 #[derive(Clone, Copy, Debug, PartialEq, Eq)]
@@ -70,17 +70,17 @@ impl Message {
         // Prover: a call of a law, which gives the clause `only` (docs/PROVER.md, "Idioms").
         one_message();
         match group.kind() {
-            RADIOTEXT => Message::Text {
+            RADIOTEXT_CODE => Message::Text {
                 flag: flag_in(group.low()),
                 address: Place::new(group.low() & 0x0F).unwrap(),
                 bytes: bytes_of(group.c(), group.d()),
             },
-            TYPE_NAME => Message::Name {
+            NAME_CODE => Message::Name {
                 flag: flag_in(group.low()),
                 address: Place::new(group.low() & 1).unwrap(),
                 bytes: bytes_of(group.c(), group.d()),
             },
-            ANNOUNCEMENT => Message::Announce {
+            ANNOUNCEMENT_CODE => Message::Announce {
                 code: Place::new(group.low()).unwrap(),
                 bits: group.c(),
                 aid: group.d(),
@@ -105,7 +105,7 @@ impl Message {
                 bytes,
             } => {
                 let (c, d) = blocks_of(bytes);
-                Some(head.group_of(RADIOTEXT, low_of(flag, address.get()), c, d))
+                Some(head.group_of(RADIOTEXT_CODE, low_of(flag, address.get()), c, d))
             }
             Message::Name {
                 flag,
@@ -113,10 +113,10 @@ impl Message {
                 bytes,
             } => {
                 let (c, d) = blocks_of(bytes);
-                Some(head.group_of(TYPE_NAME, low_of(flag, address.get()), c, d))
+                Some(head.group_of(NAME_CODE, low_of(flag, address.get()), c, d))
             }
             Message::Announce { code, bits, aid } => {
-                Some(head.group_of(ANNOUNCEMENT, code.get(), bits, aid))
+                Some(head.group_of(ANNOUNCEMENT_CODE, code.get(), bits, aid))
             }
             Message::Tags(pair) => {
                 let (low, c, d) = pair.to_blocks();

@@ -79,6 +79,9 @@ impl TagGroup {
     pub fn exchange_sent(self, slot: Option<Group>) -> Option<Group>
         ensures { result ≡ exchanged_in self slot }
     {
+        if self.number == USUAL {
+            return slot;
+        }
         Some(self.exchange(slot?))
     }
 

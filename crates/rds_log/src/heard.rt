@@ -4,11 +4,8 @@
 use crate::log_line::BLOCKS;
 use crate::source::Source;
 use rds_block::Blocks;
-use rds_fields::{Message, RTPLUS_AID, RTPLUS_CODE};
+use rds_fields::{ANNOUNCEMENT_CODE, Message, RTPLUS_AID, RTPLUS_CODE};
 use rds_io::word_at;
-
-/// The code of group type 3A, which announces applications.
-const ANNOUNCEMENT: u8 = 6;
 
 /// How many groups of each type the wanted programme has (this project's own rule).
 #[derive(Clone, Copy)]
@@ -123,7 +120,7 @@ impl Heard {
         };
         let own = group.pi();
         if own == pi {
-            if group.kind() == ANNOUNCEMENT {
+            if group.kind() == ANNOUNCEMENT_CODE {
                 self.announced.take(group);
             }
             self.counts.add(group);

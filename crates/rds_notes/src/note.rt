@@ -3,7 +3,7 @@
 use arrayvec::ArrayVec;
 use rds_arrivals::{Break, Grain};
 use rds_cli::{End, Request, Task};
-use rds_fields::{RTPLUS_AID, RTPLUS_CODE, TagGroup};
+use rds_fields::{ANNOUNCEMENT_CODE, NAME_CODE, RADIOTEXT_CODE, RTPLUS_AID, RTPLUS_CODE, TagGroup};
 use rds_io::LogFault;
 use rds_log::{FaultCount, Gap, GroupCounts, Lack, LogNotes, NoNote, SlotNotes};
 use rds_script::{EarlySet, ScriptNotes};
@@ -13,17 +13,8 @@ use std::io::{self, ErrorKind};
 /// most thirteen others.
 const MOST_NOTES: usize = 28;
 
-/// The group type 2A as five bits: RadioText.
-const TEXT_GROUPS: u8 = 4;
-
-/// The group type 2B.
-const SHORT_TEXT_GROUPS: u8 = 5;
-
-/// The group type 3A: announcements.
-const ANNOUNCEMENTS: u8 = 6;
-
-/// The group type 10A: the programme type name.
-const NAME_GROUPS: u8 = 20;
+/// The code of group type 2B.
+const SHORT_TEXT_CODE: u8 = 5;
 
 /// What a run met (this project's own rule).
 #[derive(Clone, Copy)]
@@ -261,7 +252,7 @@ fn note_groups<'a>(run: &'a Run<'a>, notes: &mut Notes<'a>) {
         return;
     }
     let heard = run.log.heard;
-    let short = heard.counts.of(SHORT_TEXT_GROUPS);
+    let short = heard.counts.of(SHORT_TEXT_CODE);
     if !heard.wanted {
         add(
             Note::NoGroup(OtherGroups {
@@ -315,7 +306,7 @@ fn note_tags<'a>(run: &'a Run<'a>, notes: &mut Notes<'a>) {
 
 /// Returns whether groups of this type are read: texts, announcements, names and tags.
 fn is_read(code: u8) -> bool {
-    [TEXT_GROUPS, ANNOUNCEMENTS, NAME_GROUPS, RTPLUS_CODE].contains(&code)
+    [RADIOTEXT_CODE, ANNOUNCEMENT_CODE, NAME_CODE, RTPLUS_CODE].contains(&code)
 }
 
 /// Notes how many groups `decode` could not use, since one block was lost.
@@ -360,7 +351,7 @@ fn note_judged<'a>(run: &'a Run<'a>, short: u64, notes: &mut Notes<'a>) {
 
 /// Returns whether no group of a text, a name or tags was counted.
 fn reads_nothing(counts: &GroupCounts) -> bool {
-    counts.of(TEXT_GROUPS) == 0 && counts.of(NAME_GROUPS) == 0 && counts.of(RTPLUS_CODE) == 0
+    counts.of(RADIOTEXT_CODE) == 0 && counts.of(NAME_CODE) == 0 && counts.of(RTPLUS_CODE) == 0
 }
 
 /// Returns by how much a log has too few lines for its times. After a no the lines up to it decide, since the log was
