@@ -24,14 +24,13 @@ The promises, with d = M + K:
   one before, or the same characters.
 """
 import collections
-import math
 
-from tests import outputs, plain_witness, plain_worlds, random_scripts
+from tests import outputs, plain_worlds, random_scripts
+from tests.plain_receiver import LOST, Receiver, tags_in
 from tests.support import ran
 
 SLOTS = 96
 LONG_DWELL = "65535"
-LOST = "---- ---- ---- ----"
 PROMISES = ("text", "tag", "behind", "news", "name", "news of names", "each name")
 # the reception of a slot without a group
 NOTHING, RESTART = "nothing", "restart"
@@ -150,39 +149,22 @@ def lives(rng, got):
 
 
 class Radio:
-    """A radio with the flag bit alone. It goes by the definitions over all that it has heard, and keeps no state."""
+    """A radio with the flag bit alone: a receiver that never forgets. It counts the groups that it heard."""
 
     def __init__(self):
-        self.texts, self.names, self.tags, self.knows_tags, self.count = [], [], [], False, 0
+        self.receiver, self.count = Receiver(), 0
 
     def hear(self, line):
         """Takes a group."""
         self.count += 1
-        second, data = int(line[5:9], 16), bytes.fromhex(line[10:])
-        number, low = second >> 12, second & 0x1F
-        if number == 2:
-            self.texts.append((self.count, low >> 4, low & 15, data))
-        elif number == 10:
-            self.names.append((self.count, low >> 4, low & 1, data))
-        elif number == 3:
-            self.knows_tags = True
-        elif self.knows_tags and self.texts:
-            self.tags.append((self.count, low << 32 | int.from_bytes(data, "big")))
+        self.receiver.hear(self.count, line)
 
     def view(self):
         """Returns the parts that the radio shows, with their values."""
-        run = plain_witness.run_of(self.texts, math.inf, self.count)
-        run_of_name = plain_witness.run_of(self.names, math.inf, self.count)
-        text, name = plain_witness.value_of(run, False), plain_witness.value_of(run_of_name, True)
-        shown = {part: value.decode() for part, value in (("text", text), ("name", name)) if value is not None}
-        pair = next((bits for at, bits in reversed(self.tags) if run and at > run[-1][0]), None)
-        return {**shown, **pieces(text.decode(), pair)} if text is not None and pair is not None else shown
-
-
-def pieces(text, pair):
-    """Returns the pieces that the tags of a pair show of a text, by part."""
-    tags = (pair >> 29 & 63, pair >> 23 & 63, pair >> 17 & 63), (pair >> 11 & 63, pair >> 5 & 63, pair & 31)
-    return plain_worlds.pieces_by_part(tags, text)
+        values = {service: self.receiver.value(service, self.count) for service in ("text", "name")}
+        shown = {part: value.decode() for part, value in values.items() if value is not None}
+        held = self.receiver.pairs(self.count) if "text" in shown else []
+        return {**shown, **plain_worlds.pieces_by_part(tags_in(held[0]), shown["text"])} if held else shown
 
 
 def decoded(log):

@@ -8,11 +8,10 @@ import random
 
 from tests import random_scripts
 from tests.calls import DECODE, ENCODE, SIM
+from tests.plain_receiver import LOST, Segment, counting
 from tests.support import ProgramCase, ran
-from tests.worked_rows import NO_GROUP
 
 SEED, LOGS, SLOTS = 20261127, 300, 80
-LOST = NO_GROUP.decode().strip()
 OTHER = "F000 2140 4849 0D20"
 HI, HO, HI_FLAG_1 = "C201 2140 4849 0D20", "C201 2140 484F 0D20", "C201 2150 4849 0D20"
 # the two segments of AAAACCC, and a wrong second one
@@ -55,10 +54,6 @@ def shown(log, *words):
     return status, output.decode()
 
 
-# a segment by chance: `service` is "text" or "name"
-Segment = collections.namedtuple("Segment", "service flag address body")
-
-
 def random_slot(rng, flag):
     """Returns a segment with few different bodies, mostly with this flag, or None for a lost slot."""
     if rng.random() < 0.25:
@@ -75,17 +70,6 @@ def line_of(segment):
         return LOST
     second = (0x2140 if segment.service == "text" else 0xA140) | segment.flag << 4 | segment.address
     return f"C201 {second:04X} {segment.body[:2].hex().upper()} {segment.body[2:].hex().upper()}"
-
-
-def counting(slots, window):
-    """Returns the slots with None for each segment that does not count."""
-    last, found = {}, []
-    for slot, segment in enumerate(slots):
-        place = segment and (segment.service, segment.address)
-        before, came = last.get(place, (None, slot))
-        found.append(segment if segment == before and slot - came < window else None)
-        last[place] = segment, slot
-    return found
 
 
 class Confirm(ProgramCase):

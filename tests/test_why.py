@@ -5,42 +5,15 @@ import random
 import re
 
 from tests import outputs
-from tests.plain_worlds import DWELL, LOST, SLOTS, random_rows, script
+from tests.plain_receiver import counting, segment_of
+from tests.plain_worlds import DWELL, SLOTS, random_rows, script
 from tests.support import ProgramCase, ran
 from tests.test_flag_alone import heard
 from tests.test_worlds import receptions_of
 
 WORLDS, RECEIVERS = 120, 2
 REASONS = ("incomplete", "dropped", "restarted")
-# in the second block of a part's groups: the group type with version A, the bits of the segment's address, and the flag
-GROUPS = {"text": (2 << 1, 0x0F), "name": (10 << 1, 0x01)}
-TYPE_SHIFT, FLAG = 11, 0x10
-
-
-def segment(line, part):
-    """Returns the address of a line's segment, and its flag with its bytes. None for a line of another group."""
-    if line == LOST:
-        return None
-    second, body = int(line.split()[1], 16), line.split()[2:]
-    kind, addresses = GROUPS[part]
-    if second >> TYPE_SHIFT != kind:
-        return None
-    return second & addresses, (second & FLAG, body)
-
-
-def counted(life, part, window):
-    """Returns for each slot of a life whether a segment that counts came: with a window, one that is the same as the last
-    one at its address, which came less than the window before."""
-    last, found = {}, []
-    for slot, line in enumerate(life):
-        came = segment(line, part)
-        if came is None:
-            found.append(False)
-            continue
-        before, same = last.get(came[0], (-SLOTS, None))
-        found.append(not window or (same == came[1] and slot - before < window))
-        last[came[0]] = slot, came[1]
-    return found
+PARTS = ("text", "name")
 
 
 def lives_of(rows, groups, receiver):
@@ -86,8 +59,9 @@ class Why(ProgramCase):
         dwell, window = tuning
         found = {}
         for first, life in lives_of(rows, groups, receiver):
-            for part in GROUPS:
-                counts = counted(life, part, window)
+            counted = counting(map(segment_of, life), window)
+            for part in PARTS:
+                counts = [it is not None and it.service == part for it in counted]
                 # the slot after the life is that of the restart
                 for slot in range(len(life) + 1):
                     if (first + slot, part) not in gone:
