@@ -1,5 +1,4 @@
 use Rattle.std.proofs.Common.{◌≡◌, ◌∙◌, refl, subst}
-use Rattle.rds_block.specs.declared.group.Group.{Group}
 use Rattle.rds_block.specs.SecondWord.{same_group}
 use Rattle.rds_block.specs.Words.{AreWordsOf}
 use Rattle.rds_fields.specs.TagGroup.{exchanged}
