@@ -40,13 +40,14 @@ export const NAME = 2;
 export const TAGS = 3;
 export const OTHER = 4;
 export const FLAG = 8;
-/* The group types of the services, with their versions: 2A, 10A and 11A. */
-const SERVICES = { [2 << 1]: TEXT, [10 << 1]: NAME, [11 << 1]: TAGS };
-export function codeOf(group, pi) {
+/* The group types of the services, with their versions: 2A, 10A, and that of the tags, usually 11A. */
+const SERVICES = { [2 << 1]: TEXT, [10 << 1]: NAME };
+export function codeOf(group, pi, tags = 11) {
   if (!group || (pi !== null && group[0] !== pi)) return NOTHING;
-  return SERVICES[group[1] >> KIND_SHIFT] ?? OTHER;
+  const kind = group[1] >> KIND_SHIFT;
+  return kind === tags << 1 ? TAGS : SERVICES[kind] ?? OTHER;
 }
-export function markedCodeOf(group, pi) {
-  const kind = codeOf(group, pi);
+export function markedCodeOf(group, pi, tags = 11) {
+  const kind = codeOf(group, pi, tags);
   return kind === TEXT && group[1] & FLAG_BIT ? kind | FLAG : kind;
 }

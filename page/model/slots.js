@@ -90,11 +90,11 @@ export function groupAt(bytes, { starts, count }, slot) {
   return blocks.includes(null) ? null : blocks;
 }
 
-export function codes(bytes, { starts, count }, pi) {
+export function codes(bytes, { starts, count }, pi, tags) {
   const all = new Uint8Array(count);
   for (let slot = 0; slot < count; slot++) {
     const at = starts[slot];
-    if (isWhole(bytes, at)) all[slot] = lines.markedCodeOf([wordAt(bytes, at), wordAt(bytes, at + 5)], pi);
+    if (isWhole(bytes, at)) all[slot] = lines.markedCodeOf([wordAt(bytes, at), wordAt(bytes, at + 5)], pi, tags);
   }
   return all;
 }

@@ -19,7 +19,8 @@ function arraysIn(value) {
 
 const run = (words, bytes = state.bytes) => rdsrt.ask(words, bytes);
 
-const decoding = (pi, m, w = 0) => ["decode", "--pi", pi, "--m", m, ...rdsrt.windowWords(w), "--why"];
+const decoding = ({ pi, tags, m, w }) =>
+  ["decode", "--pi", pi, "--m", m, ...rdsrt.tagWords(tags), ...rdsrt.windowWords(w), "--why"];
 
 /* What a receiver shows of the log as it is now. The slots end at a line that the program finds malformed. */
 function shownBy(words, values, before = null) {
@@ -31,13 +32,13 @@ function shownBy(words, values, before = null) {
 }
 
 /* What receivers show that lose nothing. It is asked for at each change of the lost slots, and kept. */
-function wholeOf({ pi, m, w }) {
-  const words = decoding(pi, m, w);
-  if (state.pi !== pi) {
+function wholeOf({ pi, tags, m, w }) {
+  const words = decoding({ pi, tags, m, w });
+  if (state.pi !== pi || state.tags !== tags) {
     const values = new displays.Values();
-    const alone = shownBy(decoding(pi, LONGEST_DWELL), values);
-    const codes = logs.codes(state.bytes, state.log, parseInt(pi, 16));
-    Object.assign(state, { pi, values, alone, codes, whole: null });
+    const alone = shownBy(decoding({ pi, tags, m: LONGEST_DWELL, w: 0 }), values);
+    const codes = logs.codes(state.bytes, state.log, parseInt(pi, 16), tags);
+    Object.assign(state, { pi, tags, values, alone, codes, whole: null });
   }
   if (`${state.whole?.words}` !== `${words}`) state.whole = shownBy(words, state.values);
   return { whole: state.whole, alone: state.alone, codes: state.codes.slice() };
@@ -45,15 +46,15 @@ function wholeOf({ pi, m, w }) {
 
 /* What receivers show that lose these slots, with the mixes that `witness` names: it knows no window. No receiver with
    the dwell shows a mix of a log that passes the audit, and none that shows the same as one that loses nothing. */
-function lossyOf({ pi, m, w, lost, passes }) {
-  const { codes, ...kept } = wholeOf({ pi, m, w });
+function lossyOf({ pi, tags, m, w, lost, passes }) {
+  const { codes, ...kept } = wholeOf({ pi, tags, m, w });
   const { values } = state;
   const again = (it) => shownBy(it.words, values, it);
   const both = () => ({ whole: again(kept.whole), alone: again(kept.alone) });
   const shown = logs.whileLost(state.bytes, state.log, lost, both);
   // witness prints nothing of a log with a malformed line
   const read = state.bytes.subarray(0, state.log.end);
-  const losing = ["witness", "--pi", pi, "--m", m, "--lose", lines.spansOf(lost).join(",")];
+  const losing = ["witness", "--pi", pi, "--m", m, ...rdsrt.tagWords(tags), "--lose", lines.spansOf(lost).join(",")];
   const mark = (which, ...more) => {
     if (shown[which] !== kept[which]) displays.markMixes(shown[which].view, run([...losing, ...more], read).output);
   };
@@ -63,8 +64,9 @@ function lossyOf({ pi, m, w, lost, passes }) {
   return { ...shown, codes };
 }
 
-const auditing = ({ pi, m, k, running, padded }, ...more) =>
-  ["audit", ...more, "--pi", pi, "--m", m, "--k", k, ...running ? ["--running"] : [], ...padded ? ["--padded"] : []];
+const auditing = ({ pi, tags, m, k, running, padded }, ...more) =>
+  ["audit", ...more, "--pi", pi, "--m", m, "--k", k, ...rdsrt.tagWords(tags), ...running ? ["--running"] : [],
+    ...padded ? ["--padded"] : []];
 
 function head(count) {
   let end = 0;
@@ -107,8 +109,9 @@ const REQUESTS = {
   audit,
 
   /* It takes so many slots, which end at a byte, and may not be all. */
-  witness({ pi, m, slots, end, isAll }) {
-    const found = answers.witness(run(["witness", "--pi", pi, "--m", m], state.bytes.subarray(0, end)).output);
+  witness({ pi, tags, m, slots, end, isAll }) {
+    const words = ["witness", "--pi", pi, "--m", m, ...rdsrt.tagWords(tags)];
+    const found = answers.witness(run(words, state.bytes.subarray(0, end)).output);
     return found.lost || found.upto !== null || isAll ? found : { ...found, upto: slots };
   },
 

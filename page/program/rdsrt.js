@@ -98,5 +98,6 @@ export function askForBytes(words, input) {
   return { output: output.slice(), ...more };
 }
 
+export const tagWords = (tags) => tags === 11 ? [] : ["--rtplus", `${tags}A`];
 export const windowWords = (window) => window ? ["--confirm", window] : [];
 export const command = (words) => ["rdsrt", ...words].join(" ");

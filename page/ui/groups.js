@@ -5,9 +5,9 @@ import { make } from "./parts.js";
 
 const TYPES = {
   "0A": "station name (PS), not read", "0B": "station name (PS), not read", "2A": "RadioText",
-  "3A": "announcement of a data service",
-  "4A": "clock time", "10A": "programme type name (PTYN)", "11A": "data service (RadioText Plus, if announced)",
+  "3A": "announcement of a data service", "4A": "clock time", "10A": "programme type name (PTYN)",
 };
+const TAGS = "data service (RadioText Plus, if announced)";
 const SEGMENTS = { "2A": 0x0F, "10A": 0x01 };
 const SERVICE = 0x1F;
 const RADIOTEXT_PLUS = 0x4BD7;
@@ -35,13 +35,14 @@ function blocksOf(words, type) {
 
 const dotted = (things) => things.flatMap((thing, i) => i ? [" · ", thing].flat() : thing);
 
-export function ofSlot(bytes, log, slot, pi) {
+export function ofSlot(bytes, log, slot, { pi, tags }) {
   if (slot >= log.count) return [];
   const words = logs.blocksAt(bytes, log.starts[slot]);
   if (words.every((word) => word === null)) return ["nothing received"];
   if (words.includes(null)) return dotted([blocksOf(words, ""), "not whole, so it counts as lost"]);
   const type = lines.typeOf(words);
   if (words[0] !== pi) return dotted([type, blocksOf(words, ""), "another programme"]);
-  const name = part("type", type in TYPES ? `${type} ${TYPES[type]}` : `${type}, not read`);
+  const meaning = type === `${tags}A` ? TAGS : TYPES[type];
+  const name = part("type", meaning ? `${type} ${meaning}` : `${type}, not read`);
   return dotted([name, ...details(words, type), blocksOf(words, type)]);
 }

@@ -37,6 +37,7 @@ class LogTab extends Tab {
   /** @type {Set<number>} */ lost = new Set();
   hadLost = false;
   pi = 0;
+  tags = 11;
   w = 0;
   view = new View();
   alone = new View();
@@ -84,11 +85,8 @@ class LogTab extends Tab {
     try {
       this.lost = links.slotsOf(letters, this.log.count);
       this.field("spans").ariaInvalid = null;
-    } catch {
-      this.field("spans").ariaInvalid = "true";
-      return;
-    }
-    this.look();
+      this.look();
+    } catch { this.field("spans").ariaInvalid = "true"; }
   }
 
   /* A slot, a time in the lines of the log, or minutes and seconds since its first slot. */
@@ -112,7 +110,7 @@ class LogTab extends Tab {
   /* Returns when display and verdict are shown. The workers read the page's own bytes: the file may change. */
   /** @param {string | Uint8Array} content @param {any} [settings] */
   open(content, settings = {}) {
-    const { m, k, w, running = false, padded = false, fill = true, lost = [], example = "", file = "", pi } = settings;
+    const { m, k, w, tags = 11, running = false, padded = false, fill = true, lost = [], example = "", file = "", pi } = settings;
     const bytes = typeof content === "string" ? encoder.encode(content) : content;
     // a link holds no longer text
     const text = bytes.length > links.MOST_PLAIN ? null : decoder.decode(bytes);
@@ -120,7 +118,7 @@ class LogTab extends Tab {
     this.hadLost = example !== "" && this.lost.size > 0;
     this.home(false);
     this.nameFile(file);
-    this.setFields({ example, m, k, w: w || "" });
+    this.setFields({ example, m, k, w: w || "", tags });
     $("log-running").checked = running;
     $("log-padded").checked = padded;
     $("log-fill").checked = fill;
@@ -150,8 +148,7 @@ class LogTab extends Tab {
   inFile(notes) {
     const { filled } = this;
     if (!filled) return notes;
-    const of = (line) => lineInFile(filled, Number(line));
-    const inText = (text) => text.replace(/\(line (\d+)/g, (_, line) => `(line ${of(line)}`);
+    const inText = (text) => text.replace(/\(line (\d+)/g, (_, line) => `(line ${lineInFile(filled, Number(line))}`);
     return notes.map(({ text, ...more }) => ({ ...more, text: inText(text) }));
   }
 
@@ -188,9 +185,9 @@ class LogTab extends Tab {
 
   /* What the form holds. A window makes what it shows later by its length less one. */
   asking() {
-    const [m, k, w] = ["m", "k", "w"].map((name) => Number(this.value(name)));
+    const [m, k, w, tags] = ["m", "k", "w", "tags"].map((name) => Number(this.value(name)));
     const [running, padded] = ["running", "padded"].map((name) => $(`log-${name}`).checked);
-    return { pi: this.value("pi"), m, k: k + Math.max(0, w - 1), w, running, padded };
+    return { pi: this.value("pi"), tags, m, k: k + Math.max(0, w - 1), w, running, padded };
   }
 
   prepare() {
@@ -201,8 +198,8 @@ class LogTab extends Tab {
     const options = words.filter(Boolean).join(", ");
     $("log-options").textContent = options;
     const [file, added] = ["file-name", "filled"].map((name) => $(`log-${name}`).textContent);
-    const day = new Date().toISOString().slice(0, 10);
-    $("log-paper").textContent = [file, options, this.filled && added, day].filter(Boolean).join(" · ");
+    const known = [file, options, this.filled && added, new Date().toISOString().slice(0, 10)];
+    $("log-paper").textContent = known.filter(Boolean).join(" · ");
   }
 
   async show(signal, { opens = false, pi }) {
@@ -234,7 +231,7 @@ class LogTab extends Tab {
     signal.throwIfAborted();
     const values = new Texts(shown.values);
     const [view, alone] = [shown.view, shown.alone].map((packed) => new View(packed, values));
-    Object.assign(this, { view, alone, codes: shown.codes, pi: parseInt(asked.pi, 16), w: asked.w });
+    Object.assign(this, { view, alone, codes: shown.codes, pi: parseInt(asked.pi, 16), tags: asked.tags, w: asked.w });
     this.timeline.show(this.lanes(), this.log.count, { fit });
     this.tellLines("log", this.commandOf(shown.command), shown.output);
   }
@@ -271,11 +268,11 @@ class LogTab extends Tab {
   }
 
   /* Looks for a witness after a no, which takes longer. */
-  async search({ pi, m, k, w }, signal) {
+  async search({ pi, tags, m, k, w }, signal) {
     const { no, answer, log } = this;
     if (!no || !answer.isSure) return;
     const slots = Math.min(log.count, no.slot + SEARCHED);
-    const given = { pi, m, slots, end: log.starts[slots] ?? log.end, isAll: slots === log.count };
+    const given = { pi, tags, m, slots, end: log.starts[slots] ?? log.end, isAll: slots === log.count };
     const failed = ({ message }) => ({ lost: null, shown: [], failure: message });
     const witness = w ? failed(NO_SEARCH) : await this.judge.ask("witness", given, { signal }).catch(failed);
     if (signal.aborted) return;
@@ -324,14 +321,14 @@ class LogTab extends Tab {
   showSlot(slot) {
     const { bytes, log, view, alone } = this;
     const group = logs.groupAt(bytes, log, slot);
-    const sent = group ? `${KINDS[lines.codeOf(group, this.pi)]} group` : "nothing received";
+    const sent = group ? `${KINDS[lines.codeOf(group, this.pi, this.tags)]} group` : "nothing received";
     const what = this.lost.has(slot) ? "lost" : sent;
     const led = this.answer ? what : "";
     const shown = radio($("log-radio"), `A receiver with rdsrt${this.w ? `, W = ${this.w}` : ""}`, view, slot, { led });
     const other = radio($("log-alone"), "An ordinary radio", alone, slot);
     $("log-why").textContent = whyNoMix(view, alone, slot);
     const rest = slot < log.count ? this.lineAt(log.starts[slot]).slice(logs.BLOCKS) : "";
-    $("log-group").replaceChildren(...groups.ofSlot(bytes, log, slot, this.pi), rest);
+    $("log-group").replaceChildren(...groups.ofSlot(bytes, log, slot, this), rest);
     this.putAddressSoon();
     return `${what}. A receiver with rdsrt: ${shown}. An ordinary radio: ${other}.`;
   }
@@ -340,24 +337,25 @@ class LogTab extends Tab {
     // an example may begin with lost slots
     const lost = this.lost.size || this.hadLost ? `&lost=${links.inLetters(this.lost)}` : "";
     const boxes = ["running", "padded"].filter((name) => $(`log-${name}`).checked).map((name) => `&${name}=1`);
-    const fill = $("log-fill").checked ? "" : "&fill=0";
-    return `pi=${this.value("pi")}&${super.options()}${boxes.join("")}${fill}${lost}`;
+    const [tags, fill] = [this.value("tags"), $("log-fill").checked];
+    const more = `${tags === "11" ? "" : `&tags=${tags}`}${boxes.join("")}${fill ? "" : "&fill=0"}`;
+    return `pi=${this.value("pi")}&${super.options()}${more}${lost}`;
   }
 
-  settingsOf({ given, option }, { pi, running = false, padded = false, fill = true, lost = [] }) {
+  settingsOf({ given, option }, { pi, tags = 11, running = false, padded = false, fill = true, lost = [] }) {
     return {
       pi: given.get("pi") ?? pi, lost: given.has("lost") ? links.slotsOf(given.get("lost")) : lost,
       running: option("running", 0, 1, Number(running)) === 1, padded: option("padded", 0, 1, Number(padded)) === 1,
-      fill: option("fill", 0, 1, Number(fill)) === 1,
+      fill: option("fill", 0, 1, Number(fill)) === 1, tags: option("tags", 5, 13, tags),
     };
   }
 
   afterLink({ given }) {
-    if (given.has("pi") && given.get("pi") !== this.value("pi")) throw links.damaged();
+    if ((given.has("pi") && given.get("pi") !== this.value("pi")) || !this.value("tags")) throw links.damaged();
   }
 
   begin(compiled) {
-    super.begin(["pi", "m", "k", "w", "running", "padded"], () => this.look());
+    super.begin(["pi", "m", "k", "w", "tags", "running", "padded"], () => this.look());
     $("log-fill").oninput = () => {
       Object.assign(this, empty(), { log: NO_LOG });
       this.look({ opens: true, pi: this.value("pi") });

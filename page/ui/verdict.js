@@ -40,12 +40,12 @@ function faulty({ line, text }) {
 /* The card is grey if the program notes that the log does not show enough. */
 /** @returns {any[]} */
 function answer({ audit, m, k, w }, actions) {
-  const [no, lack, few, judged, fault, nothing, none] =
-    ["no", "lack", "few", "judged", "fault", "nothing", "no_group"].map((kind) => lines.noteOf(audit.first, kind));
+  const [no, lack, few, judged, fault, nothing, none, elsewhere, other] =
+    "no lack few judged fault nothing no_group tags_elsewhere other_application".split(" ").map((it) => lines.noteOf(audit.first, it));
   const late = k ? ` and K ${w ? "+ W - 1 " : ""}= ${number(k)}` : "";
   const dwell = `M = ${number(m)} (${lines.time(m)})${late}`;
   const words = (note) => note && told(grouped(note.text));
-  const doubts = filled("doubts", { lack: words(lack), few: words(few) });
+  const doubts = filled("doubts", { lack: words(lack), few: words(few), tags: words(elsewhere ?? other) });
   const card = no && filled(lack ? "doubted" : "refused", { ...shownOf(no, actions), dwell });
   if (no) return [lack ? "empty" : "no", ...card, ...doubts];
   if (fault) return ["fault", ...faulty(fault)];
@@ -54,7 +54,7 @@ function answer({ audit, m, k, w }, actions) {
   if (lack ?? few) return ["empty", ...filled("unsure", { dwell, covered }), ...doubts];
   const keeps = judged.slots - judged.empty === 1 ? "slot keeps" : "slots keep";
   const texts = judged.empty ? "the recorded texts" : "two texts";
-  return ["", ...filled("passed", { dwell, keeps, texts, covered, missing: judged.empty > 0 })];
+  return ["", ...filled("passed", { dwell, keeps, texts, covered, missing: judged.empty > 0 }), ...doubts];
 }
 
 /* Returns the note of a no, and whether the card says yes or no. */
