@@ -50,13 +50,14 @@ class Listing:
         self.check("no M", of(b, "#log-faults", "hidden"), True)
 
     def test_a_slot_of_a_line_with_a_time_has_no_time_by_its_number(self):
-        """An hour is missing before the fault. Without times a slot is so many slots after the first."""
+        """An hour is missing before the fault, for which the page adds M slots. Without times a slot is so many slots after
+        the first."""
         b = self.b
         hours = [(HI, f"{hour}:00:00.{part:02d}") for hour in ("07", "08") for part in (0, 9, 18)]
         for name, log, wanted in (
                 ("a clock", timed(*hours, (OTHER, "08:00:00.27")), ["slot 6 of 7", ""]),
                 ("seconds", "".join(f"{HI} {at}\n" for at in ("0.00", "0.09", "3600.1")) + f"{OTHER} 3600.2\n",
-                 ["slot 3 of 4", ""]),
+                 ["slot 11 of 12", ""]),
                 ("none", f"{HI}\n" * 6 + f"{OTHER}\n",
                  ["slot 6 of 7 · 0.53 s", "This slot is 0.53 s after the first."])):
             opened(b, log)

@@ -310,10 +310,10 @@ class LogTab extends Tab {
     return end === start + LONGEST_LINE ? `${text}…` : text;
   }
 
-  /* Empty if there is more than blocks in the line, maybe a time: slots may be missing before it. */
+  /* Empty if slots may be missing before this one: at a break of the times, or if more than blocks is in a line. */
   elapsed(slot) {
     const { starts, count } = this.log;
-    if (this.filled) return super.elapsed(slot);
+    if (this.filled?.breaks === 0) return super.elapsed(slot);
     const isBare = !count || this.lineAt(starts[Math.min(slot, count - 1)]).length <= logs.BLOCKS;
     return isBare ? super.elapsed(slot) : "";
   }
