@@ -81,7 +81,7 @@
  *     rdsrt_encoder_set_tags            64   32    rdsrt_text_from_utf8             160  160
  *     rdsrt_encoder_tick                64   32    rdsrt_type_name                   96   96
  *     rdsrt_encoder_on_air             128  128    rdsrt_code_name                   96   96
- *     rdsrt_encoder_wait                32   32    rdsrt_exchange_tag_group          96   96
+ *     rdsrt_encoder_wait                32   32    rdsrt_exchange_tag_group          32   32
  *
  * YOU PROMISE for every call:
  *  - You call _init first. No call notices that you did not: a struct of zeros has PI 0000, so it shows nothing of your

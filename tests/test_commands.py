@@ -62,6 +62,7 @@ RUN_BY = [
      "test_guide.Guide.test_the_counts_of_a_station_with_short_texts"),
     (r"awk ", "test_guide.Guide.test_each_fault_has_the_time_of_its_line"),
     (r"split -n l/2 stations|feed \| monitor ", "test_monitor"),
+    (r"tools/held$", "test_held"),
     (r"rdsrt encode --pi C201 script \| transmit ", "test_fm"),
     (r"\./rdsrt encode --pi C201 --pty 10 --m 8 examples/chanson.csv \| examples/fm/transmit ",
      "test_fm.Pages.test_the_trial_without_hardware"),

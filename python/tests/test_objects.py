@@ -262,8 +262,8 @@ class TagGroups(unittest.TestCase):
         self.assertIsNone(rdsrt.exchange_tag_group(12, None))
 
     def test_a_receiver_of_tags_in_12a(self):
-        receiver, tags = Receiver(0xC201), (0xC201, 0xC14F, 0x2002, 0)
-        for group in (HI, tags):
+        receiver, announcement, tags = Receiver(0xC201), (0xC201, 0x3018, 0, 0x4BD7), (0xC201, 0xC148, 0x2002, 0)
+        for group in (announcement, HI, tags):
             receiver.slot(rdsrt.exchange_tag_group(12, group))
         self.assertEqual(receiver.view.tags[0].text, "HI")
 
