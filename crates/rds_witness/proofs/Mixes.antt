@@ -1,6 +1,7 @@
 -- How lines of mixes go on by the lines of a kind of things.
-use Rattle.std.proofs.Common.{◌≡◌, ◌⊎◌, ◌++◌, ◌∷◌, ◌+◌, ◌<◌, [], ◌∙◌, ℕ, List, Option, None, Some, ap, append_assoc}
+use Rattle.std.proofs.Common.{◌≡◌, ◌⊎◌, ◌++◌, ◌∷◌, ◌+◌, ◌<◌, ◌≤◌, [], ◌∙◌, ℕ, List, None, Option, Some, ap, append_assoc}
 use Rattle.std.proofs.Common.{arith, inl, inr, refl, subst, suc}
+use Rattle.std.specs.Prelude.{option_map}
 use Rattle.std.specs.List.{Contains}
 use Rattle.std.proofs.lemmas.Bool.{cases_lt}
 use Rattle.std.proofs.lemmas.List.Elements.{All-cons, All-nil}
@@ -12,68 +13,46 @@ use Rattle.rds_receiver.specs.Shown.{ShownView}
 use Rattle.rds_witness.specs.Lines.{AreMixLines, mix_line, shown_line}
 use Rattle.rds_witness.specs.Lost.{got}
 use Rattle.rds_witness.specs.Mix.{AreAround, Has, IsMix, Name, NeverShows, ViewHas, Tag, Text, Thing, until}
-use Rattle.rds_witness.specs.SomeLines.{AreSomeMixLines, kind_of}
+use Rattle.rds_witness.specs.SomeLines.{AreSomeMixLines, kind_of, thing_in}
 use Rattle.rds_witness.specs.declared.burst.Burst.{Burst}
 
 -- ---- things
 
-kinds_below : (thing : Thing) → kind_of thing < 4
+-- there are four kinds
+pub kinds_below : (thing : Thing) → kind_of thing < 4
 kinds_below (Text x) = omega arith
 kinds_below (Name x) = omega arith
 kinds_below (Tag One class piece) = omega arith
 kinds_below (Tag Two class piece) = omega arith
 
-same_tag : (o : Option (ℕ × List ℕ)) (one other : ℕ × List ℕ) → o ≡ Some one → o ≡ Some other → one ≡ other
-same_tag o one other p q = cc
+-- a thing that a view has is the one of its kind
+pub in_place : (view : ShownView) (thing : Thing) → Has view thing → thing_in view (kind_of thing) ≡ Some thing
+in_place view (Text x) has = ap (option_map Text) has
+in_place view (Name x) has = ap (option_map Name) has
+in_place view (Tag One class piece) has = ap (option_map (λ (tag : ℕ × List ℕ). Tag One tag.0 tag.1)) has
+in_place view (Tag Two class piece) has = ap (option_map (λ (tag : ℕ × List ℕ). Tag Two tag.0 tag.1)) has
+
+-- the same for a kind that is given
+pub of_kind : (view : ShownView) (kind : ℕ) (thing : Thing) → kind_of thing ≡ kind → Has view thing
+    → thing_in view kind ≡ Some thing
+of_kind view kind thing is has = subst (λ (n : ℕ). thing_in view n ≡ Some thing) is (in_place view thing has)
 
 -- a view has one thing of a kind
 one_thing : (view : ShownView) (a b : Thing) → kind_of a ≡ kind_of b → Has view a → Has view b → a ≡ b
-one_thing view (Text x) (Text y) e p q = (let same : x ≡ y = cc in ap Text same)
-one_thing view (Text x) (Name y) e p q = absurd (omega (arith, e))
-one_thing view (Text x) (Tag One d y) e p q = absurd (omega (arith, e))
-one_thing view (Text x) (Tag Two d y) e p q = absurd (omega (arith, e))
-one_thing view (Name x) (Text y) e p q = absurd (omega (arith, e))
-one_thing view (Name x) (Name y) e p q = (let same : x ≡ y = cc in ap Name same)
-one_thing view (Name x) (Tag One d y) e p q = absurd (omega (arith, e))
-one_thing view (Name x) (Tag Two d y) e p q = absurd (omega (arith, e))
-one_thing view (Tag One c x) (Text y) e p q = absurd (omega (arith, e))
-one_thing view (Tag One c x) (Name y) e p q = absurd (omega (arith, e))
-one_thing view (Tag One c x) (Tag One d y) e p q = ap (λ (tag : ℕ × List ℕ). Tag One tag.0 tag.1)
-    (same_tag view.one (c, x) (d, y) p q)
-one_thing view (Tag One c x) (Tag Two d y) e p q = absurd (omega (arith, e))
-one_thing view (Tag Two c x) (Text y) e p q = absurd (omega (arith, e))
-one_thing view (Tag Two c x) (Name y) e p q = absurd (omega (arith, e))
-one_thing view (Tag Two c x) (Tag One d y) e p q = absurd (omega (arith, e))
-one_thing view (Tag Two c x) (Tag Two d y) e p q = ap (λ (tag : ℕ × List ℕ). Tag Two tag.0 tag.1)
-    (same_tag view.two (c, x) (d, y) p q)
+one_thing view a b same p q =
+    let first = of_kind view (kind_of b) a same p in
+    let second = in_place view b q in
+    cc
 
--- a view without a thing of a kind
-pub no_text : (view : ShownView) → view.text ≡ None → (thing : Thing) → kind_of thing ≡ 0 → Has view thing → ⊥
-no_text view none (Text x) kind has = absurd (cc)
-no_text view none (Name x) kind has = absurd (omega (arith, kind))
-no_text view none (Tag One c x) kind has = absurd (omega (arith, kind))
-no_text view none (Tag Two c x) kind has = absurd (omega (arith, kind))
-
--- a view without a name has no name
-pub no_name : (view : ShownView) → view.name ≡ None → (thing : Thing) → kind_of thing ≡ 1 → Has view thing → ⊥
-no_name view none (Text x) kind has = absurd (omega (arith, kind))
-no_name view none (Name x) kind has = absurd (cc)
-no_name view none (Tag One c x) kind has = absurd (omega (arith, kind))
-no_name view none (Tag Two c x) kind has = absurd (omega (arith, kind))
-
--- a view without a first tag has none
-pub no_one : (view : ShownView) → view.one ≡ None → (thing : Thing) → kind_of thing ≡ 2 → Has view thing → ⊥
-no_one view none (Text x) kind has = absurd (omega (arith, kind))
-no_one view none (Name x) kind has = absurd (omega (arith, kind))
-no_one view none (Tag One c x) kind has = absurd (cc)
-no_one view none (Tag Two c x) kind has = absurd (omega (arith, kind))
-
--- a view without a second tag has none
-pub no_two : (view : ShownView) → view.two ≡ None → (thing : Thing) → kind_of thing ≡ 3 → Has view thing → ⊥
-no_two view none (Text x) kind has = absurd (omega (arith, kind))
-no_two view none (Name x) kind has = absurd (omega (arith, kind))
-no_two view none (Tag One c x) kind has = absurd (omega (arith, kind))
-no_two view none (Tag Two c x) kind has = absurd (cc)
+-- what holds of the things of the first kinds and of the thing of the next holds of those of one kind more
+pub more_kinds : (Holds : Thing → Type 0) (view : ShownView) (kind : ℕ)
+    → ((thing : Thing) → kind_of thing < kind → Has view thing → Holds thing)
+    → ((thing : Thing) → thing_in view kind ≡ Some thing → Holds thing)
+    → (thing : Thing) → kind_of thing < kind + 1 → Has view thing → Holds thing
+more_kinds Holds view kind before next thing below has = elim (cases_lt (kind_of thing) kind) [
+  | inl older ↦ before thing older has
+  | inr newer ↦ next thing (of_kind view kind thing (omega arith) has)
+]
 
 contains_here : (xs : List Thing) (x : Thing) → Contains (x ∷ xs) x
 contains_here xs x = (0, omega arith, refl)
@@ -85,7 +64,7 @@ contains_more xs y x (k, less, is) = (suc k, omega (arith, less), is)
 
 module _ (t : Tuning) (ahead : ℕ) (log : List (Option Group)) (lost : List Burst) (words : List ℕ) (slot : ℕ) where
   -- before the first kind
-  no_lines : (lines : List ℕ) → lines ≡ [] → AreSomeMixLines 0 t ahead log lost words slot lines
+  pub no_lines : (lines : List ℕ) → lines ≡ [] → AreSomeMixLines 0 t ahead log lost words slot lines
   no_lines lines none = record {
     things = [];
     mixes = All-nil (IsMix t ahead log lost slot);
@@ -95,17 +74,14 @@ module _ (t : Tuning) (ahead : ℕ) (log : List (Option Group)) (lost : List Bur
   }
 
   -- after the last kind
-  pub all_kinds : (before after : List ℕ) → before ≡ []
-      → (AreSomeMixLines 0 t ahead log lost words slot before → AreSomeMixLines 4 t ahead log lost words slot after)
-      → AreMixLines t ahead log lost words slot after
-  all_kinds before after none adds =
-      let some = adds (no_lines before none) in
-      record {
-        things = some.things;
-        mixes = some.mixes;
-        all = λ thing is. some.all thing (kinds_below thing) is;
-        are = some.are;
-      }
+  pub all_kinds : (n : ℕ) (lines : List ℕ) → 4 ≤ n → AreSomeMixLines n t ahead log lost words slot lines
+      → AreMixLines t ahead log lost words slot lines
+  all_kinds n lines four some = record {
+    things = some.things;
+    mixes = some.mixes;
+    all = λ thing is. some.all thing (omega (arith, kinds_below thing, four)) is;
+    are = some.are;
+  }
 
   -- a slot without a mix
   pub no_mixes : ((thing : Thing) → IsMix t ahead log lost slot thing → ⊥) → AreMixLines t ahead log lost words slot []
@@ -139,10 +115,12 @@ module _ (t : Tuning) (ahead : ℕ) (log : List (Option Group)) (lost : List Bur
         before is.new.was around.was) is.new.not_shown
 
     -- the view has no thing of the kind
-    pub adds_nothing : (n : ℕ) (lines : List ℕ) → ((thing : Thing) → kind_of thing ≡ n → Has after thing → ⊥)
+    pub adds_nothing : (n : ℕ) (lines : List ℕ) → thing_in after n ≡ None
         → AreSomeMixLines n t ahead log lost words slot lines
         → AreSomeMixLines (n + 1) t ahead log lost words slot lines
-    adds_nothing n lines none = adds_none n lines (λ thing kind is. none thing kind (has_after thing is))
+    adds_nothing n lines none = adds_none n lines (λ thing kind is.
+        let there = of_kind after n thing kind (has_after thing is) in
+        absurd (cc))
 
     -- the thing of the kind is no mix
     pub adds_no_mix : (thing : Thing) (lines : List ℕ) → Has after thing

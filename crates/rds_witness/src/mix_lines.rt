@@ -11,7 +11,7 @@ ghost use Rattle.rds_witness.specs.SomeLines.{kind_of};
 use crate::burst::Burst;
 use crate::candidate::Candidate;
 use crate::checking::{is_never_shown, receiver_before, slots_until};
-use crate::thing::{Thing, shows};
+use crate::thing::{KINDS, Thing, shows};
 use rds_block::Blocks;
 use rds_fields::{Dwell, Which};
 use rds_io::Lines;
@@ -170,72 +170,9 @@ pub(crate) fn push_mixes_of(
     requires none { lines.old ≡ [] }
     ensures { AreItsMixLines candidate.now lines.new }
 {
-    push_text(candidate, before, after, lines);
-    push_name(candidate, before, after, lines);
-    push_one(candidate, before, after, lines);
-    push_two(candidate, before, after, lines);
-}
-
-/// Appends the line of the text, if it is a mix.
-fn push_text(candidate: &Candidate<'_>, before: View<'_>, after: View<'_>, lines: &mut Lines<ROOM>)
-    requires around { AreAroundIt candidate.now (view_of before) (view_of after) }
-    requires words { length candidate.now.words.now ≤ 54 }
-    requires room { length lines.old + 364 ≤ 2048 }
-    ensures mixes { AddsKindOfIt 0 candidate.now lines.old lines.new }
-    ensures room { length lines.new ≤ length lines.old + 364 }
-{
-    if let Some(text) = after.text {
-        push_if_mix(candidate, before, after, Thing::Text(text), lines);
-    }
-}
-
-/// Appends the line of the name, if it is a mix.
-fn push_name(candidate: &Candidate<'_>, before: View<'_>, after: View<'_>, lines: &mut Lines<ROOM>)
-    requires around { AreAroundIt candidate.now (view_of before) (view_of after) }
-    requires words { length candidate.now.words.now ≤ 54 }
-    requires room { length lines.old + 364 ≤ 2048 }
-    ensures mixes { AddsKindOfIt 1 candidate.now lines.old lines.new }
-    ensures room { length lines.new ≤ length lines.old + 364 }
-{
-    if let Some(name) = after.name {
-        push_if_mix(candidate, before, after, Thing::Name(name), lines);
-    }
-}
-
-/// Appends the line of the first tag, if it is a mix.
-fn push_one(candidate: &Candidate<'_>, before: View<'_>, after: View<'_>, lines: &mut Lines<ROOM>)
-    requires around { AreAroundIt candidate.now (view_of before) (view_of after) }
-    requires words { length candidate.now.words.now ≤ 54 }
-    requires room { length lines.old + 364 ≤ 2048 }
-    ensures mixes { AddsKindOfIt 2 candidate.now lines.old lines.new }
-    ensures room { length lines.new ≤ length lines.old + 364 }
-{
-    if let Some((class, piece)) = after.one {
-        push_if_mix(
-            candidate,
-            before,
-            after,
-            Thing::Tag(Which::One, class, piece),
-            lines,
-        );
-    }
-}
-
-/// Appends the line of the second tag, if it is a mix.
-fn push_two(candidate: &Candidate<'_>, before: View<'_>, after: View<'_>, lines: &mut Lines<ROOM>)
-    requires around { AreAroundIt candidate.now (view_of before) (view_of after) }
-    requires words { length candidate.now.words.now ≤ 54 }
-    requires room { length lines.old + 364 ≤ 2048 }
-    ensures mixes { AddsKindOfIt 3 candidate.now lines.old lines.new }
-    ensures room { length lines.new ≤ length lines.old + 364 }
-{
-    if let Some((class, piece)) = after.two {
-        push_if_mix(
-            candidate,
-            before,
-            after,
-            Thing::Tag(Which::Two, class, piece),
-            lines,
-        );
+    for kind in 0..KINDS {
+        if let Some(thing) = Thing::of_kind(after, kind) {
+            push_if_mix(candidate, before, after, thing, lines);
+        }
     }
 }

@@ -1,6 +1,7 @@
 //! The parts that a receiver without a loss shows, and the first slot of each.
-ghost use Rattle.std.specs.Prelude.{◌≡◌, ◌+◌, ◌<◌, [], All, Bool, IfOk, IsTrue, List, OnOk, Option, Some, ℕ, length};
-ghost use Rattle.std.specs.Prelude.{slice_index_or, true};
+ghost use Rattle.std.specs.Prelude.{◌≡◌, ◌+◌, ◌<◌, [], All, Bool, IfOk, IfSome, IsTrue, List, OnOk, Option, Some, ℕ};
+ghost use Rattle.std.specs.Prelude.{length, slice_index_or, true};
+ghost use Rattle.std.specs.List.{Contains};
 ghost use Rattle.std.specs.Option.{option_copied};
 ghost use Rattle.rds_block.specs.declared.group.Group.{Group};
 ghost use Rattle.rds_fields.specs.declared.pair.Which.{Which};
@@ -23,7 +24,7 @@ ghost use Rattle.rds_witness.specs.Search.{AreSeen, IsChecked, IsKnown, IsOfRun,
 
 use crate::burst::received;
 use crate::covering::Lossy;
-use crate::thing::{Thing, is_text, shows};
+use crate::thing::{KINDS, Thing, is_text, shows};
 use rds_block::Blocks;
 use rds_fields::{Dwell, Tag, TagPair, Which};
 use rds_receiver::{Receiver, StoredReceiver, View};
@@ -85,6 +86,15 @@ fn hash_of(kind: u8, bytes: &[u8]) -> u64 {
         hash = (hash ^ u64::from(*byte)).wrapping_mul(PRIME);
     }
     hash
+}
+
+/// Returns the hash of a thing. It is the same for a tag in either place.
+fn hash_of_thing(thing: Thing<'_>) -> u64 {
+    match thing {
+        Thing::Text(text) => hash_of(TEXT_KIND, text),
+        Thing::Name(name) => hash_of(NAME_KIND, name),
+        Thing::Tag(_, class, piece) => hash_of(class, piece),
+    }
 }
 
 /// Returns whether the tag makes this piece of the text.
@@ -287,56 +297,28 @@ impl AllSeen {
         Ok(true)
     }
 
+    /// Returns the slot in which a receiver that loses nothing shows the part first, and the receiver, if that is one
+    /// of the first slots. If two parts have one hash, the answer may be `None` for one that is shown.
+    fn seen_before(&self, slots: usize, thing: Thing<'_>) -> Option<&Seen>
+        ensures { IfSome result (λ seen. (seen.now.slot < slots) × Contains self.now.seen.items seen.now) }
+    {
+        let place = *self.places.get(&hash_of_thing(thing))?;
+        if place >= self.seen.len() {
+            return None;
+        }
+        let seen = seen_at(self.seen.as_slice(), place);
+        if seen.slot < slots { Some(seen) } else { None }
+    }
+
     /// Returns whether a receiver that loses nothing shows the part in one of the first slots, or a text of which a
     /// pair of its run makes the tag.
-    fn has(&self, slots: usize, thing: Thing<'_>, hash: u64) -> bool
+    fn has(&self, slots: usize, thing: Thing<'_>) -> bool
         ensures { IsTrue result → (t : Tuning) (log : List (Option Group)) → AreSeen t log self.now
             → IsSeenBefore t log slots (thing_of thing.entry) }
     {
-        let Some(place) = self.places.get(&hash) else {
-            return false;
-        };
-        if *place >= self.seen.len() {
-            return false;
-        }
-        let seen = seen_at(self.seen.as_slice(), *place);
-        seen.slot < slots && seen.has(thing)
-    }
-
-    fn has_text(&self, slots: usize, text: Option<&[u8]>) -> bool
-        ensures { IsTrue result → (t : Tuning) (log : List (Option Group)) → AreSeen t log self.now
-            → (x : List ℕ) → option_copied text.entry ≡ Some x → IsSeenBefore t log slots (mix.Text x) }
-    {
-        match text {
-            Some(text) => self.has(slots, Thing::Text(text), hash_of(TEXT_KIND, text)),
-            None => true,
-        }
-    }
-
-    fn has_name(&self, slots: usize, name: Option<&[u8]>) -> bool
-        ensures { IsTrue result → (t : Tuning) (log : List (Option Group)) → AreSeen t log self.now
-            → (x : List ℕ) → option_copied name.entry ≡ Some x → IsSeenBefore t log slots (mix.Name x) }
-    {
-        match name {
-            Some(name) => self.has(slots, Thing::Name(name), hash_of(NAME_KIND, name)),
-            None => true,
-        }
-    }
-
-    fn has_tag(&self, slots: usize, tag: Option<(u8, &[u8])>) -> bool
-        ensures { IsTrue result → (t : Tuning) (log : List (Option Group)) → AreSeen t log self.now
-            → (which : Which) (class : ℕ) (piece : List ℕ) → borrowed_tag tag.entry ≡ Some (class, piece)
-            → IsSeenBefore t log slots (mix.Tag which class piece) }
-    {
-        match tag {
-            Some((class, piece)) => {
-                self.has(
-                    slots,
-                    Thing::Tag(Which::One, class, piece),
-                    hash_of(class, piece),
-                )
-            }
-            None => true,
+        match self.seen_before(slots, thing) {
+            Some(seen) => seen.has(thing),
+            None => false,
         }
     }
 
@@ -351,13 +333,14 @@ impl AllSeen {
             return true;
         }
         let view = one.receiver.view();
-        if !self.has_text(slots, view.text) {
-            return false;
+        for kind in 0..KINDS {
+            if let Some(thing) = Thing::of_kind(view, kind) {
+                if !self.has(slots, thing) {
+                    return false;
+                }
+            }
         }
-        if !self.has_name(slots, view.name) {
-            return false;
-        }
-        self.has_tag(slots, view.one) && self.has_tag(slots, view.two)
+        true
     }
 
     /// Returns whether the view before shows each part of a view, or a receiver that loses nothing is known to show it
@@ -367,80 +350,28 @@ impl AllSeen {
             → (thing : mix.Thing) → mix.Has (view_of after.entry) thing
             → IsKnown t log slots (view_of before.entry) thing }
     {
-        if !self.knows_text(slots, before, after.text) {
-            return false;
-        }
-        if !self.knows_name(slots, before, after.name) {
-            return false;
-        }
-        if !self.knows_tag(slots, before, Which::One, after.one) {
-            return false;
-        }
-        self.knows_tag(slots, before, Which::Two, after.two)
-    }
-
-    fn knows_text(&self, slots: usize, before: View<'_>, text: Option<&[u8]>) -> bool
-        ensures { IsTrue result → (t : Tuning) (log : List (Option Group)) → AreSeen t log self.now
-            → (x : List ℕ) → option_copied text.entry ≡ Some x
-            → IsKnown t log slots (view_of before.entry) (mix.Text x) }
-    {
-        match text {
-            Some(text) => self.knows(slots, before, Thing::Text(text), hash_of(TEXT_KIND, text)),
-            None => true,
-        }
-    }
-
-    fn knows_name(&self, slots: usize, before: View<'_>, name: Option<&[u8]>) -> bool
-        ensures { IsTrue result → (t : Tuning) (log : List (Option Group)) → AreSeen t log self.now
-            → (x : List ℕ) → option_copied name.entry ≡ Some x
-            → IsKnown t log slots (view_of before.entry) (mix.Name x) }
-    {
-        match name {
-            Some(name) => self.knows(slots, before, Thing::Name(name), hash_of(NAME_KIND, name)),
-            None => true,
-        }
-    }
-
-    fn knows_tag(
-        &self,
-        slots: usize,
-        before: View<'_>,
-        which: Which,
-        tag: Option<(u8, &[u8])>,
-    ) -> bool
-        ensures { IsTrue result → (t : Tuning) (log : List (Option Group)) → AreSeen t log self.now
-            → (class : ℕ) (piece : List ℕ) → borrowed_tag tag.entry ≡ Some (class, piece)
-            → IsKnown t log slots (view_of before.entry) (mix.Tag which class piece) }
-    {
-        match tag {
-            Some((class, piece)) => {
-                self.knows(
-                    slots,
-                    before,
-                    Thing::Tag(which, class, piece),
-                    hash_of(class, piece),
-                )
+        for kind in 0..KINDS {
+            if let Some(thing) = Thing::of_kind(after, kind) {
+                if !self.knows(slots, before, thing) {
+                    return false;
+                }
             }
-            None => true,
         }
+        true
     }
 
     /// Returns whether the view before shows the part, or a receiver that loses nothing is known to show it in one of
-    /// the first slots. If two parts have one hash, the answer may be false for one that is shown.
-    fn knows(&self, slots: usize, before: View<'_>, thing: Thing<'_>, hash: u64) -> bool
+    /// the first slots.
+    fn knows(&self, slots: usize, before: View<'_>, thing: Thing<'_>) -> bool
         ensures { IsTrue result → (t : Tuning) (log : List (Option Group)) → AreSeen t log self.now
             → IsKnown t log slots (view_of before.entry) (thing_of thing.entry) }
     {
         if shows(before, thing) {
             return true;
         }
-        let Some(place) = self.places.get(&hash) else {
-            return false;
-        };
-        if *place >= self.seen.len() {
-            return false;
+        match self.seen_before(slots, thing) {
+            Some(seen) => shows(seen.receiver.view(), thing),
+            None => false,
         }
-        let seen = seen_at(self.seen.as_slice(), *place);
-        seen.slot < slots && shows(seen.receiver.view(), thing)
     }
 }

@@ -1,9 +1,10 @@
 //! The things that a view shows.
-ghost use Rattle.std.specs.Prelude.{◌≡◌, ◌↔◌, IsTrue, Some};
+ghost use Rattle.std.specs.Prelude.{◌≡◌, ◌↔◌, ◌<◌, IfSome, IsTrue, Some, option_map};
 ghost use Rattle.std.specs.Option.{option_copied};
 ghost use Rattle.rds_receiver.specs.Borrowed.{borrowed_tag, view_of};
-ghost use Rattle.rds_witness.specs.Borrowed.{thing_of};
-ghost use Rattle.rds_witness.specs.Mix.{ViewHas};
+ghost use Rattle.rds_witness.specs.Borrowed.{IsShortThing, thing_of};
+ghost use Rattle.rds_witness.specs.Mix.{Has, ViewHas};
+ghost use Rattle.rds_witness.specs.SomeLines.{kind_of, thing_in};
 
 use rds_fields::Which;
 use rds_receiver::View;
@@ -15,6 +16,33 @@ pub(crate) enum Thing<'a> {
     Name(&'a [u8]),
     /// One of the two tags: its content type, and its piece of the text.
     Tag(Which, u8, &'a [u8]),
+}
+
+/// The number of kinds of things: a text, a name, a first tag, a second tag.
+pub(crate) const KINDS: usize = 4;
+
+impl<'a> Thing<'a> {
+    /// Returns the thing of this kind in a view: of kind 0 is its text, of 1 its name, of 2 and 3 are its tags.
+    pub(crate) fn of_kind(view: View<'a>, kind: usize) -> Option<Thing<'a>>
+        requires { kind < 4 }
+        ensures is { option_map thing_of result ≡ thing_in (view_of view.entry) kind }
+        ensures has { IfSome result (λ thing. Has (view_of view.entry) (thing_of thing)) }
+        ensures kind { IfSome result (λ thing. kind_of (thing_of thing) ≡ kind) }
+        ensures short { IfSome result IsShortThing }
+    {
+        match kind {
+            0 => Some(Thing::Text(view.text?)),
+            1 => Some(Thing::Name(view.name?)),
+            2 => {
+                let (class, piece) = view.one?;
+                Some(Thing::Tag(Which::One, class, piece))
+            }
+            _ => {
+                let (class, piece) = view.two?;
+                Some(Thing::Tag(Which::Two, class, piece))
+            }
+        }
+    }
 }
 
 /// Returns whether a view shows the thing. A tag may be in either place.

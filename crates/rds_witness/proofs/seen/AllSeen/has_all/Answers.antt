@@ -1,18 +1,35 @@
-use Rattle.rds_fields.specs.declared.pair.Which.TheVariants.{One, Two}
+use Rattle.std.proofs.Common.{◌≡◌, Some, ap, arith, subst}
+use Rattle.std.specs.Prelude.{option_map}
 use Rattle.rds_receiver.specs.Borrowed.{view_of}
-use Rattle.rds_witness.specs.Mix.{Has, Name, Tag, Text, Thing}
+use Rattle.rds_witness.specs.Borrowed.{thing_of}
+use Rattle.rds_witness.specs.Mix.{Thing}
 use Rattle.rds_witness.specs.Search.{IsSeenBefore}
+use Rattle.rds_witness.specs.SomeLines.{thing_in}
+use Rattle.rds_witness.proofs.Mixes.{kinds_below, more_kinds}
 use Rattle.rds_witness.proofs.seen.AllSeen.has_all.Goals as goal
+use Rattle.rds_witness.proofs.seen.AllSeen.has_all.Goals.{in-Some+else-not-has, in_default}
 
-pub returns-then-has_tag : goal.returns-then-has_tag
-returns-then-has_tag c holds stored t log all checked input stands = record {
+pub loop-kind-preserved : goal.loop-kind-preserved
+loop-kind-preserved c t log all = more_kinds (IsSeenBefore t log c.args.slots) (view_of c.view-view.result) c.loop-kind.kind
+    (c.loop-kind.invariant t log all) next
+  where
+    next : (thing : Thing) → thing_in (view_of c.view-view.result) c.loop-kind.kind ≡ Some thing → IsSeenBefore t log c.args.slots thing
+    next thing is = elim c.match-of_kind.branch [
+      | in-Some+else-not-has w ↦
+          let mapped = c.of_kind.ensures.is in
+          let given = ap (option_map thing_of) w.in-Some.is in
+          let same : thing_of w.in-Some.thing ≡ thing = cc in
+          subst (IsSeenBefore t log c.args.slots) same (w.has.ensures w.if-not-has.false t log all)
+      | in_default w ↦
+          let mapped = c.of_kind.ensures.is in
+          let given = ap (option_map thing_of) w.in_default.is in
+          absurd (cc)
+    ]
+
+pub returns : goal.returns
+returns c holds stored t log all checked input stands = record {
   view = view_of c.view-view.result;
   is = c.view-view.ensures stored t input stands;
-  seen = seen;
+  seen = λ thing has. c.loop-kind.invariant t log all thing (omega (arith, kinds_below thing, c.loop-kind-test.false))
+      has;
 }
-  where
-    seen : (thing : Thing) → Has (view_of c.view-view.result) thing → IsSeenBefore t log c.args.slots thing
-    seen (Text x) has = c.has_text.ensures c.if-not-has_text.false t log all x has
-    seen (Name x) has = c.has_name.ensures c.if-not-has_name.false t log all x has
-    seen (Tag One class piece) has = c.has_tag.ensures c.if-has_tag.true t log all One class piece has
-    seen (Tag Two class piece) has = c.has_tag-then-has_tag.ensures holds t log all Two class piece has
