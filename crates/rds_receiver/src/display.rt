@@ -1,7 +1,7 @@
 //! The display of a receiver, as plain numbers: all that it holds of the messages that count.
-ghost use Rattle.std.specs.Prelude.{◌≡◌, ◌+◌, ◌-◌, ◌<◌, ℕ, IsFalse, List, Option, length};
+ghost use Rattle.std.specs.Prelude.{◌≡◌, ◌≢◌, ◌+◌, ◌-◌, ◌<◌, ℕ, IsFalse, List, None, Option, length};
 ghost use Rattle.rds_fields.specs.declared.message.Message.{Message};
-ghost use Rattle.rds_fields.specs.Stored.{is_set, pair_stored};
+ghost use Rattle.rds_fields.specs.Stored.{IsStoredPair, is_set, pair_stored};
 ghost use Rattle.rds_receiver.specs.Older.{IsOlder};
 ghost use Rattle.rds_receiver.specs.Holds.{HearsMore, HoldsAt, ShowsAlike, newest_slot};
 ghost use Rattle.rds_receiver.specs.Receipts.{text_of};
@@ -76,8 +76,20 @@ impl StoredDisplay {
         self.text.later = self.text.later.saturating_sub(rest);
         self.name.later = self.name.later.saturating_sub(rest);
         self.rest = rest;
+        let pair = self.drop_pair();
+        text | name | pair
+    }
+
+    /// Drops the pair of tags if no segment of a text is held. If it returns false, the pair stays as it is.
+    fn drop_pair(&mut self) -> bool
+        ensures rest { self.new ≡ record self.old { pair = self.new.pair } }
+        ensures held { self.old.text.mask ≢ 0 → self.new.pair ≡ self.old.pair }
+        ensures dropped { self.old.text.mask ≡ 0 → pair_stored self.new.pair ≡ None }
+        ensures same { IsFalse result → self.new.pair ≡ self.old.pair }
+        ensures good { IsStoredPair self.old.pair → IsStoredPair self.new.pair }
+    {
         if self.text.is_held() || self.pair.is_there == 0 {
-            return text || name;
+            return false;
         }
         self.pair = StoredPair::none();
         true

@@ -43,7 +43,7 @@ impl StoredReceiver {
     {
         let aged = self.display.grow_older();
         let is_new = self.hear(group);
-        is_new || aged
+        is_new | aged
     }
 
     /// Handles the group of a slot after the display aged. If it returns false, all that is shown stays the same.
