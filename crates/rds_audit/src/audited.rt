@@ -1,7 +1,7 @@
 //! The services that are audited: what a segment leaves of the lengths that a value can have.
 ghost use Rattle.std.specs.Prelude.{◌≡◌, ◌+◌, ◌*◌, ℕ, Bool, ◌<◌, ◌≤◌, ◌↔◌, IsTrue, EachIndex, Option, map, slice_index};
 ghost use Rattle.rds_audit.specs.Lengths.{Gauge, IsExact, allows, all_allow, greatest_below};
-ghost use Rattle.rds_audit.specs.Lengths.{limit_at, measured_by, name_lengths, text_lengths};
+ghost use Rattle.rds_audit.specs.Lengths.{limit_at, measured_by, measured_up_to, name_lengths, text_lengths};
 ghost use Rattle.rds_audit.specs.Stored.{cell_stored, content_stored};
 
 use crate::stored::{StoredCell, StoredReigns};
@@ -123,16 +123,7 @@ impl Audited for PaddedTexts {
         let limit = limit_at(address, held, bytes).min(reigns.most.saturating_add(1));
         let mut cells = reigns.cells;
         cells[address as usize] = StoredCell { bytes, is_sent: 1 };
-        match greatest_below(limit, &cells) {
-            Some(most) => Measured {
-                lengths: Lengths { least: 0, most },
-                fits: true,
-            },
-            None => Measured {
-                lengths: before,
-                fits: false,
-            },
-        }
+        measured_up_to(greatest_below(limit, &cells), before)
     }
 
     fn exact() {}
@@ -167,6 +158,22 @@ impl Audited for Names {
     }
 
     fn exact() {}
+}
+
+/// Returns the lengths up to the greatest one, or those before if there is none: then the segment does not fit.
+fn measured_up_to(greatest: Option<u8>, before: Lengths) -> Measured
+    ensures { result ≡ measured_up_to greatest before }
+{
+    match greatest {
+        Some(most) => Measured {
+            lengths: Lengths { least: 0, most },
+            fits: true,
+        },
+        None => Measured {
+            lengths: before,
+            fits: false,
+        },
+    }
 }
 
 /// Returns the lengths of a text that has the segment. `None` if no text has it.
