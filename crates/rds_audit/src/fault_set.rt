@@ -6,8 +6,17 @@ ghost use Rattle.rds_audit.specs.Stored.{AreBits, faults_stored};
 use crate::AuditFault;
 use crate::stored::StoredFaults;
 
+/// The faults in the order of a list.
+pub const FAULTS: [AuditFault; 5] = [
+    AuditFault::Changed,
+    AuditFault::EarlyFlag,
+    AuditFault::NotOneText,
+    AuditFault::EarlyTag,
+    AuditFault::TagOutside,
+];
+
 /// The faults that a slot adds to the list of a log, or those of a text or a name so far (this project's own rules). In
-/// a list they stand in the order of these fields.
+/// a list they stand in the order of [`FAULTS`].
 #[derive(Clone, Copy, Debug, Default, PartialEq, Eq)]
 pub struct FaultSet {
     pub changed: bool,

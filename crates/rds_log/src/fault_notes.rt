@@ -4,7 +4,7 @@ use crate::line_time::LineTime;
 use crate::log_line::LogLine;
 use crate::notes::{harmless_in, is_name};
 use crate::source::Source;
-use rds_audit::{Audit, AuditFault, FaultSet};
+use rds_audit::{Audit, AuditFault, FAULTS, FaultSet};
 
 /// Where a fault stands in a log (this project's own rule).
 #[derive(Clone, Copy, Debug, PartialEq, Eq)]
@@ -98,14 +98,7 @@ impl FaultCounts {
 
     /// Counts the faults of a slot, and which of them may be harmless.
     fn add(&mut self, found: FaultSet, harmless: FaultSet, place: FaultPlace) {
-        let faults = [
-            AuditFault::Changed,
-            AuditFault::EarlyFlag,
-            AuditFault::NotOneText,
-            AuditFault::EarlyTag,
-            AuditFault::TagOutside,
-        ];
-        for (count, fault) in self.counts.iter_mut().zip(faults) {
+        for (count, fault) in self.counts.iter_mut().zip(FAULTS) {
             if found.has(fault) {
                 *count = Some(one_more(*count, fault, harmless.has(fault), place));
             }
