@@ -119,12 +119,11 @@ pub(crate) fn run<T: TakesLines, R: TellingRead, W: TellingWrite, N: News>(
             }
         };
         notes.line(said, &source, !wants, news);
-        if !wants {
+        if !wants || !source.has_line() || !output.has_room(T::ROOM) {
             output.write(writer)?;
-            return Ok(());
-        }
-        if !source.has_line() || !output.has_room(T::ROOM) {
-            output.write(writer)?;
+            if !wants {
+                return Ok(());
+            }
             taker.tell(news);
         }
     }

@@ -104,8 +104,8 @@ returns-in_err-write-clause-runs g c how starts =
     has.total (g.met.T.TakesLines.begun how c.line.new.self (line ∷ lines)) has.took has.waits waits
     (c.in_err-write.ensures.waits _ has.total has.waits)))
 
-pub returns-then-not-wants-clause-runs : goal.returns-then-not-wants-clause-runs
-returns-then-not-wants-clause-runs g c how starts =
+pub returns-then-not-wants-2-clause-runs : goal.returns-then-not-wants-2-clause-runs
+returns-then-not-wants-2-clause-runs g c how starts =
     let (lines, stands, taken) = c.loop-taker.invariant.stands in
     let (line, says, further, first) = rw c.in-Ok-true.field-0-test at (c.in-Ok-true.ensures.gives _ _ lines stands) in
     let has = c.in_ok-wants-in-Ok-true.ensures.takes how _ lines line says first (taken how starts) in
@@ -117,25 +117,8 @@ returns-then-not-wants-clause-runs g c how starts =
           c.write-then-not-wants.new.self (line ∷ lines) further
           record { total = has.total; took = has.took; waits = c.in_ok-write.ensures.waits _ has.total has.waits }
           c.in_ok-write.ensures.empty,
-      c.in_ok-wants-in-Ok-true.ensures.wants.0 c.if-not-wants.true,
+      c.in_ok-wants-in-Ok-true.ensures.wants.0 c.if-not-wants-2.true,
     )
-
-pub returns-in_err-write-2-clause-runs : goal.returns-in_err-write-2-clause-runs
-returns-in_err-write-2-clause-runs g c how starts =
-    let (lines, stands, taken) = c.loop-taker.invariant.stands in
-    let (line, says, further, first) = rw c.in-Ok-true.field-0-test at (c.in-Ok-true.ensures.gives _ _ lines stands) in
-    let has = c.in_ok-wants-in-Ok-true.ensures.takes how _ lines line says first (taken how starts) in
-    let waits : c.line.new.output ≢ [] = λ e. (let fine = c.in_err-write-2.ensures.nothing e in cc) in
-    let p = err_from_is_err_and c.from_residual-in_err-write-2.result c.from_residual-in_err-write-2.ensures.1 in
-    rw (p.1, p.2) (ends_by_write (g.T.TakesLines.gives how) (g.T.TakesLines.begins how) c.next.new.self c.args.reads
-    (state_of g.R.Read.remaining g.R.TellingRead.failures g.R.TellingRead.reads c.args.reader.now)
-    (state_of g.R.Read.remaining g.R.TellingRead.failures g.R.TellingRead.reads c.next.new.reader)
-    (traffic g.W.Write.contents g.W.TellingWrite.failures c.args.writer.now c.write-then-not-has_line.new.writer)
-    (line ∷ lines) further
-    (wrote_part (g.T.TakesLines.begins how) (g.T.TakesLines.took how c.line.new.self) (line ∷ lines) _ _
-    c.line.new.output
-    has.total (g.met.T.TakesLines.begun how c.line.new.self (line ∷ lines)) has.took has.waits waits
-    (c.in_err-write-2.ensures.waits _ has.total has.waits)))
 
 pub loop-taker-preserved : goal.loop-taker-preserved
 loop-taker-preserved g c =
@@ -163,19 +146,19 @@ loop-taker-preserved-in-loop-taker g c =
     let less = c.in-Ok-true.ensures.budget c.in-Ok-true.field-0-test in
     let before = c.loop-taker.invariant.few in
     let counted = c.in_ok-wants-in-Ok-true.ensures.few in
-    let none : length c.write-then-not-has_line.new.self ≡ 0 = rw c.in_ok-write-2.ensures.empty refl in
+    let none : length c.write-then-not-wants.new.self ≡ 0 = rw c.in_ok-write.ensures.empty refl in
     let fits = g.met.T.TakesLines.fits in
     record {
       room = omega (arith, none, fits);
-      empty = λ _. c.in_ok-write-2.ensures.empty;
+      empty = λ _. c.in_ok-write.ensures.empty;
       few = omega (arith, before, less, counted);
-      wants = λ done. (let no = c.in_ok-wants-in-Ok-true.ensures.wants.1 done in let yes = c.if-not-wants.false in cc);
+      wants = λ done. (let no = c.in_ok-wants-in-Ok-true.ensures.wants.1 done in let yes = c.if-not-wants-2.false in cc);
       stands = (
         line ∷ lines,
         further,
         λ how starts. (
             let has = c.in_ok-wants-in-Ok-true.ensures.takes how _ lines line says first (taken how starts) in
-            record { total = has.total; took = has.took; waits = c.in_ok-write-2.ensures.waits _ has.total has.waits }
+            record { total = has.total; took = has.took; waits = c.in_ok-write.ensures.waits _ has.total has.waits }
             ),
       );
     }
