@@ -1,15 +1,16 @@
 -- Lemmas: what a slot adds to the list of a log, and how the state of the list changes with the log.
 use Rattle.std.specs.Prelude.{Err, MatchResult, Ok, Result}
 use Rattle.std.proofs.Common.{◌≡◌, ◌⊎◌, ◌↔◌, ◌+◌, ◌<◌, ◌||◌, ℕ, Bool, true, false, nat_lt, List, [], ◌∷◌, Option, Some}
-use Rattle.std.proofs.Common.{None, refl, sym, ap, ◌∙◌, subst, inl, inr, arith}
+use Rattle.std.proofs.Common.{None, refl, sym, ap, ◌∙◌, subst, inl, inr, arith, zero, suc, ◌==◌}
+use Rattle.std.specs.Prelude.{if◌then◌else◌, slice_index}
 use Rattle.std.specs.Prelude.{MatchOption}
 use Rattle.std.proofs.lemmas.Bool.{cond_both}
 use Rattle.rds_block.specs.declared.group.Group.{Group}
 use Rattle.rds_fields.specs.declared.message.Message.{Message}
 use Rattle.rds_fields.specs.declared.message.Message.TheVariants.{Text, Name, Announce, Tags, Other}
 use Rattle.rds_fields.specs.Tag.{PairFields}
-use Rattle.rds_receiver.specs.OneView.{same_heard_in}
-use Rattle.rds_receiver.specs.Receipts.{Hears}
+use Rattle.rds_fields.specs.Meaning.{bytes_in, message_in}
+use Rattle.rds_receiver.specs.Receipts.{heard_in, heard_of}
 use Rattle.rds_receiver.specs.declared.fragment.Fragment.{Fragment}
 use Rattle.rds_receiver.specs.Run.{is_same}
 use Rattle.rds_safety.specs.Lawful.{names}
@@ -106,18 +107,38 @@ passing_adds form d newest before passes =
     (sym (adds_none (gauge_of form) (gauge_is_exact form) d (text_mark newest) (marks text_mark before) passes.text))
 
 -- the messages that are heard have the form that is sent
-formed_heard : (pi : ℕ) (slot : Option Group) (message : Option Message) → Hears pi slot message
-    → IsFormedMessage message
-formed_heard pi slot None h = record { text = tt; name = tt }
-formed_heard pi None (Some m) h = absurd (cc)
-formed_heard pi (Some g) (Some m) (inr (other, none)) = absurd (cc)
-formed_heard pi (Some g) (Some (Text f a b)) (inl (same, s)) = record
-    { text = record { address = s.address; four = s.bytes.four; fits = s.bytes.fits }; name = tt }
-formed_heard pi (Some g) (Some (Name f a b)) (inl (same, (between, s))) = record
-    { text = tt; name = record { address = s.address; four = s.bytes.four; fits = s.bytes.fits } }
-formed_heard pi (Some g) (Some (Announce code bits aid)) (inl s) = record { text = tt; name = tt }
-formed_heard pi (Some g) (Some (Tags pair)) (inl s) = record { text = tt; name = tt }
-formed_heard pi (Some g) (Some Other) (inl s) = record { text = tt; name = tt }
+formed_if : (b : Bool) (x y : Option Message) → IsFormedMessage x → IsFormedMessage y
+    → IsFormedMessage (if b then x else y)
+formed_if true x y p q = p
+formed_if false x y p q = q
+
+formed_some : (b : Bool) (x y : Message) → IsFormedMessage (Some x) → IsFormedMessage (Some y)
+    → IsFormedMessage (Some (if b then x else y))
+formed_some true x y p q = p
+formed_some false x y p q = q
+
+bytes_fit : (c d k : ℕ) → slice_index (bytes_in c d) k < 256
+bytes_fit c d zero = omega arith
+bytes_fit c d (suc zero) = omega arith
+bytes_fit c d (suc (suc zero)) = omega arith
+bytes_fit c d (suc (suc (suc zero))) = omega arith
+bytes_fit c d (suc (suc (suc (suc k)))) = omega arith
+
+formed_in : (g : Group) → IsFormedMessage (Some (message_in g))
+formed_in g =
+    let bytes = bytes_fit g.c g.d in
+    let other : IsFormedMessage (Some Other) = record { text = tt; name = tt } in
+    formed_some g.version _ _ other
+    (formed_some (g.number == 2) _ _
+    (record { text = record { address = omega arith; four = refl; fits = bytes }; name = tt })
+    (formed_some (g.number == 10) _ _
+    (record { text = tt; name = record { address = omega arith; four = refl; fits = bytes } })
+    (formed_some (g.number == 3) _ _ (record { text = tt; name = tt })
+    (formed_some (g.number == 11) _ _ (record { text = tt; name = tt }) other))))
+
+formed_heard : (pi : ℕ) (slot : Option Group) → IsFormedMessage (heard_in pi slot)
+formed_heard pi None = record { text = tt; name = tt }
+formed_heard pi (Some g) = formed_if (g.pi == pi) _ _ (formed_in g) record { text = tt; name = tt }
 
 formed_counted : (start : LogStart) (judged : List (Option Message)) (message : Option Message)
     → IsFormedMessage message → IsFormedMessage (counted_as start judged message)
@@ -367,9 +388,9 @@ slot_listed d newest judged l after pos form text name h = record {
 -- ---- the audit of a log
 
 -- an audit goes on with a slot
-abbrev pub HearsNext : ℕ → AuditState → AuditState → Option Group → Option Message → Type 0
-HearsNext pi a after slot message = Hears pi slot message × (after.programme ≡ a.programme)
-    × (after.distance ≡ a.distance) × (after.start ≡ a.start)
+abbrev pub HearsNext : AuditState → AuditState → Type 0
+HearsNext a after =
+    (after.programme ≡ a.programme) × (after.distance ≡ a.distance) × (after.start ≡ a.start)
 
 -- what is judged with one more slot
 next_judged : (begins start : LogStart) (d : ℕ) (message : Option Message) (heard : List (Option Message))
@@ -379,17 +400,17 @@ next_judged : (begins start : LogStart) (d : ℕ) (message : Option Message) (he
 next_judged begins start d message heard same = ap (λ st. judged_as st d (message ∷ heard)) same ∙ judged_step begins d
     message heard
 
-goes_on : (pi d : ℕ) (a after : AuditState) (log : List (Option Group)) (s : AuditAt pi d a log) (slot : Option Group)
-    (message : Option Message) → HearsNext pi a after slot message
-    → HasJudged d after (counted_as a.start (judged_as a.start d s.heard) message ∷ judged_as a.start d s.heard)
+goes_on : (pi d : ℕ) (a after : AuditState) (log : List (Option Group)) → AuditAt pi d a log → (slot : Option Group)
+    → HearsNext a after
+    → HasJudged d after (counted_as a.start (judged_as a.start d (heard_of pi log)) (heard_in pi slot)
+    ∷ judged_as a.start d (heard_of pi log))
     → AuditAt pi d after (slot ∷ log)
-goes_on pi d a after log s slot message (hears, programme, distance, start) has = record {
+goes_on pi d a after log s slot (programme, distance, start) has = record {
   programme = programme ∙ s.programme;
   distance = distance ∙ s.distance;
   lasts = s.lasts;
-  heard = message ∷ s.heard;
-  are = (hears, s.are);
-  holds = subst (HasJudged d after) (sym (next_judged a.start after.start d message s.heard start)) has;
+  holds = subst (HasJudged d after)
+      (sym (next_judged a.start after.start d (heard_in pi slot) (heard_of pi log) start)) has;
 }
 
 -- the audit took a slot, whatever its fault
@@ -399,60 +420,51 @@ module _ (a next : AuditState) (slot : Option Group) (found : FaultSet) (took : 
     → a.fault ≡ Some fault
     → next.fault ≡ Some fault)
     (pi d : ℕ) (log : List (Option Group)) where
-  hears_here : AuditAt pi d a log → Hears pi slot took.message
-  hears_here s = subst (λ n. Hears n slot took.message) s.programme took.hears
-
   -- what was found is what the slot adds
-  adds_here : (s : AuditAt pi d a log) (judged : List (Option Message)) → HoldsLog d judged a
-      → found ≡ slot_adds a.form d (counted_as a.start judged took.message) judged
+  adds_here : AuditAt pi d a log → (judged : List (Option Message)) → HoldsLog d judged a
+      → found ≡ slot_adds a.form d (counted_as a.start judged (heard_in pi slot)) judged
   adds_here s judged h = took.added judged (subst (λ n. HoldsLog n judged a) (sym s.distance) h)
-      ∙ ap (λ n. slot_adds a.form n (counted_as a.start judged took.message) judged) s.distance
+      ∙ ap (λ n. slot_adds a.form n (counted_as a.start judged (heard_in a.programme slot)) judged) s.distance
+      ∙ ap (λ n. slot_adds a.form d (counted_as a.start judged (heard_in n slot)) judged) s.programme
 
-  holds_here : (s : AuditAt pi d a log) (judged : List (Option Message)) → HoldsLog d judged a
-      → HoldsLog d (counted_as a.start judged took.message ∷ judged) next
-  holds_here s judged h = subst (λ n. HoldsLog n (counted_as a.start judged took.message ∷ judged) next) s.distance
-      (took.holds judged (subst (λ n. HoldsLog n judged a) (sym s.distance) h))
+  holds_here : AuditAt pi d a log → (judged : List (Option Message)) → HoldsLog d judged a
+      → HoldsLog d (counted_as a.start judged (heard_in pi slot) ∷ judged) next
+  holds_here s judged h = subst (λ n. HoldsLog d (counted_as a.start judged (heard_in n slot) ∷ judged) next) s.programme
+      (subst (λ n. HoldsLog n (counted_as a.start judged (heard_in a.programme slot) ∷ judged) next) s.distance
+      (took.holds judged (subst (λ n. HoldsLog n judged a) (sym s.distance) h)))
 
   stands_next : AuditAt pi d a log → AuditAt pi d next (slot ∷ log)
   stands_next s =
-      goes_on pi d a next log s slot took.message (hears_here s, programme, distance, start)
-      (judged_next d (counted_as a.start (judged_as a.start d s.heard) took.message) (judged_as a.start d s.heard) a
-      next form (formed_counted a.start (judged_as a.start d s.heard) took.message (formed_heard pi slot took.message
-      (hears_here s)))
-      (holds_here s (judged_as a.start d s.heard)) (λ h none. first none
-      ∙ ap first_of (adds_here s (judged_as a.start d s.heard) h)) again s.holds)
+      let judged = judged_as a.start d (heard_of pi log) in
+      goes_on pi d a next log s slot (programme, distance, start)
+      (judged_next d (counted_as a.start judged (heard_in pi slot)) judged a next form
+      (formed_counted a.start judged (heard_in pi slot) (formed_heard pi slot)) (holds_here s judged) (λ h none. first none
+      ∙ ap first_of (adds_here s judged h)) again s.holds)
 
   follows_next : FollowsLog pi d a log → FollowsLog pi d next (slot ∷ log)
-  unfolding stands_next goes_on
   follows_next s = record {
     at = stands_next s.at;
     holds = subst (λ (x : List (Option Message)). HoldsLog d x next)
-        (sym (next_judged a.start next.start d took.message s.at.heard start))
-        (holds_here s.at (judged_as a.start d s.at.heard) s.holds);
+        (sym (next_judged a.start next.start d (heard_in pi slot) (heard_of pi log) start))
+        (holds_here s.at (judged_as a.start d (heard_of pi log)) s.holds);
   }
 
-  found_adds : (s : FollowsLog pi d a log) (message : Option Message) → Hears pi slot message
-      → found ≡ slot_adds a.form d (counted_as a.start (judged_as a.start d s.at.heard) message)
-      (judged_as a.start d s.at.heard)
-  found_adds s message hears =
-      adds_here s.at (judged_as a.start d s.at.heard) s.holds
-      ∙ ap (λ (m : Option Message). slot_adds a.form d (counted_as a.start (judged_as a.start d s.at.heard) m)
-      (judged_as a.start d s.at.heard)) (same_heard_in pi slot took.message message (hears_here s.at) hears)
+  found_adds : FollowsLog pi d a log
+      → found ≡ slot_adds a.form d (counted_as a.start (judged_as a.start d (heard_of pi log)) (heard_in pi slot))
+      (judged_as a.start d (heard_of pi log))
+  found_adds s = adds_here s.at (judged_as a.start d (heard_of pi log)) s.holds
 
 -- the group of a slot was taken, and the slot is over
 pub group_listed : (old heard new : StoredAudit) (group : Option Group) (found result : FaultSet) → IsStoredAudit old
     → heard.distance ≡ old.distance
-    → (message : Option Message) × Hears old.pi group message × ListsMessage (audit_stored old) (audit_stored heard)
-    message found → EndsSlot heard new → result ≡ found
-    → ListsGroup (audit_stored old) (audit_stored new) group result
-group_listed old heard new group found result stored same (message, hears, lists) ends is = record {
-  message = message;
-  hears = hears;
-  holds = λ judged h. subst (λ n. HoldsLog n (counted_as (audit_stored old).start judged message ∷ judged)
-      (audit_stored new)) same
-      (ends good judged (counted_as (audit_stored old).start judged message)
-      (subst (λ n. HoldsSlot n (counted_as (audit_stored old).start judged message) judged (audit_stored heard))
-      (sym same) (lists.holds judged h)));
+    → ListsMessage (audit_stored old) (audit_stored heard) (heard_in old.pi group) found → EndsSlot heard new
+    → result ≡ found → ListsGroup (audit_stored old) (audit_stored new) group result
+group_listed old heard new group found result stored same lists ends is = record {
+  holds = λ judged h.
+      let newest = counted_as (audit_stored old).start judged (heard_in old.pi group) in
+      subst (λ n. HoldsLog n (newest ∷ judged) (audit_stored new)) same
+      (ends good judged newest
+      (subst (λ n. HoldsSlot n newest judged (audit_stored heard)) (sym same) (lists.holds judged h)));
   added = λ judged h. is ∙ lists.added judged h;
 }
   where
@@ -487,18 +499,18 @@ fault_is d a judged fault some has = subst (λ (o : Option AuditFault). MatchOpt
     × HoldsLog d judged a) (IsFaultOf a.form d judged)) some has
 
 -- after a fault an audit stays as it is
-pub takes_again : (a : AuditState) (slot : Option Group) (message : Option Message) (fault : AuditFault)
-    → a.fault ≡ Some fault → Hears a.programme slot message → AuditTakesSlot a a slot (Err fault)
-takes_again a slot message fault some hears = record {
+pub takes_again : (a : AuditState) (slot : Option Group) (fault : AuditFault) → a.fault ≡ Some fault
+    → AuditTakesSlot a a slot (Err fault)
+takes_again a slot fault some = record {
   stands = λ pi d log s.
-      goes_on pi d a a log s slot message (subst (λ n. Hears n slot message) s.programme hears, refl, refl, refl)
-      (still d (counted_as a.start (judged_as a.start d s.heard) message) (judged_as a.start d s.heard)
-      (fault_is d a (judged_as a.start d s.heard) fault some s.holds));
+      let judged = judged_as a.start d (heard_of pi log) in
+      goes_on pi d a a log s slot (refl, refl, refl)
+      (still d (counted_as a.start judged (heard_in pi slot)) judged (fault_is d a judged fault some s.holds));
   follows = λ none. absurd (let bad : Some fault ≡ None = sym some ∙ none in cc);
   fault = some;
   start = refl;
   form = refl;
-  which = λ pi d log s. fault_is d a (judged_as a.start d s.heard) fault some s.holds;
+  which = λ pi d log s. fault_is d a (judged_as a.start d (heard_of pi log)) fault some s.holds;
   again = λ other same. (ap Err (let e : fault ≡ other = cc in e), refl);
 }
   where
@@ -519,7 +531,7 @@ takes_next a after slot found result all none is = record {
   fault = is;
   start = all.start;
   form = all.form;
-  which = λ pi d log s. told d (judged_as after.start d s.heard) s.holds result is;
+  which = λ pi d log s. told d (judged_as after.start d (heard_of pi log)) s.holds result is;
   again = λ fault some. absurd (let bad : Some fault ≡ None = sym some ∙ none in cc);
 }
   where
@@ -539,8 +551,6 @@ audit_starts pi d a programme distance lasts clean texts_hold names_hold = recor
     programme = programme;
     distance = distance;
     lasts = lasts;
-    heard = [];
-    are = tt;
     holds = subst (λ (o : Option AuditFault). MatchOption o (LogPasses a.form d (judged_as a.start d [])
         × HoldsLog d (judged_as a.start d []) a) (IsFaultOf a.form d (judged_as a.start d []))) (sym clean) (
           record {

@@ -3,7 +3,7 @@ use Rattle.std.specs.Prelude.{◌≡◌, ◌≤◌, ◌<◌, ◌-◌, ◌^◌, �
 use Rattle.std.specs.Prelude.{Err, MatchResult, Result, length, min}
 use Rattle.rds_block.specs.declared.group.Group.{Group}
 use Rattle.rds_fields.specs.declared.message.Message.{Message}
-use Rattle.rds_receiver.specs.Receipts.{AreHeard, Hears}
+use Rattle.rds_receiver.specs.Receipts.{heard_in, heard_of}
 use Rattle.rds_receiver.specs.declared.fragment.Fragment.{Fragment}
 use Rattle.rds_audit.specs.declared.audit.AuditFault.{AuditFault}
 use Rattle.rds_audit.specs.declared.fault_set.FaultSet.{FaultSet}
@@ -77,24 +77,22 @@ pub record AuditAt (pi d : ℕ) (a : AuditState) (log : List (Option Group)) : T
   pub programme : a.programme ≡ pi
   pub distance : a.distance ≡ d
   pub lasts : 0 < d
-  pub heard : List (Option Message)
-  pub are : AreHeard pi log heard
-  pub holds : HasJudged d a (judged_as a.start d heard)
+  pub holds : HasJudged d a (judged_as a.start d (heard_of pi log))
 
 -- this holds of the spacing of each log that the audit stands at, and of its messages as they are judged
 abbrev pub WhereTheAuditStands : AuditState → (ℕ → List (Option Message) → Type 0) → Type 0
 WhereTheAuditStands a Holds =
-    (pi d : ℕ) (log : List (Option Group)) (s : AuditAt pi d a log) → Holds d (judged_as a.start d s.heard)
+    (pi d : ℕ) (log : List (Option Group)) → AuditAt pi d a log → Holds d (judged_as a.start d (heard_of pi log))
 
 -- the audit stands at the log, and its state follows from all of the log, after a fault too
 pub record FollowsLog (pi d : ℕ) (a : AuditState) (log : List (Option Group)) : Type 0 where
   pub at : AuditAt pi d a log
-  pub holds : HoldsLog d (judged_as a.start d at.heard) a
+  pub holds : HoldsLog d (judged_as a.start d (heard_of pi log)) a
 
 -- this holds of the spacing of each log that the audit follows, and of its messages as they are judged
 abbrev pub WhereItFollows : AuditState → (ℕ → List (Option Message) → Type 0) → Type 0
 WhereItFollows a Holds =
-    (pi d : ℕ) (log : List (Option Group)) (s : FollowsLog pi d a log) → Holds d (judged_as a.start d s.at.heard)
+    (pi d : ℕ) (log : List (Option Group)) → FollowsLog pi d a log → Holds d (judged_as a.start d (heard_of pi log))
 
 -- the audit took the next slot, with this group or with none: it stands at the log with that slot, and without a fault
 -- before it follows the log, also in the slot of the fault; the result is its fault, which is that of the log; after a
@@ -120,10 +118,9 @@ pub record TakesAll (a after : AuditState) (group : Option Group) (result : Faul
       → AuditAt pi d after (group ∷ log)
   pub follows : (pi d : ℕ) (log : List (Option Group)) → FollowsLog pi d a log
       → FollowsLog pi d after (group ∷ log)
-  pub adds : (pi d : ℕ) (log : List (Option Group)) (s : FollowsLog pi d a log) (message : Option Message)
-      → Hears pi group message
-      → result ≡ slot_adds a.form d (counted_as a.start (judged_as a.start d s.at.heard) message)
-      (judged_as a.start d s.at.heard)
+  pub adds : (pi d : ℕ) (log : List (Option Group)) → FollowsLog pi d a log
+      → result ≡ slot_adds a.form d (counted_as a.start (judged_as a.start d (heard_of pi log)) (heard_in pi group))
+      (judged_as a.start d (heard_of pi log))
   pub start : after.start ≡ a.start
   pub form : after.form ≡ a.form
   pub first : a.fault ≡ None → after.fault ≡ first_of result
@@ -140,12 +137,10 @@ pub record ListsMessage (a after : AuditState) (message : Option Message) (resul
 -- the audit took the group of a slot, and the slot is over: its state follows from the log with that slot, and the
 -- result is what the slot adds
 pub record ListsGroup (a after : AuditState) (group : Option Group) (result : FaultSet) : Type 0 where
-  pub message : Option Message
-  pub hears : Hears a.programme group message
   pub holds : (judged : List (Option Message)) → HoldsLog a.distance judged a
-      → HoldsLog a.distance (counted_as a.start judged message ∷ judged) after
+      → HoldsLog a.distance (counted_as a.start judged (heard_in a.programme group) ∷ judged) after
   pub added : (judged : List (Option Message)) → HoldsLog a.distance judged a
-      → result ≡ slot_adds a.form a.distance (counted_as a.start judged message) judged
+      → result ≡ slot_adds a.form a.distance (counted_as a.start judged (heard_in a.programme group)) judged
 
 -- the slot is over: the state follows from the log with its newest slot
 abbrev pub EndsSlot : StoredAudit → StoredAudit → Type 0

@@ -1,6 +1,7 @@
 //! The audit: it takes a log slot by slot, and finds the rule that the log breaks first, or all faults of the log.
 ghost use Rattle.std.specs.Prelude.{◌≡◌, ◌+◌, ◌-◌, ◌<◌, ◌^◌, ◌↔◌, [], ℕ, List, Option, None, IsTrue, length, min};
 ghost use Rattle.rds_block.specs.declared.group.Group.{Group};
+ghost use Rattle.rds_receiver.specs.Receipts.{heard_of};
 ghost use Rattle.rds_audit.specs.declared.log_start.LogStart.TheVariants as LogStart;
 ghost use Rattle.rds_audit.specs.declared.text_form.TextForm.TheVariants as TextForm;
 ghost use Rattle.rds_audit.specs.AuditLaws.{IsSafeLog, IsSafeRecording};
@@ -160,8 +161,9 @@ impl Audit {
         ensures plans { WhereTheAuditStands self.now (λ d heard. IsTrue result ↔ HasPlans self.now.form d heard) }
         ensures safe { WhereTheAuditStands self.now (λ d heard. (m k : ℕ) → 0 < m → m + k ≡ d
             → IsTrue result → IsSafeLog self.now.form m k heard) }
-        ensures recording { (pi m k : ℕ) (log : List (Option Group)) → (s : AuditAt pi (m + k) self.now log)
-            → self.now.start ≡ LogStart.Running → 0 < m → IsTrue result → IsSafeRecording self.now.form m k s.heard }
+        ensures recording { (pi m k : ℕ) (log : List (Option Group)) → AuditAt pi (m + k) self.now log
+            → self.now.start ≡ LogStart.Running → 0 < m → IsTrue result
+            → IsSafeRecording self.now.form m k (heard_of pi log) }
     {
         self.state.passed()
     }

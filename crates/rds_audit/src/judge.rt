@@ -1,9 +1,9 @@
 //! How a stored audit takes a slot, and what it says of the log.
-ghost use Rattle.std.specs.Prelude.{◌≡◌, ◌+◌, ◌<◌, ◌↔◌, ◌⊎◌, ◌∷◌, ℕ, true};
+ghost use Rattle.std.specs.Prelude.{◌≡◌, ◌+◌, ◌<◌, ◌↔◌, ◌⊎◌, ℕ, true};
 ghost use Rattle.std.specs.Prelude.{false, List, Option, None, Some, Err, IsTrue};
 ghost use Rattle.rds_block.specs.declared.group.Group.{Group};
 ghost use Rattle.rds_fields.specs.declared.message.Message.{Message};
-ghost use Rattle.rds_receiver.specs.Receipts.{Hears};
+ghost use Rattle.rds_receiver.specs.Receipts.{heard_in, heard_of};
 ghost use Rattle.rds_audit.specs.declared.audit.AuditFault.{AuditFault};
 ghost use Rattle.rds_audit.specs.declared.log_start.LogStart.TheVariants as LogStart;
 ghost use Rattle.rds_audit.specs.declared.text_form.TextForm.TheVariants as TextForm;
@@ -45,9 +45,6 @@ impl StoredAudit {
         ensures good { IsStoredAudit self.old ↔ IsStoredAudit self.new }
     {
         if let Some(known) = AuditFault::of_code(self.fault) {
-            // Prover: this call names the message that the log gets in this slot; its result is not used
-            // (docs/PROVER.md, "Idioms").
-            heard_blocks(self.pi, group);
             return Err(known);
         }
         match self.all_faults(group).first() {
@@ -88,9 +85,8 @@ impl StoredAudit {
         ensures safe { WhereTheAuditStands (audit_stored self.now) (λ d heard. (m k : ℕ) → 0 < m → m + k ≡ d
             → IsTrue result → IsSafeLog (audit_stored self.now).form m k heard) }
         ensures recording { (pi m k : ℕ) (log : List (Option Group))
-            → (s : AuditAt pi (m + k) (audit_stored self.now) log)
-            → (audit_stored self.now).start ≡ LogStart.Running → 0 < m → IsTrue result
-            → IsSafeRecording (audit_stored self.now).form m k s.heard }
+            → AuditAt pi (m + k) (audit_stored self.now) log → (audit_stored self.now).start ≡ LogStart.Running → 0 < m
+            → IsTrue result → IsSafeRecording (audit_stored self.now).form m k (heard_of pi log) }
     {
         // Prover: calls of laws, which give the clauses `plans`, `safe` and `recording` (docs/PROVER.md, "Idioms").
         passes_by_plans();
@@ -129,9 +125,8 @@ impl StoredAudit {
     #[inline(always)]
     fn hear_group(&mut self, group: Option<Blocks>) -> FaultSet
         ensures keeps { KeepsLog self.old self.new }
-        ensures lists { IsStoredAudit self.old → (message : Option Message)
-            × Hears self.old.pi group message
-            × ListsMessage (audit_stored self.old) (audit_stored self.new) message result }
+        ensures lists { IsStoredAudit self.old → ListsMessage (audit_stored self.old) (audit_stored self.new)
+            (heard_in self.old.pi group) result }
     {
         match heard_blocks(self.pi, group) {
             Some(message) => self.hear(message),

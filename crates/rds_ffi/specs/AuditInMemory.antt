@@ -2,7 +2,7 @@
 use Rattle.std.specs.Prelude.{◌≡◌, ℕ, List, Option, Some, None, Result, Ok, Err, MatchOption}
 use Rattle.rds_block.specs.declared.group.Group.{Group}
 use Rattle.rds_fields.specs.declared.message.Message.{Message}
-use Rattle.rds_receiver.specs.Receipts.{Hears}
+use Rattle.rds_receiver.specs.Receipts.{heard_in, heard_of}
 use Rattle.rds_audit.specs.declared.fault_set.FaultSet.{FaultSet}
 use Rattle.rds_audit.specs.AuditAt.{AuditAt, FollowsLog}
 use Rattle.rds_audit.specs.Listing.{IsFaultOf, slot_adds}
@@ -44,8 +44,8 @@ form_in s = (audit_stored s).form
 -- and this of its number of slots and of the messages of its log, as they are judged
 abbrev pub WhereItHeard : StoredAudit → (ℕ → List (Option Message) → Type 0) → Type 0
 WhereItHeard s Holds =
-    (pi d : ℕ) (log : List (Option Group)) (lies : AuditInMemory pi d s log)
-    → Holds d (judged_as (start_in s) d lies.at.heard)
+    (pi d : ℕ) (log : List (Option Group)) → AuditInMemory pi d s log
+    → Holds d (judged_as (start_in s) d (heard_of pi log))
 
 -- for each audit that follows its log: this holds of its programme, of its number of slots and of its log
 abbrev pub WhereAuditFollows : StoredAudit → (ℕ → ℕ → List (Option Group) → Type 0) → Type 0
@@ -54,16 +54,16 @@ WhereAuditFollows s Holds = (pi d : ℕ) (log : List (Option Group)) → Follows
 -- and this of its number of slots and of the messages of its log, as they are judged
 abbrev pub WhereItFollowed : StoredAudit → (ℕ → List (Option Message) → Type 0) → Type 0
 WhereItFollowed s Holds =
-    (pi d : ℕ) (log : List (Option Group)) (lies : FollowsInMemory pi d s log)
-    → Holds d (judged_as (start_in s) d lies.at.at.heard)
+    (pi d : ℕ) (log : List (Option Group)) → FollowsInMemory pi d s log
+    → Holds d (judged_as (start_in s) d (heard_of pi log))
 
 -- these are the faults that the slot adds to the list of the log
 abbrev pub Adds : StoredAudit → Option Group → FaultSet → Type 0
 Adds s slot found =
-    (pi d : ℕ) (log : List (Option Group)) (lies : FollowsInMemory pi d s log) (message : Option Message)
-    → Hears pi slot message
-    → found ≡ slot_adds (form_in s) d (counted_as (start_in s) (judged_as (start_in s) d lies.at.at.heard) message)
-    (judged_as (start_in s) d lies.at.at.heard)
+    (pi d : ℕ) (log : List (Option Group)) → FollowsInMemory pi d s log
+    → found ≡ slot_adds (form_in s) d
+    (counted_as (start_in s) (judged_as (start_in s) d (heard_of pi log)) (heard_in pi slot))
+    (judged_as (start_in s) d (heard_of pi log))
 
 -- the fault of a result
 abbrev pub fault_in : Result (Unit {0}) AuditFault → Option AuditFault

@@ -4,7 +4,7 @@ use Rattle.std.specs.FinMap.{contains_key}
 use Rattle.std.specs.Int.{bit_at}
 use Rattle.rds_block.specs.declared.group.Group.{Group}
 use Rattle.rds_fields.specs.declared.message.Message.{Message}
-use Rattle.rds_receiver.specs.Receipts.{AreHeard, Segment, Tuning, name_fragment, segments, text_fragment}
+use Rattle.rds_receiver.specs.Receipts.{Segment, Tuning, heard_of, name_fragment, segments, text_fragment}
 use Rattle.rds_receiver.specs.declared.fragment.Fragment.{Fragment}
 use Rattle.rds_receiver.specs.Run.{cells_of, run}
 use Rattle.rds_receiver.specs.Holds.{HasAge, newest_slot}
@@ -26,7 +26,5 @@ HoldsSegmentsOf count pick t heard =
 
 -- the segments that a receiver holds at the end of an input: a text has 16 addresses, and a name 2
 pub record IsHeld (t : Tuning) (input : List (Option Group)) (h : RdsrtHeld) : Type 0 where
-  pub heard : List (Option Message)
-  pub are : AreHeard t.programme input heard
-  pub text : HoldsSegmentsOf 16 text_fragment t heard h.text
-  pub name : HoldsSegmentsOf 2 name_fragment t heard h.name
+  pub text : HoldsSegmentsOf 16 text_fragment t (heard_of t.programme input) h.text
+  pub name : HoldsSegmentsOf 2 name_fragment t (heard_of t.programme input) h.name

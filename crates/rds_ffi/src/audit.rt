@@ -3,6 +3,7 @@ ghost use Rattle.std.specs.Prelude.{◌≡◌, ◌≢◌, ◌+◌, ◌-◌, ◌<
 ghost use Rattle.std.specs.Prelude.{[], ◌∷◌, List, None, Option, Some, length, min};
 ghost use Rattle.std.specs.Prelude.{IfSome, IsSome};
 ghost use Rattle.rds_block.specs.declared.group.Group.{Group};
+ghost use Rattle.rds_receiver.specs.Receipts.{heard_of};
 ghost use Rattle.rds_audit.specs.AuditLaws.{IsSafeLog, IsSafeRecording};
 ghost use Rattle.rds_audit.specs.Dense.{HasPlans};
 ghost use Rattle.rds_audit.specs.FlagLaws.{NamesAreSafeByFlag, TextsAreSafeByFlag};
@@ -202,9 +203,9 @@ pub extern "C" fn rdsrt_audit_passed(audit: &StoredAudit) -> u32
     ensures plans { WhereItHeard audit.now (λ d heard. result ≡ 1 ↔ HasPlans (form_in audit.now) d heard) }
     ensures safe { WhereItHeard audit.now (λ d heard. (m k : ℕ) → 0 < m → m + k ≡ d
         → result ≡ 1 → IsSafeLog (form_in audit.now) m k heard) }
-    ensures recording { (pi m k : ℕ) (log : List (Option Group)) → (lies : AuditInMemory pi (m + k) audit.now log)
+    ensures recording { (pi m k : ℕ) (log : List (Option Group)) → AuditInMemory pi (m + k) audit.now log
         → start_in audit.now ≡ LogStart.Running → 0 < m → result ≡ 1
-        → IsSafeRecording (form_in audit.now) m k lies.at.heard }
+        → IsSafeRecording (form_in audit.now) m k (heard_of pi log) }
 {
     u32::from(audit.passed())
 }

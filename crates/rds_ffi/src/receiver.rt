@@ -1,8 +1,7 @@
 //! A receiver in the caller's memory.
-ghost use Rattle.std.specs.Prelude.{◌≡◌, ◌≢◌, ◌<◌, ◌↔◌, ◌⊎◌, ℕ, List, [], ◌∷◌, None, Option, Some};
+ghost use Rattle.std.specs.Prelude.{◌≡◌, ◌≢◌, ◌<◌, ◌↔◌, ◌⊎◌, ℕ, [], ◌∷◌, None, Option, Some};
 ghost use Rattle.rds_block.specs.declared.group.Group.{Group};
-ghost use Rattle.rds_fields.specs.declared.message.Message.{Message};
-ghost use Rattle.rds_receiver.specs.Receipts.{AreHeard};
+ghost use Rattle.rds_receiver.specs.Receipts.{heard_of};
 ghost use Rattle.rds_receiver.specs.Shown.{IsView, ShownView};
 ghost use Rattle.rds_receiver.specs.Tags.{pair_held};
 ghost use Rattle.rds_receiver.specs.Confirmed.{counted};
@@ -97,8 +96,8 @@ pub extern "C" fn rdsrt_receiver_slot(receiver: &mut StoredReceiver, blocks: &[u
 #[unsafe(no_mangle)]
 pub extern "C" fn rdsrt_receiver_view(receiver: &StoredReceiver, view: &mut RdsrtView)
     ensures shown { WhereItIs receiver.now (λ t input. IsView t input (viewed view.new)) }
-    ensures tags { WhereItIs receiver.now (λ t input. (heard : List (Option Message))
-        → AreHeard t.programme input heard → ShowsTagsOf (pair_held t.dwell t.first (counted t heard)) view.new) }
+    ensures tags { WhereItIs receiver.now (λ t input.
+        ShowsTagsOf (pair_held t.dwell t.first (counted t (heard_of t.programme input))) view.new) }
     ensures plain { IsPlainView view.new }
 {
     *view = seen(receiver);

@@ -1,15 +1,14 @@
 //! The view of a receiver as a plain struct.
-ghost use Rattle.std.specs.Prelude.{◌≡◌, ◌≢◌, ◌+◌, ◌≤◌, ℕ, List, None, Option, Some, length};
+ghost use Rattle.std.specs.Prelude.{◌≡◌, ◌+◌, ◌≤◌, None, Option, Some, length};
 ghost use Rattle.std.specs.Option.{ForSome, option_copied};
-ghost use Rattle.rds_fields.specs.declared.message.Message.{Message};
-ghost use Rattle.rds_receiver.specs.Receipts.{AreHeard};
+ghost use Rattle.rds_receiver.specs.Receipts.{heard_of};
 ghost use Rattle.rds_receiver.specs.Shown.{IsShortText, IsView};
-ghost use Rattle.rds_receiver.specs.Tags.{cut_by, pair_held, tag_of};
+ghost use Rattle.rds_receiver.specs.Tags.{pair_held, tag_of};
 ghost use Rattle.rds_receiver.specs.Confirmed.{counted};
 ghost use Rattle.rds_ffi.specs.ReceiverInMemory.{WhereItIs};
 ghost use Rattle.rds_ffi.specs.Viewed as specs;
 ghost use Rattle.rds_ffi.specs.Viewed.{ShowsTagsOf, IsPlainItem, IsPlainName, IsPlainText, IsPlainView, IsTagOf};
-ghost use Rattle.rds_ffi.specs.Viewed.{count_of, item_viewed, name_viewed, tag_plain, tag_viewed, text_viewed, viewed};
+ghost use Rattle.rds_ffi.specs.Viewed.{count_of, item_viewed, name_viewed, tag_viewed, text_viewed, viewed};
 
 use rds_assembly::LONGEST_TEXT;
 use rds_fields::{TagPair, Which};
@@ -64,8 +63,8 @@ pub struct RdsrtView {
 /// Returns the view of the receiver.
 pub(crate) fn seen(receiver: &StoredReceiver) -> RdsrtView
     ensures shown { WhereItIs receiver.now (λ t input. IsView t input (viewed result)) }
-    ensures tags { WhereItIs receiver.now (λ t input. (heard : List (Option Message))
-        → AreHeard t.programme input heard → ShowsTagsOf (pair_held t.dwell t.first (counted t heard)) result) }
+    ensures tags { WhereItIs receiver.now (λ t input.
+        ShowsTagsOf (pair_held t.dwell t.first (counted t (heard_of t.programme input))) result) }
     ensures plain { IsPlainView result }
 {
     let text = receiver.text();

@@ -3,6 +3,7 @@ pub mod Tag
 pub mod Bits
 pub mod RadioTextPlus
 pub mod Spells
+pub mod Meaning
 pub mod Canonical
 pub mod TagGroup
 -- The forms in memory. Callers do not need them.

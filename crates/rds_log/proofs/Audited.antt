@@ -15,8 +15,7 @@ use Rattle.rds_audit.specs.AuditState.{AuditState}
 use Rattle.rds_audit.specs.Recording.{counted_as, judged_as}
 use Rattle.rds_audit.specs.Rules.{LogPasses}
 use Rattle.rds_fields.specs.declared.message.Message.{Message}
-use Rattle.rds_receiver.specs.OneView.{same_heard}
-use Rattle.rds_receiver.specs.Receipts.{AreHeard}
+use Rattle.rds_receiver.specs.Receipts.{heard_in, heard_of}
 use Rattle.rds_audit.specs.Listing.{IsFaultOf, first_of, none_broken, slot_adds}
 use Rattle.rds_audit.specs.declared.audit.AuditFault.{AuditFault}
 use Rattle.rds_audit.specs.declared.audit.AuditFault.TheVariants.{Changed, NotOneText, EarlyFlag, EarlyTag, TagOutside}
@@ -46,14 +45,13 @@ pub slots_pass : (a : Auditing) (state : AuditState) (slots : List (Option Group
     → AuditAt a.pi (spacing a) state slots → state.start ≡ a.start → state.form ≡ a.form → state.fault ≡ None
     → SlotsPass a slots
 slots_pass a state slots s begins form none = record {
-  heard = s.heard;
-  are = s.are;
   passes =
-      let all = judged a s.heard in
+      let all = judged a slots in
       let held : LogPasses state.form (spacing a) all × HoldsLog (spacing a) all state =
       subst (λ (o : Option AuditFault). MatchOption o (LogPasses state.form (spacing a) all
       × HoldsLog (spacing a) all state) (IsFaultOf state.form (spacing a) all)) none
-      (subst (λ (st : LogStart). HasJudged (spacing a) state (judged_as st (spacing a) s.heard)) begins s.holds) in
+      (subst (λ (st : LogStart). HasJudged (spacing a) state (judged_as st (spacing a) (heard_of a.pi slots))) begins s.holds)
+      in
       subst (λ (f : TextForm). LogPasses f (spacing a) all) form held.0;
 }
 
@@ -62,20 +60,18 @@ pub fails_at : (a : Auditing) (state after : AuditState) (number : ℕ) (slots :
     (slot : Option Group) (fault : AuditFault)
     → AuditAt a.pi (spacing a) state slots → state.start ≡ a.start → state.form ≡ a.form → state.fault ≡ None
     → number ≡ length slots
-    → (stands : AuditAt a.pi (spacing a) after (slot ∷ slots)) → after.start ≡ a.start → after.form ≡ a.form
-    → IsFaultOf after.form (spacing a) (judged_as after.start (spacing a) stands.heard) fault
+    → after.start ≡ a.start → after.form ≡ a.form
+    → IsFaultOf after.form (spacing a) (judged_as after.start (spacing a) (heard_of a.pi (slot ∷ slots))) fault
     → SlotsFail a number fault (slot ∷ slots)
-fails_at a state after number slots slot fault s begins form passed count stands start same is = record {
+fails_at a state after number slots slot fault s begins form passed count start same is = record {
   newest = slot;
   before = slots;
   cut = refl;
   number = count;
   passed = slots_pass a state slots s begins form passed;
-  heard = stands.heard;
-  are = stands.are;
-  fault_is = subst (λ (f : TextForm). IsFaultOf f (spacing a) (judged a stands.heard) fault) same
-      (subst (λ (st : LogStart). IsFaultOf after.form (spacing a) (judged_as st (spacing a) stands.heard) fault) start
-      is);
+  fault_is = subst (λ (f : TextForm). IsFaultOf f (spacing a) (judged a (slot ∷ slots)) fault) same
+      (subst (λ (st : LogStart). IsFaultOf after.form (spacing a)
+      (judged_as st (spacing a) (heard_of a.pi (slot ∷ slots))) fault) start is);
 }
 
 -- the fault in the state of an audit is that of its log
@@ -180,34 +176,24 @@ adds a LogEnd (Some fault) (Some other) t slots slot all found wants had first a
 
 -- what one more slot adds
 faults_of_more : (a : Auditing) (l after : AuditState) (slots : List (Option Group)) (slot : Option Group)
-    (faults : List FaultSet) (found : FaultSet) (s : FollowsLog a.pi (spacing a) l slots) → l.start ≡ a.start
-    → l.form ≡ a.form
-    → (heard : List (Option Message)) → AreHeard a.pi (slot ∷ slots) heard → TakesAll l after slot found
-    → AreFaultsOf a slots faults → AreFaultsOf a (slot ∷ slots) (found ∷ faults)
-faults_of_more a l after slots slot faults found s begins form [] hear takes of = absurd hear
-faults_of_more a l after slots slot faults found s begins form (m ∷ h) hear takes of =
+    (faults : List FaultSet) (found : FaultSet) → FollowsLog a.pi (spacing a) l slots → l.start ≡ a.start
+    → l.form ≡ a.form → TakesAll l after slot found → AreFaultsOf a slots faults
+    → AreFaultsOf a (slot ∷ slots) (found ∷ faults)
+faults_of_more a l after slots slot faults found s begins form takes of =
     let each = of.each in
     record {
       each = omega (arith, each);
-      heard = m ∷ h;
-      are = hear;
       added = subst (λ (x : List (Option Message)). AreAdded a.form (spacing a) x (found ∷ faults))
-          (sym (judged_step a.start (spacing a) m h)) (adds, older);
+          (sym (judged_step a.start (spacing a) (heard_in a.pi slot) (heard_of a.pi slots))) (adds, of.added);
     }
   where
-    adds : found ≡ slot_adds a.form (spacing a) (counted_as a.start (judged a h) m) (judged a h)
+    adds : found ≡ slot_adds a.form (spacing a) (counted_as a.start (judged a slots) (heard_in a.pi slot)) (judged a slots)
     adds =
-        subst (λ (x : List (Option Message)). found ≡ slot_adds a.form (spacing a) (counted_as a.start (judged a x) m)
-        (judged a x)) (same_heard a.pi slots s.at.heard h s.at.are hear.1)
-        (subst (λ (f : TextForm). found ≡ slot_adds f (spacing a) (counted_as a.start (judged a s.at.heard) m)
-        (judged a s.at.heard)) form
+        subst (λ (f : TextForm). found ≡ slot_adds f (spacing a) (counted_as a.start (judged a slots) (heard_in a.pi slot))
+        (judged a slots)) form
         (subst (λ (st : LogStart). found ≡ slot_adds l.form (spacing a)
-        (counted_as st (judged_as st (spacing a) s.at.heard) m)
-        (judged_as st (spacing a) s.at.heard)) begins (takes.adds a.pi (spacing a) slots s m hear.0)))
-
-    older : AreAdded a.form (spacing a) (judged a h) faults
-    older = subst (λ (x : List (Option Message)). AreAdded a.form (spacing a) (judged a x) faults)
-        (same_heard a.pi slots of.heard h of.are hear.1) of.added
+        (counted_as st (judged_as st (spacing a) (heard_of a.pi slots)) (heard_in a.pi slot))
+        (judged_as st (spacing a) (heard_of a.pi slots))) begins (takes.adds a.pi (spacing a) slots s))
 
 -- the answer that the list gives
 answer_of : (a : Auditing) (known : Option AuditFault) (slots : List (Option Group)) (total : List ℕ)
@@ -246,8 +232,7 @@ takes_slot a l after w out now lines line said slot found says read rtplus taken
         list = record {
           faults = found ∷ s.list.faults;
           are = faults_of_more a l.audit after.audit s.slots slot s.list.faults found s.audit s.begins s.form
-              stands.heard
-              stands.are takes s.list.are;
+              takes s.list.are;
           lines = ap (λ (x : List ℕ). x ++ lines_for a.stop l.slots found) s.list.lines
               ∙ ap (λ n. list_lines a.stop s.list.faults ++ lines_for a.stop n found) (count ∙ sym each);
           answer = answer_of a after.audit.fault (slot ∷ s.slots) _ further;
@@ -279,9 +264,9 @@ takes_slot a l after w out now lines line said slot found says read rtplus taken
     fails : (fault : AuditFault) → l.audit.fault ≡ None → after.audit.fault ≡ Some fault
         → SlotsFail a l.slots fault (slot ∷ s.slots)
     fails fault none some =
-        fails_at a l.audit after.audit l.slots s.slots slot fault s.audit.at s.begins s.form none s.count stands
+        fails_at a l.audit after.audit l.slots s.slots slot fault s.audit.at s.begins s.form none s.count
         (takes.start ∙ s.begins) (takes.form ∙ s.form)
-        (fault_of (spacing a) after.audit fault (judged_as after.audit.start (spacing a) stands.heard) some
+        (fault_of (spacing a) after.audit fault (judged_as after.audit.start (spacing a) (heard_of a.pi (slot ∷ s.slots))) some
         stands.holds)
 
     further : Says a.stop a after.audit.fault (slot ∷ s.slots) (taken.total ++ lines_for a.stop l.slots found)
@@ -358,7 +343,7 @@ audited_none a l follows begins form none slots keeps going rtplus =
       form = form;
       list = record {
         faults = [];
-        are = record { each = refl; heard = []; are = tt; added = tt };
+        are = record { each = refl; added = tt };
         lines = refl;
         answer = inl (passes, refl);
       };

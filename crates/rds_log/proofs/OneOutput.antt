@@ -2,8 +2,7 @@
 use Rattle.std.proofs.Common.{◌≡◌, ℕ, List, [], ◌∷◌, Bool, true, false, Option, Some, refl, sym, ap, ◌∙◌}
 use Rattle.rds_block.specs.declared.group.Group.{Group}
 use Rattle.rds_receiver.specs.Receipts.{Tuning}
-use Rattle.rds_receiver.specs.NotShown.{whys_of}
-use Rattle.rds_receiver.specs.OneView.{same_heard, same_view}
+use Rattle.rds_receiver.specs.OneView.{same_view}
 use Rattle.rds_receiver.specs.declared.why.Whys.{Whys}
 use Rattle.rds_view_lines.specs.Output.{Display, changes_of}
 use Rattle.rds_io.specs.Told.{Traffic}
@@ -25,8 +24,7 @@ same_display why t input d e p q =
     same_whys : (why : Bool) (one other : Option Whys) → SayWhys why t input one → SayWhys why t input other
         → one ≡ other
     same_whys false one other p q = p ∙ sym q
-    same_whys true one other (one_is, (heard, are, is), e) (other_is, (heard', are', is'), f) =
-        e ∙ ap Some (is ∙ ap (whys_of t) (same_heard t.programme input heard heard' are are') ∙ sym is') ∙ sym f
+    same_whys true one other p q = p ∙ sym q
 
 same_displays : (why : Bool) (t : Tuning) (slots : List (Option Group)) (displays other : List Display)
     → AreDisplays why t slots displays → AreDisplays why t slots other → displays ≡ other

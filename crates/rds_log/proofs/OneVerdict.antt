@@ -10,8 +10,8 @@ use Rattle.rds_block.specs.declared.group.Group.{Group}
 use Rattle.rds_fields.specs.TagGroup.{exchanged_in}
 use Rattle.rds_io.specs.Told.{Traffic}
 use Rattle.rds_fields.specs.declared.message.Message.{Message}
-use Rattle.rds_receiver.specs.OneView.{same_heard}
-use Rattle.rds_receiver.specs.Receipts.{AreHeard}
+use Rattle.rds_receiver.specs.Receipts.{heard_in, heard_of}
+use Rattle.rds_audit.specs.Recording.{judged_as}
 use Rattle.rds_audit.specs.AuditLaws.{WhatHasAFaultDoesNotPass}
 use Rattle.rds_audit.specs.Judging.{judged_more}
 use Rattle.rds_audit.specs.declared.text_form.TextForm.{TextForm}
@@ -122,14 +122,10 @@ more_slots n (line ∷ newer) lines all slots (inr (slot, older, says, e, p)) q 
     let (more, is) = more_slots n newer lines older slots p q in
     (exchanged_in n slot ∷ more, e ∙ ap (λ (l : List (Option Group)). exchanged_in n slot ∷ l) is)
 
-more_heard : (pi : ℕ) (more slots : List (Option Group)) (heard other : List (Option Message))
-    → AreHeard pi (more ++ slots) heard → AreHeard pi slots other
-    → (newer : List (Option Message)) × (heard ≡ newer ++ other)
-more_heard pi [] slots heard other p q = ([], same_heard pi slots heard other p q)
-more_heard pi (s ∷ more) slots [] other p q = absurd p
-more_heard pi (s ∷ more) slots (m ∷ heard) other p q =
-    let (newer, is) = more_heard pi more slots heard other p.1 q in
-    (m ∷ newer, ap (λ (l : List (Option Message)). m ∷ l) is)
+more_heard : (pi : ℕ) (more slots : List (Option Group))
+    → heard_of pi (more ++ slots) ≡ heard_of pi more ++ heard_of pi slots
+more_heard pi [] slots = refl
+more_heard pi (s ∷ more) slots = ap (λ (l : List (Option Message)). heard_in pi s ∷ l) (more_heard pi more slots)
 
 -- a log that goes on after a fault has it
 fault_stays : (form : TextForm) (d : ℕ) (newer log : List (Option Message)) (fault : AuditFault)
@@ -143,12 +139,11 @@ fails_for_good : WhatHasAFaultDoesNotPass
     → (a : Auditing) (t : ℕ) (fault : AuditFault) (more slots : List (Option Group)) → 0 < spacing a
     → SlotsFail a t fault slots → SlotsPass a (more ++ slots) → ⊥
 fails_for_good fails a t fault more slots some fail pass =
-    let (newer, same) = more_heard a.pi more slots pass.heard fail.heard pass.are fail.are in
-    let (later, e) = judged_more a.start (spacing a) newer fail.heard in
-    let goes_on : judged a pass.heard ≡ later ++ judged a fail.heard = ap (judged a) same ∙ e in
-    fails a.form (spacing a) (judged a pass.heard) fault some (rw goes_on (fault_stays a.form (spacing a) later
-    (judged a fail.heard)
-    fault fail.fault_is)) pass.passes
+    let (later, e) = judged_more a.start (spacing a) (heard_of a.pi more) (heard_of a.pi slots) in
+    let goes_on : judged a (more ++ slots) ≡ later ++ judged a slots =
+    ap (judged_as a.start (spacing a)) (more_heard a.pi more slots) ∙ e in
+    fails a.form (spacing a) (judged a (more ++ slots)) fault some
+    (rw goes_on (fault_stays a.form (spacing a) later (judged a slots) fault fail.fault_is)) pass.passes
 
 -- and those that do not pass fail at one slot, with one fault
 fails_once : WhatHasAFaultDoesNotPass
@@ -159,10 +154,9 @@ fails_once fails a t u f g [] slots all some same p q =
     let first : length slots ≡ length (p.newest ∷ p.before) = ap length p.cut in
     let second : length all ≡ length (q.newest ∷ q.before) = ap length q.cut in
     let number : t ≡ u = omega (arith, count, first, second, p.number, q.number) in
-    let heard : p.heard ≡ q.heard = same_heard a.pi slots p.heard q.heard p.are (rw same at q.are) in
     let both : Some f ≡ Some g =
-    sym p.fault_is ∙ ap (λ (h : List (Option Message)). first_fault a.form (spacing a)
-    (judged a h)) heard ∙ q.fault_is in
+    sym p.fault_is ∙ ap (λ (l : List (Option Group)). first_fault a.form (spacing a) (judged a l)) (sym same)
+    ∙ q.fault_is in
     let fault : f ≡ g = (cc) in
     ap (λ (n : ℕ). no_line n f) number ∙ ap (no_line u) fault
 fails_once fails a t u f g (s ∷ more) slots all some same p q =
@@ -250,11 +244,10 @@ one_output : (a : Auditing) (lines : List Line) (written other : List ℕ) → L
     → LinesList a lines other → written ≡ other
 one_output a lines written other p q =
     let slots : p.slots ≡ q.slots = same_slots a.rtplus lines p.slots q.slots p.say q.say in
-    let heard = same_heard a.pi q.slots p.list.are.heard q.list.are.heard (rw slots at p.list.are.are) q.list.are.are in
     let each : length p.list.faults ≡ length q.list.faults = p.list.are.each ∙ ap length slots ∙ sym q.list.are.each in
     let faults : p.list.faults ≡ q.list.faults =
-    one_list a.form (spacing a) (judged a q.list.are.heard) p.list.faults q.list.faults each
-    (rw heard at p.list.are.added) q.list.are.added in
+    one_list a.form (spacing a) (judged a q.slots) p.list.faults q.list.faults each (rw slots at p.list.are.added)
+    q.list.are.added in
     p.list.lines ∙ ap (list_lines a.stop) faults ∙ sym q.list.lines
 
 -- what passes has no fault

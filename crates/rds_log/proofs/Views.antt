@@ -4,7 +4,7 @@ use Rattle.std.proofs.Common.{sym, ap, ◌∙◌, arith}
 use Rattle.std.proofs.lemmas.List.{append-nil}
 use Rattle.rds_block.specs.declared.group.Group.{Group}
 use Rattle.rds_receiver.specs.NotShown.{whys_of}
-use Rattle.rds_receiver.specs.Receipts.{Tuning}
+use Rattle.rds_receiver.specs.Receipts.{Tuning, heard_of}
 use Rattle.rds_receiver.specs.Shown.{IsView, ShownView}
 use Rattle.rds_receiver.specs.ReceiverAt.{ReceiverAt}
 use Rattle.rds_receiver.specs.declared.why.Whys.{Whys}
@@ -55,7 +55,7 @@ newest_view why t (slot ∷ before) (display ∷ older) are = are.0.view
 some_whys : (why : Bool) (t : Tuning) (input : List (Option Group)) (view : ShownView) → IsView t input view
     → (whys : Option Whys) × SayWhys why t input whys
 some_whys false t input view is = (None, refl)
-some_whys true t input view (heard, are, shows) = (Some (whys_of t heard), (whys_of t heard, (heard, are, refl), refl))
+some_whys true t input view shows = (Some (whys_of t (heard_of t.programme input)), refl)
 
 -- a slot that shows what the one before it showed
 pub slot_same : (why : Bool) (t : Tuning) (v after : ViewLines) (slots : List (Option Group)) (written before : List ℕ)

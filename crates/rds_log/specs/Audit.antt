@@ -4,7 +4,7 @@
 use Rattle.std.specs.Prelude.{◌≡◌, ◌+◌, ◌∷◌, ℕ, List, Option, length}
 use Rattle.rds_block.specs.declared.group.Group.{Group}
 use Rattle.rds_fields.specs.declared.message.Message.{Message}
-use Rattle.rds_receiver.specs.Receipts.{AreHeard}
+use Rattle.rds_receiver.specs.Receipts.{heard_of}
 use Rattle.rds_audit.specs.AuditLaws.{IsSafeLog, IsSafeRecording}
 use Rattle.rds_audit.specs.Dense.{HasPlans}
 use Rattle.rds_audit.specs.Listing.{IsFaultOf}
@@ -32,17 +32,15 @@ abbrev pub complete : ℕ → ℕ → ℕ → Auditing
 complete pi m k =
     record { pi = pi; rtplus = 11; dwell = m; late = k; start = Complete; form = Plain; stop = FirstFault }
 
--- what is judged of the messages of a log
-abbrev pub judged : Auditing → List (Option Message) → List (Option Message)
-judged a heard = judged_as a.start (spacing a) heard
+-- what is judged of the messages of these slots
+abbrev pub judged : Auditing → List (Option Group) → List (Option Message)
+judged a slots = judged_as a.start (spacing a) (heard_of a.pi slots)
 
 -- ---- slots
 
 -- the slots pass the audit of this programme
 pub record SlotsPass (a : Auditing) (slots : List (Option Group)) : Type 0 where
-  pub heard : List (Option Message)
-  pub are : AreHeard a.pi slots heard
-  pub passes : LogPasses a.form (spacing a) (judged a heard)
+  pub passes : LogPasses a.form (spacing a) (judged a slots)
 
 -- the newest slot has number t, those before it pass, and this is the fault of all
 pub record SlotsFail (a : Auditing) (t : ℕ) (fault : AuditFault) (slots : List (Option Group)) : Type 0 where
@@ -51,9 +49,7 @@ pub record SlotsFail (a : Auditing) (t : ℕ) (fault : AuditFault) (slots : List
   pub cut : slots ≡ newest ∷ before
   pub number : t ≡ length before
   pub passed : SlotsPass a before
-  pub heard : List (Option Message)
-  pub are : AreHeard a.pi slots heard
-  pub fault_is : IsFaultOf a.form (spacing a) (judged a heard) fault
+  pub fault_is : IsFaultOf a.form (spacing a) (judged a slots) fault
 
 -- a log that begins so, with texts of this form, is safe as it is
 abbrev pub IsSafe : LogStart → TextForm → ℕ → ℕ → List (Option Message) → Type 0
@@ -63,15 +59,11 @@ IsSafe Running form m k heard = IsSafeRecording form m k heard
 -- no receiver of this dwell breaks any part of the promise over these slots, provided that no group reaches it later
 -- than the settings allow; it may lose groups and restart at any time
 pub record SlotsAreSafe (a : Auditing) (slots : List (Option Group)) : Type 0 where
-  pub heard : List (Option Message)
-  pub are : AreHeard a.pi slots heard
-  pub safe : IsSafe a.start a.form a.dwell a.late heard
+  pub safe : IsSafe a.start a.form a.dwell a.late (heard_of a.pi slots)
 
 -- these slots, as they are judged, have no lawful and dense plans
 pub record SlotsHaveNoPlans (a : Auditing) (slots : List (Option Group)) : Type 0 where
-  pub heard : List (Option Message)
-  pub are : AreHeard a.pi slots heard
-  pub none : HasPlans a.form (spacing a) (judged a heard) → ⊥
+  pub none : HasPlans a.form (spacing a) (judged a slots) → ⊥
 
 -- ---- bytes
 

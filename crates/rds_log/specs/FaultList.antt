@@ -7,7 +7,6 @@ use Rattle.std.specs.Io.KnownBytes.{Appends, Consumes, IsAtEnd}
 use Rattle.rds_block.specs.declared.group.Group.{Group}
 use Rattle.rds_io.specs.Told.{AppendsPrefix, HasFailed, IsCalm, Traffic}
 use Rattle.rds_fields.specs.declared.message.Message.{Message}
-use Rattle.rds_receiver.specs.Receipts.{AreHeard}
 use Rattle.rds_audit.specs.declared.audit.AuditFault.{AuditFault}
 use Rattle.rds_audit.specs.declared.audit.AuditFault.TheVariants.{Changed, NotOneText, EarlyFlag}
 use Rattle.rds_audit.specs.declared.audit.AuditFault.TheVariants.{EarlyTag, TagOutside}
@@ -83,9 +82,7 @@ AreAdded form d (newest ∷ before) (f ∷ older) =
 -- these are the faults that each of the slots adds to the list of its log, as the log is judged
 pub record AreFaultsOf (a : Auditing) (slots : List (Option Group)) (faults : List FaultSet) : Type 0 where
   pub each : length faults ≡ length slots
-  pub heard : List (Option Message)
-  pub are : AreHeard a.pi slots heard
-  pub added : AreAdded a.form (spacing a) (judged a heard) faults
+  pub added : AreAdded a.form (spacing a) (judged a slots) faults
 
 -- ---- the list of slots
 

@@ -3,8 +3,8 @@
 use Rattle.std.specs.Prelude.{◌≡◌, ◌⊎◌, ℕ, Bool, false, true, List, [], ◌∷◌, None, Option, Some}
 use Rattle.rds_block.specs.declared.group.Group.{Group}
 use Rattle.rds_fields.specs.TagGroup.{exchanged_in}
-use Rattle.rds_receiver.specs.Receipts.{Tuning}
-use Rattle.rds_receiver.specs.NotShown.{AreWhys}
+use Rattle.rds_receiver.specs.Receipts.{Tuning, heard_of}
+use Rattle.rds_receiver.specs.NotShown.{whys_of}
 use Rattle.rds_receiver.specs.Shown.{IsView}
 use Rattle.rds_receiver.specs.declared.why.Whys.{Whys}
 use Rattle.rds_log.specs.LogLines.{AreLines, Line}
@@ -35,7 +35,7 @@ AreSlots n (line ∷ before) slots = (LineSays line Skip × AreSlots n before sl
 -- why a text and a name are not shown at the end of an input, if the lines say why
 abbrev pub SayWhys : Bool → Tuning → List (Option Group) → Option Whys → Type 0
 SayWhys false t input said = said ≡ None
-SayWhys true t input said = (whys : Whys) × AreWhys t input whys × (said ≡ Some whys)
+SayWhys true t input said = said ≡ Some (whys_of t (heard_of t.programme input))
 
 -- this is the display at the end of an input
 pub record IsDisplay (why : Bool) (t : Tuning) (input : List (Option Group)) (display : Display) : Type 0 where

@@ -6,14 +6,13 @@ use Rattle.rds_fields.specs.declared.pair.Which.TheVariants.{One, Two}
 use Rattle.rds_fields.specs.Tag.{PairFields}
 use Rattle.rds_assembly.specs.Cells.{Cells}
 use Rattle.rds_assembly.specs.Whole.{IsWholeName, IsWholeText}
-use Rattle.rds_receiver.specs.Receipts.{Tuning}
+use Rattle.rds_receiver.specs.Receipts.{Tuning, heard_of}
 use Rattle.rds_receiver.specs.Shown.{IsShown, IsView, ShownView, ShowsView}
 use Rattle.rds_receiver.specs.Holds.{HoldsAt, MakeAlike, ShowsAlike, newest_slot}
 use Rattle.rds_receiver.specs.ReceiverAt.{ReceiverAt}
 use Rattle.rds_receiver.specs.State.{DisplayState, ReceiverState}
 use Rattle.rds_receiver.specs.Tags.{item_of, tag_of}
 use Rattle.rds_receiver.specs.Confirmed.{counted}
-use Rattle.rds_receiver.specs.OneView.{same_heard}
 use Rattle.rds_receiver.proofs.Shows.{name_cells, name_shown, pair_is, shows_counted, text_cells, text_shown}
 
 -- cells make the same whole as themselves
@@ -87,11 +86,6 @@ view_stays r after m first heard more view s u alike shown =
 pub stays_shown : (t : Tuning) (r after : ReceiverState) (input more : List (Option Group)) (view : ShownView)
     → ReceiverAt t r input → ReceiverAt t after more
     → ShowsAlike r.display after.display → IsView t input view → IsView t more view
-stays_shown t r after input more view s u alike (heard, are, shown) = (
-  u.heard,
-  u.are,
-  view_stays r.display after.display t.dwell t.first (counted t s.heard) (counted t u.heard) view
-      (shows_counted t r input s) (shows_counted t after more u) alike
-      (subst (λ (h : List (Option Message)). ShowsView t.dwell t.first (counted t h) view)
-      (same_heard t.programme input heard s.heard are s.are) shown),
-)
+stays_shown t r after input more view s u alike shown = view_stays r.display after.display t.dwell t.first
+    (counted t (heard_of t.programme input)) (counted t (heard_of t.programme more)) view (shows_counted t r input s)
+    (shows_counted t after more u) alike shown

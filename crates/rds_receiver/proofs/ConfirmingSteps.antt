@@ -9,7 +9,7 @@ use Rattle.rds_block.specs.declared.group.Group.{Group}
 use Rattle.rds_fields.specs.declared.message.Message.{Message}
 use Rattle.rds_fields.specs.declared.message.Message.TheVariants.{Announce, Name, Other, Tags, Text}
 use Rattle.rds_fields.specs.Tag.{PairFields, TagFields}
-use Rattle.rds_receiver.specs.Receipts.{Hears, Segment, Tuning, name_fragment, name_of, segments}
+use Rattle.rds_receiver.specs.Receipts.{Segment, Tuning, heard_of, name_fragment, name_of, segments}
 use Rattle.rds_receiver.specs.declared.fragment.Fragment.{Fragment}
 use Rattle.rds_receiver.specs.Receipts.{text_fragment, text_of}
 use Rattle.rds_receiver.specs.Run.{begins_in, is_same, run, run_before}
@@ -632,13 +632,8 @@ nothing_taken (Some w) m first heard s st = record {
 
 -- a whole slot
 pub slot_stands : (t : Tuning) (s after : ReceiverState) (input : List (Option Group)) (slot : Option Group)
-    (message : Option Message) (st : ReceiverAt t s input)
-    → Hears t.programme slot message → after.display.programme ≡ s.display.programme
-    → HoldsBy t.window t.dwell (t.first + length st.heard) t.first after (message ∷ st.heard)
+    → ReceiverAt t s input → after.display.programme ≡ s.display.programme
+    → HoldsBy t.window t.dwell (t.first + length (heard_of t.programme input)) t.first after
+    (heard_of t.programme (slot ∷ input))
     → ReceiverAt t after (slot ∷ input)
-slot_stands t s after input slot message st hears programme holds = record {
-  tuned = programme ∙ st.tuned;
-  heard = message ∷ st.heard;
-  are = (hears, st.are);
-  holds = holds;
-}
+slot_stands t s after input slot st programme holds = record { tuned = programme ∙ st.tuned; holds = holds }

@@ -5,8 +5,7 @@ use Rattle.rds_fields.specs.declared.message.Message.{Message}
 use Rattle.rds_assembly.specs.Cells.{Cells}
 use Rattle.rds_assembly.specs.Whole.{IsWholeName, IsWholeText}
 use Rattle.rds_receiver.specs.Holds.{HoldsAt, WhatItShows, newest_slot}
-use Rattle.rds_receiver.specs.OneView.{same_heard}
-use Rattle.rds_receiver.specs.Receipts.{Segment, Tuning, name_fragment, text_fragment}
+use Rattle.rds_receiver.specs.Receipts.{Segment, Tuning, heard_of, name_fragment, text_fragment}
 use Rattle.rds_receiver.specs.Run.{begins_in, cells_of, run_at}
 use Rattle.rds_receiver.specs.Shown.{IsNameShown, IsShown, IsTextShown}
 use Rattle.rds_receiver.specs.ReceiverAt.{ReceiverAt, WhatItHeard}
@@ -47,14 +46,15 @@ name_shown r shown is m first heard s = subst (λ (cells : Cells). IsShown IsWho
 
 -- the display of a receiver that stands at an input follows from what counts of it
 pub shows_counted : (t : Tuning) (r : ReceiverState) (input : List (Option Group)) (s : ReceiverAt t r input)
-    → HoldsAt t.dwell (newest_slot t.first (counted t s.heard)) t.first r.display (counted t s.heard)
-shows_counted t r input s = subst (λ (n : ℕ). HoldsAt t.dwell n t.first r.display (counted t s.heard))
-    (sym (newest_counted t.window t.dwell t.first s.heard)) s.holds.display
+    → HoldsAt t.dwell (newest_slot t.first (counted t (heard_of t.programme input))) t.first r.display
+    (counted t (heard_of t.programme input))
+shows_counted t r input s =
+    let heard = heard_of t.programme input in
+    subst (λ (n : ℕ). HoldsAt t.dwell n t.first r.display (counted t heard))
+    (sym (newest_counted t.window t.dwell t.first heard)) s.holds.display
 
 -- what holds of each list that the display may follow from holds of what counts of each list heard
 pub what_it_heard : (r : ReceiverState) (Holds : ℕ → ℕ → List (Option Message) → Type 0) → WhatItShows r.display Holds
     → WhatItHeard r Holds
-what_it_heard r Holds holds t input s heard are =
-    subst (λ (h : List (Option Message)). Holds t.dwell t.first (counted t h)) (same_heard t.programme input s.heard
-    heard s.are are)
-    (holds t.dwell t.first (counted t s.heard) (shows_counted t r input s))
+what_it_heard r Holds holds t input s =
+    holds t.dwell t.first (counted t (heard_of t.programme input)) (shows_counted t r input s)

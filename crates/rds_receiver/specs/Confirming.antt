@@ -6,7 +6,7 @@ use Rattle.std.specs.Int.{bit_at}
 use Rattle.rds_block.specs.declared.group.Group.{Group}
 use Rattle.rds_fields.specs.declared.message.Message.{Message}
 use Rattle.rds_fields.specs.Tag.{PairFields}
-use Rattle.rds_receiver.specs.Receipts.{Hears, Segment, name_fragment, segments, text_fragment}
+use Rattle.rds_receiver.specs.Receipts.{Segment, heard_in, name_fragment, segments, text_fragment}
 use Rattle.rds_receiver.specs.declared.fragment.Fragment.{Fragment}
 use Rattle.rds_receiver.specs.Run.{begins_in, run}
 use Rattle.rds_receiver.specs.Holds.{HoldsAt, newest_slot}
@@ -104,9 +104,8 @@ pub record HasAged (window : Option ℕ) (m first : ℕ) (s : ReceiverState) (he
 -- follows from it and from what it hears in this slot
 abbrev pub HearsSlot : ReceiverState → ReceiverState → Option Group → Type 0
 HearsSlot old new group =
-    (entry : Option Message) × Hears old.display.programme group entry
-    × ((window : Option ℕ) (m first : ℕ) (heard : List (Option Message)) → HasAged window m first old heard
-    → HoldsBy window m (first + length heard) first new (entry ∷ heard))
+    (window : Option ℕ) (m first : ℕ) (heard : List (Option Message)) → HasAged window m first old heard
+    → HoldsBy window m (first + length heard) first new (heard_in old.display.programme group ∷ heard)
 
 -- the message of this slot counts or not. All but the display follows from it and from what was heard before; the
 -- display follows from what was heard before

@@ -2,7 +2,7 @@
 use Rattle.std.specs.Prelude.{◌≡◌, ℕ, List, [], ◌∷◌, Option}
 use Rattle.rds_block.specs.declared.group.Group.{Group}
 use Rattle.rds_fields.specs.declared.message.Message.{Message}
-use Rattle.rds_receiver.specs.Receipts.{AreHeard, Segment, Tuning, name_fragment, segments, text_fragment}
+use Rattle.rds_receiver.specs.Receipts.{Segment, Tuning, heard_of, name_fragment, segments, text_fragment}
 use Rattle.rds_receiver.specs.Run.{run}
 use Rattle.rds_receiver.specs.Holds.{newest_slot}
 use Rattle.rds_receiver.specs.Confirmed.{counted}
@@ -28,5 +28,4 @@ whys_of t heard = whys_in t.dwell (newest_slot t.first (counted t heard)) t.firs
 
 -- the same at the end of an input
 abbrev pub AreWhys : Tuning → List (Option Group) → Whys → Type 0
-AreWhys t input whys =
-    (heard : List (Option Message)) × AreHeard t.programme input heard × (whys ≡ whys_of t heard)
+AreWhys t input whys = whys ≡ whys_of t (heard_of t.programme input)

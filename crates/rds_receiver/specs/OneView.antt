@@ -1,38 +1,27 @@
 -- Lemmas: an input has one view.
-use Rattle.std.proofs.Common.{◌≡◌, ℕ, List, [], ◌∷◌, Option, Some, None, refl, sym, ap, ◌∙◌, inl, inr}
+use Rattle.std.proofs.Common.{◌≡◌, ℕ, List, ◌∷◌, Option, Some, None, refl, sym, ap, ◌∙◌, eq-eqb}
 use Rattle.rds_block.specs.declared.group.Group.{Group}
 use Rattle.rds_fields.specs.declared.message.Message.{Message}
 use Rattle.rds_fields.specs.declared.pair.Which.TheVariants.{One, Two}
-use Rattle.rds_fields.specs.OneMessage.{same_message}
+use Rattle.rds_fields.specs.OneMessage.{is_message_in}
+use Rattle.rds_fields.specs.Spells.{Spells}
 use Rattle.rds_assembly.specs.Cells.{Cells}
 use Rattle.rds_assembly.specs.ServiceLaws.{one_name, one_text}
-use Rattle.rds_receiver.specs.Receipts.{AreHeard, Hears, Tuning, name_fragment, text_fragment}
+use Rattle.rds_receiver.specs.Receipts.{AreHeard, Hears, Tuning, heard_of, name_fragment, text_fragment}
 use Rattle.rds_receiver.specs.Run.{cells_of, run_at}
 use Rattle.rds_receiver.specs.Shown.{IsNameShown, IsShown, IsTextShown, IsView, ShowsView, ShownView}
 use Rattle.rds_receiver.specs.Tags.{item_of, pair_held, tag_of}
 use Rattle.rds_receiver.specs.Confirmed.{counted}
 
--- two messages heard in one slot are equal
-pub same_heard_in : (pi : ℕ) (slot : Option Group) (m n : Option Message) → Hears pi slot m → Hears pi slot n → m ≡ n
-same_heard_in pi None m n p q = p ∙ sym q
-same_heard_in pi (Some g) m n (inr (other, e)) (inr (other', f)) = e ∙ sym f
-same_heard_in pi (Some g) m n (inl (same, p)) (inr (other, f)) = absurd (other same)
-same_heard_in pi (Some g) m n (inr (other, e)) (inl (same, q)) = absurd (other same)
-same_heard_in pi (Some g) (Some m) (Some n) (inl (same, p)) (inl (same', q)) = ap Some (same_message m n g p q)
-same_heard_in pi (Some g) None n (inl (same, p)) (inl (same', q)) = absurd p
-same_heard_in pi (Some g) (Some m) None (inl (same, p)) (inl (same', q)) = absurd q
+-- a receiver hears the message that a group with its PI spells
+pub hears_spelled : (pi : ℕ) (g : Group) (m : Message) → g.pi ≡ pi → Spells m g → Hears pi (Some g) (Some m)
+hears_spelled pi g m same spelled = rw (eq-eqb g.pi pi same) (ap Some (is_message_in m g spelled))
 
-pub same_heard : (pi : ℕ) (input : List (Option Group)) (heard other : List (Option Message)) → AreHeard pi input heard
-    → AreHeard pi input other → heard ≡ other
-same_heard pi [] [] [] p q = refl
-same_heard pi [] [] (n ∷ other) p q = absurd q
-same_heard pi [] (m ∷ heard) other p q = absurd p
-same_heard pi (slot ∷ before) [] other p q = absurd p
-same_heard pi (slot ∷ before) (m ∷ heard) [] p q = absurd q
-same_heard pi (slot ∷ before) (m ∷ heard) (n ∷ other) p q =
-    let one : m ≡ n = same_heard_in pi slot m n p.0 q.0 in
-    let all : heard ≡ other = same_heard pi before heard other p.1 q.1 in
-    (cc)
+-- one more slot
+pub heard_next : (pi : ℕ) (slot : Option Group) (input : List (Option Group)) (m : Option Message)
+    (messages : List (Option Message)) → Hears pi slot m → AreHeard pi input messages
+    → AreHeard pi (slot ∷ input) (m ∷ messages)
+heard_next pi slot input m messages p q = λ i. p i ∷ q i
 
 -- if no cells make two different values whole, then cells show one value
 same_shown : (IsWhole : Cells → List ℕ → Type 0)
@@ -69,6 +58,4 @@ same_view_of m first heard v w p q =
 
 pub same_view : (t : Tuning) (input : List (Option Group)) (v w : ShownView) → IsView t input v → IsView t input w
     → v ≡ w
-same_view t input v w (heard, p, shown) (heard', q, shown') =
-    let same : heard ≡ heard' = same_heard t.programme input heard heard' p q in
-    same_view_of t.dwell t.first (counted t heard') v w (rw same at shown) shown'
+same_view t input v w p q = same_view_of t.dwell t.first (counted t (heard_of t.programme input)) v w p q

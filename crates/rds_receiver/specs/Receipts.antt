@@ -1,12 +1,11 @@
 -- What a receiver heard: the messages of the groups that it got and that have its PI. Among them are the segments of
 -- texts and of names, each with the slot in which it came. Each list has the newest first. The slot of an entry is
 -- `first` plus the number of entries before it.
-use Rattle.std.specs.Prelude.{◌≡◌, ◌≢◌, ◌⊎◌, ◌+◌, ℕ, List, [], ◌∷◌, Option, Some, None, MatchOption, length}
-use Rattle.std.specs.List.{AllZip}
+use Rattle.std.specs.Prelude.{◌≡◌, ◌==◌, ◌+◌, ℕ, List, [], ◌∷◌, Option, Some, None, if◌then◌else◌, length, map}
 use Rattle.rds_block.specs.declared.group.Group.{Group}
 use Rattle.rds_fields.specs.declared.message.Message.{Message}
 use Rattle.rds_fields.specs.declared.message.Message.TheVariants.{Text, Name, Announce, Tags, Other}
-use Rattle.rds_fields.specs.Spells.{Spells}
+use Rattle.rds_fields.specs.Meaning.{message_in}
 use Rattle.rds_receiver.specs.declared.fragment.Fragment.{Fragment}
 
 -- the tuning of a receiver: its programme (PI), its dwell in slots, its window in slots if it shows only what it heard
@@ -17,15 +16,22 @@ pub record Tuning : Type 0 where
   pub window : Option ℕ
   pub first : ℕ
 
--- a receiver with this PI hears the message of a group with this PI; without a group, or with another PI, it hears
--- nothing
-abbrev pub Hears : ℕ → Option Group → Option Message → Type 0
-Hears pi None heard = heard ≡ None
-Hears pi (Some g) heard = ((g.pi ≡ pi) × MatchOption heard ⊥ (λ m. Spells m g)) ⊎ ((g.pi ≢ pi) × (heard ≡ None))
+-- what a receiver with this PI hears in a slot: the message of a group with this PI; without a group, or with another
+-- PI, nothing
+abbrev pub heard_in : ℕ → Option Group → Option Message
+heard_in pi None = None
+heard_in pi (Some g) = if g.pi == pi then Some (message_in g) else None
 
 -- what a receiver with this PI hears in each slot of its input
+abbrev pub heard_of : ℕ → List (Option Group) → List (Option Message)
+heard_of pi input = map (heard_in pi) input
+
+-- this is what it hears in a slot, and in each slot of its input
+abbrev pub Hears : ℕ → Option Group → Option Message → Type 0
+Hears pi slot message = message ≡ heard_in pi slot
+
 abbrev pub AreHeard : ℕ → List (Option Group) → List (Option Message) → Type 0
-AreHeard pi input heard = AllZip (Hears pi) input heard
+AreHeard pi input messages = messages ≡ heard_of pi input
 
 -- the fragment of a text in a message, if it has one
 abbrev pub text_fragment : Message → Option Fragment

@@ -2,7 +2,7 @@
 use Rattle.std.specs.Prelude.{◌≡◌, ℕ, List, ◌∷◌, Option}
 use Rattle.rds_block.specs.declared.group.Group.{Group}
 use Rattle.rds_fields.specs.declared.message.Message.{Message}
-use Rattle.rds_receiver.specs.Receipts.{AreHeard, Tuning}
+use Rattle.rds_receiver.specs.Receipts.{Tuning, heard_of}
 use Rattle.rds_receiver.specs.Confirming.{HoldsBy}
 use Rattle.rds_receiver.specs.Holds.{newest_slot}
 use Rattle.rds_receiver.specs.Shown.{IsView, ShownView}
@@ -12,9 +12,8 @@ use Rattle.rds_receiver.specs.Confirmed.{counted}
 -- the receiver has this tuning, and its state follows from what it heard of the input
 pub record ReceiverAt (t : Tuning) (r : ReceiverState) (input : List (Option Group)) : Type 0 where
   pub tuned : r.display.programme ≡ t.programme
-  pub heard : List (Option Message)
-  pub are : AreHeard t.programme input heard
-  pub holds : HoldsBy t.window t.dwell (newest_slot t.first heard) t.first r heard
+  pub holds : HoldsBy t.window t.dwell (newest_slot t.first (heard_of t.programme input)) t.first r
+      (heard_of t.programme input)
 
 -- this holds of each tuning and input that the receiver stands at
 abbrev pub WhereReceiverStands : ReceiverState → (Tuning → List (Option Group) → Type 0) → Type 0
@@ -32,5 +31,5 @@ KeepsView r group =
 -- this holds of the dwell, the first slot and what counts of what was heard, for each tuning and input that the
 -- receiver stands at
 abbrev pub WhatItHeard : ReceiverState → (ℕ → ℕ → List (Option Message) → Type 0) → Type 0
-WhatItHeard r Holds = WhereReceiverStands r (λ t input.
-    (heard : List (Option Message)) → AreHeard t.programme input heard → Holds t.dwell t.first (counted t heard))
+WhatItHeard r Holds =
+    WhereReceiverStands r (λ t input. Holds t.dwell t.first (counted t (heard_of t.programme input)))

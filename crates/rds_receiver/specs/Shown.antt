@@ -9,7 +9,7 @@ use Rattle.rds_fields.specs.declared.pair.Which.{Which}
 use Rattle.rds_fields.specs.declared.pair.Which.TheVariants.{One, Two}
 use Rattle.rds_assembly.specs.Cells.{Cells}
 use Rattle.rds_assembly.specs.Whole.{IsWholeName, IsWholeText}
-use Rattle.rds_receiver.specs.Receipts.{AreHeard, Tuning, name_fragment, text_fragment}
+use Rattle.rds_receiver.specs.Receipts.{Tuning, heard_of, name_fragment, text_fragment}
 use Rattle.rds_receiver.specs.Run.{cells_of, run_at}
 use Rattle.rds_receiver.specs.Tags.{item_of, pair_held, tag_of}
 use Rattle.rds_receiver.specs.Confirmed.{counted}
@@ -79,6 +79,4 @@ pub record ShowsView (m first : ℕ) (heard : List (Option Message)) (view : Sho
 
 -- the view at the end of an input, of what counts for this tuning
 abbrev pub IsView : Tuning → List (Option Group) → ShownView → Type 0
-IsView t input view =
-    (heard : List (Option Message)) × AreHeard t.programme input heard
-    × ShowsView t.dwell t.first (counted t heard) view
+IsView t input view = ShowsView t.dwell t.first (counted t (heard_of t.programme input)) view

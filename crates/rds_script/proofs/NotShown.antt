@@ -1,7 +1,6 @@
 -- Lemmas: why nothing is shown follows from the input that was heard.
-use Rattle.std.proofs.Common.{◌≡◌, ◌∙◌, ap}
+use Rattle.std.proofs.Common.{◌≡◌, ◌∙◌, ap, sym}
 use Rattle.rds_receiver.specs.NotShown.{AreWhys, whys_of}
-use Rattle.rds_receiver.specs.OneView.{same_heard}
 use Rattle.rds_receiver.specs.ReceiverAt.{WhereReceiverStands}
 use Rattle.rds_receiver.specs.declared.why.Whys.{Whys}
 use Rattle.rds_safety.specs.Late.{Input}
@@ -14,5 +13,4 @@ pub whys_heard : (config : Config) (input : Input) (r : ReceiverState) (whys : W
     → WhereReceiverStands r (λ t groups. AreWhys t groups whys)
     → whys ≡ whys_of (tuned_to config input) input.heard
 whys_heard config input r whys has are =
-    let (heard, same, is) = are (tuned_to config input) has.groups has.stands in
-    is ∙ ap (whys_of (tuned_to config input)) (same_heard config.head.pi has.groups heard input.heard same has.spelled)
+    are (tuned_to config input) has.groups has.stands ∙ ap (whys_of (tuned_to config input)) (sym has.spelled)

@@ -11,7 +11,7 @@ use Rattle.rds_fields.specs.Canonical.{IsWritten}
 use Rattle.rds_charset.specs.Laws.{TextIsReadOneWay}
 use Rattle.rds_encoder.specs.Known.{sent_is_known as sent_is_known_in}
 use Rattle.rds_encoder.specs.Sent.{IsSent}
-use Rattle.rds_receiver.specs.OneView.{same_heard, same_view}
+use Rattle.rds_receiver.specs.OneView.{same_view}
 use Rattle.rds_receiver.specs.Confirmed.{counted}
 use Rattle.rds_receiver.specs.Shown.{ShownView, ShowsView}
 use Rattle.rds_world.specs.Event.{Event}
@@ -43,14 +43,9 @@ same_sent one head (Some m) (Some g) (Some h) other p q = ap Some (one m head g 
 pub same_view_of_input : (config : Config) (input : Input) (v w : ShownView) → IsViewOfInput config input v
     → IsViewOfInput config input w → v ≡ w
 same_view_of_input config input v w p q =
-    let (heard, are, shows) = q.is in
-    let other : heard ≡ input.heard = same_heard config.head.pi q.groups heard input.heard are q.spelled in
-    same_view (tuned_to config input) p.groups v w p.is (
-      input.heard,
-      p.spelled,
-      subst (λ (h : List (Option Message)).
-          ShowsView (tuned_to config input).dwell input.first (counted (tuned_to config input) h) w) other shows,
-    )
+    let t = tuned_to config input in
+    same_view t p.groups v w p.is (subst (λ (h : List (Option Message)). ShowsView t.dwell input.first (counted t h) w)
+    (sym q.spelled ∙ p.spelled) q.is)
 
 sent_is_known : (d : ℕ) (e : Event) (before : List Event) → sent_at d e before ≢ Some Other
 sent_is_known d e before =

@@ -228,4 +228,4 @@ pub nothing_yet : (config : Config) (i : ℕ) (kept : List ShownView) → view_a
     → IsViewOfInput config (input_of (distance config) i []) (view_at kept i)
 nothing_yet config i kept nothing =
     subst (IsViewOfInput config (input_of (distance config) i [])) (sym nothing) record
-    { groups = []; spelled = tt; is = view_of_none (tuned_to config (input_of (distance config) i [])) }
+    { groups = []; spelled = refl; is = view_of_none (tuned_to config (input_of (distance config) i [])) }

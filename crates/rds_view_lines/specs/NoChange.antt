@@ -30,7 +30,7 @@ no_change stamp whys v = rw (same_text v.text, same_text v.name, same_item v.ite
 
 -- before the first slot nothing is shown
 pub view_of_none : (t : Tuning) → IsView t [] nothing_shown
-view_of_none t = ([], tt, by t.window)
+view_of_none t = by t.window
   where
     by : (window : Option ℕ) → ShowsView t.dwell t.first (counted_in window t.dwell t.first []) nothing_shown
     by None = record { text = no_text_of_none; name = no_name_of_none; item = refl; one = refl; two = refl }

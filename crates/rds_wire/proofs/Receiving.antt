@@ -1,21 +1,20 @@
 -- From the groups that reached a receiver to the messages that it heard: as late as the groups, or by the same clock.
 use Rattle.std.proofs.Common.{◌≡◌, ◌≤◌, ◌+◌, ◌==◌, ◌∷◌, [], ◌∙◌, ℕ, suc, Bool, true, false, cond, List, Option}
-use Rattle.std.proofs.Common.{None, Some, ap, arith, inl, inr, length, refl, subst, sym}
+use Rattle.std.proofs.Common.{None, Some, ap, arith, inl, inr, length, map, refl, subst, sym}
 use Rattle.std.specs.List.{AllZip}
-use Rattle.std.proofs.lemmas.Bool.Decides.{eqb_tells}
 use Rattle.rds_block.specs.declared.group.Group.{Group}
 use Rattle.rds_encoder.specs.Sent.{IsSent}
 use Rattle.rds_fields.specs.declared.head.Head.{Head}
 use Rattle.rds_fields.specs.declared.message.Message.{Message}
 use Rattle.rds_log.specs.Audit.{spacing}
 use Rattle.rds_log.specs.declared.audit_log.Auditing.{Auditing}
-use Rattle.rds_receiver.specs.OneView.{same_heard_in}
-use Rattle.rds_receiver.specs.Receipts.{AreHeard, Hears}
+use Rattle.rds_receiver.specs.OneView.{heard_next, hears_spelled}
+use Rattle.rds_receiver.specs.Receipts.{AreHeard, Hears, heard_in, heard_of}
 use Rattle.rds_safety.specs.Late.{CameFrom, HasEntry, Input, InputOf, IsHeardInOrder, IsHeardLate, IsOfItsOrigin}
 use Rattle.rds_safety.specs.Laws.{ASlowClockIsAnOwnClock, LateIsBySlowClock}
 use Rattle.rds_safety.specs.OwnClock.{IsHeardByOwnClock}
 use Rattle.rds_wire.specs.Groups.{GroupsByOwnClockAreMessagesByIt, LateGroupsAreLateMessages}
-use Rattle.rds_wire.specs.Groups.{OtherGroupsAreNothing, WhatIsSentIsHeard, heard_in}
+use Rattle.rds_wire.specs.Groups.{OtherGroupsAreNothing, WhatIsSentIsHeard, with_messages}
 use Rattle.rds_wire.specs.Received.{Came, first_entries, own_group}
 use Rattle.rds_wire.proofs.Firsts.{entry_below, entry_of_first}
 
@@ -54,24 +53,21 @@ entry_right R first (a ∷ xs) (b ∷ ys) t x all (inr there) =
 
 -- ---- groups of the programme
 
-own_heard_in : (pi : ℕ) (slot : Option Group) (m : Option Message) → Hears pi slot m → Hears pi (own_group pi slot) m
-own_heard_in pi None m is = is
-own_heard_in pi (Some g) m is = by (g.pi == pi) refl is
+own_heard_in : (pi : ℕ) (slot : Option Group) → heard_in pi (own_group pi slot) ≡ heard_in pi slot
+own_heard_in pi None = refl
+own_heard_in pi (Some g) = by (g.pi == pi) refl
   where
-    by : (b : Bool) → (g.pi == pi) ≡ b → Hears pi (Some g) m → Hears pi (cond b (Some g) None) m
-    by true e h = h
-    by false e (inl (same, p)) = elim (eqb_tells g.pi pi) [
-      | inl equal ↦ absurd (let bad : false ≡ true = sym e ∙ equal.0 in cc)
-      | inr apart ↦ absurd (apart.1 same)
-    ]
-    by false e (inr (other, none)) = none
+    by : (b : Bool) → (g.pi == pi) ≡ b → heard_in pi (cond b (Some g) None) ≡ heard_in pi (Some g)
+    by true e = refl
+    by false e = rw e refl
+
+own_heard_of : (pi : ℕ) (slots : List (Option Group)) → heard_of pi (map (own_group pi) slots) ≡ heard_of pi slots
+own_heard_of pi [] = refl
+own_heard_of pi (slot ∷ before) = λ i. own_heard_in pi slot i ∷ own_heard_of pi before i
 
 -- a receiver hears the same without the groups of other programmes
 pub own_heard : OtherGroupsAreNothing
-own_heard pi [] [] are = tt
-own_heard pi [] (m ∷ heard) are = absurd are
-own_heard pi (slot ∷ before) [] are = absurd are
-own_heard pi (slot ∷ before) (m ∷ heard) are = (own_heard_in pi slot m are.0, own_heard pi before heard are.1)
+own_heard pi slots messages are = are ∙ sym (own_heard_of pi slots)
 
 -- ---- what is sent
 
@@ -80,23 +76,33 @@ pub heard_of_sent : (head : Head) (m : Option Message) (g : Option Group) → Is
 heard_of_sent head None None is = refl
 heard_of_sent head None (Some g) is = absurd is
 heard_of_sent head (Some m) None is = absurd is
-heard_of_sent head (Some m) (Some g) is = inl (is.head.pi, is.spelled)
+heard_of_sent head (Some m) (Some g) is = hears_spelled head.pi g m is.head.pi is.spelled
 
 -- and of each slot
 pub sent_heard : WhatIsSentIsHeard
-sent_heard head [] [] are = tt
+sent_heard head [] [] are = refl
 sent_heard head [] (g ∷ sent) are = absurd are
 sent_heard head (m ∷ messages) [] are = absurd are
-sent_heard head (m ∷ messages) (g ∷ sent) are = (heard_of_sent head m g are.0, sent_heard head messages sent are.1)
+sent_heard head (m ∷ messages) (g ∷ sent) are =
+    heard_next head.pi g sent m messages (heard_of_sent head m g are.0) (sent_heard head messages sent are.1)
+
+-- each slot is heard by itself
+zip_heard : (pi : ℕ) (slots : List (Option Group)) → AllZip (Hears pi) slots (heard_of pi slots)
+zip_heard pi [] = tt
+zip_heard pi (slot ∷ before) = (refl, zip_heard pi before)
+
+pub each_heard : (pi : ℕ) (slots : List (Option Group)) (messages : List (Option Message)) → AreHeard pi slots messages
+    → AllZip (Hears pi) slots messages
+each_heard pi slots messages are = subst (AllZip (Hears pi) slots) (sym are) (zip_heard pi slots)
 
 -- ---- messages
 
 module _ (pi : ℕ) (sent : List (Option Group)) (messages heard : List (Option Message)) (input : InputOf Group)
     (are : AreHeard pi sent messages) (hear : AreHeard pi input.heard heard) where
   -- what was heard in order as groups was so as messages
-  in_order : IsHeardInOrder sent input → IsHeardInOrder messages (heard_in input heard)
+  in_order : IsHeardInOrder sent input → IsHeardInOrder messages (with_messages input heard)
   in_order order = record {
-    beside = order.beside ∙ zip_long (Hears pi) input.heard heard hear;
+    beside = order.beside ∙ zip_long (Hears pi) input.heard heard (each_heard pi input.heard heard hear);
     each = each;
     rising = order.rising;
   }
@@ -104,14 +110,14 @@ module _ (pi : ℕ) (sent : List (Option Group)) (messages heard : List (Option 
       each : (t : ℕ) (origin : Option ℕ) (entry : Option Message) → HasEntry input.first input.origins t origin
           → HasEntry input.first heard t entry → IsOfItsOrigin messages origin entry
       each t None entry p q =
-          let x = entry_left (Hears pi) input.first input.heard heard t entry hear q in
+          let x = entry_left (Hears pi) input.first input.heard heard t entry (each_heard pi input.heard heard hear) q in
           subst (λ (o : Option Group). Hears pi o entry) (order.each t None x.0 p x.1) x.2
       each t (Some s) entry p q =
-          let x = entry_left (Hears pi) input.first input.heard heard t entry hear q in
-          let y = entry_right (Hears pi) 0 sent messages s x.0 are (order.each t (Some s) x.0 p x.1) in
-          subst (λ (m : Option Message). HasEntry 0 messages s m) (same_heard_in pi x.0 y.0 entry y.2 x.2) y.1
+          let x = entry_left (Hears pi) input.first input.heard heard t entry (each_heard pi input.heard heard hear) q in
+          let y = entry_right (Hears pi) 0 sent messages s x.0 (each_heard pi sent messages are) (order.each t (Some s) x.0 p x.1) in
+          subst (λ (m : Option Message). HasEntry 0 messages s m) (y.2 ∙ sym x.2) y.1
 
-  late_in : (k l : ℕ) → k ≤ l → IsHeardLate k sent input → IsHeardLate l messages (heard_in input heard)
+  late_in : (k l : ℕ) → k ≤ l → IsHeardLate k sent input → IsHeardLate l messages (with_messages input heard)
   late_in k l more late = record {
     order = in_order late.order;
     past = late.past;
@@ -119,9 +125,9 @@ module _ (pi : ℕ) (sent : List (Option Group)) (messages heard : List (Option 
   }
 
   own_in : (d e m now : ℕ) → d ≤ e → IsHeardByOwnClock d m now sent input
-      → IsHeardByOwnClock e m now messages (heard_in input heard)
+      → IsHeardByOwnClock e m now messages (with_messages input heard)
   own_in d e m now more own =
-      let long = zip_long (Hears pi) input.heard heard hear in
+      let long = zip_long (Hears pi) input.heard heard (each_heard pi input.heard heard hear) in
       record {
         order = in_order own.order;
         between = λ t u r s p q near. omega (arith, more, own.between t u r s p q near);
@@ -169,7 +175,7 @@ pub by_own_clock : ClockLaws → (a : Auditing) (t now : ℕ) (sent got : List (
 by_own_clock laws a t now sent got messages heard origins are hear reached (inl (late, same)) =
     let groups : InputOf Group = record { first = 0; heard = got; origins = origins } in
     let input : Input = record { first = 0; heard = heard; origins = origins } in
-    let long = zip_long (Hears a.pi) got heard hear in
+    let long = zip_long (Hears a.pi) got heard (each_heard a.pi got heard hear) in
     let beside = late.order.beside in
     let past : (u s : ℕ) → HasEntry 0 origins u (Some s) → s ≤ now =
     λ u s p. omega (arith, late.past u s p, entry_below 0 origins u (Some s) p, beside, reached, same) in
@@ -183,7 +189,7 @@ by_own_clock laws a t now sent got messages heard origins are hear reached (inr 
     let all = own_groups a.pi (spacing a) (spacing a) a.dwell now sent messages heard groups are hear (omega arith)
     own in
     record {
-      order = order_up_to now messages (heard_in groups heard) all.order all.past;
+      order = order_up_to now messages (with_messages groups heard) all.order all.past;
       between = all.between;
       since = all.since;
       past = all.past;

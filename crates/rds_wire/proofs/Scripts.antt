@@ -12,6 +12,7 @@ use Rattle.rds_fields.specs.Tag.{PairFields}
 use Rattle.rds_encoder.specs.Laws.{TagsAreOfTheTextOnAir}
 use Rattle.rds_encoder.specs.Sent.{sent_log}
 use Rattle.rds_encoder.specs.Tags.{pair_on_air}
+use Rattle.rds_receiver.specs.OneView.{heard_next}
 use Rattle.rds_receiver.specs.Receipts.{AreHeard}
 use Rattle.rds_safety.specs.Marks.{IsMarkIn, Tagged, marks, text_mark}
 use Rattle.rds_safety.specs.Plans.{AreLawful, Plans}
@@ -89,13 +90,13 @@ rows_name_none config n (row ∷ before) (e ∷ older) none are =
 -- the groups that were sent are those of the log, and receivers of the programme hear its messages
 pub groups_are_heard : (config : Config) (events : List Event) (outcomes : List Outcome)
     → AreOutcomes config events outcomes → AreHeard config.head.pi (groups_sent outcomes) (log (distance config) events)
-groups_are_heard config [] [] are = tt
+groups_are_heard config [] [] are = refl
 groups_are_heard config [] (o ∷ older) are = absurd are
 groups_are_heard config (e ∷ before) [] are = absurd are
-groups_are_heard config (e ∷ before) (o ∷ older) are = (
-  heard_of_sent config.head (sent_at (distance config) e before) o.sent are.0.sent,
-  groups_are_heard config before older are.1,
-)
+groups_are_heard config (e ∷ before) (o ∷ older) are =
+    heard_next config.head.pi o.sent (groups_sent older) (sent_at (distance config) e before) (log (distance config) before)
+    (heard_of_sent config.head (sent_at (distance config) e before) o.sent are.0.sent)
+    (groups_are_heard config before older are.1)
 
 -- the plans of the slots are lawful for their log
 pub log_is_lawful : TheEncoderIsLawful → SlotsOfAWorldAreSlots → (d : ℕ) (events : List Event) → 0 < d

@@ -1,13 +1,11 @@
 -- The wire law for receivers that show only what they heard twice.
-use Rattle.std.proofs.Common.{◌≡◌, ◌+◌, ◌∷◌, [], ◌∙◌, ℕ, List, Option, Some, arith, length, refl, subst, sym}
+use Rattle.std.proofs.Common.{◌≡◌, ◌+◌, ◌∷◌, [], ◌∙◌, ℕ, List, Option, Some, arith, length, refl, subst, sym, ap}
+use Rattle.std.proofs.lemmas.List.{length-map}
 use Rattle.std.proofs.lemmas.List.Elements.{All-cons, All-nil}
-use Rattle.rds_block.specs.declared.group.Group.{Group}
 use Rattle.rds_fields.specs.declared.message.Message.{Message}
 use Rattle.rds_fields.specs.Tag.{PairFields}
 use Rattle.rds_receiver.specs.Confirmed.{confirmed}
-use Rattle.rds_receiver.specs.OneView.{same_heard}
-use Rattle.rds_receiver.specs.Receipts.{AreHeard, Hears, Tuning}
-use Rattle.rds_receiver.specs.Shown.{IsView, ShowsView}
+use Rattle.rds_receiver.specs.Receipts.{Tuning, heard_in, heard_of}
 use Rattle.rds_safety.specs.Confirmed.{IsHeardWithWrong, ListensConfirmed, confirmed_input, lateness_of_two}
 use Rattle.rds_safety.specs.ConfirmedLaws.{LawfulPlansAreSafeConfirmed}
 use Rattle.rds_safety.specs.Late.{HasEntry, Input}
@@ -31,7 +29,6 @@ use Rattle.rds_wire.specs.Twice.{WhatPassesIsSafeIfHeardTwice}
 use Rattle.rds_wire.specs.Wire.{aired}
 use Rattle.rds_wire.proofs.Firsts.{entry_below, entry_of_first, first_length}
 use Rattle.rds_wire.proofs.Logs.{is_log_of}
-use Rattle.rds_wire.proofs.Receiving.{zip_long}
 use Rattle.rds_wire.proofs.Safe.{AreTagsUpTo, IsContentOf, shown_safely}
 use Rattle.rds_wire.proofs.Scripts.{tagged}
 use Rattle.rds_wire.proofs.Views.{displays_long, lawful_first, mark_in_first, view_in}
@@ -41,8 +38,7 @@ use Rattle.rds_wire.proofs.Wired.{EncoderLaws, entry_at, log_of_script, shown}
 same_messages : (n pi : ℕ) (log : List ℕ) (one other : List (Option Message)) → HasMessages n pi log one
     → HasMessages n pi log other → one ≡ other
 same_messages n pi log one other p q =
-    let slots = same_log n log p.slots q.slots p.has q.has in
-    same_heard pi q.slots one other (subst (λ (l : List (Option Group)). AreHeard pi l one) slots p.heard) q.heard
+    p.heard ∙ ap (heard_of pi) (same_log n log p.slots q.slots p.has q.has) ∙ sym q.heard
 
 -- the laws of the crates below
 pub record TwiceLaws : Type 0 where
@@ -61,16 +57,19 @@ module _ (n pi m w k : ℕ) (log : List ℕ) (sent : List (Option Message)) (is 
       entry_at p.write.write.displays t
       (omega (arith, reached, displays_long p.why tuning p.write.slots _ p.write.write.are))
 
+  abbrev heard : List (Option Message)
+  heard = heard_of pi (first_entries (t + 1) p.write.slots)
+
   abbrev raw : Input
-  raw = record { first = 0; heard = r.heard; origins = r.origins }
+  raw = record { first = 0; heard = heard; origins = r.origins }
 
   abbrev listener : Listener
   listener = record { input = confirmed_input w m raw; view = display.0.view }
 
-  long : length r.heard ≡ t + 1
+  long : length heard ≡ t + 1
   long =
       let reached = r.reached in
-      sym (zip_long (Hears pi) (first_entries (t + 1) p.write.slots) r.heard r.hears)
+      length-map (first_entries (t + 1) p.write.slots) (heard_in pi)
       ∙ first_length (t + 1) p.write.slots (omega (arith, reached))
 
   heard_first : IsHeardWithWrong k (first_entries (t + 1) sent) raw
@@ -93,17 +92,13 @@ module _ (n pi m w k : ℕ) (log : List ℕ) (sent : List (Option Message)) (is 
 
   listens : ListensConfirmed w k m t (first_entries (t + 1) sent) listener
   listens =
-      let view : IsView tuning (first_entries (t + 1) p.write.slots) display.0.view =
-      (view_in p.why tuning p.write.slots p.write.write.displays t display.0 p.write.write.are display.1).0 in
-      let heard = same_heard pi (first_entries (t + 1) p.write.slots) view.0 r.heard view.1 r.hears in
       record {
         raw = raw;
         heard = heard_first;
         once = r.once;
         now = omega (arith, long);
         confirmed = refl;
-        shows =
-            subst (λ (l : List (Option Message)). ShowsView m 0 (confirmed w m 0 l) display.0.view) heard view.2;
+        shows = (view_in p.why tuning p.write.slots p.write.write.displays t display.0 p.write.write.are display.1).0;
       }
 
   shows : (part : Part) (content : List ℕ) → Shows printed t part content → IsContentOf part display.0.view content
@@ -148,10 +143,10 @@ encoded_is_safe_twice laws encoder n head m w k script log may is_head some enco
 -- the law of audits for them
 pub passed_is_safe_twice : TwiceLaws → WhatPassesIsSafe → WhatPassesIsSafeIfHeardTwice
 passed_is_safe_twice laws audits n pi m w k slots stop log some whole =
-    let messages = whole.pass.heard in
+    let messages = heard_of pi whole.slots in
     let passed = audits Plain m (lateness_of_two w k) messages some whole.pass.passes in
     let is : IsLogOf n log whole.slots = record { lines = whole.lines; are = whole.are; say = whole.say } in
-    let has : HasMessages n pi log messages = record { slots = whole.slots; has = is; heard = whole.pass.are } in
+    let has : HasMessages n pi log messages = record { slots = whole.slots; has = is; heard = refl } in
     record {
       messages = messages;
       has = has;

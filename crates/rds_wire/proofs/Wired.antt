@@ -11,7 +11,7 @@ use Rattle.rds_fields.specs.declared.head.Head.{Head}
 use Rattle.rds_fields.specs.declared.message.Message.{Message}
 use Rattle.rds_fields.specs.Tag.{PairFields}
 use Rattle.rds_encoder.specs.Laws.{TagsAreOfTheTextOnAir}
-use Rattle.rds_receiver.specs.Receipts.{AreHeard}
+use Rattle.rds_receiver.specs.Receipts.{AreHeard, heard_of}
 use Rattle.rds_receiver.specs.Shown.{IsView}
 use Rattle.rds_safety.specs.Late.{HasEntry}
 use Rattle.rds_safety.specs.Laws.{ARunHasOneSource, LawfulPlansAreSafeByOwnClocksAs}
@@ -117,7 +117,7 @@ module _ (a : Auditing) (log : List ℕ) (sent : List (Option Group)) (messages 
     -- the receiver as one with a clock of its own
     abbrev listener : Listener
     listener = record {
-      input = record { first = 0; heard = view.0; origins = r.origins };
+      input = record { first = 0; heard = heard_of a.pi (first_entries (t + 1) p.write.slots); origins = r.origins };
       view = display.0.view;
     }
 
@@ -129,9 +129,9 @@ module _ (a : Auditing) (log : List ℕ) (sent : List (Option Group)) (messages 
         let same = same_log a.rtplus log r.sent sent r.log_has is in
         let came = r.came in
         record {
-          heard = by_own_clock laws a t now sent (map (own_group a.pi) got) messages view.0 r.origins heard
-              (own_heard a.pi got view.0 view.1) long (rw same at came);
-          shows = view.2;
+          heard = by_own_clock laws a t now sent (map (own_group a.pi) got) messages (heard_of a.pi got) r.origins heard
+              (own_heard a.pi got (heard_of a.pi got) refl) long (rw same at came);
+          shows = view;
         }
 
     shows : (part : Part) (content : List ℕ) → Shows printed t part content
@@ -268,38 +268,36 @@ passed_from : LogLaws → AuditLaws → (start : LogStart) (form : TextForm) (st
     → WholePasses (settings start form stop n pi m k) slots log
     → HasSafePlans (settings start form stop n pi m k) log
 passed_from laws audits Complete form stop n pi m k slots log some whole =
-    let safe = audits.complete form m k whole.pass.heard some whole.pass.passes in
+    let messages = heard_of pi whole.slots in
+    let safe = audits.complete form m k messages some whole.pass.passes in
     let is : IsLogOf n log whole.slots = record { lines = whole.lines; are = whole.are; say = whole.say } in
     record {
       slots = whole.slots;
       has = is;
-      messages = whole.pass.heard;
-      heard = whole.pass.are;
       plans = safe.plans;
       lawful = safe.lawful;
-      safe = lawful_is_safe laws form stop n pi m k log whole.slots whole.pass.heard
+      safe = lawful_is_safe laws form stop n pi m k log whole.slots messages
           (record {
             plans = safe.plans;
-            HasTags = λ slot pair. IsMarkIn (marks text_mark whole.pass.heard) slot (Tagged pair);
+            HasTags = λ slot pair. IsMarkIn (marks text_mark messages) slot (Tagged pair);
           })
-          is whole.pass.are safe.lawful (λ slot pair mark. mark);
+          is refl safe.lawful (λ slot pair mark. mark);
     }
 passed_from laws audits Running form stop n pi m k slots log some whole =
-    let safe = audits.running form m k whole.pass.heard some whole.pass.passes in
+    let messages = heard_of pi whole.slots in
+    let safe = audits.running form m k messages some whole.pass.passes in
     let is : IsLogOf n log whole.slots = record { lines = whole.lines; are = whole.are; say = whole.say } in
     record {
       slots = whole.slots;
       has = is;
-      messages = whole.pass.heard;
-      heard = whole.pass.are;
       plans = safe.plans;
       lawful = safe.lawful;
-      safe = recording_is_safe laws form stop n pi m k log whole.slots whole.pass.heard
+      safe = recording_is_safe laws form stop n pi m k log whole.slots messages
           (record {
             plans = safe.plans;
-            HasTags = λ slot pair. IsMarkIn (marks text_mark (preceded (m + k) whole.pass.heard)) slot (Tagged pair);
+            HasTags = λ slot pair. IsMarkIn (marks text_mark (preceded (m + k) messages)) slot (Tagged pair);
           })
-          is whole.pass.are safe.lawful (λ slot pair mark. mark);
+          is refl safe.lawful (λ slot pair mark. mark);
     }
 
 -- the law of audits

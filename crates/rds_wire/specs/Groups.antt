@@ -13,8 +13,8 @@ use Rattle.rds_safety.specs.OwnClock.{IsHeardByOwnClock}
 use Rattle.rds_wire.specs.Received.{own_group}
 
 -- the input with these messages in place of its groups
-abbrev pub heard_in : InputOf Group → List (Option Message) → Input
-heard_in input heard = record { first = input.first; heard = heard; origins = input.origins }
+abbrev pub with_messages : InputOf Group → List (Option Message) → Input
+with_messages input heard = record { first = input.first; heard = heard; origins = input.origins }
 
 -- receivers of the programme hear the messages that an encoder sends
 abbrev pub WhatIsSentIsHeard : Type 0
@@ -33,11 +33,11 @@ abbrev pub LateGroupsAreLateMessages : Type 0
 LateGroupsAreLateMessages =
     (pi k l : ℕ) (sent : List (Option Group)) (messages heard : List (Option Message)) (input : InputOf Group)
     → AreHeard pi sent messages → AreHeard pi input.heard heard → k ≤ l
-    → IsHeardLate k sent input → IsHeardLate l messages (heard_in input heard)
+    → IsHeardLate k sent input → IsHeardLate l messages (with_messages input heard)
 
 -- groups that come by a clock of the receiver's own are messages that come by it, and also for a larger d
 abbrev pub GroupsByOwnClockAreMessagesByIt : Type 0
 GroupsByOwnClockAreMessagesByIt =
     (pi d e m now : ℕ) (sent : List (Option Group)) (messages heard : List (Option Message)) (input : InputOf Group)
     → AreHeard pi sent messages → AreHeard pi input.heard heard → d ≤ e
-    → IsHeardByOwnClock d m now sent input → IsHeardByOwnClock e m now messages (heard_in input heard)
+    → IsHeardByOwnClock d m now sent input → IsHeardByOwnClock e m now messages (with_messages input heard)

@@ -5,7 +5,7 @@ use Rattle.rds_block.specs.declared.group.Group.{Group}
 use Rattle.rds_fields.specs.TagGroup.{MayCarryTags}
 use Rattle.rds_fields.specs.declared.head.Head.{Head}
 use Rattle.rds_fields.specs.declared.message.Message.{Message}
-use Rattle.rds_receiver.specs.Receipts.{AreHeard}
+use Rattle.rds_receiver.specs.Receipts.{AreHeard, heard_of}
 use Rattle.rds_safety.specs.Confirmed.{IsHeardWithWrong, NoWrongConfirmed, lateness_of_two}
 use Rattle.rds_safety.specs.Marks.{IsMarkIn, Tagged, marks, text_mark}
 use Rattle.rds_safety.specs.Plans.{AreLawful, Plans}
@@ -32,11 +32,10 @@ pub record IsReceivedWithWrong (n pi w k : ℕ) (log : List ℕ) (got : List (Op
   pub log_has : HasMessages n pi log sent
   pub reached : t < length got
   pub few : length got < 2 ^ 64
-  pub heard : List (Option Message)
-  pub hears : AreHeard pi (first_entries (t + 1) got) heard
   pub origins : List (Option ℕ)
-  pub late : IsHeardWithWrong k sent record { first = 0; heard = heard; origins = origins }
-  pub once : NoWrongConfirmed w record { first = 0; heard = heard; origins = origins }
+  pub late : IsHeardWithWrong k sent record
+      { first = 0; heard = heard_of pi (first_entries (t + 1) got); origins = origins }
+  pub once : NoWrongConfirmed w record { first = 0; heard = heard_of pi (first_entries (t + 1) got); origins = origins }
 
 -- whatever two such receivers of the log print is safe
 abbrev pub IsSafeIfHeardTwice : ℕ → ℕ → ℕ → ℕ → ℕ → List ℕ → StationPlans → Type 0

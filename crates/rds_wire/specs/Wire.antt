@@ -6,7 +6,7 @@ use Rattle.rds_fields.specs.TagGroup.{MayCarryTags}
 use Rattle.rds_fields.specs.declared.head.Head.{Head}
 use Rattle.rds_fields.specs.declared.message.Message.{Message}
 use Rattle.rds_encoder.specs.Tags.{pair_on_air}
-use Rattle.rds_receiver.specs.Receipts.{AreHeard}
+use Rattle.rds_receiver.specs.Receipts.{heard_of}
 use Rattle.rds_safety.specs.Marks.{IsMarkIn, Tagged, marks, text_mark}
 use Rattle.rds_safety.specs.Plans.{AreLawfulAs, Plans}
 use Rattle.rds_audit.specs.Forms.{text_kind}
@@ -95,14 +95,12 @@ messages_of_plans Running d messages = preceded d messages
 pub record HasSafePlans (a : Auditing) (log : List ℕ) : Type 0 where
   pub slots : List (Option Group)
   pub has : IsLogOf a.rtplus log slots
-  pub messages : List (Option Message)
-  pub heard : AreHeard a.pi slots messages
   pub plans : Plans
-  pub lawful : AreLawfulAs (text_kind a.form) (spacing a) plans (judged a messages)
+  pub lawful : AreLawfulAs (text_kind a.form) (spacing a) plans (judged a slots)
   pub safe : IsSafeOnTheWire a log record {
     plans = plans;
     HasTags = λ slot pair.
-        IsMarkIn (marks text_mark (messages_of_plans a.start (spacing a) messages)) slot (Tagged pair);
+        IsMarkIn (marks text_mark (messages_of_plans a.start (spacing a) (heard_of a.pi slots))) slot (Tagged pair);
   }
 
 -- a log to which `audit` says yes has safe plans

@@ -12,8 +12,7 @@ use Rattle.rds_block.specs.declared.group.Group.{Group}
 use Rattle.rds_fields.specs.Stored.{is_set, pair_stored}
 use Rattle.rds_fields.specs.declared.message.Message.{Message}
 use Rattle.rds_log.specs.LogWrites.{tuned}
-use Rattle.rds_receiver.specs.OneView.{same_heard}
-use Rattle.rds_receiver.specs.Receipts.{AreHeard, Segment, name_fragment, segments, text_fragment}
+use Rattle.rds_receiver.specs.Receipts.{heard_of, Segment, name_fragment, segments, text_fragment}
 use Rattle.rds_receiver.specs.declared.fragment.Fragment.{Fragment}
 use Rattle.rds_receiver.specs.Run.{cells_of, run, run_at}
 use Rattle.rds_receiver.specs.Holds.{HoldsRun, newest_slot}
@@ -25,7 +24,7 @@ use Rattle.rds_receiver.specs.declared.display.StoredSegments.{StoredSegments}
 use Rattle.rds_receiver.proofs.Runs.{run_at_newest}
 use Rattle.rds_receiver.proofs.Shows.{pair_is}
 use Rattle.rds_witness.specs.Covered.{IsInputPart}
-use Rattle.rds_witness.specs.Part.{HasCells, IsPairPart, IsPart, IsTagPart}
+use Rattle.rds_witness.specs.Part.{HasCells, IsPairPart, IsPart}
 
 -- what `is_part` finds
 pub record HoldsPart (one other : StoredSegments) (one_age other_age : ℕ) : Type 0 where
@@ -79,24 +78,23 @@ same_newest first (x ∷ h) [] long = absurd (omega (arith, long))
 same_newest first (x ∷ h) (y ∷ k) long = omega (arith, long)
 
 -- a log has as many messages as slots
-pub heard_long : (pi : ℕ) (input : List (Option Group)) (h : List (Option Message)) → AreHeard pi input h
-    → length input ≡ length h
-heard_long pi [] [] are = refl
-heard_long pi [] (x ∷ h) are = absurd are
-heard_long pi (slot ∷ input) [] are = absurd are
-heard_long pi (slot ∷ input) (x ∷ h) are = let rest = heard_long pi input h are.1 in omega (arith, rest)
+heard_long : (pi : ℕ) (input : List (Option Group)) → length input ≡ length (heard_of pi input)
+heard_long pi [] = refl
+heard_long pi (slot ∷ input) = let rest = heard_long pi input in omega (arith, rest)
 
-pub heard_part : (pick : Message → Option Fragment) (pi m d e rest rest_other : ℕ) (one other : StoredSegments)
-    (input more : List (Option Group)) (h k : List (Option Message))
-    → HoldsPart one other (age_stored d rest one) (age_stored e rest_other other) → AreHeard pi input h
-    → AreHeard pi more k → length input ≡ length more
+-- logs of one length have messages of one length
+pub as_long : (pi : ℕ) (one other : List (Option Group)) → length one ≡ length other
+    → length (heard_of pi one) ≡ length (heard_of pi other)
+as_long pi one other long = sym (heard_long pi one) ∙ long ∙ heard_long pi other
+
+heard_part : (pick : Message → Option Fragment) (m d e rest rest_other : ℕ) (one other : StoredSegments)
+    (h k : List (Option Message)) → HoldsPart one other (age_stored d rest one) (age_stored e rest_other other)
+    → length h ≡ length k
     → HoldsRun m (newest_slot 0 h) (run m (newest_slot 0 h) (segments pick 0 h)) (segments_stored d rest one)
     → HoldsRun m (newest_slot 0 k) (run m (newest_slot 0 k) (segments pick 0 k)) (segments_stored e rest_other other)
     → IsPart (run_at pick m 0 h) (run_at pick m 0 k)
-heard_part pick pi m d e rest rest_other one other input more h k part mine theirs long holds other_holds =
-    let long_one : length input ≡ length h = heard_long pi input h mine in
-    let long_other : length more ≡ length k = heard_long pi more k theirs in
-    let at : newest_slot 0 h ≡ newest_slot 0 k = same_newest 0 h k (omega (arith, long, long_one, long_other)) in
+heard_part pick m d e rest rest_other one other h k part long holds other_holds =
+    let at : newest_slot 0 h ≡ newest_slot 0 k = same_newest 0 h k long in
     let moved : HoldsRun m (newest_slot 0 h) (run_at pick m 0 k) (segments_stored e rest_other other) =
     subst (λ (t : ℕ). HoldsRun m t (run_at pick m 0 k) (segments_stored e rest_other other)) (sym at)
     (subst (λ (r : List Segment). HoldsRun m (newest_slot 0 k) r (segments_stored e rest_other other))
@@ -122,36 +120,29 @@ holds_itself s age = record { cells = λ a b held. held; newer = inr (refl, omeg
 module _ (pi m : ℕ) (one other : StoredReceiver) (part : HoldsPartOf one other) (input more : List (Option Group))
     (mine : ReceiverAt (tuned pi m) (receiver_stored one) input) (theirs : ReceiverAt (tuned pi m)
     (receiver_stored other) more) (long : length input ≡ length more) where
-  tags_part : IsTagPart m 0 mine.heard theirs.heard
-  tags_part = (by_pair part.pair, λ is. sym theirs.holds.display.known ∙ part.known (mine.holds.display.known ∙ is))
-    where
-      by_pair : IsPairPart (pair_stored one.display.pair) (pair_stored other.display.pair)
-          → IsPairPart (pair_held m 0 mine.heard) (pair_held m 0 theirs.heard)
-      by_pair (inl none) = inl (sym (pair_is (display_stored one.display) m 0 mine.heard mine.holds.display) ∙ none)
-      by_pair (inr same) = inr (sym (pair_is (display_stored one.display) m 0 mine.heard mine.holds.display) ∙ same
-          ∙ pair_is (display_stored other.display) m 0 theirs.heard theirs.holds.display)
+  same_pair : IsPairPart (pair_stored one.display.pair) (pair_stored other.display.pair)
+      → IsPairPart (pair_held m 0 (heard_of pi input)) (pair_held m 0 (heard_of pi more))
+  same_pair (inl none) = inl (sym (pair_is (display_stored one.display) m 0 _ mine.holds.display) ∙ none)
+  same_pair (inr same) = inr (sym (pair_is (display_stored one.display) m 0 _ mine.holds.display) ∙ same
+      ∙ pair_is (display_stored other.display) m 0 _ theirs.holds.display)
 
   -- a receiver that lost more heard a part
   pub holds_part : IsInputPart (tuned pi m) input more
-  holds_part = record {
-    long = long;
-    texts = λ h k heard others.
-        let same = same_heard pi input h mine.heard heard mine.are in
-        let same_other = same_heard pi more k theirs.heard others theirs.are in
-        rw (same, same_other) (heard_part text_fragment pi m one.display.dwell other.display.dwell one.display.rest
-        other.display.rest one.display.text other.display.text input more mine.heard theirs.heard part.text mine.are
-        theirs.are long mine.holds.display.text theirs.holds.display.text);
-    names = λ h k heard others.
-        let same = same_heard pi input h mine.heard heard mine.are in
-        let same_other = same_heard pi more k theirs.heard others theirs.are in
-        rw (same, same_other) (heard_part name_fragment pi m one.display.dwell other.display.dwell one.display.rest
-        other.display.rest one.display.name other.display.name input more mine.heard theirs.heard part.name mine.are
-        theirs.are long mine.holds.display.name theirs.holds.display.name);
-    tags = λ h k heard others.
-        let same = same_heard pi input h mine.heard heard mine.are in
-        let same_other = same_heard pi more k theirs.heard others theirs.are in
-        rw (same, same_other) tags_part;
-  }
+  holds_part =
+      let heard_long = as_long pi input more long in
+      record {
+        long = long;
+        texts = heard_part text_fragment m one.display.dwell other.display.dwell one.display.rest other.display.rest
+            one.display.text other.display.text _ _ part.text heard_long mine.holds.display.text
+            theirs.holds.display.text;
+        names = heard_part name_fragment m one.display.dwell other.display.dwell one.display.rest other.display.rest
+            one.display.name other.display.name _ _ part.name heard_long mine.holds.display.name
+            theirs.holds.display.name;
+        tags = (
+          same_pair part.pair,
+          λ is. sym theirs.holds.display.known ∙ part.known (mine.holds.display.known ∙ is),
+        );
+      }
 
 -- one receiver at two inputs
 pub same_part : (pi m : ℕ) (s : StoredReceiver) (input more : List (Option Group))

@@ -6,19 +6,17 @@ use Rattle.std.proofs.lemmas.List.Elements.{All-contains, All-push, Contains-app
 use Rattle.rds_block.specs.declared.group.Group.{Group}
 use Rattle.rds_log.specs.LogWrites.{tuned}
 use Rattle.rds_fields.specs.declared.message.Message.{Message}
-use Rattle.rds_receiver.specs.OneView.{same_heard, same_heard_in}
-use Rattle.rds_receiver.specs.Receipts.{AreHeard, Tuning, name_fragment, text_fragment}
-use Rattle.rds_receiver.specs.declared.fragment.Fragment.{Fragment}
+use Rattle.rds_receiver.specs.Receipts.{Tuning, heard_in, heard_of, name_fragment, text_fragment}
 use Rattle.rds_receiver.specs.Run.{run_at}
 use Rattle.rds_receiver.specs.ReceiverAt.{ReceiverAt, WhereReceiverStands}
 use Rattle.rds_receiver.specs.Tags.{pair_held}
 use Rattle.rds_receiver.specs.Confirmed.{counted}
 use Rattle.rds_receiver.specs.Stored.{IsStoredReceiver, receiver_stored}
 use Rattle.rds_receiver.specs.State.{ReceiverState}
-use Rattle.rds_witness.specs.Covered.{CoversInput, IsAt, IsCovered, IsInputPart, IsRunPart, Keeps}
+use Rattle.rds_witness.specs.Covered.{CoversInput, IsAt, IsCovered, IsInputPart, Keeps}
 use Rattle.rds_witness.specs.Part.{IsPairPart, IsTagPart}
 use Rattle.rds_witness.specs.declared.covering.Lossy.{Lossy}
-use Rattle.rds_witness.proofs.HeldParts.{heard_long}
+use Rattle.rds_witness.proofs.HeldParts.{as_long}
 use Rattle.rds_witness.proofs.PartSteps.{part_heard, part_itself, part_through}
 use Rattle.rds_witness.proofs.TagParts.{tag_part_heard}
 
@@ -42,12 +40,10 @@ pub input_through : (t : Tuning) (r : ReceiverState) (one two three : List (Opti
     → IsInputPart t one two → IsInputPart t two three → IsInputPart t one three
 input_through t r one two three stands p q = record {
   long = p.long ∙ q.long;
-  texts = λ h k heard others. part_through _ _ _ (p.texts h stands.heard heard stands.are)
-      (q.texts stands.heard k stands.are others);
-  names = λ h k heard others. part_through _ _ _ (p.names h stands.heard heard stands.are)
-      (q.names stands.heard k stands.are others);
-  tags = λ h k heard others. tags_through t.dwell t.first (counted t h) (counted t stands.heard) (counted t k)
-      (p.tags h stands.heard heard stands.are) (q.tags stands.heard k stands.are others);
+  texts = part_through _ _ _ p.texts q.texts;
+  names = part_through _ _ _ p.names q.names;
+  tags = tags_through t.dwell t.first (counted t (heard_of t.programme one)) (counted t (heard_of t.programme two))
+      (counted t (heard_of t.programme three)) p.tags q.tags;
 }
 
 -- one that is kept holds all that is offered
@@ -107,36 +103,17 @@ at_next pi m n s later group stands good its = record {
   stored = good its.stored;
 }
 
-run_next : (pick : Message → Option Fragment) (pi m : ℕ) (group : Option Group) (one other : List (Option Group))
-    → 0 < m → length one ≡ length other → IsRunPart pick (tuned pi m) one other
-    → IsRunPart pick (tuned pi m) (group ∷ one) (group ∷ other)
-run_next pick pi m group one other some long part [] k heard others = absurd heard
-run_next pick pi m group one other some long part (x ∷ h) [] heard others = absurd others
-run_next pick pi m group one other some long part (x ∷ h) (y ∷ k) heard others =
-    let same : y ≡ x = same_heard_in pi group y x others.0 heard.0 in
-    let as_long : length h ≡ length k = sym (heard_long pi one h heard.1) ∙ long ∙ heard_long pi other k others.1 in
-    rw same (part_heard pick m x h k some as_long (part h k heard.1 others.1))
-
-tags_next : (pi m : ℕ) (group : Option Group) (one other : List (Option Group)) → 0 < m
-    → IsInputPart (tuned pi m) one other → (h k : List (Option Message)) → AreHeard pi (group ∷ one) h
-    → AreHeard pi (group ∷ other) k
-    → IsTagPart m 0 h k
-tags_next pi m group one other some part [] k heard others = absurd heard
-tags_next pi m group one other some part (x ∷ h) [] heard others = absurd others
-tags_next pi m group one other some part (x ∷ h) (y ∷ k) heard others =
-    let same : y ≡ x = same_heard_in pi group y x others.0 heard.0 in
-    let as_long : length h ≡ length k = sym (heard_long pi one h heard.1) ∙ part.long ∙ heard_long pi other k others.1
-    in
-    rw same (tag_part_heard m x h k some as_long (part.texts h k heard.1 others.1) (part.tags h k heard.1 others.1))
-
 pub input_next : (pi m : ℕ) (group : Option Group) (one other : List (Option Group)) → 0 < m
     → IsInputPart (tuned pi m) one other → IsInputPart (tuned pi m) (group ∷ one) (group ∷ other)
-input_next pi m group one other some part = record {
-  long = let long = part.long in omega (arith, long);
-  texts = run_next text_fragment pi m group one other some part.long part.texts;
-  names = run_next name_fragment pi m group one other some part.long part.names;
-  tags = tags_next pi m group one other some part;
-}
+input_next pi m group one other some part =
+    let heard = heard_in pi group in
+    let heard_long = as_long pi one other part.long in
+    record {
+      long = let long = part.long in omega (arith, long);
+      texts = part_heard text_fragment m heard _ _ some heard_long part.texts;
+      names = part_heard name_fragment m heard _ _ some heard_long part.names;
+      tags = tag_part_heard m heard _ _ some heard_long part.texts part.tags;
+    }
 
 -- a receiver that covers an input covers it with the next slot
 pub covers_next : (pi m : ℕ) (s later : Lossy) (group : Option Group) (input : List (Option Group))
@@ -156,11 +133,9 @@ covers_next pi m s later group input stands good covers = record {
 pub input_itself : (pi m : ℕ) (input : List (Option Group)) → IsInputPart (tuned pi m) input input
 input_itself pi m input = record {
   long = refl;
-  texts = λ h k heard others. let same = same_heard pi input h k heard others
-      in rw same (part_itself (run_at text_fragment m 0 k));
-  names = λ h k heard others. let same = same_heard pi input h k heard others
-      in rw same (part_itself (run_at name_fragment m 0 k));
-  tags = λ h k heard others. let same = same_heard pi input h k heard others in rw same (inr refl, λ is. is);
+  texts = part_itself (run_at text_fragment m 0 (heard_of pi input));
+  names = part_itself (run_at name_fragment m 0 (heard_of pi input));
+  tags = (inr refl, λ is. is);
 }
 
 -- a receiver covers its own input

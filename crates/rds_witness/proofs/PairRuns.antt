@@ -6,8 +6,7 @@ use Rattle.rds_block.specs.declared.group.Group.{Group}
 use Rattle.rds_fields.specs.declared.message.Message.{Message}
 use Rattle.rds_fields.specs.declared.message.Message.TheVariants.{Text}
 use Rattle.rds_log.specs.LogWrites.{tuned}
-use Rattle.rds_receiver.specs.OneView.{same_heard}
-use Rattle.rds_receiver.specs.Receipts.{AreHeard, Segment, segments, text_fragment}
+use Rattle.rds_receiver.specs.Receipts.{heard_in, heard_of, Segment, segments, text_fragment}
 use Rattle.rds_receiver.specs.Run.{begins_in, run, run_at, run_before}
 use Rattle.rds_receiver.specs.Holds.{HasAge, HasFlag, HoldsRun, newest_slot}
 use Rattle.rds_receiver.specs.ReceiverAt.{ReceiverAt}
@@ -70,34 +69,26 @@ newest_flag m heard f a b held some holds =
 pub same_run : (pi m : ℕ) (old new : ReceiverState) (group : Option Group) (input : List (Option Group))
     → old.display.text.age + 1 < old.display.dwell → old.display.text.flag ≡ new.display.text.flag
     → ReceiverAt (tuned pi m) old input → ReceiverAt (tuned pi m) new (group ∷ input)
-    → (h k : List (Option Message)) → AreHeard pi input h → AreHeard pi (group ∷ input) k
-    → begins_in (run_at text_fragment m 0 h) ≡ begins_in (run_at text_fragment m 0 k)
-same_run pi m old new group input young flag was is h [] heard now = absurd now
-same_run pi m old new group input young flag was is h (x ∷ k) heard now =
-    let same : was.heard ≡ h = same_heard pi input was.heard h was.are heard in
-    let same_now : k ≡ h = same_heard pi input k h now.1 heard in
-    let whole : is.heard ≡ x ∷ h = same_heard pi (group ∷ input) is.heard (x ∷ k) is.are now
-    ∙ ap (λ (l : List (Option Message)). x ∷ l) same_now in
-    let held : HoldsRun m (newest_slot 0 h) (run m (newest_slot 0 h) (segments text_fragment 0 h))
-    old.display.text = subst (λ (l : List (Option Message)). HoldsRun m (newest_slot 0 l)
-    (run m (newest_slot 0 l) (segments text_fragment 0 l)) old.display.text) same was.holds.display.text in
-    let after : HoldsRun m (0 + length h) (run m (0 + length h) (segments text_fragment 0 (x ∷ h))) new.display.text =
-    subst (λ (l : List (Option Message)). HoldsRun m (newest_slot 0 l)
-    (run m (newest_slot 0 l) (segments text_fragment 0 l)) new.display.text) whole is.holds.display.text in
+    → begins_in (run_at text_fragment m 0 (heard_of pi input))
+    ≡ begins_in (run_at text_fragment m 0 (heard_of pi (group ∷ input)))
+same_run pi m old new group input young flag was is =
+    let h = heard_of pi input in
+    let x = heard_in pi group in
     let dwell : old.display.dwell ≡ m = was.holds.display.dwell in
-    let it : Goes m h old.display.text.flag = goes m h old.display.text held (omega (arith, young, dwell)) in
+    let it : Goes m h old.display.text.flag = goes m h old.display.text was.holds.display.text
+    (omega (arith, young, dwell)) in
     begins_on m x h it.g it.older was.holds.display.lasts it.is
     (λ f a b text. sym (newest_flag m h f a b new.display.text was.holds.display.lasts
     (subst (λ (y : Option Message). HoldsRun m (0 + length h)
-    (run m (0 + length h) (segments text_fragment 0 (y ∷ h))) new.display.text) text after)) ∙ sym flag ∙ it.same)
-    ∙ ap (λ (l : List (Option Message)). begins_in (run_at text_fragment m 0 (x ∷ l))) (sym same_now)
+    (run m (0 + length h) (segments text_fragment 0 (y ∷ h))) new.display.text) text is.holds.display.text)) ∙ sym flag
+    ∙ it.same)
 
 -- the same over the slots of a log
 pub same_run_of_log : (pi m n : ℕ) (log : List (Option Group)) (old new : ReceiverState)
     → old.display.text.age + 1 < old.display.dwell → old.display.text.flag ≡ new.display.text.flag
     → ReceiverAt (tuned pi m) old (got [] log n) → ReceiverAt (tuned pi m) new (got [] log (n + 1))
-    → (h k : List (Option Message)) → AreHeard pi (got [] log n) h → AreHeard pi (got [] log (n + 1)) k
-    → begins_in (run_at text_fragment m 0 h) ≡ begins_in (run_at text_fragment m 0 k)
-same_run_of_log pi m n log old new young flag was is h k heard now =
-    same_run pi m old new (group_left [] log n) (got [] log n) young flag was (subst (ReceiverAt (tuned pi m) new)
-    (got-more [] log n) is) h k heard (subst (λ (l : List (Option Group)). AreHeard pi l k) (got-more [] log n) now)
+    → begins_in (run_at text_fragment m 0 (heard_of pi (got [] log n)))
+    ≡ begins_in (run_at text_fragment m 0 (heard_of pi (got [] log (n + 1))))
+same_run_of_log pi m n log old new young flag was is = same_run pi m old new (group_left [] log n) (got [] log n) young
+    flag was (subst (ReceiverAt (tuned pi m) new) (got-more [] log n) is)
+    ∙ ap (λ (l : List (Option Group)). begins_in (run_at text_fragment m 0 (heard_of pi l))) (sym (got-more [] log n))

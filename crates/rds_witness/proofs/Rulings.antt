@@ -12,7 +12,8 @@ use Rattle.rds_assembly.specs.ServiceLaws.{one_name}
 use Rattle.rds_assembly.specs.Whole.{IsWholeName}
 use Rattle.rds_receiver.specs.OneView.{same_text_shown}
 use Rattle.rds_receiver.specs.Receipts.{Tuning}
-use Rattle.rds_receiver.specs.Shown.{IsNameShown, IsShown, IsTextShown, IsView, ShownView, ShowsView}
+use Rattle.rds_receiver.specs.Receipts.{heard_of}
+use Rattle.rds_receiver.specs.Shown.{IsNameShown, IsShown, IsTextShown, IsView, ShownView}
 use Rattle.rds_receiver.specs.Stored.{receiver_stored}
 use Rattle.rds_fields.specs.Tag.{tag_in}
 use Rattle.rds_receiver.specs.Tags.{cut_by, pair_held, tag_of}
@@ -65,54 +66,35 @@ shown_name cells (Some y) x p q = ap Some (one_name cells y x p q)
 
 module _ (t : Tuning) (one other : List (Option Group)) (part : IsInputPart t one other) (v w : ShownView)
     (is : IsView t one v) (is_other : IsView t other w) where
-  view_of_one : ShowsView t.dwell t.first (counted t is.0) v
-  view_of_one = is.2
-
-  view_of_other : ShowsView t.dwell t.first (counted t is_other.0) w
-  view_of_other = is_other.2
-
   text_part : (x : List ℕ) → v.text ≡ Some x → w.text ≡ Some x
   text_part x has =
-      let (h, are, counts) = is in
-      let (k, k_are, k_counts) = is_other in
-      let shown : IsTextShown t.dwell t.first (counted t h) (Some x) = subst (IsTextShown t.dwell t.first (counted t h))
-      has view_of_one.text in
-      same_text_shown t.dwell t.first (counted t k) w.text (Some x) view_of_other.text
-      (whole_text _ _ x (part_cells _ _ (part.texts h k are k_are)) shown)
+      let shown = subst (IsTextShown t.dwell t.first (counted t (heard_of t.programme one))) has is.text in
+      same_text_shown t.dwell t.first (counted t (heard_of t.programme other)) w.text (Some x) is_other.text
+      (whole_text _ _ x (part_cells _ _ part.texts) shown)
 
   name_part : (x : List ℕ) → v.name ≡ Some x → w.name ≡ Some x
   name_part x has =
-      let (h, are, counts) = is in
-      let (k, k_are, k_counts) = is_other in
-      let shown : IsNameShown t.dwell t.first (counted t h) (Some x) = subst (IsNameShown t.dwell t.first (counted t h))
-      has view_of_one.name in
-      shown_name _ w.name x view_of_other.name (whole_name _ _ x (part_cells _ _ (part.names h k are k_are)) shown)
+      let shown = subst (IsNameShown t.dwell t.first (counted t (heard_of t.programme one))) has is.name in
+      shown_name _ w.name x is_other.name (whole_name _ _ x (part_cells _ _ part.names) shown)
 
   pub view_part : (thing : Thing) → Has v thing → Has w thing
   view_part (Text x) has = text_part x has
   view_part (Name x) has = name_part x has
-  view_part (Tag One class piece) has =
-      let (h, are, counts) = is in
-      let (k, k_are, k_counts) = is_other in
-      view_of_other.one ∙ cuts_again One v.text w.text (pair_held t.dwell t.first (counted t h))
-      (pair_held t.dwell t.first (counted t k)) class piece text_part (part.tags h k are k_are).0
-      (sym view_of_one.one ∙ has)
-  view_part (Tag Two class piece) has =
-      let (h, are, counts) = is in
-      let (k, k_are, k_counts) = is_other in
-      view_of_other.two ∙ cuts_again Two v.text w.text (pair_held t.dwell t.first (counted t h))
-      (pair_held t.dwell t.first (counted t k)) class piece text_part (part.tags h k are k_are).0
-      (sym view_of_one.two ∙ has)
+  view_part (Tag One class piece) has = is_other.one ∙ cuts_again One v.text w.text _ _ class piece text_part part.tags.0
+      (sym is.one ∙ has)
+  view_part (Tag Two class piece) has = is_other.two ∙ cuts_again Two v.text w.text _ _ class piece text_part part.tags.0
+      (sym is.two ∙ has)
 
 -- ---- the receiver that loses nothing
 
 -- it shows its own things in this slot
 own_tag : (t : Tuning) (log : List (Option Group)) (n slots : ℕ) (which : Which) (class : ℕ) (piece : List ℕ)
-    (view : ShownView) → n < slots → (is : IsView t (got [] log (n + 1)) view)
-    → tag_of which view.text (pair_held t.dwell t.first (counted t is.0)) ≡ Some (class, piece)
+    (view : ShownView) → n < slots → IsView t (got [] log (n + 1)) view
+    → tag_of which view.text (pair_held t.dwell t.first (counted t (heard_of t.programme (got [] log (n + 1)))))
+    ≡ Some (class, piece)
     → IsTagOfRun t log slots class piece
 own_tag t log n slots which class piece view less is has =
-    let c = cuts which view.text (pair_held t.dwell t.first (counted t is.0)) class piece has in
+    let c = cuts which view.text _ class piece has in
     record {
       slot = n;
       before = less;
@@ -124,10 +106,6 @@ own_tag t log n slots which class piece view less is has =
       of_run = record {
         slot = n;
         before = omega arith;
-        old = is.0;
-        new = is.0;
-        were = is.1;
-        are = is.1;
         held = c.has_pair;
         same = refl;
       };
@@ -142,9 +120,9 @@ own_things t log n slots view (Text x) less is has = record
 own_things t log n slots view (Name x) less is has = record
     { slot = n; view = view; before = less; is = is; shows = has }
 own_things t log n slots view (Tag One class piece) less is has =
-    own_tag t log n slots One class piece view less is (sym is.2.one ∙ has)
+    own_tag t log n slots One class piece view less is (sym is.one ∙ has)
 own_things t log n slots view (Tag Two class piece) less is has =
-    own_tag t log n slots Two class piece view less is (sym is.2.two ∙ has)
+    own_tag t log n slots Two class piece view less is (sym is.two ∙ has)
 
 -- ---- a slot without a mix
 

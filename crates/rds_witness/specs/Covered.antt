@@ -4,7 +4,7 @@ use Rattle.std.specs.Prelude.{◌≡◌, ◌∷◌, ◌+◌, ℕ, All, List, Opt
 use Rattle.std.specs.List.{Contains}
 use Rattle.rds_block.specs.declared.group.Group.{Group}
 use Rattle.rds_fields.specs.declared.message.Message.{Message}
-use Rattle.rds_receiver.specs.Receipts.{AreHeard, Tuning, name_fragment, text_fragment}
+use Rattle.rds_receiver.specs.Receipts.{Tuning, heard_of, name_fragment, text_fragment}
 use Rattle.rds_receiver.specs.declared.fragment.Fragment.{Fragment}
 use Rattle.rds_receiver.specs.Run.{run_at}
 use Rattle.rds_receiver.specs.ReceiverAt.{ReceiverAt}
@@ -16,16 +16,15 @@ use Rattle.rds_witness.specs.declared.covering.Lossy.{Lossy}
 -- the run of one service after an input is a part of its run after another input
 abbrev pub IsRunPart : (Message → Option Fragment) → Tuning → List (Option Group) → List (Option Group) → Type 0
 IsRunPart pick t one other =
-    (h k : List (Option Message)) → AreHeard t.programme one h → AreHeard t.programme other k
-    → IsPart (run_at pick t.dwell t.first (counted t h)) (run_at pick t.dwell t.first (counted t k))
+    IsPart (run_at pick t.dwell t.first (counted t (heard_of t.programme one)))
+    (run_at pick t.dwell t.first (counted t (heard_of t.programme other)))
 
 -- the inputs have as many slots, and what a receiver holds after the first is a part of what one holds after the second
 pub record IsInputPart (t : Tuning) (one other : List (Option Group)) : Type 0 where
   pub long : length one ≡ length other
   pub texts : IsRunPart text_fragment t one other
   pub names : IsRunPart name_fragment t one other
-  pub tags : (h k : List (Option Message)) → AreHeard t.programme one h → AreHeard t.programme other k
-      → IsTagPart t.dwell t.first (counted t h) (counted t k)
+  pub tags : IsTagPart t.dwell t.first (counted t (heard_of t.programme one)) (counted t (heard_of t.programme other))
 
 -- the stored receiver stands at the end of an input of n slots
 pub record IsAt (t : Tuning) (n : ℕ) (s : Lossy) : Type 0 where

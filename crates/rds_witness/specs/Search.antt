@@ -1,10 +1,9 @@
 -- A search over all bursts at once (this project's own rule).
 use Rattle.std.specs.Prelude.{◌≡◌, ◌⊎◌, ◌≤◌, ◌<◌, ◌+◌, ◌∷◌, [], ℕ, All, IsFalse, List, Option, Some, length}
 use Rattle.rds_block.specs.declared.group.Group.{Group}
-use Rattle.rds_fields.specs.declared.message.Message.{Message}
 use Rattle.rds_fields.specs.declared.pair.Which.{Which}
 use Rattle.rds_fields.specs.Tag.{PairFields}
-use Rattle.rds_receiver.specs.Receipts.{AreHeard, Tuning, text_fragment}
+use Rattle.rds_receiver.specs.Receipts.{Tuning, heard_of, text_fragment}
 use Rattle.rds_receiver.specs.Run.{begins_in, run_at}
 use Rattle.rds_receiver.specs.Shown.{IsView, ShownView}
 use Rattle.rds_receiver.specs.ReceiverAt.{ReceiverAt}
@@ -29,13 +28,9 @@ use Rattle.rds_witness.specs.declared.sweep.Sweep.{Sweep}
 pub record IsOfRun (t : Tuning) (log : List (Option Group)) (n : ℕ) (pair : PairFields) : Type 0 where
   pub slot : ℕ
   pub before : slot < n
-  pub old : List (Option Message)
-  pub new : List (Option Message)
-  pub were : AreHeard t.programme (got [] log (slot + 1)) old
-  pub are : AreHeard t.programme (got [] log n) new
-  pub held : pair_held t.dwell t.first (counted t old) ≡ Some pair
-  pub same : begins_in (run_at text_fragment t.dwell t.first (counted t old))
-      ≡ begins_in (run_at text_fragment t.dwell t.first (counted t new))
+  pub held : pair_held t.dwell t.first (counted t (heard_of t.programme (got [] log (slot + 1)))) ≡ Some pair
+  pub same : begins_in (run_at text_fragment t.dwell t.first (counted t (heard_of t.programme (got [] log (slot + 1)))))
+      ≡ begins_in (run_at text_fragment t.dwell t.first (counted t (heard_of t.programme (got [] log n))))
 
 -- a receiver that loses nothing shows a text in one of the first n slots, and a pair of tags of its run of texts, which
 -- may have been replaced, makes the tag of this text

@@ -1,13 +1,13 @@
 -- Lemmas: the input of a receiver after one more slot, and one entry of a list after it was written.
 use Rattle.std.proofs.Common.{◌≡◌, ◌&&◌, ◌≢◌, ◌<◌, ℕ, zero, suc, Bool, true, false, List, [], ◌∷◌, Option, Some, None}
-use Rattle.std.proofs.Common.{refl, ap, subst, inl, take, arith}
+use Rattle.std.proofs.Common.{refl, ap, subst, take, arith, sym, ◌∙◌}
 use Rattle.std.specs.List.{AllByRecursion}
 use Rattle.std.specs.Prelude.{slice_get, slice_index_or, slice_set}
 use Rattle.rds_block.specs.declared.group.Group.{Group}
 use Rattle.rds_fields.specs.declared.message.Message.{Message}
 use Rattle.rds_encoder.specs.Sent.{IsSent}
 use Rattle.rds_receiver.specs.Receipts.{Hears}
-use Rattle.rds_receiver.specs.OneView.{same_heard}
+use Rattle.rds_receiver.specs.OneView.{heard_next, hears_spelled}
 use Rattle.rds_receiver.specs.Shown.{IsView, ShowsView}
 use Rattle.rds_receiver.specs.ReceiverAt.{KeepsView, TakesSlot}
 use Rattle.rds_receiver.specs.Confirmed.{counted}
@@ -23,7 +23,7 @@ pub hears_sent : (config : Config) (sent : Option Message) (group : Option Group
 hears_sent config None None s = refl
 hears_sent config None (Some group) s = absurd s
 hears_sent config (Some message) None s = absurd s
-hears_sent config (Some message) (Some group) s = inl (s.head.pi, s.spelled)
+hears_sent config (Some message) (Some group) s = hears_spelled config.head.pi group message s.head.pi s.spelled
 
 abbrev input_from : ℕ → List (Option Message) → List (Option ℕ) → Input
 input_from first heard origins = record { first = first; heard = heard; origins = origins }
@@ -36,7 +36,7 @@ pub hears_more : (config : Config) (input : Input) (old new : ReceiverState) (gr
     → HasHeard config (input_from input.first (heard ∷ input.heard) (origin ∷ input.origins)) new
 hears_more config input old new group heard origin hears goes_on has = record {
   groups = group ∷ has.groups;
-  spelled = (hears, has.spelled);
+  spelled = heard_next config.head.pi group has.groups heard input.heard hears has.spelled;
   stands = goes_on (tuned_to config input) has.groups has.stands;
 }
 
@@ -47,25 +47,19 @@ pub stays_shown : (config : Config) (input : Input) (old : ReceiverState) (group
     → HasHeard config input old
     → StaysShown config input (input_from input.first (heard ∷ input.heard) (origin ∷ input.origins))
 stays_shown config input old group heard origin hears stays has view shown =
-    let (other, are, shows) = shown.is in
-    let same : other ≡ input.heard = same_heard config.head.pi shown.groups other input.heard are shown.spelled in
-    let by_own : IsView (tuned_to config input) has.groups view = (
-      input.heard,
-      has.spelled,
-      subst
-          (λ (x : List (Option Message)). ShowsView (dwell_of config.kind config.dwell) input.first
-          (counted (tuned_to config input) x) view) same shows,
-    ) in
+    let by_own : IsView (tuned_to config input) has.groups view = subst (λ (x : List (Option Message)).
+    ShowsView (dwell_of config.kind config.dwell) input.first (counted (tuned_to config input) x) view)
+    (sym shown.spelled ∙ has.spelled) shown.is in
     record {
       groups = group ∷ has.groups;
-      spelled = (hears, has.spelled);
+      spelled = heard_next config.head.pi group has.groups heard input.heard hears has.spelled;
       is = stays view (tuned_to config input) has.groups has.stands by_own;
     }
 
 -- a receiver before its first slot has heard nothing
 pub heard_nothing : (config : Config) (first : ℕ) (r : ReceiverState) → HeardNothing config r
     → HasHeard config (input_from first [] []) r
-heard_nothing config first r begins = record { groups = []; spelled = tt; stands = begins first }
+heard_nothing config first r begins = record { groups = []; spelled = refl; stands = begins first }
 
 -- writing one entry of a list keeps the others
 pub other_kept : {X : Type 0} (rs : List X) (i k : ℕ) (r : X) → k ≢ i → slice_get (slice_set rs i r) k ≡ slice_get rs k

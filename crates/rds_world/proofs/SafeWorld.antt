@@ -1,11 +1,10 @@
 -- Lemmas: the receivers of a world listen to its encoder, so their views are safe.
-use Rattle.std.proofs.Common.{◌≡◌, ◌+◌, ℕ, suc, false, List, [], ◌∷◌, Option, Some, None, refl, ◌∙◌, subst, arith}
+use Rattle.std.proofs.Common.{◌≡◌, ◌+◌, ℕ, suc, false, List, [], ◌∷◌, Option, Some, None, refl, ◌∙◌, subst, arith, sym}
 use Rattle.std.proofs.Common.{length}
 use Rattle.std.specs.List.{All, AllByRecursion, AllZip}
 use Rattle.std.specs.Prelude.{slice_get}
 use Rattle.std.proofs.lemmas.List.Elements.{All-from_recursion}
 use Rattle.rds_fields.specs.declared.message.Message.{Message}
-use Rattle.rds_receiver.specs.OneView.{same_heard}
 use Rattle.rds_receiver.specs.Receipts.{Tuning}
 use Rattle.rds_receiver.specs.Shown.{IsView, ShowsView, ShownView}
 use Rattle.rds_receiver.specs.Confirmed.{counted_in}
@@ -67,7 +66,7 @@ shows_view config input r view kind has shows =
     (shows (tuned_to config input) has.groups has.stands) in
     subst (λ (heard : List (Option Message)). ShowsView config.dwell input.first (counted_in (window_of config.kind)
     config.dwell input.first heard) view)
-    (same_heard config.head.pi has.groups v.0 input.heard v.1 has.spelled) v.2
+    (sym has.spelled) v
 
 -- the receiver listens to the log, with or without a window
 abbrev pub ListensIn : Option ℕ → ℕ → ℕ → ℕ → List (Option Message) → Listener → Type 0

@@ -27,6 +27,6 @@ pub returns-clause-adds : goal.returns-clause-adds
 returns-clause-adds c given = (
   c.in-Ok.slot,
   c.in-Ok.ensures.value,
-  λ pi d log lies message hears. c.of.ensures.same
-      ∙ (c.all_faults.ensures.takes lies.good).adds pi d log lies.at message hears,
+  λ pi d log lies. c.of.ensures.same
+      ∙ (c.all_faults.ensures.takes lies.good).adds pi d log lies.at,
 )

@@ -1,4 +1,4 @@
-use Rattle.std.proofs.Common.{ℕ, ap, ◌∙◌, arith, bit_and}
+use Rattle.std.proofs.Common.{ap, ◌∙◌, arith, bit_and}
 use Rattle.std.specs.Int.{bit_at}
 use Rattle.rds_ffi.specs.declared.held.RdsrtSegments.{RdsrtSegments}
 use Rattle.rds_ffi.proofs.HeldSegments.{of_name, of_run}
@@ -9,8 +9,6 @@ returns-clause-held c t input s =
     let text = rw c.text_age.ensures at c.held_in-text.ensures in
     let name = rw c.name_age.ensures at c.held_in-name.ensures in
     record {
-      heard = s.at.heard;
-      are = s.at.are;
       text = of_run 16 _ _ _ _ _ c.args.receiver.now.display.text _ (omega arith)
           (λ a h. ap (λ (r : RdsrtSegments). bit_at r.held a) text) (ap (λ (r : RdsrtSegments). r.age) text)
           s.at.holds.display.text;

@@ -1,4 +1,5 @@
 use Rattle.std.proofs.Common.{◌+◌, rules}
+use Rattle.rds_receiver.specs.Receipts.{heard_of}
 use Rattle.rds_audit.specs.Stored.{audit_stored}
 use Rattle.rds_audit.proofs.ListingSteps.{passes_exactly}
 use Rattle.rds_audit.proofs.SafeRecordings.{safe_as_it_is}
@@ -27,5 +28,5 @@ returns-clause-safe c pi d log s m k pos same is_so =
 pub returns-clause-recording : goal.returns-clause-recording
 returns-clause-recording c pi m k log s running pos passed =
     safe_as_it_is c.what_passes_as_a_recording_is_safe.ensures.passes
-    (audit_stored c.args.self.now).form m k _ s.heard running pos
+    (audit_stored c.args.self.now).form m k _ (heard_of pi log) running pos
     ((returns-clause-passes c pi (m + k) log s).0 passed)

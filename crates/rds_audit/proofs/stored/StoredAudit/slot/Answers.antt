@@ -4,8 +4,8 @@ use Rattle.rds_audit.proofs.ListingSteps.{takes_again, takes_next}
 use Rattle.rds_audit.proofs.stored.StoredAudit.slot.Goals as goal
 
 pub returns-in-Some-clause-takes : goal.returns-in-Some-clause-takes
-returns-in-Some-clause-takes c stored = takes_again (audit_stored c.args.self.now) c.args.group c.heard_blocks.result
-    c.in-Some.known (sym c.of_code.ensures ∙ c.in-Some.is) c.heard_blocks.ensures
+returns-in-Some-clause-takes c stored = takes_again (audit_stored c.args.self.now) c.args.group c.in-Some.known
+    (sym c.of_code.ensures ∙ c.in-Some.is)
 
 pub returns-in-None-clause-takes : goal.returns-in-None-clause-takes
 returns-in-None-clause-takes c stored =

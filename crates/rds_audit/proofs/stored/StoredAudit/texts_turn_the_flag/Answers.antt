@@ -1,4 +1,5 @@
 use Rattle.std.proofs.Common.{◌≡◌, ◌∙◌, false, subst, sym, true}
+use Rattle.rds_receiver.specs.Receipts.{heard_of}
 use Rattle.rds_audit.specs.Recording.{judged_as}
 use Rattle.rds_audit.specs.Reigns.{AlternateFlags}
 use Rattle.rds_audit.specs.Rules.{LogPasses}
@@ -10,7 +11,7 @@ use Rattle.rds_audit.proofs.stored.StoredAudit.texts_turn_the_flag.Goals as goal
 
 pub returns-then-passed-clause-turns : goal.returns-then-passed-clause-turns
 returns-then-passed-clause-turns c pi d log s =
-    let judged = judged_as (audit_stored c.args.self.now).start d s.heard in
+    let judged = judged_as (audit_stored c.args.self.now).start d (heard_of pi log) in
     let passes : LogPasses (audit_stored c.args.self.now).form d judged =
     (c.passed.ensures.passes pi d log s).0 c.if-passed.true in
     let same = c.the_list_judges_the_reigns.ensures.texts (audit_stored c.args.self.now).form d
@@ -26,7 +27,7 @@ pub returns-then-passed-clause-safe : goal.returns-then-passed-clause-safe
 returns-then-passed-clause-safe c pi d log s plain turns =
     let both = (returns-then-passed-clause-turns c pi d log s).0 turns in
     let safe = c.what_passes_is_safe_by_the_flag.ensures.safe d _ s.lasts
-    (subst (λ (f : TextForm). LogPasses f d (judged_as (audit_stored c.args.self.now).start d s.heard)) plain
+    (subst (λ (f : TextForm). LogPasses f d (judged_as (audit_stored c.args.self.now).start d (heard_of pi log))) plain
     both.0) in
     record {
       plans = safe.plans;

@@ -1,5 +1,10 @@
-use Rattle.rds_receiver.specs.ReceiverAt.{KeepsView}
+use Rattle.rds_receiver.specs.ReceiverAt.{KeepsView, TakesSlot}
 use Rattle.rds_receiver.proofs.receiver.Receiver.slot.Goals as goal
+
+pub returns-clause-stands : goal.returns-clause-stands
+returns-clause-stands c =
+    let stands : TakesSlot c.args.self.now c.slot_blocks.new.self c.of_slot.result = c.slot_blocks.ensures.stands in
+    rw c.of_slot.ensures at stands
 
 pub returns-clause-same : goal.returns-clause-same
 returns-clause-same c calm =

@@ -1,17 +1,13 @@
-use Rattle.std.proofs.Common.{◌+◌, ◌∷◌, ℕ, List, None, Option, Some, arith, length, refl}
+use Rattle.std.proofs.Common.{◌+◌, ◌∙◌, ◌∷◌, ℕ, List, None, Option, Some, arith, length, refl, sym}
 use Rattle.rds_fields.specs.declared.message.Message.{Message}
 use Rattle.rds_receiver.specs.Confirming.{HasAged, HoldsBy}
-use Rattle.rds_receiver.specs.Receipts.{Hears}
 use Rattle.rds_receiver.specs.Stored.{receiver_stored}
 use Rattle.rds_receiver.proofs.ConfirmingSteps.{each_counts, message_counted, nothing_taken}
 use Rattle.rds_receiver.proofs.stored.StoredReceiver.hear.Goals as goal
 
 pub returns-in_default-clause-holds : goal.returns-in_default-clause-holds
-returns-in_default-clause-holds c stored = (None, hears, by)
+returns-in_default-clause-holds c stored = rw (sym c.heard_blocks.ensures ∙ c.in_default.is) by
   where
-    hears : Hears c.args.self.now.display.pi c.args.group None
-    hears = rw c.in_default.is at c.heard_blocks.ensures
-
     by : (window : Option ℕ) (m first : ℕ) (heard : List (Option Message))
         → HasAged window m first (receiver_stored c.args.self.now) heard
         → HoldsBy window m (first + length heard) first (receiver_stored c.args.self.now) (None ∷ heard)
@@ -20,11 +16,8 @@ returns-in_default-clause-holds c stored = (None, hears, by)
     by (Some w) m first heard aged = absurd (omega (arith, c.if-self-gt0.false, aged.lasts.window, aged.lasts.two))
 
 pub returns-clause-holds : goal.returns-clause-holds
-returns-clause-holds c stored = (Some c.in-Some.message, hears, by)
+returns-clause-holds c stored = rw (sym c.heard_blocks.ensures ∙ c.in-Some.is) by
   where
-    hears : Hears c.args.self.now.display.pi c.args.group (Some c.in-Some.message)
-    hears = rw c.in-Some.is at c.heard_blocks.ensures
-
     by : (window : Option ℕ) (m first : ℕ) (heard : List (Option Message))
         → HasAged window m first (receiver_stored c.args.self.now) heard
         → HoldsBy window m (first + length heard) first (receiver_stored record c.args.self.now

@@ -2,18 +2,15 @@ use Rattle.std.proofs.Common.{◌+◌, ◌∷◌, ◌∙◌, ℕ, Bool, List, No
 use Rattle.rds_fields.specs.declared.message.Message.{Message}
 use Rattle.rds_receiver.specs.Confirming.{Counts, HasAged, HoldsBy}
 use Rattle.rds_receiver.specs.Holds.{ShowsAlike}
-use Rattle.rds_receiver.specs.Receipts.{Hears}
+use Rattle.rds_receiver.specs.Receipts.{heard_in}
 use Rattle.rds_receiver.specs.Stored.{display_stored, receiver_stored}
 use Rattle.rds_receiver.proofs.Alike.{alike_itself}
 use Rattle.rds_receiver.proofs.ConfirmingSteps.{lasts_aged, message_counted, message_not_counted, nothing_taken}
 use Rattle.rds_receiver.proofs.stored.StoredReceiver.hear_if_confirmed.Goals as goal
 
 pub returns-in_default-clause-holds : goal.returns-in_default-clause-holds
-returns-in_default-clause-holds c stored = (None, hears, by)
+returns-in_default-clause-holds c stored = rw (ap (λ d. heard_in d.pi c.args.group) (sym c.age_lasts.ensures.display) ∙ sym c.heard_blocks.ensures ∙ c.in_default.is) by
   where
-    hears : Hears c.args.self.now.display.pi c.args.group None
-    hears = rw (c.in_default.is, ap (λ d. d.pi) c.age_lasts.ensures.display) at c.heard_blocks.ensures
-
     by : (window : Option ℕ) (m first : ℕ) (heard : List (Option Message))
         → HasAged window m first (receiver_stored c.args.self.now) heard
         → HoldsBy window m (first + length heard) first (receiver_stored c.age_lasts.new.self) (None ∷ heard)
@@ -22,11 +19,8 @@ returns-in_default-clause-holds c stored = (None, hears, by)
         (ap display_stored c.age_lasts.ensures.display) (c.age_lasts.ensures.lasts stored w m first heard) aged)
 
 pub returns-then-not-confirm-clause-holds : goal.returns-then-not-confirm-clause-holds
-returns-then-not-confirm-clause-holds c stored = (Some c.in-Some.message, hears, by)
+returns-then-not-confirm-clause-holds c stored = rw (ap (λ d. heard_in d.pi c.args.group) (sym c.age_lasts.ensures.display) ∙ sym c.heard_blocks.ensures ∙ c.in-Some.is) by
   where
-    hears : Hears c.args.self.now.display.pi c.args.group (Some c.in-Some.message)
-    hears = rw (c.in-Some.is, ap (λ d. d.pi) c.age_lasts.ensures.display) at c.heard_blocks.ensures
-
     by : (window : Option ℕ) (m first : ℕ) (heard : List (Option Message))
         → HasAged window m first (receiver_stored c.args.self.now) heard
         → HoldsBy window m (first + length heard) first (receiver_stored c.confirm.new.self) (Some c.in-Some.message
@@ -46,11 +40,8 @@ returns-then-not-confirm-clause-same c calm =
     (sym (c.confirm.ensures.display ∙ c.age_lasts.ensures.display)) (alike_itself _)
 
 pub returns-clause-holds : goal.returns-clause-holds
-returns-clause-holds c stored = (Some c.in-Some.message, hears, by)
+returns-clause-holds c stored = rw (ap (λ d. heard_in d.pi c.args.group) (sym c.age_lasts.ensures.display) ∙ sym c.heard_blocks.ensures ∙ c.in-Some.is) by
   where
-    hears : Hears c.args.self.now.display.pi c.args.group (Some c.in-Some.message)
-    hears = rw (c.in-Some.is, ap (λ d. d.pi) c.age_lasts.ensures.display) at c.heard_blocks.ensures
-
     by : (window : Option ℕ) (m first : ℕ) (heard : List (Option Message))
         → HasAged window m first (receiver_stored c.args.self.now) heard
         → HoldsBy window m (first + length heard) first (receiver_stored record c.confirm.new.self

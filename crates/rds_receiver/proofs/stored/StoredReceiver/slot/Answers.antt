@@ -1,7 +1,8 @@
-use Rattle.std.proofs.Common.{◌≡◌, ◌∙◌, subst}
+use Rattle.std.proofs.Common.{◌≡◌, ◌∙◌, ◌+◌, ◌∷◌, ℕ, length, subst}
 use Rattle.std.proofs.lemmas.Bool.{or_parts}
 use Rattle.rds_receiver.specs.Holds.{newest_slot}
-use Rattle.rds_receiver.specs.Receipts.{Hears}
+use Rattle.rds_receiver.specs.Confirming.{HoldsBy}
+use Rattle.rds_receiver.specs.Receipts.{heard_in, heard_of}
 use Rattle.rds_receiver.specs.Stored.{display_stored, receiver_stored}
 use Rattle.rds_receiver.proofs.Alike.{alike_by, stays_shown}
 use Rattle.rds_receiver.proofs.ConfirmingSteps.{display_grown, slot_stands, with_display}
@@ -10,17 +11,18 @@ use Rattle.rds_receiver.proofs.stored.StoredReceiver.slot.Goals as goal
 pub returns-clause-stands : goal.returns-clause-stands
 returns-clause-stands c stored t input st =
     let grown = c.grow_older-aged in
-    let (entry, hears, takes) = c.hear-is_new.ensures.holds record
-    { display = grown.ensures.good stored.display; pair = stored.pair } in
+    let heard = heard_of t.programme input in
     let here : grown.new.self.pi ≡ t.programme = grown.ensures.programme ∙ st.tuned in
-    slot_stands t _ _ input c.args.group entry st (subst (λ pi. Hears pi c.args.group entry) here hears)
-    (c.hear-is_new.ensures.programme ∙ grown.ensures.programme)
-    (takes t.window t.dwell t.first st.heard record {
-      display = display_grown t.window t.dwell t.first _ _ st.heard (grown.ensures.holds stored.display)
+    slot_stands t _ _ input c.args.group st (c.hear-is_new.ensures.programme ∙ grown.ensures.programme)
+    (subst (λ (pi : ℕ). HoldsBy t.window t.dwell (t.first + length heard) t.first (receiver_stored c.hear-is_new.new.self)
+    (heard_in pi c.args.group ∷ heard)) here
+    (c.hear-is_new.ensures.holds record { display = grown.ensures.good stored.display; pair = stored.pair }
+    t.window t.dwell t.first heard record {
+      display = display_grown t.window t.dwell t.first _ _ heard (grown.ensures.holds stored.display)
           st.holds.display;
-      lasts = with_display t.window t.dwell (newest_slot t.first st.heard) t.first (receiver_stored c.args.self.now)
-          st.heard (display_stored grown.new.self) st.holds.lasts;
-    })
+      lasts = with_display t.window t.dwell (newest_slot t.first heard) t.first (receiver_stored c.args.self.now)
+          heard (display_stored grown.new.self) st.holds.lasts;
+    }))
 
 pub returns-clause-same : goal.returns-clause-same
 returns-clause-same c stored calm view t input st shown =

@@ -1,20 +1,18 @@
 use Rattle.std.proofs.Common.{◌∙◌, ap, refl, sym, subst}
 use Rattle.std.specs.Option.{option_copied}
+use Rattle.rds_receiver.specs.Receipts.{heard_of}
 use Rattle.rds_receiver.specs.Shown.{ShowsView, view_with}
 use Rattle.rds_receiver.specs.Confirmed.{counted}
 use Rattle.rds_receiver.proofs.stored.StoredReceiver.view.Goals as goal
 
 pub returns : goal.returns
 returns c stored t input s =
-    let held = c.pair.ensures stored t input s s.heard s.are in
-    let same = c.of.ensures ∙ ap (view_with (option_copied c.text.result) (option_copied c.name.result)) held in (
-      s.heard,
-      s.are,
-      subst (ShowsView t.dwell t.first (counted t s.heard)) (sym same) record {
-        text = c.text.ensures.shown t input s s.heard s.are;
-        name = c.name.ensures.shown t input s s.heard s.are;
-        item = refl;
-        one = refl;
-        two = refl;
-      },
-    )
+    let held = c.pair.ensures stored t input s in
+    let same = c.of.ensures ∙ ap (view_with (option_copied c.text.result) (option_copied c.name.result)) held in
+    subst (ShowsView t.dwell t.first (counted t (heard_of t.programme input))) (sym same) record {
+      text = c.text.ensures.shown t input s;
+      name = c.name.ensures.shown t input s;
+      item = refl;
+      one = refl;
+      two = refl;
+    }

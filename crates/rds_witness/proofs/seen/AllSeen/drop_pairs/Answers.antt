@@ -10,11 +10,7 @@ returns-else-not-goes_on-clause-pairs c pi m n log was is all k d less =
     record {
       slot = its.slot;
       before = let before = its.before in omega (arith, before);
-      old = its.old;
-      new = is.heard;
-      were = its.were;
-      are = is.are;
       held = its.held;
       same = its.same ∙ same_run_of_log pi m n log (receiver_stored c.args.old.now) (receiver_stored c.args.new.now)
-          (c.goes_on.ensures.age going) (c.goes_on.ensures.flag going) was is its.new is.heard its.are is.are;
+          (c.goes_on.ensures.age going) (c.goes_on.ensures.flag going) was is;
     }

@@ -9,11 +9,7 @@ returns c t log inside stored stands seen pairs =
     let with_pair = c.in_ok-keep_pair.ensures.pairs t log n (λ held is. record {
       slot = c.args.slot;
       before = omega arith;
-      old = stands.heard;
-      new = stands.heard;
-      were = stands.are;
-      are = stands.are;
-      held = sym (c.pair.ensures stored t (got [] log n) stands stands.heard stands.are) ∙ is;
+      held = sym (c.pair.ensures stored t (got [] log n) stands) ∙ is;
       same = refl;
     }) pairs in
     let seen_one = c.in_ok-note_with.ensures.seen t log inside stored stands (λ held is. absurd (cc))
