@@ -1,27 +1,15 @@
 -- Lemmas about reading and writing by shifts and masks.
-use Rattle.std.proofs.Common.{◌≡◌, ℕ, zero, suc, ◌+◌, ◌*◌, ◌<◌, ◌/◌, ◌%◌, ◌^◌, nat_eq, bit_and, bit_or, refl, arith}
+use Rattle.std.proofs.Common.{◌≡◌, ℕ, zero, suc, ◌+◌, ◌*◌, ◌<◌, ◌%◌, ◌^◌, nat_eq, bit_and, bit_or, refl, arith}
 use Rattle.std.specs.Int.{from_bool}
 use Rattle.std.proofs.lemmas.Nat.{and_mask}
 use mathlib.Core.Bool.{not}
 use Rattle.rds_block.specs.SecondWord.{or_above}
 use Rattle.rds_fields.specs.Bits.{Sent, FitsBits, field_bits}
-
--- the eight fields of a number
-abbrev pub fields_of : ℕ → Sent
-fields_of n = record {
-  toggle = n / 2 ^ 36 % 2;
-  running = n / 2 ^ 35 % 2;
-  class_one = n / 2 ^ 29 % 64;
-  start_one = n / 2 ^ 23 % 64;
-  extra_one = n / 2 ^ 17 % 64;
-  class_two = n / 2 ^ 11 % 64;
-  start_two = n / 2 ^ 5 % 64;
-  extra_two = n % 32;
-}
+use Rattle.rds_fields.specs.Meaning.{sent_in}
 
 -- the fields of a number fit their bits
-pub fields_of-fit : (n : ℕ) → FitsBits (fields_of n)
-fields_of-fit n = record {
+pub fields-fit : (n : ℕ) → FitsBits (sent_in n)
+fields-fit n = record {
   toggle = omega arith;
   running = omega arith;
   class_one = omega arith;
@@ -33,8 +21,8 @@ fields_of-fit n = record {
 }
 
 -- the bits of the fields of a number are the number
-pub bits_of-fields_of : (n : ℕ) → n < 2 ^ 37 → n ≡ field_bits (fields_of n)
-bits_of-fields_of n h = omega arith
+pub bits_of-fields : (n : ℕ) → n < 2 ^ 37 → n ≡ field_bits (sent_in n)
+bits_of-fields n h = omega arith
 
 -- for a bit b: whether b is not 0, as a number, is b
 from_bool-not_zero : (b : ℕ) → b < 2 → from_bool (not (nat_eq b 0)) ≡ b

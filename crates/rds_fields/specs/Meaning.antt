@@ -19,7 +19,7 @@ flag_in g = g.low / 16 == 1
 -- the eight fields of a group of tags
 abbrev pub sent_in : ℕ → Sent
 sent_in n = record {
-  toggle = n / 2 ^ 36;
+  toggle = n / 2 ^ 36 % 2;
   running = n / 2 ^ 35 % 2;
   class_one = n / 2 ^ 29 % 64;
   start_one = n / 2 ^ 23 % 64;

@@ -1,5 +1,6 @@
 -- Lemmas: a group spells one message.
-use Rattle.std.proofs.Common.{◌≡◌, ◌/◌, ◌%◌, ◌==◌, ◌^◌, ◌∙◌, ℕ, Bool, true, false, List, get_or, inl, inr, refl, sym, ap, arith}
+use Rattle.std.proofs.Common.{◌≡◌, ◌/◌, ◌%◌, ◌==◌, ◌^◌, ◌∙◌, ℕ, Bool, true, false, List, inl, inr}
+use Rattle.std.proofs.Common.{ap, arith, get_or, refl, sym}
 use Rattle.std.specs.Int.{from_bool}
 use Rattle.std.proofs.lemmas.Bool.Decides.{eqb_tells}
 use Rattle.rds_block.specs.declared.group.Group.{Group}
@@ -45,7 +46,7 @@ tag_is k s e t p = elim (eqb_tells k 0) [
 sent_is : (s : Sent) → FitsBits s → s ≡ sent_in (field_bits s)
 sent_is s p =
     let n = field_bits s in
-    let e1 : s.toggle ≡ n / 2 ^ 36 = omega arith in
+    let e1 : s.toggle ≡ n / 2 ^ 36 % 2 = omega arith in
     let e2 : s.running ≡ n / 2 ^ 35 % 2 = omega arith in
     let e3 : s.class_one ≡ n / 2 ^ 29 % 64 = omega arith in
     let e4 : s.start_one ≡ n / 2 ^ 23 % 64 = omega arith in

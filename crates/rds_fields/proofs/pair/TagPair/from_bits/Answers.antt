@@ -1,15 +1,16 @@
 use Rattle.std.proofs.Common.{◌/◌, ◌^◌}
 use Rattle.std.proofs.lemmas.Nat.{and_mask}
-use Rattle.rds_fields.proofs.Shifts.{fields_of, fields_of-fit, bits_of-fields_of, low_bit}
+use Rattle.rds_fields.specs.Meaning.{sent_in}
+use Rattle.rds_fields.proofs.Shifts.{fields-fit, bits_of-fields, low_bit}
 use Rattle.rds_fields.proofs.pair.TagPair.from_bits.Goals as goal
 
 pub returns : goal.returns
 returns c =
     let n = c.args.bits in (
-      fields_of n,
+      sent_in n,
       record {
-        fits = fields_of-fit n;
-        bits = bits_of-fields_of n c.requires;
+        fits = fields-fit n;
+        bits = bits_of-fields n c.requires;
         toggle = low_bit (n / 2 ^ 36);
         running = low_bit (n / 2 ^ 35);
         one = rw (and_mask (n / 2 ^ 29) 6, and_mask (n / 2 ^ 23) 6, and_mask (n / 2 ^ 17) 6) at c.read.ensures;
