@@ -1,5 +1,5 @@
 -- Numbers that the words give.
-use Rattle.std.proofs.Common.{◌≡◌, ◌≤◌, ◌<◌, ◌+◌, ◌^◌, ◌&&◌, ℕ, Bool, true, false, List, [], ◌∷◌, Option, Some, None}
+use Rattle.std.proofs.Common.{◌≡◌, ◌≤◌, ◌<◌, ◌-◌, ◌^◌, ◌&&◌, ℕ, Bool, true, false, List, [], ◌∷◌, Option, Some, None}
 use Rattle.std.proofs.Common.{Result, Ok, Err, inl, inr, refl, sym, ◌∙◌, ap, arith, nat_lt}
 use Rattle.std.specs.Prelude.{◌↔◌, IfSome, IsSome, if◌then◌else◌, length, nat_le, option_and_then}
 use Rattle.std.specs.Char.{digit_value}
@@ -103,15 +103,9 @@ slots_between least most n (Some s) some value =
     let (low, high) = some.0 refl in
     rw (le-leb least n low, le-leb n most high) (ap Some value)
 
--- a place is a number below a bound, which is 1 more than the most
-pub place_between : (most n : ℕ) (o : Option ℕ) → IsSome o ↔ (n < most + 1) → IfSome o (λ p. p ≡ n)
-    → o ≡ between 0 most n
-place_between most n None some value = elim (cases_lt n (most + 1)) [
-  | inl h ↦
-      let here : IsSome {T = ℕ} None = some.1 h in
-      cc
-  | inr h ↦ sym (above 0 most n (omega (arith, h)))
-]
-place_between most n (Some p) some value =
-    let small = some.0 refl in
-    rw (le-leb 0 n (omega arith), le-leb n most (omega (arith, small))) (ap Some value)
+-- a place is a number below a bound
+pub place_between : (bound : ℕ) → 0 < bound → (n : ℕ) (o : Option ℕ) → IsSome o ↔ (n < bound) → IfSome o (λ p. p ≡ n)
+    → o ≡ between 0 (bound - 1) n
+place_between bound some n o is value = slots_between 0 (bound - 1) n o
+    ((λ there. (omega arith, (let small = is.0 there in omega (arith, some, small)))),
+    (λ within. is.1 (omega (arith, some, within.1)))) value

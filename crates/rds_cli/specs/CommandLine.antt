@@ -227,21 +227,21 @@ number_from_to least most text =
     if is_numeral digits && (nat_le least number && nat_le number most) then Some number else None
 
 -- the number of slots of an option
-abbrev pub option_slots : ℕ → ℕ → Text → List Row → Option ℕ
-option_slots least most name rows = option_and_then (number_from_to least most) (one_of name rows)
+abbrev pub option_number : ℕ → ℕ → Text → List Row → Option ℕ
+option_number least most name rows = option_and_then (number_from_to least most) (one_of name rows)
 
 abbrev pub dwell_in : List Row → Option ℕ
-dwell_in = option_slots 1 65535 (codes "m")
+dwell_in = option_number 1 65535 (codes "m")
 
 abbrev pub late_in : List Row → Option ℕ
-late_in = option_slots 0 1024 (codes "k")
+late_in = option_number 0 1024 (codes "k")
 
 abbrev pub pty_in : List Row → Option ℕ
-pty_in rows = option_and_then (number_from_to 0 31) (one_of (codes "pty") rows)
+pty_in = option_number 0 31 (codes "pty")
 
 -- the grain in milliseconds
 abbrev pub grain_in : List Row → Option ℕ
-grain_in rows = option_and_then (number_from_to 0 87) (one_of (codes "grain") rows)
+grain_in = option_number 0 87 (codes "grain")
 
 -- a flag is given
 abbrev pub flag_in : Text → List Row → Bool
@@ -273,7 +273,7 @@ has_value name rows = is_some (first_of name rows)
 abbrev pub window_in : List Row → Option (Option ℕ)
 window_in rows =
     if has_value (codes "confirm") rows
-    then option_map Some (option_slots 2 255 (codes "confirm") rows)
+    then option_map Some (option_number 2 255 (codes "confirm") rows)
     else Some None
 
 -- the argument of `--lose`, or nothing

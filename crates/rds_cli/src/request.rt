@@ -1,11 +1,11 @@
 //! The request of the command line.
-ghost use Rattle.std.specs.Prelude.{◌≡◌, ◌⊎◌, ℕ, IfErr, IfNone, IfOk, IfSome, false, map, option_map, true};
+ghost use Rattle.std.specs.Prelude.{◌≡◌, ◌-◌, ◌<◌, ◌⊎◌, ℕ, IfErr, IfNone, IfOk, IfSome, false, map, option_map, true};
 ghost use Rattle.clap.specs.Words.{FailsBy, fault_of, found_of, kind_of, rows_of};
 ghost use Rattle.rds_cli.specs.Asks.{ReadAs, asked_by};
 ghost use Rattle.rds_cli.specs.CommandLine.{AreRefused, AskForHelp, IsPi, TakesWords, asked_in, asked_of};
-ghost use Rattle.rds_cli.specs.CommandLine.{file_in, flag_in, grain_in, group_named};
+ghost use Rattle.rds_cli.specs.CommandLine.{file_in, flag_in, group_named};
 ghost use Rattle.rds_cli.specs.CommandLine.{has_value, is_shown, lose_in, pi_in};
-ghost use Rattle.rds_cli.specs.CommandLine.{programme_in, option_slots, rtplus_in};
+ghost use Rattle.rds_cli.specs.CommandLine.{programme_in, option_number, rtplus_in};
 ghost use Rattle.rds_cli.specs.CommandLine.{task_in, whole_app, window_in, witness_in};
 
 use crate::command_line::whole;
@@ -197,7 +197,7 @@ fn task_of(name: &str, inner: &ArgMatches<'_>) -> Option<Task>
             lists_all: is_given(inner, "all"),
         }),
         "witness" => Some(witness_of(inner)),
-        "slots" => Some(Task::Slots(grain_of(inner)?, has_value(inner, "pi"))),
+        "slots" => Some(Task::Slots(place_of(inner, "grain")?, has_value(inner, "pi"))),
         _ => None,
     }
 }
@@ -289,11 +289,12 @@ fn window_of(inner: &ArgMatches<'_>) -> Option<Option<Window>>
     Some(Some(slots_of(inner, "confirm")?))
 }
 
-/// Reads the grain.
-fn grain_of(inner: &ArgMatches<'_>) -> Option<Place<88>>
-    ensures { result ≡ grain_in (rows_of (found_of inner.now)) }
+/// Reads the number of an option that has to be below `N`. `None` if it is not.
+fn place_of<const N: u8>(inner: &ArgMatches<'_>, name: &str) -> Option<Place<N>>
+    requires { 0 < N }
+    ensures { result ≡ option_number 0 (N - 1) name.now (rows_of (found_of inner.now)) }
 {
-    Place::new(inner.get_one::<u8>("grain")?)
+    Place::new(inner.get_one::<u8>(name)?)
 }
 
 /// Reads the number of slots of an option. `None` if it is out of its range.
@@ -301,7 +302,7 @@ fn slots_of<const LOW: u16, const HIGH: u16>(
     inner: &ArgMatches<'_>,
     name: &str,
 ) -> Option<Bounded<LOW, HIGH>>
-    ensures { result ≡ option_slots LOW HIGH name.now (rows_of (found_of inner.now)) }
+    ensures { result ≡ option_number LOW HIGH name.now (rows_of (found_of inner.now)) }
 {
     Bounded::new(inner.get_one::<u16>(name)?)
 }
@@ -311,7 +312,7 @@ fn programme_of(inner: &ArgMatches<'_>) -> Option<Programme>
     ensures { result ≡ programme_in (rows_of (found_of inner.now)) }
 {
     Some(Programme {
-        pty: Place::new(inner.get_one::<u8>("pty")?)?,
+        pty: place_of(inner, "pty")?,
         tp: is_given(inner, "tp"),
     })
 }

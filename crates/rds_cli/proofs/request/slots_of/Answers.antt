@@ -2,13 +2,13 @@ use Rattle.std.proofs.Common.{◌≡◌, ◌∙◌, ap, arith, sym}
 use Rattle.std.specs.Prelude.{option_and_then}
 use Rattle.std.specs.Str.Parse.{ExplainsUnsignedError, HasUnsignedDigitsIfOk, ParsesUnsigned}
 use Rattle.clap.specs.Words.{found_of, rows_of}
-use Rattle.rds_cli.specs.CommandLine.{option_slots}
+use Rattle.rds_cli.specs.CommandLine.{option_number}
 use Rattle.rds_cli.proofs.Numbers.{between, read_option, slots_between}
 use Rattle.rds_cli.proofs.request.slots_of.Goals as goal
 
 pub returns-in_err-get_one : goal.returns-in_err-get_one
 returns-in_err-get_one g c =
-    let read : option_slots g.row.LOW g.row.HIGH c.args.name.now (rows_of (found_of c.args.inner.now))
+    let read : option_number g.row.LOW g.row.HIGH c.args.name.now (rows_of (found_of c.args.inner.now))
     ≡ option_and_then (between g.row.LOW g.row.HIGH) c.get_one.result =
     read_option 16 g.row.LOW g.row.HIGH (λ bs r. ParsesUnsigned 16 10 bs r × ExplainsUnsignedError 10 bs r
     × HasUnsignedDigitsIfOk bs r) (found_of c.args.inner.now) c.args.name.now c.get_one.result
@@ -17,7 +17,7 @@ returns-in_err-get_one g c =
 
 pub returns : goal.returns
 returns g c =
-    let read : option_slots g.row.LOW g.row.HIGH c.args.name.now (rows_of (found_of c.args.inner.now))
+    let read : option_number g.row.LOW g.row.HIGH c.args.name.now (rows_of (found_of c.args.inner.now))
     ≡ option_and_then (between g.row.LOW g.row.HIGH) c.get_one.result =
     read_option 16 g.row.LOW g.row.HIGH (λ bs r. ParsesUnsigned 16 10 bs r × ExplainsUnsignedError 10 bs r
     × HasUnsignedDigitsIfOk bs r) (found_of c.args.inner.now) c.args.name.now c.get_one.result
