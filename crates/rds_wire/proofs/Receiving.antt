@@ -2,20 +2,20 @@
 use Rattle.std.proofs.Common.{◌≡◌, ◌≤◌, ◌+◌, ◌==◌, ◌∷◌, [], ◌∙◌, ℕ, suc, Bool, true, false, cond, List, Option}
 use Rattle.std.proofs.Common.{None, Some, ap, arith, inl, inr, length, map, refl, subst, sym}
 use Rattle.std.specs.List.{AllZip}
+use lib.ListN.{length-map}
 use Rattle.rds_block.specs.declared.group.Group.{Group}
-use Rattle.rds_encoder.specs.Sent.{IsSent}
-use Rattle.rds_fields.specs.declared.head.Head.{Head}
 use Rattle.rds_fields.specs.declared.message.Message.{Message}
 use Rattle.rds_log.specs.Audit.{spacing}
 use Rattle.rds_log.specs.declared.audit_log.Auditing.{Auditing}
-use Rattle.rds_receiver.specs.OneView.{heard_next, hears_spelled}
-use Rattle.rds_receiver.specs.Receipts.{AreHeard, Hears, heard_in, heard_of}
+use Rattle.rds_receiver.specs.OneView.{heard_next}
+use Rattle.rds_receiver.specs.Receipts.{AreHeard, heard_in, heard_of}
 use Rattle.rds_safety.specs.Late.{CameFrom, HasEntry, Input, InputOf, IsHeardInOrder, IsHeardLate, IsOfItsOrigin}
 use Rattle.rds_safety.specs.Laws.{ASlowClockIsAnOwnClock, LateIsBySlowClock}
 use Rattle.rds_safety.specs.OwnClock.{IsHeardByOwnClock}
 use Rattle.rds_wire.specs.Groups.{GroupsByOwnClockAreMessagesByIt, LateGroupsAreLateMessages}
 use Rattle.rds_wire.specs.Groups.{OtherGroupsAreNothing, WhatIsSentIsHeard, with_messages}
 use Rattle.rds_wire.specs.Received.{Came, first_entries, own_group}
+use Rattle.rds_world.proofs.Received.{hears_sent}
 use Rattle.rds_wire.proofs.Firsts.{entry_below, entry_of_first}
 
 -- ---- two lists side by side
@@ -39,18 +39,6 @@ entry_left R first (a ∷ xs) (b ∷ ys) t y all (inl here) =
 entry_left R first (a ∷ xs) (b ∷ ys) t y all (inr there) =
     (let it = entry_left R first xs ys t y all.1 there in (it.0, inr it.1, it.2))
 
--- and the other way round
-pub entry_right : {A B : Type 0} (R : A → B → Type 0) (first : ℕ) (xs : List A) (ys : List B) (t : ℕ) (x : A)
-    → AllZip R xs ys → HasEntry first xs t x → (y : B) × HasEntry first ys t y × R x y
-entry_right R first [] [] t x all at = absurd at
-entry_right R first [] (b ∷ ys) t x all at = absurd all
-entry_right R first (a ∷ xs) [] t x all at = absurd all
-entry_right R first (a ∷ xs) (b ∷ ys) t x all (inl here) =
-    let long = zip_long R xs ys all.1 in
-    (b, inl (omega (arith, here.0, long), refl), subst (λ z. R z b) (sym here.1) all.0)
-entry_right R first (a ∷ xs) (b ∷ ys) t x all (inr there) =
-    (let it = entry_right R first xs ys t x all.1 there in (it.0, inr it.1, it.2))
-
 -- ---- groups of the programme
 
 own_heard_in : (pi : ℕ) (slot : Option Group) → heard_in pi (own_group pi slot) ≡ heard_in pi slot
@@ -71,29 +59,36 @@ own_heard pi slots messages are = are ∙ sym (own_heard_of pi slots)
 
 -- ---- what is sent
 
--- receivers of the programme hear the message of a slot
-pub heard_of_sent : (head : Head) (m : Option Message) (g : Option Group) → IsSent head m g → Hears head.pi g m
-heard_of_sent head None None is = refl
-heard_of_sent head None (Some g) is = absurd is
-heard_of_sent head (Some m) None is = absurd is
-heard_of_sent head (Some m) (Some g) is = hears_spelled head.pi g m is.head.pi is.spelled
-
--- and of each slot
+-- receivers of the programme hear the messages that are sent
 pub sent_heard : WhatIsSentIsHeard
 sent_heard head [] [] are = refl
 sent_heard head [] (g ∷ sent) are = absurd are
 sent_heard head (m ∷ messages) [] are = absurd are
 sent_heard head (m ∷ messages) (g ∷ sent) are =
-    heard_next head.pi g sent m messages (heard_of_sent head m g are.0) (sent_heard head messages sent are.1)
+    heard_next head.pi g sent m messages (hears_sent head m g are.0) (sent_heard head messages sent are.1)
 
--- each slot is heard by itself
-zip_heard : (pi : ℕ) (slots : List (Option Group)) → AllZip (Hears pi) slots (heard_of pi slots)
-zip_heard pi [] = tt
-zip_heard pi (slot ∷ before) = (refl, zip_heard pi before)
+-- what was heard in a slot is what its group says
+entry_heard : (pi first : ℕ) (slots : List (Option Group)) (t : ℕ) (entry : Option Message)
+    → HasEntry first (heard_of pi slots) t entry
+    → (slot : Option Group) × HasEntry first slots t slot × (entry ≡ heard_in pi slot)
+entry_heard pi first [] t entry at = absurd at
+entry_heard pi first (slot ∷ before) t entry (inl here) =
+    (slot, inl (here.0 ∙ ap (λ n. first + n) (length-map before (heard_in pi)), refl), here.1)
+entry_heard pi first (slot ∷ before) t entry (inr there) =
+    (let it = entry_heard pi first before t entry there in (it.0, inr it.1, it.2))
 
-pub each_heard : (pi : ℕ) (slots : List (Option Group)) (messages : List (Option Message)) → AreHeard pi slots messages
-    → AllZip (Hears pi) slots messages
-each_heard pi slots messages are = subst (AllZip (Hears pi) slots) (sym are) (zip_heard pi slots)
+-- and what the group of a slot says was heard in it
+group_heard : (pi first : ℕ) (slots : List (Option Group)) (t : ℕ) (slot : Option Group) → HasEntry first slots t slot
+    → HasEntry first (heard_of pi slots) t (heard_in pi slot)
+group_heard pi first [] t slot at = absurd at
+group_heard pi first (s ∷ before) t slot (inl here) =
+    inl (here.0 ∙ ap (λ n. first + n) (sym (length-map before (heard_in pi))), ap (heard_in pi) here.1)
+group_heard pi first (s ∷ before) t slot (inr there) = inr (group_heard pi first before t slot there)
+
+-- as many slots as messages
+heard_long : (pi : ℕ) (slots : List (Option Group)) (messages : List (Option Message)) → AreHeard pi slots messages
+    → length slots ≡ length messages
+heard_long pi slots messages are = sym (ap length are ∙ length-map slots (heard_in pi))
 
 -- ---- messages
 
@@ -102,7 +97,7 @@ module _ (pi : ℕ) (sent : List (Option Group)) (messages heard : List (Option 
   -- what was heard in order as groups was so as messages
   in_order : IsHeardInOrder sent input → IsHeardInOrder messages (with_messages input heard)
   in_order order = record {
-    beside = order.beside ∙ zip_long (Hears pi) input.heard heard (each_heard pi input.heard heard hear);
+    beside = order.beside ∙ heard_long pi input.heard heard hear;
     each = each;
     rising = order.rising;
   }
@@ -110,12 +105,11 @@ module _ (pi : ℕ) (sent : List (Option Group)) (messages heard : List (Option 
       each : (t : ℕ) (origin : Option ℕ) (entry : Option Message) → HasEntry input.first input.origins t origin
           → HasEntry input.first heard t entry → IsOfItsOrigin messages origin entry
       each t None entry p q =
-          let x = entry_left (Hears pi) input.first input.heard heard t entry (each_heard pi input.heard heard hear) q in
-          subst (λ (o : Option Group). Hears pi o entry) (order.each t None x.0 p x.1) x.2
+          let x = entry_heard pi input.first input.heard t entry (rw hear at q) in
+          x.2 ∙ ap (heard_in pi) (order.each t None x.0 p x.1)
       each t (Some s) entry p q =
-          let x = entry_left (Hears pi) input.first input.heard heard t entry (each_heard pi input.heard heard hear) q in
-          let y = entry_right (Hears pi) 0 sent messages s x.0 (each_heard pi sent messages are) (order.each t (Some s) x.0 p x.1) in
-          subst (λ (m : Option Message). HasEntry 0 messages s m) (y.2 ∙ sym x.2) y.1
+          let x = entry_heard pi input.first input.heard t entry (rw hear at q) in
+          rw (are, x.2) (group_heard pi 0 sent s x.0 (order.each t (Some s) x.0 p x.1))
 
   late_in : (k l : ℕ) → k ≤ l → IsHeardLate k sent input → IsHeardLate l messages (with_messages input heard)
   late_in k l more late = record {
@@ -127,7 +121,7 @@ module _ (pi : ℕ) (sent : List (Option Group)) (messages heard : List (Option 
   own_in : (d e m now : ℕ) → d ≤ e → IsHeardByOwnClock d m now sent input
       → IsHeardByOwnClock e m now messages (with_messages input heard)
   own_in d e m now more own =
-      let long = zip_long (Hears pi) input.heard heard (each_heard pi input.heard heard hear) in
+      let long = heard_long pi input.heard heard hear in
       record {
         order = in_order own.order;
         between = λ t u r s p q near. omega (arith, more, own.between t u r s p q near);
@@ -175,7 +169,7 @@ pub by_own_clock : ClockLaws → (a : Auditing) (t now : ℕ) (sent got : List (
 by_own_clock laws a t now sent got messages heard origins are hear reached (inl (late, same)) =
     let groups : InputOf Group = record { first = 0; heard = got; origins = origins } in
     let input : Input = record { first = 0; heard = heard; origins = origins } in
-    let long = zip_long (Hears a.pi) got heard (each_heard a.pi got heard hear) in
+    let long = heard_long a.pi got heard hear in
     let beside = late.order.beside in
     let past : (u s : ℕ) → HasEntry 0 origins u (Some s) → s ≤ now =
     λ u s p. omega (arith, late.past u s p, entry_below 0 origins u (Some s) p, beside, reached, same) in

@@ -28,7 +28,7 @@ use Rattle.rds_world.specs.declared.world.Config.{Config}
 use Rattle.rds_wire.specs.Received.{first_entries}
 use Rattle.rds_wire.proofs.Firsts.{first_all, first_more}
 use Rattle.rds_wire.proofs.Logs.{HasNoReceivers, groups_sent}
-use Rattle.rds_wire.proofs.Receiving.{heard_of_sent}
+use Rattle.rds_world.proofs.Received.{hears_sent}
 use Rattle.rds_wire.proofs.Views.{marks_long}
 
 -- ---- rows
@@ -94,8 +94,8 @@ groups_are_heard config [] [] are = refl
 groups_are_heard config [] (o ∷ older) are = absurd are
 groups_are_heard config (e ∷ before) [] are = absurd are
 groups_are_heard config (e ∷ before) (o ∷ older) are =
-    heard_next config.head.pi o.sent (groups_sent older) (sent_at (distance config) e before) (log (distance config) before)
-    (heard_of_sent config.head (sent_at (distance config) e before) o.sent are.0.sent)
+    heard_next config.head.pi o.sent (groups_sent older) (sent_at (distance config) e before)
+    (log (distance config) before) (hears_sent config.head (sent_at (distance config) e before) o.sent are.0.sent)
     (groups_are_heard config before older are.1)
 
 -- the plans of the slots are lawful for their log

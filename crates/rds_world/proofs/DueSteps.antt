@@ -41,7 +41,7 @@ one_more_sent config sent group before groups now kept back within = rw (get_or-
   where
     by : (back : ℕ) → back ≤ config.late
         → Hears config.head.pi (slice_index_or (group ∷ groups) back None) (sent_back back (sent ∷ before))
-    by zero within = hears_sent config sent group now
+    by zero within = hears_sent config.head sent group now
     by (suc back) within = kept back (omega (arith, within))
 
 -- a reception at a place within the list is that of the event

@@ -4,6 +4,7 @@ use Rattle.std.proofs.Common.{refl, ap, subst, take, arith, sym, ◌∙◌}
 use Rattle.std.specs.List.{AllByRecursion}
 use Rattle.std.specs.Prelude.{slice_get, slice_index_or, slice_set}
 use Rattle.rds_block.specs.declared.group.Group.{Group}
+use Rattle.rds_fields.specs.declared.head.Head.{Head}
 use Rattle.rds_fields.specs.declared.message.Message.{Message}
 use Rattle.rds_encoder.specs.Sent.{IsSent}
 use Rattle.rds_receiver.specs.Receipts.{Hears}
@@ -17,13 +18,13 @@ use Rattle.rds_receiver.specs.State.{ReceiverState}
 use Rattle.rds_world.specs.WorldAt.{HasHeard, HeardNothing, StaysShown, tuned_to}
 use Rattle.rds_world.specs.declared.world.Config.{Config}
 
--- receivers hear the messages of the station
-pub hears_sent : (config : Config) (sent : Option Message) (group : Option Group) → IsSent config.head sent group
-    → Hears config.head.pi group sent
-hears_sent config None None s = refl
-hears_sent config None (Some group) s = absurd s
-hears_sent config (Some message) None s = absurd s
-hears_sent config (Some message) (Some group) s = hears_spelled config.head.pi group message s.head.pi s.spelled
+-- receivers of the programme hear the message of a slot
+pub hears_sent : (head : Head) (sent : Option Message) (group : Option Group) → IsSent head sent group
+    → Hears head.pi group sent
+hears_sent head None None s = refl
+hears_sent head None (Some group) s = absurd s
+hears_sent head (Some message) None s = absurd s
+hears_sent head (Some message) (Some group) s = hears_spelled head.pi group message s.head.pi s.spelled
 
 abbrev input_from : ℕ → List (Option Message) → List (Option ℕ) → Input
 input_from first heard origins = record { first = first; heard = heard; origins = origins }
