@@ -42,7 +42,8 @@ pub struct NoNote {
     /// For `NotOneText`, what is wrong with the segment.
     pub cause: Option<SegmentCause>,
     /// Whether the fault may be harmless. For `NotOneText`, if a text with padding has all segments of the text. For
-    /// `EarlyTag`, if both tags are empty. For `EarlyFlag`, if the text before had the same segments as the one before it.
+    /// `EarlyTag`, if both tags are empty. For `EarlyFlag`, if the text before had the same segments as the one before
+    /// it.
     pub is_harmless: bool,
 }
 
