@@ -11,152 +11,152 @@ use Rattle.std.specs.Char.{len_utf8}
 use Rattle.std.specs.List.{list_all, enumerate_from, position}
 use Rattle.std.proofs.lemmas.Option.{slice_get-get_or}
 use Rattle.std.specs.Option.{option_or, option_map}
-use Rattle.rds_charset.specs.declared.table.Stretch.{Stretch as HeldStretch}
-use Rattle.rds_charset.specs.Stretches.{stretch_of}
-use Rattle.rds_charset.specs.Table.{Stretch, table, character_in, character_at, character_of, byte_in, byte_at, byte_of}
-use Rattle.rds_charset.specs.Table.{FitsInBytes}
+use Rattle.rds_charset.specs.declared.table.CodeRange.{CodeRange as HeldRange}
+use Rattle.rds_charset.specs.Ranges.{range_of}
+use Rattle.rds_charset.specs.Table.{CodeRange, FitsInBytes, table, character_in, character_at, character_of}
+use Rattle.rds_charset.specs.Table.{byte_in, byte_at, byte_of}
 
--- the stretch at hand has the byte, or the search goes on in the ones after it
-pub character_in-found : (stretches : List HeldStretch) (i : ℕ) (d : HeldStretch) (byte character : ℕ)
-    → i < length stretches → character_at (stretch_of (get_or stretches i d)) byte ≡ Some character
-    → character_in (map stretch_of (drop i stretches)) byte ≡ Some character
-character_in-found stretches i d byte character within here =
-    at_drop_more (λ rest. character_in (map stretch_of rest) byte) stretches i d within
-    ∙ ap (λ found. option_or found (character_in (map stretch_of (drop (i + 1) stretches)) byte)) here
+-- the range at hand has the byte, or the search goes on in the ones after it
+pub character_in-found : (ranges : List HeldRange) (i : ℕ) (d : HeldRange) (byte character : ℕ)
+    → i < length ranges → character_at (range_of (get_or ranges i d)) byte ≡ Some character
+    → character_in (map range_of (drop i ranges)) byte ≡ Some character
+character_in-found ranges i d byte character within here =
+    at_drop_more (λ rest. character_in (map range_of rest) byte) ranges i d within
+    ∙ ap (λ found. option_or found (character_in (map range_of (drop (i + 1) ranges)) byte)) here
 
--- a stretch without the byte is passed
-pub character_in-passed : (stretches : List HeldStretch) (i : ℕ) (d : HeldStretch) (byte : ℕ) → i < length stretches
-    → character_at (stretch_of (get_or stretches i d)) byte ≡ None
-    → character_in (map stretch_of (drop i stretches)) byte ≡ character_in (map stretch_of (drop (i + 1) stretches))
+-- a range without the byte is passed
+pub character_in-passed : (ranges : List HeldRange) (i : ℕ) (d : HeldRange) (byte : ℕ) → i < length ranges
+    → character_at (range_of (get_or ranges i d)) byte ≡ None
+    → character_in (map range_of (drop i ranges)) byte ≡ character_in (map range_of (drop (i + 1) ranges))
     byte
-character_in-passed stretches i d byte within here =
-    at_drop_more (λ rest. character_in (map stretch_of rest) byte) stretches i d within
-    ∙ ap (λ found. option_or found (character_in (map stretch_of (drop (i + 1) stretches)) byte)) here
+character_in-passed ranges i d byte within here =
+    at_drop_more (λ rest. character_in (map range_of rest) byte) ranges i d within
+    ∙ ap (λ found. option_or found (character_in (map range_of (drop (i + 1) ranges)) byte)) here
 
 -- the same for a character
-pub byte_in-found : (stretches : List HeldStretch) (i : ℕ) (d : HeldStretch) (character byte : ℕ) → i < length stretches
-    → byte_at (stretch_of (get_or stretches i d)) character ≡ Some byte
-    → byte_in (map stretch_of (drop i stretches)) character ≡ Some byte
-byte_in-found stretches i d character byte within here =
-    at_drop_more (λ rest. byte_in (map stretch_of rest) character) stretches i d within
-    ∙ ap (λ found. option_or found (byte_in (map stretch_of (drop (i + 1) stretches)) character)) here
+pub byte_in-found : (ranges : List HeldRange) (i : ℕ) (d : HeldRange) (character byte : ℕ) → i < length ranges
+    → byte_at (range_of (get_or ranges i d)) character ≡ Some byte
+    → byte_in (map range_of (drop i ranges)) character ≡ Some byte
+byte_in-found ranges i d character byte within here =
+    at_drop_more (λ rest. byte_in (map range_of rest) character) ranges i d within
+    ∙ ap (λ found. option_or found (byte_in (map range_of (drop (i + 1) ranges)) character)) here
 
--- a stretch without the character is passed
-pub byte_in-passed : (stretches : List HeldStretch) (i : ℕ) (d : HeldStretch) (character : ℕ) → i < length stretches
-    → byte_at (stretch_of (get_or stretches i d)) character ≡ None
-    → byte_in (map stretch_of (drop i stretches)) character ≡ byte_in (map stretch_of (drop (i + 1) stretches))
+-- a range without the character is passed
+pub byte_in-passed : (ranges : List HeldRange) (i : ℕ) (d : HeldRange) (character : ℕ) → i < length ranges
+    → byte_at (range_of (get_or ranges i d)) character ≡ None
+    → byte_in (map range_of (drop i ranges)) character ≡ byte_in (map range_of (drop (i + 1) ranges))
     character
-byte_in-passed stretches i d character within here =
-    at_drop_more (λ rest. byte_in (map stretch_of rest) character) stretches i d within
-    ∙ ap (λ found. option_or found (byte_in (map stretch_of (drop (i + 1) stretches)) character)) here
+byte_in-passed ranges i d character within here =
+    at_drop_more (λ rest. byte_in (map range_of rest) character) ranges i d within
+    ∙ ap (λ found. option_or found (byte_in (map range_of (drop (i + 1) ranges)) character)) here
 
--- whether the stretch has only bytes up to 255
-abbrev fits : Stretch → Bool
-fits stretch = nat_le (stretch.0 + length stretch.1) 256
+-- whether the range has only bytes up to 255
+abbrev fits : CodeRange → Bool
+fits range = nat_le (range.0 + length range.1) 256
 
 all_fit : list_all fits table ≡ true
 all_fit = refl
 
-FitsInBytes-from_fits : (stretch : Stretch) (b : Bool) → fits stretch ≡ b → (b ≡ false → list_all fits table ≡ false)
-    → FitsInBytes stretch
-FitsInBytes-from_fits stretch true is _ = grind (arith, nat_tests)
-FitsInBytes-from_fits stretch false is unfit = let e : true ≡ false = sym all_fit ∙ unfit refl in grind arith
+FitsInBytes-from_fits : (range : CodeRange) (b : Bool) → fits range ≡ b → (b ≡ false → list_all fits table ≡ false)
+    → FitsInBytes range
+FitsInBytes-from_fits range true is _ = grind (arith, nat_tests)
+FitsInBytes-from_fits range false is unfit = let e : true ≡ false = sym all_fit ∙ unfit refl in grind arith
 
--- each stretch of the table fits in bytes
-pub held-FitsInBytes : (stretches : List HeldStretch) (i : ℕ) (d : HeldStretch) → map stretch_of stretches ≡ table
-    → i < length stretches → FitsInBytes (stretch_of (get_or stretches i d))
-held-FitsInBytes stretches i d are within = FitsInBytes-from_fits (stretch_of (get_or stretches i d))
-    (fits (stretch_of (get_or stretches i d))) refl
-    (λ unfit. ap (list_all fits) (sym are) ∙ list_all-map fits stretch_of stretches
-    ∙ list_all_at (λ stretch. fits (stretch_of stretch)) stretches i d within unfit)
+-- each range of the table fits in bytes
+pub held-FitsInBytes : (ranges : List HeldRange) (i : ℕ) (d : HeldRange) → map range_of ranges ≡ table
+    → i < length ranges → FitsInBytes (range_of (get_or ranges i d))
+held-FitsInBytes ranges i d are within = FitsInBytes-from_fits (range_of (get_or ranges i d))
+    (fits (range_of (get_or ranges i d))) refl
+    (λ unfit. ap (list_all fits) (sym are) ∙ list_all-map fits range_of ranges
+    ∙ list_all_at (λ range. fits (range_of range)) ranges i d within unfit)
 
 -- all bytes that have a character, with that character
-abbrev pub entries_in : List Stretch → List (ℕ × ℕ)
+abbrev pub entries_in : List CodeRange → List (ℕ × ℕ)
 entries_in [] = []
-entries_in (stretch ∷ stretches) = enumerate_from stretch.0 stretch.1 ++ entries_in stretches
+entries_in (range ∷ ranges) = enumerate_from range.0 range.1 ++ entries_in ranges
 
 -- if a test holds for all entries, it holds for one
-holds_in_stretch : (test : ℕ → ℕ → Bool) (first : ℕ) (characters : List ℕ) (place character : ℕ)
+holds_in_range : (test : ℕ → ℕ → Bool) (first : ℕ) (characters : List ℕ) (place character : ℕ)
     → list_all (λ e. test e.0 e.1) (enumerate_from first characters) ≡ true
     → slice_get characters place ≡ Some character → test (first + place) character ≡ true
-holds_in_stretch test first [] place character all here = absurd (cc)
-holds_in_stretch test first (known ∷ characters) zero character all here =
+holds_in_range test first [] place character all here = absurd (cc)
+holds_in_range test first (known ∷ characters) zero character all here =
     let at_first : test first known ≡ true = (and_parts _ _ all).0 in
     let same : known ≡ character = cc in
     let sum : first + 0 ≡ first = omega arith in
     rw (sum, ← same) at_first
-holds_in_stretch test first (known ∷ characters) (suc place) character all here =
+holds_in_range test first (known ∷ characters) (suc place) character all here =
     let sum : first + suc place ≡ first + 1 + place = omega arith in
-    rw sum (holds_in_stretch test (first + 1) characters place character (and_parts _ _ all).1 here)
+    rw sum (holds_in_range test (first + 1) characters place character (and_parts _ _ all).1 here)
 
-holds_at_stretch : (test : ℕ → ℕ → Bool) (stretch : Stretch) (stretches : List Stretch) (place character : ℕ)
-    → list_all (λ e. test e.0 e.1) (entries_in (stretch ∷ stretches)) ≡ true
-    → slice_get stretch.1 place ≡ Some character → test (stretch.0 + place) character ≡ true
-holds_at_stretch test stretch stretches place character all here = holds_in_stretch test stretch.0 stretch.1 place
-    character (and_parts _ _ (sym (list_all-append (λ e. test e.0 e.1) (enumerate_from stretch.0 stretch.1)
-    (entries_in stretches)) ∙ all)).0 here
+holds_at_range : (test : ℕ → ℕ → Bool) (range : CodeRange) (ranges : List CodeRange) (place character : ℕ)
+    → list_all (λ e. test e.0 e.1) (entries_in (range ∷ ranges)) ≡ true
+    → slice_get range.1 place ≡ Some character → test (range.0 + place) character ≡ true
+holds_at_range test range ranges place character all here = holds_in_range test range.0 range.1 place
+    character (and_parts _ _ (sym (list_all-append (λ e. test e.0 e.1) (enumerate_from range.0 range.1)
+    (entries_in ranges)) ∙ all)).0 here
 
-holds_at_rest : (test : ℕ → ℕ → Bool) (stretch : Stretch) (stretches : List Stretch)
-    → list_all (λ e. test e.0 e.1) (entries_in (stretch ∷ stretches)) ≡ true
-    → list_all (λ e. test e.0 e.1) (entries_in stretches) ≡ true
-holds_at_rest test stretch stretches all = (and_parts _ _
-    (sym (list_all-append (λ e. test e.0 e.1) (enumerate_from stretch.0 stretch.1) (entries_in stretches)) ∙ all)).1
+holds_at_rest : (test : ℕ → ℕ → Bool) (range : CodeRange) (ranges : List CodeRange)
+    → list_all (λ e. test e.0 e.1) (entries_in (range ∷ ranges)) ≡ true
+    → list_all (λ e. test e.0 e.1) (entries_in ranges) ≡ true
+holds_at_rest test range ranges all = (and_parts _ _
+    (sym (list_all-append (λ e. test e.0 e.1) (enumerate_from range.0 range.1) (entries_in ranges)) ∙ all)).1
 
-found_at : (test : ℕ → ℕ → Bool) (stretch : Stretch) (stretches : List Stretch) (byte character : ℕ)
-    → list_all (λ e. test e.0 e.1) (entries_in (stretch ∷ stretches)) ≡ true → (b : Bool) → nat_le stretch.0 byte ≡ b
-    → (if b then slice_get stretch.1 (byte - stretch.0) else None) ≡ Some character → test byte character ≡ true
-found_at test stretch stretches byte character all true is here =
-    let within : stretch.0 ≤ byte = grind (arith, nat_tests) in
-    let sum : stretch.0 + (byte - stretch.0) ≡ byte = omega arith in
-    let holds : test (stretch.0 + (byte - stretch.0)) character ≡ true = holds_at_stretch test stretch stretches
-    (byte - stretch.0) character all here in
+found_at : (test : ℕ → ℕ → Bool) (range : CodeRange) (ranges : List CodeRange) (byte character : ℕ)
+    → list_all (λ e. test e.0 e.1) (entries_in (range ∷ ranges)) ≡ true → (b : Bool) → nat_le range.0 byte ≡ b
+    → (if b then slice_get range.1 (byte - range.0) else None) ≡ Some character → test byte character ≡ true
+found_at test range ranges byte character all true is here =
+    let within : range.0 ≤ byte = grind (arith, nat_tests) in
+    let sum : range.0 + (byte - range.0) ≡ byte = omega arith in
+    let holds : test (range.0 + (byte - range.0)) character ≡ true = holds_at_range test range ranges
+    (byte - range.0) character all here in
     rw sum at holds
-found_at test stretch stretches byte character all false is here = absurd (cc)
+found_at test range ranges byte character all false is here = absurd (cc)
 
 -- a test that all entries pass is passed at each byte
-pub holds_at_byte : (test : ℕ → ℕ → Bool) (stretches : List Stretch) (byte character : ℕ)
-    → list_all (λ e. test e.0 e.1) (entries_in stretches) ≡ true → character_in stretches byte ≡ Some character
+pub holds_at_byte : (test : ℕ → ℕ → Bool) (ranges : List CodeRange) (byte character : ℕ)
+    → list_all (λ e. test e.0 e.1) (entries_in ranges) ≡ true → character_in ranges byte ≡ Some character
     → test byte character ≡ true
 holds_at_byte test [] byte character all here = absurd (cc)
-holds_at_byte test (stretch ∷ stretches) byte character all here = by_stretch (character_at stretch byte) refl here
-    (holds_at_byte test stretches byte character (holds_at_rest test stretch stretches all))
+holds_at_byte test (range ∷ ranges) byte character all here = by_range (character_at range byte) refl here
+    (holds_at_byte test ranges byte character (holds_at_rest test range ranges all))
   where
-    by_stretch : (found : Option ℕ) → character_at stretch byte ≡ found
-        → option_or found (character_in stretches byte) ≡ Some character
-        → (character_in stretches byte ≡ Some character → test byte character ≡ true) → test byte character ≡ true
-    by_stretch None none here later = later here
-    by_stretch (Some found) some here later = found_at test stretch stretches byte character all (nat_le stretch.0 byte)
+    by_range : (found : Option ℕ) → character_at range byte ≡ found
+        → option_or found (character_in ranges byte) ≡ Some character
+        → (character_in ranges byte ≡ Some character → test byte character ≡ true) → test byte character ≡ true
+    by_range None none here later = later here
+    by_range (Some found) some here later = found_at test range ranges byte character all (nat_le range.0 byte)
         refl (some ∙ here)
 
-placed_at : (test : ℕ → ℕ → Bool) (stretch : Stretch) (stretches : List Stretch) (character byte : ℕ)
-    → list_all (λ e. test e.0 e.1) (entries_in (stretch ∷ stretches)) ≡ true → byte_at stretch character ≡ Some byte
+placed_at : (test : ℕ → ℕ → Bool) (range : CodeRange) (ranges : List CodeRange) (character byte : ℕ)
+    → list_all (λ e. test e.0 e.1) (entries_in (range ∷ ranges)) ≡ true → byte_at range character ≡ Some byte
     → test byte character ≡ true
-placed_at test stretch stretches character byte all here = by_place (position (λ known. known == character) stretch.1)
+placed_at test range ranges character byte all here = by_place (position (λ known. known == character) range.1)
     refl here
   where
-    by_place : (found : Option ℕ) → position (λ known. known == character) stretch.1 ≡ found
-        → option_map (λ place. stretch.0 + place) found ≡ Some byte → test byte character ≡ true
+    by_place : (found : Option ℕ) → position (λ known. known == character) range.1 ≡ found
+        → option_map (λ place. range.0 + place) found ≡ Some byte → test byte character ≡ true
     by_place None none here = absurd (cc)
     by_place (Some place) some here =
-        let at_place = position-Some (λ known. known == character) stretch.1 place 0 some in
-        let same : get_or stretch.1 place 0 ≡ character = eqb-true _ _ at_place.1 in
-        let known : slice_get stretch.1 place ≡ Some character = slice_get-get_or stretch.1 place 0 at_place.0
+        let at_place = position-Some (λ known. known == character) range.1 place 0 some in
+        let same : get_or range.1 place 0 ≡ character = eqb-true _ _ at_place.1 in
+        let known : slice_get range.1 place ≡ Some character = slice_get-get_or range.1 place 0 at_place.0
         ∙ ap Some same in
-        let sum : stretch.0 + place ≡ byte = cc in
-        rw sum at (holds_at_stretch test stretch stretches place character all known)
+        let sum : range.0 + place ≡ byte = cc in
+        rw sum at (holds_at_range test range ranges place character all known)
 
-holds_at_character : (test : ℕ → ℕ → Bool) (stretches : List Stretch) (character byte : ℕ)
-    → list_all (λ e. test e.0 e.1) (entries_in stretches) ≡ true → byte_in stretches character ≡ Some byte
+holds_at_character : (test : ℕ → ℕ → Bool) (ranges : List CodeRange) (character byte : ℕ)
+    → list_all (λ e. test e.0 e.1) (entries_in ranges) ≡ true → byte_in ranges character ≡ Some byte
     → test byte character ≡ true
 holds_at_character test [] character byte all here = absurd (cc)
-holds_at_character test (stretch ∷ stretches) character byte all here = by_stretch (byte_at stretch character) refl here
-    (holds_at_character test stretches character byte (holds_at_rest test stretch stretches all))
+holds_at_character test (range ∷ ranges) character byte all here = by_range (byte_at range character) refl here
+    (holds_at_character test ranges character byte (holds_at_rest test range ranges all))
   where
-    by_stretch : (found : Option ℕ) → byte_at stretch character ≡ found
-        → option_or found (byte_in stretches character) ≡ Some byte
-        → (byte_in stretches character ≡ Some byte → test byte character ≡ true) → test byte character ≡ true
-    by_stretch None none here later = later here
-    by_stretch (Some found) some here later = placed_at test stretch stretches character byte all (some ∙ here)
+    by_range : (found : Option ℕ) → byte_at range character ≡ found
+        → option_or found (byte_in ranges character) ≡ Some byte
+        → (byte_in ranges character ≡ Some byte → test byte character ≡ true) → test byte character ≡ true
+    by_range None none here later = later here
+    by_range (Some found) some here later = placed_at test range ranges character byte all (some ∙ here)
 
 abbrev is_number : Option ℕ → ℕ → Bool
 is_number None n = false

@@ -2,10 +2,10 @@
 -- 62106; nothing depends on the likeness.
 use Rattle.std.specs.Prelude.{◌≤◌, ◌*◌, [], ◌∷◌, ℕ, List, encode_utf8, flat_map, length}
 use Rattle.std.specs.Option.{option_or, unwrap_or}
-use Rattle.rds_charset.specs.Table.{Stretch, character_in, character_of}
+use Rattle.rds_charset.specs.Table.{CodeRange, character_in, character_of}
 
 -- more bytes that a display has a character for
-abbrev pub more : List Stretch
+abbrev pub more : List CodeRange
 more =
     -- ¤
     (0x24, 0xA4 ∷ [])

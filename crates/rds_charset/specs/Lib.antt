@@ -2,9 +2,9 @@
 pub mod Table
 pub mod Printed
 pub mod ReadAs
-pub mod Stops
+pub mod BadCharacters
 pub mod Faults
 pub mod Displays
 pub mod Laws
 -- The state of the code. Callers do not need it.
-pub mod Stretches
+pub mod Ranges

@@ -6,11 +6,11 @@ use Rattle.std.specs.List.{range_with_len}
 use Rattle.std.specs.Option.{option_or}
 
 -- bytes that follow each other: the first of them, and their characters as code points
-abbrev pub Stretch : Type 0
-Stretch = ℕ × List ℕ
+abbrev pub CodeRange : Type 0
+CodeRange = ℕ × List ℕ
 
 -- all bytes that have a character; those up to 0x7D have their ASCII character
-abbrev pub table : List Stretch
+abbrev pub table : List CodeRange
 table = (0x20, range_with_len 0x20 4)
     ∷ (0x25, range_with_len 0x25 55)
     ∷ (0x5D, range_with_len 0x5D 1)
@@ -28,31 +28,31 @@ table = (0x20, range_with_len 0x20 4)
     ∷ (0xD0, 0xC2 ∷ 0xC4 ∷ 0xCA ∷ 0xCB ∷ 0xCE ∷ 0xCF ∷ 0xD4 ∷ 0xD6 ∷ 0xDB ∷ 0xDC ∷ [])
     ∷ []
 
--- the stretch has only bytes up to 255
-abbrev pub FitsInBytes : Stretch → Type 0
-FitsInBytes stretch = stretch.0 + length stretch.1 ≤ 256
+-- the range has only bytes up to 255
+abbrev pub FitsInBytes : CodeRange → Type 0
+FitsInBytes range = range.0 + length range.1 ≤ 256
 
--- the character of a byte in a stretch
-abbrev pub character_at : Stretch → ℕ → Option ℕ
-character_at stretch byte = if nat_le stretch.0 byte then slice_get stretch.1 (byte - stretch.0) else None
+-- the character of a byte in a range
+abbrev pub character_at : CodeRange → ℕ → Option ℕ
+character_at range byte = if nat_le range.0 byte then slice_get range.1 (byte - range.0) else None
 
--- the character of a byte in the first stretch that has the byte
-abbrev pub character_in : List Stretch → ℕ → Option ℕ
+-- the character of a byte in the first range that has the byte
+abbrev pub character_in : List CodeRange → ℕ → Option ℕ
 character_in [] byte = None
-character_in (stretch ∷ stretches) byte = option_or (character_at stretch byte) (character_in stretches byte)
+character_in (range ∷ ranges) byte = option_or (character_at range byte) (character_in ranges byte)
 
 -- the character of a byte
 unfoldable pub character_of : ℕ → Option ℕ
 character_of byte = character_in table byte
 
--- the byte of a character in a stretch
-abbrev pub byte_at : Stretch → ℕ → Option ℕ
-byte_at stretch character = option_map (λ place. stretch.0 + place) (position (λ known. known == character) stretch.1)
+-- the byte of a character in a range
+abbrev pub byte_at : CodeRange → ℕ → Option ℕ
+byte_at range character = option_map (λ place. range.0 + place) (position (λ known. known == character) range.1)
 
--- the byte of a character in the first stretch that has the character
-abbrev pub byte_in : List Stretch → ℕ → Option ℕ
+-- the byte of a character in the first range that has the character
+abbrev pub byte_in : List CodeRange → ℕ → Option ℕ
 byte_in [] character = None
-byte_in (stretch ∷ stretches) character = option_or (byte_at stretch character) (byte_in stretches character)
+byte_in (range ∷ ranges) character = option_or (byte_at range character) (byte_in ranges character)
 
 -- the byte of a character
 unfoldable pub byte_of : ℕ → Option ℕ

@@ -23,4 +23,4 @@ pub use laws::{
 };
 pub use printing::{push_text, write_text};
 pub use rds_io::{TellingRead, TellingWrite, Told, WriteFault, put};
-pub use reading::{Stop, TextFault, measure_text, read_text};
+pub use reading::{BadCharacter, TextFault, measure_text, read_text};

@@ -7,7 +7,7 @@ ghost use Rattle.rds_charset.specs.Faults.{TextStopsBy};
 ghost use Rattle.rds_charset.specs.ReadAs.{Begins, BeginsDigit, BeginsNoDigit, BeginsNoSymbol};
 ghost use Rattle.rds_charset.specs.ReadAs.{HasBadEscape, HasNoRoom, HasUnknownCharacter};
 ghost use Rattle.rds_charset.specs.ReadAs.{IsReadAs, StopsAt};
-ghost use Rattle.rds_charset.specs.Stops.{IsStop};
+ghost use Rattle.rds_charset.specs.BadCharacters.{IsBadCharacter};
 ghost use Rattle.std.specs.Str.{chars};
 
 use crate::table::byte_of;
@@ -60,7 +60,7 @@ pub fn read_text(text: &str, into: &mut [u8]) -> Result<usize, TextFault>
 
 /// The first character of a text that cannot be read.
 #[derive(Clone, Copy)]
-pub struct Stop {
+pub struct BadCharacter {
     /// Its place, counted in characters from 1.
     pub place: usize,
     /// The character: a backslash that begins no escape, or a character that is not in the table.
@@ -72,17 +72,17 @@ pub struct Stop {
 /// # Errors
 ///
 /// The first character that cannot be read, if there is one.
-pub fn measure_text(text: &str) -> Result<usize, Stop>
+pub fn measure_text(text: &str) -> Result<usize, BadCharacter>
     ensures ok { IfOk result
         (λ count. (bytes : List ℕ) × IsReadAs text.now bytes × (length bytes ≡ count)) }
-    ensures err { IfErr result (IsStop text.now) }
+    ensures err { IfErr result (IsBadCharacter text.now) }
 {
     let mut rest = text;
     let mut count = 0;
     while let Some((character, _)) = first_character(rest) {
         let Some((_, after)) = first_symbol(rest) else {
             let place = count_characters(text) - count_characters(rest) + 1;
-            return Err(Stop { place, character });
+            return Err(BadCharacter { place, character });
         };
         count += 1;
         rest = after;

@@ -2,30 +2,30 @@
 
 ghost use Rattle.std.specs.Prelude.{◌≡◌, map};
 ghost use Rattle.rds_charset.specs.Displays.{displayed_character, more};
-ghost use Rattle.rds_charset.specs.Stretches.{stretch_of};
+ghost use Rattle.rds_charset.specs.Ranges.{range_of};
 ghost use Rattle.rds_charset.specs.Table.{byte_at, byte_of, character_at, character_in, character_of};
 ghost use Rattle.rds_charset.specs.Table.{FitsInBytes, table};
 
 /// Bytes that follow each other, and their characters.
 #[derive(Clone, Copy)]
-struct Stretch {
+struct CodeRange {
     first: u8,
     characters: &'static [char],
 }
 
-impl Stretch {
-    /// Returns the character of the byte. `None` if the byte is not in this stretch.
+impl CodeRange {
+    /// Returns the character of the byte. `None` if the byte is not in this range.
     fn character_of(&self, byte: u8) -> Option<char>
-        ensures { result ≡ character_at (stretch_of self.now) byte }
+        ensures { result ≡ character_at (range_of self.now) byte }
     {
         let place = byte.checked_sub(self.first)?;
         self.characters.get(usize::from(place)).copied()
     }
 
-    /// Returns the byte of the character. `None` if the character is not in this stretch.
+    /// Returns the byte of the character. `None` if the character is not in this range.
     fn byte_of(&self, character: char) -> Option<u8>
-        requires { FitsInBytes (stretch_of self.now) }
-        ensures { result ≡ byte_at (stretch_of self.now) character }
+        requires { FitsInBytes (range_of self.now) }
+        ensures { result ≡ byte_at (range_of self.now) character }
     {
         let place = self
             .characters
@@ -39,12 +39,12 @@ impl Stretch {
 ///
 /// This is the project's own table. It follows the basic table of IEC 62106 for letters of Western Europe. Nothing
 /// depends on the likeness.
-static TABLE: [Stretch; 10] = [
-    Stretch {
+static TABLE: [CodeRange; 10] = [
+    CodeRange {
         first: 0x20,
         characters: &[' ', '!', '"', '#'],
     },
-    Stretch {
+    CodeRange {
         first: 0x25,
         characters: &[
             '%', '&', '\'', '(', ')', '*', '+', ',', '-', '.', '/', '0', '1', '2', '3', '4', '5',
@@ -53,106 +53,106 @@ static TABLE: [Stretch; 10] = [
             'X', 'Y', 'Z', '[',
         ],
     },
-    Stretch {
+    CodeRange {
         first: 0x5D,
         characters: &[']'],
     },
-    Stretch {
+    CodeRange {
         first: 0x5F,
         characters: &['_'],
     },
-    Stretch {
+    CodeRange {
         first: 0x61,
         characters: &[
             'a', 'b', 'c', 'd', 'e', 'f', 'g', 'h', 'i', 'j', 'k', 'l', 'm', 'n', 'o', 'p', 'q',
             'r', 's', 't', 'u', 'v', 'w', 'x', 'y', 'z', '{', '|', '}',
         ],
     },
-    Stretch {
+    CodeRange {
         first: 0x80,
         characters: &['á', 'à', 'é', 'è', 'í', 'ì', 'ó', 'ò', 'ú', 'ù', 'Ñ', 'Ç'],
     },
-    Stretch {
+    CodeRange {
         first: 0x90,
         characters: &['â', 'ä', 'ê', 'ë', 'î', 'ï', 'ô', 'ö', 'û', 'ü', 'ñ', 'ç'],
     },
-    Stretch {
+    CodeRange {
         first: 0xA9,
         characters: &['€', '£', '$'],
     },
-    Stretch {
+    CodeRange {
         first: 0xC0,
         characters: &['Á', 'À', 'É', 'È', 'Í', 'Ì', 'Ó', 'Ò', 'Ú', 'Ù'],
     },
-    Stretch {
+    CodeRange {
         first: 0xD0,
         characters: &['Â', 'Ä', 'Ê', 'Ë', 'Î', 'Ï', 'Ô', 'Ö', 'Û', 'Ü'],
     },
 ];
 
 /// More bytes that a display has a character for. Printed texts have escapes for them.
-static MORE: [Stretch; 15] = [
-    Stretch {
+static MORE: [CodeRange; 15] = [
+    CodeRange {
         first: 0x24,
         characters: &['¤'],
     },
-    Stretch {
+    CodeRange {
         first: 0x5C,
         characters: &['\\'],
     },
-    Stretch {
+    CodeRange {
         first: 0x8C,
         characters: &['Ş', 'ß', '¡', 'Ĳ'],
     },
-    Stretch {
+    CodeRange {
         first: 0x9C,
         characters: &['ş'],
     },
-    Stretch {
+    CodeRange {
         first: 0x9E,
         characters: &['ı', 'ĳ'],
     },
-    Stretch {
+    CodeRange {
         first: 0xA0,
         characters: &['ª', 'α', '©', '‰'],
     },
-    Stretch {
+    CodeRange {
         first: 0xA5,
         characters: &['ě', 'ň', 'ő', 'π'],
     },
-    Stretch {
+    CodeRange {
         first: 0xAC,
         characters: &['←', '↑', '→', '↓'],
     },
-    Stretch {
+    CodeRange {
         first: 0xB0,
         characters: &[
             'º', '¹', '²', '³', '±', 'İ', 'ń', 'ű', 'µ', '¿', '÷', '°', '¼', '½', '¾', '§',
         ],
     },
-    Stretch {
+    CodeRange {
         first: 0xCA,
         characters: &['Ř', 'Č', 'Š', 'Ž'],
     },
-    Stretch {
+    CodeRange {
         first: 0xCF,
         characters: &['Ŀ'],
     },
-    Stretch {
+    CodeRange {
         first: 0xDA,
         characters: &['ř', 'č', 'š', 'ž', 'đ', 'ŀ'],
     },
-    Stretch {
+    CodeRange {
         first: 0xE0,
         characters: &[
             'Ã', 'Å', 'Æ', 'Œ', 'ŷ', 'Ý', 'Õ', 'Ø', 'Þ', 'Ŋ', 'Ŕ', 'Ć', 'Ś', 'Ź',
         ],
     },
-    Stretch {
+    CodeRange {
         first: 0xEF,
         characters: &['ð'],
     },
-    Stretch {
+    CodeRange {
         first: 0xF0,
         characters: &[
             'ã', 'å', 'æ', 'œ', 'ŵ', 'ý', 'õ', 'ø', 'þ', 'ŋ', 'ŕ', 'ć', 'ś', 'ź',
@@ -160,16 +160,16 @@ static MORE: [Stretch; 15] = [
     },
 ];
 
-/// Returns the table, stretch by stretch.
-fn table() -> &'static [Stretch]
-    ensures { map stretch_of result.now ≡ table }
+/// Returns the table, range by range.
+fn table() -> &'static [CodeRange]
+    ensures { map range_of result.now ≡ table }
 {
     &TABLE
 }
 
-/// Returns the bytes that only a display has a character for, stretch by stretch.
-fn more() -> &'static [Stretch]
-    ensures { map stretch_of result.now ≡ more }
+/// Returns the bytes that only a display has a character for, range by range.
+fn more() -> &'static [CodeRange]
+    ensures { map range_of result.now ≡ more }
 {
     &MORE
 }
@@ -190,12 +190,12 @@ pub(crate) fn displayed_character(byte: u8) -> char
         .unwrap_or(char::REPLACEMENT_CHARACTER)
 }
 
-/// Returns the character of the byte in the first of these stretches that has the byte.
-fn character_in(stretches: &[Stretch], byte: u8) -> Option<char>
-    ensures { result ≡ character_in (map stretch_of stretches.now) byte }
+/// Returns the character of the byte in the first of these ranges that has the byte.
+fn character_in(ranges: &[CodeRange], byte: u8) -> Option<char>
+    ensures { result ≡ character_in (map range_of ranges.now) byte }
 {
-    for stretch in stretches {
-        if let Some(character) = stretch.character_of(byte) {
+    for range in ranges {
+        if let Some(character) = range.character_of(byte) {
             return Some(character);
         }
     }
@@ -206,8 +206,8 @@ fn character_in(stretches: &[Stretch], byte: u8) -> Option<char>
 pub(crate) fn byte_of(character: char) -> Option<u8>
     ensures { result ≡ byte_of character }
 {
-    for stretch in table() {
-        if let Some(byte) = stretch.byte_of(character) {
+    for range in table() {
+        if let Some(byte) = range.byte_of(character) {
             return Some(byte);
         }
     }

@@ -39,8 +39,8 @@ pub trait TellingWrite: Write {
         ensures { WritesOne (traffic Self.contents failures self.old self.new) result buf.now };
 }
 
-/// A reader or a writer with the count of its failures, the system's reason for the last one, and the count of a reader's
-/// counted reads.
+/// A reader or a writer with the count of its failures, the system's reason for the last one, and the count of a
+/// reader's counted reads.
 ///
 /// Its bytes are those of the reader or writer inside. The plain `read`, `write` and `flush` pass through and count
 /// nothing.

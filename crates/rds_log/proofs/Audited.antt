@@ -50,8 +50,8 @@ slots_pass a state slots s begins form none = record {
       let held : LogPasses state.form (spacing a) all × HoldsLog (spacing a) all state =
       subst (λ (o : Option AuditFault). MatchOption o (LogPasses state.form (spacing a) all
       × HoldsLog (spacing a) all state) (IsFaultOf state.form (spacing a) all)) none
-      (subst (λ (st : LogStart). HasJudged (spacing a) state (judged_as st (spacing a) (heard_of a.pi slots))) begins s.holds)
-      in
+      (subst (λ (st : LogStart). HasJudged (spacing a) state (judged_as st (spacing a) (heard_of a.pi slots))) begins
+      s.holds) in
       subst (λ (f : TextForm). LogPasses f (spacing a) all) form held.0;
 }
 
@@ -187,10 +187,11 @@ faults_of_more a l after slots slot faults found s begins form takes of =
           (sym (judged_step a.start (spacing a) (heard_in a.pi slot) (heard_of a.pi slots))) (adds, of.added);
     }
   where
-    adds : found ≡ slot_adds a.form (spacing a) (counted_as a.start (judged a slots) (heard_in a.pi slot)) (judged a slots)
+    adds : found
+        ≡ slot_adds a.form (spacing a) (counted_as a.start (judged a slots) (heard_in a.pi slot)) (judged a slots)
     adds =
-        subst (λ (f : TextForm). found ≡ slot_adds f (spacing a) (counted_as a.start (judged a slots) (heard_in a.pi slot))
-        (judged a slots)) form
+        subst (λ (f : TextForm). found
+        ≡ slot_adds f (spacing a) (counted_as a.start (judged a slots) (heard_in a.pi slot)) (judged a slots)) form
         (subst (λ (st : LogStart). found ≡ slot_adds l.form (spacing a)
         (counted_as st (judged_as st (spacing a) (heard_of a.pi slots)) (heard_in a.pi slot))
         (judged_as st (spacing a) (heard_of a.pi slots))) begins (takes.adds a.pi (spacing a) slots s))
@@ -266,8 +267,8 @@ takes_slot a l after w out now lines line said slot found says read rtplus taken
     fails fault none some =
         fails_at a l.audit after.audit l.slots s.slots slot fault s.audit.at s.begins s.form none s.count
         (takes.start ∙ s.begins) (takes.form ∙ s.form)
-        (fault_of (spacing a) after.audit fault (judged_as after.audit.start (spacing a) (heard_of a.pi (slot ∷ s.slots))) some
-        stands.holds)
+        (fault_of (spacing a) after.audit fault (judged_as after.audit.start (spacing a) (heard_of a.pi (slot ∷ s.slots)))
+        some stands.holds)
 
     further : Says a.stop a after.audit.fault (slot ∷ s.slots) (taken.total ++ lines_for a.stop l.slots found)
     further =

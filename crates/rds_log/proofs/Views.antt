@@ -9,7 +9,7 @@ use Rattle.rds_receiver.specs.Shown.{IsView, ShownView}
 use Rattle.rds_receiver.specs.ReceiverAt.{ReceiverAt}
 use Rattle.rds_receiver.specs.declared.why.Whys.{Whys}
 use Rattle.rds_view_lines.specs.NoChange.{no_change, view_of_none}
-use Rattle.rds_view_lines.specs.Output.{Display, change, newest, slot_stamp}
+use Rattle.rds_view_lines.specs.Output.{Display, change, newest, slot_prefix}
 use Rattle.rds_log.specs.LogWrites.{AreDisplays, IsDisplay, SayWhys}
 use Rattle.rds_view_lines.specs.KeptView.{view_kept}
 use Rattle.rds_log.specs.Inside.ViewLines.{ViewsStandAt}
@@ -20,14 +20,14 @@ pub slot_given : (why : Bool) (t : Tuning) (v after : ViewLines) (slots : List (
     (written before now : List ℕ) (group : Option Group) (display : Display) (s : ViewsStandAt why t v slots written)
     → ReceiverAt t after.receiver (group ∷ slots) → IsDisplay why t (group ∷ slots) display
     → after.says_why ≡ v.says_why → after.slot ≡ v.slot + 1 → view_kept after.shown ≡ display.view
-    → now ≡ before ++ change (slot_stamp v.slot) display.whys (view_kept v.shown) display.view
+    → now ≡ before ++ change (slot_prefix v.slot) display.whys (view_kept v.shown) display.view
     → (added : List ℕ) × (now ≡ before ++ added) × ViewsStandAt why t after (group ∷ slots) (written ++ added)
 slot_given why t v after slots written before now group display s receiver is says slot shown gave =
-    let here : change (slot_stamp v.slot) display.whys (view_kept v.shown) display.view
-    ≡ change (slot_stamp (length s.displays)) display.whys (newest s.displays) display.view =
-    ap (λ (n : ℕ). change (slot_stamp n) display.whys (view_kept v.shown) display.view) s.slot
-    ∙ ap (λ (x : ShownView). change (slot_stamp (length s.displays)) display.whys x display.view) s.shown in (
-      change (slot_stamp v.slot) display.whys (view_kept v.shown) display.view,
+    let here : change (slot_prefix v.slot) display.whys (view_kept v.shown) display.view
+    ≡ change (slot_prefix (length s.displays)) display.whys (newest s.displays) display.view =
+    ap (λ (n : ℕ). change (slot_prefix n) display.whys (view_kept v.shown) display.view) s.slot
+    ∙ ap (λ (x : ShownView). change (slot_prefix (length s.displays)) display.whys x display.view) s.shown in (
+      change (slot_prefix v.slot) display.whys (view_kept v.shown) display.view,
       gave,
       record {
         receiver = receiver;
@@ -37,7 +37,7 @@ slot_given why t v after slots written before now group display s receiver is sa
         slot = slot ∙ ap (λ (n : ℕ). n + 1) s.slot ∙ one_more s.displays display;
         shown = shown;
         changes = ap (λ (bytes : List ℕ). written ++ bytes) here ∙ ap (λ (bytes : List ℕ). bytes
-            ++ change (slot_stamp (length s.displays)) display.whys (newest s.displays) display.view) s.changes;
+            ++ change (slot_prefix (length s.displays)) display.whys (newest s.displays) display.view) s.changes;
       },
     )
   where
@@ -67,9 +67,9 @@ pub slot_same : (why : Bool) (t : Tuning) (v after : ViewLines) (slots : List (O
 slot_same why t v after slots written before group s receiver stays says slot kept =
     let is = stays (newest s.displays) (newest_view why t slots s.displays s.are) in
     let (whys, say) = some_whys why t (group ∷ slots) (newest s.displays) is in
-    let none : change (slot_stamp v.slot) whys (view_kept v.shown) (newest s.displays)
-    ≡ [] = ap (λ (view : ShownView). change (slot_stamp v.slot) whys view (newest s.displays)) s.shown
-    ∙ no_change (slot_stamp v.slot) whys (newest s.displays) in
+    let none : change (slot_prefix v.slot) whys (view_kept v.shown) (newest s.displays)
+    ≡ [] = ap (λ (view : ShownView). change (slot_prefix v.slot) whys view (newest s.displays)) s.shown
+    ∙ no_change (slot_prefix v.slot) whys (newest s.displays) in
     slot_given why t v after slots written before before group (record { view = newest s.displays; whys = whys }) s
     receiver (record { view = is; whys = say }) says slot (kept ∙ s.shown)
     (sym (append-nil before) ∙ ap (λ (bytes : List ℕ). before ++ bytes) (sym none))

@@ -6,7 +6,7 @@ ghost use Rattle.rds_receiver.specs.Shown.{IsView};
 ghost use Rattle.rds_receiver.specs.ReceiverAt.{ReceiverAt, WhereReceiverStands};
 ghost use Rattle.rds_view_lines.specs.KeptView.{view_kept};
 ghost use Rattle.rds_view_lines.specs.Output.{change};
-ghost use Rattle.rds_view_lines.specs.Part.{stamp_of};
+ghost use Rattle.rds_view_lines.specs.Part.{prefix_of};
 ghost use Rattle.rds_log.specs.LogWrites.{LinesWrite, SayWhys};
 ghost use Rattle.rds_view_lines.specs.declared.change.TheConstants.{SLOT_ROOM};
 
@@ -20,7 +20,7 @@ use rds_block::Blocks;
 use rds_fields::TagGroup;
 use rds_io::{Lines, TellingWrite, WriteFault};
 use rds_receiver::{Receiver, Whys};
-use rds_view_lines::{KeptView, SLOT_ROOM, Stamp, show};
+use rds_view_lines::{KeptView, SLOT_ROOM, Prefix, show};
 
 /// Feeds a receiver slot by slot, and appends a line for each part of its view that changed. The line of a text or a
 /// name that is not shown any more may say why.
@@ -83,7 +83,7 @@ impl ViewLines {
     }
 }
 
-/// Appends the line of each part of a view that changed in this slot. Few slots change one, so the stamp is made here.
+/// Appends the line of each part of a view that changed in this slot. Few slots change one, so the prefix is made here.
 // Cold path.
 #[inline(never)]
 fn show_slot<const N: usize>(
@@ -95,11 +95,11 @@ fn show_slot<const N: usize>(
 )
     requires { length lines.old + SLOT_ROOM ≤ N }
     ensures changes { lines.new
-        ≡ lines.old ++ change (stamp_of (Stamp.Slot slot)) whys (view_kept shown.old) (view_kept shown.new) }
+        ≡ lines.old ++ change (prefix_of (Prefix.Slot slot)) whys (view_kept shown.old) (view_kept shown.new) }
     ensures shows { WhereReceiverStands receiver.now (λ t input. IsView t input (view_kept shown.new)) }
     ensures room { length lines.new ≤ length lines.old + SLOT_ROOM }
 {
-    show(Stamp::Slot(slot), whys, shown, receiver, lines);
+    show(Prefix::Slot(slot), whys, shown, receiver, lines);
 }
 
 /// Takes the lines of a log for `decode`, with the programmes of their groups.

@@ -8,7 +8,7 @@ use rds_cli::{Request, Task};
 use rds_encoder::Refusal;
 use rds_io::LogFault;
 use rds_log::{BadStart, Lack, comment_of};
-use rds_script::{EarlySet, Thing};
+use rds_script::{EarlySet, SetKind};
 use std::io::Write;
 
 /// The most bytes of a note. All notes are shorter.
@@ -180,9 +180,9 @@ fn nothing_said(request: &Request<'_>) -> &'static str {
 /// Appends that something was set too early, and in which slot it can be accepted.
 fn push_wait(wait: EarlySet, line: &mut Line) {
     let thing = match wait.thing {
-        Thing::Text => "text",
-        Thing::Name => "name",
-        Thing::Tags => "tags",
+        SetKind::Text => "text",
+        SetKind::Name => "name",
+        SetKind::Tags => "tags",
     };
     let (why, slots) = match wait.refusal {
         Refusal::Silent(slots) => ("the station is silent after a restart", slots),
@@ -195,7 +195,7 @@ fn push_wait(wait: EarlySet, line: &mut Line) {
     push_count(u64::from(slots), "slot more", "slots more", line);
     let _ = match (wait.thing, wait.refusal) {
         // a slot of its own has the text that the tags need
-        (Thing::Tags, Refusal::Silent(_)) => {
+        (SetKind::Tags, Refusal::Silent(_)) => {
             let from = end.saturating_add(1);
             write!(
                 line,
@@ -300,7 +300,8 @@ fn push_coarse(coarse: CoarseTimes, line: &mut Line) {
         let (lost, number) = (gap.lost, gap.line);
         let _ = write!(
             line,
-            ". The longest gap has {lost} lost slots, before line {number}: if a clock was set there, cut the log in two"
+            ". The longest gap has {lost} lost slots, before line {number}: if a clock was set there, cut the log \
+             in two"
         );
     }
     if let Some(number) = coarse.misfit {

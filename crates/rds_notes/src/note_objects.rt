@@ -8,7 +8,7 @@ use rds_audit::AuditFault;
 use rds_encoder::Refusal;
 use rds_io::LogFault;
 use rds_log::{FaultCount, FaultPlace, NoNote, SegmentCause, fault_name};
-use rds_script::{EarlySet, Thing};
+use rds_script::{EarlySet, SetKind};
 use std::io::Write;
 
 /// Appends the object of a note with this sentence and this advice. Without an advice it is empty.
@@ -101,9 +101,9 @@ fn push_wait(wait: EarlySet, line: &mut Line) {
     push_kind("refused", line);
     push_number("slot", wait.slot, line);
     let set: &[u8] = match wait.thing {
-        Thing::Text => b"text",
-        Thing::Name => b"name",
-        Thing::Tags => b"tags",
+        SetKind::Text => b"text",
+        SetKind::Name => b"name",
+        SetKind::Tags => b"tags",
     };
     push_text("set", set, line);
     match wait.refusal {

@@ -1,5 +1,5 @@
 -- What the program does with its arguments and its input.
 pub mod Run
-pub mod Source
+pub mod RunInput
 -- Lemmas that crates above use.
 pub mod RunsBy

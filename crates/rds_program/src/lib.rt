@@ -4,12 +4,12 @@
 
 mod program;
 mod report;
-mod source;
+mod run_input;
 mod status;
 mod words;
 
 pub use program::{run, run_read};
 pub use report::Report;
-pub use source::{Source, source_of};
+pub use run_input::{RunInput, input_of};
 pub use status::{FAULT, REFUSED, no_words, write_no_memory};
 pub use words::{texts, words_of};

@@ -2,7 +2,7 @@
 use Rattle.std.proofs.Common.{◌≡◌, ◌∙◌, ◌∷◌, ◌++◌, ◌+◌, ◌<◌, [], add-one, ℕ, zero, suc, List, None, Some, ap, ap₂}
 use Rattle.std.proofs.Common.{append_assoc, append-nil, arith, refl, sym}
 use Rattle.rds_receiver.specs.Shown.{ShownView}
-use Rattle.rds_view_lines.specs.Output.{air_stamp, change, receiver_stamp}
+use Rattle.rds_view_lines.specs.Output.{air_prefix, change, receiver_prefix}
 use Rattle.rds_world.specs.Event.{Event}
 use Rattle.rds_world.specs.OnAir.{air_of}
 use Rattle.rds_world.specs.ReceiverKind.{is_flag_alone}
@@ -25,7 +25,7 @@ airings_alike slot zero f g h k p q = refl
 airings_alike slot (suc n) f g h k p q =
     ap₂ (λ (x y : List ℕ). x ++ y) (airings_alike slot n f g h k (λ i l. p i (omega (arith, l)))
     (λ i l. q i (omega (arith, l))))
-    (ap₂ (λ (x y : Airings). airings_change (receiver_stamp slot n) x y) (p n (omega arith)) (q n (omega arith)))
+    (ap₂ (λ (x y : Airings). airings_change (receiver_prefix slot n) x y) (p n (omega arith)) (q n (omega arith)))
 
 -- before the first receiver there are no lines
 pub no_airings : (slot : ℕ) (start : List ℕ) (f g : ℕ → Airings) → start ≡ start ++ airings_changes slot 0 f g
@@ -33,7 +33,7 @@ unfolding airings_changes
 no_airings slot start f g = sym (append-nil start)
 
 one_airings : (slot n : ℕ) (f h : ℕ → Airings)
-    → airings_changes slot n f h ++ airings_change (receiver_stamp slot n) (f n) (h n) ≡ airings_changes slot (n + 1) f
+    → airings_changes slot n f h ++ airings_change (receiver_prefix slot n) (f n) (h n) ≡ airings_changes slot (n + 1) f
     h
 unfolding airings_changes
 one_airings slot n f h = sym (ap (λ (m : ℕ). airings_changes slot m f h) (add-one n))
@@ -41,12 +41,12 @@ one_airings slot n f h = sym (ap (λ (m : ℕ). airings_changes slot m f h) (add
 -- the lines of one receiver more
 pub next_airings : (slot n : ℕ) (start lines after : List ℕ) (f g h : ℕ → Airings) → ((i : ℕ) → i < n → g i ≡ h i)
     → lines ≡ start ++ airings_changes slot n f g
-    → after ≡ lines ++ airings_change (receiver_stamp slot n) (f n) (h n)
+    → after ≡ lines ++ airings_change (receiver_prefix slot n) (f n) (h n)
     → after ≡ start ++ airings_changes slot (n + 1) f h
 next_airings slot n start lines after f g h same had gave =
-    gave ∙ ap (λ (l : List ℕ). l ++ airings_change (receiver_stamp slot n) (f n) (h n))
+    gave ∙ ap (λ (l : List ℕ). l ++ airings_change (receiver_prefix slot n) (f n) (h n))
     (had ∙ ap (λ (l : List ℕ). start ++ l) (airings_alike slot n f f g h (λ i l. refl) same))
-    ∙ append_assoc start (airings_changes slot n f h) (airings_change (receiver_stamp slot n) (f n) (h n))
+    ∙ append_assoc start (airings_changes slot n f h) (airings_change (receiver_prefix slot n) (f n) (h n))
     ∙ ap (λ (l : List ℕ). start ++ l) (one_airings slot n f h)
 
 -- the lines that compare with what is on air, by the views before
@@ -55,7 +55,7 @@ pub compared_alike : (config : Config) (slot other n : ℕ) (e : Event) (before 
     → compared_lines config slot n e before kept shown ≡ compared_lines config other n e before older shown
 compared_alike config slot other n e before kept older shown at same =
     ap (λ (s : ℕ). compared_lines config s n e before kept shown) at
-    ∙ ap (λ (l : List ℕ). if_alone (is_flag_alone config.kind) (change (air_stamp other) None (air_of config before)
+    ∙ ap (λ (l : List ℕ). if_alone (is_flag_alone config.kind) (change (air_prefix other) None (air_of config before)
     (air_of config (e ∷ before)) ++ l))
     (airings_alike other n (λ i. airings config before (view_at kept i)) (λ i. airings config before (view_at older i))
     (λ i. airings config (e ∷ before) (view_at shown i)) (λ i. airings config (e ∷ before) (view_at shown i))

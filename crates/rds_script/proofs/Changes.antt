@@ -7,7 +7,7 @@ use Rattle.rds_receiver.specs.Shown.{ShownView}
 use Rattle.rds_receiver.specs.declared.why.Whys.{Whys}
 use Rattle.rds_view_lines.specs.KeptView.{view_kept}
 use Rattle.rds_script.specs.Outcomes.{receiver_changes, view_at}
-use Rattle.rds_view_lines.specs.Output.{change, nothing_shown, receiver_stamp}
+use Rattle.rds_view_lines.specs.Output.{change, nothing_shown, receiver_prefix}
 use Rattle.rds_view_lines.specs.declared.kept.KeptView.{KeptView}
 use Rattle.rds_view_lines.specs.NoChange.{no_change}
 
@@ -36,7 +36,7 @@ unfolding receiver_changes
 changes_same slot zero whys before older now other p q = refl
 changes_same slot (suc i) whys before older now other p q =
     let first = changes_same slot i whys before older now other (λ k l. p k (omega arith)) (λ k l. q k (omega arith)) in
-    ap₂ (λ (x y : List ℕ). x ++ y) first (ap₂ (λ (x y : ShownView). change (receiver_stamp slot i) (whys i) x y)
+    ap₂ (λ (x y : List ℕ). x ++ y) first (ap₂ (λ (x y : ShownView). change (receiver_prefix slot i) (whys i) x y)
     (p i (omega arith)) (q i (omega arith)))
 
 -- the views that are kept, where one is kept anew
@@ -54,7 +54,7 @@ other_set shown i k new other = ap (λ (l : List ShownView). view_at l k) (map-s
     ∙ get_or-set_other (map view_kept shown) i k (view_kept new) nothing_shown other
 
 one_changes : (slot i : ℕ) (whys : ℕ → Option Whys) (before now : List ShownView)
-    → receiver_changes slot i whys before now ++ change (receiver_stamp slot i) (whys i) (view_at before i)
+    → receiver_changes slot i whys before now ++ change (receiver_prefix slot i) (whys i) (view_at before i)
     (view_at now i) ≡ receiver_changes slot (i + 1) whys before now
 unfolding receiver_changes
 one_changes slot i whys before now = sym (ap (λ (n : ℕ). receiver_changes slot n whys before now) (add-one i))
@@ -64,7 +64,7 @@ pub next_changes : (slot i : ℕ) (whys : ℕ → Option Whys) (said : Option Wh
     (d new : KeptView) (start lines after : List ℕ)
     → i < length shown → ((k : ℕ) → i ≤ k → view_at (map view_kept shown) k ≡ view_at (map view_kept initial) k)
     → lines ≡ start ++ receiver_changes slot i whys (map view_kept initial) (map view_kept shown)
-    → after ≡ lines ++ change (receiver_stamp slot i) said (view_kept (get_or shown i d)) (view_kept new)
+    → after ≡ lines ++ change (receiver_prefix slot i) said (view_kept (get_or shown i d)) (view_kept new)
     → said ≡ whys i
     → after ≡ start ++ receiver_changes slot (i + 1) whys (map view_kept initial) (map view_kept (set shown i new))
 next_changes slot i whys said initial shown d new start lines after within later had gave is =
@@ -76,13 +76,13 @@ next_changes slot i whys said initial shown d new start lines after within later
     let first : receiver_changes slot i whys before (map view_kept shown) ≡ receiver_changes slot i whys before now =
     changes_same slot i whys before before (map view_kept shown) now (λ k l. refl)
     (λ k l. sym (other_set shown i k new (λ e. omega (arith, e, l)))) in
-    let last : change (receiver_stamp slot i) said (view_kept at) (view_kept new) ≡ change (receiver_stamp slot i)
+    let last : change (receiver_prefix slot i) said (view_kept at) (view_kept new) ≡ change (receiver_prefix slot i)
     (whys i) (view_at before i) (view_at now i) =
-    ap (λ (w : Option Whys). change (receiver_stamp slot i) w (view_kept at) (view_kept new)) is
-    ∙ ap₂ (λ (x y : ShownView). change (receiver_stamp slot i) (whys i) x y) old (sym (at_set shown i new within)) in
+    ap (λ (w : Option Whys). change (receiver_prefix slot i) w (view_kept at) (view_kept new)) is
+    ∙ ap₂ (λ (x y : ShownView). change (receiver_prefix slot i) (whys i) x y) old (sym (at_set shown i new within)) in
     gave
-    ∙ ap (λ (l : List ℕ). l ++ change (receiver_stamp slot i) said (view_kept at) (view_kept new)) had
-    ∙ append_assoc start (receiver_changes slot i whys before (map view_kept shown)) (change (receiver_stamp slot i)
+    ∙ ap (λ (l : List ℕ). l ++ change (receiver_prefix slot i) said (view_kept at) (view_kept new)) had
+    ∙ append_assoc start (receiver_changes slot i whys before (map view_kept shown)) (change (receiver_prefix slot i)
     said (view_kept at) (view_kept new))
     ∙ ap (λ (l : List ℕ). start ++ l) (ap₂ (λ (x y : List ℕ). x ++ y) first last ∙ one_changes slot i whys before now)
 
@@ -91,8 +91,8 @@ pub stay_changes : (slot i : ℕ) (whys : ℕ → Option Whys) (before now : Lis
     → view_at now i ≡ view_at before i → lines ≡ start ++ receiver_changes slot i whys before now
     → lines ≡ start ++ receiver_changes slot (i + 1) whys before now
 stay_changes slot i whys before now start lines same had =
-    let none = ap (λ (v : ShownView). change (receiver_stamp slot i) (whys i) (view_at before i) v) same
-    ∙ no_change (receiver_stamp slot i) (whys i) (view_at before i) in
+    let none = ap (λ (v : ShownView). change (receiver_prefix slot i) (whys i) (view_at before i) v) same
+    ∙ no_change (receiver_prefix slot i) (whys i) (view_at before i) in
     had ∙ ap (λ (l : List ℕ). start ++ l) (sym (append-nil (receiver_changes slot i whys before now))
     ∙ ap (λ (l : List ℕ). receiver_changes slot i whys before now ++ l) (sym none) ∙ one_changes slot i whys before
     now)

@@ -2,7 +2,7 @@ pub mod Numbers
 pub mod Commands
 pub mod ReadRecords
 pub mod Changes
-pub mod Stretches
+pub mod Periods
 pub mod AiringLines
 pub mod NotShown
 pub mod Receptions

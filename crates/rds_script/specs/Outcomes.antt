@@ -35,8 +35,8 @@ use Rattle.rds_world.specs.Replies.{reply_at}
 use Rattle.rds_world.specs.Slots.{entries, input_of, sent_at}
 use Rattle.rds_world.specs.WorldAt.{IsViewOfInput, tuned_to}
 use Rattle.rds_io.specs.Digits.{word_digits}
-use Rattle.rds_view_lines.specs.Output.{air_stamp, change, line_of, nothing_shown}
-use Rattle.rds_view_lines.specs.Output.{receiver_stamp, slot_stamp, unless_same}
+use Rattle.rds_view_lines.specs.Output.{air_prefix, change, line_of, nothing_shown}
+use Rattle.rds_view_lines.specs.Output.{receiver_prefix, slot_prefix, unless_same}
 use Rattle.rds_world.specs.OnAir.{air_of}
 use Rattle.rds_world.specs.ReceiverKind.{is_flag_alone}
 use Rattle.rds_script.specs.OnAir.{airings}
@@ -109,10 +109,10 @@ reply_content (Refused refusal) = refusal_content refusal
 abbrev pub reply_line : List ℕ → ℕ → Command → Reply → List ℕ
 reply_line mark slot command reply.Quiet = []
 reply_line mark slot command Restarted =
-    mark ++ line_of (slot_stamp slot) (reply_thing command Restarted) (reply_content Restarted)
-reply_line mark slot command Done = mark ++ line_of (slot_stamp slot) (reply_thing command Done) (reply_content Done)
+    mark ++ line_of (slot_prefix slot) (reply_thing command Restarted) (reply_content Restarted)
+reply_line mark slot command Done = mark ++ line_of (slot_prefix slot) (reply_thing command Done) (reply_content Done)
 reply_line mark slot command (Refused refusal) =
-    mark ++ line_of (slot_stamp slot) (reply_thing command (Refused refusal)) (reply_content (Refused refusal))
+    mark ++ line_of (slot_prefix slot) (reply_thing command (Refused refusal)) (reply_content (Refused refusal))
 
 -- a block with a space before it
 abbrev pub spaced_digits : ℕ → List ℕ
@@ -125,7 +125,7 @@ block_digits g = word_digits g.pi ++ spaced_digits (second_word_of g) ++ spaced_
 -- the line of the group
 abbrev pub sent_line : ℕ → Option Group → List ℕ
 sent_line slot None = []
-sent_line slot (Some g) = line_of (slot_stamp slot) (codes "sent ") (block_digits g)
+sent_line slot (Some g) = line_of (slot_prefix slot) (codes "sent ") (block_digits g)
 
 -- a slot of a log
 abbrev pub log_line : Option Group → List ℕ
@@ -156,7 +156,7 @@ unfoldable pub receiver_changes : ℕ → ℕ → (ℕ → Option Whys) → List
 receiver_changes slot zero whys before now = []
 receiver_changes slot (suc i) whys before now =
     receiver_changes slot i whys before now
-    ++ change (receiver_stamp slot i) (whys i) (view_at before i) (view_at now i)
+    ++ change (receiver_prefix slot i) (whys i) (view_at before i) (view_at now i)
 
 -- the lines of the reply and of the group. The tags are sent in groups nA
 abbrev pub answer_lines : Form → ℕ → Command → Reply → Option Group → List ℕ
@@ -185,19 +185,19 @@ airing_word Mix = codes " mix"
 
 -- the line of a part whose word changed
 abbrev pub airing_change : List ℕ → List ℕ → Airing → Airing → List ℕ
-airing_change stamp part before now =
-    unless_same (bytes_eq (airing_word before) (airing_word now)) (line_of stamp part (airing_word now))
+airing_change prefix part before now =
+    unless_same (bytes_eq (airing_word before) (airing_word now)) (line_of prefix part (airing_word now))
 
 abbrev pub airings_change : List ℕ → Airings → Airings → List ℕ
-airings_change stamp before now =
-    airing_change stamp (codes "text") before.text now.text ++ airing_change stamp (codes "name") before.name now.name
-    ++ airing_change stamp (codes "tag1") before.one now.one ++ airing_change stamp (codes "tag2") before.two now.two
+airings_change prefix before now =
+    airing_change prefix (codes "text") before.text now.text ++ airing_change prefix (codes "name") before.name now.name
+    ++ airing_change prefix (codes "tag1") before.one now.one ++ airing_change prefix (codes "tag2") before.two now.two
 
 -- the lines of the first n receivers, by their numbers
 unfoldable pub airings_changes : ℕ → ℕ → (ℕ → Airings) → (ℕ → Airings) → List ℕ
 airings_changes slot zero before now = []
 airings_changes slot (suc i) before now =
-    airings_changes slot i before now ++ airings_change (receiver_stamp slot i) (before i) (now i)
+    airings_changes slot i before now ++ airings_change (receiver_prefix slot i) (before i) (now i)
 
 -- lines that are written for radios with the flag bit alone
 abbrev pub if_alone : Bool → List ℕ → List ℕ
@@ -208,7 +208,7 @@ if_alone true lines = lines
 -- else than before
 abbrev pub air_lines : Config → ℕ → ℕ → Event → List Event → List ShownView → List ShownView → List ℕ
 air_lines config slot n e before shown_before shown =
-    change (air_stamp slot) None (air_of config before) (air_of config (e ∷ before))
+    change (air_prefix slot) None (air_of config before) (air_of config (e ∷ before))
     ++ airings_changes slot n (λ i. airings config before (view_at shown_before i))
     (λ i. airings config (e ∷ before) (view_at shown i))
 

@@ -4,7 +4,7 @@ ghost use Rattle.std.specs.Prelude.{length, true};
 ghost use Rattle.std.specs.Option.{option_copied};
 ghost use Rattle.rds_receiver.specs.Borrowed.{view_of};
 ghost use Rattle.rds_view_lines.specs.KeptView.{view_kept};
-ghost use Rattle.rds_view_lines.specs.Output.{air_stamp, change};
+ghost use Rattle.rds_view_lines.specs.Output.{air_prefix, change};
 ghost use Rattle.rds_view_lines.specs.declared.change.TheConstants.{SLOT_ROOM};
 ghost use Rattle.rds_world.specs.Event.{Event};
 ghost use Rattle.rds_world.specs.OnAir.{air_of};
@@ -18,13 +18,13 @@ ghost use Rattle.rds_script.specs.declared.watched.TheConstants.{OUTPUT_ROOM};
 use crate::airing::Airings;
 use crate::watched::RowLines;
 use rds_receiver::View;
-use rds_view_lines::{KeptView, Parts, Stamp, push_changes, same_parts};
+use rds_view_lines::{KeptView, Parts, Prefix, push_changes, same_parts};
 use rds_world::{Config, World};
 use std::alloc::{AllocError, Global};
 
 /// What was on air in a row of slots.
 #[derive(Drop)]
-struct Stretch {
+struct Period {
     air: KeptView,
     /// The number of slots after the first one.
     more: u64,
@@ -32,7 +32,7 @@ struct Stretch {
 
 /// How far back a part of a view is looked for.
 #[derive(Clone, Copy)]
-enum Reach {
+enum Lookback {
     /// In the last d slots.
     Lately,
     /// In the last d slots, and before them as long as the text was the same.
@@ -47,7 +47,7 @@ pub(crate) struct Airs {
     /// The spacing d of the station, in slots.
     spacing: u64,
     /// The oldest first.
-    stretches: Vec<Stretch>,
+    periods: Vec<Period>,
 }
 
 impl Airs {
@@ -62,7 +62,7 @@ impl Airs {
     {
         Ok(Airs {
             spacing: u64::from(config.distance().get()),
-            stretches: Vec::with_capacity(alloc, 1)?,
+            periods: Vec::with_capacity(alloc, 1)?,
         })
     }
 
@@ -74,9 +74,9 @@ impl Airs {
     pub(crate) fn make_room(&mut self) -> Result<(), AllocError>
         ensures room { OnOk result (AirsHaveRoom self.new) }
         ensures spacing { self.new.spacing ≡ self.old.spacing }
-        ensures stretches { self.new.stretches.items ≡ self.old.stretches.items }
+        ensures periods { self.new.periods.items ≡ self.old.periods.items }
     {
-        self.stretches.reserve(1)
+        self.periods.reserve(1)
     }
 
     /// Takes what is on air after one more slot, and appends a line for each part of it that changed.
@@ -85,23 +85,23 @@ impl Airs {
         requires lines { length lines.old + SLOT_ROOM ≤ OUTPUT_ROOM }
         ensures spacing { self.new.spacing ≡ self.old.spacing }
         ensures airs { WhereWorldStands world.now (λ config events.
-            airs_in self.new.stretches.items ≡ air_of config events ∷ airs_in self.old.stretches.items) }
+            airs_in self.new.periods.items ≡ air_of config events ∷ airs_in self.old.periods.items) }
         ensures lines { WhereWorldStands world.now (λ config events. lines.new
-            ≡ lines.old ++ change (air_stamp slot) None (newest_of (airs_in self.old.stretches.items))
+            ≡ lines.old ++ change (air_prefix slot) None (newest_of (airs_in self.old.periods.items))
             (air_of config events)) }
         ensures room { length lines.new ≤ length lines.old + SLOT_ROOM }
     {
         let now = view_on_air(world);
-        push_changes(Stamp::OnAir(slot), None, self.newest(), now, lines);
+        push_changes(Prefix::OnAir(slot), None, self.newest(), now, lines);
         self.push(now);
     }
 
     /// Returns what was on air last.
     fn newest(&self) -> View<'_>
-        ensures { view_of result ≡ newest_of (airs_in self.now.stretches.items) }
+        ensures { view_of result ≡ newest_of (airs_in self.now.periods.items) }
     {
-        match self.stretches.last() {
-            Some(stretch) => stretch.air.view(),
+        match self.periods.last() {
+            Some(period) => period.air.view(),
             None => View::of(None, None, None),
         }
     }
@@ -110,15 +110,15 @@ impl Airs {
     fn push(&mut self, now: View<'_>)
         requires { AirsHaveRoom self.old }
         ensures spacing { self.new.spacing ≡ self.old.spacing }
-        ensures airs { airs_in self.new.stretches.items ≡ view_of now.entry ∷ airs_in self.old.stretches.items }
+        ensures airs { airs_in self.new.periods.items ≡ view_of now.entry ∷ airs_in self.old.periods.items }
     {
-        let count = self.stretches.len();
-        if count > 0 && self.stretches[count - 1].goes_on(now) {
-            self.stretches[count - 1].more += 1;
+        let count = self.periods.len();
+        if count > 0 && self.periods[count - 1].goes_on(now) {
+            self.periods[count - 1].more += 1;
             return;
         }
-        self.stretches
-            .push(Stretch {
+        self.periods
+            .push(Period {
                 air: KeptView::of(now),
                 more: 0,
             })
@@ -135,43 +135,43 @@ impl Airs {
         let nothing = KeptView::new();
         let lately = either(
             same_parts(view, nothing.view()),
-            self.parts_back(Reach::Lately, view),
+            self.parts_back(Lookback::Lately, view),
         );
         if lately.text && lately.name && lately.one && lately.two {
             return Airings::by(lately, lately, lately);
         }
-        let for_text = self.parts_back(Reach::Texts, view);
+        let for_text = self.parts_back(Lookback::Texts, view);
         let ever = match before {
             Some(before) => before.ever(),
-            None => self.parts_back(Reach::Ever, view),
+            None => self.parts_back(Lookback::Ever, view),
         };
         Airings::by(lately, for_text, ever)
     }
 
     /// Returns which parts of a view were on air, as far back as this reaches.
-    fn parts_back(&self, reach: Reach, view: View<'_>) -> Parts
+    fn parts_back(&self, lookback: Lookback, view: View<'_>) -> Parts
         ensures { result ≡ parts_among (view_of view.entry)
-            (reached reach self.now.spacing None (airs_in self.now.stretches.items)) }
+            (reached lookback self.now.spacing None (airs_in self.now.periods.items)) }
     {
         let mut found = Parts::default();
         let mut left = self.spacing;
         let mut text = None;
-        for i in 0..self.stretches.len() {
-            let stretch = &self.stretches[self.stretches.len() - 1 - i];
-            let air = stretch.air.view();
-            if left == 0 && !reach.goes_on(text, air.text) {
+        for i in 0..self.periods.len() {
+            let period = &self.periods[self.periods.len() - 1 - i];
+            let air = period.air.view();
+            if left == 0 && !lookback.goes_on(text, air.text) {
                 return found;
             }
             found = either(found, same_parts(view, air));
-            left = left.saturating_sub(1).saturating_sub(stretch.more);
+            left = left.saturating_sub(1).saturating_sub(period.more);
             text = air.text;
         }
         found
     }
 }
 
-impl Stretch {
-    /// Returns whether the next slot with this on air belongs to the stretch.
+impl Period {
+    /// Returns whether the next slot with this on air belongs to the period.
     fn goes_on(&self, now: View<'_>) -> bool
         ensures same { result ≡ true → view_of now.entry ≡ view_kept self.now.air }
         ensures count { result ≡ true → self.now.more < 2 ^ 64 - 1 }
@@ -181,16 +181,16 @@ impl Stretch {
     }
 }
 
-impl Reach {
+impl Lookback {
     /// Returns whether a search goes on, past the last d slots, from what was on air with this text to what was on air
     /// before it.
     fn goes_on(self, text: Option<&[u8]>, before: Option<&[u8]>) -> bool
         ensures { result ≡ goes_on self (option_copied text.entry) (option_copied before.entry) }
     {
         match self {
-            Reach::Lately => false,
-            Reach::Texts => text == before,
-            Reach::Ever => true,
+            Lookback::Lately => false,
+            Lookback::Texts => text == before,
+            Lookback::Ever => true,
         }
     }
 }

@@ -11,7 +11,7 @@ use rds_block::Group;
 use rds_encoder::Refusal;
 use rds_fields::Which;
 use rds_io::{Lines, digits_of_four};
-use rds_view_lines::Stamp;
+use rds_view_lines::Prefix;
 use rds_world::{Answer, Command, Reply};
 
 /// The most bytes of the line of a reply.
@@ -82,7 +82,7 @@ fn push_reply_line<const N: usize>(
     ensures room { length lines.new ≤ length lines.old + REPLY_ROOM }
 {
     lines.push(mark);
-    Stamp::Slot(slot).push(lines);
+    Prefix::Slot(slot).push(lines);
     lines.push(reply_thing(command, reply));
     push_content(reply, lines);
     lines.push(b"\n");
@@ -158,7 +158,7 @@ fn push_sent<const N: usize>(slot: u64, sent: Option<Group>, lines: &mut Lines<N
     ensures room { length lines.new ≤ length lines.old + GROUP_ROOM }
 {
     if let Some(group) = sent {
-        Stamp::Slot(slot).push(lines);
+        Prefix::Slot(slot).push(lines);
         lines.push(b"sent ");
         push_blocks(&group, lines);
         lines.push(b"\n");

@@ -5,7 +5,7 @@
 
 use crate::row_cause::{RowCause, TagNumber};
 use rds_assembly::{LONGEST_TEXT, NAME_LENGTH, TextRefused};
-use rds_charset::{Stop, measure_text};
+use rds_charset::{BadCharacter, measure_text};
 use rds_fields::{Late, Which};
 use rds_world::{Reception, SlotEvent, StepRefused};
 
@@ -31,7 +31,7 @@ pub(crate) fn text_cause(argument: &str, bytes: &[u8], why: Option<TextRefused>)
     }
     match measure_text(argument) {
         Ok(count) => RowCause::TextTooLong(count.saturating_sub(LONGEST_TEXT)),
-        Err(stop) => stop_cause(stop),
+        Err(bad) => character_cause(bad),
     }
 }
 
@@ -45,16 +45,16 @@ pub(crate) fn name_cause(argument: &str, bytes: &[u8], why: Option<TextRefused>)
     }
     match measure_text(argument) {
         Ok(count) => RowCause::NameTooLong(count.saturating_sub(NAME_LENGTH)),
-        Err(stop) => stop_cause(stop),
+        Err(bad) => character_cause(bad),
     }
 }
 
 /// Returns the cause for a text or a name with this unreadable character.
-fn stop_cause(stop: Stop) -> RowCause {
-    if stop.character == '\\' {
-        RowCause::BadEscape(stop.place)
+fn character_cause(bad: BadCharacter) -> RowCause {
+    if bad.character == '\\' {
+        RowCause::BadEscape(bad.place)
     } else {
-        RowCause::NoSuchCharacter(stop.character, stop.place)
+        RowCause::NoSuchCharacter(bad.character, bad.place)
     }
 }
 

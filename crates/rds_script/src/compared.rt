@@ -3,7 +3,7 @@ ghost use Rattle.std.specs.Prelude.{◌≡◌, ◌≤◌, ◌<◌, ◌+◌, ◌*
 ghost use Rattle.rds_receiver.specs.Shown.{ShownView};
 ghost use Rattle.rds_view_lines.specs.KeptView.{view_kept};
 ghost use Rattle.rds_view_lines.specs.Output.{line_of, nothing_shown as none_shown, unless_same};
-ghost use Rattle.rds_view_lines.specs.Part.{stamp_of};
+ghost use Rattle.rds_view_lines.specs.Part.{prefix_of};
 ghost use Rattle.rds_view_lines.specs.declared.change.TheConstants.{SLOT_ROOM};
 ghost use Rattle.rds_world.specs.WorldAt.{WhereWorldStands};
 ghost use Rattle.rds_world.specs.declared.event.TheConstants.{MOST_RECEIVERS};
@@ -21,7 +21,7 @@ use crate::airing::{Airing, Airings};
 use crate::airs::Airs;
 use crate::watched::RowLines;
 use arrayvec::ArrayVec;
-use rds_view_lines::{KeptView, SLOT_ROOM, Stamp};
+use rds_view_lines::{KeptView, SLOT_ROOM, Prefix};
 use rds_world::{Config, MOST_RECEIVERS, World};
 use std::alloc::{AllocError, Global};
 
@@ -179,35 +179,35 @@ fn push_airings(
         }
         let before = if world.stays(i) { Some(kept[i]) } else { None };
         let now = airs.airings_of(shown[i].view(), before);
-        push_changed(Stamp::Receiver(slot, i), kept[i], now, lines);
+        push_changed(Prefix::Receiver(slot, i), kept[i], now, lines);
         kept[i] = now;
     }
 }
 
 /// Appends a line for each part that is something else than before.
-fn push_changed(stamp: Stamp, before: Airings, now: Airings, lines: &mut RowLines)
+fn push_changed(prefix: Prefix, before: Airings, now: Airings, lines: &mut RowLines)
     requires { length lines.old + AIRINGS_ROOM ≤ OUTPUT_ROOM }
-    ensures lines { lines.new ≡ lines.old ++ airings_change (stamp_of stamp) before now }
+    ensures lines { lines.new ≡ lines.old ++ airings_change (prefix_of prefix) before now }
     ensures room { length lines.new ≤ length lines.old + AIRINGS_ROOM }
 {
-    push_part(stamp, b"text", before.text, now.text, lines);
-    push_part(stamp, b"name", before.name, now.name, lines);
-    push_part(stamp, b"tag1", before.one, now.one, lines);
-    push_part(stamp, b"tag2", before.two, now.two, lines);
+    push_part(prefix, b"text", before.text, now.text, lines);
+    push_part(prefix, b"name", before.name, now.name, lines);
+    push_part(prefix, b"tag1", before.one, now.one, lines);
+    push_part(prefix, b"tag2", before.two, now.two, lines);
 }
 
 /// Appends a line for a part if it is something else than before.
-fn push_part(stamp: Stamp, name: &[u8], before: Airing, now: Airing, lines: &mut RowLines)
+fn push_part(prefix: Prefix, name: &[u8], before: Airing, now: Airing, lines: &mut RowLines)
     requires name { length name.now ≡ 4 }
     requires room { length lines.old + 60 ≤ OUTPUT_ROOM }
-    ensures lines { lines.new ≡ lines.old ++ airing_change (stamp_of stamp) name.now before now }
+    ensures lines { lines.new ≡ lines.old ++ airing_change (prefix_of prefix) name.now before now }
     ensures room { length lines.new ≤ length lines.old + 60 }
 {
     let word = airing_word(now);
     if airing_word(before) == word {
         return;
     }
-    stamp.push(lines);
+    prefix.push(lines);
     lines.push(name);
     lines.push(word);
     lines.push(b"\n");

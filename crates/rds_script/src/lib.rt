@@ -24,7 +24,7 @@ mod watched;
 
 pub use form::Form;
 pub use laws::{rows_write_one_output, script_writes_one_output};
-pub use notes::{BadRow, EarlySet, ScriptNotes, Thing};
+pub use notes::{BadRow, EarlySet, ScriptNotes, SetKind};
 pub use play::{
     MOST_RECORDS, Playing, encode, encode_within, play_script, simulate, simulate_within,
 };

@@ -39,7 +39,7 @@ pub struct EarlySet {
     /// The slot of the command, counted from 0.
     pub slot: u64,
     /// The thing that the command sets.
-    pub thing: Thing,
+    pub thing: SetKind,
     /// The reply: `Silent` or `Held`. Its number is the number of slots to wait: the encoder accepts nothing of this
     /// kind before `slot` plus that number.
     pub refusal: Refusal,
@@ -47,7 +47,7 @@ pub struct EarlySet {
 
 /// The things that a command can set.
 #[derive(Clone, Copy, Debug)]
-pub enum Thing {
+pub enum SetKind {
     /// A text.
     Text,
     /// A name.
@@ -70,15 +70,15 @@ fn note_refused(wait: &mut Option<EarlySet>, slot: u64, command: &Command, refus
     if wait.is_none() {
         *wait = match command {
             Command::Quiet | Command::Restart => None,
-            Command::SetText(_) => wait_for(slot, Thing::Text, refusal),
-            Command::SetName(_) => wait_for(slot, Thing::Name, refusal),
-            Command::SetTags(_) => wait_for(slot, Thing::Tags, refusal),
+            Command::SetText(_) => wait_for(slot, SetKind::Text, refusal),
+            Command::SetName(_) => wait_for(slot, SetKind::Name, refusal),
+            Command::SetTags(_) => wait_for(slot, SetKind::Tags, refusal),
         };
     }
 }
 
 /// Makes a note of `Silent` or `Held`, which end after some slots.
-fn wait_for(slot: u64, thing: Thing, refusal: Refusal) -> Option<EarlySet> {
+fn wait_for(slot: u64, thing: SetKind, refusal: Refusal) -> Option<EarlySet> {
     match refusal {
         Refusal::Silent(_) | Refusal::Held(_) => Some(EarlySet {
             slot,

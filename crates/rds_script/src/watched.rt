@@ -27,7 +27,7 @@ use crate::row::RowRefused;
 use arrayvec::ArrayVec;
 use rds_io::Lines;
 use rds_receiver::{Receiver, WhyNone, Whys};
-use rds_view_lines::{KeptView, SLOT_ROOM, Stamp, show};
+use rds_view_lines::{KeptView, SLOT_ROOM, Prefix, show};
 use rds_world::{Config, MOST_RECEIVERS, Reception, SlotEvent, StepRefused, World};
 use std::alloc::Global;
 
@@ -203,7 +203,7 @@ fn push_views(
         };
         let whys = whys_of(form, event, i, receiver);
         show(
-            Stamp::Receiver(slot, i),
+            Prefix::Receiver(slot, i),
             whys,
             &mut shown[i],
             receiver,

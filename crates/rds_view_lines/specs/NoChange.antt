@@ -25,8 +25,8 @@ same_tag : (o : Option (ℕ × List ℕ)) → is_same_tag o o ≡ true
 same_tag None = refl
 same_tag (Some (n, x)) = rw (eq-eqb n n refl, (bytes_eq-Decides x x).1 refl) refl
 
-pub no_change : (stamp : List ℕ) (whys : Option Whys) (v : ShownView) → change stamp whys v v ≡ []
-no_change stamp whys v = rw (same_text v.text, same_text v.name, same_item v.item, same_tag v.one, same_tag v.two) refl
+pub no_change : (prefix : List ℕ) (whys : Option Whys) (v : ShownView) → change prefix whys v v ≡ []
+no_change prefix whys v = rw (same_text v.text, same_text v.name, same_item v.item, same_tag v.one, same_tag v.two) refl
 
 -- before the first slot nothing is shown
 pub view_of_none : (t : Tuning) → IsView t [] nothing_shown

@@ -64,19 +64,19 @@ tag_content None = codes " none"
 tag_content (Some tag) = codes " " ++ name_or_number (class_name tag.0) tag.0 ++ quoted tag.1
 
 -- the beginning of a line: its slot and, if there are several receivers, the number of one of them, counted from 0
-abbrev pub slot_stamp : ℕ → List ℕ
-slot_stamp slot = decimal slot ++ codes " "
+abbrev pub slot_prefix : ℕ → List ℕ
+slot_prefix slot = decimal slot ++ codes " "
 
-abbrev pub receiver_stamp : ℕ → ℕ → List ℕ
-receiver_stamp slot i = decimal slot ++ codes " r" ++ decimal i ++ codes " "
+abbrev pub receiver_prefix : ℕ → ℕ → List ℕ
+receiver_prefix slot i = decimal slot ++ codes " r" ++ decimal i ++ codes " "
 
 -- the same for what a station has on air
-abbrev pub air_stamp : ℕ → List ℕ
-air_stamp slot = decimal slot ++ codes " air "
+abbrev pub air_prefix : ℕ → List ℕ
+air_prefix slot = decimal slot ++ codes " air "
 
 -- the line of a part
 abbrev pub line_of : List ℕ → List ℕ → List ℕ → List ℕ
-line_of stamp part content = stamp ++ part ++ content ++ codes "\n"
+line_of prefix part content = prefix ++ part ++ content ++ codes "\n"
 
 -- whether two slots show the same
 abbrev pub is_same_text : Option (List ℕ) → Option (List ℕ) → Bool
@@ -94,14 +94,14 @@ unless_same true line = []
 unless_same false line = line
 
 abbrev pub text_change : List ℕ → List ℕ → Option WhyNone → Option (List ℕ) → Option (List ℕ) → List ℕ
-text_change stamp part why before now =
-    unless_same (is_same_text before now) (line_of stamp part (text_content why now))
+text_change prefix part why before now =
+    unless_same (is_same_text before now) (line_of prefix part (text_content why now))
 
 abbrev pub item_change : List ℕ → List ℕ → Option (Bool × Bool) → Option (Bool × Bool) → List ℕ
-item_change stamp part before now = unless_same (is_same_item before now) (line_of stamp part (item_content now))
+item_change prefix part before now = unless_same (is_same_item before now) (line_of prefix part (item_content now))
 
 abbrev pub tag_change : List ℕ → List ℕ → Option (ℕ × List ℕ) → Option (ℕ × List ℕ) → List ℕ
-tag_change stamp part before now = unless_same (is_same_tag before now) (line_of stamp part (tag_content now))
+tag_change prefix part before now = unless_same (is_same_tag before now) (line_of prefix part (tag_content now))
 
 -- the reasons for a text and for a name, if they are asked for
 abbrev pub why_text : Option Whys → Option WhyNone
@@ -112,11 +112,11 @@ why_name whys = option_map (λ w. w.name) whys
 
 -- the lines of a slot
 abbrev pub change : List ℕ → Option Whys → ShownView → ShownView → List ℕ
-change stamp whys before now =
-    text_change stamp (codes "text") (why_text whys) before.text now.text
-    ++ text_change stamp (codes "name") (why_name whys) before.name now.name
-    ++ item_change stamp (codes "item") before.item now.item ++ tag_change stamp (codes "tag1") before.one now.one
-    ++ tag_change stamp (codes "tag2") before.two now.two
+change prefix whys before now =
+    text_change prefix (codes "text") (why_text whys) before.text now.text
+    ++ text_change prefix (codes "name") (why_name whys) before.name now.name
+    ++ item_change prefix (codes "item") before.item now.item ++ tag_change prefix (codes "tag1") before.one now.one
+    ++ tag_change prefix (codes "tag2") before.two now.two
 
 abbrev pub nothing_shown : ShownView
 nothing_shown = record { text = None; name = None; item = None; one = None; two = None }
@@ -135,4 +135,4 @@ newest (display ∷ older) = display.view
 abbrev pub changes_of : List Display → List ℕ
 changes_of [] = []
 changes_of (display ∷ older) =
-    changes_of older ++ change (slot_stamp (length older)) display.whys (newest older) display.view
+    changes_of older ++ change (slot_prefix (length older)) display.whys (newest older) display.view

@@ -5,12 +5,12 @@ use Rattle.std.specs.Option.{option_copied}
 use Rattle.rds_receiver.specs.Borrowed.{borrowed_tag}
 use Rattle.rds_receiver.specs.Shown.{IsShortTag, IsShortText, ShownView}
 use Rattle.rds_receiver.specs.declared.why.WhyNone.{WhyNone}
-use Rattle.rds_view_lines.specs.Output.{air_stamp, is_same_item, is_same_tag, is_same_text, item_content, line_of}
-use Rattle.rds_view_lines.specs.Output.{receiver_stamp, slot_stamp, tag_content, text_content, unless_same}
+use Rattle.rds_view_lines.specs.Output.{air_prefix, is_same_item, is_same_tag, is_same_text, item_content, line_of}
+use Rattle.rds_view_lines.specs.Output.{receiver_prefix, slot_prefix, tag_content, text_content, unless_same}
 use Rattle.rds_view_lines.specs.declared.change.Part.{Part}
 use Rattle.rds_view_lines.specs.declared.change.Part.TheVariants.{Text, Item, Tag}
-use Rattle.rds_view_lines.specs.declared.change.Stamp.{Stamp}
-use Rattle.rds_view_lines.specs.declared.change.Stamp.TheVariants.{OnAir, Receiver, Slot}
+use Rattle.rds_view_lines.specs.declared.change.Prefix.{Prefix}
+use Rattle.rds_view_lines.specs.declared.change.Prefix.TheVariants.{OnAir, Receiver, Slot}
 use Rattle.rds_view_lines.specs.declared.parts.Parts.{Parts}
 
 -- whether both parts show the same
@@ -39,14 +39,14 @@ IsShortPart (Tag tag) = IsShortTag tag
 
 -- the line of a part, if the part differs from the slot before
 abbrev pub part_change : List ℕ → List ℕ → Option WhyNone → Part → Part → List ℕ
-part_change stamp name why before now =
-    unless_same (is_same_part before now) (line_of stamp name (part_content why now))
+part_change prefix name why before now =
+    unless_same (is_same_part before now) (line_of prefix name (part_content why now))
 
 -- the beginning of a line
-abbrev pub stamp_of : Stamp → List ℕ
-stamp_of (Slot slot) = slot_stamp slot
-stamp_of (Receiver slot i) = receiver_stamp slot i
-stamp_of (OnAir slot) = air_stamp slot
+abbrev pub prefix_of : Prefix → List ℕ
+prefix_of (Slot slot) = slot_prefix slot
+prefix_of (Receiver slot i) = receiver_prefix slot i
+prefix_of (OnAir slot) = air_prefix slot
 
 -- which parts of two views are the same
 abbrev pub same_parts : ShownView → ShownView → Parts

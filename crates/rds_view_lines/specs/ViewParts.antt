@@ -3,7 +3,7 @@ use Rattle.std.specs.Prelude.{◌≡◌, ◌++◌, ℕ, List, Option, codes}
 use Rattle.rds_receiver.specs.Shown.{ShownView}
 use Rattle.rds_receiver.specs.declared.why.WhyNone.{WhyNone}
 use Rattle.rds_receiver.specs.declared.why.Whys.{Whys}
-use Rattle.rds_view_lines.specs.Output.{item_content, none_content, slot_stamp, tag_content, text_content}
+use Rattle.rds_view_lines.specs.Output.{item_content, none_content, slot_prefix, tag_content, text_content}
 use Rattle.rds_view_lines.specs.Output.{why_name, why_text}
 
 pub data Part : Type 0 where
@@ -36,4 +36,4 @@ IsNothing content = (why : Option WhyNone) × (content ≡ none_content why)
 
 -- a line of the output without its line feed: a slot, a part and its content
 abbrev pub line_in : ℕ → Part → List ℕ → List ℕ
-line_in slot part content = slot_stamp slot ++ (part_name part ++ content)
+line_in slot part content = slot_prefix slot ++ (part_name part ++ content)

@@ -20,7 +20,7 @@ pub const SLOT_ROOM: usize = 5 * LINE_ROOM;
 
 /// The beginning of an output line.
 #[derive(Clone, Copy)]
-pub enum Stamp {
+pub enum Prefix {
     /// The slot, if there is one receiver.
     Slot(u64),
     /// The slot, and the number of one of several receivers, counted from 0.
@@ -29,23 +29,23 @@ pub enum Stamp {
     OnAir(u64),
 }
 
-impl Stamp {
-    ghost use Rattle.rds_view_lines.specs.Part.{stamp_of};
+impl Prefix {
+    ghost use Rattle.rds_view_lines.specs.Part.{prefix_of};
 
-    /// Appends the stamp and a space.
+    /// Appends the prefix and a space.
     pub fn push<const N: usize>(self, lines: &mut Lines<N>)
         requires { length lines.old + 43 ≤ N }
-        ensures stamp { lines.new ≡ lines.old ++ stamp_of self }
+        ensures prefix { lines.new ≡ lines.old ++ prefix_of self }
         ensures room { length lines.new ≤ length lines.old + 43 }
     {
         match self {
-            Stamp::Slot(slot) => lines.push_number(slot),
-            Stamp::Receiver(slot, receiver) => {
+            Prefix::Slot(slot) => lines.push_number(slot),
+            Prefix::Receiver(slot, receiver) => {
                 lines.push_number(slot);
                 lines.push(b" r");
                 lines.push_number(receiver as u64);
             }
-            Stamp::OnAir(slot) => {
+            Prefix::OnAir(slot) => {
                 lines.push_number(slot);
                 lines.push(b" air");
             }
@@ -181,11 +181,11 @@ pub fn push_quoted<const N: usize>(text: &[u8], lines: &mut Lines<N>)
     lines.push(b"\"");
 }
 
-ghost use Rattle.rds_view_lines.specs.Part.{IsShortPart, part_change, stamp_of};
+ghost use Rattle.rds_view_lines.specs.Part.{IsShortPart, part_change, prefix_of};
 
 /// Appends the line of a part, if the part differs from the slot before.
 fn push_change<const N: usize>(
-    stamp: Stamp,
+    prefix: Prefix,
     name: &[u8],
     why: Option<WhyNone>,
     before: Part<'_>,
@@ -195,13 +195,13 @@ fn push_change<const N: usize>(
     requires name { length name.now ≡ 4 }
     requires short { IsShortPart now }
     requires room { length lines.old + LINE_ROOM ≤ N }
-    ensures change { lines.new ≡ lines.old ++ part_change (stamp_of stamp) name.now why before.entry now.entry }
+    ensures change { lines.new ≡ lines.old ++ part_change (prefix_of prefix) name.now why before.entry now.entry }
     ensures room { length lines.new ≤ length lines.old + LINE_ROOM }
 {
     if before.is_same(now) {
         return;
     }
-    stamp.push(lines);
+    prefix.push(lines);
     lines.push(name);
     now.push(why, lines);
     lines.push(b"\n");
@@ -212,14 +212,14 @@ ghost use Rattle.rds_receiver.specs.Borrowed.{view_of};
 /// Appends the line of each part of a view that differs from the slot before. With `whys` the line of a text or a name
 /// that is not shown any more says why.
 pub fn push_changes<const N: usize>(
-    stamp: Stamp,
+    prefix: Prefix,
     whys: Option<Whys>,
     before: View<'_>,
     now: View<'_>,
     lines: &mut Lines<N>,
 )
     requires { length lines.old + SLOT_ROOM ≤ N }
-    ensures changes { lines.new ≡ lines.old ++ change (stamp_of stamp) whys (view_of before.entry)
+    ensures changes { lines.new ≡ lines.old ++ change (prefix_of prefix) whys (view_of before.entry)
         (view_of now.entry) }
     ensures room { length lines.new ≤ length lines.old + SLOT_ROOM }
 {
@@ -228,7 +228,7 @@ pub fn push_changes<const N: usize>(
         None => (None, None),
     };
     push_change(
-        stamp,
+        prefix,
         b"text",
         why_text,
         Part::Text(before.text),
@@ -236,7 +236,7 @@ pub fn push_changes<const N: usize>(
         lines,
     );
     push_change(
-        stamp,
+        prefix,
         b"name",
         why_name,
         Part::Text(before.name),
@@ -244,7 +244,7 @@ pub fn push_changes<const N: usize>(
         lines,
     );
     push_change(
-        stamp,
+        prefix,
         b"item",
         None,
         Part::Item(before.item),
@@ -252,7 +252,7 @@ pub fn push_changes<const N: usize>(
         lines,
     );
     push_change(
-        stamp,
+        prefix,
         b"tag1",
         None,
         Part::Tag(before.one),
@@ -260,7 +260,7 @@ pub fn push_changes<const N: usize>(
         lines,
     );
     push_change(
-        stamp,
+        prefix,
         b"tag2",
         None,
         Part::Tag(before.two),

@@ -5,9 +5,9 @@ ghost use Rattle.rds_receiver.specs.Shown.{IsView};
 ghost use Rattle.rds_receiver.specs.ReceiverAt.{WhereReceiverStands};
 ghost use Rattle.rds_view_lines.specs.KeptView.{view_kept};
 ghost use Rattle.rds_view_lines.specs.Output.{change};
-ghost use Rattle.rds_view_lines.specs.Part.{stamp_of};
+ghost use Rattle.rds_view_lines.specs.Part.{prefix_of};
 
-use crate::change::{Stamp, push_changes};
+use crate::change::{Prefix, push_changes};
 use crate::kept::KeptView;
 use rds_io::Lines;
 use rds_receiver::{Receiver, Whys};
@@ -17,7 +17,7 @@ use rds_receiver::{Receiver, Whys};
 // Cold path: few slots change a view.
 #[inline(never)]
 pub fn show<const N: usize>(
-    stamp: Stamp,
+    prefix: Prefix,
     whys: Option<Whys>,
     shown: &mut KeptView,
     receiver: &Receiver,
@@ -25,11 +25,11 @@ pub fn show<const N: usize>(
 )
     requires { length lines.old + SLOT_ROOM ≤ N }
     ensures changes { lines.new
-        ≡ lines.old ++ change (stamp_of stamp) whys (view_kept shown.old) (view_kept shown.new) }
+        ≡ lines.old ++ change (prefix_of prefix) whys (view_kept shown.old) (view_kept shown.new) }
     ensures shows { WhereReceiverStands receiver.now (λ t input. IsView t input (view_kept shown.new)) }
     ensures room { length lines.new ≤ length lines.old + SLOT_ROOM }
 {
     let now = receiver.view();
-    push_changes(stamp, whys, shown.view(), now, lines);
+    push_changes(prefix, whys, shown.view(), now, lines);
     *shown = KeptView::of(now);
 }

@@ -39,7 +39,7 @@ use Rattle.rds_receiver.specs.declared.why.Whys.{Whys}
 use Rattle.rds_script.specs.Outcomes.{AreOutcomes, Outcome, block_digits, lines_of, log_line, receiver_changes}
 use Rattle.rds_script.specs.Outcomes.{refusal_content, reply_line, spaced_digits, newest_views, thing_set, whys_at}
 use Rattle.rds_script.specs.declared.form.Form.TheVariants.{Log}
-use Rattle.rds_view_lines.specs.Output.{line_of, slot_stamp}
+use Rattle.rds_view_lines.specs.Output.{line_of, slot_prefix}
 use Rattle.rds_world.specs.Event.{Event}
 use Rattle.rds_world.specs.Slots.{commanded, entries}
 use Rattle.rds_world.specs.declared.event.Command.{Command}
@@ -48,7 +48,7 @@ use Rattle.rds_world.specs.declared.reply.Reply.{Reply}
 use Rattle.rds_world.specs.declared.reply.Reply.TheVariants.{Restarted, Done, Refused}
 use Rattle.rds_world.specs.declared.reply.Reply.TheVariants as reply
 use Rattle.rds_wire.specs.Wire.{IsHead, station_of}
-use Rattle.rds_wire.proofs.Printed.{decimal_line, empty_line, feedless, join_lines, more_line, stamps}
+use Rattle.rds_wire.proofs.Printed.{decimal_line, empty_line, feedless, join_lines, more_line, prefixes}
 
 -- ---- bytes without a line feed
 
@@ -127,28 +127,28 @@ refusals NoText = feedless (codes " notext") refl
 refusals (OutOfText One) = feedless (codes " outoftext 1") refl
 refusals (OutOfText Two) = feedless (codes " outoftext 2") refl
 
-with_mark : (n : ℕ) (text stamp thing content : List ℕ) (slots : List (Option Group)) → IsLine stamp → IsLine thing
+with_mark : (n : ℕ) (text prefix thing content : List ℕ) (slots : List (Option Group)) → IsLine prefix → IsLine thing
     → IsLine content → HasCut n text slots
-    → HasCut n (text ++ (codes "# " ++ line_of stamp thing content)) slots
-with_mark n text stamp thing content slots s t c had =
+    → HasCut n (text ++ (codes "# " ++ line_of prefix thing content)) slots
+with_mark n text prefix thing content slots s t c had =
     same_text n _ _ slots (ap (λ (l : List ℕ). text ++ (codes "# " ++ l)) ends)
-    (with_comment n text (codes "# " ++ (stamp ++ (thing ++ content))) slots had
-    (join (codes "# ") (stamp ++ (thing ++ content)) (feedless (codes "# ") refl)
-    (join stamp (thing ++ content) s (join thing content t c)))
+    (with_comment n text (codes "# " ++ (prefix ++ (thing ++ content))) slots had
+    (join (codes "# ") (prefix ++ (thing ++ content)) (feedless (codes "# ") refl)
+    (join prefix (thing ++ content) s (join thing content t c)))
     (inr (inr (inl refl))))
   where
-    ends : (stamp ++ (thing ++ content)) ++ codes "\n" ≡ line_of stamp thing content
-    ends = ap (λ (l : List ℕ). l ++ codes "\n") (sym (append_assoc stamp thing content))
+    ends : (prefix ++ (thing ++ content)) ++ codes "\n" ≡ line_of prefix thing content
+    ends = ap (λ (l : List ℕ). l ++ codes "\n") (sym (append_assoc prefix thing content))
 
 with_reply : (n : ℕ) (text : List ℕ) (slot : ℕ) (c : Command) (r : Reply) (slots : List (Option Group))
     → HasCut n text slots → HasCut n (text ++ reply_line (codes "# ") slot c r) slots
 with_reply n text slot c reply.Quiet slots had = same_text n text (text ++ []) slots (sym (append-nil text)) had
-with_reply n text slot c Restarted slots had = with_mark n text (slot_stamp slot) (codes "restart") [] slots
-    (stamps slot) (feedless (codes "restart") refl) (feedless [] refl) had
-with_reply n text slot c Done slots had = with_mark n text (slot_stamp slot) (thing_set c) (codes " ok") slots
-    (stamps slot) (things c) (feedless (codes " ok") refl) had
-with_reply n text slot c (Refused refusal) slots had = with_mark n text (slot_stamp slot) (thing_set c)
-    (refusal_content refusal) slots (stamps slot) (things c) (refusals refusal) had
+with_reply n text slot c Restarted slots had = with_mark n text (slot_prefix slot) (codes "restart") [] slots
+    (prefixes slot) (feedless (codes "restart") refl) (feedless [] refl) had
+with_reply n text slot c Done slots had = with_mark n text (slot_prefix slot) (thing_set c) (codes " ok") slots
+    (prefixes slot) (things c) (feedless (codes " ok") refl) had
+with_reply n text slot c (Refused refusal) slots had = with_mark n text (slot_prefix slot) (thing_set c)
+    (refusal_content refusal) slots (prefixes slot) (things c) (refusals refusal) had
 
 -- ---- groups
 

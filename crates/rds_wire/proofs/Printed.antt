@@ -13,9 +13,9 @@ use Rattle.std.proofs.lemmas.List.Elements.{All-append, All-cons, All-nil}
 use Rattle.std.proofs.lemmas.List.Folds.{list_all_at}
 use Rattle.std.proofs.lemmas.Option.{get_or_from_slice_get, slice_get_within}
 use Rattle.rds_charset.specs.Printed.{escaped, printed, printed_byte, shown_character}
-use Rattle.rds_charset.specs.Table.{Stretch, character_at, character_in, character_of, table}
+use Rattle.rds_charset.specs.Table.{CodeRange, character_at, character_in, character_of, table}
 use Rattle.rds_io.specs.Digits.{upper_digit}
-use Rattle.rds_view_lines.specs.Output.{slot_stamp}
+use Rattle.rds_view_lines.specs.Output.{slot_prefix}
 
 -- no line feed is in the bytes
 abbrev pub IsFeedless : List ℕ → Type 0
@@ -50,7 +50,7 @@ feedless (b ∷ rest) e =
 abbrev clean : ℕ → Bool
 clean character = list_all (λ b. not (b == 10)) (encode_utf8 character)
 
-all_clean : list_all (λ (s : Stretch). list_all clean s.1) table ≡ true
+all_clean : list_all (λ (s : CodeRange). list_all clean s.1) table ≡ true
 unfolding encode_utf8
 all_clean = refl
 
@@ -73,7 +73,7 @@ of_all xs i within all = by (clean (get_or xs i 0)) refl
     by true e = e
     by false e = absurd (let bad : false ≡ true = sym (list_all_at clean xs i 0 within e) ∙ all in cc)
 
-clean_at : (s : Stretch) (byte c : ℕ) → list_all clean s.1 ≡ true → character_at s byte ≡ Some c → clean c ≡ true
+clean_at : (s : CodeRange) (byte c : ℕ) → list_all clean s.1 ≡ true → character_at s byte ≡ Some c → clean c ≡ true
 clean_at s byte c all is = by (nat_le s.0 byte) is
   where
     by : (b : Bool) → cond b (slice_get s.1 (byte - s.0)) None ≡ Some c → clean c ≡ true
@@ -81,11 +81,11 @@ clean_at s byte c all is = by (nat_le s.0 byte) is
         (of_all s.1 (byte - s.0) (slice_get_within s.1 (byte - s.0) c e) all)
     by false e = absurd (cc)
 
-clean_in : (all : List Stretch) (byte c : ℕ) → list_all (λ (s : Stretch). list_all clean s.1) all ≡ true
+clean_in : (all : List CodeRange) (byte c : ℕ) → list_all (λ (s : CodeRange). list_all clean s.1) all ≡ true
     → character_in all byte ≡ Some c → clean c ≡ true
 clean_in [] byte c all is = absurd (cc)
 clean_in (s ∷ more) byte c all is =
-    let both = and_parts (list_all clean s.1) (list_all (λ (s : Stretch). list_all clean s.1) more) all in
+    let both = and_parts (list_all clean s.1) (list_all (λ (s : CodeRange). list_all clean s.1) more) all in
     by (character_at s byte) refl is both.0 (clean_in more byte c both.1)
   where
     by : (o : Option ℕ) → character_at s byte ≡ o → option_or o (character_in more byte) ≡ Some c
@@ -161,6 +161,6 @@ no_feed n h = grind (arith, nat_tests)
 pub decimal_line : (n : ℕ) → IsFeedless (decimal n)
 decimal_line n = decimal_lacks 10 no_feed n
 
--- nor has the stamp of a slot
-pub stamps : (slot : ℕ) → IsFeedless (slot_stamp slot)
-stamps slot = join_lines (decimal slot) (codes " ") (decimal_line slot) (feedless (codes " ") refl)
+-- nor has the prefix of a slot
+pub prefixes : (slot : ℕ) → IsFeedless (slot_prefix slot)
+prefixes slot = join_lines (decimal slot) (codes " ") (decimal_line slot) (feedless (codes " ") refl)

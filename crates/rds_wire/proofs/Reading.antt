@@ -20,15 +20,15 @@ use Rattle.rds_receiver.specs.declared.why.Whys.{Whys}
 use Rattle.rds_charset.specs.Printed.{printed}
 use Rattle.rds_view_lines.specs.Output.{Display, bit_content, change, changes_of, class_name, class_names, is_same_item}
 use Rattle.rds_view_lines.specs.Output.{is_same_tag, is_same_text, item_content, line_of, name_or_number, newest}
-use Rattle.rds_view_lines.specs.Output.{none_content, nothing_shown, quoted, slot_stamp, tag_content, text_content}
+use Rattle.rds_view_lines.specs.Output.{none_content, nothing_shown, quoted, slot_prefix, tag_content, text_content}
 use Rattle.rds_view_lines.specs.Output.{unless_same, why_content, why_name, why_text}
 use Rattle.rds_view_lines.specs.ViewParts.{Item, Name, Part, Tag1, Tag2, Text, line_in, part_content, part_name}
 use Rattle.rds_wire.proofs.Firsts.{entry_below}
 use Rattle.rds_wire.proofs.Logs.{text_more}
 use Rattle.rds_wire.proofs.Printed.{IsNoDigit, Lacks, decimal_lacks, decimal_line, empty_line, feedless, join_lines}
-use Rattle.rds_wire.proofs.Printed.{of_each, printed_line, stamps}
+use Rattle.rds_wire.proofs.Printed.{of_each, printed_line, prefixes}
 
--- ---- the stamp of a line
+-- ---- the prefix of a line
 
 no_space : IsNoDigit 32
 no_space n h = grind (arith, nat_tests)
@@ -36,9 +36,9 @@ no_space n h = grind (arith, nat_tests)
 no_f : IsNoDigit 102
 no_f n h = grind (arith, nat_tests)
 
--- a stamp does not begin with an f, as the line of a fault does
-pub stamp_lacks : (slot : ℕ) (x : List ℕ) → get_or (slot_stamp slot ++ x) 0 0 ≢ 102
-stamp_lacks slot x = by (decimal slot) (decimal_lacks 102 no_f slot)
+-- a prefix does not begin with an f, as the line of a fault does
+pub prefix_lacks : (slot : ℕ) (x : List ℕ) → get_or (slot_prefix slot ++ x) 0 0 ≢ 102
+prefix_lacks slot x = by (decimal slot) (decimal_lacks 102 no_f slot)
   where
     by : (digits : List ℕ) → Lacks 102 digits → get_or ((digits ++ codes " ") ++ x) 0 0 ≢ 102
     by [] all = λ e. omega (arith, e)
@@ -56,10 +56,10 @@ same_first (c ∷ p) (d ∷ q) x y a b e =
     let front : p ≡ q = same.0 in
     (cc, same.1)
 
--- a stamp has one slot
-pub same_stamp : (s n : ℕ) (x y : List ℕ) → s < 2 ^ 64 → n < 2 ^ 64 → slot_stamp s ++ x ≡ slot_stamp n ++ y
+-- a prefix has one slot
+pub same_prefix : (s n : ℕ) (x y : List ℕ) → s < 2 ^ 64 → n < 2 ^ 64 → slot_prefix s ++ x ≡ slot_prefix n ++ y
     → (s ≡ n) × (x ≡ y)
-same_stamp s n x y small less e =
+same_prefix s n x y small less e =
     let same = same_first (decimal s) (decimal n) x y (decimal_lacks 32 no_space s) (decimal_lacks 32 no_space n)
     (sym (append_assoc (decimal s) (codes " ") x) ∙ e ∙ append_assoc (decimal n) (codes " ") y) in
     (decimal_injective s n small less same.0, same.1)
@@ -99,9 +99,9 @@ same_part Tag2 Tag2 x y e = (refl, (cc))
 same_line : (s n : ℕ) (p q : Part) (x y : List ℕ) → s < 2 ^ 64 → n < 2 ^ 64 → line_in s p x ≡ line_in n q y
     → (s ≡ n) × (p ≡ q) × (x ≡ y)
 same_line s n p q x y small less e =
-    let stamp = same_stamp s n (part_name p ++ x) (part_name q ++ y) small less e in
-    let part = same_part p q x y stamp.1 in
-    (stamp.0, part.0, part.1)
+    let prefix = same_prefix s n (part_name p ++ x) (part_name q ++ y) small less e in
+    let part = same_part p q x y prefix.1 in
+    (prefix.0, part.0, part.1)
 
 -- ---- the contents of parts are lines
 
@@ -170,7 +170,7 @@ abbrev pub line_of_part : ℕ → Display → Part → Line
 line_of_part n d part = line_in n part (part_content part d.whys d.view)
 
 in_line : (n : ℕ) (part : Part) (d : Display) → IsLine (line_of_part n d part)
-in_line n part d = join_lines (slot_stamp n) (part_name part ++ part_content part d.whys d.view) (stamps n)
+in_line n part d = join_lines (slot_prefix n) (part_name part ++ part_content part d.whys d.view) (prefixes n)
     (join_lines (part_name part) (part_content part d.whys d.view) (name_line part) (content_line part d.whys d.view))
 
 -- ---- the lines of displays
@@ -210,16 +210,16 @@ body_text false body rest =
     sym (sym (append_assoc (text_of rest []) body (codes "\n")) ∙ ap (λ (l : List ℕ). l ++ codes "\n")
     (text_more rest [] body))
 
-line_ends : (stamp part content : List ℕ) → (stamp ++ (part ++ content)) ++ codes "\n" ≡ line_of stamp part content
-line_ends stamp part content = ap (λ (l : List ℕ). l ++ codes "\n") (sym (append_assoc stamp part content))
+line_ends : (prefix part content : List ℕ) → (prefix ++ (part ++ content)) ++ codes "\n" ≡ line_of prefix part content
+line_ends prefix part content = ap (λ (l : List ℕ). l ++ codes "\n") (sym (append_assoc prefix part content))
 
 part_text : (n : ℕ) (before : ShownView) (now : Display) (part : Part) (rest : List Line)
     → text_of (with_body n before now part rest) [] ≡ text_of rest [] ++ unless_same (is_same_part part before now.view)
-    (line_of (slot_stamp n) (part_name part) (part_content part now.whys now.view))
+    (line_of (slot_prefix n) (part_name part) (part_content part now.whys now.view))
 part_text n before now part rest =
     body_text (is_same_part part before now.view) (line_of_part n now part) rest
     ∙ ap (λ (l : List ℕ). text_of rest [] ++ unless_same (is_same_part part before now.view) l)
-    (line_ends (slot_stamp n) (part_name part) (part_content part now.whys now.view))
+    (line_ends (slot_prefix n) (part_name part) (part_content part now.whys now.view))
 
 five : (t a b c d e : List ℕ) → ((((t ++ a) ++ b) ++ c) ++ d) ++ e ≡ t ++ ((((a ++ b) ++ c) ++ d) ++ e)
 five t a b c d e =
@@ -229,7 +229,7 @@ five t a b c d e =
     ∙ append_assoc t (((a ++ b) ++ c) ++ d) e
 
 slot_text : (n : ℕ) (before : ShownView) (now : Display) (rest : List Line)
-    → text_of (with_slot n before now rest) [] ≡ text_of rest [] ++ change (slot_stamp n) now.whys before now.view
+    → text_of (with_slot n before now rest) [] ≡ text_of rest [] ++ change (slot_prefix n) now.whys before now.view
 slot_text n before now rest =
     let r1 = with_body n before now Text rest in
     let r2 = with_body n before now Name r1 in
@@ -250,13 +250,13 @@ slot_text n before now rest =
     line_unless : Part → List ℕ
     line_unless part =
         unless_same (is_same_part part before now.view)
-        (line_of (slot_stamp n) (part_name part) (part_content part now.whys now.view))
+        (line_of (slot_prefix n) (part_name part) (part_content part now.whys now.view))
 
 -- the output is the text of these lines
 pub changes_text : (displays : List Display) → changes_of displays ≡ text_of (lines_of displays) []
 changes_text [] = refl
 changes_text (d ∷ older) =
-    ap (λ (l : List ℕ). l ++ change (slot_stamp (length older)) d.whys (newest older) d.view) (changes_text older)
+    ap (λ (l : List ℕ). l ++ change (slot_prefix (length older)) d.whys (newest older) d.view) (changes_text older)
     ∙ sym (slot_text (length older) (newest older) d (lines_of older))
 
 body_lines : (b : Bool) (body : Line) (rest : List Line) → IsLine body → All IsLine rest

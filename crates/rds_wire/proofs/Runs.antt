@@ -44,7 +44,7 @@ use Rattle.rds_wire.proofs.Logs.{HasCut, is_log_of, more_text, with_comment}
 use Rattle.rds_wire.proofs.Printed.{decimal_line, empty_line, feedless, join_lines}
 use Rattle.rds_wire.proofs.Reading.{In, all_lines, are_lines, changes_text, contains_from_in, in_from_contains}
 use Rattle.rds_wire.proofs.Reading.{lines_of}
-use Rattle.rds_wire.proofs.Reading.{stamp_lacks}
+use Rattle.rds_wire.proofs.Reading.{prefix_lacks}
 use Rattle.rds_wire.proofs.Wired.{EncoderLaws, log_of_script}
 
 -- ---- bytes of a run
@@ -231,7 +231,7 @@ not_fault line u part content lines f is = by (in_from_contains (line_in u part 
   where
     by : In (line_in u part content) (line ∷ lines) → Contains lines (line_in u part content)
     by (inl same) =
-        absurd (stamp_lacks u (part_name part ++ content) (sym (ap (λ (l : List ℕ). get_or l 0 0) same) ∙ f))
+        absurd (prefix_lacks u (part_name part ++ content) (sym (ap (λ (l : List ℕ). get_or l 0 0) same) ∙ f))
     by (inr more) = contains_from_in (line_in u part content) lines more
 
 or_later : (line : Line) (u : ℕ) (part : Part) (content : List ℕ) (lines : List Line)

@@ -245,8 +245,8 @@ shown_safely source d m now air messages r s P Q upto spaced views shows shown o
           (name_run m s.input) r.view.name s.view.name
           (ShowsBroadcast d now air.plans.name (P Name)) (ShowsBroadcast d now air.plans.name (Q Name)) r_name s_name
           near.names
-          (λ k number x sh. nothing_or_on_air d now air.plans.name r.input (name_run m r.input) r.view.name r_name k number x
-          (why_name (one Name x sh).0) (one Name x sh).1)
-          (λ k number x sh. nothing_or_on_air d now air.plans.name s.input (name_run m s.input) s.view.name s_name k number x
-          (why_name (other Name x sh).0) (other Name x sh).1);
+          (λ k number x sh. nothing_or_on_air d now air.plans.name r.input (name_run m r.input) r.view.name r_name k
+          number x (why_name (one Name x sh).0) (one Name x sh).1)
+          (λ k number x sh. nothing_or_on_air d now air.plans.name s.input (name_run m s.input) s.view.name s_name k
+          number x (why_name (other Name x sh).0) (other Name x sh).1);
     }

@@ -4,7 +4,6 @@ use Rattle.std.proofs.lemmas.List.{length-map}
 use Rattle.std.proofs.lemmas.List.Elements.{All-cons, All-nil}
 use Rattle.rds_fields.specs.declared.message.Message.{Message}
 use Rattle.rds_fields.specs.Tag.{PairFields}
-use Rattle.rds_receiver.specs.Confirmed.{confirmed}
 use Rattle.rds_receiver.specs.Receipts.{Tuning, heard_in, heard_of}
 use Rattle.rds_safety.specs.Confirmed.{IsHeardWithWrong, ListensConfirmed, confirmed_input, lateness_of_two}
 use Rattle.rds_safety.specs.ConfirmedLaws.{LawfulPlansAreSafeConfirmed}

@@ -7,7 +7,7 @@ use Rattle.rds_block.specs.declared.group.Group.{Group}
 use Rattle.rds_fields.specs.declared.pair.Which.{Which}
 use Rattle.rds_fields.specs.declared.pair.Which.TheVariants.{One, Two}
 use Rattle.rds_receiver.specs.Receipts.{Tuning}
-use Rattle.rds_view_lines.specs.Output.{line_of, quoted, slot_stamp, tag_content}
+use Rattle.rds_view_lines.specs.Output.{line_of, quoted, slot_prefix, tag_content}
 use Rattle.rds_view_lines.specs.ViewParts as view
 use Rattle.rds_view_lines.specs.ViewParts.{Part, part_name}
 use Rattle.rds_witness.specs.Mix.{IsMix, IsPlace, Name, Tag, Text, Thing}
@@ -35,7 +35,7 @@ content_of (Tag which class piece) = tag_content (Some (class, piece))
 
 -- the line of `decode` if this is shown in a slot
 abbrev pub shown_line : ℕ → Thing → List ℕ
-shown_line slot thing = line_of (slot_stamp slot) (part_name (part_of thing)) (content_of thing)
+shown_line slot thing = line_of (slot_prefix slot) (part_name (part_of thing)) (content_of thing)
 
 -- the slots of a burst: its first and its last one, or the only one
 abbrev pub burst_text : Burst → List ℕ

@@ -14,7 +14,7 @@ use rds_cli::{Request, Task, identification_of, read_words, request_in};
 use rds_io::{Told, put};
 use rds_log::NoNews;
 use rds_notes::{Run, Screen, print_no_group, print_notes, print_refusal};
-use rds_program::{Report, no_words, run_read, source_of, texts, words_of};
+use rds_program::{Report, no_words, run_read, input_of, texts, words_of};
 use std::io::{ErrorKind, IsTerminal, Stderr};
 use std::process::ExitCode;
 
@@ -50,7 +50,7 @@ fn run_request<'a>(
 ) -> u8 {
     let mut screen = notes(rt);
     prompt(rt, request, &mut screen);
-    let mut input = Told::new(source_of(rt, rt.stdin(), request.file));
+    let mut input = Told::new(input_of(rt, rt.stdin(), request.file));
     let mut output = Told::new(rt.stdout());
     let mut report = Report::new();
     let mut news = Screen::new(request, notes(rt));

@@ -1,4 +1,4 @@
--- What is kept to compare views with what was on air. Lists have the newest first, except the stretches, which have the
+-- What is kept to compare views with what was on air. Lists have the newest first, except the periods, which have the
 -- oldest first.
 use Rattle.std.specs.Prelude.{◌≡◌, ◌<◌, ◌∷◌, ◌++◌, ℕ, zero, suc, [], Bool, true, false, List, Option, None, Some}
 use Rattle.std.specs.Prelude.{if◌then◌else◌, length, replicate, slice_index_or, vec_capacity, vec_len}
@@ -18,15 +18,15 @@ use Rattle.rds_script.specs.declared.airing.Airing.{Airing}
 use Rattle.rds_script.specs.declared.airing.Airing.TheVariants.{Mix, Old, OnAir, Replaced}
 use Rattle.rds_script.specs.declared.airing.Airings.{Airings}
 use Rattle.rds_script.specs.declared.airs.Airs.{Airs}
-use Rattle.rds_script.specs.declared.airs.Reach.{Reach}
-use Rattle.rds_script.specs.declared.airs.Reach.TheVariants.{Ever, Lately, Texts}
-use Rattle.rds_script.specs.declared.airs.Stretch.{Stretch}
+use Rattle.rds_script.specs.declared.airs.Lookback.{Lookback}
+use Rattle.rds_script.specs.declared.airs.Lookback.TheVariants.{Ever, Lately, Texts}
+use Rattle.rds_script.specs.declared.airs.Period.{Period}
 use Rattle.rds_script.specs.declared.compared.Compared.{Compared}
 
--- what was on air in each slot of these stretches
-abbrev pub airs_in : List Stretch → List ShownView
+-- what was on air in each slot of these periods
+abbrev pub airs_in : List Period → List ShownView
 airs_in [] = []
-airs_in (stretch ∷ later) = airs_in later ++ view_kept stretch.air ∷ replicate stretch.more (view_kept stretch.air)
+airs_in (period ∷ later) = airs_in later ++ view_kept period.air ∷ replicate period.more (view_kept period.air)
 
 -- what was on air last
 abbrev pub newest_of : List ShownView → ShownView
@@ -35,26 +35,26 @@ newest_of (air ∷ older) = air
 
 -- what is kept is what was on air in these slots
 pub record AirsStand (config : Config) (events : List Event) (a : Airs) : Type 0 where
-  pub airs : airs_in a.stretches.items ≡ airs config events
+  pub airs : airs_in a.periods.items ≡ airs config events
   pub spacing : a.spacing ≡ distance config
   pub some : 0 < a.spacing
 
 -- there is memory for one more slot
 abbrev pub AirsHaveRoom : Airs → Type 0
-AirsHaveRoom a = vec_len a.stretches < vec_capacity a.stretches
+AirsHaveRoom a = vec_len a.periods < vec_capacity a.periods
 
 -- whether a search goes on from what was on air with this text to what was on air before it
-abbrev pub goes_on : Reach → Option (List ℕ) → Option (List ℕ) → Bool
+abbrev pub goes_on : Lookback → Option (List ℕ) → Option (List ℕ) → Bool
 goes_on Lately text before = false
 goes_on Texts text before = is_same_text text before
 goes_on Ever text before = true
 
 -- what a search sees: what was on air in the last n slots, and then what it goes on to
-abbrev pub reached : Reach → ℕ → Option (List ℕ) → List ShownView → List ShownView
-reached reach n text [] = []
-reached reach (suc n) text (air ∷ older) = air ∷ reached reach n air.text older
-reached reach zero text (air ∷ older) =
-    if goes_on reach text air.text then air ∷ reached reach zero air.text older else []
+abbrev pub reached : Lookback → ℕ → Option (List ℕ) → List ShownView → List ShownView
+reached lookback n text [] = []
+reached lookback (suc n) text (air ∷ older) = air ∷ reached lookback n air.text older
+reached lookback zero text (air ∷ older) =
+    if goes_on lookback text air.text then air ∷ reached lookback zero air.text older else []
 
 -- whether this was on air in any slot
 abbrev pub was_on_air : Airing → Bool

@@ -1,8 +1,8 @@
 use Rattle.std.proofs.Common.{◌≡◌, drop, map}
-use Rattle.rds_charset.specs.Stretches.{stretch_of}
+use Rattle.rds_charset.specs.Ranges.{range_of}
 use Rattle.rds_charset.specs.Table.{character_in}
 use Rattle.rds_charset.proofs.table.character_in.Given as goal
 
-abbrev pub invariant-loop-stretch : goal.invariant-loop-stretch
-invariant-loop-stretch l = character_in (map stretch_of (drop l.stretch-index l.stretches)) l.byte
-    ≡ character_in (map stretch_of l.stretches) l.byte
+abbrev pub invariant-loop-range : goal.invariant-loop-range
+invariant-loop-range l = character_in (map range_of (drop l.range-index l.ranges)) l.byte
+    ≡ character_in (map range_of l.ranges) l.byte

@@ -4,4 +4,4 @@ use Rattle.rds_charset.proofs.table.character_of.Goals as goal
 
 pub returns : goal.returns
 unfolding character_of
-returns c = c.character_in.ensures ∙ ap (λ stretches. character_in stretches c.args.byte) c.table.ensures
+returns c = c.character_in.ensures ∙ ap (λ ranges. character_in ranges c.args.byte) c.table.ensures

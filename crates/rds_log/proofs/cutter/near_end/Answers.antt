@@ -12,20 +12,23 @@ loop-from-init c = record { lanes = (0, refl); near = omega arith; none = λ i b
 pub bounds-bytes-from : goal.bounds-bytes-from
 bounds-bytes-from c =
     let (k, at) = c.loop-from.invariant.lanes in
-    let room = lanes_fit (length c.args.bytes.now) c.loop-from.from k at c.loop-from-test.true c.if-bytes-lt-NEAR.false in
+    let room = lanes_fit (length c.args.bytes.now) c.loop-from.from k at c.loop-from-test.true
+    c.if-bytes-lt-NEAR.false in
     search (rules, room)
 
 pub returns-then-feeds-ne0 : goal.returns-then-feeds-ne0
 returns-then-feeds-ne0 c =
     let (k, at) = c.loop-from.invariant.lanes in
-    let room = lanes_fit (length c.args.bytes.now) c.loop-from.from k at c.loop-from-test.true c.if-bytes-lt-NEAR.false in
+    let room = lanes_fit (length c.args.bytes.now) c.loop-from.from k at c.loop-from-test.true
+    c.if-bytes-lt-NEAR.false in
     ends_near c.args.bytes.now c.loop-from.from _ room (feeds_of_lanes c.args.bytes.now c.loop-from.from room)
     c.if-feeds-ne0.true c.loop-from.invariant.none
 
 pub loop-from-preserved : goal.loop-from-preserved
 loop-from-preserved c =
     let (k, at) = c.loop-from.invariant.lanes in
-    let room = lanes_fit (length c.args.bytes.now) c.loop-from.from k at c.loop-from-test.true c.if-bytes-lt-NEAR.false in
+    let room = lanes_fit (length c.args.bytes.now) c.loop-from.from k at c.loop-from-test.true
+    c.if-bytes-lt-NEAR.false in
     record {
       lanes = (k + 1, omega (arith, at));
       near = omega (arith, at, c.loop-from-test.true);

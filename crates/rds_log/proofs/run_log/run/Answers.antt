@@ -152,7 +152,8 @@ loop-taker-preserved-in-loop-taker g c =
       room = omega (arith, none, fits);
       empty = λ _. c.in_ok-write.ensures.empty;
       few = omega (arith, before, less, counted);
-      wants = λ done. (let no = c.in_ok-wants-in-Ok-true.ensures.wants.1 done in let yes = c.if-not-wants-2.false in cc);
+      wants = λ done.
+          (let no = c.in_ok-wants-in-Ok-true.ensures.wants.1 done in let yes = c.if-not-wants-2.false in cc);
       stands = (
         line ∷ lines,
         further,

@@ -3,7 +3,7 @@ use Rattle.rds_receiver.specs.Borrowed.{view_of}
 use Rattle.rds_receiver.specs.Shown.{ShownView}
 use Rattle.rds_view_lines.specs.Output.{is_same_item}
 use Rattle.rds_view_lines.specs.declared.parts.Parts.{Parts}
-use Rattle.rds_script.proofs.Stretches.{one_view, parts_same, same_item}
+use Rattle.rds_script.proofs.Periods.{one_view, parts_same, same_item}
 use Rattle.rds_script.proofs.airs.is_same.Goals as goal
 use Rattle.rds_script.proofs.airs.is_same.Goals.{else-same-via-then-same+then-same-2+then-same-3+else-same-4}
 use Rattle.rds_script.proofs.airs.is_same.Goals.{else-same-via-then-same+then-same-2+else-same-3}

@@ -5,7 +5,7 @@ use Rattle.std.proofs.lemmas.List.{get_or-map, get_or-set_other, get_or_default}
 use Rattle.rds_receiver.specs.Borrowed.{view_of}
 use Rattle.rds_receiver.specs.Shown.{ShownView}
 use Rattle.rds_view_lines.specs.KeptView.{view_kept}
-use Rattle.rds_view_lines.specs.Output.{nothing_shown, receiver_stamp}
+use Rattle.rds_view_lines.specs.Output.{nothing_shown, receiver_prefix}
 use Rattle.rds_world.specs.Event.{Event}
 use Rattle.rds_world.specs.WorldAt.{WorldAt}
 use Rattle.rds_world.specs.declared.world.Config.{Config}
@@ -69,7 +69,7 @@ loop-i-preserved c =
           (airings_at c.args.kept.now) (airings_at old) (airings_at new)
           (λ j l. sym (other j (λ e. omega (arith, e, l)))) c.loop-i.invariant.lines
           (c.push_changed.ensures.lines
-          ∙ ap₂ (λ (p q : Airings). c.loop-i.lines ++ airings_change (receiver_stamp c.args.slot i) p q)
+          ∙ ap₂ (λ (p q : Airings). c.loop-i.lines ++ airings_change (receiver_prefix c.args.slot i) p q)
           (get_or_default old i _ all_on_air within ∙ was) (sym here));
       each = λ config events st stand were j below. elim (at_last j i below) [
         | inl less ↦ other j (λ e. omega (arith, e, less)) ∙ c.loop-i.invariant.each config events st stand were j less

@@ -5,7 +5,7 @@ use Rattle.rds_view_lines.specs.declared.parts.Parts.{Parts}
 use Rattle.rds_world.specs.State.{distance}
 use Rattle.rds_script.specs.Inside.Compared.{WereBefore}
 use Rattle.rds_script.specs.OnAir.{airings_by, airs, back_to_their_texts, parts_among}
-use Rattle.rds_script.proofs.Stretches.{all_lately, ever_before, ever_is, for_texts_is, lately_found}
+use Rattle.rds_script.proofs.Periods.{all_lately, ever_before, ever_is, for_texts_is, lately_found}
 use Rattle.rds_script.proofs.airs.Airs.airings_of.Goals as goal
 use Rattle.rds_script.proofs.airs.Airs.airings_of.Goals.{in-None, in-Some}
 

@@ -7,6 +7,6 @@ use Rattle.rds_script.proofs.airs.Airs.parts_back.Given as goal
 
 abbrev pub invariant-loop-i : goal.invariant-loop-i
 invariant-loop-i l =
-    parts_among (view_of l.view) (reached l.reach l.self.spacing None (airs_in l.self.stretches.items))
-    ≡ either l.found (parts_among (view_of l.view) (reached l.reach l.left (option_copied l.text)
-    (airs_in (take (length l.self.stretches.items - l.i) l.self.stretches.items))))
+    parts_among (view_of l.view) (reached l.lookback l.self.spacing None (airs_in l.self.periods.items))
+    ≡ either l.found (parts_among (view_of l.view) (reached l.lookback l.left (option_copied l.text)
+    (airs_in (take (length l.self.periods.items - l.i) l.self.periods.items))))

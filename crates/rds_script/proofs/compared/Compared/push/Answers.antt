@@ -4,7 +4,7 @@ use Rattle.std.proofs.lemmas.List.{length-map, take_at}
 use Rattle.arrayvec.specs.ArrayVec.{with_items}
 use Rattle.rds_receiver.specs.Shown.{ShownView}
 use Rattle.rds_view_lines.specs.KeptView.{view_kept}
-use Rattle.rds_view_lines.specs.Output.{air_stamp, change}
+use Rattle.rds_view_lines.specs.Output.{air_prefix, change}
 use Rattle.rds_world.specs.Event.{Event}
 use Rattle.rds_world.specs.OnAir.{air_of}
 use Rattle.rds_world.specs.WorldAt.{WorldAt}
@@ -13,7 +13,7 @@ use Rattle.rds_script.specs.Inside.Compared.{AirsStand, GoesOnCompared, airings_
 use Rattle.rds_script.specs.OnAir.{airings}
 use Rattle.rds_script.specs.Outcomes.{airings_changes, view_at}
 use Rattle.rds_script.specs.declared.airing.Airings.{Airings}
-use Rattle.rds_script.proofs.Stretches.{newest_air}
+use Rattle.rds_script.proofs.Periods.{newest_air}
 use Rattle.rds_script.proofs.AiringLines.{airings_alike}
 use Rattle.rds_script.proofs.compared.Compared.push.Goals as goal
 
@@ -52,10 +52,10 @@ returns c = record { goes_on = by }
         ) i (omega (arith, below, long)) in
         let count : length new ≡ length had = c.push_airings.ensures.count ∙ ap length value in
         let back = take_at new (drop (length new) had) (length had) count in
-        let air : c.step.new.lines ≡ c.args.lines.now ++ change (air_stamp slot) None (air_of config before)
+        let air : c.step.new.lines ≡ c.args.lines.now ++ change (air_prefix slot) None (air_of config before)
         (air_of config (e ∷ before)) =
         c.step.ensures.lines config (e ∷ before) st
-        ∙ ap (λ (v : ShownView). c.args.lines.now ++ change (air_stamp slot) None v (air_of config (e ∷ before)))
+        ∙ ap (λ (v : ShownView). c.args.lines.now ++ change (air_prefix slot) None v (air_of config (e ∷ before)))
         (ap newest_of old.airs.airs ∙ newest_air config before) in
         let parts : airings_changes slot (length c.args.shown.now) (airings_at c.as_mut_slice.result.now)
         (airings_at new)

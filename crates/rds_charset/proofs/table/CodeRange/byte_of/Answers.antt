@@ -2,7 +2,7 @@ use Rattle.std.proofs.Common.{ap, sym, ◌∙◌, ◌+◌, rules, tests, ◌==�
 use Rattle.std.proofs.lemmas.Iterator.{YieldsList-from_slice}
 use Rattle.std.proofs.lemmas.Iterator.Search.{position_from_yields_List}
 use Rattle.std.specs.Prelude.{option_map}
-use Rattle.rds_charset.proofs.table.Stretch.byte_of.Goals as goal
+use Rattle.rds_charset.proofs.table.CodeRange.byte_of.Goals as goal
 
 pub returns-in_err-place : goal.returns-in_err-place
 returns-in_err-place c =

@@ -1,6 +1,6 @@
 //! What a run reads: standard input, or the file of its arguments.
 ghost use Rattle.std.specs.Prelude.{◌≡◌, IfNone, IfSome};
-ghost use Rattle.rds_program.specs.Source.{IsOfFile};
+ghost use Rattle.rds_program.specs.RunInput.{IsOfFile};
 
 use std::fs;
 use std::io::{self, Read};
@@ -8,7 +8,7 @@ use std::rt::Files;
 
 /// What a run reads (this project's own rule).
 #[derive(Drop)]
-pub enum Source<S, F> {
+pub enum RunInput<S, F> {
     Standard(S),
     File(F),
     /// A file that the system did not open: the first read fails for this reason.
@@ -19,49 +19,49 @@ pub enum Source<S, F> {
     Ended,
 }
 
-impl<S: Read + Drop, F: Read + Drop> Read for Source<S, F> {
-    ghost use Rattle.rds_program.specs.Source.{bytes_left};
+impl<S: Read + Drop, F: Read + Drop> Read for RunInput<S, F> {
+    ghost use Rattle.rds_program.specs.RunInput.{bytes_left};
 
     ghost remaining = { bytes_left S.remaining F.remaining };
 
     fn read(&mut self, buf: &mut [u8]) -> io::Result<usize> {
         match self {
-            Source::Standard(standard) => {
+            RunInput::Standard(standard) => {
                 let count = standard.read(buf)?;
                 if count == 0 && !buf.is_empty() {
-                    *self = Source::Ended;
+                    *self = RunInput::Ended;
                 }
                 Ok(count)
             }
-            Source::File(file) => file.read(buf),
-            Source::Unopened(_) | Source::Failed => Err(self.take_error()),
-            Source::Ended => Ok(0),
+            RunInput::File(file) => file.read(buf),
+            RunInput::Unopened(_) | RunInput::Failed => Err(self.take_error()),
+            RunInput::Ended => Ok(0),
         }
     }
 }
 
-impl<S: Drop, F: Drop> Source<S, F> {
+impl<S: Drop, F: Drop> RunInput<S, F> {
     /// Returns why the file was not opened, once.
     fn take_error(&mut self) -> io::Error
-        ensures failed { self.new ≡ Source.Failed }
+        ensures failed { self.new ≡ RunInput.Failed }
     {
-        match std::mem::replace(self, Source::Failed) {
-            Source::Unopened(error) => error,
+        match std::mem::replace(self, RunInput::Failed) {
+            RunInput::Unopened(error) => error,
             _ => io::Error::from(io::ErrorKind::Other),
         }
     }
 }
 
 /// Opens the file to read. `None` for standard input. If the system does not open the file, each read fails.
-pub fn source_of<R: Files, S: Drop>(rt: &R, standard: S, file: Option<&str>) -> Source<S, R::File>
-    ensures standard { IfNone file.entry (result ≡ Source.Standard standard) }
+pub fn input_of<R: Files, S: Drop>(rt: &R, standard: S, file: Option<&str>) -> RunInput<S, R::File>
+    ensures standard { IfNone file.entry (result ≡ RunInput.Standard standard) }
     ensures named { IfSome file.entry (λ path. IsOfFile result) }
 {
     let Some(path) = file else {
-        return Source::Standard(standard);
+        return RunInput::Standard(standard);
     };
     match fs::open(rt, path) {
-        Ok(file) => Source::File(file),
-        Err(error) => Source::Unopened(error),
+        Ok(file) => RunInput::File(file),
+        Err(error) => RunInput::Unopened(error),
     }
 }

@@ -1,4 +1,4 @@
--- What was on air, by stretches of slots, and how far back a search sees it.
+-- What was on air, by periods of slots, and how far back a search sees it.
 use Rattle.std.proofs.Common.{◌≡◌, ◌∙◌, ◌∷◌, ◌++◌, ◌+◌, ◌-◌, ◌<◌, ◌||◌, [], ℕ, zero, suc, Bool, true, false, List, None}
 use Rattle.std.proofs.Common.{Option, Some, ap, ap₂, append_assoc, append-nil, arith, drop, get_or, length, refl}
 use Rattle.std.proofs.Common.{replicate, set, sym, take}
@@ -23,9 +23,9 @@ use Rattle.rds_script.specs.OnAir.{airing_by, airings, airings_among, airings_by
 use Rattle.rds_script.specs.OnAir.{newest_text, parts_among}
 use Rattle.rds_script.specs.declared.airing.Airings.{Airings}
 use Rattle.rds_script.specs.declared.airs.Airs.{Airs}
-use Rattle.rds_script.specs.declared.airs.Reach.{Reach}
-use Rattle.rds_script.specs.declared.airs.Reach.TheVariants.{Ever, Lately, Texts}
-use Rattle.rds_script.specs.declared.airs.Stretch.{Stretch}
+use Rattle.rds_script.specs.declared.airs.Lookback.{Lookback}
+use Rattle.rds_script.specs.declared.airs.Lookback.TheVariants.{Ever, Lately, Texts}
+use Rattle.rds_script.specs.declared.airs.Period.{Period}
 
 -- a text is the same as itself, and as no other
 same_text : (text : Option (List ℕ)) → is_same_text text text ≡ true
@@ -140,50 +140,52 @@ lately_ends : (text : Option (List ℕ)) (all : List ShownView) → reached Late
 lately_ends text [] = refl
 lately_ends text (air ∷ older) = refl
 
--- a search sees all slots of a stretch, or the last of them, which show the same
-more_of_stretch : (reach : Reach) (view air : ShownView) (n more : ℕ) (older : List ShownView)
-    → parts_among view (air ∷ reached reach n air.text (replicate more air ++ older))
-    ≡ parts_among view (air ∷ reached reach (n - more) air.text older)
-more_of_stretch reach view air n zero older = let same : n ≡ n - 0 = omega arith
-    in ap (λ (m : ℕ). parts_among view (air ∷ reached reach m air.text older)) same
-more_of_stretch reach view air (suc n) (suc more) older =
+-- a search sees all slots of a period, or the last of them, which show the same
+more_of_period : (lookback : Lookback) (view air : ShownView) (n more : ℕ) (older : List ShownView)
+    → parts_among view (air ∷ reached lookback n air.text (replicate more air ++ older))
+    ≡ parts_among view (air ∷ reached lookback (n - more) air.text older)
+more_of_period lookback view air n zero older = let same : n ≡ n - 0 = omega arith
+    in ap (λ (m : ℕ). parts_among view (air ∷ reached lookback m air.text older)) same
+more_of_period lookback view air (suc n) (suc more) older =
     let same : n - more ≡ suc n - suc more = omega arith in
-    either_again (same_parts view air) (parts_among view (reached reach n air.text (replicate more air ++ older)))
-    ∙ more_of_stretch reach view air n more older
-    ∙ ap (λ (m : ℕ). parts_among view (air ∷ reached reach m air.text older)) same
-more_of_stretch Lately view air zero (suc more) older =
+    either_again (same_parts view air) (parts_among view (reached lookback n air.text (replicate more air ++ older)))
+    ∙ more_of_period lookback view air n more older
+    ∙ ap (λ (m : ℕ). parts_among view (air ∷ reached lookback m air.text older)) same
+more_of_period Lately view air zero (suc more) older =
     let none : 0 ≡ 0 - suc more = omega arith in
     ap (λ (l : List ShownView). parts_among view (air ∷ l)) (sym (lately_ends air.text older)
     ∙ ap (λ (m : ℕ). reached Lately m air.text older) none)
-more_of_stretch Texts view air zero (suc more) older = rw (same_text air.text)
+more_of_period Texts view air zero (suc more) older = rw (same_text air.text)
     (let none : 0 - more ≡ 0 - suc more = omega arith in
     either_again (same_parts view air) (parts_among view (reached Texts 0 air.text (replicate more air ++ older)))
-    ∙ more_of_stretch Texts view air 0 more older
+    ∙ more_of_period Texts view air 0 more older
     ∙ ap (λ (m : ℕ). parts_among view (air ∷ reached Texts m air.text older)) none)
-more_of_stretch Ever view air zero (suc more) older =
+more_of_period Ever view air zero (suc more) older =
     let none : 0 - more ≡ 0 - suc more = omega arith in
     either_again (same_parts view air) (parts_among view (reached Ever 0 air.text (replicate more air ++ older)))
-    ∙ more_of_stretch Ever view air 0 more older
+    ∙ more_of_period Ever view air 0 more older
     ∙ ap (λ (m : ℕ). parts_among view (air ∷ reached Ever m air.text older)) none
 
--- a search that sees the last slot of a stretch sees the stretch, and goes on before it
-pub stretch_seen : (reach : Reach) (view air : ShownView) (n more : ℕ) (text : Option (List ℕ)) (older : List ShownView)
-    → (n ≡ 0 → goes_on reach text air.text ≡ true)
-    → parts_among view (reached reach n text ((air ∷ replicate more air) ++ older)) ≡ either (same_parts view air)
-    (parts_among view (reached reach (n - 1 - more) air.text older))
-stretch_seen reach view air zero more text older on = rw (on refl)
+-- a search that sees the last slot of a period sees the period, and goes on before it
+pub period_seen : (lookback : Lookback) (view air : ShownView) (n more : ℕ) (text : Option (List ℕ))
+    (older : List ShownView)
+    → (n ≡ 0 → goes_on lookback text air.text ≡ true)
+    → parts_among view (reached lookback n text ((air ∷ replicate more air) ++ older)) ≡ either (same_parts view air)
+    (parts_among view (reached lookback (n - 1 - more) air.text older))
+period_seen lookback view air zero more text older on = rw (on refl)
     (let none : 0 - more ≡ 0 - 1 - more = omega arith in
-    more_of_stretch reach view air 0 more older
-    ∙ ap (λ (m : ℕ). parts_among view (air ∷ reached reach m air.text older)) none)
-stretch_seen reach view air (suc n) more text older on =
+    more_of_period lookback view air 0 more older
+    ∙ ap (λ (m : ℕ). parts_among view (air ∷ reached lookback m air.text older)) none)
+period_seen lookback view air (suc n) more text older on =
     let less : n - more ≡ suc n - 1 - more = omega arith in
-    more_of_stretch reach view air n more older
-    ∙ ap (λ (m : ℕ). parts_among view (air ∷ reached reach m air.text older)) less
+    more_of_period lookback view air n more older
+    ∙ ap (λ (m : ℕ). parts_among view (air ∷ reached lookback m air.text older)) less
 
 -- one that does not go on sees nothing more
-pub none_seen : (reach : Reach) (view air : ShownView) (text : Option (List ℕ)) (older : List ShownView)
-    → goes_on reach text air.text ≡ false → parts_among view (reached reach 0 text (air ∷ older)) ≡ parts_among view []
-none_seen reach view air text older ends = rw ends refl
+pub none_seen : (lookback : Lookback) (view air : ShownView) (text : Option (List ℕ)) (older : List ShownView)
+    → goes_on lookback text air.text ≡ false
+    → parts_among view (reached lookback 0 text (air ∷ older)) ≡ parts_among view []
+none_seen lookback view air text older ends = rw ends refl
 
 -- what each search sees
 pub seen_lately : (n : ℕ) (text : Option (List ℕ)) (all : List ShownView) → reached Lately n text all ≡ take n all
@@ -231,8 +233,8 @@ seen_for_texts (suc n) text all some =
     texts_seen n text all ∙ ap (λ (m : ℕ). take (suc n) all ++ take_while (has_text (newest_text (drop m all)))
     (drop (suc n) all)) same
 
--- one stretch more
-pub airs_of_more : (items : List Stretch) (s : Stretch)
+-- one period more
+pub airs_of_more : (items : List Period) (s : Period)
     → airs_in (items ++ s ∷ []) ≡ (view_kept s.air ∷ replicate s.more (view_kept s.air)) ++ airs_in items
 airs_of_more [] s = sym (append-nil (view_kept s.air ∷ replicate s.more (view_kept s.air)))
 airs_of_more (t ∷ items) s =
@@ -240,21 +242,21 @@ airs_of_more (t ∷ items) s =
     ap (λ (l : List ShownView). l ++ own) (airs_of_more items s) ∙ append_assoc (view_kept s.air
     ∷ replicate s.more (view_kept s.air)) (airs_in items) own
 
--- the last of some stretches
-pub airs_to : (items : List Stretch) (i : ℕ) (d : Stretch) → i < length items
+-- the last of some periods
+pub airs_to : (items : List Period) (i : ℕ) (d : Period) → i < length items
     → airs_in (take (i + 1) items) ≡ (view_kept (get_or items i d).air ∷ replicate (get_or items i d).more
     (view_kept (get_or items i d).air)) ++ airs_in (take i items)
 airs_to items i d within = ap airs_in (take_more items i d within) ∙ airs_of_more (take i items) (get_or items i d)
 
--- the newest view on air is that of the last stretch
-pub newest_is : (items : List Stretch) (i : ℕ) (d : Stretch) → i + 1 ≡ length items
+-- the newest view on air is that of the last period
+pub newest_is : (items : List Period) (i : ℕ) (d : Period) → i + 1 ≡ length items
     → newest_of (airs_in items) ≡ view_kept (get_or items i d).air
 newest_is items i d last =
-    ap (λ (l : List Stretch). newest_of (airs_in l)) (sym (take_all (i + 1) items (omega (arith, last))))
+    ap (λ (l : List Period). newest_of (airs_in l)) (sym (take_all (i + 1) items (omega (arith, last))))
     ∙ ap newest_of (airs_to items i d (omega (arith, last)))
 
--- the last stretch is one slot longer
-pub longer : (items : List Stretch) (i : ℕ) (d s : Stretch) → i + 1 ≡ length items
+-- the last period is one slot longer
+pub longer : (items : List Period) (i : ℕ) (d s : Period) → i + 1 ≡ length items
     → view_kept s.air ≡ view_kept (get_or items i d).air → s.more ≡ (get_or items i d).more + 1
     → airs_in (set items i s) ≡ view_kept (get_or items i d).air ∷ airs_in items
 longer [] i d s last same more = absurd (omega (arith, last))
@@ -274,33 +276,33 @@ newest_air config (e ∷ before) = refl
 
 -- what was on air in the last slots, for a text of them, and ever
 lately_is : (view : ShownView) (config : Config) (events : List Event) (a : Airs) → AirsStand config events a
-    → parts_among view (reached Lately a.spacing None (airs_in a.stretches.items))
+    → parts_among view (reached Lately a.spacing None (airs_in a.periods.items))
     ≡ parts_among view (take (distance config) (airs config events))
 lately_is view config events a stand =
-    ap (parts_among view) (seen_lately a.spacing None (airs_in a.stretches.items)
+    ap (parts_among view) (seen_lately a.spacing None (airs_in a.periods.items)
     ∙ ap₂ (λ (n : ℕ) (l : List ShownView). take n l) stand.spacing stand.airs)
 
--- which parts were on air lately, as the stretches find it
+-- which parts were on air lately, as the periods find it
 pub lately_found : (view : ShownView) (config : Config) (events : List Event) (a : Airs) (nothing found lately : Parts)
     → AirsStand config events a → nothing ≡ same_parts view nothing_shown
-    → found ≡ parts_among view (reached Lately a.spacing None (airs_in a.stretches.items))
+    → found ≡ parts_among view (reached Lately a.spacing None (airs_in a.periods.items))
     → lately ≡ either nothing found
     → lately ≡ parts_among view (nothing_shown ∷ take (distance config) (airs config events))
 lately_found view config events a nothing found lately stand none some both = both ∙ ap₂ (λ (p q : Parts). either p q)
     none (some ∙ lately_is view config events a stand)
 
--- which parts the shown text had while it was on air, as the stretches find it
+-- which parts the shown text had while it was on air, as the periods find it
 pub for_texts_is : (view : ShownView) (config : Config) (events : List Event) (a : Airs) → AirsStand config events a
-    → parts_among view (reached Texts a.spacing None (airs_in a.stretches.items))
+    → parts_among view (reached Texts a.spacing None (airs_in a.periods.items))
     ≡ parts_among view (back_to_their_texts (distance config) (airs config events))
 for_texts_is view config events a stand =
-    ap (parts_among view) (seen_for_texts a.spacing None (airs_in a.stretches.items) stand.some
+    ap (parts_among view) (seen_for_texts a.spacing None (airs_in a.periods.items) stand.some
     ∙ ap₂ (λ (n : ℕ) (l : List ShownView). back_to_their_texts n l) stand.spacing stand.airs)
 
--- which parts were ever on air, as the stretches find it
+-- which parts were ever on air, as the periods find it
 pub ever_is : (view : ShownView) (config : Config) (events : List Event) (a : Airs) → AirsStand config events a
-    → parts_among view (reached Ever a.spacing None (airs_in a.stretches.items)) ≡ parts_among view (airs config events)
-ever_is view config events a stand = ap (parts_among view) (seen_ever a.spacing None (airs_in a.stretches.items)
+    → parts_among view (reached Ever a.spacing None (airs_in a.periods.items)) ≡ parts_among view (airs config events)
+ever_is view config events a stand = ap (parts_among view) (seen_ever a.spacing None (airs_in a.periods.items)
     ∙ stand.airs)
 
 -- what was on air among some slots was on air among all
