@@ -1,6 +1,6 @@
 -- Lemmas: what a slot adds to the list of a log, and how the state of the list changes with the log.
-use Rattle.std.specs.Prelude.{Err, MatchResult, Ok, Result}
-use Rattle.std.proofs.Common.{◌≡◌, ◌⊎◌, ◌↔◌, ◌+◌, ◌<◌, ◌||◌, ℕ, Bool, true, false, nat_lt, List, [], ◌∷◌, Option, Some}
+use Rattle.std.specs.Prelude.{Err}
+use Rattle.std.proofs.Common.{◌≡◌, ◌⊎◌, ◌↔◌, ◌+◌, ◌<◌, ◌≤◌, ◌||◌, ℕ, Bool, true, false, nat_lt, List, [], ◌∷◌, Option, Some}
 use Rattle.std.proofs.Common.{None, refl, sym, ap, ◌∙◌, subst, inl, inr, arith, zero, suc, ◌==◌}
 use Rattle.std.specs.Prelude.{if◌then◌else◌, slice_index}
 use Rattle.std.specs.Prelude.{MatchOption}
@@ -30,10 +30,9 @@ use Rattle.rds_audit.specs.Listing.{none_broken, or_else, reigns_of, slot_adds, 
 use Rattle.rds_audit.specs.Listing.{spans_tagged}
 use Rattle.std.specs.List.{AllByRecursion}
 use Rattle.rds_audit.specs.ListingLaws.{IsFormedMessage}
-use Rattle.rds_audit.specs.AuditAt.{AuditAt, EndsSlot, FollowsLog, HasJudged, HoldsLog, HoldsNewestSpans, HoldsSlot}
-use Rattle.rds_audit.specs.AuditAt.{HoldsSpans, ListsGroup, ListsMessage, TakesAll, AuditTakesSlot}
-use Rattle.rds_audit.specs.Stored.{IsStoredAudit, audit_stored}
-use Rattle.rds_audit.specs.declared.stored.StoredAudit.{StoredAudit}
+use Rattle.rds_audit.specs.AuditAt.{AuditAt, AuditTakesSlot, EndsSlot, FollowsLog, HasJudged, HoldsLog}
+use Rattle.rds_audit.specs.AuditAt.{HoldsNewestSpans, HoldsSlot, HoldsSpans, IsSpacing, KeepsLog, ListsMessage}
+use Rattle.rds_audit.specs.AuditAt.{TakesAll, WhereSpansHold}
 use Rattle.rds_audit.specs.AuditState.{AuditState, aged_in}
 use Rattle.rds_audit.specs.Recording.{counted_as, has_text, judged_as, silent_as}
 use Rattle.rds_audit.specs.Rules.{LogPasses}
@@ -312,60 +311,63 @@ text_open d judged l h = open_begun d _ (spans (gauge_of l.form) d (marks text_m
     h.text.ages.current ∙ begun_if (gauge_of l.form) d judged
 
 -- a message of texts alone, that is judged as it is
-pub texts_listed : (l after : AuditState) (message : Option Message) (result : FaultSet) → 0 < l.distance
+pub texts_listed : (l after : AuditState) (message : Option Message) (result : FaultSet)
     → name_mark message ≡ Nothing → after.name ≡ l.name → after.form ≡ l.form
     → ((judged : List (Option Message)) → HoldsLog l.distance judged l → counted_as l.start judged message ≡ message)
-    → ((sent : List Mark) → HoldsSpans (gauge_of l.form) l.distance sent l.text
-    → HoldsNewestSpans (gauge_of l.form) l.distance (text_mark message) sent after.text)
-    → ((sent : List Mark) → HoldsSpans (gauge_of l.form) l.distance sent l.text
-    → result ≡ added (gauge_of l.form) l.distance (text_mark message) sent) → ListsMessage l after message result
-texts_listed l after message result pos silent name form counts holds adds = record {
+    → WhereSpansHold (gauge_of l.form) l.distance l.text
+    (λ sent. HoldsNewestSpans (gauge_of l.form) l.distance (text_mark message) sent after.text)
+    → WhereSpansHold (gauge_of l.form) l.distance l.text
+    (λ sent. result ≡ added (gauge_of l.form) l.distance (text_mark message) sent) → ListsMessage l after message result
+texts_listed l after message result silent name form counts holds adds = record {
   holds = λ judged h. subst (λ x. HoldsSlot l.distance x judged after) (sym (counts judged h)) record {
+    spacing = h.spacing;
     text = subst (λ (f : TextForm). HoldsNewestSpans (gauge_of f) l.distance (text_mark message)
         (marks text_mark judged)
-        after.text) (sym form) (holds (marks text_mark judged) h.text);
-    name = rw (silent, name) (nothing_follows name_gauge name_gauge_is_exact (omega arith) l.distance pos
+        after.text) (sym form) (holds h.spacing.some (marks text_mark judged) h.text);
+    name = rw (silent, name) (nothing_follows name_gauge name_gauge_is_exact (omega arith) l.distance h.spacing.some
         (marks name_mark judged)
         (spans name_gauge l.distance (marks name_mark judged)) l.name h.name);
   };
   added = λ judged h. subst (λ (x : Option Message). result ≡ slot_adds l.form l.distance x judged) (sym
       (counts judged h))
-      (adds (marks text_mark judged) h.text ∙ sym (texts_add l.form l.distance message judged silent));
+      (adds h.spacing.some (marks text_mark judged) h.text ∙ sym (texts_add l.form l.distance message judged silent));
 }
 
 -- and one of names alone
-pub names_listed : (l after : AuditState) (message : Option Message) (result : FaultSet) → 0 < l.distance
+pub names_listed : (l after : AuditState) (message : Option Message) (result : FaultSet)
     → text_mark message ≡ Nothing → after.text ≡ l.text → after.form ≡ l.form
     → ((judged : List (Option Message)) → HoldsLog l.distance judged l → counted_as l.start judged message ≡ message)
-    → ((sent : List Mark) → HoldsSpans name_gauge l.distance sent l.name
-    → HoldsNewestSpans name_gauge l.distance (name_mark message) sent after.name)
-    → ((sent : List Mark) → HoldsSpans name_gauge l.distance sent l.name
-    → result ≡ added name_gauge l.distance (name_mark message) sent) → ListsMessage l after message result
-names_listed l after message result pos silent text form counts holds adds = record {
+    → WhereSpansHold name_gauge l.distance l.name
+    (λ sent. HoldsNewestSpans name_gauge l.distance (name_mark message) sent after.name)
+    → WhereSpansHold name_gauge l.distance l.name
+    (λ sent. result ≡ added name_gauge l.distance (name_mark message) sent) → ListsMessage l after message result
+names_listed l after message result silent text form counts holds adds = record {
   holds = λ judged h. subst (λ x. HoldsSlot l.distance x judged after) (sym (counts judged h)) record {
+    spacing = h.spacing;
     text = subst (λ (f : TextForm). HoldsNewestSpans (gauge_of f) l.distance (text_mark message)
         (marks text_mark judged)
         after.text) (sym form) (rw (silent, text) (nothing_follows (gauge_of l.form) (gauge_is_exact l.form)
         (omega arith)
-        l.distance pos (marks text_mark judged) (spans (gauge_of l.form) l.distance (marks text_mark judged)) l.text
+        l.distance h.spacing.some (marks text_mark judged) (spans (gauge_of l.form) l.distance (marks text_mark judged)) l.text
         h.text));
-    name = holds (marks name_mark judged) h.name;
+    name = holds h.spacing.some (marks name_mark judged) h.name;
   };
   added = λ judged h. subst (λ (x : Option Message). result ≡ slot_adds l.form l.distance x judged) (sym
       (counts judged h))
-      (adds (marks name_mark judged) h.name ∙ sym (names_add l.form l.distance message judged silent));
+      (adds h.spacing.some (marks name_mark judged) h.name ∙ sym (names_add l.form l.distance message judged silent));
 }
 
 -- a message with nothing for either service
-pub nothing_listed : (l : AuditState) (message : Option Message) (result : FaultSet) → 0 < l.distance
-    → result ≡ none_broken → ((judged : List (Option Message)) → HoldsLog l.distance judged l
+pub nothing_listed : (l : AuditState) (message : Option Message) (result : FaultSet) → result ≡ none_broken
+    → ((judged : List (Option Message)) → HoldsLog l.distance judged l
     → IsSilent (counted_as l.start judged message)) → ListsMessage l l message result
-nothing_listed l message result pos none silent = record {
+nothing_listed l message result none silent = record {
   holds = λ judged h. record {
+    spacing = h.spacing;
     text = rw (silent judged h).0 (nothing_follows (gauge_of l.form) (gauge_is_exact l.form)
-        (omega arith) l.distance pos (marks text_mark judged)
+        (omega arith) l.distance h.spacing.some (marks text_mark judged)
         (spans (gauge_of l.form) l.distance (marks text_mark judged)) l.text h.text);
-    name = rw (silent judged h).1 (nothing_follows name_gauge name_gauge_is_exact (omega arith) l.distance pos
+    name = rw (silent judged h).1 (nothing_follows name_gauge name_gauge_is_exact (omega arith) l.distance h.spacing.some
         (marks name_mark judged)
         (spans name_gauge l.distance (marks name_mark judged)) l.name h.name);
   };
@@ -376,21 +378,19 @@ nothing_listed l message result pos none silent = record {
 }
 
 -- at the end of a slot
-pub slot_listed : (d : ℕ) (newest : Option Message) (judged : List (Option Message)) (l after : AuditState) → 0 < d
-    → after.form ≡ l.form → after.text ≡ aged_in d l.text → after.name ≡ aged_in d l.name → HoldsSlot d newest judged l
-    → HoldsLog d (newest ∷ judged) after
-slot_listed d newest judged l after pos form text name h = record {
+pub slot_listed : (d : ℕ) (newest : Option Message) (judged : List (Option Message)) (l after : AuditState)
+    → after.form ≡ l.form → (d ≤ 66813 → after.text ≡ aged_in d l.text) → (d ≤ 66813 → after.name ≡ aged_in d l.name)
+    → HoldsSlot d newest judged l → HoldsLog d (newest ∷ judged) after
+slot_listed d newest judged l after form text name h = record {
+  spacing = h.spacing;
   text = subst (λ (f : TextForm). HoldsSpans (gauge_of f) d (marks text_mark (newest ∷ judged)) after.text) (sym form)
-      (rw text (spans_later (gauge_of l.form) d (text_mark newest) (marks text_mark judged) l.text pos h.text));
-  name = rw name (spans_later name_gauge d (name_mark newest) (marks name_mark judged) l.name pos h.name);
+      (rw (text h.spacing.most) (spans_later (gauge_of l.form) d (text_mark newest) (marks text_mark judged) l.text
+      h.spacing.some h.text));
+  name = rw (name h.spacing.most) (spans_later name_gauge d (name_mark newest) (marks name_mark judged) l.name
+      h.spacing.some h.name);
 }
 
 -- ---- the audit of a log
-
--- an audit goes on with a slot
-abbrev pub HearsNext : AuditState → AuditState → Type 0
-HearsNext a after =
-    (after.programme ≡ a.programme) × (after.distance ≡ a.distance) × (after.start ≡ a.start)
 
 -- what is judged with one more slot
 next_judged : (begins start : LogStart) (d : ℕ) (message : Option Message) (heard : List (Option Message))
@@ -401,90 +401,73 @@ next_judged begins start d message heard same = ap (λ st. judged_as st d (messa
     message heard
 
 goes_on : (pi d : ℕ) (a after : AuditState) (log : List (Option Group)) → AuditAt pi d a log → (slot : Option Group)
-    → HearsNext a after
+    → KeepsLog a after
     → HasJudged d after (counted_as a.start (judged_as a.start d (heard_of pi log)) (heard_in pi slot)
     ∷ judged_as a.start d (heard_of pi log))
     → AuditAt pi d after (slot ∷ log)
-goes_on pi d a after log s slot (programme, distance, start) has = record {
-  programme = programme ∙ s.programme;
-  distance = distance ∙ s.distance;
+goes_on pi d a after log s slot keeps has = record {
+  programme = keeps.programme ∙ s.programme;
+  distance = keeps.distance ∙ s.distance;
   lasts = s.lasts;
   holds = subst (HasJudged d after)
-      (sym (next_judged a.start after.start d (heard_in pi slot) (heard_of pi log) start)) has;
+      (sym (next_judged a.start after.start d (heard_in pi slot) (heard_of pi log) keeps.start)) has;
 }
 
--- the audit took a slot, whatever its fault
-module _ (a next : AuditState) (slot : Option Group) (found : FaultSet) (took : ListsGroup a next slot found)
-    (programme : next.programme ≡ a.programme) (distance : next.distance ≡ a.distance) (start : next.start ≡ a.start)
-    (form : next.form ≡ a.form) (first : a.fault ≡ None → next.fault ≡ first_of found) (again : (fault : AuditFault)
-    → a.fault ≡ Some fault
-    → next.fault ≡ Some fault)
-    (pi d : ℕ) (log : List (Option Group)) where
-  -- what was found is what the slot adds
-  adds_here : AuditAt pi d a log → (judged : List (Option Message)) → HoldsLog d judged a
-      → found ≡ slot_adds a.form d (counted_as a.start judged (heard_in pi slot)) judged
-  adds_here s judged h = took.added judged (subst (λ n. HoldsLog n judged a) (sym s.distance) h)
-      ∙ ap (λ n. slot_adds a.form n (counted_as a.start judged (heard_in a.programme slot)) judged) s.distance
-      ∙ ap (λ n. slot_adds a.form d (counted_as a.start judged (heard_in n slot)) judged) s.programme
+-- at each log that the audit follows with this programme and spacing, it follows the log with the slot, and what it
+-- found is what the slot adds
+abbrev Takes : AuditState → AuditState → Option Group → FaultSet → ℕ → ℕ → Type 0
+Takes a after slot found pi d = (judged : List (Option Message)) → HoldsLog d judged a
+    → HoldsLog d (counted_as a.start judged (heard_in pi slot) ∷ judged) after
+    × (found ≡ slot_adds a.form d (counted_as a.start judged (heard_in pi slot)) judged)
 
-  holds_here : AuditAt pi d a log → (judged : List (Option Message)) → HoldsLog d judged a
-      → HoldsLog d (counted_as a.start judged (heard_in pi slot) ∷ judged) next
-  holds_here s judged h = subst (λ n. HoldsLog d (counted_as a.start judged (heard_in n slot) ∷ judged) next) s.programme
-      (subst (λ n. HoldsLog n (counted_as a.start judged (heard_in a.programme slot) ∷ judged) next) s.distance
-      (took.holds judged (subst (λ n. HoldsLog n judged a) (sym s.distance) h)))
-
-  stands_next : AuditAt pi d a log → AuditAt pi d next (slot ∷ log)
-  stands_next s =
-      let judged = judged_as a.start d (heard_of pi log) in
-      goes_on pi d a next log s slot (programme, distance, start)
-      (judged_next d (counted_as a.start judged (heard_in pi slot)) judged a next form
-      (formed_counted a.start judged (heard_in pi slot) (formed_heard pi slot)) (holds_here s judged) (λ h none. first none
-      ∙ ap first_of (adds_here s judged h)) again s.holds)
-
-  follows_next : FollowsLog pi d a log → FollowsLog pi d next (slot ∷ log)
-  follows_next s = record {
-    at = stands_next s.at;
-    holds = subst (λ (x : List (Option Message)). HoldsLog d x next)
-        (sym (next_judged a.start next.start d (heard_in pi slot) (heard_of pi log) start))
-        (holds_here s.at (judged_as a.start d (heard_of pi log)) s.holds);
-  }
-
-  found_adds : FollowsLog pi d a log
-      → found ≡ slot_adds a.form d (counted_as a.start (judged_as a.start d (heard_of pi log)) (heard_in pi slot))
-      (judged_as a.start d (heard_of pi log))
-  found_adds s = adds_here s.at (judged_as a.start d (heard_of pi log)) s.holds
-
--- the group of a slot was taken, and the slot is over
-pub group_listed : (old heard new : StoredAudit) (group : Option Group) (found result : FaultSet) → IsStoredAudit old
-    → heard.distance ≡ old.distance
-    → ListsMessage (audit_stored old) (audit_stored heard) (heard_in old.pi group) found → EndsSlot heard new
-    → result ≡ found → ListsGroup (audit_stored old) (audit_stored new) group result
-group_listed old heard new group found result stored same lists ends is = record {
-  holds = λ judged h.
-      let newest = counted_as (audit_stored old).start judged (heard_in old.pi group) in
-      subst (λ n. HoldsLog n (newest ∷ judged) (audit_stored new)) same
-      (ends good judged newest
-      (subst (λ n. HoldsSlot n newest judged (audit_stored heard)) (sym same) (lists.holds judged h)));
-  added = λ judged h. is ∙ lists.added judged h;
-}
-  where
-    good : IsStoredAudit heard
-    good = record { some = omega (arith, same, stored.some); distance = omega (arith, same, stored.distance) }
-
--- an audit that lists a group takes it
-pub takes_all : (a next : AuditState) (slot : Option Group) (found : FaultSet) → ListsGroup a next slot found
-    → next.programme ≡ a.programme → next.distance ≡ a.distance → next.start ≡ a.start → next.form ≡ a.form
-    → (a.fault ≡ None → next.fault ≡ first_of found)
-    → ((fault : AuditFault) → a.fault ≡ Some fault → next.fault ≡ Some fault) → TakesAll a next slot found
-takes_all a next slot found took programme distance start form first again = record {
-  stands = stands_next a next slot found took programme distance start form first again;
-  follows = follows_next a next slot found took programme distance start form first again;
-  adds = found_adds a next slot found took programme distance start form first again;
-  start = start;
-  form = form;
+-- an audit takes a slot, whatever its fault, if it takes the message of the slot and then ends the slot
+pub takes_all : (a heard after : AuditState) (slot : Option Group) (found : FaultSet)
+    → ListsMessage a heard (heard_in a.programme slot) found → KeepsLog a heard → EndsSlot heard after
+    → KeepsLog heard after → (a.fault ≡ None → after.fault ≡ first_of found)
+    → ((fault : AuditFault) → a.fault ≡ Some fault → after.fault ≡ Some fault) → TakesAll a after slot found
+takes_all a heard after slot found lists hears ends goes first again = record {
+  stands = stands;
+  follows = λ pi d log s. record {
+    at = stands pi d log s.at;
+    holds = subst (λ (x : List (Option Message)). HoldsLog d x after)
+        (sym (next_judged a.start after.start d (heard_in pi slot) (heard_of pi log) keeps.start))
+        (at pi d log s.at (judged_as a.start d (heard_of pi log)) s.holds).0;
+  };
+  adds = λ pi d log s. (at pi d log s.at (judged_as a.start d (heard_of pi log)) s.holds).1;
+  start = keeps.start;
+  form = keeps.form;
   first = first;
   again = again;
 }
+  where
+    keeps : KeepsLog a after
+    keeps = record {
+      programme = goes.programme ∙ hears.programme;
+      distance = goes.distance ∙ hears.distance;
+      start = goes.start ∙ hears.start;
+      form = goes.form ∙ hears.form;
+    }
+
+    takes : Takes a after slot found a.programme a.distance
+    takes judged h =
+        let newest = counted_as a.start judged (heard_in a.programme slot) in (
+          subst (λ n. HoldsLog n (newest ∷ judged) after) hears.distance
+              (ends judged newest (subst (λ n. HoldsSlot n newest judged heard) (sym hears.distance)
+              (lists.holds judged h))),
+          lists.added judged h,
+        )
+
+    at : (pi d : ℕ) (log : List (Option Group)) → AuditAt pi d a log → Takes a after slot found pi d
+    at pi d log s = subst (Takes a after slot found pi) s.distance
+        (subst (λ n. Takes a after slot found n a.distance) s.programme takes)
+
+    stands : (pi d : ℕ) (log : List (Option Group)) → AuditAt pi d a log → AuditAt pi d after (slot ∷ log)
+    stands pi d log s =
+        let judged = judged_as a.start d (heard_of pi log) in
+        goes_on pi d a after log s slot keeps
+        (judged_next d (counted_as a.start judged (heard_in pi slot)) judged a after keeps.form
+        (formed_counted a.start judged (heard_in pi slot) (formed_heard pi slot)) (λ h. (at pi d log s judged h).0)
+        (λ h none. first none ∙ ap first_of (at pi d log s judged h).1) again s.holds)
 
 -- the log of an audit without a fault passes
 pub log_passes : (d : ℕ) (a : AuditState) (judged : List (Option Message)) → a.fault ≡ None → HasJudged d a judged
@@ -504,7 +487,7 @@ pub takes_again : (a : AuditState) (slot : Option Group) (fault : AuditFault) �
 takes_again a slot fault some = record {
   stands = λ pi d log s.
       let judged = judged_as a.start d (heard_of pi log) in
-      goes_on pi d a a log s slot (refl, refl, refl)
+      goes_on pi d a a log s slot record { programme = refl; distance = refl; start = refl; form = refl }
       (still d (counted_as a.start judged (heard_in pi slot)) judged (fault_is d a judged fault some s.holds));
   follows = λ none. absurd (let bad : Some fault ≡ None = sym some ∙ none in cc);
   fault = some;
@@ -520,37 +503,15 @@ takes_again a slot fault some = record {
         × HoldsLog d (newest ∷ judged) a) (IsFaultOf a.form d (newest ∷ judged))) (sym some)
         (ap (λ (o : Option AuditFault). or_else o (first_of (slot_adds a.form d newest judged))) f)
 
--- without a fault before, an audit that takes a slot whatever its fault takes it with this result
-pub takes_next : (a after : AuditState) (slot : Option Group) (found : FaultSet)
-    (result : Result (Unit {0}) AuditFault) → TakesAll a after slot found → a.fault ≡ None
-    → MatchResult result (λ _. after.fault ≡ None) (λ fault. after.fault ≡ Some fault)
-    → AuditTakesSlot a after slot result
-takes_next a after slot found result all none is = record {
-  stands = all.stands;
-  follows = λ _. all.follows;
-  fault = is;
-  start = all.start;
-  form = all.form;
-  which = λ pi d log s. told d (judged_as after.start d (heard_of pi log)) s.holds result is;
-  again = λ fault some. absurd (let bad : Some fault ≡ None = sym some ∙ none in cc);
-}
-  where
-    told : (d : ℕ) (judged : List (Option Message)) → HasJudged d after judged
-        → (r : Result (Unit {0}) AuditFault)
-        → MatchResult r (λ _. after.fault ≡ None) (λ fault. after.fault ≡ Some fault)
-        → MatchResult r (λ _. LogPasses after.form d judged) (λ fault. IsFaultOf after.form d judged fault)
-    told d judged has (Ok done) is = (log_passes d after judged is has).0
-    told d judged has (Err fault) is = fault_is d after judged fault is has
-
 -- before the first slot
-pub audit_starts : (pi d : ℕ) (a : AuditState) → a.programme ≡ pi → a.distance ≡ d → 0 < d → a.fault ≡ None
+pub audit_starts : (pi d : ℕ) (a : AuditState) → a.programme ≡ pi → a.distance ≡ d → IsSpacing d → a.fault ≡ None
     → HoldsSpans (gauge_of a.form) d (silent_as a.start d) a.text → HoldsSpans name_gauge d (silent_as a.start d) a.name
     → FollowsLog pi d a []
-audit_starts pi d a programme distance lasts clean texts_hold names_hold = record {
+audit_starts pi d a programme distance spacing clean texts_hold names_hold = record {
   at = record {
     programme = programme;
     distance = distance;
-    lasts = lasts;
+    lasts = spacing.some;
     holds = subst (λ (o : Option AuditFault). MatchOption o (LogPasses a.form d (judged_as a.start d [])
         × HoldsLog d (judged_as a.start d []) a) (IsFaultOf a.form d (judged_as a.start d []))) (sym clean) (
           record {
@@ -564,7 +525,11 @@ audit_starts pi d a programme distance lasts clean texts_hold names_hold = recor
 }
   where
     holds : HoldsLog d (judged_as a.start d []) a
-    holds = record { text = rw (texts_begin a.start d) texts_hold; name = rw (names_begin a.start d) names_hold }
+    holds = record {
+      spacing = spacing;
+      text = rw (texts_begin a.start d) texts_hold;
+      name = rw (names_begin a.start d) names_hold;
+    }
 
 -- the log passes exactly if there is no fault
 pub passes_exactly : (d : ℕ) (a : AuditState) (judged : List (Option Message)) → HasJudged d a judged

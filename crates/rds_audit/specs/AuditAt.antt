@@ -14,8 +14,6 @@ use Rattle.rds_audit.specs.AuditState.{AuditState, SpansState}
 use Rattle.rds_audit.specs.ReignsState.{ContentState, cell_at}
 use Rattle.rds_audit.specs.Recording.{counted_as, judged_as}
 use Rattle.rds_audit.specs.Reigns.{SentTags}
-use Rattle.rds_audit.specs.Stored.{IsStoredAudit, audit_stored}
-use Rattle.rds_audit.specs.declared.stored.StoredAudit.{StoredAudit}
 use Rattle.rds_audit.specs.Rules.{LogPasses}
 use Rattle.rds_safety.specs.Marks.{Mark, marks, name_mark, text_mark}
 
@@ -56,15 +54,22 @@ HoldsNewestSpans g d newest before s =
 
 -- this holds of all marks that the state holds
 abbrev pub WhereSpansHold : Gauge → ℕ → SpansState → (List Mark → Type 0) → Type 0
-WhereSpansHold g d s Holds = 0 < d → d ≤ 66813 → (sent : List Mark) → HoldsSpans g d sent s → Holds sent
+WhereSpansHold g d s Holds = 0 < d → (sent : List Mark) → HoldsSpans g d sent s → Holds sent
 
--- the state of both services follows from this log, in the slot after it
+-- d slots are a spacing, as a `Distance` of rds_fields is
+pub record IsSpacing (d : ℕ) : Type 0 where
+  pub some : 0 < d
+  pub most : d ≤ 66813
+
+-- the spacing is in its range, and the state of both services follows from this log, in the slot after it
 pub record HoldsLog (d : ℕ) (judged : List (Option Message)) (a : AuditState) : Type 0 where
+  pub spacing : IsSpacing d
   pub text : HoldsSpans (gauge_of a.form) d (marks text_mark judged) a.text
   pub name : HoldsSpans name_gauge d (marks name_mark judged) a.name
 
 -- the same in its newest slot
 pub record HoldsSlot (d : ℕ) (newest : Option Message) (before : List (Option Message)) (a : AuditState) : Type 0 where
+  pub spacing : IsSpacing d
   pub text : HoldsNewestSpans (gauge_of a.form) d (text_mark newest) (marks text_mark before) a.text
   pub name : HoldsNewestSpans name_gauge d (name_mark newest) (marks name_mark before) a.name
 
@@ -134,17 +139,15 @@ pub record ListsMessage (a after : AuditState) (message : Option Message) (resul
   pub added : (judged : List (Option Message)) → HoldsLog a.distance judged a
       → result ≡ slot_adds a.form a.distance (counted_as a.start judged message) judged
 
--- the audit took the group of a slot, and the slot is over: its state follows from the log with that slot, and the
--- result is what the slot adds
-pub record ListsGroup (a after : AuditState) (group : Option Group) (result : FaultSet) : Type 0 where
-  pub holds : (judged : List (Option Message)) → HoldsLog a.distance judged a
-      → HoldsLog a.distance (counted_as a.start judged (heard_in a.programme group) ∷ judged) after
-  pub added : (judged : List (Option Message)) → HoldsLog a.distance judged a
-      → result ≡ slot_adds a.form a.distance (counted_as a.start judged (heard_in a.programme group)) judged
-
 -- the slot is over: the state follows from the log with its newest slot
-abbrev pub EndsSlot : StoredAudit → StoredAudit → Type 0
-EndsSlot old new =
-    IsStoredAudit old → (judged : List (Option Message)) (newest : Option Message)
-    → HoldsSlot old.distance newest judged (audit_stored old)
-    → HoldsLog old.distance (newest ∷ judged) (audit_stored new)
+abbrev pub EndsSlot : AuditState → AuditState → Type 0
+EndsSlot a after =
+    (judged : List (Option Message)) (newest : Option Message) → HoldsSlot a.distance newest judged a
+    → HoldsLog a.distance (newest ∷ judged) after
+
+-- what stays the same in each slot
+pub record KeepsLog (a after : AuditState) : Type 0 where
+  pub programme : after.programme ≡ a.programme
+  pub distance : after.distance ≡ a.distance
+  pub start : after.start ≡ a.start
+  pub form : after.form ≡ a.form

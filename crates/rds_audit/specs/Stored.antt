@@ -1,5 +1,5 @@
 -- An audit stored as plain numbers (this project's own form).
-use Rattle.std.specs.Prelude.{ℕ, ◌≡◌, ◌<◌, ◌≤◌, ◌==◌, List, Option, Some, None, map, if◌then◌else◌}
+use Rattle.std.specs.Prelude.{ℕ, ◌≤◌, ◌==◌, List, Option, Some, None, map, if◌then◌else◌}
 use Rattle.rds_fields.specs.Stored.{is_set}
 use Rattle.rds_audit.specs.Ages.{Ages}
 use Rattle.rds_audit.specs.ReignsState.{ContentState, ReignsState}
@@ -86,16 +86,3 @@ pub record AreBits (f : StoredFaults) : Type 0 where
   pub not_one_text : f.not_one_text ≤ 1
   pub early_tag : f.early_tag ≤ 1
   pub tag_outside : f.tag_outside ≤ 1
-
--- the numbers are valid
-pub record IsStoredAudit (l : StoredAudit) : Type 0 where
-  pub some : 0 < l.distance
-  pub distance : l.distance ≤ 66813
-
--- what stays the same while an audit takes the group of a slot
-pub record KeepsLog (old new : StoredAudit) : Type 0 where
-  pub programme : new.pi ≡ old.pi
-  pub distance : new.distance ≡ old.distance
-  pub start : new.is_running ≡ old.is_running
-  pub form : new.is_padded ≡ old.is_padded
-  pub fault : new.fault ≡ old.fault

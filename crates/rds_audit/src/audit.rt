@@ -1,25 +1,16 @@
 //! The audit: it takes a log slot by slot, and finds the rule that the log breaks first, or all faults of the log.
-ghost use Rattle.std.specs.Prelude.{◌≡◌, ◌+◌, ◌-◌, ◌<◌, ◌^◌, ◌↔◌, [], ℕ, List, Option, None, IsTrue, length, min};
-ghost use Rattle.rds_block.specs.declared.group.Group.{Group};
-ghost use Rattle.rds_receiver.specs.Receipts.{heard_of};
+ghost use Rattle.std.specs.Prelude.{◌≡◌, ◌+◌, ◌-◌, ◌^◌, [], ℕ, None, length, min};
 ghost use Rattle.rds_audit.specs.declared.log_start.LogStart.TheVariants as LogStart;
 ghost use Rattle.rds_audit.specs.declared.text_form.TextForm.TheVariants as TextForm;
-ghost use Rattle.rds_audit.specs.AuditLaws.{IsSafeLog, IsSafeRecording};
-ghost use Rattle.rds_audit.specs.AuditAt.{AuditAt, FollowsLog, TakesAll, AuditTakesSlot};
-ghost use Rattle.rds_audit.specs.AuditAt.{WhereItFollows, WhereTheAuditStands};
-ghost use Rattle.rds_audit.specs.Dense.{HasPlans};
-ghost use Rattle.rds_audit.specs.FlagLaws.{NamesAreSafeByFlag, TextsAreSafeByFlag};
+ghost use Rattle.rds_audit.specs.AuditAt.{AuditAt, FollowsLog, WhereItFollows};
 ghost use Rattle.rds_audit.specs.Lengths.{gauge_of, name_gauge};
 ghost use Rattle.rds_audit.specs.Listing.{spans};
-ghost use Rattle.rds_audit.specs.Reigns.{AlternateFlags, reigns};
-ghost use Rattle.rds_audit.specs.Rules.{LogPasses};
-ghost use Rattle.rds_audit.specs.Stored.{IsStoredAudit, audit_stored};
+ghost use Rattle.rds_audit.specs.Stored.{audit_stored};
 ghost use Rattle.rds_safety.specs.Marks.{marks, name_mark, text_mark};
 
 use crate::audited::Names;
 use crate::stored::{StoredAudit, StoredSpans};
-use crate::{FaultSet, LogStart, TextForm};
-use rds_block::{Blocks, Group};
+use crate::{LogStart, TextForm};
 use rds_fields::{Distance, Dwell, Late};
 use std::marker::Model;
 use thiserror::Error;
@@ -53,20 +44,18 @@ pub enum AuditFault {
 /// each `all_faults`, which goes on after a fault: then the audit follows the log (`FollowsLog`).
 #[derive(Drop)]
 pub struct Audit {
-    state: StoredAudit,
+    pub(crate) state: StoredAudit,
 }
 
 impl Model for Audit {
     ghost use Rattle.rds_audit.specs.AuditState.{AuditState, audit_code};
-    ghost use Rattle.rds_audit.specs.Stored.{IsStoredAudit, audit_stored};
+    ghost use Rattle.rds_audit.specs.Stored.{audit_stored};
 
     ghost Value = { AuditState };
 
     ghost coded = { audit_code };
 
     ghost view = { λ a. audit_stored a.state };
-
-    ghost invariant = { λ a. IsStoredAudit a.state };
 }
 
 impl Audit {
@@ -105,67 +94,18 @@ impl Audit {
         }
     }
 
-    /// Rebuilds a stored audit. Invalid numbers give an arbitrary valid audit of the stored programme.
+    /// Rebuilds a stored audit.
     pub fn restore(stored: &StoredAudit) -> Audit
-        ensures same { IsStoredAudit stored.now → result ≡ audit_stored stored.now }
-        ensures programme { result.programme ≡ stored.now.pi }
+        ensures { result ≡ audit_stored stored.now }
     {
-        let mut state = *stored;
-        state.distance = Distance::restore(stored.distance).get();
-        Audit { state }
+        Audit { state: *stored }
     }
 
     /// Stores the audit as plain numbers.
     pub fn store(&self) -> StoredAudit
-        ensures same { audit_stored result ≡ self.now }
-        ensures good { IsStoredAudit result }
+        ensures { audit_stored result ≡ self.now }
     {
         self.state
-    }
-
-    /// Takes the next slot: the group that was sent in it, or nothing. A group of another programme counts as nothing.
-    ///
-    /// # Errors
-    ///
-    /// The fault, if the slot breaks a rule. After a fault, each call returns that fault again and changes nothing.
-    pub fn slot(&mut self, group: Option<Group>) -> Result<(), AuditFault>
-        ensures { AuditTakesSlot self.old self.new group result }
-    {
-        self.slot_blocks(Blocks::of_slot(group))
-    }
-
-    /// Does the same as [`slot`](Self::slot) for a group as its blocks.
-    #[inline(always)]
-    pub fn slot_blocks(&mut self, group: Option<Blocks>) -> Result<(), AuditFault>
-        ensures { AuditTakesSlot self.old self.new group result }
-    {
-        self.state.slot(group)
-    }
-
-    /// Takes the next slot, whatever the faults before it. Returns the faults that the slot adds to the list of all
-    /// faults of the log: for each text or name each fault once, in the first slot in which it breaks the rule. Other
-    /// bytes at an address of a text begin a new text.
-    #[inline(always)]
-    pub fn all_faults(&mut self, group: Option<Blocks>) -> FaultSet
-        ensures { TakesAll self.old self.new group result }
-    {
-        self.state.all_faults(group)
-    }
-
-    /// Returns whether the log passes so far. A log that passes is safe for each receiver of dwell M whose groups come
-    /// at most K slots late. The log of a running station is safe as it is: its receivers may hear the tags before its
-    /// first text segment.
-    pub fn passed(&self) -> bool
-        ensures fault { IsTrue result ↔ (self.now.fault ≡ None) }
-        ensures passes { WhereTheAuditStands self.now (λ d heard. IsTrue result ↔ LogPasses self.now.form d heard) }
-        ensures plans { WhereTheAuditStands self.now (λ d heard. IsTrue result ↔ HasPlans self.now.form d heard) }
-        ensures safe { WhereTheAuditStands self.now (λ d heard. (m k : ℕ) → 0 < m → m + k ≡ d
-            → IsTrue result → IsSafeLog self.now.form m k heard) }
-        ensures recording { (pi m k : ℕ) (log : List (Option Group)) → AuditAt pi (m + k) self.now log
-            → self.now.start ≡ LogStart.Running → 0 < m → IsTrue result
-            → IsSafeRecording self.now.form m k (heard_of pi log) }
-    {
-        self.state.passed()
     }
 
     /// Returns how many texts the log has so far. A text that changed its bytes without the flag counts as two. The
@@ -194,27 +134,5 @@ impl Audit {
     /// Returns how many pairs of tags were judged so far, for a person. No contract speaks of it.
     pub fn tags(&self) -> u64 {
         self.state.tags
-    }
-
-    /// Returns whether the log passes so far and turned the A/B flag with each new text. A receiver of such a log that
-    /// has no dwell, and heard a segment of each text, shows no mix.
-    pub fn texts_turn_the_flag(&self) -> bool
-        ensures turns { WhereTheAuditStands self.now (λ d heard. IsTrue result
-            ↔ (LogPasses self.now.form d heard × AlternateFlags (reigns d (marks text_mark heard)))) }
-        ensures safe { WhereTheAuditStands self.now (λ d heard. self.now.form ≡ TextForm.Plain → IsTrue result
-            → TextsAreSafeByFlag d heard) }
-    {
-        self.state.texts_turn_the_flag()
-    }
-
-    /// Returns whether the log passes so far and turned the A/B flag with each new name. A receiver of such a log that
-    /// has no dwell, and heard a segment of each name, shows no mix.
-    pub fn names_turn_the_flag(&self) -> bool
-        ensures turns { WhereTheAuditStands self.now (λ d heard. IsTrue result
-            ↔ (LogPasses self.now.form d heard × AlternateFlags (reigns d (marks name_mark heard)))) }
-        ensures safe { WhereTheAuditStands self.now (λ d heard. self.now.form ≡ TextForm.Plain → IsTrue result
-            → NamesAreSafeByFlag d heard) }
-    {
-        self.state.names_turn_the_flag()
     }
 }

@@ -66,7 +66,6 @@ fn what_fits_no_text(rt: HostRuntime) -> Result<(), Fail> {
         FaultSet::none(),
     );
     assert!(rt; audit.passed());
-    let mut stored = audit.store();
     let tag_outside = FaultSet {
         tag_outside: true,
         ..FaultSet::none()
@@ -83,7 +82,8 @@ fn what_fits_no_text(rt: HostRuntime) -> Result<(), Fail> {
         (Some(past_the_return), FaultSet::none()),
     ] {
         let group = blocks.map(|words| Blocks::new(words));
-        same(&rt, stored.all_faults(group), faults);
+        audit = Audit::restore(&audit.store());
+        same(&rt, audit.all_faults(group), faults);
     }
     Ok(())
 }

@@ -4,26 +4,24 @@ use Rattle.rds_block.specs.declared.group.Group.{Group}
 use Rattle.rds_fields.specs.declared.message.Message.{Message}
 use Rattle.rds_receiver.specs.Receipts.{heard_in, heard_of}
 use Rattle.rds_audit.specs.declared.fault_set.FaultSet.{FaultSet}
-use Rattle.rds_audit.specs.AuditAt.{AuditAt, FollowsLog}
+use Rattle.rds_audit.specs.AuditAt.{AuditAt, FollowsLog, WhereItFollows, WhereTheAuditStands}
 use Rattle.rds_audit.specs.Listing.{IsFaultOf, slot_adds}
 use Rattle.rds_audit.specs.Recording.{counted_as, judged_as}
 use Rattle.rds_audit.specs.Rules.{LogPasses}
 use Rattle.rds_audit.specs.declared.log_start.LogStart.{LogStart}
 use Rattle.rds_audit.specs.declared.text_form.TextForm.{TextForm}
-use Rattle.rds_audit.specs.Stored.{IsStoredAudit, audit_stored}
+use Rattle.rds_audit.specs.Stored.{audit_stored}
 use Rattle.rds_audit.specs.declared.audit.AuditFault.{AuditFault}
 use Rattle.rds_audit.specs.declared.stored.StoredAudit.{StoredAudit}
 use Rattle.rds_ffi.specs.Codes.{code_of}
 
 -- the memory holds the audit of programme pi and of d slots, which stands at the log
-pub record AuditInMemory (pi d : ℕ) (s : StoredAudit) (log : List (Option Group)) : Type 0 where
-  pub good : IsStoredAudit s
-  pub at : AuditAt pi d (audit_stored s) log
+abbrev pub AuditInMemory : ℕ → ℕ → StoredAudit → List (Option Group) → Type 0
+AuditInMemory pi d s log = AuditAt pi d (audit_stored s) log
 
 -- the memory holds an audit that follows all of the log, after a fault too
-pub record FollowsInMemory (pi d : ℕ) (s : StoredAudit) (log : List (Option Group)) : Type 0 where
-  pub good : IsStoredAudit s
-  pub at : FollowsLog pi d (audit_stored s) log
+abbrev pub FollowsInMemory : ℕ → ℕ → StoredAudit → List (Option Group) → Type 0
+FollowsInMemory pi d s log = FollowsLog pi d (audit_stored s) log
 
 -- for each audit that the memory may hold: this holds of its programme, of its number of slots and of its log
 abbrev pub WhereItIs : StoredAudit → (ℕ → ℕ → List (Option Group) → Type 0) → Type 0
@@ -43,9 +41,7 @@ form_in s = (audit_stored s).form
 
 -- and this of its number of slots and of the messages of its log, as they are judged
 abbrev pub WhereItHeard : StoredAudit → (ℕ → List (Option Message) → Type 0) → Type 0
-WhereItHeard s Holds =
-    (pi d : ℕ) (log : List (Option Group)) → AuditInMemory pi d s log
-    → Holds d (judged_as (start_in s) d (heard_of pi log))
+WhereItHeard s = WhereTheAuditStands (audit_stored s)
 
 -- for each audit that follows its log: this holds of its programme, of its number of slots and of its log
 abbrev pub WhereAuditFollows : StoredAudit → (ℕ → ℕ → List (Option Group) → Type 0) → Type 0
@@ -53,9 +49,7 @@ WhereAuditFollows s Holds = (pi d : ℕ) (log : List (Option Group)) → Follows
 
 -- and this of its number of slots and of the messages of its log, as they are judged
 abbrev pub WhereItFollowed : StoredAudit → (ℕ → List (Option Message) → Type 0) → Type 0
-WhereItFollowed s Holds =
-    (pi d : ℕ) (log : List (Option Group)) → FollowsInMemory pi d s log
-    → Holds d (judged_as (start_in s) d (heard_of pi log))
+WhereItFollowed s = WhereItFollows (audit_stored s)
 
 -- these are the faults that the slot adds to the list of the log
 abbrev pub Adds : StoredAudit → Option Group → FaultSet → Type 0

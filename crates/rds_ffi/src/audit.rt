@@ -159,7 +159,14 @@ pub extern "C" fn rdsrt_audit_slot(audit: &mut StoredAudit, blocks: &[u16]) -> u
     let Ok(slot) = slot_of(blocks) else {
         return codes::BAD_ARGUMENT;
     };
-    code_of(audit.slot(slot))
+    let mut state = Audit::restore(audit);
+    let had_passed = state.passed();
+    let code = code_of(state.slot_blocks(slot));
+    // after a fault no number may change, and the contract of `Audit` speaks only of some
+    if had_passed {
+        *audit = state.store();
+    }
+    code
 }
 
 /// Takes the next slot, whatever the faults before it: the four blocks of its group, or no blocks. Writes the faults
@@ -191,7 +198,9 @@ pub extern "C" fn rdsrt_audit_all_faults(
     let Ok(slot) = slot_of(blocks) else {
         return codes::BAD_ARGUMENT;
     };
-    *faults = StoredFaults::of(audit.all_faults(slot));
+    let mut state = Audit::restore(audit);
+    *faults = StoredFaults::of(state.all_faults(slot));
+    *audit = state.store();
     codes::OK
 }
 
@@ -207,7 +216,7 @@ pub extern "C" fn rdsrt_audit_passed(audit: &StoredAudit) -> u32
         → start_in audit.now ≡ LogStart.Running → 0 < m → result ≡ 1
         → IsSafeRecording (form_in audit.now) m k (heard_of pi log) }
 {
-    u32::from(audit.passed())
+    u32::from(Audit::restore(audit).passed())
 }
 
 /// Returns how many texts the log has so far. A text that changed its bytes without the flag counts as two. The number
@@ -217,7 +226,7 @@ pub extern "C" fn rdsrt_audit_texts(audit: &StoredAudit) -> u64
     ensures { WhereItFollowed audit.now (λ d judged. result
         ≡ min (length (spans (gauge_of (form_in audit.now)) d (marks text_mark judged))) (2 ^ 64 - 1)) }
 {
-    audit.text.count
+    Audit::restore(audit).texts()
 }
 
 /// Returns how many names the log has so far, as for texts.
@@ -226,7 +235,7 @@ pub extern "C" fn rdsrt_audit_names(audit: &StoredAudit) -> u64
     ensures { WhereItFollowed audit.now (λ d judged. result
         ≡ min (length (spans name_gauge d (marks name_mark judged))) (2 ^ 64 - 1)) }
 {
-    audit.name.count
+    Audit::restore(audit).names()
 }
 
 /// Returns 1 if the log passes so far and turned the A/B flag with each new text, and 0 if not.
@@ -238,7 +247,7 @@ pub extern "C" fn rdsrt_audit_texts_turn_the_flag(audit: &StoredAudit) -> u32
     ensures safe { WhereItHeard audit.now (λ d heard. form_in audit.now ≡ TextForm.Plain → result ≡ 1
         → TextsAreSafeByFlag d heard) }
 {
-    u32::from(audit.texts_turn_the_flag())
+    u32::from(Audit::restore(audit).texts_turn_the_flag())
 }
 
 /// Returns 1 if the log passes so far and turned the A/B flag with each new name, and 0 if not.
@@ -250,7 +259,7 @@ pub extern "C" fn rdsrt_audit_names_turn_the_flag(audit: &StoredAudit) -> u32
     ensures safe { WhereItHeard audit.now (λ d heard. form_in audit.now ≡ TextForm.Plain → result ≡ 1
         → NamesAreSafeByFlag d heard) }
 {
-    u32::from(audit.names_turn_the_flag())
+    u32::from(Audit::restore(audit).names_turn_the_flag())
 }
 
 /// Returns the code of a fault, or of none.

@@ -1,4 +1,4 @@
 use Rattle.rds_ffi.proofs.audit.rdsrt_audit_texts.Goals as goal
 
 pub returns : goal.returns
-returns c pi d log lies = lies.at.holds.text.count
+returns c = rw c.restore.ensures at c.texts.ensures

@@ -15,7 +15,10 @@ returns-clause-follows c =
     let start = sym c.stored.ensures in
     let form = sym c.stored-2.ensures in
     audit_starts c.args.pi (c.args.dwell + c.args.late) _ refl (c.get.ensures.value ∙ d)
-    (omega (arith, c.get.ensures.some, c.get.ensures.value, d)) c.code.ensures.back
+    record {
+      some = omega (arith, c.get.ensures.some, c.get.ensures.value, d);
+      most = omega (arith, c.get.ensures.most, c.get.ensures.value, d);
+    } c.code.ensures.back
     (subst (λ st. HoldsSpans (gauge_of (form_if (is_set c.stored-2.result))) (c.args.dwell + c.args.late) (silent_as st
     (c.args.dwell + c.args.late)) (spans_stored c.of_texts.result)) start
     (subst (λ (f : TextForm). HoldsSpans (gauge_of f) (c.args.dwell + c.args.late) (silent_as c.args.start

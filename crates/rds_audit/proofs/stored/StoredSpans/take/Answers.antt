@@ -10,7 +10,7 @@ use Rattle.rds_audit.proofs.SpanSteps.{added_more, none_new, repeated_follows}
 use Rattle.rds_audit.proofs.stored.StoredSpans.take.Goals as goal
 
 pub returns-then-has-clause-holds : goal.returns-then-has-clause-holds
-returns-then-has-clause-holds g c pos low sent h =
+returns-then-has-clause-holds g c pos sent h =
     let gauge = g.S.Audited.gauge in
     let p = c.args.fragment in
     let formed : IsFormed gauge.segments p = record { address = c.requires; four = search rules; fits = search rules }
@@ -23,7 +23,7 @@ returns-then-has-clause-holds g c pos low sent h =
     (c.joins.ensures.0 c.if-joins.true) (c.has.ensures.0 c.if-has.true)).0
 
 pub returns-then-has-clause-added : goal.returns-then-has-clause-added
-returns-then-has-clause-added g c pos low sent h =
+returns-then-has-clause-added g c pos sent h =
     let gauge = g.S.Audited.gauge in
     let p = c.args.fragment in
     let formed : IsFormed gauge.segments p = record { address = c.requires; four = search rules; fits = search rules }

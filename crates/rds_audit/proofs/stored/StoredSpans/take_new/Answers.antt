@@ -11,7 +11,7 @@ use Rattle.rds_audit.proofs.SpanSteps.{added_first, added_more, changed_follows,
 use Rattle.rds_audit.proofs.stored.StoredSpans.take_new.Goals as goal
 
 pub returns-then-not-joins-clause-holds : goal.returns-then-not-joins-clause-holds
-returns-then-not-joins-clause-holds g c pos low sent h =
+returns-then-not-joins-clause-holds g c pos sent h =
     let gauge = g.S.Audited.gauge in
     let p = c.args.fragment in
     let apart : Joins c.args.distance p.flag (ages_stored c.args.self.now.reigns) → ⊥ = λ on.
@@ -25,7 +25,7 @@ returns-then-not-joins-clause-holds g c pos low sent h =
     (spans_stored c.args.self.now) formed (in_order gauge c.args.distance sent pos) h apart).0
 
 pub returns-then-not-joins-clause-added : goal.returns-then-not-joins-clause-added
-returns-then-not-joins-clause-added g c pos low sent h =
+returns-then-not-joins-clause-added g c pos sent h =
     let gauge = g.S.Audited.gauge in
     let p = c.args.fragment in
     let apart : Joins c.args.distance p.flag (ages_stored c.args.self.now.reigns) → ⊥ = λ on.
@@ -40,7 +40,7 @@ returns-then-not-joins-clause-added g c pos low sent h =
     (c.begin.ensures.faults ∙ ap (λ (s : SpansState). s.broken) c.begin.ensures.begun ∙ follows.0.broken)
 
 pub returns-then-is_changed_by-clause-holds : goal.returns-then-is_changed_by-clause-holds
-returns-then-is_changed_by-clause-holds g c pos low sent h =
+returns-then-is_changed_by-clause-holds g c pos sent h =
     let gauge = g.S.Audited.gauge in
     let p = c.args.fragment in
     let formed : IsFormed gauge.segments p = record { address = c.requires; four = search rules; fits = search rules }
@@ -54,7 +54,7 @@ returns-then-is_changed_by-clause-holds g c pos low sent h =
     (c.joins.ensures.0 c.if-not-joins.false) other).0
 
 pub returns-then-is_changed_by-clause-added : goal.returns-then-is_changed_by-clause-added
-returns-then-is_changed_by-clause-added g c pos low sent h =
+returns-then-is_changed_by-clause-added g c pos sent h =
     let gauge = g.S.Audited.gauge in
     let p = c.args.fragment in
     let formed : IsFormed gauge.segments p = record { address = c.requires; four = search rules; fits = search rules }
@@ -70,7 +70,7 @@ returns-then-is_changed_by-clause-added g c pos low sent h =
     ∙ follows.0.broken)
 
 pub returns-clause-holds : goal.returns-clause-holds
-returns-clause-holds g c pos low sent h =
+returns-clause-holds g c pos sent h =
     let gauge = g.S.Audited.gauge in
     let p = c.args.fragment in
     let formed : IsFormed gauge.segments p = record { address = c.requires; four = search rules; fits = search rules }
@@ -82,7 +82,7 @@ returns-clause-holds g c pos low sent h =
     (spans_stored c.args.self.now) formed h (c.joins.ensures.0 c.if-not-joins.false) no_other).0
 
 pub returns-clause-added : goal.returns-clause-added
-returns-clause-added g c pos low sent h =
+returns-clause-added g c pos sent h =
     let gauge = g.S.Audited.gauge in
     let p = c.args.fragment in
     let formed : IsFormed gauge.segments p = record { address = c.requires; four = search rules; fits = search rules }

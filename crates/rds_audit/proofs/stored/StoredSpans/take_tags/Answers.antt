@@ -8,7 +8,7 @@ use Rattle.rds_audit.proofs.SpanSteps.{added_more, tags_follow}
 use Rattle.rds_audit.proofs.stored.StoredSpans.take_tags.Goals as goal
 
 pub returns-clause-holds : goal.returns-clause-holds
-returns-clause-holds g c pos low sent h =
+returns-clause-holds g c pos sent h =
     let gauge = g.S.Audited.gauge in
     subst (λ (s : SpansState). HoldsNewestSpans gauge c.args.distance (Tagged c.args.pair) sent s)
     (sym c.add_tags.ensures)
@@ -17,7 +17,7 @@ returns-clause-holds g c pos low sent h =
     (spans_stored c.args.self.now) h).0
 
 pub returns-clause-added : goal.returns-clause-added
-returns-clause-added g c pos low sent h =
+returns-clause-added g c pos sent h =
     let gauge = g.S.Audited.gauge in
     let follows = tags_follow gauge c.exact.ensures g.met.S.Audited.few c.args.distance pos sent c.args.pair
     (spans gauge c.args.distance sent) (spans_stored c.args.self.now) h in
