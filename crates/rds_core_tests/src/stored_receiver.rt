@@ -22,18 +22,18 @@ fn goes_on_from_what_is_stored(rt: HostRuntime) -> Result<(), Fail> {
 /// A slot that says nothing, or repeats what is held, changes no view. The held text is dropped after M slots.
 #[test]
 fn takes_slots_in_place(rt: HostRuntime) -> Result<(), Fail> {
-    let mut stored = Receiver::new(0xC201, Dwell::new(3).ok_or("dwell")?).store();
+    let mut receiver = Receiver::new(0xC201, Dwell::new(3).ok_or("dwell")?);
     let group = Group::from_blocks([0xC201, 0x2140, 0x4849, 0x0D20]);
     let clock = Group::from_blocks([0xC201, 0x4141, 0xD5A2, 0x0000]);
-    let segment = stored.slot(Some(group.blocks()));
-    let again = stored.slot(Some(group.blocks()));
-    let nothing = stored.slot(None);
-    let other = stored.slot(Some(clock.blocks()));
-    same(&rt, stored.display.text_age(), 2);
-    let dropped = stored.slot(None);
+    let segment = receiver.slot_blocks(Some(group.blocks()));
+    let again = receiver.slot_blocks(Some(group.blocks()));
+    let nothing = receiver.slot_blocks(None);
+    let other = receiver.slot_blocks(Some(clock.blocks()));
+    same(&rt, receiver.numbers().display.text_age(), 2);
+    let dropped = receiver.slot_blocks(None);
     let answers = (segment, again, nothing, other, dropped);
     same(&rt, answers, (true, false, false, false, true));
-    same(&rt, stored.display.text.mask, 0);
+    same(&rt, receiver.numbers().display.text.mask, 0);
     Ok(())
 }
 

@@ -85,11 +85,10 @@ pub extern "C" fn rdsrt_receiver_slot(receiver: &mut StoredReceiver, blocks: &[u
     let Ok(slot) = slot_of(blocks) else {
         return codes::BAD_ARGUMENT;
     };
-    if receiver.slot(slot) {
-        codes::CHANGED
-    } else {
-        codes::OK
-    }
+    let mut restored = Receiver::restore(receiver);
+    let changed = restored.slot_blocks(slot);
+    *receiver = restored.store();
+    if changed { codes::CHANGED } else { codes::OK }
 }
 
 /// Writes the view of the receiver.
@@ -100,5 +99,6 @@ pub extern "C" fn rdsrt_receiver_view(receiver: &StoredReceiver, view: &mut Rdsr
         ShowsTagsOf (pair_held t.dwell t.first (counted t (heard_of t.programme input))) view.new) }
     ensures plain { IsPlainView view.new }
 {
-    *view = seen(receiver);
+    let restored = Receiver::restore(receiver);
+    *view = seen(&restored);
 }

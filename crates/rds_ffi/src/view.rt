@@ -1,18 +1,16 @@
 //! The view of a receiver as a plain struct.
 ghost use Rattle.std.specs.Prelude.{◌≡◌, ◌+◌, ◌≤◌, None, Option, Some, length};
 ghost use Rattle.std.specs.Option.{ForSome, option_copied};
-ghost use Rattle.rds_receiver.specs.Receipts.{heard_of};
 ghost use Rattle.rds_receiver.specs.Shown.{IsShortText, IsView};
 ghost use Rattle.rds_receiver.specs.Tags.{pair_held, tag_of};
-ghost use Rattle.rds_receiver.specs.Confirmed.{counted};
-ghost use Rattle.rds_ffi.specs.ReceiverInMemory.{WhereItIs};
+ghost use Rattle.rds_receiver.specs.ReceiverAt.{WhatItHeard, WhereReceiverStands};
 ghost use Rattle.rds_ffi.specs.Viewed as specs;
 ghost use Rattle.rds_ffi.specs.Viewed.{ShowsTagsOf, IsPlainItem, IsPlainName, IsPlainText, IsPlainView, IsTagOf};
 ghost use Rattle.rds_ffi.specs.Viewed.{count_of, item_viewed, name_viewed, tag_viewed, text_viewed, viewed};
 
 use rds_assembly::LONGEST_TEXT;
 use rds_fields::{TagPair, Which};
-use rds_receiver::StoredReceiver;
+use rds_receiver::Receiver;
 
 /// A text, its first `length` bytes. `is_shown` is 0 if there is none.
 #[repr(C)]
@@ -61,10 +59,9 @@ pub struct RdsrtView {
 }
 
 /// Returns the view of the receiver.
-pub(crate) fn seen(receiver: &StoredReceiver) -> RdsrtView
-    ensures shown { WhereItIs receiver.now (λ t input. IsView t input (viewed result)) }
-    ensures tags { WhereItIs receiver.now (λ t input.
-        ShowsTagsOf (pair_held t.dwell t.first (counted t (heard_of t.programme input))) result) }
+pub(crate) fn seen(receiver: &Receiver) -> RdsrtView
+    ensures shown { WhereReceiverStands receiver.now (λ t input. IsView t input (viewed result)) }
+    ensures tags { WhatItHeard receiver.now (λ m first heard. ShowsTagsOf (pair_held m first heard) result) }
     ensures plain { IsPlainView result }
 {
     let text = receiver.text();

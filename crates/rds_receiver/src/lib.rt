@@ -14,6 +14,7 @@
 
 mod display;
 mod fragment;
+mod hearing;
 mod held;
 mod last;
 mod laws;

@@ -1,14 +1,14 @@
-//! What is shown, from the numbers that a receiver holds.
+//! What a receiver shows.
 ghost use Rattle.std.specs.Prelude.{◌≡◌, ◌<◌, ◌≤◌, IfSome, length};
 ghost use Rattle.std.specs.Option.{option_copied};
 ghost use Rattle.rds_receiver.specs.Borrowed.{borrowed_tag, view_of};
-ghost use Rattle.rds_receiver.specs.Shown.{IsItemShown, IsNameShown, IsShortText, IsTextShown, IsView, view_with};
+ghost use Rattle.rds_receiver.specs.NotShown.{AreWhys};
+ghost use Rattle.rds_receiver.specs.Shown.{IsItemShown, IsNameShown, IsShortText, IsTagShown, IsTextShown, IsView};
+ghost use Rattle.rds_receiver.specs.Shown.{view_with};
 ghost use Rattle.rds_receiver.specs.ReceiverAt.{WhatItHeard, WhereReceiverStands};
-ghost use Rattle.rds_receiver.specs.Stored.{IsStoredReceiver, receiver_stored};
 ghost use Rattle.rds_receiver.specs.Tags.{item_of, pair_held, tag_of};
 
-use crate::View;
-use crate::stored::StoredReceiver;
+use crate::{Receiver, View, Whys};
 use rds_assembly::{RadioText, TypeName};
 use rds_fields::{TagPair, Which};
 
@@ -31,48 +31,63 @@ impl<'a> View<'a> {
     }
 }
 
-impl StoredReceiver {
-    /// Returns all that is shown, borrowed from the numbers.
+impl Receiver {
+    /// Returns all that is shown, borrowed from the receiver.
     pub fn view(&self) -> View<'_>
-        ensures { IsStoredReceiver self.now → WhereReceiverStands (receiver_stored self.now)
-            (λ t input. IsView t input (view_of result)) }
+        ensures { WhereReceiverStands self.now (λ t input. IsView t input (view_of result)) }
     {
         View::of(self.text(), self.name(), self.pair())
     }
 
-    /// Returns the text shown, borrowed from the numbers. `None` if no text is shown.
+    /// Returns why a text and a name are not shown, if they are not.
+    pub fn whys(&self) -> Whys
+        ensures { WhereReceiverStands self.now (λ t input. AreWhys t input result) }
+    {
+        self.state.display.whys()
+    }
+
+    /// Returns the text shown, at most 64 bytes, borrowed from the receiver. `None` if no text is shown; `Some` of no
+    /// bytes is the empty text.
     pub fn text(&self) -> Option<&[u8]>
-        ensures shown { WhatItHeard (receiver_stored self.now)
+        ensures shown { WhatItHeard self.now
             (λ m first heard. IsTextShown m first heard (option_copied result)) }
         ensures short { IfSome result (λ x. length x.now ≤ 64) }
     {
-        self.display.text.whole::<RadioText>()
+        self.state.display.text.whole::<RadioText>()
     }
 
-    /// Returns the programme type name shown, borrowed from the numbers. `None` if no name is shown.
+    /// Returns the programme type name shown, eight bytes, borrowed from the receiver. `None` if no name is shown.
     pub fn name(&self) -> Option<&[u8]>
-        ensures shown { WhatItHeard (receiver_stored self.now)
+        ensures shown { WhatItHeard self.now
             (λ m first heard. IsNameShown m first heard (option_copied result)) }
         ensures short { IfSome result (λ x. length x.now ≡ 8) }
     {
-        self.display.name.whole::<TypeName>()
+        self.state.display.name.whole::<TypeName>()
     }
 
     /// Returns the item toggle bit and the item running bit. `None` if no text is shown or no pair of tags is held.
     pub fn item(&self) -> Option<(bool, bool)>
-        ensures { IsStoredReceiver self.now → WhatItHeard (receiver_stored self.now)
-            (λ m first heard. IsItemShown m first heard result) }
+        ensures { WhatItHeard self.now (λ m first heard. IsItemShown m first heard result) }
     {
         shown_item(self.text(), self.pair())
     }
 
-    /// Returns the pair of tags that is held for the text being received. `None` if no pair is held, and if its numbers
-    /// are invalid.
-    pub fn pair(&self) -> Option<TagPair>
-        ensures { IsStoredReceiver self.now → WhatItHeard (receiver_stored self.now)
-            (λ m first heard. result ≡ pair_held m first heard) }
+    /// Returns the class of one of the two tags and its piece of the text, borrowed from the receiver. `None` if no
+    /// text is shown or no pair is held, if the tag is the dummy, and if it does not end in the text.
+    pub fn tag(&self, which: Which) -> Option<(u8, &[u8])>
+        ensures shown { WhatItHeard self.now
+            (λ m first heard. IsTagShown m first heard which (borrowed_tag result)) }
+        ensures class { IfSome result (λ tag. tag.0 < 64) }
+        ensures short { IfSome result (λ tag. length tag.1.now ≤ 64) }
     {
-        self.display.pair.pair()
+        shown_tag(self.text(), self.pair(), which)
+    }
+
+    /// Returns the pair of tags that is held for the text being received. `None` if no pair is held.
+    pub fn pair(&self) -> Option<TagPair>
+        ensures { WhatItHeard self.now (λ m first heard. result ≡ pair_held m first heard) }
+    {
+        self.state.display.pair.pair()
     }
 }
 
@@ -87,11 +102,7 @@ fn shown_item(text: Option<&[u8]>, pair: Option<TagPair>) -> Option<(bool, bool)
 
 /// Returns the class of a tag of a pair and its piece of the text, borrowed from the text. `None` without a text or a
 /// pair, if the tag is the dummy, and if it does not end in the text.
-pub(crate) fn shown_tag(
-    text: Option<&[u8]>,
-    pair: Option<TagPair>,
-    which: Which,
-) -> Option<(u8, &[u8])>
+fn shown_tag(text: Option<&[u8]>, pair: Option<TagPair>, which: Which) -> Option<(u8, &[u8])>
     requires { IsShortText text }
     ensures shown { borrowed_tag result ≡ tag_of which (option_copied text.entry) pair }
     ensures class { IfSome result (λ tag. tag.0 < 64) }

@@ -1,4 +1,4 @@
--- When what a stored receiver holds is a part of what another one holds, its runs are parts of the other's.
+-- When what a receiver holds is a part of what another one holds, its runs are parts of the other's.
 use Rattle.std.proofs.Common.{◌≡◌, ◌⊎◌, ◌≤◌, ◌∷◌, [], ◌∙◌, ℕ, true, List, Option, Some, ap, arith, cond, inl, inr}
 use Rattle.std.proofs.Common.{length, nat_eq, refl, subst, sym}
 use Rattle.std.specs.FinMap.{empty, get, get-empty, get-insert}
@@ -9,7 +9,7 @@ use Rattle.std.proofs.lemmas.Cmp.{nat_cmp_total}
 use Rattle.rds_assembly.specs.Held.{held_cells}
 use Rattle.rds_assembly.proofs.HeldLemmas.{nothing_held}
 use Rattle.rds_block.specs.declared.group.Group.{Group}
-use Rattle.rds_fields.specs.Stored.{is_set, pair_stored}
+use Rattle.rds_fields.specs.Stored.{is_set}
 use Rattle.rds_fields.specs.declared.message.Message.{Message}
 use Rattle.rds_log.specs.LogWrites.{tuned}
 use Rattle.rds_receiver.specs.Receipts.{heard_of, Segment, name_fragment, segments, text_fragment}
@@ -17,19 +17,30 @@ use Rattle.rds_receiver.specs.declared.fragment.Fragment.{Fragment}
 use Rattle.rds_receiver.specs.Run.{cells_of, run, run_at}
 use Rattle.rds_receiver.specs.Holds.{HoldsRun, newest_slot}
 use Rattle.rds_receiver.specs.ReceiverAt.{ReceiverAt}
-use Rattle.rds_receiver.specs.Stored.{age_stored, display_stored, receiver_stored, segments_stored}
+use Rattle.rds_receiver.specs.State.{DisplayState, HeldSegments, ReceiverState}
+use Rattle.rds_receiver.specs.Stored.{age_stored, segments_stored}
 use Rattle.rds_receiver.specs.Tags.{pair_held}
-use Rattle.rds_receiver.specs.declared.stored.StoredReceiver.{StoredReceiver}
 use Rattle.rds_receiver.specs.declared.display.StoredSegments.{StoredSegments}
 use Rattle.rds_receiver.proofs.Runs.{run_at_newest}
 use Rattle.rds_receiver.proofs.Shows.{pair_is}
 use Rattle.rds_witness.specs.Covered.{IsInputPart}
 use Rattle.rds_witness.specs.Part.{HasCells, IsPairPart, IsPart}
 
+-- the first one holds a part of what the second one holds
+pub record HoldsPart (one other : HeldSegments) : Type 0 where
+  pub cells : HasCells one.cells other.cells
+  pub newer : (one.cells ≡ empty) ⊎ ((one.flag ≡ other.flag) × (other.age ≤ one.age))
+
 -- what `is_part` finds
-pub record HoldsPart (one other : StoredSegments) (one_age other_age : ℕ) : Type 0 where
-  pub cells : HasCells (held_cells one.mask one.bytes) (held_cells other.mask other.bytes)
-  pub newer : (one.mask ≡ 0) ⊎ ((is_set one.flag ≡ is_set other.flag) × (other_age ≤ one_age))
+pub part_stored : (d e rest rest_other : ℕ) (one other : StoredSegments)
+    → HasCells (held_cells one.mask one.bytes) (held_cells other.mask other.bytes)
+    → (one.mask ≡ 0) ⊎ ((is_set one.flag ≡ is_set other.flag) × (age_stored e rest_other other ≤ age_stored d rest one))
+    → HoldsPart (segments_stored d rest one) (segments_stored e rest_other other)
+part_stored d e rest rest_other one other cells (inl none) = record {
+  cells = cells;
+  newer = inl (ap (λ mask. held_cells mask one.bytes) none ∙ nothing_held one.bytes);
+}
+part_stored d e rest rest_other one other cells (inr newer) = record { cells = cells; newer = inr newer }
 
 newest_cell : (g : Segment) (older : List Segment)
     → get (cells_of (g ∷ older)) g.fragment.address ≡ Some g.fragment.bytes
@@ -39,19 +50,16 @@ newest_cell g older =
     get-insert nat_cmp_total (cells_of older) a g.fragment.bytes a
     ∙ ap (λ is. cond is (Some g.fragment.bytes) (get (cells_of older) a)) (unsigned_tied a a ∙ same)
 
-pub held_part : (m t : ℕ) (r s : List Segment) (d e rest rest_other : ℕ) (one other : StoredSegments)
-    → HoldsPart one other (age_stored d rest one) (age_stored e rest_other other)
-    → HoldsRun m t r (segments_stored d rest one) → HoldsRun m t s (segments_stored e rest_other other) → IsPart r s
-held_part m t [] s d e rest rest_other one other part mine theirs = tt
-held_part m t (g ∷ older) s d e rest rest_other one other part mine theirs = by_newer part.newer
+pub held_part : (m t : ℕ) (r s : List Segment) (one other : HeldSegments) → HoldsPart one other → HoldsRun m t r one
+    → HoldsRun m t s other → IsPart r s
+held_part m t [] s one other part mine theirs = tt
+held_part m t (g ∷ older) s one other part mine theirs = by_newer part.newer
   where
     has : HasCells (cells_of (g ∷ older)) (cells_of s)
-    has = subst (λ cells. HasCells cells (cells_of s)) mine.cells (subst (HasCells (held_cells one.mask one.bytes))
-        theirs.cells part.cells)
+    has = subst (λ cells. HasCells cells (cells_of s)) mine.cells (subst (HasCells one.cells) theirs.cells part.cells)
 
-    there : (s : List Segment) → HoldsRun m t s (segments_stored e rest_other other)
-        → HasCells (cells_of (g ∷ older)) (cells_of s) → is_set one.flag ≡ is_set other.flag
-        → age_stored e rest_other other ≤ age_stored d rest one → IsPart (g ∷ older) s
+    there : (s : List Segment) → HoldsRun m t s other → HasCells (cells_of (g ∷ older)) (cells_of s)
+        → one.flag ≡ other.flag → other.age ≤ one.age → IsPart (g ∷ older) s
     there [] theirs has same newer =
         let held = has g.fragment.address g.fragment.bytes (newest_cell g older) in
         let none = get-empty {X = List ℕ} nat_cmp g.fragment.address in
@@ -59,11 +67,8 @@ held_part m t (g ∷ older) s d e rest rest_other one other part mine theirs = b
     there (h ∷ later) theirs has same newer =
         (sym mine.flag ∙ same ∙ theirs.flag, omega (arith, mine.age, theirs.age, newer), has)
 
-    by_newer : (one.mask ≡ 0) ⊎ ((is_set one.flag ≡ is_set other.flag) × (age_stored e rest_other other
-        ≤ age_stored d rest one)) → IsPart (g ∷ older) s
+    by_newer : (one.cells ≡ empty) ⊎ ((one.flag ≡ other.flag) × (other.age ≤ one.age)) → IsPart (g ∷ older) s
     by_newer (inl none) =
-        let nothing : held_cells one.mask one.bytes ≡ empty = ap (λ mask. held_cells mask one.bytes) none
-        ∙ nothing_held one.bytes in
         let held = newest_cell g older in
         let cells = mine.cells in
         let empty_here = get-empty {X = List ℕ} nat_cmp g.fragment.address in
@@ -87,44 +92,38 @@ pub as_long : (pi : ℕ) (one other : List (Option Group)) → length one ≡ le
     → length (heard_of pi one) ≡ length (heard_of pi other)
 as_long pi one other long = sym (heard_long pi one) ∙ long ∙ heard_long pi other
 
-heard_part : (pick : Message → Option Fragment) (m d e rest rest_other : ℕ) (one other : StoredSegments)
-    (h k : List (Option Message)) → HoldsPart one other (age_stored d rest one) (age_stored e rest_other other)
-    → length h ≡ length k
-    → HoldsRun m (newest_slot 0 h) (run m (newest_slot 0 h) (segments pick 0 h)) (segments_stored d rest one)
-    → HoldsRun m (newest_slot 0 k) (run m (newest_slot 0 k) (segments pick 0 k)) (segments_stored e rest_other other)
+heard_part : (pick : Message → Option Fragment) (m : ℕ) (one other : HeldSegments) (h k : List (Option Message))
+    → HoldsPart one other → length h ≡ length k
+    → HoldsRun m (newest_slot 0 h) (run m (newest_slot 0 h) (segments pick 0 h)) one
+    → HoldsRun m (newest_slot 0 k) (run m (newest_slot 0 k) (segments pick 0 k)) other
     → IsPart (run_at pick m 0 h) (run_at pick m 0 k)
-heard_part pick m d e rest rest_other one other h k part long holds other_holds =
-    let at : newest_slot 0 h ≡ newest_slot 0 k = same_newest 0 h k long in
-    let moved : HoldsRun m (newest_slot 0 h) (run_at pick m 0 k) (segments_stored e rest_other other) =
-    subst (λ (t : ℕ). HoldsRun m t (run_at pick m 0 k) (segments_stored e rest_other other)) (sym at)
-    (subst (λ (r : List Segment). HoldsRun m (newest_slot 0 k) r (segments_stored e rest_other other))
-    (run_at_newest pick m 0 k) other_holds) in
-    held_part m (newest_slot 0 h) (run_at pick m 0 h) (run_at pick m 0 k) d e rest rest_other one other part
-    (subst (λ (r : List Segment). HoldsRun m (newest_slot 0 h) r (segments_stored d rest one))
-    (run_at_newest pick m 0 h) holds) moved
+heard_part pick m one other h k part long holds other_holds =
+    let moved : HoldsRun m (newest_slot 0 h) (run_at pick m 0 k) other =
+    subst (λ (t : ℕ). HoldsRun m t (run_at pick m 0 k) other) (sym (same_newest 0 h k long))
+    (subst (λ (r : List Segment). HoldsRun m (newest_slot 0 k) r other) (run_at_newest pick m 0 k) other_holds) in
+    held_part m (newest_slot 0 h) (run_at pick m 0 h) (run_at pick m 0 k) one other part
+    (subst (λ (r : List Segment). HoldsRun m (newest_slot 0 h) r one) (run_at_newest pick m 0 h) holds) moved
 
 -- ---- whole receivers
 
 -- what `is_receiver_part` finds
-pub record HoldsPartOf (one other : StoredReceiver) : Type 0 where
-  pub text : HoldsPart one.display.text other.display.text (display_stored one.display).text.age
-      (display_stored other.display).text.age
-  pub name : HoldsPart one.display.name other.display.name (display_stored one.display).name.age
-      (display_stored other.display).name.age
-  pub pair : IsPairPart (pair_stored one.display.pair) (pair_stored other.display.pair)
-  pub known : is_set one.display.is_known ≡ true → is_set other.display.is_known ≡ true
+pub record HoldsPartOf (one other : DisplayState) : Type 0 where
+  pub text : HoldsPart one.text other.text
+  pub name : HoldsPart one.name other.name
+  pub pair : IsPairPart one.pair other.pair
+  pub known : one.is_known ≡ true → other.is_known ≡ true
 
-holds_itself : (s : StoredSegments) (age : ℕ) → HoldsPart s s age age
-holds_itself s age = record { cells = λ a b held. held; newer = inr (refl, omega arith) }
+holds_itself : (s : HeldSegments) → HoldsPart s s
+holds_itself s = record { cells = λ a b held. held; newer = inr (refl, omega arith) }
 
-module _ (pi m : ℕ) (one other : StoredReceiver) (part : HoldsPartOf one other) (input more : List (Option Group))
-    (mine : ReceiverAt (tuned pi m) (receiver_stored one) input) (theirs : ReceiverAt (tuned pi m)
-    (receiver_stored other) more) (long : length input ≡ length more) where
-  same_pair : IsPairPart (pair_stored one.display.pair) (pair_stored other.display.pair)
+module _ (pi m : ℕ) (one other : ReceiverState) (part : HoldsPartOf one.display other.display)
+    (input more : List (Option Group)) (mine : ReceiverAt (tuned pi m) one input)
+    (theirs : ReceiverAt (tuned pi m) other more) (long : length input ≡ length more) where
+  same_pair : IsPairPart one.display.pair other.display.pair
       → IsPairPart (pair_held m 0 (heard_of pi input)) (pair_held m 0 (heard_of pi more))
-  same_pair (inl none) = inl (sym (pair_is (display_stored one.display) m 0 _ mine.holds.display) ∙ none)
-  same_pair (inr same) = inr (sym (pair_is (display_stored one.display) m 0 _ mine.holds.display) ∙ same
-      ∙ pair_is (display_stored other.display) m 0 _ theirs.holds.display)
+  same_pair (inl none) = inl (sym (pair_is one.display m 0 _ mine.holds.display) ∙ none)
+  same_pair (inr same) = inr (sym (pair_is one.display m 0 _ mine.holds.display) ∙ same
+      ∙ pair_is other.display m 0 _ theirs.holds.display)
 
   -- a receiver that lost more heard a part
   pub holds_part : IsInputPart (tuned pi m) input more
@@ -132,12 +131,10 @@ module _ (pi m : ℕ) (one other : StoredReceiver) (part : HoldsPartOf one other
       let heard_long = as_long pi input more long in
       record {
         long = long;
-        texts = heard_part text_fragment m one.display.dwell other.display.dwell one.display.rest other.display.rest
-            one.display.text other.display.text _ _ part.text heard_long mine.holds.display.text
-            theirs.holds.display.text;
-        names = heard_part name_fragment m one.display.dwell other.display.dwell one.display.rest other.display.rest
-            one.display.name other.display.name _ _ part.name heard_long mine.holds.display.name
-            theirs.holds.display.name;
+        texts = heard_part text_fragment m one.display.text other.display.text _ _ part.text heard_long
+            mine.holds.display.text theirs.holds.display.text;
+        names = heard_part name_fragment m one.display.name other.display.name _ _ part.name heard_long
+            mine.holds.display.name theirs.holds.display.name;
         tags = (
           same_pair part.pair,
           λ is. sym theirs.holds.display.known ∙ part.known (mine.holds.display.known ∙ is),
@@ -145,14 +142,12 @@ module _ (pi m : ℕ) (one other : StoredReceiver) (part : HoldsPartOf one other
       }
 
 -- one receiver at two inputs
-pub same_part : (pi m : ℕ) (s : StoredReceiver) (input more : List (Option Group))
-    → ReceiverAt (tuned pi m) (receiver_stored s) input → ReceiverAt (tuned pi m) (receiver_stored s) more
-    → length input ≡ length more
-    → IsInputPart (tuned pi m) input more
-same_part pi m s input more mine theirs long =
-    holds_part pi m s s record {
-      text = holds_itself s.display.text (display_stored s.display).text.age;
-      name = holds_itself s.display.name (display_stored s.display).name.age;
+pub same_part : (pi m : ℕ) (r : ReceiverState) (input more : List (Option Group)) → ReceiverAt (tuned pi m) r input
+    → ReceiverAt (tuned pi m) r more → length input ≡ length more → IsInputPart (tuned pi m) input more
+same_part pi m r input more mine theirs long =
+    holds_part pi m r r record {
+      text = holds_itself r.display.text;
+      name = holds_itself r.display.name;
       pair = inr refl;
       known = λ is. is;
     }

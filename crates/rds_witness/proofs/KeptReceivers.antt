@@ -8,10 +8,9 @@ use Rattle.rds_log.specs.LogWrites.{tuned}
 use Rattle.rds_fields.specs.declared.message.Message.{Message}
 use Rattle.rds_receiver.specs.Receipts.{Tuning, heard_in, heard_of, name_fragment, text_fragment}
 use Rattle.rds_receiver.specs.Run.{run_at}
-use Rattle.rds_receiver.specs.ReceiverAt.{ReceiverAt, WhereReceiverStands}
+use Rattle.rds_receiver.specs.ReceiverAt.{ReceiverAt, TakesSlot}
 use Rattle.rds_receiver.specs.Tags.{pair_held}
 use Rattle.rds_receiver.specs.Confirmed.{counted}
-use Rattle.rds_receiver.specs.Stored.{IsStoredReceiver, receiver_stored}
 use Rattle.rds_receiver.specs.State.{ReceiverState}
 use Rattle.rds_witness.specs.Covered.{CoversInput, IsAt, IsCovered, IsInputPart, Keeps}
 use Rattle.rds_witness.specs.Part.{IsPairPart, IsTagPart}
@@ -48,8 +47,8 @@ input_through t r one two three stands p q = record {
 
 -- one that is kept holds all that is offered
 pub keeps_part : (t : Tuning) (n : ℕ) (kept : List Lossy) (one by : Lossy) → Contains kept by
-    → ((input more : List (Option Group)) → ReceiverAt t (receiver_stored one.receiver) input
-    → ReceiverAt t (receiver_stored by.receiver) more → length input ≡ length more → IsInputPart t input more)
+    → ((input more : List (Option Group)) → ReceiverAt t one.receiver input
+    → ReceiverAt t by.receiver more → length input ≡ length more → IsInputPart t input more)
     → All (IsAt t n) kept → Keeps t n one kept kept
 keeps_part t n kept one by there part at = record {
   at = at;
@@ -63,8 +62,7 @@ keeps_part t n kept one by there part at = record {
         covers = record {
           other = its.input;
           stands = its.stands;
-          stored = its.stored;
-          part = input_through t (receiver_stored one.receiver) input covers.other its.input covers.stands covers.part
+          part = input_through t one.receiver input covers.other its.input covers.stands covers.part
               (part covers.other its.input covers.stands its.stands same);
         };
       };
@@ -91,16 +89,12 @@ keeps_more t n kept one at its = record {
 
 -- one slot later
 pub at_next : (pi m n : ℕ) (s later : Lossy) (group : Option Group)
-    → (IsStoredReceiver s.receiver
-    → WhereReceiverStands (receiver_stored s.receiver) (λ t input. ReceiverAt t (receiver_stored later.receiver)
-    (group ∷ input)))
-    → (IsStoredReceiver s.receiver → IsStoredReceiver later.receiver) → IsAt (tuned pi m) n s
+    → TakesSlot s.receiver later.receiver group → IsAt (tuned pi m) n s
     → IsAt (tuned pi m) (n + 1) later
-at_next pi m n s later group stands good its = record {
+at_next pi m n s later group stands its = record {
   input = group ∷ its.input;
   long = let long = its.long in omega (arith, long);
-  stands = stands its.stored (tuned pi m) its.input its.stands;
-  stored = good its.stored;
+  stands = stands (tuned pi m) its.input its.stands;
 }
 
 pub input_next : (pi m : ℕ) (group : Option Group) (one other : List (Option Group)) → 0 < m
@@ -117,15 +111,11 @@ input_next pi m group one other some part =
 
 -- a receiver that covers an input covers it with the next slot
 pub covers_next : (pi m : ℕ) (s later : Lossy) (group : Option Group) (input : List (Option Group))
-    → (IsStoredReceiver s.receiver
-    → WhereReceiverStands (receiver_stored s.receiver) (λ t input. ReceiverAt t (receiver_stored later.receiver)
-    (group ∷ input)))
-    → (IsStoredReceiver s.receiver → IsStoredReceiver later.receiver) → CoversInput (tuned pi m) input s
+    → TakesSlot s.receiver later.receiver group → CoversInput (tuned pi m) input s
     → CoversInput (tuned pi m) (group ∷ input) later
-covers_next pi m s later group input stands good covers = record {
+covers_next pi m s later group input stands covers = record {
   other = group ∷ covers.other;
-  stands = stands covers.stored (tuned pi m) covers.other covers.stands;
-  stored = good covers.stored;
+  stands = stands (tuned pi m) covers.other covers.stands;
   part = input_next pi m group input covers.other covers.stands.holds.display.lasts covers.part;
 }
 
@@ -140,10 +130,10 @@ input_itself pi m input = record {
 
 -- a receiver covers its own input
 pub covers_itself : (pi m : ℕ) (input : List (Option Group)) (s : Lossy)
-    → ReceiverAt (tuned pi m) (receiver_stored s.receiver) input → IsStoredReceiver s.receiver
+    → ReceiverAt (tuned pi m) s.receiver input
     → CoversInput (tuned pi m) input s
-covers_itself pi m input s stands stored = record
-    { other = input; stands = stands; stored = stored; part = input_itself pi m input }
+covers_itself pi m input s stands = record
+    { other = input; stands = stands; part = input_itself pi m input }
 
 -- ---- a list with one more in front
 

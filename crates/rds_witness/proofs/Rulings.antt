@@ -14,7 +14,6 @@ use Rattle.rds_receiver.specs.OneView.{same_text_shown}
 use Rattle.rds_receiver.specs.Receipts.{Tuning}
 use Rattle.rds_receiver.specs.Receipts.{heard_of}
 use Rattle.rds_receiver.specs.Shown.{IsNameShown, IsShown, IsTextShown, IsView, ShownView}
-use Rattle.rds_receiver.specs.Stored.{receiver_stored}
 use Rattle.rds_fields.specs.Tag.{tag_in}
 use Rattle.rds_receiver.specs.Tags.{cut_by, pair_held, tag_of}
 use Rattle.rds_receiver.specs.Confirmed.{counted}
@@ -157,8 +156,8 @@ no_mix t log n slots is soon views whole receivers same_whole hold show burst th
 
     by_other : IsCovered t receivers (got (burst ∷ []) log (n + 1)) → IsSeenBefore t log slots thing
     by_other covered =
-        let shows : ShowsOnlySeen t log slots (receiver_stored covered.by.receiver) = All-contains
-        (λ s. ShowsOnlySeen t log slots (receiver_stored s.receiver)) receivers covered.by show covered.is_there in
+        let shows : ShowsOnlySeen t log slots covered.by.receiver = All-contains
+        (λ s. ShowsOnlySeen t log slots s.receiver) receivers covered.by show covered.is_there in
         let only = shows covered.covers.other covered.covers.stands in
         only.seen thing (view_part t (got (burst ∷ []) log (n + 1)) covered.covers.other covered.covers.part
         mix.mix.new.after only.view mix.mix.new.is only.is thing mix.mix.new.has)

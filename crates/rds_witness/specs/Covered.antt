@@ -8,7 +8,6 @@ use Rattle.rds_receiver.specs.Receipts.{Tuning, heard_of, name_fragment, text_fr
 use Rattle.rds_receiver.specs.declared.fragment.Fragment.{Fragment}
 use Rattle.rds_receiver.specs.Run.{run_at}
 use Rattle.rds_receiver.specs.ReceiverAt.{ReceiverAt}
-use Rattle.rds_receiver.specs.Stored.{IsStoredReceiver, receiver_stored}
 use Rattle.rds_receiver.specs.Confirmed.{counted}
 use Rattle.rds_witness.specs.Part.{IsPart, IsTagPart}
 use Rattle.rds_witness.specs.declared.covering.Lossy.{Lossy}
@@ -26,21 +25,19 @@ pub record IsInputPart (t : Tuning) (one other : List (Option Group)) : Type 0 w
   pub names : IsRunPart name_fragment t one other
   pub tags : IsTagPart t.dwell t.first (counted t (heard_of t.programme one)) (counted t (heard_of t.programme other))
 
--- the stored receiver stands at the end of an input of n slots
+-- the receiver stands at the end of an input of n slots
 pub record IsAt (t : Tuning) (n : ℕ) (s : Lossy) : Type 0 where
   pub input : List (Option Group)
   pub long : length input ≡ n
-  pub stands : ReceiverAt t (receiver_stored s.receiver) input
-  pub stored : IsStoredReceiver s.receiver
+  pub stands : ReceiverAt t s.receiver input
 
--- the stored receiver stands at the end of an input of which this one is a part
+-- the receiver stands at the end of an input of which this one is a part
 pub record CoversInput (t : Tuning) (input : List (Option Group)) (s : Lossy) : Type 0 where
   pub other : List (Option Group)
-  pub stands : ReceiverAt t (receiver_stored s.receiver) other
-  pub stored : IsStoredReceiver s.receiver
+  pub stands : ReceiverAt t s.receiver other
   pub part : IsInputPart t input other
 
--- one of the stored receivers stands there
+-- one of the receivers stands there
 pub record IsCovered (t : Tuning) (set : List Lossy) (input : List (Option Group)) : Type 0 where
   pub by : Lossy
   pub is_there : Contains set by

@@ -8,7 +8,6 @@ use Rattle.rds_receiver.specs.Run.{begins_in, run_at}
 use Rattle.rds_receiver.specs.Shown.{IsView, ShownView}
 use Rattle.rds_receiver.specs.ReceiverAt.{ReceiverAt}
 use Rattle.rds_receiver.specs.State.{ReceiverState}
-use Rattle.rds_receiver.specs.Stored.{IsStoredReceiver, receiver_stored}
 use Rattle.rds_fields.specs.Tag.{tag_in}
 use Rattle.rds_receiver.specs.Tags.{cut_by, pair_held}
 use Rattle.rds_receiver.specs.Confirmed.{counted}
@@ -65,8 +64,7 @@ NoMixes t log = NoMixesIn t log (length log)
 -- burst up to the newest slot; and receivers that with it hold all that any receiver holds that heard again after its
 -- burst
 pub record StandsAfter (t : Tuning) (log : List (Option Group)) (n : ℕ) (sweep : Sweep) : Type 0 where
-  pub whole : ReceiverAt t (receiver_stored sweep.whole.receiver) (got [] log n)
-  pub stored : IsStoredReceiver sweep.whole.receiver
+  pub whole : ReceiverAt t sweep.whole.receiver (got [] log n)
   pub losing_at : All (IsAt t n) sweep.losing.items
   pub hearing_at : All (IsAt t n) sweep.hearing.items
   pub lose : (burst : Burst) → burst.first ≤ burst.last → burst.last + 1 ≡ n
@@ -96,8 +94,7 @@ IsSeenBefore t log n (Tag which class piece) = IsTagOfRun t log n class piece
 -- the receiver that loses nothing has this state after the slot, and the pair is one of its run of texts
 pub record IsSeen (t : Tuning) (log : List (Option Group)) (seen : Seen) : Type 0 where
   pub inside : seen.slot < length log
-  pub stands : ReceiverAt t (receiver_stored seen.receiver) (got [] log (seen.slot + 1))
-  pub stored : IsStoredReceiver seen.receiver
+  pub stands : ReceiverAt t seen.receiver (got [] log (seen.slot + 1))
   pub pair : (pair : PairFields) → seen.pair ≡ Some pair → IsOfRun t log (seen.slot + 1) pair
 
 -- the receiver that loses nothing has a view in each of the first n slots
@@ -118,11 +115,11 @@ abbrev pub ShowsOnlySeen : Tuning → List (Option Group) → ℕ → ReceiverSt
 ShowsOnlySeen t log n r = (input : List (Option Group)) → ReceiverAt t r input → HasOnlySeen t log n input
 
 abbrev pub ShowOnlySeen : Tuning → List (Option Group) → ℕ → List Lossy → Type 0
-ShowOnlySeen t log n receivers = All (λ s. ShowsOnlySeen t log n (receiver_stored s.receiver)) receivers
+ShowOnlySeen t log n receivers = All (λ s. ShowsOnlySeen t log n s.receiver) receivers
 
 -- if the view of the receiver did not change in the newest slot, it shows no other things
 abbrev pub IsChecked : Tuning → List (Option Group) → ℕ → Lossy → Type 0
-IsChecked t log n s = IsFalse s.changed → ShowsOnlySeen t log n (receiver_stored s.receiver)
+IsChecked t log n s = IsFalse s.changed → ShowsOnlySeen t log n s.receiver
 
 -- no burst makes a receiver show a mix before the slot of the result; before the end of the log, if it has none
 abbrev pub IsSure : Tuning → List (Option Group) → Found → Type 0

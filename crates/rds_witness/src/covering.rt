@@ -7,9 +7,7 @@ ghost use Rattle.rds_assembly.specs.Held.{held_cells};
 ghost use Rattle.rds_fields.specs.Stored.{is_set, pair_stored, tag_stored};
 ghost use Rattle.rds_receiver.specs.Shown.{IsView, ShownView};
 ghost use Rattle.rds_block.specs.declared.group.Group.{Group};
-ghost use Rattle.rds_receiver.specs.ReceiverAt.{ReceiverAt, WhereReceiverStands};
-ghost use Rattle.rds_receiver.specs.declared.stored.StoredReceiver.{StoredReceiver};
-ghost use Rattle.rds_receiver.specs.Stored.{IsStoredReceiver, receiver_stored};
+ghost use Rattle.rds_receiver.specs.ReceiverAt.{ReceiverAt, TakesSlot};
 ghost use Rattle.rds_log.specs.LogWrites.{tuned};
 ghost use Rattle.rds_witness.specs.Covered.{IsAt, IsInputPart, Keeps, KeepsNext};
 ghost use Rattle.rds_receiver.specs.Receipts.{Tuning};
@@ -21,19 +19,32 @@ use crate::burst::Burst;
 use rds_assembly::is_same_segment;
 use rds_block::Blocks;
 use rds_fields::{StoredPair, StoredTag};
-use rds_receiver::{StoredReceiver, StoredSegments};
+use rds_receiver::{Receiver, StoredDisplay, StoredSegments};
 use std::alloc::AllocError;
 
 /// The most segments that are held.
 const SEGMENTS: u8 = 16;
 
 /// A receiver that lost a burst.
-#[derive(Clone, Copy)]
+#[derive(Drop)]
 pub(crate) struct Lossy {
-    pub(crate) receiver: StoredReceiver,
+    pub(crate) receiver: Receiver,
     pub(crate) burst: Burst,
     /// Whether its view may have changed in the newest slot.
     pub(crate) changed: bool,
+}
+
+impl Lossy {
+    /// Returns a receiver that continues where this one is.
+    pub(crate) fn copied(&self) -> Lossy
+        ensures { result ≡ self.now }
+    {
+        Lossy {
+            receiver: self.receiver.copied(),
+            burst: self.burst,
+            changed: self.changed,
+        }
+    }
 }
 
 /// Returns whether the first receiver holds nothing at the address, or the second one holds the same bytes there.
@@ -114,41 +125,38 @@ fn is_pair_part(one: &StoredPair, other: &StoredPair) -> bool
 }
 
 /// Returns whether the first receiver does not know RadioText Plus, or the second one knows it too.
-fn is_known_part(one: &StoredReceiver, other: &StoredReceiver) -> bool
-    ensures { IsTrue result → is_set one.now.display.is_known ≡ true
-        → is_set other.now.display.is_known ≡ true }
+fn is_known_part(one: &StoredDisplay, other: &StoredDisplay) -> bool
+    ensures { IsTrue result → is_set one.now.is_known ≡ true → is_set other.now.is_known ≡ true }
 {
-    one.display.is_known == 0 || other.display.is_known != 0
+    one.is_known == 0 || other.is_known != 0
 }
 
 /// Returns whether the first receiver holds a part of what the second one holds, if both heard as many slots.
-pub(crate) fn is_receiver_part(one: &StoredReceiver, other: &StoredReceiver) -> bool
+pub(crate) fn is_receiver_part(one: &Receiver, other: &Receiver) -> bool
     ensures { IsTrue result → (pi m : ℕ) (input more : List (Option Group))
-        → ReceiverAt (tuned pi m) (receiver_stored one.now) input
-        → ReceiverAt (tuned pi m) (receiver_stored other.now) more → length input ≡ length more
+        → ReceiverAt (tuned pi m) one.now input
+        → ReceiverAt (tuned pi m) other.now more → length input ≡ length more
         → IsInputPart (tuned pi m) input more }
 {
+    let (one, other) = (&one.numbers().display, &other.numbers().display);
     if !is_known_part(one, other) {
         return false;
     }
-    if !is_pair_part(&one.display.pair, &other.display.pair) {
+    if !is_pair_part(&one.pair, &other.pair) {
         return false;
     }
-    let (one, other) = (&one.display, &other.display);
     is_part(&one.text, &other.text, one.text_age(), other.text_age())
         && is_part(&one.name, &other.name, one.name_age(), other.name_age())
 }
 
 /// Lets the receiver handle a slot. `lost` is the number of the slot if the receiver lost it.
 pub(crate) fn take_slot(one: &mut Lossy, group: Option<Blocks>, lost: Option<usize>)
-    ensures stands { IsStoredReceiver one.old.receiver → WhereReceiverStands (receiver_stored one.old.receiver)
-        (λ t input. ReceiverAt t (receiver_stored one.new.receiver) (group ∷ input)) }
-    ensures good { IsStoredReceiver one.old.receiver → IsStoredReceiver one.new.receiver }
-    ensures same { IsStoredReceiver one.old.receiver → (t : Tuning) (log : List (Option Group)) (k : ℕ)
-        (input : List (Option Group)) → ReceiverAt t (receiver_stored one.old.receiver) input
-        → ShowsOnlySeen t log k (receiver_stored one.old.receiver) → IsChecked t log k one.new }
+    ensures stands { TakesSlot one.old.receiver one.new.receiver group }
+    ensures same { (t : Tuning) (log : List (Option Group)) (k : ℕ)
+        (input : List (Option Group)) → ReceiverAt t one.old.receiver input
+        → ShowsOnlySeen t log k one.old.receiver → IsChecked t log k one.new }
 {
-    one.changed = one.receiver.slot(group);
+    one.changed = one.receiver.slot_blocks(group);
     if let Some(last) = lost {
         one.burst.last = last;
     }
@@ -156,9 +164,7 @@ pub(crate) fn take_slot(one: &mut Lossy, group: Option<Blocks>, lost: Option<usi
 
 /// Lets the receiver without a loss lose this slot.
 pub(crate) fn lose_first(whole: &mut Lossy, slot: usize)
-    ensures stands { IsStoredReceiver whole.old.receiver → WhereReceiverStands (receiver_stored whole.old.receiver)
-        (λ t input. ReceiverAt t (receiver_stored whole.new.receiver) (None ∷ input)) }
-    ensures good { IsStoredReceiver whole.old.receiver → IsStoredReceiver whole.new.receiver }
+    ensures stands { TakesSlot whole.old.receiver whole.new.receiver None }
     ensures changed { IsTrue whole.new.changed }
 {
     take_slot(whole, None, None);
@@ -178,12 +184,12 @@ pub(crate) fn receiver_at(receivers: &[Lossy], place: usize) -> &Lossy
 }
 
 /// Keeps a receiver, unless the one without a loss or a kept one holds all that it holds.
-pub(crate) fn keep(whole: &Lossy, kept: &mut Vec<Lossy>, one: &Lossy) -> Result<(), AllocError>
+pub(crate) fn keep(whole: &Lossy, kept: &mut Vec<Lossy>, one: Lossy) -> Result<(), AllocError>
     ensures covers { OnOk result ((pi m n : ℕ) → All (IsAt (tuned pi m) n) (whole.now ∷ kept.old.items)
-        → IsAt (tuned pi m) n one.now
-        → Keeps (tuned pi m) n one.now (whole.now ∷ kept.old.items) (whole.now ∷ kept.new.items)) }
+        → IsAt (tuned pi m) n one
+        → Keeps (tuned pi m) n one (whole.now ∷ kept.old.items) (whole.now ∷ kept.new.items)) }
     ensures checked { OnOk result ((t : Tuning) (log : List (Option Group)) (k : ℕ)
-        → All (IsChecked t log k) kept.old.items → IsChecked t log k one.now → All (IsChecked t log k) kept.new.items) }
+        → All (IsChecked t log k) kept.old.items → IsChecked t log k one → All (IsChecked t log k) kept.new.items) }
 {
     if is_receiver_part(&one.receiver, &whole.receiver) {
         return Ok(());
@@ -193,7 +199,7 @@ pub(crate) fn keep(whole: &Lossy, kept: &mut Vec<Lossy>, one: &Lossy) -> Result<
             return Ok(());
         }
     }
-    kept.push(*one)?;
+    kept.push(one)?;
     Ok(())
 }
 
@@ -213,9 +219,9 @@ pub(crate) fn keep_after_slot(
         → All (IsChecked (tuned pi m) log k) kept.new.items) }
 {
     for place in 0..receivers.len() {
-        let mut later = *receiver_at(receivers, place);
+        let mut later = receiver_at(receivers, place).copied();
         take_slot(&mut later, *group, lost);
-        keep(whole, kept, &later)?;
+        keep(whole, kept, later)?;
     }
     Ok(())
 }

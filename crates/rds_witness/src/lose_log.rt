@@ -5,7 +5,6 @@ ghost use Rattle.rds_io.specs.Told.{traffic};
 ghost use Rattle.rds_log.specs.LogWrites.{tuned};
 ghost use Rattle.rds_log.specs.Reads.{MadeReads};
 ghost use Rattle.rds_receiver.specs.Receipts.{Tuning};
-ghost use Rattle.rds_receiver.specs.Stored.{IsStoredReceiver, receiver_stored};
 ghost use Rattle.rds_witness.specs.Candidates.{AddsSlotOfIt, StandsBefore};
 ghost use Rattle.rds_witness.specs.LossLines.{AreLossLines, IsLossAnswer};
 ghost use Rattle.rds_witness.specs.Lost.{group_left};
@@ -22,7 +21,7 @@ use rds_block::Blocks;
 use rds_fields::{Dwell, TagGroup};
 use rds_io::{Lines, LogFault, TellingRead, TellingWrite, WriteFault, put};
 use rds_log::{LogNotes, MOST_READS, News, gather};
-use rds_receiver::{Receiver, StoredReceiver};
+use rds_receiver::Receiver;
 use std::alloc::{AllocError, Global};
 
 /// A receiver that loses some slots of a log.
@@ -111,7 +110,7 @@ fn lines_of(
     let (pi, dwell) = (losing.pi, losing.dwell);
     let all = AllSeen::of(alloc, log, pi, dwell)?;
     let got = received_of(alloc, log, losing.lost)?;
-    let mut receiver = Receiver::new(pi, dwell).store();
+    let mut receiver = Receiver::new(pi, dwell);
     let mut lines = Vec::new(alloc);
     for slot in 0..log.len() {
         let candidate = Candidate {
@@ -133,21 +132,19 @@ fn play_slot(
     all: &AllSeen,
     candidate: &Candidate<'_>,
     group: Option<Blocks>,
-    receiver: &mut StoredReceiver,
+    receiver: &mut Receiver,
     lines: &mut Vec<u8>,
 ) -> Result<(), AllocError>
     requires inside { candidate.now.slot < length candidate.now.log.now }
     requires words { candidate.now.words.now ≡ [] }
     requires got { group ≡ group_left candidate.now.lost.now candidate.now.log.now candidate.now.slot }
     requires seen { AreSeen (tuned candidate.now.pi candidate.now.dwell) candidate.now.log.now all.now }
-    requires stored { IsStoredReceiver receiver.old }
-    requires stands { StandsBefore candidate.now.slot candidate.now (receiver_stored receiver.old) }
-    ensures stored { IsStoredReceiver receiver.new }
-    ensures stands { StandsBefore (candidate.now.slot + 1) candidate.now (receiver_stored receiver.new) }
+    requires stands { StandsBefore candidate.now.slot candidate.now receiver.old }
+    ensures stands { StandsBefore (candidate.now.slot + 1) candidate.now receiver.new }
     ensures lines { OnOk result (AddsSlotOfIt candidate.now lines.old.items lines.new.items) }
 {
-    let old = *receiver;
-    let changed = receiver.slot(group);
+    let old = receiver.copied();
+    let changed = receiver.slot_blocks(group);
     if !changed {
         return Ok(());
     }

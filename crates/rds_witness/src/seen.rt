@@ -5,14 +5,12 @@ ghost use Rattle.std.specs.List.{Contains};
 ghost use Rattle.std.specs.Option.{option_copied};
 ghost use Rattle.rds_block.specs.declared.group.Group.{Group};
 ghost use Rattle.rds_fields.specs.declared.pair.Which.{Which};
-ghost use Rattle.rds_fields.specs.Stored.{is_set};
 ghost use Rattle.rds_fields.specs.Tag.{PairFields};
 ghost use Rattle.rds_log.specs.LogWrites.{tuned};
 ghost use Rattle.rds_receiver.specs.Borrowed.{borrowed_tag, view_of};
 ghost use Rattle.rds_receiver.specs.Receipts.{Tuning};
 ghost use Rattle.rds_receiver.specs.Shown.{IsView, ShownView};
 ghost use Rattle.rds_receiver.specs.ReceiverAt.{ReceiverAt};
-ghost use Rattle.rds_receiver.specs.Stored.{IsStoredReceiver, display_stored, receiver_stored};
 ghost use Rattle.rds_fields.specs.Tag.{tag_in};
 ghost use Rattle.rds_receiver.specs.Tags.{cut_by};
 ghost use Rattle.rds_witness.specs.Borrowed.{thing_of};
@@ -27,7 +25,7 @@ use crate::covering::Lossy;
 use crate::thing::{KINDS, Thing, is_text, shows};
 use rds_block::Blocks;
 use rds_fields::{Dwell, Tag, TagPair, Which};
-use rds_receiver::{Receiver, StoredReceiver, View};
+use rds_receiver::{Receiver, View};
 use std::alloc::{AllocError, Global};
 use std::collections::BTreeMap;
 
@@ -46,10 +44,10 @@ const TEXT_KIND: u8 = 0;
 const NAME_KIND: u8 = 64;
 
 /// A receiver after a slot, and a pair of tags of its run of texts.
-#[derive(Clone, Copy)]
+#[derive(Drop)]
 pub(crate) struct Seen {
     pub(crate) slot: usize,
-    pub(crate) receiver: StoredReceiver,
+    pub(crate) receiver: Receiver,
     pub(crate) pair: Option<TagPair>,
 }
 
@@ -122,13 +120,14 @@ fn is_of_pair(pair: Option<TagPair>, text: Option<&[u8]>, class: u8, piece: &[u8
 }
 
 /// Returns whether the run of texts of a receiver goes on in the next slot.
-fn goes_on(old: &StoredReceiver, new: &StoredReceiver) -> bool
-    ensures age { IsTrue result → (display_stored old.now.display).text.age + 1 < old.now.display.dwell }
-    ensures flag { IsTrue result → is_set old.now.display.text.flag ≡ is_set new.now.display.text.flag }
+fn goes_on(old: &Receiver, new: &Receiver) -> bool
+    ensures age { IsTrue result → old.now.display.text.age + 1 < old.now.display.dwell }
+    ensures flag { IsTrue result → old.now.display.text.flag ≡ new.now.display.text.flag }
 {
-    let flag = old.display.text.flag != 0;
-    let new_flag = new.display.text.flag != 0;
-    flag == new_flag && u32::from(old.display.text_age()) + 1 < u32::from(old.display.dwell)
+    let (old, new) = (&old.numbers().display, &new.numbers().display);
+    let flag = old.text.flag != 0;
+    let new_flag = new.text.flag != 0;
+    flag == new_flag && u32::from(old.text_age()) + 1 < u32::from(old.dwell)
 }
 
 impl Seen {
@@ -161,10 +160,10 @@ impl AllSeen {
             pairs: Vec::new(alloc),
             places: BTreeMap::new(alloc),
         };
-        let mut whole = Receiver::new(pi, dwell).store();
+        let mut whole = Receiver::new(pi, dwell);
         for slot in 0..log.len() {
-            let old = whole;
-            let changed = whole.slot(received(log, &[], slot));
+            let old = whole.copied();
+            let changed = whole.slot_blocks(received(log, &[], slot));
             all.drop_pairs(&old, &whole);
             if changed {
                 all.note(&whole, slot)?;
@@ -174,11 +173,11 @@ impl AllSeen {
     }
 
     /// Drops the pairs of tags unless the run of texts goes on.
-    fn drop_pairs(&mut self, old: &StoredReceiver, new: &StoredReceiver)
+    fn drop_pairs(&mut self, old: &Receiver, new: &Receiver)
         ensures seen { self.new.seen ≡ self.old.seen }
         ensures pairs { (pi m n : ℕ) (log : List (Option Group))
-            → ReceiverAt (tuned pi m) (receiver_stored old.now) (got [] log n)
-            → ReceiverAt (tuned pi m) (receiver_stored new.now) (got [] log (n + 1))
+            → ReceiverAt (tuned pi m) old.now (got [] log n)
+            → ReceiverAt (tuned pi m) new.now (got [] log (n + 1))
             → All (IsOfRun (tuned pi m) log n) self.old.pairs.items
             → All (IsOfRun (tuned pi m) log (n + 1)) self.new.pairs.items }
     {
@@ -188,9 +187,9 @@ impl AllSeen {
     }
 
     /// Notes the parts that the receiver shows for the first time in this slot.
-    fn note(&mut self, whole: &StoredReceiver, slot: usize) -> Result<(), AllocError>
-        ensures { OnOk result ((t : Tuning) (log : List (Option Group)) → slot < length log → IsStoredReceiver whole.now
-            → ReceiverAt t (receiver_stored whole.now) (got [] log (slot + 1))
+    fn note(&mut self, whole: &Receiver, slot: usize) -> Result<(), AllocError>
+        ensures { OnOk result ((t : Tuning) (log : List (Option Group)) → slot < length log
+            → ReceiverAt t whole.now (got [] log (slot + 1))
             → All (IsSeen t log) self.old.seen.items → All (IsOfRun t log (slot + 1)) self.old.pairs.items
             → All (IsSeen t log) self.new.seen.items × All (IsOfRun t log (slot + 1)) self.new.pairs.items
             × ((view : ShownView) × IsView t (got [] log (slot + 1)) view)) }
@@ -218,14 +217,9 @@ impl AllSeen {
     }
 
     /// Notes the tags that the pairs of the run make of the text that is shown.
-    fn note_tags(
-        &mut self,
-        whole: &StoredReceiver,
-        view: View<'_>,
-        slot: usize,
-    ) -> Result<(), AllocError>
-        ensures { OnOk result ((t : Tuning) (log : List (Option Group)) → slot < length log → IsStoredReceiver whole.now
-            → ReceiverAt t (receiver_stored whole.now) (got [] log (slot + 1))
+    fn note_tags(&mut self, whole: &Receiver, view: View<'_>, slot: usize) -> Result<(), AllocError>
+        ensures { OnOk result ((t : Tuning) (log : List (Option Group)) → slot < length log
+            → ReceiverAt t whole.now (got [] log (slot + 1))
             → All (IsSeen t log) self.old.seen.items → All (IsOfRun t log (slot + 1)) self.old.pairs.items
             → All (IsSeen t log) self.new.seen.items × All (IsOfRun t log (slot + 1)) self.new.pairs.items) }
     {
@@ -239,24 +233,23 @@ impl AllSeen {
     /// Notes the receiver if it shows the tags of this pair, or a text or a name, for the first time.
     fn note_with(
         &mut self,
-        whole: &StoredReceiver,
+        whole: &Receiver,
         view: View<'_>,
         slot: usize,
         pair: Option<TagPair>,
     ) -> Result<(), AllocError>
         ensures pairs { self.new.pairs ≡ self.old.pairs }
         ensures seen { OnOk result ((t : Tuning) (log : List (Option Group)) → slot < length log
-            → IsStoredReceiver whole.now → ReceiverAt t (receiver_stored whole.now) (got [] log (slot + 1))
+            → ReceiverAt t whole.now (got [] log (slot + 1))
             → ((held : PairFields) → pair ≡ Some held → IsOfRun t log (slot + 1) held)
             → All (IsSeen t log) self.old.seen.items → All (IsSeen t log) self.new.seen.items) }
     {
         if !self.is_new(view, pair)? {
             return Ok(());
         }
-        let receiver = *whole;
         self.seen.push(Seen {
             slot,
-            receiver,
+            receiver: whole.copied(),
             pair,
         })?;
         Ok(())
@@ -325,9 +318,9 @@ impl AllSeen {
     /// Returns whether a receiver that loses nothing shows all parts of this one in some of the first slots. If the
     /// view did not change, it does.
     pub(crate) fn has_all(&self, slots: usize, one: &Lossy) -> bool
-        ensures { IsTrue result → IsStoredReceiver one.now.receiver → (t : Tuning) (log : List (Option Group))
+        ensures { IsTrue result → (t : Tuning) (log : List (Option Group))
             → AreSeen t log self.now → IsChecked t log slots one.now
-            → ShowsOnlySeen t log slots (receiver_stored one.now.receiver) }
+            → ShowsOnlySeen t log slots one.now.receiver }
     {
         if !one.changed {
             return true;

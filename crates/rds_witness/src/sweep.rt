@@ -34,7 +34,7 @@ impl Sweep {
     {
         Sweep {
             whole: Lossy {
-                receiver: Receiver::new(pi, dwell).store(),
+                receiver: Receiver::new(pi, dwell),
                 burst: Burst { first: 0, last: 0 },
                 changed: true,
             },
@@ -60,7 +60,7 @@ impl Sweep {
             → All (IsChecked (tuned pi m) log k) self.new.losing.items
             × All (IsChecked (tuned pi m) log k) self.new.hearing.items) }
     {
-        let mut begins = self.whole;
+        let mut begins = self.whole.copied();
         lose_first(&mut begins, slot);
         take_slot(&mut self.whole, *group, None);
         let mut hearing = mem::replace(&mut self.spare, Vec::new(alloc));
@@ -81,7 +81,7 @@ impl Sweep {
         )?;
         let mut losing = mem::replace(&mut self.hearing, hearing);
         losing.clear();
-        keep(&self.whole, &mut losing, &begins)?;
+        keep(&self.whole, &mut losing, begins)?;
         keep_after_slot(
             &self.whole,
             self.losing.as_slice(),

@@ -1,7 +1,6 @@
-use Rattle.std.proofs.Common.{◌≡◌, ◌+◌, ◌∷◌, ℕ, arith, get_or, inl, inr, subst, sym}
+use Rattle.std.proofs.Common.{◌≡◌, ◌∙◌, ◌+◌, ◌∷◌, ℕ, arith, get_or, inl, inr, subst, sym}
 use Rattle.std.proofs.lemmas.Bool.{cases_lt}
 use Rattle.rds_log.specs.LogWrites.{tuned}
-use Rattle.rds_receiver.specs.Stored.{receiver_stored}
 use Rattle.rds_witness.specs.Covered.{CoversInput, IsAt}
 use Rattle.rds_witness.specs.Search.{ShowsOnlySeen}
 use Rattle.rds_witness.specs.declared.covering.Lossy.{Lossy}
@@ -21,16 +20,18 @@ loop-place-init c = record {
 pub loop-place-preserved : goal.loop-place-preserved
 loop-place-preserved c =
     let now = c.loop-place.place in
-    let one = c.receiver_at.result.now in
+    let one = c.copied-later.result in
+    let is : (d : Lossy) → get_or c.args.receivers.now now d ≡ one = λ d. c.receiver_at.ensures d ∙ sym c.copied-later.ensures
+    in
     let later = c.take_slot.new.one in
     let step = c.take_slot.ensures in
     record {
       covers = λ pi m n at kept_at.
           let so_far = c.loop-place.invariant.covers pi m n at kept_at in
-          let its : IsAt (tuned pi m) n one = subst (IsAt (tuned pi m) n) (c.receiver_at.ensures one)
+          let its : IsAt (tuned pi m) n one = subst (IsAt (tuned pi m) n) (is one)
           (at now one (omega (arith, c.loop-place-test.true))) in
           let keeps = c.in_ok-keep.ensures.covers pi m (n + 1) so_far.at (at_next pi m n one later c.args.group.now
-          step.stands step.good its) in
+          step.stands its) in
           record {
             at = keeps.at;
             stays = λ input covered. keeps.stays input (so_far.stays input covered);
@@ -39,20 +40,20 @@ loop-place-preserved c =
               | inr from ↦ (
                   let here : place ≡ now = omega (arith, less, from) in
                   let covers_here : CoversInput (tuned pi m) input one =
-                  subst (CoversInput (tuned pi m) input) (c.receiver_at.ensures d)
+                  subst (CoversInput (tuned pi m) input) (is d)
                   (subst (λ (p : ℕ). CoversInput (tuned pi m) input (get_or c.args.receivers.now p d)) here covers)
                   in
                   keeps.more (c.args.group.now ∷ input) (omega (arith, long))
-                  (covers_next pi m one later c.args.group.now input step.stands step.good covers_here))
+                  (covers_next pi m one later c.args.group.now input step.stands covers_here))
             ];
           };
       checked = λ pi m n k log at only checked.
-          let its : IsAt (tuned pi m) n one = subst (IsAt (tuned pi m) n) (c.receiver_at.ensures one)
+          let its : IsAt (tuned pi m) n one = subst (IsAt (tuned pi m) n) (is one)
           (at now one (omega (arith, c.loop-place-test.true))) in
-          let only_here = subst (λ (s : Lossy). ShowsOnlySeen (tuned pi m) log k (receiver_stored s.receiver))
-          (c.receiver_at.ensures one) (only now one (omega (arith, c.loop-place-test.true))) in
+          let only_here = subst (λ (s : Lossy). ShowsOnlySeen (tuned pi m) log k s.receiver)
+          (is one) (only now one (omega (arith, c.loop-place-test.true))) in
           c.in_ok-keep.ensures.checked (tuned pi m) log k (c.loop-place.invariant.checked pi m n k log at only checked)
-          (step.same its.stored (tuned pi m) log k its.input its.stands only_here);
+          (step.same (tuned pi m) log k its.input its.stands only_here);
     }
 
 pub returns-clause-covers : goal.returns-clause-covers

@@ -1,7 +1,6 @@
 use Rattle.std.proofs.Common.{subst, sym}
 use Rattle.rds_log.specs.LogWrites.{tuned}
 use Rattle.rds_receiver.specs.ReceiverAt.{ReceiverAt}
-use Rattle.rds_receiver.specs.State.{ReceiverState}
 use Rattle.rds_witness.specs.Lost.{got, got-none}
 use Rattle.rds_witness.proofs.LossSteps.{adds_first}
 use Rattle.rds_witness.proofs.lose_log.lines_of.Goals as goal
@@ -11,18 +10,15 @@ loop-slot-init c =
     let losing = c.args.losing.now in
     let t = tuned losing.pi losing.dwell in
     let log = c.args.log.now in
-    let begins : ReceiverAt t c.new.result (got losing.lost.now log 0) = subst (ReceiverAt t c.new.result)
-    (sym (got-none losing.lost.now log)) (c.new.ensures.stands 0) in
+    let begins : ReceiverAt t c.new-receiver.result (got losing.lost.now log 0) = subst (ReceiverAt t c.new-receiver.result)
+    (sym (got-none losing.lost.now log)) (c.new-receiver.ensures.stands 0) in
     record {
-      stands = subst (λ (r : ReceiverState). ReceiverAt t r (got losing.lost.now log 0))
-          (sym c.store-receiver.ensures.same) begins;
-      stored = c.store-receiver.ensures.good;
+      stands = begins;
       lines = adds_first t losing.ahead log losing.lost.now _ c.new-lines.ensures.items;
     }
 
 pub loop-slot-preserved : goal.loop-slot-preserved
 loop-slot-preserved c = record {
   stands = c.play_slot.ensures.stands;
-  stored = c.play_slot.ensures.stored;
   lines = c.in_ok-play_slot.ensures.lines c.loop-slot.invariant.lines;
 }

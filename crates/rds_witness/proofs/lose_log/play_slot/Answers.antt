@@ -4,7 +4,7 @@ use Rattle.rds_block.specs.declared.group.Group.{Group}
 use Rattle.rds_log.specs.LogWrites.{tuned}
 use Rattle.rds_receiver.specs.Borrowed.{view_of}
 use Rattle.rds_receiver.specs.Shown.{IsView}
-use Rattle.rds_receiver.specs.Stored.{receiver_stored}
+use Rattle.rds_witness.specs.Candidates.{StandsBefore}
 use Rattle.rds_witness.specs.Lines.{AreMixLines}
 use Rattle.rds_witness.specs.Lost.{got, got-more}
 use Rattle.rds_witness.specs.Search.{IsKnown}
@@ -16,30 +16,30 @@ use Rattle.rds_witness.proofs.lose_log.play_slot.Goals as goal
 pub returns-then-not-changed-clause-stands : goal.returns-then-not-changed-clause-stands
 returns-then-not-changed-clause-stands c =
     let candidate = c.args.candidate.now in
-    stands_more (tuned candidate.pi candidate.dwell) (receiver_stored c.slot-changed.new.self) candidate.lost.now
+    stands_more (tuned candidate.pi candidate.dwell) c.slot_blocks-changed.new.self candidate.lost.now
     candidate.log.now candidate.slot c.args.group c.requires.got
-    (c.slot-changed.ensures.stands c.requires.stored _ _ c.requires.stands)
+    (c.slot_blocks-changed.ensures.stands _ _ c.requires.stands)
 
 pub returns-then-knows_all-clause-stands : goal.returns-then-knows_all-clause-stands
 returns-then-knows_all-clause-stands c =
     let candidate = c.args.candidate.now in
-    stands_more (tuned candidate.pi candidate.dwell) (receiver_stored c.slot-changed.new.self) candidate.lost.now
+    stands_more (tuned candidate.pi candidate.dwell) c.slot_blocks-changed.new.self candidate.lost.now
     candidate.log.now candidate.slot c.args.group c.requires.got
-    (c.slot-changed.ensures.stands c.requires.stored _ _ c.requires.stands)
+    (c.slot_blocks-changed.ensures.stands _ _ c.requires.stands)
 
 pub returns-in_err-extend_from_slice-clause-stands : goal.returns-in_err-extend_from_slice-clause-stands
 returns-in_err-extend_from_slice-clause-stands c =
     let candidate = c.args.candidate.now in
-    stands_more (tuned candidate.pi candidate.dwell) (receiver_stored c.slot-changed.new.self) candidate.lost.now
+    stands_more (tuned candidate.pi candidate.dwell) c.slot_blocks-changed.new.self candidate.lost.now
     candidate.log.now candidate.slot c.args.group c.requires.got
-    (c.slot-changed.ensures.stands c.requires.stored _ _ c.requires.stands)
+    (c.slot_blocks-changed.ensures.stands _ _ c.requires.stands)
 
 pub returns-clause-stands : goal.returns-clause-stands
 returns-clause-stands c =
     let candidate = c.args.candidate.now in
-    stands_more (tuned candidate.pi candidate.dwell) (receiver_stored c.slot-changed.new.self) candidate.lost.now
+    stands_more (tuned candidate.pi candidate.dwell) c.slot_blocks-changed.new.self candidate.lost.now
     candidate.log.now candidate.slot c.args.group c.requires.got
-    (c.slot-changed.ensures.stands c.requires.stored _ _ c.requires.stands)
+    (c.slot_blocks-changed.ensures.stands _ _ c.requires.stands)
 
 pub returns-then-not-changed-clause-lines : goal.returns-then-not-changed-clause-lines
 returns-then-not-changed-clause-lines c =
@@ -53,7 +53,7 @@ returns-then-not-changed-clause-lines c =
     adds_slot t candidate.ahead log lost n c.args.lines.now.items [] c.args.lines.now.items
     (no_mixes t candidate.ahead log lost [] n
     (stays_none t candidate.ahead log lost n (λ view is. subst (λ (l : List (Option Group)). IsView t l view) (sym next)
-    (c.slot-changed.ensures.same c.requires.stored c.if-not-changed.true view t (got lost log n) c.requires.stands
+    (c.slot_blocks-changed.ensures.same c.if-not-changed.true view t (got lost log n) c.requires.stands
     is))))
     (sym (append-nil c.args.lines.now.items))
 
@@ -65,13 +65,13 @@ returns-then-knows_all-clause-lines c =
     let lost = candidate.lost.now in
     let n = candidate.slot in
     let before = view_of c.view-before.result in
-    let stands = stands_more t (receiver_stored c.slot-changed.new.self) lost log n c.args.group c.requires.got
-    (c.slot-changed.ensures.stands c.requires.stored _ _ c.requires.stands) in
+    let stands = stands_more t c.slot_blocks-changed.new.self lost log n c.args.group c.requires.got
+    (c.slot_blocks-changed.ensures.stands _ _ c.requires.stands) in
     adds_slot t candidate.ahead log lost n c.args.lines.now.items [] c.args.lines.now.items
     (no_mixes t candidate.ahead log lost [] n
     (known_none t candidate.ahead log lost n before (view_of c.view-after.result)
-    (c.view-before.ensures c.requires.stored t _ c.requires.stands)
-    (c.view-after.ensures (c.slot-changed.ensures.good c.requires.stored) t _ stands)
+    (c.view-before.ensures t _ (subst (StandsBefore n candidate) (sym c.copied-old.ensures) c.requires.stands))
+    (c.view-after.ensures t _ stands)
     (λ thing has. subst (λ (k : ℕ). IsKnown t log k before thing) c.slots_until-until.ensures.value
     (c.knows_all.ensures c.if-knows_all.true t log c.requires.seen thing has))))
     (sym (append-nil c.args.lines.now.items))
@@ -80,13 +80,14 @@ pub push_mixes_of-requires-clause-around : goal.push_mixes_of-requires-clause-ar
 push_mixes_of-requires-clause-around c =
     let candidate = c.args.candidate.now in
     let t = tuned candidate.pi candidate.dwell in
-    let stands = stands_more t (receiver_stored c.slot-changed.new.self) candidate.lost.now candidate.log.now
+    let stands = stands_more t c.slot_blocks-changed.new.self candidate.lost.now candidate.log.now
     candidate.slot c.args.group c.requires.got
-    (c.slot-changed.ensures.stands c.requires.stored _ _ c.requires.stands) in
+    (c.slot_blocks-changed.ensures.stands _ _ c.requires.stands) in
     record {
       inside = c.requires.inside;
-      was = c.view-before.ensures c.requires.stored t _ c.requires.stands;
-      is = c.view-after.ensures (c.slot-changed.ensures.good c.requires.stored) t _ stands;
+      was = c.view-before.ensures t _ (subst (StandsBefore candidate.slot candidate) (sym c.copied-old.ensures)
+          c.requires.stands);
+      is = c.view-after.ensures t _ stands;
     }
 
 pub returns-clause-lines : goal.returns-clause-lines

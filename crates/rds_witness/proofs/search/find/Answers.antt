@@ -2,7 +2,6 @@ use Rattle.std.proofs.Common.{◌≡◌, ◌+◌, ◌<◌, ◌∙◌, [], ℕ, L
 use Rattle.std.proofs.lemmas.Bool.{cases_lt}
 use Rattle.rds_block.specs.declared.group.Group.{Group}
 use Rattle.rds_log.specs.LogWrites.{tuned}
-use Rattle.rds_receiver.specs.Stored.{receiver_stored}
 use Rattle.rds_witness.specs.Covered.{CoversInput, IsInputPart}
 use Rattle.rds_witness.specs.Lost.{got}
 use Rattle.rds_witness.specs.Mix.{IsBurstMix, until}
@@ -23,7 +22,7 @@ loop-slot-init c =
     let k = until c.args.dwell log 0 in
     let none : (items : List Lossy) → items ≡ []
     → ShowOnlySeen t log k items = λ items nothing. subst (ShowOnlySeen t log k) (sym nothing)
-    (All-nil (λ s. ShowsOnlySeen t log k (receiver_stored s.receiver))) in
+    (All-nil (λ s. ShowsOnlySeen t log k s.receiver)) in
     record {
       stands = c.new-sweep.ensures.stands log;
       losing = none _ c.new-sweep.ensures.none.0;
@@ -56,7 +55,7 @@ loop-slot-preserved c =
     in omega (arith, is, more)) (only k d less) in
     let same_whole : (input : List (Option Group)) → length input ≡ n + 1 → CoversInput t input whole
     → IsInputPart t input (got [] log (n + 1)) =
-    λ input long covers. input_through t (receiver_stored whole.receiver) input covers.other (got [] log (n + 1))
+    λ input long covers. input_through t whole.receiver input covers.other (got [] log (n + 1))
     covers.stands covers.part
     (same_part pi m whole.receiver covers.other (got [] log (n + 1)) covers.stands stands.whole (sym covers.part.long
     ∙ long ∙ sym (got_long [] log (n + 1)))) in

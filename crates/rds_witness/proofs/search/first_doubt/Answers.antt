@@ -1,6 +1,5 @@
 use Rattle.std.proofs.Common.{◌≡◌, ℕ, arith, get_or, inl, inr, subst, sym}
 use Rattle.std.proofs.lemmas.Bool.{cases_lt}
-use Rattle.rds_receiver.specs.Stored.{IsStoredReceiver, receiver_stored}
 use Rattle.rds_witness.specs.Search.{IsChecked, ShowsOnlySeen}
 use Rattle.rds_witness.specs.declared.covering.Lossy.{Lossy}
 use Rattle.rds_witness.proofs.search.first_doubt.Goals as goal
@@ -14,17 +13,15 @@ loop-place-preserved c t n log at seen checked k d less =
     let place = c.loop-place.place in
     let slots = c.args.slots in
     let one = c.receiver_at-one.result.now in
-    let stored : IsStoredReceiver one.receiver = subst (λ (s : Lossy). IsStoredReceiver s.receiver)
-    (c.receiver_at-one.ensures one) ((at place one (omega (arith, c.loop-place-test.true))).stored) in
-    let here : ShowsOnlySeen t log slots (receiver_stored one.receiver) = c.has_all.ensures c.if-not-has_all.false
-    stored t log seen (subst (IsChecked t log slots) (c.receiver_at-one.ensures one)
+    let here : ShowsOnlySeen t log slots one.receiver = c.has_all.ensures c.if-not-has_all.false
+    t log seen (subst (IsChecked t log slots) (c.receiver_at-one.ensures one)
     (checked place one (omega (arith, c.loop-place-test.true)))) in
     elim (cases_lt k place) [
       | inl before ↦ c.loop-place.invariant t n log at seen checked k d before
       | inr from ↦ (
           let same : place ≡ k = omega (arith, less, from) in
-          subst (λ (p : ℕ). ShowsOnlySeen t log slots (receiver_stored (get_or receivers p d).receiver)) same
-          (subst (λ (s : Lossy). ShowsOnlySeen t log slots (receiver_stored s.receiver))
+          subst (λ (p : ℕ). ShowsOnlySeen t log slots (get_or receivers p d).receiver) same
+          (subst (λ (s : Lossy). ShowsOnlySeen t log slots s.receiver)
           (sym (c.receiver_at-one.ensures d)) here))
     ]
 

@@ -1,5 +1,4 @@
 use Rattle.std.proofs.Common.{◌∙◌, arith}
-use Rattle.rds_receiver.specs.Stored.{receiver_stored}
 use Rattle.rds_witness.proofs.PairRuns.{same_run_of_log}
 use Rattle.rds_witness.proofs.seen.AllSeen.drop_pairs.Goals as goal
 
@@ -11,6 +10,6 @@ returns-else-not-goes_on-clause-pairs c pi m n log was is all k d less =
       slot = its.slot;
       before = let before = its.before in omega (arith, before);
       held = its.held;
-      same = its.same ∙ same_run_of_log pi m n log (receiver_stored c.args.old.now) (receiver_stored c.args.new.now)
+      same = its.same ∙ same_run_of_log pi m n log c.args.old.now c.args.new.now
           (c.goes_on.ensures.age going) (c.goes_on.ensures.flag going) was is;
     }

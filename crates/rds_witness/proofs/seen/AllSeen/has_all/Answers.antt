@@ -27,9 +27,9 @@ loop-kind-preserved c t log all = more_kinds (IsSeenBefore t log c.args.slots) (
     ]
 
 pub returns : goal.returns
-returns c holds stored t log all checked input stands = record {
+returns c holds t log all checked input stands = record {
   view = view_of c.view-view.result;
-  is = c.view-view.ensures stored t input stands;
+  is = c.view-view.ensures t input stands;
   seen = λ thing has. c.loop-kind.invariant t log all thing (omega (arith, kinds_below thing, c.loop-kind-test.false))
       has;
 }

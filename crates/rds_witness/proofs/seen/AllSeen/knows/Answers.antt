@@ -13,7 +13,7 @@ returns-in-Some c holds t log all =
       slot = seen.slot;
       view = _;
       before = before;
-      is = c.view.ensures its.stored t
+      is = c.view.ensures t
           (got [] log (seen.slot + 1)) its.stands;
       shows = c.shows-in-Some.ensures.0 holds;
     }

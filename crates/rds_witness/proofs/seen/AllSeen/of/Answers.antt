@@ -5,8 +5,6 @@ use Rattle.rds_block.specs.declared.group.Group.{Group}
 use Rattle.rds_log.specs.LogWrites.{tuned}
 use Rattle.rds_receiver.specs.Shown.{IsView, ShownView}
 use Rattle.rds_receiver.specs.ReceiverAt.{ReceiverAt}
-use Rattle.rds_receiver.specs.State.{ReceiverState}
-use Rattle.rds_receiver.specs.Stored.{receiver_stored}
 use Rattle.rds_view_lines.specs.NoChange.{view_of_none}
 use Rattle.rds_witness.specs.Lost.{got, got-more, got-none}
 use Rattle.rds_witness.specs.Search.{HasViews, IsOfRun, IsSeen}
@@ -17,11 +15,10 @@ pub loop-slot-init : goal.loop-slot-init
 loop-slot-init c =
     let t = tuned c.args.pi c.args.dwell in
     let log = c.args.log.now in
-    let begins : ReceiverAt t c.new-4.result (got [] log 0) = subst (ReceiverAt t c.new-4.result)
-    (sym (got-none [] log)) (c.new-4.ensures.stands 0) in
+    let begins : ReceiverAt t c.new-whole.result (got [] log 0) = subst (ReceiverAt t c.new-whole.result)
+    (sym (got-none [] log)) (c.new-whole.ensures.stands 0) in
     record {
-      stands = subst (λ (r : ReceiverState). ReceiverAt t r (got [] log 0)) (sym c.store-whole.ensures.same) begins;
-      stored = c.store-whole.ensures.good;
+      stands = begins;
       view = subst (λ (l : List (Option Group)). (view : ShownView) × IsView t l view) (sym (got-none [] log))
           (_, view_of_none t);
       views = λ slot less. absurd (omega (arith, less));
@@ -38,11 +35,11 @@ loop-slot-preserved c =
     let before = c.loop-slot.invariant in
     let is : got [] log (n + 1) ≡ group ∷ got [] log n = got-more [] log n ∙ ap (λ (g : Option Group). g ∷ got [] log n)
     (sym c.received.ensures) in
-    let stands : ReceiverAt t (receiver_stored c.slot-changed.new.self) (got [] log (n + 1)) =
-    subst (ReceiverAt t (receiver_stored c.slot-changed.new.self)) (sym is) (c.slot-changed.ensures.stands before.stored
+    let stands : ReceiverAt t c.slot_blocks-changed.new.self (got [] log (n + 1)) =
+    subst (ReceiverAt t c.slot_blocks-changed.new.self) (sym is) (c.slot_blocks-changed.ensures.stands
     t (got [] log n) before.stands) in
-    let stored = c.slot-changed.ensures.good before.stored in
-    let pairs = c.drop_pairs.ensures.pairs c.args.pi c.args.dwell n log before.stands stands before.pairs in
+    let pairs = c.drop_pairs.ensures.pairs c.args.pi c.args.dwell n log
+    (subst (λ r. ReceiverAt t r (got [] log n)) (sym c.copied-old.ensures) before.stands) stands before.pairs in
     let seen = subst (λ v. All (IsSeen t log) v.items) (sym c.drop_pairs.ensures.seen) before.seen in
     let views : (view : ShownView) × IsView t (got [] log (n + 1)) view
     → HasViews t log (n + 1) = λ view slot less. elim (cases_lt slot n) [
@@ -53,34 +50,33 @@ loop-slot-preserved c =
     ] in
     record {
       stands = stands;
-      stored = stored;
       view = elim c.if-changed.branch [
-        | then-changed+in_ok-note w ↦ (w.in_ok-note.ensures t log c.loop-slot-test.true stored stands seen pairs).2
+        | then-changed+in_ok-note w ↦ (w.in_ok-note.ensures t log c.loop-slot-test.true stands seen pairs).2
         | else-changed w ↦ (
           before.view.0,
           subst (λ (l : List (Option Group)). IsView t l before.view.0) (sym is)
-              (c.slot-changed.ensures.same before.stored w.if-changed.false before.view.0 t (got [] log n) before.stands
+              (c.slot_blocks-changed.ensures.same w.if-changed.false before.view.0 t (got [] log n) before.stands
               before.view.1),
         )
       ];
       views = elim c.if-changed.branch [
-        | then-changed+in_ok-note w ↦ views (w.in_ok-note.ensures t log c.loop-slot-test.true stored stands seen
+        | then-changed+in_ok-note w ↦ views (w.in_ok-note.ensures t log c.loop-slot-test.true stands seen
             pairs).2
         | else-changed w ↦ views (
           before.view.0,
           subst (λ (l : List (Option Group)). IsView t l before.view.0) (sym is)
-              (c.slot-changed.ensures.same before.stored w.if-changed.false before.view.0 t (got [] log n) before.stands
+              (c.slot_blocks-changed.ensures.same w.if-changed.false before.view.0 t (got [] log n) before.stands
               before.view.1),
         )
       ];
       seen = elim c.if-changed.branch [
         | then-changed+in_ok-note w ↦ subst (λ v. All (IsSeen t log) v.seen.items) (sym w.all-is)
-            (w.in_ok-note.ensures t log c.loop-slot-test.true stored stands seen pairs).0
+            (w.in_ok-note.ensures t log c.loop-slot-test.true stands seen pairs).0
         | else-changed w ↦ subst (λ v. All (IsSeen t log) v.seen.items) (sym w.all-is) seen
       ];
       pairs = elim c.if-changed.branch [
         | then-changed+in_ok-note w ↦ subst (λ v. All (IsOfRun t log (n + 1)) v.pairs.items) (sym w.all-is)
-            (w.in_ok-note.ensures t log c.loop-slot-test.true stored stands seen pairs).1
+            (w.in_ok-note.ensures t log c.loop-slot-test.true stands seen pairs).1
         | else-changed w ↦ subst (λ v. All (IsOfRun t log (n + 1)) v.pairs.items) (sym w.all-is) pairs
       ];
     }

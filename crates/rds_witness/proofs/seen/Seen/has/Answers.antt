@@ -13,7 +13,7 @@ returns-in-Text c holds t log n its before =
       slot = seen.slot;
       view = _;
       before = before;
-      is = c.view-view.ensures its.stored t
+      is = c.view-view.ensures t
           (got [] log (seen.slot + 1)) its.stands;
       shows = c.is_text.ensures.0 holds;
     }
@@ -26,7 +26,7 @@ returns-in-Name c holds t log n its before =
       slot = seen.slot;
       view = _;
       before = before;
-      is = c.view-view.ensures its.stored t
+      is = c.view-view.ensures t
           (got [] log (seen.slot + 1)) its.stands;
       shows = c.is_text-in-Name.ensures.0 holds;
     }
@@ -40,7 +40,7 @@ returns-in-Tag c holds t log n its before =
       slot = seen.slot;
       before = before;
       view = _;
-      is = c.view-view.ensures its.stored t
+      is = c.view-view.ensures t
           (got [] log (seen.slot + 1)) its.stands;
       text = x;
       shown = shown;

@@ -2,7 +2,6 @@ use Rattle.std.proofs.Common.{[], All, arith, subst, sym}
 use Rattle.std.proofs.lemmas.List.Elements.{All-nil}
 use Rattle.rds_log.specs.LogWrites.{tuned}
 use Rattle.rds_receiver.specs.ReceiverAt.{ReceiverAt}
-use Rattle.rds_receiver.specs.State.{ReceiverState}
 use Rattle.rds_witness.specs.Covered.{IsAt}
 use Rattle.rds_witness.specs.Lost.{got, got-none}
 use Rattle.rds_witness.proofs.sweep.Sweep.new.Goals as goal
@@ -13,8 +12,7 @@ returns-clause-stands c log =
     let begins : ReceiverAt t c.new.result (got [] log 0) = subst (ReceiverAt t c.new.result) (sym (got-none [] log))
     (c.new.ensures.stands 0) in
     record {
-      whole = subst (λ (r : ReceiverState). ReceiverAt t r (got [] log 0)) (sym c.store.ensures.same) begins;
-      stored = c.store.ensures.good;
+      whole = begins;
       losing_at = subst (All (IsAt t 0)) (sym c.new-2.ensures.items) (All-nil (IsAt t 0));
       hearing_at = subst (All (IsAt t 0)) (sym c.new-3.ensures.items) (All-nil (IsAt t 0));
       lose = λ burst order behind. absurd (omega (arith, behind));

@@ -4,8 +4,7 @@ use Rattle.std.proofs.lemmas.Bool.{cases_lt}
 use Rattle.std.proofs.lemmas.List.Elements.{All-nil}
 use Rattle.rds_block.specs.declared.group.Group.{Group}
 use Rattle.rds_log.specs.LogWrites.{tuned}
-use Rattle.rds_receiver.specs.ReceiverAt.{ReceiverAt}
-use Rattle.rds_receiver.specs.Stored.{receiver_stored}
+use Rattle.rds_receiver.specs.ReceiverAt.{ReceiverAt, TakesSlot}
 use Rattle.rds_witness.specs.Covered.{CoversInput, IsAt, IsCovered}
 use Rattle.rds_witness.specs.Lost.{got, got-more}
 use Rattle.rds_witness.specs.Search.{IsChecked, ShowOnlySeen}
@@ -23,23 +22,22 @@ returns-clause-stands c pi m n log is old =
     let whole = c.take_slot.new.one in
     let step = c.take_slot.ensures in
     let begins = c.lose_first.new.whole in
-    let loses = c.lose_first.ensures in
+    let loses : TakesSlot was.receiver begins.receiver None = subst (λ (s : Lossy). TakesSlot s.receiver begins.receiver None)
+    c.copied-begins.ensures c.lose_first.ensures.stands in
     let more : got [] log (n + 1) ≡ group ∷ got [] log n = got-more [] log n
     ∙ ap (λ (g : Option Group). g ∷ got [] log n) (sym is) in
-    let after : ReceiverAt t (receiver_stored whole.receiver) (got [] log (n + 1)) = subst
-    (ReceiverAt t (receiver_stored whole.receiver)) (sym more) (step.stands old.stored t (got [] log n) old.whole)
+    let after : ReceiverAt t whole.receiver (got [] log (n + 1)) = subst
+    (ReceiverAt t whole.receiver) (sym more) (step.stands t (got [] log n) old.whole)
     in
     let its : IsAt t (n + 1) whole = record {
       input = got [] log (n + 1);
       long = got_long [] log (n + 1);
       stands = after;
-      stored = step.good old.stored;
     } in
     let was_at : IsAt t n was = record {
       input = got [] log n;
       long = got_long [] log n;
       stands = old.whole;
-      stored = old.stored;
     } in
     let none : (items : List Lossy) → items ≡ []
     → All (IsAt t (n + 1)) items = λ items nothing. subst (All (IsAt t (n + 1))) (sym nothing)
@@ -53,7 +51,7 @@ returns-clause-stands c pi m n log is old =
     let begin = c.in_ok-keep_after_slot-2.ensures.covers pi m n (subst (All (IsAt t n)) (sym were_losing) old.losing_at)
     go_on.at in
     let one_more = c.in_ok-keep.ensures.covers pi m (n + 1) (at_first t (n + 1) whole _ its
-    (none _ c.clear-2.ensures.items)) (at_next pi m n was begins None loses.stands loses.good was_at) in
+    (none _ c.clear-2.ensures.items)) (at_next pi m n was begins None loses was_at) in
     let lose_more = c.in_ok-keep_after_slot-3.ensures.covers pi m n (subst (All (IsAt t n)) (sym still_losing)
     old.losing_at) one_more.at in
     let hearing = c.keep_after_slot-2.new.kept.items in
@@ -63,7 +61,7 @@ returns-clause-stands c pi m n log is old =
     let lost_first : (input : List (Option Group)) → length input ≡ n → CoversInput t input was
     → IsCovered t (whole ∷ losing) (None ∷ input) =
     λ input long covers. lose_more.stays (None ∷ input) (one_more.more (None ∷ input) (omega (arith, long))
-    (covers_next pi m was begins None input loses.stands loses.good covers)) in
+    (covers_next pi m was begins None input loses covers)) in
     let lost : (input : List (Option Group)) (burst : Burst) → input ≡ got (burst ∷ []) log n → burst.first ≤ n
     → n ≤ burst.last → IsCovered t (was ∷ old_losing) input
     → IsCovered t (whole ∷ c.replace.new.dest.items) (got (burst ∷ []) log (n + 1)) =
@@ -83,11 +81,9 @@ returns-clause-stands c pi m n log is old =
     subst (λ (l : List Lossy). IsCovered t (whole ∷ l) (got (burst ∷ []) log (n + 1))) (sym end_hearing)
     (subst (IsCovered t (whole ∷ hearing)) (heard_next burst log n group behind is)
     (by_first t was set input (IsCovered t (whole ∷ hearing) (group ∷ input)) covered
-    (λ covers. covered_first t whole hearing (group ∷ input) (covers_next pi m was whole group input step.stands
-    step.good covers)) others)) in
+    (λ covers. covered_first t whole hearing (group ∷ input) (covers_next pi m was whole group input step.stands covers)) others)) in
     record {
       whole = after;
-      stored = step.good old.stored;
       losing_at = subst (All (IsAt t (n + 1))) (sym end_losing) (λ k d less. lose_more.at (suc k) d
           (omega (arith, less)));
       hearing_at = subst (All (IsAt t (n + 1))) (sym end_hearing) (λ k d less. begin.at (suc k) d
@@ -100,7 +96,7 @@ returns-clause-stands c pi m n log is old =
             (old.lose shorter (omega (arith, before)) (omega (arith, before))))
         | inr from ↦ lost (got [] log n) burst (sym (got_before burst log n from)) (omega (arith, order, behind))
             (omega (arith, behind))
-            (covered_first t was old_losing (got [] log n) (covers_itself pi m (got [] log n) was old.whole old.stored))
+            (covered_first t was old_losing (got [] log n) (covers_itself pi m (got [] log n) was old.whole))
       ];
       hear = λ burst order behind. elim (cases_lt (burst.last + 1) n) [
         | inl before ↦ heard burst c.args.self.now.hearing.items (omega (arith, before)) (old.hear burst order before)
