@@ -37,7 +37,7 @@ fn takes_slots_in_place(rt: HostRuntime) -> Result<(), Fail> {
     Ok(())
 }
 
-/// Numbers that no receiver is stored as are restored too: a dwell of 0 is one slot.
+/// Numbers that no receiver is stored as give one that heard nothing.
 #[test]
 fn restores_any_numbers(rt: HostRuntime) -> Result<(), Fail> {
     let segments = StoredSegments {
@@ -60,7 +60,7 @@ fn restores_any_numbers(rt: HostRuntime) -> Result<(), Fail> {
         is_known: 3,
     };
     let receiver = Receiver::restore(&stored);
-    same(&rt, receiver.text(), Some([b'A'; 64].as_slice()));
+    same(&rt, receiver.text(), None);
     same(&rt, receiver.pair(), None);
     same(&rt, receiver.store().display.dwell, 1);
     Ok(())

@@ -1,5 +1,5 @@
 //! Tags as plain numbers, for a program that stores them.
-ghost use Rattle.std.specs.Prelude.{◌≡◌, Option};
+ghost use Rattle.std.specs.Prelude.{◌≡◌, ◌↔◌, IsSome, IsTrue, Option};
 ghost use Rattle.rds_fields.specs.Stored.{IsStoredPair, fields_stored, pair_stored, tag_stored};
 ghost use Rattle.rds_fields.specs.Tag.{IsPair, IsTag};
 
@@ -66,9 +66,17 @@ impl StoredPair {
         }
     }
 
+    /// Returns whether the numbers are those of a pair or of none.
+    pub fn is_valid(&self) -> bool
+        ensures { IsTrue result ↔ IsStoredPair self.now }
+    {
+        self.is_there == 0 || self.pair().is_some()
+    }
+
     /// Returns the stored pair. `None` if no pair is held, or if the numbers are not valid.
     pub fn pair(&self) -> Option<TagPair>
-        ensures { IsStoredPair self.now → result ≡ pair_stored self.now }
+        ensures value { IsStoredPair self.now → result ≡ pair_stored self.now }
+        ensures good { IsSome result → IsStoredPair self.now }
     {
         if self.is_there == 0 {
             return None;

@@ -26,6 +26,13 @@ impl StoredSegments {
         }
     }
 
+    /// Returns whether no segment is held, or they are dropped at most so many slots after the next look.
+    pub(crate) fn is_within(&self, most: u16) -> bool
+        ensures { IsTrue result ↔ (self.now.mask ≢ 0 → self.now.later ≤ most) }
+    {
+        self.mask == 0 || self.later <= most
+    }
+
     /// Drops the segments if they are due in the slot of a look. Returns whether a whole value was dropped.
     pub(crate) fn drop_if_due<S: Service>(&mut self) -> bool
         ensures later { 0 < self.old.later → self.new ≡ self.old }

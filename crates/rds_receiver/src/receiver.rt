@@ -91,20 +91,16 @@ impl Receiver {
     }
 
     /// Rebuilds a stored receiver. Invalid numbers give an arbitrary valid receiver of the stored programme.
+    // Otherwise a slot of the C library copies the numbers once more.
+    #[inline(always)]
     pub fn restore(stored: &StoredReceiver) -> Receiver
         ensures same { IsStoredReceiver stored.now → result ≡ receiver_stored stored.now }
         ensures programme { result.display.programme ≡ stored.now.display.pi }
     {
-        let mut state = *stored;
-        let dwell = stored.display.dwell.max(1);
-        let rest = stored.display.rest.max(1).min(dwell);
-        state.display.dwell = dwell;
-        state.display.rest = rest;
-        state.display.text.later = stored.display.text.later.min(dwell - rest);
-        state.display.name.later = stored.display.name.later.min(dwell - rest);
-        state.display.pair = StoredPair::of(stored.display.pair.pair());
-        state.pair = StoredPair::of(stored.pair.pair());
-        Receiver { state }
+        if stored.is_valid() {
+            return Receiver { state: *stored };
+        }
+        Receiver::new(stored.display.pi, Dwell::new(1).unwrap())
     }
 
     /// Stores the receiver as plain numbers.

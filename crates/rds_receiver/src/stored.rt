@@ -1,4 +1,6 @@
 //! The plain numbers of a receiver: a program may store them.
+ghost use Rattle.std.specs.Prelude.{◌↔◌, IsTrue};
+ghost use Rattle.rds_receiver.specs.Stored.{IsStoredReceiver};
 
 use crate::display::StoredDisplay;
 use crate::last::StoredLastSegments;
@@ -18,4 +20,13 @@ pub struct StoredReceiver {
     pub pair_left: u8,
     /// The window in slots. If it is 0, each message counts; else a message counts if it came twice within the window.
     pub window: u8,
+}
+
+impl StoredReceiver {
+    /// Returns whether the numbers are valid.
+    pub(crate) fn is_valid(&self) -> bool
+        ensures { IsTrue result ↔ IsStoredReceiver self.now }
+    {
+        self.display.is_valid() && self.pair.is_valid()
+    }
 }

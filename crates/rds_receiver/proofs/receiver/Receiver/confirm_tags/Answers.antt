@@ -16,10 +16,12 @@ returns-clause-confirms c w m first heard =
     if_again e = elim c.if-self-gt0.branch [
       | then-self-gt0 x ↦ (
         x.if-self-gt0.true,
-        sym (x.pair.ensures c.self.invariant.pair) ∙ is_held_pair x.pair.result c.args.pair (sym x.eq-again.ensures
+        sym (x.pair.ensures.value c.self.invariant.pair) ∙ is_held_pair x.pair.result c.args.pair
+        (sym x.eq-again.ensures
             ∙ sym x.again-is ∙ e),
       )
-      | else-self-gt0 x ↦ absurd (let some : 0 < c.self.inside.state.pair_left = ltb-true 0 c.self.inside.state.pair_left
+      | else-self-gt0 x ↦ absurd
+          (let some : 0 < c.self.inside.state.pair_left = ltb-true 0 c.self.inside.state.pair_left
           (sym x.again-is ∙ e) in omega (arith, x.if-self-gt0.false, some))
     ]
 
@@ -27,6 +29,6 @@ returns-clause-confirms c w m first heard =
         → pair_stored c.self.inside.state.pair ≡ Some c.args.pair → ⊥
     if_not e some is = elim c.if-self-gt0.branch [
       | then-self-gt0 x ↦ not_true _ e (x.again-is ∙ x.eq-again.ensures ∙ held_pair_is x.pair.result c.args.pair
-          (x.pair.ensures c.self.invariant.pair ∙ is))
+          (x.pair.ensures.value c.self.invariant.pair ∙ is))
       | else-self-gt0 x ↦ omega (arith, x.if-self-gt0.false, some)
     ]
