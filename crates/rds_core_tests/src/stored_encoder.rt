@@ -35,7 +35,7 @@ fn goes_on_from_what_is_stored(rt: HostRuntime) -> Result<(), Fail> {
     Ok(())
 }
 
-/// Numbers that no encoder has are restored too: an invalid text means no text on air.
+/// Numbers that no encoder has give one with nothing on air.
 #[test]
 fn restores_any_numbers(rt: HostRuntime) -> Result<(), Fail> {
     let mut stored: StoredEncoder = station()?.store();

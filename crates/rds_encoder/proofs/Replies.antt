@@ -2,11 +2,14 @@
 use Rattle.std.proofs.Common.{◌≡◌, ℕ, ◌+◌, ◌-◌, ◌*◌, ◌<◌, List, [], ◌∷◌, Bool, true, false, nat_lt, Option, Some, None}
 use Rattle.std.proofs.Common.{Ok, Err, refl, sym, ap, ◌∙◌, arith}
 use Rattle.std.proofs.lemmas.Bool.Decides.{nat_tests}
+use Rattle.rds_fields.specs.Tag.{PairFields}
 use Rattle.rds_encoder.specs.declared.reply.Refusal.{Refusal}
 use Rattle.rds_encoder.specs.declared.reply.Refusal.TheVariants.{Silent}
 use Rattle.rds_encoder.specs.Entries.{Entry, Restart, SetText, SetName, SetTags, Tick, Move, name_moves, restart_before}
 use Rattle.rds_encoder.specs.Entries.{slot_of, text_moves}
 use Rattle.rds_encoder.specs.Reply.{Reply, held_for, held_reply, last_accepted, reply_to, unless_silent}
+use Rattle.rds_encoder.specs.Plan.{on_air}
+use Rattle.rds_encoder.specs.Tags.{fitting_reply, tags_reply}
 use Rattle.rds_encoder.specs.EncoderAt.{hold_left}
 use Rattle.std.specs.Result.{IsErrAnd}
 use Rattle.rds_encoder.proofs.OnAir.{not_held_in_silence}
@@ -88,6 +91,12 @@ pub names_after_silence : (m : ℕ) (entries : List Entry)
     → reply_to m (name_moves entries) ≡ held_reply m (slot_of (name_moves entries))
     (last_accepted m (name_moves entries))
 names_after_silence m entries e = names_silent m entries _ ∙ silence_over m _ _ _ (sym e)
+
+-- after the silence the reply to tags depends on the text on air alone
+pub tags_after_silence : (m : ℕ) (pair : PairFields) (entries : List Entry)
+    → Ok tt ≡ unless_silent m (slot_of (text_moves entries)) (restart_before (text_moves entries)) (Ok tt)
+    → tags_reply m pair entries ≡ fitting_reply pair (on_air m (text_moves entries))
+tags_after_silence m pair entries e = silence_over m _ _ _ (sym e)
 
 -- an error that is passed on is that error
 pub passed_on : (reply : Reply) (r : Refusal) → IsErrAnd reply (λ e. e ≡ r) → reply ≡ Err r

@@ -41,7 +41,7 @@ impl StoredEncoder {
             ≡ text_segment m (text_moves entries) (on_air m (text_moves entries))) }
         ensures said { IfSome result (λ message. message ≢ Message.Other) }
     {
-        let text = self.text()?;
+        let text = self.text.on_air()?;
         Some(Message::Text {
             flag: self.text_hold.flag(),
             address: Place::new(self.text.next)?,
@@ -56,7 +56,7 @@ impl StoredEncoder {
             (λ _ m entries. result ≡ name_segment address (on_air m (name_moves entries))) }
         ensures said { IfSome result (λ message. message ≢ Message.Other) }
     {
-        let name = self.name()?;
+        let name = self.name.on_air()?;
         Some(Message::Name {
             flag: self.name_hold.flag(),
             address: Place::new(address).unwrap(),
@@ -71,7 +71,7 @@ impl StoredEncoder {
             (on_air m (text_moves entries)) (pair_on_air m entries)) }
         ensures said { IfSome result (λ message. message ≢ Message.Other) }
     {
-        let pair = self.tags()?;
+        let pair = self.pair.pair()?;
         if !self.text_hold.has_lasted(self.distance) {
             return None;
         }

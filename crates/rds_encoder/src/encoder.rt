@@ -10,6 +10,7 @@ ghost use Rattle.rds_encoder.specs.EncoderAt.{EncoderAt, Takes, WhereEncoderStan
 ghost use Rattle.rds_encoder.specs.Stored.{IsStoredEncoder, encoder_stored};
 ghost use Rattle.rds_encoder.specs.Tags.{pair_on_air, tags_reply};
 
+use crate::silence::check_silence;
 use crate::stored::{StoredEncoder, StoredHold, StoredName, StoredText};
 use crate::{Refusal, Wait};
 use rds_assembly::{Name, Text};
@@ -80,14 +81,10 @@ impl Encoder {
     pub fn restore(stored: &StoredEncoder) -> Encoder
         ensures { IsStoredEncoder stored.now → result ≡ encoder_stored stored.now }
     {
-        let mut state = *stored;
-        state.distance = Distance::restore(stored.distance).get();
-        state.pty = stored.head().pty.get();
-        state.round = if stored.round < 8 { stored.round } else { 0 };
-        state.text = stored.text.or_none();
-        state.name = stored.name.or_none();
-        state.pair = StoredPair::of(stored.pair.pair());
-        Encoder { state }
+        if stored.is_valid() {
+            return Encoder { state: *stored };
+        }
+        Encoder::spaced(stored.head(), Distance::restore(stored.distance))
     }
 
     /// Stores the encoder as plain numbers.
@@ -113,7 +110,12 @@ impl Encoder {
         ensures stands { Takes self.old self.new (SetText text) }
         ensures kept { OnErr result (self.new ≡ self.old) }
     {
-        self.state.set_text(text)
+        check_silence(self.state.silence)?;
+        let distance = Distance::restore(self.state.distance);
+        self.state.text_hold.set(distance)?;
+        self.state.text = StoredText::of(text);
+        self.state.pair = StoredPair::none();
+        Ok(())
     }
 
     /// Puts the name on air from this slot on, in place of the name before. It has the other flag, even if its bytes
@@ -131,7 +133,11 @@ impl Encoder {
         ensures stands { Takes self.old self.new (SetName name) }
         ensures kept { OnErr result (self.new ≡ self.old) }
     {
-        self.state.set_name(name)
+        check_silence(self.state.silence)?;
+        let distance = Distance::restore(self.state.distance);
+        self.state.name_hold.set(distance)?;
+        self.state.name = StoredName::of(name);
+        Ok(())
     }
 
     /// Gives the text on air these tags, in place of those before. They go off air with it. They are first sent when it
@@ -148,7 +154,10 @@ impl Encoder {
         ensures stands { Takes self.old self.new (SetTags pair) }
         ensures kept { OnErr result (self.new ≡ self.old) }
     {
-        self.state.set_tags(pair)
+        check_silence(self.state.silence)?;
+        self.state.check_tags(pair)?;
+        self.state.pair = StoredPair::of(Some(pair));
+        Ok(())
     }
 
     /// Ends the slot and returns the group that is sent in it. `None` if nothing is sent. A slot that is not free
@@ -158,7 +167,9 @@ impl Encoder {
             (λ station m entries. IsSent station (sent_in m free entries) result) }
         ensures stands { Takes self.old self.new (Tick free) }
     {
-        self.state.tick(free)
+        let message = self.state.due(free);
+        self.state.end_slot(free);
+        message?.group(self.state.head())
     }
 
     /// Returns the text on air, at most 64 bytes, borrowed from the encoder. `None` if no text is on air.
@@ -168,7 +179,7 @@ impl Encoder {
             ≡ option_map bytes_of (on_air m (text_moves entries))) }
         ensures text { IfSome result (λ x. IsText x.now) }
     {
-        self.state.text()
+        self.state.text.on_air()
     }
 
     /// Returns the name on air, eight bytes, padded with spaces, borrowed from the encoder. `None` if no name is on
@@ -179,14 +190,14 @@ impl Encoder {
             ≡ option_map bytes_of (on_air m (name_moves entries))) }
         ensures name { IfSome result (λ x. IsName x.now) }
     {
-        self.state.name()
+        self.state.name.on_air()
     }
 
     /// Returns the tags of the text on air, even if they have not been sent yet. `None` if it has none.
     pub fn tags(&self) -> Option<TagPair>
         ensures { WhereEncoderStands self.now (λ _ m entries. result ≡ pair_on_air m entries) }
     {
-        self.state.tags()
+        self.state.pair.pair()
     }
 
     /// Returns for how many more slots a set would be refused, this slot included.
@@ -198,6 +209,10 @@ impl Encoder {
         ensures name { WhereEncoderStands self.now
             (λ _ m entries. result.name ≡ held_for (reply_to m (name_moves entries))) }
     {
-        self.state.wait()
+        Wait {
+            silent: self.state.silence,
+            text: self.state.text_hold.left,
+            name: self.state.name_hold.left,
+        }
     }
 }

@@ -1,5 +1,10 @@
 //! The text and the name on air.
-ghost use Rattle.std.specs.Prelude.{◌≡◌, ◌≤◌, None, Some, length, option_map, take};
+ghost use Rattle.std.specs.Prelude.{◌≡◌, ◌≤◌, ◌↔◌, ℕ, IfSome, IsTrue, List, None, Some, length, option_map, take};
+ghost use Rattle.std.specs.Option.{option_copied};
+ghost use Rattle.rds_assembly.specs.Value.{IsName, IsText};
+ghost use Rattle.rds_encoder.specs.Entries.{Move};
+ghost use Rattle.rds_encoder.specs.EncoderAt.{with_next};
+ghost use Rattle.rds_encoder.specs.Plan.{bytes_of, on_air};
 ghost use Rattle.rds_encoder.specs.State.{advanced};
 ghost use Rattle.rds_encoder.specs.Stored.{IsStoredName, IsStoredText, name_stored, text_stored};
 
@@ -36,8 +41,21 @@ impl StoredText {
         }
     }
 
+    /// Returns the bytes of the text, borrowed from the numbers. `None` if no text is stored.
+    pub(crate) fn on_air(&self) -> Option<&[u8]>
+        ensures on_air { (m : ℕ) (moves : List Move)
+            → text_stored self.now ≡ option_map (with_next m moves) (on_air m moves)
+            → option_copied result ≡ option_map bytes_of (on_air m moves) }
+        ensures text { IsStoredText self.now → IfSome result (λ x. IsText x.now) }
+    {
+        if self.is_on_air == 0 {
+            return None;
+        }
+        Some(self.text())
+    }
+
     /// Returns the bytes of the text, borrowed from the numbers.
-    pub(crate) fn text(&self) -> &[u8]
+    fn text(&self) -> &[u8]
         ensures value { result.now ≡ take self.now.length self.now.bytes }
         ensures short { length result.now ≤ 64 }
     {
@@ -53,18 +71,14 @@ impl StoredText {
         self.next = ((u16::from(self.next) + 1) % u16::from(count)) as u8;
     }
 
-    /// Returns these numbers if they are valid, or else those without a text.
-    pub(crate) fn or_none(&self) -> StoredText
-        ensures same { IsStoredText self.now → text_stored result ≡ text_stored self.now }
-        ensures good { IsStoredText result }
+    /// Returns whether the numbers are those of a text on air, or no text is.
+    pub(crate) fn is_valid(&self) -> bool
+        ensures { IsTrue result ↔ IsStoredText self.now }
     {
-        if usize::from(self.length) <= LONGEST_TEXT
-            && Text::new(self.text()).is_ok()
-            && self.next < text_count(self.text())
-        {
-            return *self;
-        }
-        StoredText::none()
+        self.is_on_air == 0
+            || usize::from(self.length) <= LONGEST_TEXT
+                && Text::new(self.text()).is_ok()
+                && self.next < text_count(self.text())
     }
 }
 
@@ -93,15 +107,21 @@ impl StoredName {
         }
     }
 
-    /// Returns these numbers if they are valid, or else those without a name.
-    pub(crate) fn or_none(&self) -> StoredName
-        ensures same { IsStoredName self.now → name_stored result ≡ name_stored self.now }
-        ensures good { IsStoredName result }
+    /// Returns the bytes of the name, borrowed from the numbers. `None` if no name is stored.
+    pub(crate) fn on_air(&self) -> Option<&[u8]>
+        ensures value { option_copied result ≡ name_stored self.now }
+        ensures name { IsStoredName self.now → IfSome result (λ x. IsName x.now) }
     {
-        if Name::new(&self.bytes).is_ok() {
-            *self
-        } else {
-            StoredName::none()
+        if self.is_on_air == 0 {
+            return None;
         }
+        Some(self.bytes.as_slice())
+    }
+
+    /// Returns whether the numbers are those of a name on air, or no name is.
+    pub(crate) fn is_valid(&self) -> bool
+        ensures { IsTrue result ↔ IsStoredName self.now }
+    {
+        self.is_on_air == 0 || Name::new(&self.bytes).is_ok()
     }
 }

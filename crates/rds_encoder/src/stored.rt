@@ -1,20 +1,16 @@
-//! The state of an encoder, as plain numbers: a program may store it, and each call changes it in place. A bit is 0 for
-//! no and any other number for yes.
-ghost use Rattle.std.specs.Prelude.{◌≡◌, ◌<◌, ◌≤◌, IfSome, OnErr, length, option_map};
-ghost use Rattle.std.specs.Option.{option_copied};
-ghost use Rattle.rds_assembly.specs.Value.{IsName, IsText};
-ghost use Rattle.rds_encoder.specs.Entries.{SetText, SetName, SetTags, Tick, name_moves, text_moves};
-ghost use Rattle.rds_encoder.specs.Plan.{bytes_of, on_air};
-ghost use Rattle.rds_encoder.specs.Reply.{IsSetReply, IsTagsReply, held_for, reply_to, silent_for};
-ghost use Rattle.rds_encoder.specs.Sent.{IsSent, is_turn, sent_in};
-ghost use Rattle.rds_encoder.specs.EncoderAt.{Takes, WhereEncoderStands};
+//! The state of an encoder, as plain numbers: a program may store it. A bit is 0 for no and any other number for yes.
+ghost use Rattle.std.specs.Prelude.{◌≡◌, ◌<◌, ◌↔◌, IsTrue};
+ghost use Rattle.rds_encoder.specs.Entries.{text_moves};
+ghost use Rattle.rds_encoder.specs.EncoderAt.{WhereEncoderStands};
+ghost use Rattle.rds_encoder.specs.Plan.{on_air};
+ghost use Rattle.rds_encoder.specs.Reply.{IsTagsReply};
+ghost use Rattle.rds_encoder.specs.Sent.{is_turn};
 ghost use Rattle.rds_encoder.specs.Stored.{IsStoredEncoder, encoder_stored, head_stored};
-ghost use Rattle.rds_encoder.specs.Tags.{fitting_reply, pair_on_air, tags_reply};
+ghost use Rattle.rds_encoder.specs.Tags.{fitting_reply};
 
-use crate::silence::check_silence;
-use crate::{Refusal, Wait};
-use rds_assembly::{LONGEST_TEXT, NAME_LENGTH, Name, Text};
-use rds_block::{Group, Place};
+use crate::Refusal;
+use rds_assembly::{LONGEST_TEXT, NAME_LENGTH};
+use rds_block::Place;
 use rds_fields::{Distance, Head, StoredPair, TagPair, Which};
 
 /// For how many more slots a service holds its next set back, and the flag of that set.
@@ -43,8 +39,7 @@ pub struct StoredName {
     pub is_on_air: u8,
 }
 
-/// The plain numbers of an encoder. Its calls do what those of an [`Encoder`](crate::Encoder) do. Invalid numbers give
-/// arbitrary results and arbitrary numbers.
+/// The plain numbers of an encoder.
 #[repr(C)]
 #[derive(Clone, Copy)]
 pub struct StoredEncoder {
@@ -65,116 +60,16 @@ pub struct StoredEncoder {
 }
 
 impl StoredEncoder {
-    /// Puts the text on air. After an error nothing has changed.
-    pub fn set_text(&mut self, text: Text) -> Result<(), Refusal>
-        ensures reply { WhereEncoderStands (encoder_stored self.old)
-            (λ _ m entries. result ≡ reply_to m (text_moves entries)) }
-        ensures kind { IsSetReply result }
-        ensures stands { IsStoredEncoder self.old
-            → Takes (encoder_stored self.old) (encoder_stored self.new) (SetText text) }
-        ensures good { IsStoredEncoder self.old → IsStoredEncoder self.new }
-        ensures kept { OnErr result (self.new ≡ self.old) }
+    /// Returns whether the numbers are valid.
+    pub(crate) fn is_valid(&self) -> bool
+        ensures { IsTrue result ↔ IsStoredEncoder self.now }
     {
-        check_silence(self.silence)?;
-        self.text_hold.set(Distance::restore(self.distance))?;
-        self.text = StoredText::of(text);
-        self.pair = StoredPair::none();
-        Ok(())
-    }
-
-    /// Puts the name on air. After an error nothing has changed.
-    pub fn set_name(&mut self, name: Name) -> Result<(), Refusal>
-        ensures reply { WhereEncoderStands (encoder_stored self.old)
-            (λ _ m entries. result ≡ reply_to m (name_moves entries)) }
-        ensures kind { IsSetReply result }
-        ensures stands { IsStoredEncoder self.old
-            → Takes (encoder_stored self.old) (encoder_stored self.new) (SetName name) }
-        ensures good { IsStoredEncoder self.old → IsStoredEncoder self.new }
-        ensures kept { OnErr result (self.new ≡ self.old) }
-    {
-        check_silence(self.silence)?;
-        self.name_hold.set(Distance::restore(self.distance))?;
-        self.name = StoredName::of(name);
-        Ok(())
-    }
-
-    /// Gives the text on air these tags. After an error nothing has changed.
-    pub fn set_tags(&mut self, pair: TagPair) -> Result<(), Refusal>
-        ensures reply { WhereEncoderStands (encoder_stored self.old)
-            (λ _ m entries. result ≡ tags_reply m pair entries) }
-        ensures kind { IsTagsReply result }
-        ensures stands { Takes (encoder_stored self.old) (encoder_stored self.new) (SetTags pair) }
-        ensures good { IsStoredEncoder self.old → IsStoredEncoder self.new }
-        ensures kept { OnErr result (self.new ≡ self.old) }
-    {
-        check_silence(self.silence)?;
-        self.check_tags(pair)?;
-        self.pair = StoredPair::of(Some(pair));
-        Ok(())
-    }
-
-    /// Ends the slot and returns the group that is sent in it.
-    pub fn tick(&mut self, free: bool) -> Option<Group>
-        ensures sent { IsStoredEncoder self.old → WhereEncoderStands (encoder_stored self.old)
-            (λ station m entries. IsSent station (sent_in m free entries) result) }
-        ensures stands { Takes (encoder_stored self.old) (encoder_stored self.new) (Tick free) }
-        ensures good { IsStoredEncoder self.old → IsStoredEncoder self.new }
-    {
-        let message = self.due(free);
-        self.end_slot(free);
-        message?.group(self.head())
-    }
-
-    /// Returns the text on air, borrowed from the numbers.
-    pub fn text(&self) -> Option<&[u8]>
-        ensures on_air { WhereEncoderStands (encoder_stored self.now)
-            (λ _ m entries. option_copied result
-            ≡ option_map bytes_of (on_air m (text_moves entries))) }
-        ensures text { IsStoredEncoder self.now → IfSome result (λ x. IsText x.now) }
-        ensures short { IfSome result (λ x. length x.now ≤ 64) }
-    {
-        if self.text.is_on_air == 0 {
-            return None;
-        }
-        Some(self.text.text())
-    }
-
-    /// Returns the name on air, borrowed from the numbers.
-    pub fn name(&self) -> Option<&[u8]>
-        ensures on_air { WhereEncoderStands (encoder_stored self.now)
-            (λ _ m entries. option_copied result
-            ≡ option_map bytes_of (on_air m (name_moves entries))) }
-        ensures name { IsStoredEncoder self.now → IfSome result (λ x. IsName x.now) }
-        ensures short { IfSome result (λ x. length x.now ≡ 8) }
-    {
-        if self.name.is_on_air == 0 {
-            return None;
-        }
-        Some(self.name.bytes.as_slice())
-    }
-
-    /// Returns the tags of the text on air.
-    pub fn tags(&self) -> Option<TagPair>
-        ensures { IsStoredEncoder self.now
-            → WhereEncoderStands (encoder_stored self.now) (λ _ m entries. result ≡ pair_on_air m entries) }
-    {
-        self.pair.pair()
-    }
-
-    /// Returns for how many more slots a set would be refused, this slot included.
-    pub fn wait(&self) -> Wait
-        ensures silent { WhereEncoderStands (encoder_stored self.now)
-            (λ _ m entries. result.silent ≡ silent_for (reply_to m (text_moves entries))) }
-        ensures text { WhereEncoderStands (encoder_stored self.now)
-            (λ _ m entries. result.text ≡ held_for (reply_to m (text_moves entries))) }
-        ensures name { WhereEncoderStands (encoder_stored self.now)
-            (λ _ m entries. result.name ≡ held_for (reply_to m (name_moves entries))) }
-    {
-        Wait {
-            silent: self.silence,
-            text: self.text_hold.left,
-            name: self.name_hold.left,
-        }
+        self.pty < 32
+            && self.round < 8
+            && Distance::restore(self.distance).get() == self.distance
+            && self.text.is_valid()
+            && self.name.is_valid()
+            && self.pair.is_valid()
     }
 
     /// Returns the head of the station's groups.
@@ -190,12 +85,12 @@ impl StoredEncoder {
     }
 
     /// Refuses tags if no text is on air, or if one does not end in the text on air.
-    fn check_tags(&self, pair: TagPair) -> Result<(), Refusal>
+    pub(crate) fn check_tags(&self, pair: TagPair) -> Result<(), Refusal>
         ensures kind { IsTagsReply result }
         ensures reply { WhereEncoderStands (encoder_stored self.now)
             (λ _ m entries. result ≡ fitting_reply pair (on_air m (text_moves entries))) }
     {
-        let Some(text) = self.text() else {
+        let Some(text) = self.text.on_air() else {
             return Err(Refusal::NoText);
         };
         if !pair.one().ends_in(text.len()) {

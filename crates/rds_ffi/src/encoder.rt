@@ -1,5 +1,5 @@
 //! An encoder in the caller's memory.
-ghost use Rattle.std.specs.Prelude.{◌≡◌, ◌≢◌, ◌+◌, ◌<◌, ◌≤◌, ◌↔◌, ℕ, List, [], ◌∷◌, Option, option_map};
+ghost use Rattle.std.specs.Prelude.{◌≡◌, ◌≢◌, ◌+◌, ◌<◌, ◌≤◌, ◌↔◌, ℕ, List, [], ◌∷◌, OnErr, Option, option_map};
 ghost use Rattle.rds_block.specs.declared.group.Group.{Group};
 ghost use Rattle.rds_fields.specs.declared.head.Head.{Head};
 ghost use Rattle.rds_fields.specs.Stored.{is_set};
@@ -10,6 +10,7 @@ ghost use Rattle.rds_encoder.specs.Entries.{Entry, Restart, SetName, SetTags, Se
 ghost use Rattle.rds_encoder.specs.Plan.{bytes_of, on_air};
 ghost use Rattle.rds_encoder.specs.Reply.{IsSetReply, IsTagsReply, held_for, reply_to, silent_for};
 ghost use Rattle.rds_encoder.specs.Sent.{IsSent, sent_in};
+ghost use Rattle.rds_encoder.specs.Stored.{IsStoredEncoder, encoder_stored};
 ghost use Rattle.rds_encoder.specs.Tags.{tags_reply};
 ghost use Rattle.rds_ffi.specs.Codes.{RDSRT_BAD_ARGUMENT, RDSRT_BAD_TAGS, RDSRT_OK, IsReplyOf, refusal_of, reply_of};
 ghost use Rattle.rds_ffi.specs.EncoderInMemory.{EncoderInMemory, TakesStored, WhereItIs};
@@ -24,7 +25,7 @@ use crate::tags::{RdsrtTags, pair_given};
 use crate::view::{RdsrtName, RdsrtText, plain_name, plain_text};
 use rds_assembly::{Name, Text};
 use rds_block::Place;
-use rds_encoder::{Encoder, StoredEncoder};
+use rds_encoder::{Encoder, Refusal, StoredEncoder};
 use rds_fields::Head;
 
 /// The text and the name on air.
@@ -102,7 +103,9 @@ pub extern "C" fn rdsrt_encoder_set_text(encoder: &mut StoredEncoder, text: &[u8
         Ok(text) => text,
         Err(refused) => return plain_refusal(refused),
     };
-    plain_reply(encoder.set_text(text))
+    let mut state = Encoder::restore(encoder);
+    let reply = state.set_text(text);
+    keep(encoder, &state, reply)
 }
 
 /// Puts the name of these bytes on air from this slot on, padded with spaces to eight.
@@ -126,7 +129,9 @@ pub extern "C" fn rdsrt_encoder_set_name(encoder: &mut StoredEncoder, name: &[u8
         Ok(name) => name,
         Err(refused) => return plain_refusal(refused),
     };
-    plain_reply(encoder.set_name(name))
+    let mut state = Encoder::restore(encoder);
+    let reply = state.set_name(name);
+    keep(encoder, &state, reply)
 }
 
 /// Sets the tags of the text on air.
@@ -153,7 +158,9 @@ pub extern "C" fn rdsrt_encoder_set_tags(
             number: 0,
         };
     };
-    plain_reply(encoder.set_tags(pair))
+    let mut state = Encoder::restore(encoder);
+    let reply = state.set_tags(pair);
+    keep(encoder, &state, reply)
 }
 
 /// Ends the slot, and writes the four blocks of its group. Returns `RDSRT_SENT`, or `RDSRT_OK` and unchanged blocks if
@@ -170,7 +177,10 @@ pub extern "C" fn rdsrt_encoder_tick(
     ensures few { result ≤ 1 }
     ensures kept { result ≡ RDSRT_OK → blocks.new ≡ blocks.old }
 {
-    let Some(group) = encoder.tick(free != 0) else {
+    let mut state = Encoder::restore(encoder);
+    let sent = state.tick(free != 0);
+    *encoder = state.store();
+    let Some(group) = sent else {
         return codes::OK;
     };
     *blocks = group.to_blocks();
@@ -187,9 +197,10 @@ pub extern "C" fn rdsrt_encoder_on_air(encoder: &StoredEncoder, air: &mut RdsrtO
     ensures plain_text { IsPlainText air.new.text }
     ensures plain_name { IsPlainName air.new.name }
 {
+    let state = Encoder::restore(encoder);
     *air = RdsrtOnAir {
-        text: plain_text(encoder.text()),
-        name: plain_name(encoder.name()),
+        text: plain_text(state.text()),
+        name: plain_name(state.name()),
     };
 }
 
@@ -203,10 +214,23 @@ pub extern "C" fn rdsrt_encoder_wait(encoder: &StoredEncoder, wait: &mut RdsrtWa
     ensures name { WhereItIs encoder.now
         (λ _ m entries. wait.new.name ≡ held_for (reply_to m (name_moves entries))) }
 {
-    let left = encoder.wait();
+    let left = Encoder::restore(encoder).wait();
     *wait = RdsrtWait {
         silent: left.silent,
         text: left.text,
         name: left.name,
     };
+}
+
+/// Stores the encoder after a set that was accepted, and returns the reply.
+fn keep(encoder: &mut StoredEncoder, state: &Encoder, reply: Result<(), Refusal>) -> RdsrtReply
+    ensures reply { result ≡ reply_of reply }
+    ensures stored { IsStoredEncoder encoder.old → OnErr reply (state.now ≡ encoder_stored encoder.old)
+        → (encoder_stored encoder.new ≡ state.now) × IsStoredEncoder encoder.new }
+    ensures kept { OnErr reply (encoder.new ≡ encoder.old) }
+{
+    if reply.is_ok() {
+        *encoder = state.store();
+    }
+    plain_reply(reply)
 }

@@ -5,10 +5,15 @@ use Rattle.rds_ffi.specs.Codes.{reply_of}
 use Rattle.rds_ffi.proofs.encoder.rdsrt_encoder_set_name.Goals as goal
 
 pub returns-clause-reply : goal.returns-clause-reply
-returns-clause-reply c given station m entries s = c.plain_reply.ensures
-    ∙ ap reply_of (c.set_name.ensures.reply station m entries s.at)
+returns-clause-reply c given station m entries s = c.keep.ensures.reply
+    ∙ ap reply_of (c.set_name-reply.ensures.reply station m entries (rw (c.restore-state.ensures s.good) s.at))
 
 pub returns-clause-stands : goal.returns-clause-stands
 returns-clause-stands c given station m entries s =
-    subst (λ (x : List ℕ). EncoderInMemory station m c.set_name.new.self (SetName x ∷ entries)) c.in-Ok.ensures.value
-    record { good = c.set_name.ensures.good s.good; at = c.set_name.ensures.stands s.good station m entries s.at }
+    let old = c.restore-state.ensures s.good in
+    let stored = c.keep.ensures.stored s.good (rw old at c.set_name-reply.ensures.kept) in
+    subst (λ (x : List ℕ). EncoderInMemory station m c.keep.new.encoder (SetName x ∷ entries)) c.in-Ok.ensures.value
+    record {
+      good = stored.1;
+      at = rw stored.0 (c.set_name-reply.ensures.stands station m entries (rw old s.at));
+    }

@@ -8,11 +8,17 @@ use Rattle.rds_ffi.proofs.encoder.rdsrt_encoder_set_tags.Goals as goal
 
 pub returns-clause-reply : goal.returns-clause-reply
 returns-clause-reply c given station m entries s =
-    c.plain_reply.ensures ∙ ap reply_of (c.set_tags.ensures.reply station m entries s.at
+    c.keep.ensures.reply ∙ ap reply_of
+    (c.set_tags-reply.ensures.reply station m entries (rw (c.restore-state.ensures s.good) s.at)
     ∙ ap (λ (p : PairFields). tags_reply m p entries) c.in-Some.ensures.value)
 
 pub returns-clause-stands : goal.returns-clause-stands
 returns-clause-stands c given station m entries s =
-    subst (λ (p : PairFields). EncoderInMemory station m c.set_tags.new.self (SetTags p ∷ entries))
+    let old = c.restore-state.ensures s.good in
+    let stored = c.keep.ensures.stored s.good (rw old at c.set_tags-reply.ensures.kept) in
+    subst (λ (p : PairFields). EncoderInMemory station m c.keep.new.encoder (SetTags p ∷ entries))
     c.in-Some.ensures.value
-    record { good = c.set_tags.ensures.good s.good; at = c.set_tags.ensures.stands station m entries s.at }
+    record {
+      good = stored.1;
+      at = rw stored.0 (c.set_tags-reply.ensures.stands station m entries (rw old s.at));
+    }

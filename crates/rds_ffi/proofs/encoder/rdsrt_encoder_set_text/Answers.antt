@@ -5,10 +5,15 @@ use Rattle.rds_ffi.specs.Codes.{reply_of}
 use Rattle.rds_ffi.proofs.encoder.rdsrt_encoder_set_text.Goals as goal
 
 pub returns-clause-reply : goal.returns-clause-reply
-returns-clause-reply c given station m entries s = c.plain_reply.ensures
-    ∙ ap reply_of (c.set_text.ensures.reply station m entries s.at)
+returns-clause-reply c given station m entries s = c.keep.ensures.reply
+    ∙ ap reply_of (c.set_text-reply.ensures.reply station m entries (rw (c.restore-state.ensures s.good) s.at))
 
 pub returns-clause-stands : goal.returns-clause-stands
 returns-clause-stands c given station m entries s =
-    subst (λ (x : List ℕ). EncoderInMemory station m c.set_text.new.self (SetText x ∷ entries)) c.in-Ok.ensures.value
-    record { good = c.set_text.ensures.good s.good; at = c.set_text.ensures.stands s.good station m entries s.at }
+    let old = c.restore-state.ensures s.good in
+    let stored = c.keep.ensures.stored s.good (rw old at c.set_text-reply.ensures.kept) in
+    subst (λ (x : List ℕ). EncoderInMemory station m c.keep.new.encoder (SetText x ∷ entries)) c.in-Ok.ensures.value
+    record {
+      good = stored.1;
+      at = rw stored.0 (c.set_text-reply.ensures.stands station m entries (rw old s.at));
+    }

@@ -1,8 +1,18 @@
+use Rattle.std.proofs.Common.{◌≡◌, ◌∙◌, Ok, sym}
+use Rattle.rds_encoder.specs.Entries.{restart_before, slot_of, text_moves}
+use Rattle.rds_encoder.specs.Reply.{reply_to}
+use Rattle.rds_encoder.proofs.Replies.{silence_over}
+use Rattle.rds_encoder.proofs.Sets.{text_accepted}
 use Rattle.rds_encoder.proofs.encoder.Encoder.set_text.Goals as goal
 
-pub returns-clause-reply : goal.returns-clause-reply
-returns-clause-reply c station m entries st = c.set_text.ensures.reply station m entries (rw (← c.self.view_is) at st)
-
 pub returns-clause-stands : goal.returns-clause-stands
-returns-clause-stands c station m entries st = c.set_text.ensures.stands c.self.invariant station m entries
-    (rw (← c.self.view_is) at st)
+returns-clause-stands c station m entries st =
+    let st = rw (← c.self.view_is) at st in
+    let ok : reply_to m (text_moves entries) ≡ Ok tt =
+    silence_over m (slot_of (text_moves entries)) (restart_before (text_moves entries)) _
+    (sym (c.in_ok-check_silence.ensures.reply m (text_moves entries) st.silence))
+    ∙ sym (c.in_ok-set.ensures.reply m (text_moves entries) st.text.hold) in
+    let back = rw (c.restore-distance.ensures c.self.invariant.some c.self.invariant.distance ∙ st.distance)
+    at (c.in_ok-set.ensures.hold (text_moves entries) c.args.text) in
+    text_accepted station m _ _ _ entries c.args.text st ok (back st.text.hold ok) c.of-self-inside.ensures.same
+    c.none-self-inside.ensures.same
