@@ -1,6 +1,7 @@
 -- Lemmas: what a slot adds to the list of a log, and how the state of the list changes with the log.
 use Rattle.std.specs.Prelude.{Err}
-use Rattle.std.proofs.Common.{◌≡◌, ◌⊎◌, ◌↔◌, ◌+◌, ◌<◌, ◌≤◌, ◌||◌, ℕ, Bool, true, false, nat_lt, List, [], ◌∷◌, Option, Some}
+use Rattle.std.proofs.Common.{◌≡◌, ◌⊎◌, ◌↔◌, ◌+◌, ◌<◌, ◌≤◌, ◌||◌, ℕ, Bool, true, false, nat_lt, List, [], ◌∷◌, Option}
+use Rattle.std.proofs.Common.{Some}
 use Rattle.std.proofs.Common.{None, refl, sym, ap, ◌∙◌, subst, inl, inr, arith, zero, suc, ◌==◌}
 use Rattle.std.specs.Prelude.{if◌then◌else◌, slice_index}
 use Rattle.std.specs.Prelude.{MatchOption}
@@ -348,7 +349,8 @@ names_listed l after message result silent text form counts holds adds = record 
         (marks text_mark judged)
         after.text) (sym form) (rw (silent, text) (nothing_follows (gauge_of l.form) (gauge_is_exact l.form)
         (omega arith)
-        l.distance h.spacing.some (marks text_mark judged) (spans (gauge_of l.form) l.distance (marks text_mark judged)) l.text
+        l.distance h.spacing.some (marks text_mark judged)
+        (spans (gauge_of l.form) l.distance (marks text_mark judged)) l.text
         h.text));
     name = holds h.spacing.some (marks name_mark judged) h.name;
   };
@@ -367,7 +369,8 @@ nothing_listed l message result none silent = record {
     text = rw (silent judged h).0 (nothing_follows (gauge_of l.form) (gauge_is_exact l.form)
         (omega arith) l.distance h.spacing.some (marks text_mark judged)
         (spans (gauge_of l.form) l.distance (marks text_mark judged)) l.text h.text);
-    name = rw (silent judged h).1 (nothing_follows name_gauge name_gauge_is_exact (omega arith) l.distance h.spacing.some
+    name = rw (silent judged h).1
+        (nothing_follows name_gauge name_gauge_is_exact (omega arith) l.distance h.spacing.some
         (marks name_mark judged)
         (spans name_gauge l.distance (marks name_mark judged)) l.name h.name);
   };

@@ -63,8 +63,8 @@ pub struct StoredSpans {
     pub sum: u32,
 }
 
-/// The plain numbers of an [`Audit`](crate::Audit). Any numbers make an audit. Contracts describe its answers only if its
-/// numbers come from a log.
+/// The plain numbers of an [`Audit`](crate::Audit). Any numbers make an audit. Contracts describe its answers only if
+/// its numbers come from a log.
 #[repr(C)]
 #[derive(Clone, Copy)]
 pub struct StoredAudit {

@@ -267,7 +267,8 @@ takes_slot a l after w out now lines line said slot found says read rtplus taken
     fails fault none some =
         fails_at a l.audit after.audit l.slots s.slots slot fault s.audit.at s.begins s.form none s.count
         (takes.start ∙ s.begins) (takes.form ∙ s.form)
-        (fault_of (spacing a) after.audit fault (judged_as after.audit.start (spacing a) (heard_of a.pi (slot ∷ s.slots)))
+        (fault_of (spacing a) after.audit fault
+        (judged_as after.audit.start (spacing a) (heard_of a.pi (slot ∷ s.slots)))
         some stands.holds)
 
     further : Says a.stop a after.audit.fault (slot ∷ s.slots) (taken.total ++ lines_for a.stop l.slots found)

@@ -79,9 +79,11 @@ module _ (t : Tuning) (one other : List (Option Group)) (part : IsInputPart t on
   pub view_part : (thing : Thing) → Has v thing → Has w thing
   view_part (Text x) has = text_part x has
   view_part (Name x) has = name_part x has
-  view_part (Tag One class piece) has = is_other.one ∙ cuts_again One v.text w.text _ _ class piece text_part part.tags.0
+  view_part (Tag One class piece) has = is_other.one
+      ∙ cuts_again One v.text w.text _ _ class piece text_part part.tags.0
       (sym is.one ∙ has)
-  view_part (Tag Two class piece) has = is_other.two ∙ cuts_again Two v.text w.text _ _ class piece text_part part.tags.0
+  view_part (Tag Two class piece) has = is_other.two
+      ∙ cuts_again Two v.text w.text _ _ class piece text_part part.tags.0
       (sym is.two ∙ has)
 
 -- ---- the receiver that loses nothing

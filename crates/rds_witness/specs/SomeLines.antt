@@ -19,7 +19,8 @@ kind_of (Tag Two class piece) = 3
 -- the thing of this kind that a view has, if it has one
 abbrev pub thing_in : ShownView → ℕ → Option Thing
 thing_in view kind = slice_index_or (option_map Text view.text ∷ option_map Name view.name
-    ∷ option_map (λ tag. Tag One tag.0 tag.1) view.one ∷ option_map (λ tag. Tag Two tag.0 tag.1) view.two ∷ []) kind None
+    ∷ option_map (λ tag. Tag One tag.0 tag.1) view.one ∷ option_map (λ tag. Tag Two tag.0 tag.1) view.two ∷ []) kind
+    None
 
 -- these are lines of mixes, and each mix of the first n kinds has its line
 pub record AreSomeMixLines (n : ℕ) (t : Tuning) (ahead : ℕ) (log : List (Option Group)) (lost : List Burst)

@@ -8,5 +8,6 @@ returns-clause-turns c pi d log lies =
     ((λ e. same.0 (set _ (sym c.from.ensures ∙ e))), (λ h. c.from.ensures ∙ one _ (same.1 h)))
 
 pub returns-clause-safe : goal.returns-clause-safe
-returns-clause-safe c pi d log lies plain e = (rw c.restore.ensures at c.names_turn_the_flag.ensures.safe) pi d log lies plain
+returns-clause-safe c pi d log lies plain e = (rw c.restore.ensures at c.names_turn_the_flag.ensures.safe) pi d log
+    lies plain
     (set _ (sym c.from.ensures ∙ e))

@@ -13,9 +13,11 @@ returns-clause-plans c pi d log lies =
     ((λ e. same.0 (set _ (sym c.from.ensures ∙ e))), (λ h. c.from.ensures ∙ one _ (same.1 h)))
 
 pub returns-clause-safe : goal.returns-clause-safe
-returns-clause-safe c pi d log lies m k some sum e = (rw c.restore.ensures at c.passed.ensures.safe) pi d log lies m k some sum
+returns-clause-safe c pi d log lies m k some sum e = (rw c.restore.ensures at c.passed.ensures.safe) pi d log lies m k
+    some sum
     (set _ (sym c.from.ensures ∙ e))
 
 pub returns-clause-recording : goal.returns-clause-recording
-returns-clause-recording c pi m k log lies running some e = (rw c.restore.ensures at c.passed.ensures.recording) pi m k log lies running some
+returns-clause-recording c pi m k log lies running some e = (rw c.restore.ensures at c.passed.ensures.recording) pi m k
+    log lies running some
     (set _ (sym c.from.ensures ∙ e))

@@ -8,5 +8,6 @@ returns-clause-stands c ok first =
     stored_at _ _ _ [] c.store.ensures.good c.store.ensures.same
     (subst (λ w. ReceiverAt record { programme = c.args.pi; dwell = c.args.dwell; window = Some w; first = first }
     c.tuned.result []) c.in-Some-new.ensures.value
-    (subst (λ m. ReceiverAt record { programme = c.args.pi; dwell = m; window = Some c.in-Some-new.window; first = first }
+    (subst (λ m. ReceiverAt record
+    { programme = c.args.pi; dwell = m; window = Some c.in-Some-new.window; first = first }
     c.tuned.result []) c.in-Some.ensures.value (c.tuned.ensures.stands first)))

@@ -19,5 +19,6 @@ loop-n-preserved c =
 pub returns : goal.returns
 returns c =
     let end : c.loop-n.n ≡ c.args.slot = omega (arith, c.loop-n.auto.n-end, c.loop-n-test.false) in
-    subst (λ (n : ℕ). ReceiverAt (tuned c.args.pi c.args.dwell) c.loop-n.receiver (got c.args.lost.now c.args.log.now n))
+    subst (λ (n : ℕ). ReceiverAt (tuned c.args.pi c.args.dwell) c.loop-n.receiver
+    (got c.args.lost.now c.args.log.now n))
     end c.loop-n.invariant

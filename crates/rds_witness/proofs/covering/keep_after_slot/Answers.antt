@@ -21,7 +21,8 @@ pub loop-place-preserved : goal.loop-place-preserved
 loop-place-preserved c =
     let now = c.loop-place.place in
     let one = c.copied-later.result in
-    let is : (d : Lossy) → get_or c.args.receivers.now now d ≡ one = λ d. c.receiver_at.ensures d ∙ sym c.copied-later.ensures
+    let is : (d : Lossy) → get_or c.args.receivers.now now d ≡ one = λ d. c.receiver_at.ensures d
+    ∙ sym c.copied-later.ensures
     in
     let later = c.take_slot.new.one in
     let step = c.take_slot.ensures in

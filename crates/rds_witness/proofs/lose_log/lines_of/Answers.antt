@@ -10,7 +10,8 @@ loop-slot-init c =
     let losing = c.args.losing.now in
     let t = tuned losing.pi losing.dwell in
     let log = c.args.log.now in
-    let begins : ReceiverAt t c.new-receiver.result (got losing.lost.now log 0) = subst (ReceiverAt t c.new-receiver.result)
+    let begins : ReceiverAt t c.new-receiver.result (got losing.lost.now log 0) = subst
+    (ReceiverAt t c.new-receiver.result)
     (sym (got-none losing.lost.now log)) (c.new-receiver.ensures.stands 0) in
     record {
       stands = begins;

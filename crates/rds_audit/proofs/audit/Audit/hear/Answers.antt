@@ -25,7 +25,8 @@ returns-in-Name-clause-lists c =
 pub returns-then-awaits_text-clause-lists : goal.returns-then-awaits_text-clause-lists
 returns-then-awaits_text-clause-lists c =
     let early = rw (← c.self.view_is) at (c.awaits_text.ensures.early c.if-awaits_text.true) in
-    rw (← c.self.view_is, c.in-Tags.is) (nothing_listed (audit_stored c.self.inside.state) _ c.none.result c.none.ensures
+    rw (← c.self.view_is, c.in-Tags.is)
+    (nothing_listed (audit_stored c.self.inside.state) _ c.none.result c.none.ensures
     (λ judged h. tags_silent _ judged c.in-Tags.pair early.0
     (sym (text_open _ judged _ h) ∙ early.1)))
 

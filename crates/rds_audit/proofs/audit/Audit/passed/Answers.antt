@@ -26,5 +26,6 @@ returns-clause-safe c pi d log s m k pos same is_so =
 
 pub returns-clause-recording : goal.returns-clause-recording
 returns-clause-recording c pi m k log s running pos passed =
-    safe_as_it_is c.what_passes_as_a_recording_is_safe.ensures.passes c.args.self.now.form m k _ (heard_of pi log) running
+    safe_as_it_is c.what_passes_as_a_recording_is_safe.ensures.passes c.args.self.now.form m k _
+    (heard_of pi log) running
     pos ((returns-clause-passes c pi (m + k) log s).0 passed)

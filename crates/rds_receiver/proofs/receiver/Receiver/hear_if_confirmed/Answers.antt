@@ -59,5 +59,6 @@ returns-clause-holds c =
         (c.age_lasts.ensures.lasts w m first heard) aged in
         message_counted (Some w) m first heard (receiver_stored c.self-2.inside.state) _ c.in-Some.message refl
         (c.hear.ensures.holds c.self-2.invariant.display)
-        (rw (c.self-2.view_is) (subst (λ (b : Bool). Counts (Some w) m first c.confirm.new.self heard c.in-Some.message b)
+        (rw (c.self-2.view_is)
+        (subst (λ (b : Bool). Counts (Some w) m first c.confirm.new.self heard c.in-Some.message b)
         c.if-not-confirm.false (c.confirm.ensures.confirms w m first heard before)))

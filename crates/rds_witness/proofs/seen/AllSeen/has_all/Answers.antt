@@ -10,10 +10,12 @@ use Rattle.rds_witness.proofs.seen.AllSeen.has_all.Goals as goal
 use Rattle.rds_witness.proofs.seen.AllSeen.has_all.Goals.{in-Some+else-not-has, in_default}
 
 pub loop-kind-preserved : goal.loop-kind-preserved
-loop-kind-preserved c t log all = more_kinds (IsSeenBefore t log c.args.slots) (view_of c.view-view.result) c.loop-kind.kind
+loop-kind-preserved c t log all = more_kinds (IsSeenBefore t log c.args.slots)
+    (view_of c.view-view.result) c.loop-kind.kind
     (c.loop-kind.invariant t log all) next
   where
-    next : (thing : Thing) → thing_in (view_of c.view-view.result) c.loop-kind.kind ≡ Some thing → IsSeenBefore t log c.args.slots thing
+    next : (thing : Thing) → thing_in (view_of c.view-view.result) c.loop-kind.kind ≡ Some thing
+        → IsSeenBefore t log c.args.slots thing
     next thing is = elim c.match-of_kind.branch [
       | in-Some+else-not-has w ↦
           let mapped = c.of_kind.ensures.is in

@@ -10,16 +10,19 @@ use Rattle.rds_witness.proofs.seen.AllSeen.knows_all.Goals as goal
 use Rattle.rds_witness.proofs.seen.AllSeen.knows_all.Goals.{in-Some+else-not-knows, in_default}
 
 pub loop-kind-preserved : goal.loop-kind-preserved
-loop-kind-preserved c t log all = more_kinds (IsKnown t log c.args.slots (view_of c.args.before)) (view_of c.args.after) c.loop-kind.kind
+loop-kind-preserved c t log all = more_kinds (IsKnown t log c.args.slots (view_of c.args.before))
+    (view_of c.args.after) c.loop-kind.kind
     (c.loop-kind.invariant t log all) next
   where
-    next : (thing : Thing) → thing_in (view_of c.args.after) c.loop-kind.kind ≡ Some thing → IsKnown t log c.args.slots (view_of c.args.before) thing
+    next : (thing : Thing) → thing_in (view_of c.args.after) c.loop-kind.kind ≡ Some thing → IsKnown t log c.args.slots
+        (view_of c.args.before) thing
     next thing is = elim c.match-of_kind.branch [
       | in-Some+else-not-knows w ↦
           let mapped = c.of_kind.ensures.is in
           let given = ap (option_map thing_of) w.in-Some.is in
           let same : thing_of w.in-Some.thing ≡ thing = cc in
-          subst (IsKnown t log c.args.slots (view_of c.args.before)) same (w.knows.ensures w.if-not-knows.false t log all)
+          subst (IsKnown t log c.args.slots (view_of c.args.before)) same
+          (w.knows.ensures w.if-not-knows.false t log all)
       | in_default w ↦
           let mapped = c.of_kind.ensures.is in
           let given = ap (option_map thing_of) w.in_default.is in

@@ -9,4 +9,5 @@ use Rattle.rds_witness.proofs.seen.AllSeen.knows_all.Given as goal
 
 abbrev pub invariant-loop-kind : goal.invariant-loop-kind
 invariant-loop-kind l = (t : Tuning) (log : List (Option Group)) → AreSeen t log l.self
-    → (thing : Thing) → kind_of thing < l.kind → Has (view_of l.fn.after) thing → IsKnown t log l.slots (view_of l.fn.before) thing
+    → (thing : Thing) → kind_of thing < l.kind → Has (view_of l.fn.after) thing → IsKnown t log l.slots
+    (view_of l.fn.before) thing

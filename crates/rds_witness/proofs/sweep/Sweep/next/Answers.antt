@@ -22,7 +22,8 @@ returns-clause-stands c pi m n log is old =
     let whole = c.take_slot.new.one in
     let step = c.take_slot.ensures in
     let begins = c.lose_first.new.whole in
-    let loses : TakesSlot was.receiver begins.receiver None = subst (λ (s : Lossy). TakesSlot s.receiver begins.receiver None)
+    let loses : TakesSlot was.receiver begins.receiver None = subst
+    (λ (s : Lossy). TakesSlot s.receiver begins.receiver None)
     c.copied-begins.ensures c.lose_first.ensures.stands in
     let more : got [] log (n + 1) ≡ group ∷ got [] log n = got-more [] log n
     ∙ ap (λ (g : Option Group). g ∷ got [] log n) (sym is) in
@@ -81,7 +82,8 @@ returns-clause-stands c pi m n log is old =
     subst (λ (l : List Lossy). IsCovered t (whole ∷ l) (got (burst ∷ []) log (n + 1))) (sym end_hearing)
     (subst (IsCovered t (whole ∷ hearing)) (heard_next burst log n group behind is)
     (by_first t was set input (IsCovered t (whole ∷ hearing) (group ∷ input)) covered
-    (λ covers. covered_first t whole hearing (group ∷ input) (covers_next pi m was whole group input step.stands covers)) others)) in
+    (λ covers. covered_first t whole hearing (group ∷ input)
+    (covers_next pi m was whole group input step.stands covers)) others)) in
     record {
       whole = after;
       losing_at = subst (All (IsAt t (n + 1))) (sym end_losing) (λ k d less. lose_more.at (suc k) d
