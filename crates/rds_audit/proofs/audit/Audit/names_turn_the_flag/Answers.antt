@@ -1,4 +1,4 @@
-use Rattle.std.proofs.Common.{◌≡◌, ◌∙◌, false, subst, sym, true}
+use Rattle.std.proofs.Common.{subst, sym}
 use Rattle.rds_receiver.specs.Receipts.{heard_of}
 use Rattle.rds_audit.specs.Recording.{judged_as}
 use Rattle.rds_audit.specs.Reigns.{AlternateFlags}
@@ -35,7 +35,6 @@ returns-then-passed-clause-safe c pi d log s plain turns =
 
 pub returns-else-passed-clause-turns : goal.returns-else-passed-clause-turns
 returns-else-passed-clause-turns c pi d log s = (
-  (λ e. absurd (let bad : false ≡ true = sym c.if-passed.false ∙ e in cc)),
-  (λ both. absurd (let bad : true ≡ false = sym ((c.passed.ensures.passes pi d log s).1 both.0) ∙ c.if-passed.false
-      in cc)),
+  (λ yes. absurd (let no = c.if-passed.false in cc)),
+  (λ both. (c.passed.ensures.passes pi d log s).1 both.0),
 )
