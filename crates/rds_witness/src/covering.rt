@@ -134,9 +134,8 @@ fn is_known_part(one: &StoredDisplay, other: &StoredDisplay) -> bool
 /// Returns whether the first receiver holds a part of what the second one holds, if both heard as many slots.
 pub(crate) fn is_receiver_part(one: &Receiver, other: &Receiver) -> bool
     ensures { IsTrue result → (pi m : ℕ) (input more : List (Option Group))
-        → ReceiverAt (tuned pi m) one.now input
-        → ReceiverAt (tuned pi m) other.now more → length input ≡ length more
-        → IsInputPart (tuned pi m) input more }
+        → ReceiverAt (tuned pi m) one.now input → ReceiverAt (tuned pi m) other.now more
+        → length input ≡ length more → IsInputPart (tuned pi m) input more }
 {
     let (one, other) = (&one.numbers().display, &other.numbers().display);
     if !is_known_part(one, other) {
@@ -152,9 +151,8 @@ pub(crate) fn is_receiver_part(one: &Receiver, other: &Receiver) -> bool
 /// Lets the receiver handle a slot. `lost` is the number of the slot if the receiver lost it.
 pub(crate) fn take_slot(one: &mut Lossy, group: Option<Blocks>, lost: Option<usize>)
     ensures stands { TakesSlot one.old.receiver one.new.receiver group }
-    ensures same { (t : Tuning) (log : List (Option Group)) (k : ℕ)
-        (input : List (Option Group)) → ReceiverAt t one.old.receiver input
-        → ShowsOnlySeen t log k one.old.receiver → IsChecked t log k one.new }
+    ensures same { (t : Tuning) (log : List (Option Group)) (k : ℕ) (input : List (Option Group))
+        → ReceiverAt t one.old.receiver input → ShowsOnlySeen t log k one.old.receiver → IsChecked t log k one.new }
 {
     one.changed = one.receiver.slot_blocks(group);
     if let Some(last) = lost {
@@ -184,12 +182,12 @@ pub(crate) fn receiver_at(receivers: &[Lossy], place: usize) -> &Lossy
 }
 
 /// Keeps a receiver, unless the one without a loss or a kept one holds all that it holds.
-pub(crate) fn keep(whole: &Lossy, kept: &mut Vec<Lossy>, one: Lossy) -> Result<(), AllocError>
+pub(crate) fn keep(whole: &Lossy, kept: &mut Vec<Lossy>, one: &Lossy) -> Result<(), AllocError>
     ensures covers { OnOk result ((pi m n : ℕ) → All (IsAt (tuned pi m) n) (whole.now ∷ kept.old.items)
-        → IsAt (tuned pi m) n one
-        → Keeps (tuned pi m) n one (whole.now ∷ kept.old.items) (whole.now ∷ kept.new.items)) }
+        → IsAt (tuned pi m) n one.now
+        → Keeps (tuned pi m) n one.now (whole.now ∷ kept.old.items) (whole.now ∷ kept.new.items)) }
     ensures checked { OnOk result ((t : Tuning) (log : List (Option Group)) (k : ℕ)
-        → All (IsChecked t log k) kept.old.items → IsChecked t log k one → All (IsChecked t log k) kept.new.items) }
+        → All (IsChecked t log k) kept.old.items → IsChecked t log k one.now → All (IsChecked t log k) kept.new.items) }
 {
     if is_receiver_part(&one.receiver, &whole.receiver) {
         return Ok(());
@@ -199,7 +197,7 @@ pub(crate) fn keep(whole: &Lossy, kept: &mut Vec<Lossy>, one: Lossy) -> Result<(
             return Ok(());
         }
     }
-    kept.push(one)?;
+    kept.push(one.copied())?;
     Ok(())
 }
 
@@ -221,7 +219,7 @@ pub(crate) fn keep_after_slot(
     for place in 0..receivers.len() {
         let mut later = receiver_at(receivers, place).copied();
         take_slot(&mut later, *group, lost);
-        keep(whole, kept, later)?;
+        keep(whole, kept, &later)?;
     }
     Ok(())
 }

@@ -81,7 +81,7 @@ impl Sweep {
         )?;
         let mut losing = mem::replace(&mut self.hearing, hearing);
         losing.clear();
-        keep(&self.whole, &mut losing, begins)?;
+        keep(&self.whole, &mut losing, &begins)?;
         keep_after_slot(
             &self.whole,
             self.losing.as_slice(),

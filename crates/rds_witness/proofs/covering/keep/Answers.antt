@@ -1,8 +1,7 @@
-use Rattle.std.proofs.Common.{◌∷◌, All, List, arith, refl, subst, sym}
+use Rattle.std.proofs.Common.{◌∷◌, List, arith, refl, subst}
 use Rattle.std.specs.List.{Contains}
 use Rattle.std.proofs.lemmas.List.Elements.{All-push}
 use Rattle.rds_log.specs.LogWrites.{tuned}
-use Rattle.rds_witness.specs.Covered.{Keeps}
 use Rattle.rds_witness.specs.Search.{IsChecked}
 use Rattle.rds_witness.specs.declared.covering.Lossy.{Lossy}
 use Rattle.rds_witness.proofs.KeptReceivers.{contains_next, keeps_more, keeps_part}
@@ -12,7 +11,7 @@ pub returns-then-is_receiver_part-clause-covers : goal.returns-then-is_receiver_
 returns-then-is_receiver_part-clause-covers c pi m n at its =
     let whole = c.args.whole.now in
     let kept = c.args.kept.now.items in
-    keeps_part (tuned pi m) n (whole ∷ kept) c.args.one whole (0, omega arith, refl)
+    keeps_part (tuned pi m) n (whole ∷ kept) c.args.one.now whole (0, omega arith, refl)
     (λ input more mine theirs long. c.is_receiver_part.ensures c.if-is_receiver_part.true pi m input more mine theirs
     long) at
 
@@ -29,7 +28,7 @@ returns-then-is_receiver_part-2-clause-covers c pi m n at its =
       omega (arith, slice.len, count, test),
       c.receiver_at.ensures by,
     ) in
-    keeps_part (tuned pi m) n (whole ∷ kept) c.args.one by
+    keeps_part (tuned pi m) n (whole ∷ kept) c.args.one.now by
     (contains_next whole kept by (subst (λ (l : List Lossy). Contains l by) slice.value there))
     (λ input more mine theirs long. c.is_receiver_part-in-loop-place.ensures c.if-is_receiver_part-2.true pi m input
     more mine theirs long) at
@@ -38,10 +37,9 @@ pub returns-clause-covers : goal.returns-clause-covers
 returns-clause-covers c pi m n at its =
     let whole = c.args.whole.now in
     let kept = c.args.kept.now.items in
-    subst (λ (l : List Lossy). Keeps (tuned pi m) n c.args.one (whole ∷ kept) (whole ∷ l))
-    (sym c.in_ok-push.ensures.items) (keeps_more (tuned pi m) n (whole ∷ kept) c.args.one at its)
+    rw (c.in_ok-push.ensures.items, c.copied.ensures) (keeps_more (tuned pi m) n (whole ∷ kept) c.args.one.now at its)
 
 pub returns-clause-checked : goal.returns-clause-checked
 returns-clause-checked c t log k all its =
-    subst (All (IsChecked t log k)) (sym c.in_ok-push.ensures.items) (All-push (IsChecked t log k) c.args.kept.now.items
-    c.args.one all its)
+    rw (c.in_ok-push.ensures.items, c.copied.ensures) (All-push (IsChecked t log k) c.args.kept.now.items c.args.one.now
+    all its)
