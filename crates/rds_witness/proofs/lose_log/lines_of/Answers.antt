@@ -1,7 +1,7 @@
 use Rattle.std.proofs.Common.{subst, sym}
 use Rattle.rds_log.specs.LogWrites.{tuned}
 use Rattle.rds_receiver.specs.ReceiverAt.{ReceiverAt}
-use Rattle.rds_witness.specs.Lost.{got, got-none}
+use Rattle.rds_witness.specs.Lost.{got-none}
 use Rattle.rds_witness.proofs.LossSteps.{adds_first}
 use Rattle.rds_witness.proofs.lose_log.lines_of.Goals as goal
 
@@ -10,11 +10,9 @@ loop-slot-init c =
     let losing = c.args.losing.now in
     let t = tuned losing.pi losing.dwell in
     let log = c.args.log.now in
-    let begins : ReceiverAt t c.new-receiver.result (got losing.lost.now log 0) = subst
-    (ReceiverAt t c.new-receiver.result)
-    (sym (got-none losing.lost.now log)) (c.new-receiver.ensures.stands 0) in
     record {
-      stands = begins;
+      stands = subst (ReceiverAt t c.new-receiver.result) (sym (got-none losing.lost.now log))
+          (c.new-receiver.ensures.stands 0);
       lines = adds_first t losing.ahead log losing.lost.now _ c.new-lines.ensures.items;
     }
 

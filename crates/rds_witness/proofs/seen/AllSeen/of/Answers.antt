@@ -15,10 +15,8 @@ pub loop-slot-init : goal.loop-slot-init
 loop-slot-init c =
     let t = tuned c.args.pi c.args.dwell in
     let log = c.args.log.now in
-    let begins : ReceiverAt t c.new-whole.result (got [] log 0) = subst (ReceiverAt t c.new-whole.result)
-    (sym (got-none [] log)) (c.new-whole.ensures.stands 0) in
     record {
-      stands = begins;
+      stands = subst (ReceiverAt t c.new-whole.result) (sym (got-none [] log)) (c.new-whole.ensures.stands 0);
       view = subst (λ (l : List (Option Group)). (view : ShownView) × IsView t l view) (sym (got-none [] log))
           (_, view_of_none t);
       views = λ slot less. absurd (omega (arith, less));
