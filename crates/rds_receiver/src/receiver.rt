@@ -120,7 +120,8 @@ impl Receiver {
     }
 
     /// Returns a receiver that continues where this one is.
-    // Prover: `Copy` needs a view that gives the numbers back, and `clone` returns a `Result` (docs/PROVER.md).
+    // Prover: a type whose view forgets numbers is not `Copy` (docs/PROVER.md, "Workarounds").
+    #[inline(always)]
     pub fn copied(&self) -> Receiver
         ensures { result ≡ self.now }
     {
