@@ -106,6 +106,7 @@ slots_between least most n (Some s) some value =
 -- a place is a number below a bound
 pub place_between : (bound : ℕ) → 0 < bound → (n : ℕ) (o : Option ℕ) → IsSome o ↔ (n < bound) → IfSome o (λ p. p ≡ n)
     → o ≡ between 0 (bound - 1) n
-place_between bound some n o is value = slots_between 0 (bound - 1) n o
-    ((λ there. (omega arith, (let small = is.0 there in omega (arith, some, small)))),
-    (λ within. is.1 (omega (arith, some, within.1)))) value
+place_between bound some n o is value = slots_between 0 (bound - 1) n o (
+  (λ there. (omega arith, (let small = is.0 there in omega (arith, some, small)))),
+  (λ within. is.1 (omega (arith, some, within.1))),
+) value

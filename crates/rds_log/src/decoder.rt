@@ -20,7 +20,7 @@ use rds_block::Blocks;
 use rds_fields::TagGroup;
 use rds_io::{Lines, TellingWrite, WriteFault};
 use rds_receiver::{Receiver, Whys};
-use rds_view_lines::{KeptView, SLOT_ROOM, Prefix, show};
+use rds_view_lines::{KeptView, Prefix, SLOT_ROOM, show};
 
 /// Feeds a receiver slot by slot, and appends a line for each part of its view that changed. The line of a text or a
 /// name that is not shown any more may say why.

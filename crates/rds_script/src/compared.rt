@@ -21,7 +21,7 @@ use crate::airing::{Airing, Airings};
 use crate::airs::Airs;
 use crate::watched::RowLines;
 use arrayvec::ArrayVec;
-use rds_view_lines::{KeptView, SLOT_ROOM, Prefix};
+use rds_view_lines::{KeptView, Prefix, SLOT_ROOM};
 use rds_world::{Config, MOST_RECEIVERS, World};
 use std::alloc::{AllocError, Global};
 

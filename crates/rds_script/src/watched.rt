@@ -27,7 +27,7 @@ use crate::row::RowRefused;
 use arrayvec::ArrayVec;
 use rds_io::Lines;
 use rds_receiver::{Receiver, WhyNone, Whys};
-use rds_view_lines::{KeptView, SLOT_ROOM, Prefix, show};
+use rds_view_lines::{KeptView, Prefix, SLOT_ROOM, show};
 use rds_world::{Config, MOST_RECEIVERS, Reception, SlotEvent, StepRefused, World};
 use std::alloc::Global;
 

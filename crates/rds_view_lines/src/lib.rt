@@ -6,7 +6,7 @@ mod kept;
 mod parts;
 mod shown;
 
-pub use change::{LINE_ROOM, SLOT_ROOM, Prefix, push_changes, push_class, push_quoted};
+pub use change::{LINE_ROOM, Prefix, SLOT_ROOM, push_changes, push_class, push_quoted};
 pub use kept::{Bytes, KeptView};
 pub use parts::{Parts, same_parts};
 pub use shown::show;

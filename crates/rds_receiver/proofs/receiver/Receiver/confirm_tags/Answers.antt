@@ -17,7 +17,7 @@ returns-clause-confirms c w m first heard =
       | then-self-gt0 x ↦ (
         x.if-self-gt0.true,
         sym (x.pair.ensures.value c.self.invariant.pair) ∙ is_held_pair x.pair.result c.args.pair
-        (sym x.eq-again.ensures
+            (sym x.eq-again.ensures
             ∙ sym x.again-is ∙ e),
       )
       | else-self-gt0 x ↦ absurd
