@@ -69,19 +69,19 @@
  *     rdsrt_version                     32   32    rdsrt_audit_init                  32   32
  *     rdsrt_receiver_init               64   32    rdsrt_audit_init_running          32   32
  *     rdsrt_receiver_init_confirming    32   32    rdsrt_audit_init_with             32   32
- *     rdsrt_receiver_slot              256  192    rdsrt_audit_slot                 384  384
- *     rdsrt_receiver_view              256  224    rdsrt_audit_all_faults           416  416
+ *     rdsrt_receiver_slot              544  512    rdsrt_audit_slot                 672  672
+ *     rdsrt_receiver_view              864  832    rdsrt_audit_all_faults           704  736
  *     rdsrt_receiver_held               32   32    rdsrt_audit_passed                32   32
  *     rdsrt_slot_time                   32   32    rdsrt_audit_texts                 32   32
  *     rdsrt_time_in                    160  128    rdsrt_audit_names                 32   32
  *     rdsrt_lost_slots                  32   32    rdsrt_audit_texts_turn_the_flag   32   32
  *     rdsrt_encoder_init                32   32    rdsrt_audit_names_turn_the_flag   32   32
- *     rdsrt_encoder_set_text           288  288    rdsrt_text_to_display            320  320
- *     rdsrt_encoder_set_name            96   64    rdsrt_text_to_utf8               384  384
- *     rdsrt_encoder_set_tags            64   32    rdsrt_text_from_utf8             160  160
- *     rdsrt_encoder_tick                64   32    rdsrt_type_name                   96   96
- *     rdsrt_encoder_on_air             128  128    rdsrt_code_name                   96   96
- *     rdsrt_encoder_wait                32   32    rdsrt_exchange_tag_group          32   32
+ *     rdsrt_encoder_set_text           640  640    rdsrt_text_to_display            320  320
+ *     rdsrt_encoder_set_name           320  320    rdsrt_text_to_utf8               384  384
+ *     rdsrt_encoder_set_tags           352  352    rdsrt_text_from_utf8             160  160
+ *     rdsrt_encoder_tick               448  448    rdsrt_type_name                   96   96
+ *     rdsrt_encoder_on_air             448  480    rdsrt_code_name                   96   96
+ *     rdsrt_encoder_wait               288  288    rdsrt_exchange_tag_group          32   32
  *
  * YOU PROMISE for every call:
  *  - You call _init first. No call notices that you did not: a struct of zeros has PI 0000, so it shows nothing of your

@@ -63,9 +63,11 @@ class Microcontrollers(Case):
         for source, argument, given, wanted in PROGRAMS:
             program = self.for_board(compiler, library, top, folder, source)
             self.check(source, ran_on(board, program, argument, given), (0, wanted))
-        self.check(f"flash of a receiver alone for {target}, in KB", self.flash(compiler, library, folder), 6)
-        said = re.search(r"(\d+) bytes on a Cortex-M4, (\d+) on an M0\+", text_of("docs/GUIDE.md"))
-        room = int(said[1 + (target != "cortex-m4")])
+        place = 1 + (target != "cortex-m4")
+        said = re.search(r"(\d+) KB on a Cortex-M4, (\d+) KB on an M0\+", text_of("docs/GUIDE.md"))
+        self.check(f"flash of a receiver alone for {target}, in KB", self.flash(compiler, library, folder), int(said[place]))
+        said = re.search(r"([\d,]+) bytes on a Cortex-M4, ([\d,]+) on an M0\+", text_of("docs/GUIDE.md"))
+        room = int(said[place].replace(",", ""))
         taken = int(ran_on(board, self.for_board(compiler, library, top, folder, "tests/c/stack.c"))[1])
         self.check(f"stack of a call for {target}", (taken <= room, taken), (True, taken))
 
