@@ -160,17 +160,19 @@ pub(crate) fn take_slot(one: &mut Lossy, group: Option<Blocks>, lost: Option<usi
     }
 }
 
-/// Lets the receiver without a loss lose this slot.
-pub(crate) fn lose_first(whole: &mut Lossy, slot: usize)
-    ensures stands { TakesSlot whole.old.receiver whole.new.receiver None }
-    ensures changed { IsTrue whole.new.changed }
+/// Overwrites a receiver with the one without a loss, after it lost this slot.
+pub(crate) fn lose_first(begins: &mut Lossy, whole: &Lossy, slot: usize)
+    ensures stands { TakesSlot whole.now.receiver begins.new.receiver None }
+    ensures changed { IsTrue begins.new.changed }
 {
-    take_slot(whole, None, None);
-    whole.burst = Burst {
+    // a new value would be copied once more
+    begins.receiver = whole.receiver.copied();
+    let _ = begins.receiver.slot_blocks(None);
+    begins.burst = Burst {
         first: slot,
         last: slot,
     };
-    whole.changed = true;
+    begins.changed = true;
 }
 
 /// Returns the receiver at this place.

@@ -18,6 +18,8 @@ use std::mem;
 pub(crate) struct Sweep {
     /// The receiver that loses nothing. Its `burst` and `changed` have no meaning.
     pub(crate) whole: Lossy,
+    /// The receiver that begins to lose slots in the newest slot.
+    begins: Lossy,
     /// Receivers that lose slots now.
     pub(crate) losing: Vec<Lossy>,
     /// Receivers that hear again.
@@ -32,12 +34,14 @@ impl Sweep {
         ensures none { (result.losing.items ≡ []) × (result.hearing.items ≡ []) }
         ensures stands { (log : List (Option Group)) → StandsAfter (tuned pi dwell) log 0 result }
     {
+        let whole = Lossy {
+            receiver: Receiver::new(pi, dwell),
+            burst: Burst { first: 0, last: 0 },
+            changed: true,
+        };
         Sweep {
-            whole: Lossy {
-                receiver: Receiver::new(pi, dwell),
-                burst: Burst { first: 0, last: 0 },
-                changed: true,
-            },
+            begins: whole.copied(),
+            whole,
             losing: Vec::new(alloc),
             hearing: Vec::new(alloc),
             spare: Vec::new(alloc),
@@ -60,8 +64,7 @@ impl Sweep {
             → All (IsChecked (tuned pi m) log k) self.new.losing.items
             × All (IsChecked (tuned pi m) log k) self.new.hearing.items) }
     {
-        let mut begins = self.whole.copied();
-        lose_first(&mut begins, slot);
+        lose_first(&mut self.begins, &self.whole, slot);
         take_slot(&mut self.whole, *group, None);
         let mut hearing = mem::replace(&mut self.spare, Vec::new(alloc));
         hearing.clear();
@@ -81,7 +84,7 @@ impl Sweep {
         )?;
         let mut losing = mem::replace(&mut self.hearing, hearing);
         losing.clear();
-        keep(&self.whole, &mut losing, &begins)?;
+        keep(&self.whole, &mut losing, &self.begins)?;
         keep_after_slot(
             &self.whole,
             self.losing.as_slice(),

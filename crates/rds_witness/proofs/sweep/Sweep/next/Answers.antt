@@ -21,10 +21,8 @@ returns-clause-stands c pi m n log is old =
     let was = c.args.self.now.whole in
     let whole = c.take_slot.new.one in
     let step = c.take_slot.ensures in
-    let begins = c.lose_first.new.whole in
-    let loses : TakesSlot was.receiver begins.receiver None = subst
-    (λ (s : Lossy). TakesSlot s.receiver begins.receiver None)
-    c.copied-begins.ensures c.lose_first.ensures.stands in
+    let begins = c.lose_first.new.begins in
+    let loses : TakesSlot was.receiver begins.receiver None = c.lose_first.ensures.stands in
     let more : got [] log (n + 1) ≡ group ∷ got [] log n = got-more [] log n
     ∙ ap (λ (g : Option Group). g ∷ got [] log n) (sym is) in
     let after : ReceiverAt t whole.receiver (got [] log (n + 1)) = subst
