@@ -10,7 +10,8 @@ ghost use Rattle.rds_encoder.specs.Entries.{Entry, Restart, SetName, SetTags, Se
 ghost use Rattle.rds_encoder.specs.Plan.{bytes_of, on_air};
 ghost use Rattle.rds_encoder.specs.Reply.{IsSetReply, IsTagsReply, held_for, reply_to, silent_for};
 ghost use Rattle.rds_encoder.specs.Sent.{IsSent, sent_in};
-ghost use Rattle.rds_encoder.specs.Stored.{IsStoredEncoder, encoder_stored};
+ghost use Rattle.rds_encoder.specs.EncoderAt.{EncoderAt};
+ghost use Rattle.rds_encoder.specs.Stored.{encoder_stored};
 ghost use Rattle.rds_encoder.specs.Tags.{tags_reply};
 ghost use Rattle.rds_ffi.specs.Codes.{RDSRT_BAD_ARGUMENT, RDSRT_BAD_TAGS, RDSRT_OK, IsReplyOf, refusal_of, reply_of};
 ghost use Rattle.rds_ffi.specs.EncoderInMemory.{EncoderInMemory, TakesStored, WhereItIs};
@@ -225,8 +226,9 @@ pub extern "C" fn rdsrt_encoder_wait(encoder: &StoredEncoder, wait: &mut RdsrtWa
 /// Stores the encoder after a set that was accepted, and returns the reply.
 fn keep(encoder: &mut StoredEncoder, state: &Encoder, reply: Result<(), Refusal>) -> RdsrtReply
     ensures reply { result ≡ reply_of reply }
-    ensures stored { IsStoredEncoder encoder.old → OnErr reply (state.now ≡ encoder_stored encoder.old)
-        → (encoder_stored encoder.new ≡ state.now) × IsStoredEncoder encoder.new }
+    ensures stands { (station : Head) (m : ℕ) (entries after : List Entry)
+        → EncoderInMemory station m encoder.old entries → OnErr reply (state.now ≡ encoder_stored encoder.old)
+        → EncoderAt station m state.now after → EncoderInMemory station m encoder.new after }
     ensures kept { OnErr reply (encoder.new ≡ encoder.old) }
 {
     if reply.is_ok() {

@@ -15,10 +15,7 @@ returns-clause-reply c given station m entries s =
 pub returns-clause-stands : goal.returns-clause-stands
 returns-clause-stands c given station m entries s =
     let old = c.restore-state.ensures s.good in
-    let stored = c.keep.ensures.stored s.good (rw old at c.set_tags-reply.ensures.kept) in
     subst (λ (p : PairFields). EncoderInMemory station m c.keep.new.encoder (SetTags p ∷ entries))
     c.in-Some.ensures.value
-    record {
-      good = stored.1;
-      at = rw stored.0 (c.set_tags-reply.ensures.stands station m entries (rw old s.at));
-    }
+    (c.keep.ensures.stands station m entries _ s (rw old at c.set_tags-reply.ensures.kept)
+    (c.set_tags-reply.ensures.stands station m entries (rw old s.at)))

@@ -11,9 +11,6 @@ returns-clause-reply c given station m entries s = c.keep.ensures.reply
 pub returns-clause-stands : goal.returns-clause-stands
 returns-clause-stands c given station m entries s =
     let old = c.restore-state.ensures s.good in
-    let stored = c.keep.ensures.stored s.good (rw old at c.set_text-reply.ensures.kept) in
     subst (λ (x : List ℕ). EncoderInMemory station m c.keep.new.encoder (SetText x ∷ entries)) c.in-Ok.ensures.value
-    record {
-      good = stored.1;
-      at = rw stored.0 (c.set_text-reply.ensures.stands station m entries (rw old s.at));
-    }
+    (c.keep.ensures.stands station m entries _ s (rw old at c.set_text-reply.ensures.kept)
+    (c.set_text-reply.ensures.stands station m entries (rw old s.at)))
