@@ -65,7 +65,6 @@ fn goes_on_from_what_is_stored(rt: HostRuntime) -> Result<(), Fail> {
         Some(Window::new(2).ok_or("window")?),
     );
     for (words, text, tag) in rows {
-        twice = Receiver::restore(&twice.store());
         twice.slot(Some(Group::from_blocks(words)));
         same(&rt, twice.view().text, text);
         same(&rt, twice.view().one, tag);
@@ -73,18 +72,17 @@ fn goes_on_from_what_is_stored(rt: HostRuntime) -> Result<(), Fail> {
     Ok(())
 }
 
-/// Numbers that no receiver has are restored too, and go on.
+/// Numbers that no receiver has go on, too.
 #[test]
-fn restores_any_numbers(rt: HostRuntime) -> Result<(), Fail> {
+fn takes_any_numbers(rt: HostRuntime) -> Result<(), Fail> {
     let dwell = Dwell::new(8).ok_or("dwell")?;
     let window = Window::new(2).ok_or("window")?;
-    let mut stored = Receiver::tuned(PI, dwell, Some(window)).store();
-    stored.pair.is_there = 9;
-    stored.pair.two.extra = 255;
-    stored.pair_left = 255;
-    stored.segments.flags = 0xFFFF_FFFF;
-    stored.segments.left[17] = 255;
-    let mut twice = Receiver::restore(&stored);
+    let mut twice = Receiver::tuned(PI, dwell, Some(window));
+    twice.pair.is_there = 9;
+    twice.pair.two.extra = 255;
+    twice.pair_left = 255;
+    twice.segments.flags = 0xFFFF_FFFF;
+    twice.segments.left[17] = 255;
     let group = Some(Group::from_blocks([PI, 0x2140, 0x4849, 0x0D20]));
     twice.slot(group);
     twice.slot(group);

@@ -1,4 +1,4 @@
-//! A receiver that is stored and restored.
+//! A receiver is plain numbers, which a program may store.
 
 use crate::same::same;
 use rds_block::Group;
@@ -6,16 +6,16 @@ use rds_fields::{Dwell, StoredPair};
 use rds_receiver::{Receiver, StoredDisplay, StoredSegments};
 use std::test::Fail;
 
-/// A restored receiver continues where the stored one was.
+/// A copy continues where the receiver was.
 #[test]
 fn goes_on_from_what_is_stored(rt: HostRuntime) -> Result<(), Fail> {
     let mut receiver = Receiver::new(0xC201, Dwell::new(2).ok_or("dwell")?);
     let group = Group::from_blocks([0xC201, 0x2140, 0x4849, 0x0D20]);
     same(&rt, receiver.slot(Some(group)), true);
-    let mut again = Receiver::restore(&receiver.store());
+    let mut again = receiver;
     same(&rt, again.text(), Some(b"HI".as_slice()));
     same(&rt, again.slot(None), false);
-    same(&rt, Receiver::restore(&again.store()).slot(None), true);
+    same(&rt, again.slot(None), true);
     Ok(())
 }
 
@@ -29,17 +29,17 @@ fn takes_slots_in_place(rt: HostRuntime) -> Result<(), Fail> {
     let again = receiver.slot_blocks(Some(group.blocks()));
     let nothing = receiver.slot_blocks(None);
     let other = receiver.slot_blocks(Some(clock.blocks()));
-    same(&rt, receiver.numbers().display.text_age(), 2);
+    same(&rt, receiver.display.text_age(), 2);
     let dropped = receiver.slot_blocks(None);
     let answers = (segment, again, nothing, other, dropped);
     same(&rt, answers, (true, false, false, false, true));
-    same(&rt, receiver.numbers().display.text.mask, 0);
+    same(&rt, receiver.display.text.mask, 0);
     Ok(())
 }
 
-/// Numbers that no receiver is stored as give one that heard nothing.
+/// With numbers that no receiver has, each call returns.
 #[test]
-fn restores_any_numbers(rt: HostRuntime) -> Result<(), Fail> {
+fn takes_any_numbers(rt: HostRuntime) -> Result<(), Fail> {
     let segments = StoredSegments {
         bytes: [b'A'; 64],
         mask: 0xFFFF,
@@ -49,8 +49,8 @@ fn restores_any_numbers(rt: HostRuntime) -> Result<(), Fail> {
     let mut pair = StoredPair::none();
     pair.is_there = 9;
     pair.one.class = 255;
-    let mut stored = Receiver::new(1, Dwell::new(2).ok_or("dwell")?).store();
-    stored.display = StoredDisplay {
+    let mut receiver = Receiver::new(1, Dwell::new(2).ok_or("dwell")?);
+    receiver.display = StoredDisplay {
         pi: 1,
         dwell: 0,
         rest: 0xFFFF,
@@ -59,9 +59,10 @@ fn restores_any_numbers(rt: HostRuntime) -> Result<(), Fail> {
         pair,
         is_known: 3,
     };
-    let receiver = Receiver::restore(&stored);
-    same(&rt, receiver.text(), None);
     same(&rt, receiver.pair(), None);
-    same(&rt, receiver.store().display.dwell, 1);
+    for _ in 0..3 {
+        receiver.slot(None);
+    }
+    same(&rt, receiver.view().item, None);
     Ok(())
 }

@@ -10,6 +10,5 @@ pub mod Tagged
 pub mod Texts
 pub mod Held
 -- The objects in the caller's memory.
-pub mod ReceiverInMemory
 pub mod EncoderInMemory
 pub mod AuditInMemory

@@ -20,7 +20,7 @@ mod version;
 mod view;
 
 // The sizes that the C header states.
-const _: () = prove!(size_of::<rds_receiver::StoredReceiver>() == 264);
+const _: () = prove!(size_of::<rds_receiver::Receiver>() == 264);
 
 const _: () = prove!(size_of::<rds_encoder::StoredEncoder>() == 116);
 

@@ -10,7 +10,9 @@ use Rattle.rds_receiver.specs.Receipts.{Tuning, heard_of}
 use Rattle.rds_receiver.specs.Shown.{IsShown, IsView, ShownView, ShowsView}
 use Rattle.rds_receiver.specs.Holds.{HoldsAt, MakeAlike, ShowsAlike, newest_slot}
 use Rattle.rds_receiver.specs.ReceiverAt.{ReceiverAt}
-use Rattle.rds_receiver.specs.State.{DisplayState, ReceiverState}
+use Rattle.rds_receiver.specs.State.{DisplayState}
+use Rattle.rds_receiver.specs.Stored.{display_stored}
+use Rattle.rds_receiver.specs.declared.receiver.Receiver.{Receiver}
 use Rattle.rds_receiver.specs.Tags.{item_of, tag_of}
 use Rattle.rds_receiver.specs.Confirmed.{counted}
 use Rattle.rds_receiver.proofs.Shows.{name_cells, name_shown, pair_is, shows_counted, text_cells, text_shown}
@@ -83,9 +85,9 @@ view_stays r after m first heard more view s u alike shown =
     }
 
 -- the view of a receiver stays if its display shows the same
-pub stays_shown : (t : Tuning) (r after : ReceiverState) (input more : List (Option Group)) (view : ShownView)
+pub stays_shown : (t : Tuning) (r after : Receiver) (input more : List (Option Group)) (view : ShownView)
     → ReceiverAt t r input → ReceiverAt t after more
-    → ShowsAlike r.display after.display → IsView t input view → IsView t more view
-stays_shown t r after input more view s u alike shown = view_stays r.display after.display t.dwell t.first
+    → ShowsAlike (display_stored r.display) (display_stored after.display) → IsView t input view → IsView t more view
+stays_shown t r after input more view s u alike shown = view_stays (display_stored r.display) (display_stored after.display) t.dwell t.first
     (counted t (heard_of t.programme input)) (counted t (heard_of t.programme more)) view (shows_counted t r input s)
     (shows_counted t after more u) alike shown

@@ -16,6 +16,8 @@ use Rattle.rds_receiver.specs.Run.{begins_in, is_same, run, run_before}
 use Rattle.rds_receiver.specs.Holds.{HasFlag, HearsMore, HoldsAt, HoldsRun, newest_slot}
 use Rattle.rds_receiver.specs.ReceiverAt.{ReceiverAt}
 use Rattle.rds_receiver.specs.State.{DisplayState, HeldSegments, ReceiverState}
+use Rattle.rds_receiver.specs.Stored.{IsStoredReceiver, receiver_stored}
+use Rattle.rds_receiver.specs.declared.receiver.Receiver.{Receiver}
 use Rattle.rds_receiver.specs.Confirmed.{confirmed, counted_in, if_confirmed, last_at, last_pair, pair_again, same_pair}
 use Rattle.rds_receiver.specs.Confirmed.{same_tag, segment_again}
 use Rattle.rds_receiver.specs.ConfirmedLemmas.{confirmed_long, counted_long, newest_counted, one_flag, one_pair}
@@ -631,9 +633,13 @@ nothing_taken (Some w) m first heard s st = record {
 }
 
 -- a whole slot
-pub slot_stands : (t : Tuning) (s after : ReceiverState) (input : List (Option Group)) (slot : Option Group)
-    → ReceiverAt t s input → after.display.programme ≡ s.display.programme
-    → HoldsBy t.window t.dwell (t.first + length (heard_of t.programme input)) t.first after
+pub slot_stands : (t : Tuning) (s after : Receiver) (input : List (Option Group)) (slot : Option Group)
+    → ReceiverAt t s input → IsStoredReceiver after → after.display.pi ≡ s.display.pi
+    → HoldsBy t.window t.dwell (t.first + length (heard_of t.programme input)) t.first (receiver_stored after)
     (heard_of t.programme (slot ∷ input))
     → ReceiverAt t after (slot ∷ input)
-slot_stands t s after input slot st programme holds = record { tuned = programme ∙ st.tuned; holds = holds }
+slot_stands t s after input slot st good programme holds = record {
+  good = good;
+  tuned = programme ∙ st.tuned;
+  holds = holds;
+}

@@ -9,7 +9,9 @@ use Rattle.rds_receiver.specs.Receipts.{Segment, Tuning, heard_of, name_fragment
 use Rattle.rds_receiver.specs.Run.{begins_in, cells_of, run_at}
 use Rattle.rds_receiver.specs.Shown.{IsNameShown, IsShown, IsTextShown}
 use Rattle.rds_receiver.specs.ReceiverAt.{ReceiverAt, WhatItHeard}
-use Rattle.rds_receiver.specs.State.{DisplayState, ReceiverState}
+use Rattle.rds_receiver.specs.State.{DisplayState}
+use Rattle.rds_receiver.specs.Stored.{display_stored}
+use Rattle.rds_receiver.specs.declared.receiver.Receiver.{Receiver}
 use Rattle.rds_receiver.specs.Tags.{pair_from, pair_held}
 use Rattle.rds_receiver.specs.Confirmed.{counted}
 use Rattle.rds_receiver.specs.ConfirmedLemmas.{newest_counted}
@@ -45,16 +47,16 @@ name_shown r shown is m first heard s = subst (λ (cells : Cells). IsShown IsWho
     (name_cells r m first heard s) is
 
 -- the display of a receiver that stands at an input follows from what counts of it
-pub shows_counted : (t : Tuning) (r : ReceiverState) (input : List (Option Group)) (s : ReceiverAt t r input)
-    → HoldsAt t.dwell (newest_slot t.first (counted t (heard_of t.programme input))) t.first r.display
+pub shows_counted : (t : Tuning) (r : Receiver) (input : List (Option Group)) (s : ReceiverAt t r input)
+    → HoldsAt t.dwell (newest_slot t.first (counted t (heard_of t.programme input))) t.first (display_stored r.display)
     (counted t (heard_of t.programme input))
 shows_counted t r input s =
     let heard = heard_of t.programme input in
-    subst (λ (n : ℕ). HoldsAt t.dwell n t.first r.display (counted t heard))
+    subst (λ (n : ℕ). HoldsAt t.dwell n t.first (display_stored r.display) (counted t heard))
     (sym (newest_counted t.window t.dwell t.first heard)) s.holds.display
 
 -- what holds of each list that the display may follow from holds of what counts of each list heard
-pub what_it_heard : (r : ReceiverState) (Holds : ℕ → ℕ → List (Option Message) → Type 0) → WhatItShows r.display Holds
+pub what_it_heard : (r : Receiver) (Holds : ℕ → ℕ → List (Option Message) → Type 0) → WhatItShows (display_stored r.display) Holds
     → WhatItHeard r Holds
 what_it_heard r Holds holds t input s =
     holds t.dwell t.first (counted t (heard_of t.programme input)) (shows_counted t r input s)

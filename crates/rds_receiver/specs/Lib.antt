@@ -13,7 +13,6 @@ pub mod Confirming
 pub mod ReceiverAt
 pub mod Stored
 pub mod Older
-pub mod Codes
 pub mod Borrowed
 -- Lemmas that crates above use.
 pub mod OneView

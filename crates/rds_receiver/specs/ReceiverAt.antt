@@ -6,30 +6,32 @@ use Rattle.rds_receiver.specs.Receipts.{Tuning, heard_of}
 use Rattle.rds_receiver.specs.Confirming.{HoldsBy}
 use Rattle.rds_receiver.specs.Holds.{newest_slot}
 use Rattle.rds_receiver.specs.Shown.{IsView, ShownView}
-use Rattle.rds_receiver.specs.State.{ReceiverState}
+use Rattle.rds_receiver.specs.Stored.{IsStoredReceiver, receiver_stored}
 use Rattle.rds_receiver.specs.Confirmed.{counted}
+use Rattle.rds_receiver.specs.declared.receiver.Receiver.{Receiver}
 
--- the receiver has this tuning, and its state follows from what it heard of the input
-pub record ReceiverAt (t : Tuning) (r : ReceiverState) (input : List (Option Group)) : Type 0 where
-  pub tuned : r.display.programme ≡ t.programme
-  pub holds : HoldsBy t.window t.dwell (newest_slot t.first (heard_of t.programme input)) t.first r
+-- the receiver has valid numbers and this tuning, and its state follows from what it heard of the input
+pub record ReceiverAt (t : Tuning) (r : Receiver) (input : List (Option Group)) : Type 0 where
+  pub good : IsStoredReceiver r
+  pub tuned : r.display.pi ≡ t.programme
+  pub holds : HoldsBy t.window t.dwell (newest_slot t.first (heard_of t.programme input)) t.first (receiver_stored r)
       (heard_of t.programme input)
 
 -- this holds of each tuning and input that the receiver stands at
-abbrev pub WhereReceiverStands : ReceiverState → (Tuning → List (Option Group) → Type 0) → Type 0
+abbrev pub WhereReceiverStands : Receiver → (Tuning → List (Option Group) → Type 0) → Type 0
 WhereReceiverStands r Holds = (t : Tuning) (input : List (Option Group)) → ReceiverAt t r input → Holds t input
 
 -- the receiver took one more slot with this group, or with none: wherever it stood, it stands with that slot now
-abbrev pub TakesSlot : ReceiverState → ReceiverState → Option Group → Type 0
+abbrev pub TakesSlot : Receiver → Receiver → Option Group → Type 0
 TakesSlot r after group = WhereReceiverStands r (λ t input. ReceiverAt t after (group ∷ input))
 
 -- one more slot with this group, or with none, changes no view: wherever the receiver stands, each view stays the view
-abbrev pub KeepsView : ReceiverState → Option Group → Type 0
+abbrev pub KeepsView : Receiver → Option Group → Type 0
 KeepsView r group =
     (view : ShownView) → WhereReceiverStands r (λ t input. IsView t input view → IsView t (group ∷ input) view)
 
 -- this holds of the dwell, the first slot and what counts of what was heard, for each tuning and input that the
 -- receiver stands at
-abbrev pub WhatItHeard : ReceiverState → (ℕ → ℕ → List (Option Message) → Type 0) → Type 0
+abbrev pub WhatItHeard : Receiver → (ℕ → ℕ → List (Option Message) → Type 0) → Type 0
 WhatItHeard r Holds =
     WhereReceiverStands r (λ t input. Holds t.dwell t.first (counted t (heard_of t.programme input)))

@@ -5,7 +5,7 @@ use Rattle.rds_assembly.specs.Held.{held_cells}
 use Rattle.rds_receiver.specs.State.{DisplayState, HeldSegments, ReceiverState}
 use Rattle.rds_receiver.specs.declared.display.StoredDisplay.{StoredDisplay}
 use Rattle.rds_receiver.specs.declared.display.StoredSegments.{StoredSegments}
-use Rattle.rds_receiver.specs.declared.stored.StoredReceiver.{StoredReceiver}
+use Rattle.rds_receiver.specs.declared.receiver.Receiver.{Receiver}
 
 -- the age for a dwell of m, if the next look comes in this many slots
 abbrev pub age_stored : ℕ → ℕ → StoredSegments → ℕ
@@ -28,7 +28,7 @@ display_stored s = record {
   is_known = is_set s.is_known;
 }
 
-abbrev pub receiver_stored : StoredReceiver → ReceiverState
+abbrev pub receiver_stored : Receiver → ReceiverState
 receiver_stored s = record {
   window = s.window;
   display = display_stored s.display;
@@ -51,6 +51,6 @@ pub record IsStoredDisplay (s : StoredDisplay) : Type 0 where
   pub pair : IsStoredPair s.pair
 
 -- the numbers of the display and of the last pair are valid
-pub record IsStoredReceiver (s : StoredReceiver) : Type 0 where
+pub record IsStoredReceiver (s : Receiver) : Type 0 where
   pub display : IsStoredDisplay s.display
   pub pair : IsStoredPair s.pair

@@ -1,5 +1,5 @@
 //! The display of a receiver, as plain numbers: all that it holds of the messages that count.
-ghost use Rattle.std.specs.Prelude.{◌≡◌, ◌≢◌, ◌+◌, ◌-◌, ◌<◌, ◌↔◌, ℕ, IsFalse, IsTrue, List, None, Option, length};
+ghost use Rattle.std.specs.Prelude.{◌≡◌, ◌≢◌, ◌+◌, ◌-◌, ◌<◌, ℕ, IsFalse, List, None, Option, length};
 ghost use Rattle.rds_fields.specs.declared.message.Message.{Message};
 ghost use Rattle.rds_fields.specs.Stored.{IsStoredPair, is_set, pair_stored};
 ghost use Rattle.rds_receiver.specs.Older.{IsOlder};
@@ -93,17 +93,6 @@ impl StoredDisplay {
         }
         self.pair = StoredPair::none();
         true
-    }
-
-    /// Returns whether the numbers are valid.
-    pub(crate) fn is_valid(&self) -> bool
-        ensures { IsTrue result ↔ IsStoredDisplay self.now }
-    {
-        self.rest > 0
-            && self.rest <= self.dwell
-            && self.text.is_within(self.dwell - self.rest)
-            && self.name.is_within(self.dwell - self.rest)
-            && self.pair.is_valid()
     }
 
     /// Returns the slots since the newest segment of a text came, or the dwell if none is held.

@@ -1,10 +1,11 @@
 //! How a receiver handles a slot.
-ghost use Rattle.std.specs.Prelude.{◌≡◌, ◌+◌, ◌<◌, ℕ, IsFalse, List, Option, Some, length};
+ghost use Rattle.std.specs.Prelude.{◌≡◌, ◌≢◌, ◌+◌, ◌<◌, ℕ, IsFalse, List, Option, Some, length};
 ghost use Rattle.rds_block.specs.declared.group.Group.{Group};
 ghost use Rattle.rds_fields.specs.declared.message.Message.{Message};
 ghost use Rattle.rds_receiver.specs.Confirming.{ConfirmsIf, HearsSlot, HoldsLastsIn};
 ghost use Rattle.rds_receiver.specs.Holds.{HoldsAt, ShowsAlike, newest_slot};
 ghost use Rattle.rds_receiver.specs.ReceiverAt.{KeepsView, TakesSlot};
+ghost use Rattle.rds_receiver.specs.Stored.{IsStoredReceiver, display_stored, receiver_stored};
 ghost use Rattle.rds_receiver.specs.Confirmed.{counted_in};
 ghost use Rattle.rds_receiver.specs.Receipts.{name_of, text_of};
 
@@ -30,7 +31,7 @@ impl Receiver {
         ensures stands { TakesSlot self.old self.new group }
         ensures same { IsFalse result → KeepsView self.old group }
     {
-        let aged = self.state.display.grow_older();
+        let aged = self.display.grow_older();
         let is_new = self.hear(group);
         is_new | aged
     }
@@ -38,17 +39,19 @@ impl Receiver {
     /// Handles the group of a slot after the display aged. If it returns false, all that is shown stays the same.
     #[inline(always)]
     fn hear(&mut self, group: Option<Blocks>) -> bool
-        ensures programme { self.new.display.programme ≡ self.old.display.programme }
-        ensures holds { HearsSlot self.old self.new group }
-        ensures same { IsFalse result → ShowsAlike self.old.display self.new.display }
+        ensures programme { self.new.display.pi ≡ self.old.display.pi }
+        ensures holds { IsStoredReceiver self.old
+            → HearsSlot (receiver_stored self.old) (receiver_stored self.new) group }
+        ensures same { IsFalse result → ShowsAlike (display_stored self.old.display) (display_stored self.new.display) }
+        ensures good { IsStoredReceiver self.old → IsStoredReceiver self.new }
     {
-        if self.state.window > 0 {
+        if self.window > 0 {
             return self.hear_if_confirmed(group);
         }
-        let Some(message) = heard_blocks(self.state.display.pi, group) else {
+        let Some(message) = heard_blocks(self.display.pi, group) else {
             return false;
         };
-        self.state.display.hear(message)
+        self.display.hear(message)
     }
 
     /// Does the same with a window: a message that is not confirmed does not count.
@@ -56,12 +59,14 @@ impl Receiver {
     #[inline(never)]
     fn hear_if_confirmed(&mut self, group: Option<Blocks>) -> bool
         requires { 0 < self.old.window }
-        ensures programme { self.new.display.programme ≡ self.old.display.programme }
-        ensures holds { HearsSlot self.old self.new group }
-        ensures same { IsFalse result → ShowsAlike self.old.display self.new.display }
+        ensures programme { self.new.display.pi ≡ self.old.display.pi }
+        ensures holds { IsStoredReceiver self.old
+            → HearsSlot (receiver_stored self.old) (receiver_stored self.new) group }
+        ensures same { IsFalse result → ShowsAlike (display_stored self.old.display) (display_stored self.new.display) }
+        ensures good { IsStoredReceiver self.old → IsStoredReceiver self.new }
     {
         self.age_lasts();
-        let Some(message) = heard_blocks(self.state.display.pi, group) else {
+        let Some(message) = heard_blocks(self.display.pi, group) else {
             return false;
         };
         // Prover: a new name before the second use (docs/PROVER.md, "Workarounds").
@@ -69,25 +74,29 @@ impl Receiver {
         if !self.confirm(message) {
             return false;
         }
-        self.state.display.hear(confirmed)
+        self.display.hear(confirmed)
     }
 
     /// Ages the last segments and the last pair by one slot, after the display.
     fn age_lasts(&mut self)
         ensures display { self.new.display ≡ self.old.display }
-        ensures lasts { (w m first : ℕ) (heard : List (Option Message))
-            → HoldsAt m (first + length heard) first self.old.display (counted_in (Some w) m first heard)
-            → HoldsLastsIn (Some w) m (newest_slot first heard) first self.old heard
-            → HoldsLastsIn (Some w) m (first + length heard) first self.new heard }
+        ensures lasts { IsStoredReceiver self.old → (w m first : ℕ) (heard : List (Option Message))
+            → HoldsAt m (first + length heard) first (display_stored self.old.display)
+            (counted_in (Some w) m first heard)
+            → HoldsLastsIn (Some w) m (newest_slot first heard) first (receiver_stored self.old) heard
+            → HoldsLastsIn (Some w) m (first + length heard) first (receiver_stored self.new) heard }
+        ensures good { IsStoredReceiver self.old → IsStoredReceiver self.new }
     {
-        self.state.segments.grow_older();
-        self.state.pair_left = self.while_text_is_held(self.state.pair_left.saturating_sub(1));
+        self.segments.grow_older();
+        self.pair_left = self.while_text_is_held(self.pair_left.saturating_sub(1));
     }
 
     /// Returns whether the message is confirmed, and keeps it as the last one heard.
     fn confirm(&mut self, message: Message) -> bool
         ensures display { self.new.display ≡ self.old.display }
-        ensures confirms { ConfirmsIf self.old self.new message result }
+        ensures confirms { IsStoredReceiver self.old
+            → ConfirmsIf (receiver_stored self.old) (receiver_stored self.new) message result }
+        ensures good { IsStoredReceiver self.old → IsStoredReceiver self.new }
     {
         match message {
             Message::Text {
@@ -109,14 +118,12 @@ impl Receiver {
     fn confirm_text(&mut self, fragment: Fragment) -> bool
         requires { fragment.address < 16 }
         ensures display { self.new.display ≡ self.old.display }
-        ensures confirms { ConfirmsIf self.old self.new (text_of fragment) result }
+        ensures confirms { ConfirmsIf (receiver_stored self.old) (receiver_stored self.new) (text_of fragment) result }
+        ensures good { IsStoredReceiver self.old → IsStoredReceiver self.new }
     {
-        let again = self
-            .state
-            .segments
-            .take(fragment.address, fragment, self.state.window);
-        if again && !self.state.display.text.has_flag(fragment.flag) {
-            self.state.pair_left = 0;
+        let again = self.segments.take(fragment.address, fragment, self.window);
+        if again && !self.display.text.has_flag(fragment.flag) {
+            self.pair_left = 0;
         }
         again
     }
@@ -125,33 +132,31 @@ impl Receiver {
     fn confirm_name(&mut self, fragment: Fragment) -> bool
         requires { fragment.address < 2 }
         ensures display { self.new.display ≡ self.old.display }
-        ensures confirms { ConfirmsIf self.old self.new (name_of fragment) result }
+        ensures confirms { ConfirmsIf (receiver_stored self.old) (receiver_stored self.new) (name_of fragment) result }
+        ensures good { IsStoredReceiver self.old → IsStoredReceiver self.new }
     {
-        self.state
-            .segments
-            .take(TEXT_CELLS + fragment.address, fragment, self.state.window)
+        self.segments
+            .take(TEXT_CELLS + fragment.address, fragment, self.window)
     }
 
     /// Does the same for a pair of tags. It confirms the same one only if segments of a text are held.
     fn confirm_tags(&mut self, pair: TagPair) -> bool
         ensures display { self.new.display ≡ self.old.display }
-        ensures confirms { ConfirmsIf self.old self.new (Message.Tags pair) result }
+        ensures confirms { IsStoredReceiver self.old
+            → ConfirmsIf (receiver_stored self.old) (receiver_stored self.new) (Message.Tags pair) result }
+        ensures good { IsStoredReceiver self.old → IsStoredReceiver self.new }
     {
-        let again = self.state.pair_left > 0 && self.state.pair.pair() == Some(pair);
-        self.state.pair = StoredPair::of(Some(pair));
-        self.state.pair_left = self.while_text_is_held(self.state.window);
+        let again = self.pair_left > 0 && self.pair.pair() == Some(pair);
+        self.pair = StoredPair::of(Some(pair));
+        self.pair_left = self.while_text_is_held(self.window);
         again
     }
 
     /// Returns this number if segments of a text are held, or else 0.
     fn while_text_is_held(&self, left: u8) -> u8
-        ensures held { self.now.display.text.age < self.now.display.dwell → result ≡ left }
-        ensures none { (self.now.display.text.age < self.now.display.dwell → ⊥) → result ≡ 0 }
+        ensures held { self.now.display.text.mask ≢ 0 → result ≡ left }
+        ensures none { self.now.display.text.mask ≡ 0 → result ≡ 0 }
     {
-        if self.state.display.text.is_held() {
-            left
-        } else {
-            0
-        }
+        if self.display.text.is_held() { left } else { 0 }
     }
 }

@@ -1,5 +1,5 @@
 //! The held segments of one service, with flag and age.
-ghost use Rattle.std.specs.Prelude.{◌≡◌, ◌≢◌, ◌<◌, ◌≤◌, ◌↔◌, ◌⊎◌, None, IsFalse, IsTrue};
+ghost use Rattle.std.specs.Prelude.{◌≡◌, ◌≢◌, ◌<◌, ◌↔◌, ◌⊎◌, None, IsFalse, IsTrue};
 ghost use Rattle.std.specs.FinMap.{empty, insert};
 ghost use Rattle.std.specs.Option.{option_copied};
 ghost use Rattle.rds_fields.specs.Stored.{is_set};
@@ -24,13 +24,6 @@ impl StoredSegments {
             later: 0,
             flag: 0,
         }
-    }
-
-    /// Returns whether no segment is held, or they are dropped at most so many slots after the next look.
-    pub(crate) fn is_within(&self, most: u16) -> bool
-        ensures { IsTrue result ↔ (self.now.mask ≢ 0 → self.now.later ≤ most) }
-    {
-        self.mask == 0 || self.later <= most
     }
 
     /// Drops the segments if they are due in the slot of a look. Returns whether a whole value was dropped.

@@ -1,18 +1,15 @@
-//! The receiver, and how it is made, stored and restored.
+//! The receiver, and how it is made.
 ghost use Rattle.std.specs.Prelude.{◌≡◌, ◌<◌, [], ℕ, Option, None, IfSome};
 ghost use Rattle.rds_block.specs.declared.group.Group.{Group};
 ghost use Rattle.rds_fields.specs.declared.message.Message.{Message};
 ghost use Rattle.rds_receiver.specs.Receipts.{Hears};
 ghost use Rattle.rds_receiver.specs.ReceiverAt.{ReceiverAt};
-ghost use Rattle.rds_receiver.specs.Stored.{IsStoredReceiver, receiver_stored};
 
 use crate::Window;
 use crate::display::{StoredDisplay, StoredSegments};
 use crate::last::StoredLastSegments;
-use crate::stored::StoredReceiver;
 use rds_block::{Blocks, Group};
 use rds_fields::{Dwell, Message, StoredPair};
-use std::marker::Model;
 
 /// Returns the message that a receiver of this programme hears in a slot. `None` if no group came, or if the group has
 /// another PI.
@@ -35,24 +32,21 @@ pub fn heard_blocks(pi: u16, group: Option<Blocks>) -> Option<Message>
 }
 
 /// A receiver of one programme, which shows the text, the name and the tags. It accepts every group, from any encoder.
-#[derive(Drop)]
+/// It is plain numbers, so a program may store it. With numbers that no receiver has, each call returns something
+/// arbitrary.
+#[repr(C)]
+#[derive(Clone, Copy)]
 pub struct Receiver {
-    pub(crate) state: StoredReceiver,
-}
-
-impl Model for Receiver {
-    // Prover: an `impl Model` with own `ghost use` lines does not read those at the top (docs/PROVER.md, "Idioms").
-    ghost use Rattle.rds_receiver.specs.Codes.{receiver_code};
-    ghost use Rattle.rds_receiver.specs.State.{ReceiverState};
-    ghost use Rattle.rds_receiver.specs.Stored.{IsStoredReceiver, receiver_stored};
-
-    ghost Value = { ReceiverState };
-
-    ghost coded = { receiver_code };
-
-    ghost view = { λ r. receiver_stored r.state };
-
-    ghost invariant = { λ r. IsStoredReceiver r.state };
+    /// What it holds of the messages that count.
+    pub display: StoredDisplay,
+    /// The last segments heard.
+    pub segments: StoredLastSegments,
+    /// The last pair of tags heard.
+    pub pair: StoredPair,
+    /// For how many more slots, the current one included, the last pair confirms the same one.
+    pub pair_left: u8,
+    /// The window in slots. If it is 0, each message counts; else a message counts if it came twice within the window.
+    pub window: u8,
 }
 
 impl Receiver {
@@ -72,60 +66,20 @@ impl Receiver {
     {
         let slots = dwell.get();
         Receiver {
-            state: StoredReceiver {
-                display: StoredDisplay {
-                    pi,
-                    dwell: slots,
-                    rest: slots,
-                    text: StoredSegments::none(),
-                    name: StoredSegments::none(),
-                    pair: StoredPair::none(),
-                    is_known: 0,
-                },
-                segments: StoredLastSegments::none(),
+            display: StoredDisplay {
+                pi,
+                dwell: slots,
+                rest: slots,
+                text: StoredSegments::none(),
+                name: StoredSegments::none(),
                 pair: StoredPair::none(),
-                pair_left: 0,
-                window: slots_of(window),
+                is_known: 0,
             },
+            segments: StoredLastSegments::none(),
+            pair: StoredPair::none(),
+            pair_left: 0,
+            window: slots_of(window),
         }
-    }
-
-    /// Rebuilds a stored receiver. Invalid numbers give an arbitrary valid receiver of the stored programme.
-    // Otherwise a slot of the C library copies the numbers once more.
-    #[inline(always)]
-    pub fn restore(stored: &StoredReceiver) -> Receiver
-        ensures same { IsStoredReceiver stored.now → result ≡ receiver_stored stored.now }
-        ensures programme { result.display.programme ≡ stored.now.display.pi }
-    {
-        if stored.is_valid() {
-            return Receiver { state: *stored };
-        }
-        Receiver::new(stored.display.pi, Dwell::new(1).unwrap())
-    }
-
-    /// Stores the receiver as plain numbers.
-    pub fn store(&self) -> StoredReceiver
-        ensures same { receiver_stored result ≡ self.now }
-        ensures good { IsStoredReceiver result }
-    {
-        *self.numbers()
-    }
-
-    /// Returns the plain numbers, borrowed from the receiver.
-    pub fn numbers(&self) -> &StoredReceiver
-        ensures same { receiver_stored result.now ≡ self.now }
-        ensures good { IsStoredReceiver result.now }
-    {
-        &self.state
-    }
-
-    /// Returns a receiver that continues where this one is.
-    // Prover: a type whose view forgets numbers is not `Copy` (docs/PROVER.md, "Workarounds").
-    #[inline(always)]
-    pub fn copied(&self) -> Receiver
-        ensures { result ≡ self.now }
-    {
-        Receiver { state: self.state }
     }
 }
 

@@ -43,7 +43,7 @@ impl Receiver {
     pub fn whys(&self) -> Whys
         ensures { WhereReceiverStands self.now (λ t input. AreWhys t input result) }
     {
-        self.state.display.whys()
+        self.display.whys()
     }
 
     /// Returns the text shown, at most 64 bytes, borrowed from the receiver. `None` if no text is shown; `Some` of no
@@ -53,7 +53,7 @@ impl Receiver {
             (λ m first heard. IsTextShown m first heard (option_copied result)) }
         ensures short { IfSome result (λ x. length x.now ≤ 64) }
     {
-        self.state.display.text.whole::<RadioText>()
+        self.display.text.whole::<RadioText>()
     }
 
     /// Returns the programme type name shown, eight bytes, borrowed from the receiver. `None` if no name is shown.
@@ -62,7 +62,7 @@ impl Receiver {
             (λ m first heard. IsNameShown m first heard (option_copied result)) }
         ensures short { IfSome result (λ x. length x.now ≡ 8) }
     {
-        self.state.display.name.whole::<TypeName>()
+        self.display.name.whole::<TypeName>()
     }
 
     /// Returns the item toggle bit and the item running bit. `None` if no text is shown or no pair of tags is held.
@@ -87,7 +87,7 @@ impl Receiver {
     pub fn pair(&self) -> Option<TagPair>
         ensures { WhatItHeard self.now (λ m first heard. result ≡ pair_held m first heard) }
     {
-        self.state.display.pair.pair()
+        self.display.pair.pair()
     }
 }
 

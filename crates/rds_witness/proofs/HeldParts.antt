@@ -17,8 +17,9 @@ use Rattle.rds_receiver.specs.declared.fragment.Fragment.{Fragment}
 use Rattle.rds_receiver.specs.Run.{cells_of, run, run_at}
 use Rattle.rds_receiver.specs.Holds.{HoldsRun, newest_slot}
 use Rattle.rds_receiver.specs.ReceiverAt.{ReceiverAt}
-use Rattle.rds_receiver.specs.State.{DisplayState, HeldSegments, ReceiverState}
-use Rattle.rds_receiver.specs.Stored.{age_stored, segments_stored}
+use Rattle.rds_receiver.specs.State.{DisplayState, HeldSegments}
+use Rattle.rds_receiver.specs.declared.receiver.Receiver.{Receiver}
+use Rattle.rds_receiver.specs.Stored.{age_stored, display_stored, segments_stored}
 use Rattle.rds_receiver.specs.Tags.{pair_held}
 use Rattle.rds_receiver.specs.declared.display.StoredSegments.{StoredSegments}
 use Rattle.rds_receiver.proofs.Runs.{run_at_newest}
@@ -116,14 +117,14 @@ pub record HoldsPartOf (one other : DisplayState) : Type 0 where
 holds_itself : (s : HeldSegments) → HoldsPart s s
 holds_itself s = record { cells = λ a b held. held; newer = inr (refl, omega arith) }
 
-module _ (pi m : ℕ) (one other : ReceiverState) (part : HoldsPartOf one.display other.display)
+module _ (pi m : ℕ) (one other : Receiver) (part : HoldsPartOf (display_stored one.display) (display_stored other.display))
     (input more : List (Option Group)) (mine : ReceiverAt (tuned pi m) one input)
     (theirs : ReceiverAt (tuned pi m) other more) (long : length input ≡ length more) where
-  same_pair : IsPairPart one.display.pair other.display.pair
+  same_pair : IsPairPart (display_stored one.display).pair (display_stored other.display).pair
       → IsPairPart (pair_held m 0 (heard_of pi input)) (pair_held m 0 (heard_of pi more))
-  same_pair (inl none) = inl (sym (pair_is one.display m 0 _ mine.holds.display) ∙ none)
-  same_pair (inr same) = inr (sym (pair_is one.display m 0 _ mine.holds.display) ∙ same
-      ∙ pair_is other.display m 0 _ theirs.holds.display)
+  same_pair (inl none) = inl (sym (pair_is (display_stored one.display) m 0 _ mine.holds.display) ∙ none)
+  same_pair (inr same) = inr (sym (pair_is (display_stored one.display) m 0 _ mine.holds.display) ∙ same
+      ∙ pair_is (display_stored other.display) m 0 _ theirs.holds.display)
 
   -- a receiver that lost more heard a part
   pub holds_part : IsInputPart (tuned pi m) input more
@@ -131,9 +132,9 @@ module _ (pi m : ℕ) (one other : ReceiverState) (part : HoldsPartOf one.displa
       let heard_long = as_long pi input more long in
       record {
         long = long;
-        texts = heard_part text_fragment m one.display.text other.display.text _ _ part.text heard_long
+        texts = heard_part text_fragment m (display_stored one.display).text (display_stored other.display).text _ _ part.text heard_long
             mine.holds.display.text theirs.holds.display.text;
-        names = heard_part name_fragment m one.display.name other.display.name _ _ part.name heard_long
+        names = heard_part name_fragment m (display_stored one.display).name (display_stored other.display).name _ _ part.name heard_long
             mine.holds.display.name theirs.holds.display.name;
         tags = (
           same_pair part.pair,
@@ -142,12 +143,12 @@ module _ (pi m : ℕ) (one other : ReceiverState) (part : HoldsPartOf one.displa
       }
 
 -- one receiver at two inputs
-pub same_part : (pi m : ℕ) (r : ReceiverState) (input more : List (Option Group)) → ReceiverAt (tuned pi m) r input
+pub same_part : (pi m : ℕ) (r : Receiver) (input more : List (Option Group)) → ReceiverAt (tuned pi m) r input
     → ReceiverAt (tuned pi m) r more → length input ≡ length more → IsInputPart (tuned pi m) input more
 same_part pi m r input more mine theirs long =
     holds_part pi m r r record {
-      text = holds_itself r.display.text;
-      name = holds_itself r.display.name;
+      text = holds_itself (display_stored r.display).text;
+      name = holds_itself (display_stored r.display).name;
       pair = inr refl;
       known = λ is. is;
     }

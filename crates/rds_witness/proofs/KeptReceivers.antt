@@ -11,7 +11,7 @@ use Rattle.rds_receiver.specs.Run.{run_at}
 use Rattle.rds_receiver.specs.ReceiverAt.{ReceiverAt, TakesSlot}
 use Rattle.rds_receiver.specs.Tags.{pair_held}
 use Rattle.rds_receiver.specs.Confirmed.{counted}
-use Rattle.rds_receiver.specs.State.{ReceiverState}
+use Rattle.rds_receiver.specs.declared.receiver.Receiver.{Receiver}
 use Rattle.rds_witness.specs.Covered.{CoversInput, IsAt, IsCovered, IsInputPart, Keeps}
 use Rattle.rds_witness.specs.Part.{IsPairPart, IsTagPart}
 use Rattle.rds_witness.specs.declared.covering.Lossy.{Lossy}
@@ -35,7 +35,7 @@ tags_through m first one two three p q = (by_first p.0, λ is. q.1 (p.1 is))
     by_first (inr same) = by_second same q.0
 
 -- a part of a part of an input is a part of it
-pub input_through : (t : Tuning) (r : ReceiverState) (one two three : List (Option Group)) → ReceiverAt t r two
+pub input_through : (t : Tuning) (r : Receiver) (one two three : List (Option Group)) → ReceiverAt t r two
     → IsInputPart t one two → IsInputPart t two three → IsInputPart t one three
 input_through t r one two three stands p q = record {
   long = p.long ∙ q.long;

@@ -10,7 +10,10 @@ use Rattle.rds_receiver.specs.Receipts.{heard_in, heard_of, Segment, segments, t
 use Rattle.rds_receiver.specs.Run.{begins_in, run, run_at, run_before}
 use Rattle.rds_receiver.specs.Holds.{HasAge, HasFlag, HoldsRun, newest_slot}
 use Rattle.rds_receiver.specs.ReceiverAt.{ReceiverAt}
-use Rattle.rds_receiver.specs.State.{HeldSegments, ReceiverState}
+use Rattle.rds_receiver.specs.Stored.{display_stored}
+use Rattle.rds_fields.specs.Stored.{is_set}
+use Rattle.rds_receiver.specs.State.{HeldSegments}
+use Rattle.rds_receiver.specs.declared.receiver.Receiver.{Receiver}
 use Rattle.rds_receiver.proofs.Runs.{run_over, run_recent}
 use Rattle.rds_witness.specs.Lost.{got, got-more, group_left}
 use Rattle.rds_witness.proofs.TagParts.{begins_on}
@@ -66,8 +69,8 @@ newest_flag m heard f a b held some holds =
     (segments text_fragment 0 heard) (omega (arith, some))) holds.flag
 
 -- the run begins in the same slot before and after the next one
-pub same_run : (pi m : ℕ) (old new : ReceiverState) (group : Option Group) (input : List (Option Group))
-    → old.display.text.age + 1 < old.display.dwell → old.display.text.flag ≡ new.display.text.flag
+pub same_run : (pi m : ℕ) (old new : Receiver) (group : Option Group) (input : List (Option Group))
+    → (display_stored old.display).text.age + 1 < old.display.dwell → is_set old.display.text.flag ≡ is_set new.display.text.flag
     → ReceiverAt (tuned pi m) old input → ReceiverAt (tuned pi m) new (group ∷ input)
     → begins_in (run_at text_fragment m 0 (heard_of pi input))
     ≡ begins_in (run_at text_fragment m 0 (heard_of pi (group ∷ input)))
@@ -75,17 +78,17 @@ same_run pi m old new group input young flag was is =
     let h = heard_of pi input in
     let x = heard_in pi group in
     let dwell : old.display.dwell ≡ m = was.holds.display.dwell in
-    let it : Goes m h old.display.text.flag = goes m h old.display.text was.holds.display.text
+    let it : Goes m h (is_set old.display.text.flag) = goes m h (display_stored old.display).text was.holds.display.text
     (omega (arith, young, dwell)) in
     begins_on m x h it.g it.older was.holds.display.lasts it.is
-    (λ f a b text. sym (newest_flag m h f a b new.display.text was.holds.display.lasts
+    (λ f a b text. sym (newest_flag m h f a b (display_stored new.display).text was.holds.display.lasts
     (subst (λ (y : Option Message). HoldsRun m (0 + length h)
-    (run m (0 + length h) (segments text_fragment 0 (y ∷ h))) new.display.text) text is.holds.display.text)) ∙ sym flag
+    (run m (0 + length h) (segments text_fragment 0 (y ∷ h))) (display_stored new.display).text) text is.holds.display.text)) ∙ sym flag
     ∙ it.same)
 
 -- the same over the slots of a log
-pub same_run_of_log : (pi m n : ℕ) (log : List (Option Group)) (old new : ReceiverState)
-    → old.display.text.age + 1 < old.display.dwell → old.display.text.flag ≡ new.display.text.flag
+pub same_run_of_log : (pi m n : ℕ) (log : List (Option Group)) (old new : Receiver)
+    → (display_stored old.display).text.age + 1 < old.display.dwell → is_set old.display.text.flag ≡ is_set new.display.text.flag
     → ReceiverAt (tuned pi m) old (got [] log n) → ReceiverAt (tuned pi m) new (got [] log (n + 1))
     → begins_in (run_at text_fragment m 0 (heard_of pi (got [] log n)))
     ≡ begins_in (run_at text_fragment m 0 (heard_of pi (got [] log (n + 1))))

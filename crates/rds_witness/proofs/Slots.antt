@@ -6,13 +6,13 @@ use Rattle.rds_receiver.specs.OneView.{same_view}
 use Rattle.rds_receiver.specs.Receipts.{Tuning}
 use Rattle.rds_receiver.specs.Shown.{IsView, ShownView}
 use Rattle.rds_receiver.specs.ReceiverAt.{ReceiverAt}
-use Rattle.rds_receiver.specs.State.{ReceiverState}
+use Rattle.rds_receiver.specs.declared.receiver.Receiver.{Receiver}
 use Rattle.rds_witness.specs.Lost.{got, got-more, group_left}
 use Rattle.rds_witness.specs.Mix.{NeverShows, ViewHas, Thing}
 use Rattle.rds_witness.specs.declared.burst.Burst.{Burst}
 
 -- a receiver stands at one slot more
-pub stands_more : (t : Tuning) (r : ReceiverState) (lost : List Burst) (log : List (Option Group)) (n : ℕ)
+pub stands_more : (t : Tuning) (r : Receiver) (lost : List Burst) (log : List (Option Group)) (n : ℕ)
     (group : Option Group) → group ≡ group_left lost log n
     → ReceiverAt t r (group ∷ got lost log n) → ReceiverAt t r (got lost log (n + 1))
 stands_more t r lost log n group same stands =

@@ -4,7 +4,7 @@ use Rattle.std.specs.Prelude.{◌+◌, ℕ, List}
 use Rattle.rds_log.specs.LogWrites.{tuned}
 use Rattle.rds_receiver.specs.Shown.{ShownView}
 use Rattle.rds_receiver.specs.ReceiverAt.{ReceiverAt}
-use Rattle.rds_receiver.specs.State.{ReceiverState}
+use Rattle.rds_receiver.specs.declared.receiver.Receiver.{Receiver}
 use Rattle.rds_witness.specs.Lines.{AreMixLines}
 use Rattle.rds_witness.specs.LossLines.{AreLossLines}
 use Rattle.rds_witness.specs.Lost.{got}
@@ -34,7 +34,7 @@ abbrev pub AddsKindOfIt : ℕ → Candidate → List ℕ → List ℕ → Type 0
 AddsKindOfIt n c before after = AreSomeOfItsMixLines n c before → AreSomeOfItsMixLines (n + 1) c after
 
 -- a receiver that loses its slots stands before slot n of its log
-abbrev pub StandsBefore : ℕ → Candidate → ReceiverState → Type 0
+abbrev pub StandsBefore : ℕ → Candidate → Receiver → Type 0
 StandsBefore n c r = ReceiverAt (tuned c.pi c.dwell) r (got c.lost.now c.log.now n)
 
 -- after the lines of all mixes before its slot, those of its slot are appended

@@ -7,7 +7,7 @@ use Rattle.rds_receiver.specs.Receipts.{Tuning, heard_of, text_fragment}
 use Rattle.rds_receiver.specs.Run.{begins_in, run_at}
 use Rattle.rds_receiver.specs.Shown.{IsView, ShownView}
 use Rattle.rds_receiver.specs.ReceiverAt.{ReceiverAt}
-use Rattle.rds_receiver.specs.State.{ReceiverState}
+use Rattle.rds_receiver.specs.declared.receiver.Receiver.{Receiver}
 use Rattle.rds_fields.specs.Tag.{tag_in}
 use Rattle.rds_receiver.specs.Tags.{cut_by, pair_held}
 use Rattle.rds_receiver.specs.Confirmed.{counted}
@@ -111,7 +111,7 @@ pub record HasOnlySeen (t : Tuning) (log : List (Option Group)) (n : ℕ) (input
   pub seen : (thing : Thing) → Has view thing → IsSeenBefore t log n thing
 
 -- the receiver shows no other things, wherever it stands
-abbrev pub ShowsOnlySeen : Tuning → List (Option Group) → ℕ → ReceiverState → Type 0
+abbrev pub ShowsOnlySeen : Tuning → List (Option Group) → ℕ → Receiver → Type 0
 ShowsOnlySeen t log n r = (input : List (Option Group)) → ReceiverAt t r input → HasOnlySeen t log n input
 
 abbrev pub ShowOnlySeen : Tuning → List (Option Group) → ℕ → List Lossy → Type 0

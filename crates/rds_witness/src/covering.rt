@@ -26,25 +26,12 @@ use std::alloc::AllocError;
 const SEGMENTS: u8 = 16;
 
 /// A receiver that lost a burst.
-#[derive(Drop)]
+#[derive(Clone, Copy)]
 pub(crate) struct Lossy {
     pub(crate) receiver: Receiver,
     pub(crate) burst: Burst,
     /// Whether its view may have changed in the newest slot.
     pub(crate) changed: bool,
-}
-
-impl Lossy {
-    /// Returns a receiver that continues where this one is.
-    pub(crate) fn copied(&self) -> Lossy
-        ensures { result ≡ self.now }
-    {
-        Lossy {
-            receiver: self.receiver.copied(),
-            burst: self.burst,
-            changed: self.changed,
-        }
-    }
 }
 
 /// Returns whether the first receiver holds nothing at the address, or the second one holds the same bytes there.
@@ -137,7 +124,7 @@ pub(crate) fn is_receiver_part(one: &Receiver, other: &Receiver) -> bool
         → ReceiverAt (tuned pi m) one.now input → ReceiverAt (tuned pi m) other.now more
         → length input ≡ length more → IsInputPart (tuned pi m) input more }
 {
-    let (one, other) = (&one.numbers().display, &other.numbers().display);
+    let (one, other) = (&one.display, &other.display);
     if !is_known_part(one, other) {
         return false;
     }
@@ -166,7 +153,7 @@ pub(crate) fn lose_first(begins: &mut Lossy, whole: &Lossy, slot: usize)
     ensures changed { IsTrue begins.new.changed }
 {
     // a new value would be copied once more
-    begins.receiver = whole.receiver.copied();
+    begins.receiver = whole.receiver;
     let _ = begins.receiver.slot_blocks(None);
     begins.burst = Burst {
         first: slot,
@@ -199,7 +186,7 @@ pub(crate) fn keep(whole: &Lossy, kept: &mut Vec<Lossy>, one: &Lossy) -> Result<
             return Ok(());
         }
     }
-    kept.push(one.copied())?;
+    kept.push(*one)?;
     Ok(())
 }
 
@@ -219,7 +206,7 @@ pub(crate) fn keep_after_slot(
         → All (IsChecked (tuned pi m) log k) kept.new.items) }
 {
     for place in 0..receivers.len() {
-        let mut later = receiver_at(receivers, place).copied();
+        let mut later = *receiver_at(receivers, place);
         take_slot(&mut later, *group, lost);
         keep(whole, kept, &later)?;
     }

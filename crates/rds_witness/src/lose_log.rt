@@ -143,7 +143,7 @@ fn play_slot(
     ensures stands { StandsBefore (candidate.now.slot + 1) candidate.now receiver.new }
     ensures lines { OnOk result (AddsSlotOfIt candidate.now lines.old.items lines.new.items) }
 {
-    let old = receiver.copied();
+    let old = *receiver;
     let changed = receiver.slot_blocks(group);
     if !changed {
         return Ok(());

@@ -11,6 +11,8 @@ ghost use Rattle.rds_receiver.specs.Borrowed.{borrowed_tag, view_of};
 ghost use Rattle.rds_receiver.specs.Receipts.{Tuning};
 ghost use Rattle.rds_receiver.specs.Shown.{IsView, ShownView};
 ghost use Rattle.rds_receiver.specs.ReceiverAt.{ReceiverAt};
+ghost use Rattle.rds_receiver.specs.Stored.{display_stored};
+ghost use Rattle.rds_fields.specs.Stored.{is_set};
 ghost use Rattle.rds_fields.specs.Tag.{tag_in};
 ghost use Rattle.rds_receiver.specs.Tags.{cut_by};
 ghost use Rattle.rds_witness.specs.Borrowed.{thing_of};
@@ -121,10 +123,10 @@ fn is_of_pair(pair: Option<TagPair>, text: Option<&[u8]>, class: u8, piece: &[u8
 
 /// Returns whether the run of texts of a receiver goes on in the next slot.
 fn goes_on(old: &Receiver, new: &Receiver) -> bool
-    ensures age { IsTrue result → old.now.display.text.age + 1 < old.now.display.dwell }
-    ensures flag { IsTrue result → old.now.display.text.flag ≡ new.now.display.text.flag }
+    ensures age { IsTrue result → (display_stored old.now.display).text.age + 1 < old.now.display.dwell }
+    ensures flag { IsTrue result → is_set old.now.display.text.flag ≡ is_set new.now.display.text.flag }
 {
-    let (old, new) = (&old.numbers().display, &new.numbers().display);
+    let (old, new) = (&old.display, &new.display);
     let flag = old.text.flag != 0;
     let new_flag = new.text.flag != 0;
     flag == new_flag && u32::from(old.text_age()) + 1 < u32::from(old.dwell)
@@ -162,7 +164,7 @@ impl AllSeen {
         };
         let mut whole = Receiver::new(pi, dwell);
         for slot in 0..log.len() {
-            let old = whole.copied();
+            let old = whole;
             let changed = whole.slot_blocks(received(log, &[], slot));
             all.drop_pairs(&old, &whole);
             if changed {
@@ -249,7 +251,7 @@ impl AllSeen {
         }
         self.seen.push(Seen {
             slot,
-            receiver: whole.copied(),
+            receiver: *whole,
             pair,
         })?;
         Ok(())

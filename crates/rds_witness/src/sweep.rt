@@ -39,8 +39,9 @@ impl Sweep {
             burst: Burst { first: 0, last: 0 },
             changed: true,
         };
+        let begins = whole;
         Sweep {
-            begins: whole.copied(),
+            begins,
             whole,
             losing: Vec::new(alloc),
             hearing: Vec::new(alloc),

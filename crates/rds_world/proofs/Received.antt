@@ -14,7 +14,7 @@ use Rattle.rds_receiver.specs.ReceiverAt.{KeepsView, TakesSlot}
 use Rattle.rds_receiver.specs.Confirmed.{counted}
 use Rattle.rds_safety.specs.Late.{Input}
 use Rattle.rds_world.specs.ReceiverKind.{dwell_of}
-use Rattle.rds_receiver.specs.State.{ReceiverState}
+use Rattle.rds_receiver.specs.declared.receiver.Receiver.{Receiver}
 use Rattle.rds_world.specs.WorldAt.{HasHeard, HeardNothing, StaysShown, tuned_to}
 use Rattle.rds_world.specs.declared.world.Config.{Config}
 
@@ -30,7 +30,7 @@ abbrev input_from : ℕ → List (Option Message) → List (Option ℕ) → Inpu
 input_from first heard origins = record { first = first; heard = heard; origins = origins }
 
 -- one more group was handled, so one more entry was heard
-pub hears_more : (config : Config) (input : Input) (old new : ReceiverState) (group : Option Group)
+pub hears_more : (config : Config) (input : Input) (old new : Receiver) (group : Option Group)
     (heard : Option Message) (origin : Option ℕ)
     → Hears config.head.pi group heard → TakesSlot old new group
     → HasHeard config input old
@@ -42,7 +42,7 @@ hears_more config input old new group heard origin hears goes_on has = record {
 }
 
 -- one more group was handled, and the view did not change
-pub stays_shown : (config : Config) (input : Input) (old : ReceiverState) (group : Option Group)
+pub stays_shown : (config : Config) (input : Input) (old : Receiver) (group : Option Group)
     (heard : Option Message) (origin : Option ℕ)
     → Hears config.head.pi group heard → KeepsView old group
     → HasHeard config input old
@@ -58,7 +58,7 @@ stays_shown config input old group heard origin hears stays has view shown =
     }
 
 -- a receiver before its first slot has heard nothing
-pub heard_nothing : (config : Config) (first : ℕ) (r : ReceiverState) → HeardNothing config r
+pub heard_nothing : (config : Config) (first : ℕ) (r : Receiver) → HeardNothing config r
     → HasHeard config (input_from first [] []) r
 heard_nothing config first r begins = record { groups = []; spelled = refl; stands = begins first }
 

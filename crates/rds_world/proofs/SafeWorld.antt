@@ -9,7 +9,7 @@ use Rattle.rds_receiver.specs.Receipts.{Tuning}
 use Rattle.rds_receiver.specs.Shown.{IsView, ShowsView, ShownView}
 use Rattle.rds_receiver.specs.Confirmed.{counted_in}
 use Rattle.rds_world.specs.ReceiverKind.{counted_input, dwell_of, is_flag_alone, lateness_in, own_window, window_of}
-use Rattle.rds_receiver.specs.State.{ReceiverState}
+use Rattle.rds_receiver.specs.declared.receiver.Receiver.{Receiver}
 use Rattle.rds_world.specs.declared.receiver_kind.ReceiverKind.{ReceiverKind}
 use Rattle.rds_world.specs.declared.receiver_kind.ReceiverKind.TheVariants.{Confirming, FlagAlone, WithDwell}
 use Rattle.rds_world.specs.Due.{AreDue}
@@ -58,7 +58,7 @@ tuned_alike config input has = λ i. record {
 }
 
 -- the view of a receiver is that of what counts of its input
-pub shows_view : (config : Config) (input : Input) (r : ReceiverState) (view : ShownView)
+pub shows_view : (config : Config) (input : Input) (r : Receiver) (view : ShownView)
     → is_flag_alone config.kind ≡ false → HasHeard config input r → ReceiverShows r view
     → ShowsView config.dwell input.first (counted_in (window_of config.kind) config.dwell input.first input.heard) view
 shows_view config input r view kind has shows =
@@ -89,7 +89,7 @@ listens_in (Some w) k m t log input view heard keeps now shows = record {
 }
 
 -- a receiver of a world listens as the laws of safety want it
-pub listens : (config : Config) (e : Event) (before : List Event) (i : ℕ) (r : ReceiverState) (view : ShownView)
+pub listens : (config : Config) (e : Event) (before : List Event) (i : ℕ) (r : Receiver) (view : ShownView)
     → is_flag_alone config.kind ≡ false → AreDue config.late (e ∷ before) → AreFit (window_of config.kind) (e ∷ before)
     → HasHeard config (input_of (distance config) i (e ∷ before)) r → ReceiverShows r view
     → ListensIn (window_of config.kind) config.late config.dwell (length before)
@@ -102,10 +102,10 @@ listens config e before i r view kind due fit has shows =
     (window_of config.kind) (e ∷ before) fit) (input_reaches (distance config) i (e ∷ before) ∙ omega arith)
     (shows_view config input r view kind has shows)
 
-all_listen : (config : Config) (e : Event) (before : List Event) (i : ℕ) (receivers : List ReceiverState)
+all_listen : (config : Config) (e : Event) (before : List Event) (i : ℕ) (receivers : List Receiver)
     (views : List ShownView) → is_flag_alone config.kind ≡ false → AreDue config.late (e ∷ before)
     → AreFit (window_of config.kind) (e ∷ before)
-    → ((n : ℕ) (r : ReceiverState) → slice_get receivers n ≡ Some r
+    → ((n : ℕ) (r : Receiver) → slice_get receivers n ≡ Some r
     → HasHeard config (input_of (distance config) (i + n) (e ∷ before)) r) → AllZip ReceiverShows receivers views
     → AllByRecursion (ListensIn (window_of config.kind) config.late config.dwell (length before)
     (log (distance config) (e ∷ before))) (listeners config (e ∷ before) i views)

@@ -9,7 +9,7 @@ use Rattle.std.proofs.Math.Seq.{take-append_seam}
 use Rattle.std.proofs.lemmas.Option.{slice_get_read}
 use Rattle.rds_encoder.specs.EncoderAt.{EncoderAt}
 use Rattle.rds_receiver.specs.Shown.{ShownView}
-use Rattle.rds_receiver.specs.State.{ReceiverState}
+use Rattle.rds_receiver.specs.declared.receiver.Receiver.{Receiver}
 use Rattle.rds_world.specs.declared.event.Reception.TheVariants.{Lost}
 use Rattle.rds_world.specs.Due.{IsDueToAll}
 use Rattle.rds_world.specs.Event.{Event}
@@ -63,7 +63,7 @@ stepped config old new events e st same value due fit told heard reaches pasts s
 
 -- the view of a borrowed receiver is that of its input
 pub shows_what_it_heard : (config : Config) (w : WorldState) (i : ℕ) (events : List Event) → WorldAt config w events
-    → (o : Option (Bor ReceiverState)) → is_some o ≡ nat_lt i (length w.receivers)
+    → (o : Option (Bor Receiver)) → is_some o ≡ nat_lt i (length w.receivers)
     → IfSome o (λ r. r.now ≡ slice_index_or w.receivers i r.now)
     → IfSome o (λ r. (view : ShownView) → ReceiverShows r.now view
     → IsViewOfInput config (input_of (distance config) i events) view)

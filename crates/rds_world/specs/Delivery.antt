@@ -13,7 +13,7 @@ use Rattle.rds_receiver.specs.Shown.{ShownView}
 use Rattle.rds_safety.specs.Late.{CameFrom}
 use Rattle.rds_safety.specs.Safe.{Listener, ListensTo}
 use Rattle.rds_world.specs.declared.receiver_kind.ReceiverKind.TheVariants.{WithDwell}
-use Rattle.rds_receiver.specs.State.{ReceiverState}
+use Rattle.rds_receiver.specs.declared.receiver.Receiver.{Receiver}
 use Rattle.rds_world.specs.declared.event.Reception.{Reception}
 use Rattle.rds_world.specs.declared.event.Reception.TheVariants.{Got, Lost, Wrong, Restart}
 use Rattle.rds_world.specs.Event.{Event}
@@ -59,7 +59,7 @@ pub record GotRecently (config : Config) (recent before : List Event) (view : Sh
   pub stands : WorldAt config world (recent ++ before)
   pub within : length recent ≤ config.dwell
   pub number : ℕ
-  pub receiver : ReceiverState
+  pub receiver : Receiver
   pub there : slice_get world.receivers number ≡ Some receiver
   pub got : GetsEachFree number recent
   pub shows : ReceiverShows receiver view

@@ -4,7 +4,7 @@ use Rattle.std.specs.List.{AllZip}
 use Rattle.rds_receiver.specs.Shown.{ShownView}
 use Rattle.rds_world.specs.Event.{Event}
 use Rattle.rds_world.specs.ReceiverKind.{counted_input, is_flag_alone, window_of}
-use Rattle.rds_receiver.specs.State.{ReceiverState}
+use Rattle.rds_receiver.specs.declared.receiver.Receiver.{Receiver}
 use Rattle.rds_safety.specs.Late.{Input}
 use Rattle.rds_safety.specs.Safe.{AreSafeViews, Listener}
 use Rattle.rds_world.specs.Slots.{input_of, log, plans_of}
@@ -29,7 +29,7 @@ listeners config events i (view ∷ views) =
 -- newest slot, each text or name that these receivers show was on air in one of the last d slots, the tags shown were
 -- sent for the text shown, and any two receivers show one broadcast or two that follow each other. Here d is M + K, and
 -- M + K + W - 1 for receivers with a window of W slots.
-abbrev pub OnlyWhatWasOnAirIsShown : Config → List Event → List ReceiverState → Type 0
+abbrev pub OnlyWhatWasOnAirIsShown : Config → List Event → List Receiver → Type 0
 OnlyWhatWasOnAirIsShown config [] receivers = Unit {0}
 OnlyWhatWasOnAirIsShown config (newest ∷ before) receivers =
     is_flag_alone config.kind ≡ false → (views : List ShownView) → AllZip ReceiverShows receivers views

@@ -7,7 +7,7 @@ use Rattle.rds_block.specs.declared.group.Group.{Group}
 use Rattle.rds_fields.specs.declared.message.Message.{Message}
 use Rattle.rds_encoder.specs.State.{EncoderState}
 use Rattle.rds_world.specs.ReceiverKind.{lateness_of}
-use Rattle.rds_receiver.specs.State.{ReceiverState}
+use Rattle.rds_receiver.specs.declared.receiver.Receiver.{Receiver}
 use Rattle.rds_world.specs.declared.world.Config.{Config}
 
 -- the spacing d of the station, in slots: the dwell M plus the lateness of what counts. It is M + K, and M + K + W - 1
@@ -18,7 +18,7 @@ distance config = config.dwell + lateness_of config.kind config.late
 pub record WorldState : Type 0 where
   pub config : Config
   pub encoder : EncoderState
-  pub receivers : List ReceiverState
+  pub receivers : List Receiver
   pub stays : List Bool
   pub reaches : List ℕ
   pub pasts : List (Buffer (Option Message))

@@ -11,7 +11,7 @@ use Rattle.rds_receiver.specs.ReceiverAt.{ReceiverAt, WhereReceiverStands}
 use Rattle.rds_world.specs.declared.event.Reception.{Reception}
 use Rattle.rds_world.specs.declared.event.Reception.TheVariants.{Lost}
 use Rattle.rds_world.specs.ReceiverKind.{dwell_of, own_window, window_of}
-use Rattle.rds_receiver.specs.State.{ReceiverState}
+use Rattle.rds_receiver.specs.declared.receiver.Receiver.{Receiver}
 use Rattle.rds_world.specs.Due.{AreDue, IsDue, last_named, reach_of}
 use Rattle.rds_world.specs.Event.{Event}
 use Rattle.rds_safety.specs.Late.{Input}
@@ -31,20 +31,20 @@ tuned_to config input = record {
 }
 
 -- the receiver stands at groups whose messages are the input
-pub record HasHeard (config : Config) (input : Input) (r : ReceiverState) : Type 0 where
+pub record HasHeard (config : Config) (input : Input) (r : Receiver) : Type 0 where
   pub groups : List (Option Group)
   pub spelled : AreHeard config.head.pi groups input.heard
   pub stands : ReceiverAt (tuned_to config input) r groups
 
 -- the receiver has heard nothing yet, in whichever slot its input begins
-abbrev pub HeardNothing : Config → ReceiverState → Type 0
+abbrev pub HeardNothing : Config → Receiver → Type 0
 HeardNothing config r =
     (first : ℕ)
     → ReceiverAt (tuned_to config record { first = first; heard = []; origins = [] }) r []
 
 -- each receiver has heard the input with its number
-pub record AllHaveHeard (config : Config) (inputs : ℕ → Input) (receivers : List ReceiverState) : Type 0 where
-  pub each : (i : ℕ) (r : ReceiverState) → slice_get receivers i ≡ Some r → HasHeard config (inputs i) r
+pub record AllHaveHeard (config : Config) (inputs : ℕ → Input) (receivers : List Receiver) : Type 0 where
+  pub each : (i : ℕ) (r : Receiver) → slice_get receivers i ≡ Some r → HasHeard config (inputs i) r
 
 -- these are the groups of the last K + 1 slots, the newest first: receivers of the programme hear the messages of the
 -- log from them
@@ -59,7 +59,7 @@ all_received receptions slot sent inputs i = received (slice_index_or receptions
 
 -- this holds of each slot, log and list of inputs for which the kept groups are the last ones of the log, each
 -- reception is due, and the receivers have heard the inputs
-abbrev pub WhereTheyListen : Config → List Reception → List (Option Group) → List ReceiverState
+abbrev pub WhereTheyListen : Config → List Reception → List (Option Group) → List Receiver
     → (ℕ → List (Option Message) → (ℕ → Input) → Type 0) → Type 0
 WhereTheyListen config receptions kept receivers Holds =
     (slot : ℕ) (sent : List (Option Message)) (inputs : ℕ → Input) (last : ℕ → Option ℕ) → AreLastSent config sent kept
@@ -111,5 +111,5 @@ abbrev pub WhereWorldStands : WorldState → (Config → List Event → Type 0) 
 WhereWorldStands w Holds = (config : Config) (events : List Event) → WorldAt config w events → Holds config events
 
 -- the receiver shows this view: the view follows from every input that can lead to this state
-abbrev pub ReceiverShows : ReceiverState → ShownView → Type 0
+abbrev pub ReceiverShows : Receiver → ShownView → Type 0
 ReceiverShows r view = WhereReceiverStands r (λ t input. IsView t input view)

@@ -1,6 +1,6 @@
 //! The receivers' part of a slot: hands out the groups, and marks the receivers whose view did not change.
 ghost use Rattle.std.specs.Prelude.{◌≡◌, ◌≤◌, ◌<◌, ℕ, List, None, Option, Some, IsTrue, false, length, slice_index_or};
-ghost use Rattle.std.specs.Prelude.{true};
+ghost use Rattle.std.specs.Prelude.{take, true};
 ghost use Rattle.std.specs.List.{AllByRecursion};
 ghost use Rattle.rds_fields.specs.declared.message.Message.{Message};
 ghost use Rattle.rds_world.specs.declared.event.Reception.TheVariants.{Lost};
@@ -66,8 +66,33 @@ impl Stays {
     }
 }
 
+/// Gives each of the first receivers its reception of a slot from the recent groups. Marks those whose view did not
+/// change.
+// Prover: a part of an array in a struct is lent behind a call (docs/PROVER.md, "Workarounds").
+pub(crate) fn hand_out_first(
+    receivers: &mut [Receiver; MOST_RECEIVERS],
+    count: usize,
+    config: &Config,
+    receptions: &[Reception],
+    recent: &Recent,
+) -> Stays
+    requires same { length receptions.now ≡ count }
+    requires few { count ≤ MOST_RECEIVERS }
+    requires eight { length receivers.old ≡ MOST_RECEIVERS }
+    ensures eight { length receivers.new ≡ MOST_RECEIVERS }
+    ensures heard { WhereTheyListen config.now receptions.now recent.now.items (take count receivers.old)
+        (λ slot sent inputs. AllHaveHeard config.now
+        (all_received receptions.now slot sent inputs) (take count receivers.new)) }
+    ensures stays { WhereTheyListen config.now receptions.now recent.now.items (take count receivers.old)
+        (λ slot sent inputs. (i : ℕ) → slice_index_or result.each i false ≡ true
+        → StaysShown config.now (inputs i) (all_received receptions.now slot sent inputs i)) }
+    ensures all { result.all ≡ true → (i : ℕ) → i < count → slice_index_or result.each i false ≡ true }
+{
+    hand_out(&mut receivers[..count], config, receptions, recent)
+}
+
 /// Gives each receiver its reception of a slot from the recent groups. Marks the receivers whose view did not change.
-pub(crate) fn hand_out(
+fn hand_out(
     receivers: &mut [Receiver],
     config: &Config,
     receptions: &[Reception],

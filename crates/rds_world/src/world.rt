@@ -17,7 +17,7 @@ ghost use Rattle.rds_world.specs.declared.event.TheConstants.{MOST_RECEIVERS};
 
 use crate::past::{Past, check_wrong, new_pasts, note_wrong};
 use crate::reach::{Reach, reaches_after};
-use crate::receivers::{Stays, eight_receivers, hand_out};
+use crate::receivers::{Stays, eight_receivers, hand_out_first};
 use crate::recent::Recent;
 use crate::station::{new_encoder, obey};
 use crate::{
@@ -69,14 +69,10 @@ pub struct World {
 
 impl Model for World {
     ghost use Rattle.std.specs.Prelude.{◌≡◌, ◌≤◌, ◌<◌, ◌+◌, ℕ, false, length, slice_index_or, take, true};
-    ghost use Rattle.std.specs.Coded.{codes};
-    ghost use Rattle.rds_receiver.specs.Codes.{receiver_code};
     ghost use Rattle.rds_world.specs.State.{WorldState};
     ghost use Rattle.rds_world.specs.declared.event.TheConstants.{MOST_RECEIVERS};
 
     ghost Value = { WorldState };
-
-    ghost coded = { Prim.hlevel (codes, receiver_code) };
 
     ghost view = { λ w. record {
       config = w.config;
@@ -165,8 +161,9 @@ impl World {
         // Prover: a `Copy` value is copied by a new name before its second use (docs/PROVER.md, "Workarounds").
         let handed = sent;
         self.recent.push(Blocks::of_slot(handed));
-        self.stays = hand_out(
-            &mut self.receivers[..self.count],
+        self.stays = hand_out_first(
+            &mut self.receivers,
+            self.count,
             &self.config,
             receptions,
             &self.recent,

@@ -11,9 +11,9 @@ returns-clause-held c t input s =
     record {
       text = of_run 16 _ _ _ _ _ c.args.receiver.now.display.text _ (omega arith)
           (λ a h. ap (λ (r : RdsrtSegments). bit_at r.held a) text) (ap (λ (r : RdsrtSegments). r.age) text)
-          s.at.holds.display.text;
+          s.holds.display.text;
       name = of_run 2 _ _ _ _ _ c.args.receiver.now.display.name _ (omega arith)
           (λ a h. ap (λ (r : RdsrtSegments). bit_at (bit_and r.held 3) a) name
           ∙ of_name c.args.receiver.now.display.name.mask a h)
-          (ap (λ (r : RdsrtSegments). r.age) name) s.at.holds.display.name;
+          (ap (λ (r : RdsrtSegments). r.age) name) s.holds.display.name;
     }

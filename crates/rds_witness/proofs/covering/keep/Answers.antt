@@ -37,9 +37,9 @@ pub returns-clause-covers : goal.returns-clause-covers
 returns-clause-covers c pi m n at its =
     let whole = c.args.whole.now in
     let kept = c.args.kept.now.items in
-    rw (c.in_ok-push.ensures.items, c.copied.ensures) (keeps_more (tuned pi m) n (whole ∷ kept) c.args.one.now at its)
+    rw c.in_ok-push.ensures.items (keeps_more (tuned pi m) n (whole ∷ kept) c.args.one.now at its)
 
 pub returns-clause-checked : goal.returns-clause-checked
 returns-clause-checked c t log k all its =
-    rw (c.in_ok-push.ensures.items, c.copied.ensures) (All-push (IsChecked t log k) c.args.kept.now.items c.args.one.now
+    rw c.in_ok-push.ensures.items (All-push (IsChecked t log k) c.args.kept.now.items c.args.one.now
     all its)

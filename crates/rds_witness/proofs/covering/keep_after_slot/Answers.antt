@@ -20,10 +20,8 @@ loop-place-init c = record {
 pub loop-place-preserved : goal.loop-place-preserved
 loop-place-preserved c =
     let now = c.loop-place.place in
-    let one = c.copied-later.result in
-    let is : (d : Lossy) → get_or c.args.receivers.now now d ≡ one = λ d. c.receiver_at.ensures d
-    ∙ sym c.copied-later.ensures
-    in
+    let one = c.receiver_at.result.now in
+    let is : (d : Lossy) → get_or c.args.receivers.now now d ≡ one = c.receiver_at.ensures in
     let later = c.take_slot.new.one in
     let step = c.take_slot.ensures in
     record {

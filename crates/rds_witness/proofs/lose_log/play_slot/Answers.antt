@@ -70,7 +70,7 @@ returns-then-knows_all-clause-lines c =
     adds_slot t candidate.ahead log lost n c.args.lines.now.items [] c.args.lines.now.items
     (no_mixes t candidate.ahead log lost [] n
     (known_none t candidate.ahead log lost n before (view_of c.view-after.result)
-    (c.view-before.ensures t _ (subst (StandsBefore n candidate) (sym c.copied-old.ensures) c.requires.stands))
+    (c.view-before.ensures t _ c.requires.stands)
     (c.view-after.ensures t _ stands)
     (λ thing has. subst (λ (k : ℕ). IsKnown t log k before thing) c.slots_until-until.ensures.value
     (c.knows_all.ensures c.if-knows_all.true t log c.requires.seen thing has))))
@@ -85,8 +85,7 @@ push_mixes_of-requires-clause-around c =
     (c.slot_blocks-changed.ensures.stands _ _ c.requires.stands) in
     record {
       inside = c.requires.inside;
-      was = c.view-before.ensures t _ (subst (StandsBefore candidate.slot candidate) (sym c.copied-old.ensures)
-          c.requires.stands);
+      was = c.view-before.ensures t _ c.requires.stands;
       is = c.view-after.ensures t _ stands;
     }
 

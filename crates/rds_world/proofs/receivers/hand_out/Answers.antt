@@ -3,8 +3,8 @@ use Rattle.std.proofs.Common.{refl}
 use Rattle.std.specs.Prelude.{slice_get, slice_index_or, slice_set}
 use Rattle.std.proofs.lemmas.Bool.{cases_lt}
 use Rattle.std.proofs.lemmas.List.{get_or-set_same, get_or_default, length-set}
-use Rattle.std.proofs.lemmas.Option.{slice_get_read, slice_get_within}
-use Rattle.rds_receiver.specs.State.{ReceiverState}
+use Rattle.std.proofs.lemmas.Option.{slice_get-get_or, slice_get_within}
+use Rattle.rds_receiver.specs.declared.receiver.Receiver.{Receiver}
 use Rattle.rds_world.specs.declared.event.Reception.TheVariants.{Lost}
 use Rattle.rds_world.specs.declared.event.Reception.{Reception}
 use Rattle.rds_world.specs.Due.{IsDue}
@@ -44,8 +44,8 @@ loop-i-preserved c =
     let config = c.args.config.now in
     let long : length rs ≡ length c.args.receivers.now = c.loop-i.invariant.count in
     let given : length c.args.receptions.now ≡ length c.args.receivers.now = c.requires.same in
-    let at : slice_get rs i ≡ Some c.index-receivers-i.result = slice_get_read rs (length rs) i
-    c.index-receivers-i.result refl (omega arith) c.index-receivers-i.is in
+    let at : (d : Receiver) → slice_get rs i ≡ Some (slice_index_or rs i d) =
+    λ d. slice_get-get_or rs i d (omega (arith, long, c.loop-i-test.true)) in
     let told : slice_index_or c.args.receptions.now i Lost ≡ c.index-receptions-i.result = get_or_default
     c.args.receptions.now i Lost c.index-receptions-i.result (omega (arith, long, given))
     ∙ sym c.index-receptions-i.is in
@@ -57,15 +57,13 @@ loop-i-preserved c =
             (sym (other_kept rs i k new (omega arith)) ∙ e)
         | inr more ↦ (
             let here : k ≡ i = omega arith in
-            let old : HasHeard config (inputs i) c.index-receivers-i.result = all.each i c.index-receivers-i.result
-            (sym (c.loop-i.invariant.rest i (omega arith)) ∙ at) in
+            let old = all.each i _ (sym (c.loop-i.invariant.rest i (omega arith)) ∙ at _) in
             let has = c.receive-same.ensures.heard slot sent (inputs i) (last i) kept
-            (subst (λ (x : Reception). IsDue c.args.config.now.late slot (last i) x) told (due i))
-            (rw (← c.index-receivers-i.is) old) in
+            (subst (λ (x : Reception). IsDue c.args.config.now.late slot (last i) x) told (due i)) old in
             let same : new ≡ r = written rs i new r (subst (λ n. slice_get (slice_set rs i new) n ≡ Some r) here e) in
             subst (λ n. HasHeard config (received (slice_index_or c.args.receptions.now n Lost) slot sent (inputs n)) r)
             (sym here)
-            (subst (λ (x : ReceiverState). HasHeard config (received (slice_index_or c.args.receptions.now i Lost) slot
+            (subst (λ (x : Receiver). HasHeard config (received (slice_index_or c.args.receptions.now i Lost) slot
             sent (inputs i)) x) same
             (subst (λ (x : Reception). HasHeard config (received x slot sent (inputs i)) new) (sym told) has))
             )
@@ -77,14 +75,12 @@ loop-i-preserved c =
             (sym (other_marked c.loop-i.stays i k c.receive-same.result false (omega (arith, less))) ∙ is)
         | inr more ↦ (
             let here : k ≡ i = omega (arith, h, more) in
-            let old : HasHeard config (inputs i) c.index-receivers-i.result = all.each i c.index-receivers-i.result
-            (sym (c.loop-i.invariant.rest i (omega arith)) ∙ at) in
+            let old = all.each i _ (sym (c.loop-i.invariant.rest i (omega arith)) ∙ at _) in
             let yes : c.receive-same.result ≡ true = marked c.loop-i.stays i c.receive-same.result
             (subst (λ n. slice_index_or (slice_set c.loop-i.stays i c.receive-same.result) n false ≡ true) here is)
             in
             let stay = c.receive-same.ensures.stays slot sent (inputs i) (last i) kept
-            (subst (λ (x : Reception). IsDue c.args.config.now.late slot (last i) x) told (due i))
-            (rw (← c.index-receivers-i.is) old) yes in
+            (subst (λ (x : Reception). IsDue c.args.config.now.late slot (last i) x) told (due i)) old yes in
             subst (λ n. StaysShown config (inputs n) (received (slice_index_or c.args.receptions.now n Lost) slot sent
             (inputs n))) (sym here)
             (subst (λ (x : Reception). StaysShown config (inputs i) (received x slot sent (inputs i))) (sym told) stay)

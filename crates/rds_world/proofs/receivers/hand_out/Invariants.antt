@@ -1,7 +1,7 @@
 use Rattle.std.proofs.Common.{◌≡◌, ◌<◌, ◌≤◌, ℕ, List, Option, Some, false, length, true}
 use Rattle.std.specs.Prelude.{slice_get, slice_index_or}
 use Rattle.rds_fields.specs.declared.message.Message.{Message}
-use Rattle.rds_receiver.specs.State.{ReceiverState}
+use Rattle.rds_receiver.specs.declared.receiver.Receiver.{Receiver}
 use Rattle.rds_world.specs.declared.event.Reception.TheVariants.{Lost}
 use Rattle.rds_world.specs.Due.{IsDue}
 use Rattle.rds_safety.specs.Late.{Input}
@@ -17,7 +17,7 @@ invariant-loop-i l = record {
       → AreLastSent l.config sent l.recent.items
       → ((k : ℕ) → IsDue l.config.late slot (last k) (slice_index_or l.receptions k Lost))
       → AllHaveHeard l.config inputs l.fn.receivers
-      → (k : ℕ) (r : ReceiverState) → k < l.i → slice_get l.receivers k ≡ Some r
+      → (k : ℕ) (r : Receiver) → k < l.i → slice_get l.receivers k ≡ Some r
       → HasHeard l.config (received (slice_index_or l.receptions k Lost) slot sent (inputs k)) r;
   later : (k : ℕ) → l.i ≤ k → slice_index_or l.stays k false ≡ false;
   stays : (slot : ℕ) (sent : List (Option Message)) (inputs : ℕ → Input) (last : ℕ → Option ℕ)

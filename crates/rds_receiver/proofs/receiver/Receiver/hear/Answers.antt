@@ -6,23 +6,23 @@ use Rattle.rds_receiver.proofs.ConfirmingSteps.{each_counts, message_counted, no
 use Rattle.rds_receiver.proofs.receiver.Receiver.hear.Goals as goal
 
 pub returns-in_default-clause-holds : goal.returns-in_default-clause-holds
-returns-in_default-clause-holds c = rw (← c.self.view_is, sym c.heard_blocks.ensures ∙ c.in_default.is) by
+returns-in_default-clause-holds c stored = rw (sym c.heard_blocks.ensures ∙ c.in_default.is) by
   where
     by : (window : Option ℕ) (m first : ℕ) (heard : List (Option Message))
-        → HasAged window m first (receiver_stored c.self.inside.state) heard
-        → HoldsBy window m (first + length heard) first (receiver_stored c.self.inside.state) (None ∷ heard)
-    by None m first heard aged = nothing_taken None m first heard (receiver_stored c.self.inside.state) record
+        → HasAged window m first (receiver_stored c.args.self.now) heard
+        → HoldsBy window m (first + length heard) first (receiver_stored c.args.self.now) (None ∷ heard)
+    by None m first heard aged = nothing_taken None m first heard (receiver_stored c.args.self.now) record
         { display = aged.display; lasts = aged.lasts }
     by (Some w) m first heard aged = absurd (omega (arith, c.if-self-gt0.false, aged.lasts.window, aged.lasts.two))
 
 pub returns-clause-holds : goal.returns-clause-holds
-returns-clause-holds c = rw (← c.self.view_is, sym c.heard_blocks.ensures ∙ c.in-Some.is) by
+returns-clause-holds c stored = rw (sym c.heard_blocks.ensures ∙ c.in-Some.is) by
   where
     by : (window : Option ℕ) (m first : ℕ) (heard : List (Option Message))
-        → HasAged window m first (receiver_stored c.self.inside.state) heard
-        → HoldsBy window m (first + length heard) first (receiver_stored record c.self.inside.state
+        → HasAged window m first (receiver_stored c.args.self.now) heard
+        → HoldsBy window m (first + length heard) first (receiver_stored record c.args.self.now
         { display = c.hear.new.self }) (Some c.in-Some.message ∷ heard)
     by None m first heard aged = message_counted None m first heard _ _ c.in-Some.message refl
-        (c.hear.ensures.holds c.self.invariant.display)
+        (c.hear.ensures.holds stored.display)
         (each_counts m first heard _ c.in-Some.message record { display = aged.display; lasts = aged.lasts })
     by (Some w) m first heard aged = absurd (omega (arith, c.if-self-gt0.false, aged.lasts.window, aged.lasts.two))

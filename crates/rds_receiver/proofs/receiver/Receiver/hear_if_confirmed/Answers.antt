@@ -3,62 +3,55 @@ use Rattle.rds_fields.specs.declared.message.Message.{Message}
 use Rattle.rds_receiver.specs.Confirming.{Counts, HasAged, HoldsBy}
 use Rattle.rds_receiver.specs.Holds.{ShowsAlike}
 use Rattle.rds_receiver.specs.Receipts.{heard_in}
-use Rattle.rds_receiver.specs.Stored.{receiver_stored}
+use Rattle.rds_receiver.specs.Stored.{display_stored, receiver_stored}
 use Rattle.rds_receiver.proofs.Alike.{alike_itself}
 use Rattle.rds_receiver.proofs.ConfirmingSteps.{lasts_aged, message_counted, message_not_counted, nothing_taken}
 use Rattle.rds_receiver.proofs.receiver.Receiver.hear_if_confirmed.Goals as goal
 
 pub returns-in_default-clause-holds : goal.returns-in_default-clause-holds
-returns-in_default-clause-holds c =
-    rw (ap (λ d. heard_in d.programme c.args.group) (sym c.age_lasts.ensures.display)
-    ∙ ap (λ r. heard_in r.display.programme c.args.group) (sym c.self.view_is)
-    ∙ sym c.heard_blocks.ensures ∙ c.in_default.is) by
+returns-in_default-clause-holds c stored = rw (ap (λ d. heard_in d.pi c.args.group) (sym c.age_lasts.ensures.display) ∙ sym c.heard_blocks.ensures ∙ c.in_default.is) by
   where
     by : (window : Option ℕ) (m first : ℕ) (heard : List (Option Message))
-        → HasAged window m first c.args.self.now heard
-        → HoldsBy window m (first + length heard) first c.age_lasts.new.self (None ∷ heard)
+        → HasAged window m first (receiver_stored c.args.self.now) heard
+        → HoldsBy window m (first + length heard) first (receiver_stored c.age_lasts.new.self) (None ∷ heard)
     by None m first heard aged = absurd (omega (arith, c.requires, aged.lasts))
     by (Some w) m first heard aged = nothing_taken (Some w) m first heard _ (lasts_aged w m first heard _ _
-        c.age_lasts.ensures.display (c.age_lasts.ensures.lasts w m first heard) aged)
+        (ap display_stored c.age_lasts.ensures.display) (c.age_lasts.ensures.lasts stored w m first heard) aged)
 
 pub returns-then-not-confirm-clause-holds : goal.returns-then-not-confirm-clause-holds
-returns-then-not-confirm-clause-holds c =
-    rw (ap (λ d. heard_in d.programme c.args.group) (sym c.age_lasts.ensures.display)
-    ∙ ap (λ r. heard_in r.display.programme c.args.group) (sym c.self.view_is)
-    ∙ sym c.heard_blocks.ensures ∙ c.in-Some.is) by
+returns-then-not-confirm-clause-holds c stored = rw (ap (λ d. heard_in d.pi c.args.group) (sym c.age_lasts.ensures.display) ∙ sym c.heard_blocks.ensures ∙ c.in-Some.is) by
   where
     by : (window : Option ℕ) (m first : ℕ) (heard : List (Option Message))
-        → HasAged window m first c.args.self.now heard
-        → HoldsBy window m (first + length heard) first c.confirm.new.self (Some c.in-Some.message ∷ heard)
+        → HasAged window m first (receiver_stored c.args.self.now) heard
+        → HoldsBy window m (first + length heard) first (receiver_stored c.confirm.new.self) (Some c.in-Some.message
+        ∷ heard)
     by None m first heard aged = absurd (omega (arith, c.requires, aged.lasts))
     by (Some w) m first heard aged =
-        let before = lasts_aged w m first heard c.args.self.now c.age_lasts.new.self c.age_lasts.ensures.display
-        (c.age_lasts.ensures.lasts w m first heard) aged in
+        let before = lasts_aged w m first heard (receiver_stored c.args.self.now) (receiver_stored c.age_lasts.new.self)
+        (ap display_stored c.age_lasts.ensures.display) (c.age_lasts.ensures.lasts stored w m first heard) aged in
         message_not_counted (Some w) m first heard _ c.in-Some.message
-        (subst (λ (b : Bool). Counts (Some w) m first c.confirm.new.self heard c.in-Some.message b)
-        c.if-not-confirm.true (c.confirm.ensures.confirms w m first heard before))
+        (subst (λ (b : Bool). Counts (Some w) m first (receiver_stored c.confirm.new.self) heard c.in-Some.message b)
+        c.if-not-confirm.true
+        (c.confirm.ensures.confirms (c.age_lasts.ensures.good stored) w m first heard before))
 
 pub returns-then-not-confirm-clause-same : goal.returns-then-not-confirm-clause-same
 returns-then-not-confirm-clause-same c calm =
-    subst (ShowsAlike c.args.self.now.display) (sym (c.confirm.ensures.display ∙ c.age_lasts.ensures.display))
-    (alike_itself _)
+    subst (λ d. ShowsAlike (display_stored c.args.self.now.display) (display_stored d))
+    (sym (c.confirm.ensures.display ∙ c.age_lasts.ensures.display)) (alike_itself _)
 
 pub returns-clause-holds : goal.returns-clause-holds
-returns-clause-holds c =
-    rw (ap (λ d. heard_in d.programme c.args.group) (sym c.age_lasts.ensures.display)
-    ∙ ap (λ r. heard_in r.display.programme c.args.group) (sym c.self.view_is)
-    ∙ sym c.heard_blocks.ensures ∙ c.in-Some.is) by
+returns-clause-holds c stored = rw (ap (λ d. heard_in d.pi c.args.group) (sym c.age_lasts.ensures.display) ∙ sym c.heard_blocks.ensures ∙ c.in-Some.is) by
   where
     by : (window : Option ℕ) (m first : ℕ) (heard : List (Option Message))
-        → HasAged window m first c.args.self.now heard
-        → HoldsBy window m (first + length heard) first (receiver_stored record c.self-2.inside.state
+        → HasAged window m first (receiver_stored c.args.self.now) heard
+        → HoldsBy window m (first + length heard) first (receiver_stored record c.confirm.new.self
         { display = c.hear.new.self }) (Some c.in-Some.message ∷ heard)
     by None m first heard aged = absurd (omega (arith, c.requires, aged.lasts))
     by (Some w) m first heard aged =
-        let before = lasts_aged w m first heard c.args.self.now c.age_lasts.new.self c.age_lasts.ensures.display
-        (c.age_lasts.ensures.lasts w m first heard) aged in
-        message_counted (Some w) m first heard (receiver_stored c.self-2.inside.state) _ c.in-Some.message refl
-        (c.hear.ensures.holds c.self-2.invariant.display)
-        (rw (c.self-2.view_is)
-        (subst (λ (b : Bool). Counts (Some w) m first c.confirm.new.self heard c.in-Some.message b)
-        c.if-not-confirm.false (c.confirm.ensures.confirms w m first heard before)))
+        let before = lasts_aged w m first heard (receiver_stored c.args.self.now) (receiver_stored c.age_lasts.new.self)
+        (ap display_stored c.age_lasts.ensures.display) (c.age_lasts.ensures.lasts stored w m first heard) aged in
+        message_counted (Some w) m first heard _ _ c.in-Some.message refl
+        (c.hear.ensures.holds (c.confirm.ensures.good (c.age_lasts.ensures.good stored)).display)
+        (subst (λ (b : Bool). Counts (Some w) m first (receiver_stored c.confirm.new.self) heard c.in-Some.message b)
+        c.if-not-confirm.false
+        (c.confirm.ensures.confirms (c.age_lasts.ensures.good stored) w m first heard before))

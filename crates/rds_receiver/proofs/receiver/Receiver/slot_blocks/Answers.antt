@@ -3,24 +3,25 @@ use Rattle.std.proofs.lemmas.Bool.{or_parts}
 use Rattle.rds_receiver.specs.Holds.{newest_slot}
 use Rattle.rds_receiver.specs.Confirming.{HoldsBy}
 use Rattle.rds_receiver.specs.Receipts.{heard_in, heard_of}
-use Rattle.rds_receiver.specs.Stored.{display_stored, receiver_stored}
+use Rattle.rds_receiver.specs.Stored.{IsStoredReceiver, display_stored, receiver_stored}
 use Rattle.rds_receiver.proofs.Alike.{alike_by, stays_shown}
 use Rattle.rds_receiver.proofs.ConfirmingSteps.{display_grown, slot_stands, with_display}
 use Rattle.rds_receiver.proofs.receiver.Receiver.slot_blocks.Goals as goal
 
 pub returns-clause-stands : goal.returns-clause-stands
 returns-clause-stands c t input st =
-    let st = rw (← c.self.view_is) at st in
     let grown = c.grow_older-aged in
     let heard = heard_of t.programme input in
     let here : grown.new.self.pi ≡ t.programme = grown.ensures.programme ∙ st.tuned in
-    slot_stands t _ _ input c.args.group st (c.hear-is_new.ensures.programme ∙ grown.ensures.programme)
-    (subst (λ (pi : ℕ). HoldsBy t.window t.dwell (t.first + length heard) t.first c.hear-is_new.new.self
+    let good : IsStoredReceiver (record c.args.self.now { display = grown.new.self }) = record { display = grown.ensures.good st.good.display; pair = st.good.pair } in
+    slot_stands t _ _ input c.args.group st (c.hear-is_new.ensures.good good) (c.hear-is_new.ensures.programme ∙ grown.ensures.programme)
+    (subst (λ (pi : ℕ). HoldsBy t.window t.dwell (t.first + length heard) t.first (receiver_stored c.hear-is_new.new.self)
     (heard_in pi c.args.group ∷ heard)) here
-    (c.hear-is_new.ensures.holds t.window t.dwell t.first heard record {
-      display = display_grown t.window t.dwell t.first _ _ heard (grown.ensures.holds c.self.invariant.display)
+    (c.hear-is_new.ensures.holds good
+    t.window t.dwell t.first heard record {
+      display = display_grown t.window t.dwell t.first _ _ heard (grown.ensures.holds st.good.display)
           st.holds.display;
-      lasts = with_display t.window t.dwell (newest_slot t.first heard) t.first (receiver_stored c.self.inside.state)
+      lasts = with_display t.window t.dwell (newest_slot t.first heard) t.first (receiver_stored c.args.self.now)
           heard (display_stored grown.new.self) st.holds.lasts;
     }))
 
@@ -28,4 +29,4 @@ pub returns-clause-same : goal.returns-clause-same
 returns-clause-same c calm view t input st shown =
     let (heard, aged) = or_parts _ _ calm in
     let alike = alike_by _ _ _ (c.grow_older-aged.ensures.same aged) (c.hear-is_new.ensures.same heard) in
-    stays_shown t _ _ input _ view (rw (← c.self.view_is) at st) (returns-clause-stands c t input st) alike shown
+    stays_shown t _ _ input _ view st (returns-clause-stands c t input st) alike shown

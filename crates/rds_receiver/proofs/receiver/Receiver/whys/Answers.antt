@@ -7,5 +7,5 @@ use Rattle.rds_receiver.proofs.receiver.Receiver.whys.Goals as goal
 pub returns : goal.returns
 returns c t input s =
     let heard = counted t (heard_of t.programme input) in
-    c.whys.ensures c.self.invariant.display t.dwell (newest_slot t.first heard) t.first heard
-    (shows_counted t _ input (rw (← c.self.view_is) at s))
+    c.whys.ensures s.good.display t.dwell (newest_slot t.first heard) t.first heard
+    (shows_counted t _ input s)

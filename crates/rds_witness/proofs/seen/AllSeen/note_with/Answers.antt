@@ -8,10 +8,10 @@ use Rattle.rds_witness.proofs.seen.AllSeen.note_with.Goals as goal
 
 pub returns-clause-seen : goal.returns-clause-seen
 returns-clause-seen c t log inside stands of_run all =
-    let more : Seen = record { slot = c.args.slot; receiver = c.copied.result; pair = c.args.pair } in
+    let more : Seen = record { slot = c.args.slot; receiver = c.args.whole.now; pair = c.args.pair } in
     let its : IsSeen t log more = record {
       inside = inside;
-      stands = subst (λ r. ReceiverAt t r (got [] log (c.args.slot + 1))) (sym c.copied.ensures) stands;
+      stands = stands;
       pair = of_run;
     } in
     let items : c.push.new.self.items ≡ c.args.self.now.seen.items ++ more ∷ [] =

@@ -37,7 +37,7 @@ loop-slot-preserved c =
     subst (ReceiverAt t c.slot_blocks-changed.new.self) (sym is) (c.slot_blocks-changed.ensures.stands
     t (got [] log n) before.stands) in
     let pairs = c.drop_pairs.ensures.pairs c.args.pi c.args.dwell n log
-    (subst (λ r. ReceiverAt t r (got [] log n)) (sym c.copied-old.ensures) before.stands) stands before.pairs in
+    before.stands stands before.pairs in
     let seen = subst (λ v. All (IsSeen t log) v.items) (sym c.drop_pairs.ensures.seen) before.seen in
     let views : (view : ShownView) × IsView t (got [] log (n + 1)) view
     → HasViews t log (n + 1) = λ view slot less. elim (cases_lt slot n) [

@@ -4,7 +4,6 @@ use Rattle.circular_buffer.specs.Buffer.{Buffer}
 use Rattle.std.proofs.Math.Seq.{take-append_seam}
 use Rattle.rds_block.specs.declared.group.Group.{Group}
 use Rattle.rds_fields.specs.declared.message.Message.{Message}
-use Rattle.rds_receiver.specs.State.{ReceiverState}
 use Rattle.rds_world.specs.declared.event.Reception.{Reception}
 use Rattle.rds_world.specs.declared.event.Reception.TheVariants.{Lost}
 use Rattle.rds_world.specs.Due.{IsDue, IsDueToAll, last_named}
@@ -16,7 +15,7 @@ use Rattle.rds_world.specs.WorldAt.{AllHaveHeard, AreLastSent, HavePasts, HaveRe
 use Rattle.rds_world.specs.State.{WorldState, distance}
 use Rattle.rds_world.specs.Wrong.{IsFitToAll}
 use Rattle.rds_world.proofs.DueSteps.{one_more_sent}
-use Rattle.rds_world.proofs.Stepped.{by_own, front_is, stepped}
+use Rattle.rds_world.proofs.Stepped.{by_own, stepped}
 use Rattle.std.proofs.lemmas.List.{length-take-le}
 use Rattle.rds_world.proofs.world.World.step.Goals as goal
 
@@ -51,7 +50,7 @@ returns-clause-stands c config events st =
     let told = sym c.as_slice-receptions.ensures.value in
     let due_told = subst (λ (xs : List Reception). (i : ℕ)
     → IsDue late (length events) (last_named i events) (slice_index_or xs i Lost)) told due_now in
-    let heard = c.hand_out-self-inside.ensures.heard (length events) all_sent (λ i. input_of apart i events)
+    let heard = c.hand_out_first-self-inside.ensures.heard (length events) all_sent (λ i. input_of apart i events)
     (λ i. last_named i events) kept due_told own.receivers in
     let window = window_of set.kind in
     let kept_wrong : HavePasts c.window.result events c.as_slice.result.now =
@@ -86,8 +85,8 @@ returns-clause-stands c config events st =
     let new : WorldState = record {
       config = set;
       encoder = c.tick-sent.new.self;
-      receivers = take world.count (c.hand_out-self-inside.new.receivers ++ drop world.count world.receivers);
-      stays = c.hand_out-self-inside.result.each;
+      receivers = take world.count c.hand_out_first-self-inside.new.receivers;
+      stays = c.hand_out_first-self-inside.result.each;
       reaches = take world.count c.in-Ok.reaches;
       pasts = take world.pasts.len (noted ++ rest);
       sent = c.push.new.self.items;
@@ -95,17 +94,14 @@ returns-clause-stands c config events st =
     let inputs : ℕ → Input = λ i. received (slice_index_or now.receptions i Lost) (length events) all_sent
     (input_of apart i events) in
     let all : AllHaveHeard set inputs new.receivers =
-    subst (λ (rs : List ReceiverState). AllHaveHeard set inputs rs)
-    (front_is c.hand_out-self-inside.new.receivers world.receivers world.count c.hand_out-self-inside.ensures.count
-    c.self.invariant.0 c.self.invariant.1)
-    (rw c.as_slice-receptions.ensures.value at heard) in
+    rw c.as_slice-receptions.ensures.value at heard in
     let many : length (take world.count world.reaches) ≡ world.count = length-take-le world.count world.reaches
     (omega (arith, c.self.invariant.0, c.self.invariant.2)) in
     let reaches : HaveReaches late (now ∷ events) new.reaches =
     subst (λ (x : Event). HaveReaches late (x ∷ events) new.reaches) (sym same)
     (subst (λ (n : ℕ). HaveReaches late (e ∷ events) (take n c.in-Ok.reaches)) many
     (c.in-Ok.ensures.reaches events own.reaches)) in
-    let stay = rw c.as_slice-receptions.ensures.value at (c.hand_out-self-inside.ensures.stays (length events) all_sent
+    let stay = rw c.as_slice-receptions.ensures.value at (c.hand_out_first-self-inside.ensures.stays (length events) all_sent
     (λ i. input_of apart i events) (λ i. last_named i events) kept due_told own.receivers) in
     subst (λ (x : Event). WorldAt config new (x ∷ events)) same
     (stepped config old new events now at refl c.obey-reply.ensures.value due_now fit ticked all reaches pasts kept
