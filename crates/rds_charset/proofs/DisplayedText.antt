@@ -1,5 +1,5 @@
 -- Lemmas: how many bytes a text has on a display.
-use Rattle.std.proofs.Common.{◌≡◌, ◌+◌, ◌*◌, ◌≤◌, ℕ, Bool, true, List, [], ◌∷◌, ◌++◌, length, length-append, refl}
+use Rattle.std.proofs.Common.{◌≡◌, ◌*◌, ◌≤◌, ℕ, Bool, true, List, [], ◌∷◌, length, length-append, refl}
 use Rattle.std.proofs.Common.{arith, nat_lt, Option, Some, None, encode_utf8}
 use Rattle.std.proofs.lemmas.Bool.Decides.{nat_tests}
 use Rattle.std.proofs.lemmas.Str.{length-encode}
@@ -42,9 +42,5 @@ length-displayed_byte byte = by_table byte (character_of byte) refl
 pub length-displayed : (bytes : List ℕ) → length (displayed bytes) ≤ 3 * length bytes
 length-displayed [] = omega arith
 length-displayed (byte ∷ bytes) =
-    let one : length (encode_utf8 (displayed_character byte)) ≤ 3 = length-displayed_byte byte in
-    let others : length (displayed bytes) ≤ 3 * length bytes = length-displayed bytes in
-    let sum : length (encode_utf8 (displayed_character byte) ++ displayed bytes)
-    ≡ length (encode_utf8 (displayed_character byte)) + length (displayed bytes) = length-append
-    (encode_utf8 (displayed_character byte)) (displayed bytes) in
-    omega arith
+    let one = length-displayed_byte byte in
+    omega (arith, length-displayed bytes, length-append (encode_utf8 (displayed_character byte)) (displayed bytes))

@@ -1,5 +1,6 @@
 -- Lemmas: reading a text ends in one way only, with its bytes or with its one fault.
-use Rattle.std.proofs.Common.{◌≡◌, ◌↔◌, ◌≤◌, ◌<◌, ℕ, List, length, slice_index, take, sym, ap, ◌∙◌, subst, arith, refl}
+use Rattle.std.proofs.lemmas.Bool.Decides.{nat_tests}
+use Rattle.std.proofs.Common.{◌≡◌, ◌↔◌, ◌≤◌, ◌<◌, ℕ, List, length, slice_index, take, sym, ap, ◌∙◌, arith, refl}
 use Rattle.std.proofs.Common.{Ok, Err}
 use Rattle.std.specs.Prelude.{Result}
 use Rattle.std.proofs.lemmas.List.{length-take}
@@ -19,65 +20,35 @@ Outcome text room (Err NoRoom) = HasNoRoom text room
 -- reading ends with a bad escape exactly if the text has one
 pub Outcome-bad_escape : (text : List ℕ) (room : ℕ) (r : Result ℕ TextFault) → Outcome text room r → (place : ℕ)
     → (r ≡ Err (BadEscape place)) ↔ HasBadEscape text place
-Outcome-bad_escape text room (Ok count) o place = (
-  λ e. absurd (cc),
-  λ h. absurd (StopsAt-unread text place o.0 h.0
-      o.1),
-)
+Outcome-bad_escape text room (Ok count) o place = (λ e. cc, λ h. absurd (StopsAt-unread text place o.0 h.0 o.1))
 Outcome-bad_escape text room (Err (BadEscape at)) o place = (
-  λ e. let same : at ≡ place = cc in subst (HasBadEscape text) same o,
-  λ h. ap (λ p. Err (BadEscape p))
-      (StopsAt-same text at place o.0 h.0),
+  λ e. (let same : at ≡ place = cc in rw same at o),
+  λ h. ap (λ p. Err (BadEscape p)) (StopsAt-same text at place o.0 h.0),
 )
-Outcome-bad_escape text room (Err (NoSuchCharacter at)) o place = (
-  λ e. absurd (cc),
-  λ h. absurd
-      (o.1 (ap (slice_index text) (StopsAt-same text at place o.0 h.0) ∙ h.1)),
-)
-Outcome-bad_escape text room (Err NoRoom) o place = (
-  λ e. absurd (cc),
-  λ h. absurd (StopsAt-unread text place o.0 h.0
-      o.1),
-)
+Outcome-bad_escape text room (Err (NoSuchCharacter at)) o place =
+    (λ e. cc, λ h. absurd (o.1 (ap (slice_index text) (StopsAt-same text at place o.0 h.0) ∙ h.1)))
+Outcome-bad_escape text room (Err NoRoom) o place = (λ e. cc, λ h. absurd (StopsAt-unread text place o.0 h.0 o.1))
 
 -- reading ends with an unknown character exactly if the text has one
 pub Outcome-no_such_character : (text : List ℕ) (room : ℕ) (r : Result ℕ TextFault) → Outcome text room r → (place : ℕ)
     → (r ≡ Err (NoSuchCharacter place)) ↔ HasUnknownCharacter text place
-Outcome-no_such_character text room (Ok count) o place = (
-  λ e. absurd (cc),
-  λ h. absurd (StopsAt-unread text place o.0
-      h.0 o.1),
-)
-Outcome-no_such_character text room (Err (BadEscape at)) o place = (
-  λ e. absurd (cc),
-  λ h. absurd
-      (h.1 (ap (slice_index text) (sym (StopsAt-same text at place o.0 h.0)) ∙ o.1)),
-)
+Outcome-no_such_character text room (Ok count) o place = (λ e. cc, λ h. absurd (StopsAt-unread text place o.0 h.0 o.1))
+Outcome-no_such_character text room (Err (BadEscape at)) o place =
+    (λ e. cc, λ h. absurd (h.1 (ap (slice_index text) (sym (StopsAt-same text at place o.0 h.0)) ∙ o.1)))
 Outcome-no_such_character text room (Err (NoSuchCharacter at)) o place = (
-  λ e. let same : at ≡ place = cc in subst (HasUnknownCharacter text) same o,
-  λ h. ap (λ p. Err (NoSuchCharacter p))
-      (StopsAt-same text at place o.0 h.0),
+  λ e. (let same : at ≡ place = cc in rw same at o),
+  λ h. ap (λ p. Err (NoSuchCharacter p)) (StopsAt-same text at place o.0 h.0),
 )
-Outcome-no_such_character text room (Err NoRoom) o place = (
-  λ e. absurd (cc),
-  λ h. absurd (StopsAt-unread text place o.0
-      h.0 o.1),
-)
+Outcome-no_such_character text room (Err NoRoom) o place =
+    (λ e. cc, λ h. absurd (StopsAt-unread text place o.0 h.0 o.1))
 
 -- reading ends without room exactly if there is none
 pub Outcome-no_room : (text : List ℕ) (room : ℕ) (r : Result ℕ TextFault) → Outcome text room r
     → (r ≡ Err NoRoom) ↔ HasNoRoom text room
-Outcome-no_room text room (Ok count) o = (
-  λ e. absurd (cc),
-  λ h. absurd (let same : length o.0 ≡ length h.0 = ap length
-      (IsReadAs-same text o.0 h.0 o.1 h.1) in omega (arith, o.2, h.2)),
-)
-Outcome-no_room text room (Err (BadEscape at)) o = (λ e. absurd (cc), λ h. absurd (StopsAt-unread text at h.0 o.0 h.1))
-Outcome-no_room text room (Err (NoSuchCharacter at)) o = (
-  λ e. absurd (cc),
-  λ h. absurd (StopsAt-unread text
-      at h.0 o.0 h.1),
-)
+Outcome-no_room text room (Ok count) o =
+    (λ e. cc, λ h. absurd (omega (arith, o.2, h.2, ap length (IsReadAs-same text o.0 h.0 o.1 h.1))))
+Outcome-no_room text room (Err (BadEscape at)) o = (λ e. cc, λ h. absurd (StopsAt-unread text at h.0 o.0 h.1))
+Outcome-no_room text room (Err (NoSuchCharacter at)) o = (λ e. cc, λ h. absurd (StopsAt-unread text at h.0 o.0 h.1))
 Outcome-no_room text room (Err NoRoom) o = (λ e. o, λ h. refl)
 
 -- a text that fits is read
@@ -86,15 +57,13 @@ pub Outcome-read : (text : List ℕ) (room : ℕ) (r : Result ℕ TextFault) →
 Outcome-read text room (Ok count) o bytes is fits = ap Ok (sym o.3 ∙ ap length (IsReadAs-same text o.0 bytes o.1 is))
 Outcome-read text room (Err (BadEscape at)) o bytes is fits = absurd (StopsAt-unread text at bytes o.0 is)
 Outcome-read text room (Err (NoSuchCharacter at)) o bytes is fits = absurd (StopsAt-unread text at bytes o.0 is)
-Outcome-read text room (Err NoRoom) o bytes is fits = absurd (let same : length o.0 ≡ length bytes = ap length
-    (IsReadAs-same text o.0 bytes o.1 is) in omega (arith, o.2))
+Outcome-read text room (Err NoRoom) o bytes is fits =
+    absurd (omega (arith, o.2, ap length (IsReadAs-same text o.0 bytes o.1 is)))
 
 -- the three ways in which the code comes to a result
 pub Outcome-stopped : (text : List ℕ) (room : ℕ) (r : Result ℕ TextFault) (fault : TextFault) → r ≡ Err fault
     → TextStopsBy text fault → Outcome text room r
-Outcome-stopped text room r (BadEscape place) is stops = subst (Outcome text room) (sym is) stops
-Outcome-stopped text room r (NoSuchCharacter place) is stops = subst (Outcome text room) (sym is) stops
-Outcome-stopped text room r NoRoom is stops = absurd stops
+Outcome-stopped text room r fault is stops = grind (arith, nat_tests)
 
 -- a text that is longer than the room is not read
 pub Outcome-short : (text bytes : List ℕ) (room count : ℕ) → IsReadAs text bytes → length bytes ≡ count → room < count
@@ -104,10 +73,4 @@ Outcome-short text bytes room count is long short = (bytes, is, omega arith)
 -- a text that was read fills the bytes
 pub Outcome-filled : (text into : List ℕ) (room count : ℕ) → IsReadAs text (take count into) → count ≤ length into
     → length into ≡ room → Outcome text room (Ok count)
-Outcome-filled text into room count is within same = (
-  take count into,
-  is,
-  omega (arith, length-take count into),
-  omega
-      (arith, length-take count into),
-)
+Outcome-filled text into room count is within same = grind (arith, nat_tests, length-take)

@@ -3,9 +3,9 @@ use Rattle.std.proofs.KnownBytes.{Appends-trans}
 use Rattle.rds_io.specs.Puts.{AppendsPrefix-append, AppendsPrefix-longer}
 use Rattle.std.specs.Io.KnownBytes.{Appends}
 use Rattle.rds_io.specs.Told.{AppendsPrefix}
-use Rattle.std.proofs.Common.{◌≡◌, ◌+◌, ◌*◌, ◌/◌, ◌%◌, ◌<◌, ◌≤◌, ◌==◌, ℕ, Bool, true, false, inl, inr, List, [], ◌∷◌}
+use Rattle.std.proofs.Common.{◌≡◌, ◌*◌, ◌/◌, ◌%◌, ◌<◌, ◌≤◌, ℕ, Bool, List, [], ◌∷◌}
 use Rattle.std.proofs.Common.{◌++◌, length, length-append, refl, sym, ap, ◌∙◌, arith, Option, Some, None, encode_utf8}
-use Rattle.std.proofs.Common.{if◌then◌else◌, append_assoc, subst}
+use Rattle.std.proofs.Common.{if◌then◌else◌, append_assoc}
 use Rattle.std.proofs.lemmas.Bool.Decides.{nat_tests}
 use Rattle.std.proofs.lemmas.Grind.{flat_map-append}
 use Rattle.std.proofs.lemmas.List.Elements.{All-head, All-tail}
@@ -23,8 +23,7 @@ use Rattle.rds_charset.specs.Table.{character_of}
 
 -- the printed form of a byte has at most four bytes
 shown-length : (byte : ℕ) (shown : Option ℕ) → length (option_map_or encode_utf8 shown (escaped byte)) ≤ 4
-shown-length byte None = omega arith
-shown-length byte (Some character) = rw (length-encode character) (len_utf8_bounds character).1
+shown-length byte shown = grind (arith, nat_tests, length-encode, len_utf8_bounds)
 
 pub length-printed_byte : (byte : ℕ) → length (printed_byte byte) ≤ 4
 unfolding printed_byte
@@ -34,11 +33,8 @@ length-printed_byte byte = shown-length byte (shown_character byte)
 pub length-printed : (bytes : List ℕ) → length (printed bytes) ≤ 4 * length bytes
 length-printed [] = omega arith
 length-printed (byte ∷ bytes) =
-    let one : length (printed_byte byte) ≤ 4 = length-printed_byte byte in
-    let others : length (printed bytes) ≤ 4 * length bytes = length-printed bytes in
-    let sum : length (printed_byte byte ++ printed bytes) ≡ length (printed_byte byte)
-    + length (printed bytes) = length-append (printed_byte byte) (printed bytes) in
-    omega arith
+    let one = length-printed_byte byte in
+    omega (arith, length-printed bytes, length-append (printed_byte byte) (printed bytes))
 
 -- the digits that are printed are the digits that are read
 upper_digit-value : (n : ℕ) → n < 16 → digit_value (upper_digit n) ≡ n
@@ -48,66 +44,43 @@ upper_digit-ascii : (n : ℕ) → n < 16 → upper_digit n < 128
 upper_digit-ascii n small = grind (arith, nat_tests)
 
 escaped-IsSymbol : (byte : ℕ) → byte < 256 → IsSymbol (escaped byte) byte
-escaped-IsSymbol byte small =
-    let high : byte / 16 < 16 = omega arith in
-    let low : byte % 16 < 16 = omega arith in
-    let high_value : digit_value (upper_digit (byte / 16)) ≡ byte / 16 = upper_digit-value (byte / 16) high in
-    let low_value : digit_value (upper_digit (byte % 16)) ≡ byte % 16 = upper_digit-value (byte % 16) low in
-    inr (record {
-      high = upper_digit (byte / 16);
-      low = upper_digit (byte % 16);
-      high_digit = rw high_value high;
-      low_digit = rw low_value low;
-      spelled = refl;
-      value = rw (high_value, low_value) (omega arith);
-    })
+escaped-IsSymbol byte small = grind (arith, upper_digit-value)
 
 shown-IsSymbol : (byte : ℕ) (shown : Option ℕ) → byte < 256
     → ((character : ℕ) → shown ≡ Some character → character_of byte ≡ Some character)
     → IsSymbol (option_map_or encode_utf8 shown (escaped byte)) byte
 shown-IsSymbol byte None small own = escaped-IsSymbol byte small
-shown-IsSymbol byte (Some character) small own = inl
-    (record { character = character; in_table = own character refl; spelled = refl })
+shown-IsSymbol byte (Some character) small own = grind (arith, nat_tests)
 
 shown-own : (byte character : ℕ) (b : Bool) → (if b then None else character_of byte) ≡ Some character
     → character_of byte ≡ Some character
-shown-own byte character true is = absurd (cc)
-shown-own byte character false is = is
+shown-own byte character b is = grind (arith, nat_tests)
 
 printed_byte-IsSymbol : (byte : ℕ) → byte < 256 → IsSymbol (printed_byte byte) byte
 unfolding printed_byte
-printed_byte-IsSymbol byte small = shown-IsSymbol byte (shown_character byte) small (λ character is. shown-own byte
-    character (byte == 0x22) is)
+printed_byte-IsSymbol byte small = search (arith, shown-IsSymbol, shown-own)
 
 -- what is printed is read back
 pub IsReadAs-printed : (bytes : List ℕ) → All (λ byte. byte < 256) bytes → IsReadAs (printed bytes) bytes
 IsReadAs-printed [] small = refl
-IsReadAs-printed (byte ∷ bytes) small = (
-  printed bytes,
-  record {
-    symbol = printed_byte byte;
-    cut = refl;
-    is_symbol = printed_byte-IsSymbol byte
-        (All-head (λ b. b < 256) byte bytes small);
-  },
-  IsReadAs-printed bytes (All-tail (λ b. b < 256) byte bytes small),
-)
+IsReadAs-printed (byte ∷ bytes) small =
+    let one = printed_byte-IsSymbol byte (All-head (λ b. b < 256) byte bytes small) in (
+      printed bytes,
+      record { symbol = printed_byte byte; cut = refl; is_symbol = one },
+      IsReadAs-printed bytes (All-tail (λ b. b < 256) byte bytes small),
+    )
 
 -- the printed form is UTF-8
 ascii-IsUtf8 : (character : ℕ) → character < 128 → IsUtf8 (character ∷ [])
-ascii-IsUtf8 character small = subst IsUtf8 (encode_ascii character small)
-    (IsUtf8-encode character (grind (arith, nat_tests)))
+ascii-IsUtf8 character small = rw (encode_ascii character small) at (IsUtf8-encode character (grind (arith, nat_tests)))
 
 escaped-IsUtf8 : (byte : ℕ) → byte < 256 → IsUtf8 (escaped byte)
 escaped-IsUtf8 byte small =
-    let high : upper_digit (byte / 16) < 128 = upper_digit-ascii (byte / 16) (omega arith) in
-    let low : upper_digit (byte % 16) < 128 = upper_digit-ascii (byte % 16) (omega arith) in
-    IsUtf8-append (0x5C ∷ []) (0x78 ∷ upper_digit (byte / 16) ∷ upper_digit (byte % 16) ∷ [])
-    (ascii-IsUtf8 0x5C (omega arith))
-    (IsUtf8-append (0x78 ∷ []) (upper_digit (byte / 16) ∷ upper_digit (byte % 16) ∷ [])
-    (ascii-IsUtf8 0x78 (omega arith))
-    (IsUtf8-append (upper_digit (byte / 16) ∷ []) (upper_digit (byte % 16) ∷ []) (ascii-IsUtf8 (upper_digit (byte / 16))
-    high) (ascii-IsUtf8 (upper_digit (byte % 16)) low)))
+    let high = upper_digit-ascii (byte / 16) (omega arith) in
+    let low = upper_digit-ascii (byte % 16) (omega arith) in
+    IsUtf8-append (0x5C ∷ []) _ (ascii-IsUtf8 0x5C (omega arith))
+    (IsUtf8-append (0x78 ∷ []) _ (ascii-IsUtf8 0x78 (omega arith))
+    (IsUtf8-append (_ ∷ []) (_ ∷ []) (ascii-IsUtf8 _ high) (ascii-IsUtf8 _ low)))
 
 shown-IsUtf8 : (byte : ℕ) (shown : Option ℕ) → byte < 256
     → ((character : ℕ) → shown ≡ Some character → character_of byte ≡ Some character)
@@ -119,15 +92,15 @@ shown-IsUtf8 byte (Some character) small own =
 
 printed_byte-IsUtf8 : (byte : ℕ) → byte < 256 → IsUtf8 (printed_byte byte)
 unfolding printed_byte
-printed_byte-IsUtf8 byte small = shown-IsUtf8 byte (shown_character byte) small (λ character is. shown-own byte
-    character (byte == 0x22) is)
+printed_byte-IsUtf8 byte small = grind (arith, nat_tests, shown-IsUtf8, shown-own)
 
 -- what is printed is UTF-8
 pub IsUtf8-printed : (bytes : List ℕ) → All (λ byte. byte < 256) bytes → IsUtf8 (printed bytes)
 IsUtf8-printed [] small = IsUtf8-nil
 IsUtf8-printed (byte ∷ bytes) small =
-    IsUtf8-append (printed_byte byte) (printed bytes) (printed_byte-IsUtf8 byte (All-head (λ b. b < 256) byte bytes
-    small)) (IsUtf8-printed bytes (All-tail (λ b. b < 256) byte bytes small))
+    let one = printed_byte-IsUtf8 byte (All-head (λ b. b < 256) byte bytes small) in
+    let others = IsUtf8-printed bytes (All-tail (λ b. b < 256) byte bytes small) in
+    IsUtf8-append (printed_byte byte) (printed bytes) one others
 
 -- a text in two parts
 pub printed-append : (xs ys : List ℕ) → printed (xs ++ ys) ≡ printed xs ++ printed ys
@@ -144,12 +117,9 @@ pub AppendsPrefix-printed : (a b c : Option (List ℕ)) (bytes done symbol rest 
     → bytes ≡ (done ++ symbol) ++ rest → line ≡ printed symbol → Appends a b (printed done) → AppendsPrefix b c line
     → AppendsPrefix a c (printed bytes)
 AppendsPrefix-printed a b c bytes done symbol rest line whole is first part =
-    let sent = AppendsPrefix-append a b c (printed done) (printed symbol) first (subst (AppendsPrefix b c) is part) in
-    let longer = AppendsPrefix-longer a c (printed done ++ printed symbol) (printed rest) sent in
-    let same : printed bytes ≡ (printed done ++ printed symbol) ++ printed rest =
-    ap printed whole ∙ printed-append (done ++ symbol) rest ∙ ap (λ l. l ++ printed rest) (printed-append done symbol)
-    in
-    subst (AppendsPrefix a c) (sym same) longer
+    let sent = AppendsPrefix-append a b c (printed done) (printed symbol) first (rw is at part) in
+    rw (whole, printed-append (done ++ symbol) rest, printed-append done symbol)
+    (AppendsPrefix-longer a c (printed done ++ printed symbol) (printed rest) sent)
 
 -- the contents of a fresh line after a symbol was pushed
 pub pushed-printed : (pushed fresh symbol : List ℕ) → pushed ≡ fresh ++ printed symbol → fresh ≡ []

@@ -1,6 +1,7 @@
 -- Lemmas: how many characters come before the place at which reading a text stops.
-use Rattle.std.proofs.Common.{◌≡◌, ◌<◌, ◌≤◌, ◌+◌, ◌-◌, ◌∙◌, ◌++◌, ℕ, List, ap, arith, drop, length, length-append}
-use Rattle.std.proofs.Common.{subst, sym, take}
+use Rattle.std.proofs.lemmas.Bool.Decides.{nat_tests}
+use Rattle.std.proofs.Common.{◌≡◌, ◌<◌, ◌+◌, ◌-◌, ◌∙◌, ◌++◌, ℕ, List, ap, arith, drop, length, length-append}
+use Rattle.std.proofs.Common.{take}
 use Rattle.std.proofs.lemmas.List.{take-append-drop}
 use Rattle.std.proofs.lemmas.Str.{IsCharBoundary-from_drop, IsUtf8-take, chars-append, chars_past_char, encodes-chars}
 use Rattle.std.proofs.lemmas.Str.{length-le-encodes}
@@ -13,15 +14,11 @@ use Rattle.rds_charset.specs.ReadAs.{IsReadUpTo}
 pub before_and_after : (text bs rest : List ℕ) → IsUtf8 text → IsUtf8 rest → IsReadUpTo text bs rest
     → length (chars text) ≡ length (chars (take (length text - length rest) text)) + length (chars rest)
 before_and_after text bs rest whole left read =
-    let n : ℕ = length text - length rest in
+    let n = length text - length rest in
     let there : drop n text ≡ rest = IsReadUpTo-drop text bs rest read in
-    let within : n ≤ length text = omega arith in
-    let boundary = IsCharBoundary-from_drop text n within (subst IsUtf8 (sym there) left) in
-    let front : IsUtf8 (take n text) = IsUtf8-take text n whole boundary in
-    let parts : chars (take n text ++ drop n text) ≡ chars (take n text) ++ chars (drop n text) = chars-append
-    (take n text) (drop n text) front in
-    let all : chars text ≡ chars (take n text) ++ chars rest = ap chars (sym (take-append-drop n text)) ∙ parts
-    ∙ ap (λ (x : List ℕ). chars (take n text) ++ chars x) there in
+    let boundary = IsCharBoundary-from_drop text n (omega arith) (rw there left) in
+    let parts = chars-append (take n text) (drop n text) (IsUtf8-take text n whole boundary) in
+    let all : chars text ≡ chars (take n text) ++ chars rest = rw (take-append-drop n text, there) at parts in
     ap length all ∙ length-append (chars (take n text)) (chars rest)
 
 -- a text that begins with a character has at least one
@@ -32,5 +29,4 @@ some_character rest after c utf8 begins = (let e = ap length (chars_past_char re
 
 -- and at least one byte
 pub some_bytes : (rest : List ℕ) → IsUtf8 rest → 0 < length (chars rest) → 0 < length rest
-some_bytes rest utf8 some = (let most = length-le-encodes (chars rest) in let all = ap length (encodes-chars rest utf8)
-    in omega (arith, most, all))
+some_bytes rest utf8 some = grind (arith, nat_tests, length-le-encodes, encodes-chars)

@@ -1,7 +1,7 @@
 -- Lemmas: a text has one list of symbols only, so it is read as at most one list of bytes, and stops at one place at
 -- most.
 use Rattle.std.proofs.Common.{◌≡◌, inl, inr, ◌+◌, ◌-◌, ◌*◌, ◌≤◌, ◌<◌, ℕ, List, [], ◌∷◌, ◌++◌, length, drop, refl, sym}
-use Rattle.std.proofs.Common.{ap, ◌∙◌, subst, arith, Some, None, encode_utf8, append_assoc, length-append, length-drop}
+use Rattle.std.proofs.Common.{ap, ◌∙◌, arith, Some, None, encode_utf8, append_assoc, length-append, length-drop}
 use Rattle.std.proofs.lemmas.Bool.Decides.{nat_tests}
 use Rattle.std.proofs.lemmas.List.{drop_at}
 use Rattle.std.proofs.lemmas.Str.{encode_same, encode_ascii, length-encode, len_utf8_bounds, IsUtf8-past_char}
@@ -33,40 +33,28 @@ pub record SameStart (a b : ℕ) (r s : List ℕ) : Type 0 where
 characters_same : (p q : List ℕ) (a b : ℕ) (r s : List ℕ) → IsCharacter p a → IsCharacter q b → p ++ r ≡ q ++ s
     → SameStart a b r s
 characters_same p q a b r s one two same =
-    let whole : encode_utf8 one.character ++ r ≡ encode_utf8 two.character ++ s = ap (λ t. t ++ r) (sym one.spelled)
-    ∙ same ∙ ap (λ t. t ++ s) two.spelled in
+    let whole : encode_utf8 one.character ++ r ≡ encode_utf8 two.character ++ s = cc in
     let split = encode_same one.character two.character r s whole in
-    let left : byte_of one.character ≡ Some a = (IsLawful-from_byte a one.character one.in_table).of_character in
-    let right : byte_of two.character ≡ Some b = (IsLawful-from_byte b two.character two.in_table).of_character in
-    let found : Some a ≡ Some b = sym left ∙ ap byte_of split.0 ∙ right in
+    let left = (IsLawful-from_byte a one.character one.in_table).of_character in
+    let right = (IsLawful-from_byte b two.character two.in_table).of_character in
     record { byte = cc; rest = split.1 }
 
 -- two escapes
 escapes_same : (p q : List ℕ) (a b : ℕ) (r s : List ℕ) → IsEscape p a → IsEscape q b → p ++ r ≡ q ++ s
     → SameStart a b r s
-escapes_same p q a b r s one two same =
-    let whole : 0x5C ∷ 0x78 ∷ one.high ∷ one.low ∷ r ≡ 0x5C ∷ 0x78 ∷ two.high ∷ two.low ∷ s = ap (λ t. t ++ r)
-    (sym one.spelled) ∙ same ∙ ap (λ t. t ++ s) two.spelled in
-    let high : one.high ≡ two.high = cc in
-    let low : one.low ≡ two.low = cc in
-    record {
-      byte = one.value ∙ ap (λ d. 16 * digit_value d + digit_value one.low) high
-          ∙ ap (λ d. 16 * digit_value two.high + digit_value d) low ∙ sym two.value;
-      rest = cc;
-    }
+escapes_same p q a b r s one two same = grind (arith, nat_tests)
 
 -- one of each
 character_and_escape : (p q : List ℕ) (a b : ℕ) (r s : List ℕ) → IsCharacter p a → IsEscape q b → p ++ r ≡ q ++ s → ⊥
 character_and_escape p q a b r s one two same =
-    character_no_escape a one.character r (0x78 ∷ two.high ∷ two.low ∷ s) one.in_table
-    (ap (λ t. t ++ r) (sym one.spelled) ∙ same ∙ ap (λ t. t ++ s) two.spelled)
+    character_no_escape a one.character r (0x78 ∷ two.high ∷ two.low ∷ s) one.in_table (cc)
 
 symbols_same : (p q : List ℕ) (a b : ℕ) (r s : List ℕ) → IsSymbol p a → IsSymbol q b → p ++ r ≡ q ++ s
     → SameStart a b r s
 symbols_same p q a b r s (inl one) (inl two) same = characters_same p q a b r s one two same
+symbols_same p q a b r s (inr one) (inr two) same = escapes_same p q a b r s one two same
 symbols_same p q a b r s (inl one) (inr two) same = absurd (character_and_escape p q a b r s one two same)
 symbols_same p q a b r s (inr one) (inl two) same = absurd (character_and_escape q p b a s r two one (sym same))
-symbols_same p q a b r s (inr one) (inr two) same = escapes_same p q a b r s one two same
 
 -- a text begins with one symbol at most
 pub Begins-same : (text : List ℕ) (a b : ℕ) (r s : List ℕ) → Begins text a r → Begins text b s → SameStart a b r s
@@ -75,19 +63,17 @@ Begins-same text a b r s one two = symbols_same one.symbol two.symbol a b r s on
 
 -- a symbol has a byte at least
 IsSymbol-length : (p : List ℕ) (a : ℕ) → IsSymbol p a → 0 < length p
-IsSymbol-length p a (inl one) = rw (one.spelled, length-encode one.character) (len_utf8_bounds one.character).0
-IsSymbol-length p a (inr one) = rw one.spelled (omega arith)
+IsSymbol-length p a is = grind (arith, nat_tests, length-encode, len_utf8_bounds)
 
 -- a text is shorter behind its first symbol
 pub Begins-length : (text : List ℕ) (a : ℕ) (r : List ℕ) → Begins text a r → length r < length text
 Begins-length text a r one =
-    let some : 0 < length one.symbol = IsSymbol-length one.symbol a one.is_symbol in
-    let sum : length text ≡ length one.symbol + length r = ap length one.cut ∙ length-append one.symbol r in
-    omega arith
+    let some = IsSymbol-length one.symbol a one.is_symbol in
+    omega (arith, ap length one.cut, length-append one.symbol r)
 
 -- an empty text begins with no symbol
 pub BeginsNoSymbol-nil : BeginsNoSymbol []
-BeginsNoSymbol-nil byte rest one = let some : length rest < 0 = Begins-length [] byte rest one in omega arith
+BeginsNoSymbol-nil byte rest one = (let some = Begins-length [] byte rest one in omega arith)
 
 pub record SameReading (bs cs : List ℕ) (r s : List ℕ) : Type 0 where
   pub bytes : bs ≡ cs
@@ -97,14 +83,14 @@ pub record SameReading (bs cs : List ℕ) (r s : List ℕ) : Type 0 where
 pub IsReadUpTo-same : (text bs cs r s : List ℕ) → IsReadUpTo text bs r → IsReadUpTo text cs s → BeginsNoSymbol r
     → BeginsNoSymbol s → SameReading bs cs r s
 IsReadUpTo-same text [] [] r s one two end_one end_two = record { bytes = refl; rest = sym one ∙ two }
-IsReadUpTo-same text [] (c ∷ cs) r s one (after, begins, two) end_one end_two = absurd
-    (end_one c after (subst (λ t. Begins t c after) one begins))
-IsReadUpTo-same text (b ∷ bs) [] r s (after, begins, one) two end_one end_two = absurd
-    (end_two b after (subst (λ t. Begins t b after) two begins))
+IsReadUpTo-same text [] (c ∷ cs) r s one (after, begins, two) end_one end_two =
+    absurd (end_one c after (rw one at begins))
+IsReadUpTo-same text (b ∷ bs) [] r s (after, begins, one) two end_one end_two =
+    absurd (end_two b after (rw two at begins))
 IsReadUpTo-same text (b ∷ bs) (c ∷ cs) r s (first, begins, one) (second, also, two) end_one end_two =
     let start = Begins-same text b c first second begins also in
-    let later = IsReadUpTo-same second bs cs r s (subst (λ t. IsReadUpTo t bs r) start.rest one) two end_one end_two in
-    record { bytes = ap (λ x. x ∷ bs) start.byte ∙ ap (λ xs. c ∷ xs) later.bytes; rest = later.rest }
+    let later = IsReadUpTo-same second bs cs r s (rw start.rest at one) two end_one end_two in
+    record { bytes = cc; rest = later.rest }
 
 -- a text is read as at most one list of bytes
 pub IsReadAs-same : (text bs cs : List ℕ) → IsReadAs text bs → IsReadAs text cs → bs ≡ cs
@@ -114,36 +100,26 @@ IsReadAs-same text bs cs one two = (IsReadUpTo-same text bs cs [] [] one two Beg
 -- one reading, and another of the rest
 pub IsReadUpTo-append : (text bs mid cs rest : List ℕ) → IsReadUpTo text bs mid → IsReadUpTo mid cs rest
     → IsReadUpTo text (bs ++ cs) rest
-IsReadUpTo-append text [] mid cs rest one two = subst (λ t. IsReadUpTo t cs rest) (sym one) two
-IsReadUpTo-append text (b ∷ bs) mid cs rest (after, begins, one) two = (
-  after,
-  begins,
-  IsReadUpTo-append after bs mid cs
-      rest one two,
-)
+IsReadUpTo-append text [] mid cs rest one two = (rw one two)
+IsReadUpTo-append text (b ∷ bs) mid cs rest (after, begins, one) two =
+    grind (arith, nat_tests, IsReadUpTo-append after bs mid cs rest one two)
 
 -- and one symbol of the rest
 pub IsReadUpTo-push : (text bs mid : List ℕ) (byte : ℕ) (rest : List ℕ) → IsReadUpTo text bs mid → Begins mid byte rest
     → IsReadUpTo text (bs ++ byte ∷ []) rest
-IsReadUpTo-push text bs mid byte rest one begins = IsReadUpTo-append text bs mid (byte ∷ []) rest one
-    (rest, begins, refl)
+IsReadUpTo-push text bs mid byte rest one begins = grind (arith, nat_tests, IsReadUpTo-append)
 
 -- the rest is the end of the text
 pub IsReadUpTo-length : (text bs rest : List ℕ) → IsReadUpTo text bs rest → length bs + length rest ≤ length text
-IsReadUpTo-length text [] rest one = let same : length text ≡ length rest = ap length one in omega arith
+IsReadUpTo-length text [] rest one = omega (arith, ap length one)
 IsReadUpTo-length text (b ∷ bs) rest (after, begins, one) =
-    let shorter : length after < length text = Begins-length text b after begins in
-    let later : length bs + length rest ≤ length after = IsReadUpTo-length after bs rest one in
-    omega arith
+    omega (arith, Begins-length text b after begins, IsReadUpTo-length after bs rest one)
 
 IsReadUpTo-cut : (text bs rest : List ℕ) → IsReadUpTo text bs rest → (read : List ℕ) × (text ≡ read ++ rest)
 IsReadUpTo-cut text [] rest one = ([], one)
 IsReadUpTo-cut text (b ∷ bs) rest (after, begins, one) =
-    let later = IsReadUpTo-cut after bs rest one in (
-      begins.symbol ++ later.0,
-      begins.cut ∙ ap (λ t. begins.symbol ++ t) later.1
-          ∙ sym (append_assoc begins.symbol later.0 rest),
-    )
+    let later = IsReadUpTo-cut after bs rest one in
+    (begins.symbol ++ later.0, rw append_assoc (begins.cut ∙ ap (λ t. begins.symbol ++ t) later.1))
 
 -- the rest of a text is what stands behind the part that was read
 pub IsReadUpTo-drop : (text bs rest : List ℕ) → IsReadUpTo text bs rest → drop (length text - length rest) text ≡ rest
@@ -157,33 +133,22 @@ IsReadUpTo-drop text bs rest one =
 pub StopsAt-rest : (text bs rest : List ℕ) → IsReadUpTo text bs rest → BeginsNoSymbol rest → 0 < length rest
     → StopsAt text (length text - length rest)
 StopsAt-rest text bs rest one stuck some =
-    let there : drop (length text - length rest) text ≡ rest = IsReadUpTo-drop text bs rest one in
-    let room : length bs + length rest ≤ length text = IsReadUpTo-length text bs rest one in
-    record {
-      within = omega arith;
-      bytes = bs;
-      read = subst (λ t. IsReadUpTo text bs t) (sym there) one;
-      stuck = subst BeginsNoSymbol (sym there) stuck;
-    }
+    let there = IsReadUpTo-drop text bs rest one in
+    let room = IsReadUpTo-length text bs rest one in
+    record { within = omega arith; bytes = bs; read = rw there one; stuck = rw there stuck }
 
 -- reading stops at one place
 pub StopsAt-same : (text : List ℕ) (p q : ℕ) → StopsAt text p → StopsAt text q → p ≡ q
 StopsAt-same text p q one two =
-    let rest : drop p text ≡ drop q text = (IsReadUpTo-same text one.bytes two.bytes (drop p text) (drop q text)
-    one.read two.read one.stuck two.stuck).rest in
-    let long : length (drop p text) ≡ length (drop q text) = ap length rest in
-    let left : p < length text = one.within in
-    let right : q < length text = two.within in
-    omega (arith, length-drop p text, length-drop q text)
+    let same = IsReadUpTo-same text one.bytes two.bytes (drop p text) (drop q text) one.read two.read one.stuck
+    two.stuck in
+    omega (arith, ap length same.rest, length-drop p text, length-drop q text)
 
 -- a text at which reading stops is not read
 pub StopsAt-unread : (text : List ℕ) (p : ℕ) (bs : List ℕ) → StopsAt text p → IsReadAs text bs → ⊥
 StopsAt-unread text p bs one two =
-    let rest : drop p text ≡ [] = (IsReadUpTo-same text one.bytes bs (drop p text) [] one.read two one.stuck
-    BeginsNoSymbol-nil).rest in
-    let long : length (drop p text) ≡ 0 = ap length rest in
-    let left : p < length text = one.within in
-    omega (arith, length-drop p text)
+    let same = IsReadUpTo-same text one.bytes bs (drop p text) [] one.read two one.stuck BeginsNoSymbol-nil in
+    omega (arith, ap length same.rest, length-drop p text)
 
 -- what the code knows of the first character of a text, and the symbols that can begin there
 digit_ascii : (digit : ℕ) → digit_value digit < 16 → digit < 128
@@ -217,88 +182,62 @@ text-backslash text first after one is = one ∙ ap (λ c. encode_utf8 c ++ afte
 pub BeginsNoSymbol-escape : (text : List ℕ)
     → ((high low : ℕ) (rest : List ℕ) → text ≡ 0x78 ∷ high ∷ low ∷ rest → digit_value high < 16 → digit_value low < 16
     → ⊥) → BeginsNoSymbol (0x5C ∷ text)
-BeginsNoSymbol-escape text none byte rest one = by_symbol one.is_symbol
-  where
-    by_symbol : IsSymbol one.symbol byte → ⊥
-    by_symbol (inl is) = character_no_escape byte is.character rest text is.in_table
-        (ap (λ t. t ++ rest) (sym is.spelled) ∙ sym one.cut)
-    by_symbol (inr is) =
-        let whole : 0x5C ∷ text ≡ 0x5C ∷ 0x78 ∷ is.high ∷ is.low ∷ rest = one.cut ∙ ap (λ t. t ++ rest) is.spelled in
-        none is.high is.low rest (cc) is.high_digit is.low_digit
+BeginsNoSymbol-escape text none byte rest one = elim one.is_symbol [
+  | inl is ↦ character_no_escape byte is.character rest text is.in_table (cc)
+  | inr is ↦ (
+      let whole : 0x5C ∷ text ≡ 0x5C ∷ 0x78 ∷ is.high ∷ is.low ∷ rest = one.cut ∙ ap (λ t. t ++ rest) is.spelled in
+      none is.high is.low rest (cc) is.high_digit is.low_digit)
+]
 
 -- a backslash with an x and two digits begins with the byte that they write
 pub Begins-escape : (text rest : List ℕ) (high low : ℕ) → text ≡ 0x78 ∷ high ∷ low ∷ rest → digit_value high < 16
     → digit_value low < 16 → Begins (0x5C ∷ text) (16 * digit_value high + digit_value low) rest
-Begins-escape text rest high low is first second = record {
-  symbol = 0x5C ∷ 0x78 ∷ high ∷ low ∷ [];
-  cut = ap (λ t. 0x5C ∷ t) is;
-  is_symbol = inr (record {
-    high = high;
-    low = low;
-    high_digit = first;
-    low_digit = second;
-    spelled = refl;
-    value = refl;
-  });
-}
+Begins-escape text rest high low is first second =
+    let known : IsSymbol (0x5C ∷ 0x78 ∷ high ∷ low ∷ []) (16 * digit_value high + digit_value low) = grind arith in
+    record { symbol = 0x5C ∷ 0x78 ∷ high ∷ low ∷ []; cut = ap (λ t. 0x5C ∷ t) is; is_symbol = known }
 
 -- a character that the table does not have begins no symbol
 pub BeginsNoSymbol-character : (text : List ℕ) (first : ℕ) (after : List ℕ) → text ≡ encode_utf8 first ++ after
     → (first ≡ 0x5C → ⊥) → None ≡ byte_of first → BeginsNoSymbol text
-BeginsNoSymbol-character text first after is other unknown byte rest one = by_symbol one.is_symbol
-  where
-    by_symbol : IsSymbol one.symbol byte → ⊥
-    by_symbol (inl character) =
-        let split = encode_same first character.character after rest (sym is ∙ one.cut ∙ ap (λ t. t ++ rest)
-        character.spelled) in
-        let known : byte_of character.character ≡ Some byte = (IsLawful-from_byte byte character.character
-        character.in_table).of_character in
-        let both : None ≡ Some byte = unknown ∙ ap byte_of split.0 ∙ known in
-        absurd (cc)
-    by_symbol (inr escape) =
-        let whole : encode_utf8 first ++ after ≡ 0x5C ∷ 0x78 ∷ escape.high ∷ escape.low ∷ rest = sym is ∙ one.cut
-        ∙ ap (λ t. t ++ rest) escape.spelled in
-        other (encode_same first 0x5C after (0x78 ∷ escape.high ∷ escape.low ∷ rest)
-        (whole ∙ backslash-first (0x78 ∷ escape.high ∷ escape.low ∷ rest))).0
+BeginsNoSymbol-character text first after is other unknown byte rest one = elim one.is_symbol [
+  | inl character ↦ (
+      let split = encode_same first character.character after rest (cc) in
+      let known = (IsLawful-from_byte byte character.character character.in_table).of_character in
+      cc split.0)
+  | inr escape ↦ (
+      let tail = 0x78 ∷ escape.high ∷ escape.low ∷ rest in
+      let whole = sym is ∙ one.cut ∙ ap (λ t. t ++ rest) escape.spelled in
+      other (encode_same first 0x5C after tail (whole ∙ backslash-first tail)).0)
+]
 
 -- a character of the table begins with its byte
 pub Begins-character : (text : List ℕ) (first : ℕ) (after : List ℕ) (byte : ℕ) → text ≡ encode_utf8 first ++ after
     → Some byte ≡ byte_of first → Begins text byte after
-Begins-character text first after byte is known = record {
-  symbol = encode_utf8 first;
-  cut = is;
-  is_symbol = inl (record {
-    character = first;
-    in_table = (IsLawful-from_character byte first (sym known)).of_byte;
-    spelled = refl;
-  });
-}
+Begins-character text first after byte is known =
+    let in_table = (IsLawful-from_character byte first (sym known)).of_byte in
+    let symbol = inl (record { character = first; in_table = in_table; spelled = refl }) in
+    record { symbol = encode_utf8 first; cut = is; is_symbol = symbol }
 
 -- the rest after a symbol of a text is a text
 pub Begins-IsUtf8 : (text : List ℕ) (byte : ℕ) (rest : List ℕ) → IsUtf8 text → Begins text byte rest → IsUtf8 rest
-Begins-IsUtf8 text byte rest is one = by_symbol one.is_symbol
-  where
-    by_symbol : IsSymbol one.symbol byte → IsUtf8 rest
-    by_symbol (inl character) = IsUtf8-past_char text rest character.character is (one.cut ∙ ap (λ t. t ++ rest)
-        character.spelled)
-    by_symbol (inr escape) =
-        let whole : text ≡ 0x5C ∷ 0x78 ∷ escape.high ∷ escape.low ∷ rest = one.cut ∙ ap (λ t. t ++ rest) escape.spelled
-        in
-        let one_on = IsUtf8-past_char text (0x78 ∷ escape.high ∷ escape.low ∷ rest) 0x5C is
-        (whole ∙ backslash-first (0x78 ∷ escape.high ∷ escape.low ∷ rest)) in
-        let two_on = IsUtf8-past_char (0x78 ∷ escape.high ∷ escape.low ∷ rest) (escape.high ∷ escape.low ∷ rest) 0x78
-        one_on (x-first (escape.high ∷ escape.low ∷ rest)) in
-        let three_on = IsUtf8-past_char (escape.high ∷ escape.low ∷ rest) (escape.low ∷ rest) escape.high two_on
-        (digit-first escape.high (escape.low ∷ rest) escape.high_digit) in
-        IsUtf8-past_char (escape.low ∷ rest) rest escape.low three_on (digit-first escape.low rest escape.low_digit)
+Begins-IsUtf8 text byte rest is one = elim one.is_symbol [
+  | inl character ↦ IsUtf8-past_char text rest character.character is (one.cut ∙ ap (λ t. t ++ rest) character.spelled)
+  | inr escape ↦ (
+      let low = escape.low ∷ rest in
+      let high = escape.high ∷ low in
+      let whole = one.cut ∙ ap (λ t. t ++ rest) escape.spelled in
+      let one_on = IsUtf8-past_char text (0x78 ∷ high) 0x5C is (whole ∙ backslash-first (0x78 ∷ high)) in
+      let two_on = IsUtf8-past_char (0x78 ∷ high) high 0x78 one_on (x-first high) in
+      let three_on = IsUtf8-past_char high low escape.high two_on (digit-first escape.high low escape.high_digit) in
+      IsUtf8-past_char low rest escape.low three_on (digit-first escape.low rest escape.low_digit))
+]
 
 -- reading a text after its first symbol
 pub IsReadAs-step : (text : List ℕ) (byte : ℕ) (rest bytes : List ℕ) → IsReadAs text bytes → Begins text byte rest
     → (later : List ℕ) × IsReadAs rest later × (length bytes ≡ 1 + length later)
-IsReadAs-step text byte rest [] one begins = absurd (BeginsNoSymbol-nil byte rest (subst (λ t. Begins t byte rest) one
-    begins))
+IsReadAs-step text byte rest [] one begins = absurd (BeginsNoSymbol-nil byte rest (rw one at begins))
 IsReadAs-step text byte rest (b ∷ bytes) (after, also, one) begins =
-    (bytes, subst (λ t. IsReadAs t bytes) (Begins-same text b byte after rest also begins).rest one, omega arith)
+    (bytes, rw (Begins-same text b byte after rest also begins).rest at one, omega arith)
 
 -- if no symbol begins it, the text is at its end
 pub IsReadAs-end : (text bytes : List ℕ) → IsReadAs text bytes → BeginsNoSymbol text → text ≡ []

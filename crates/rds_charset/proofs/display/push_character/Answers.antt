@@ -1,8 +1,7 @@
-use Rattle.std.proofs.Common.{rules, arith}
+use Rattle.std.proofs.lemmas.Bool.Decides.{nat_tests}
+use Rattle.std.proofs.Common.{arith}
 use Rattle.rds_charset.proofs.DisplayedText.{length-displayed_byte}
 use Rattle.rds_charset.proofs.display.push_character.Goals as goal
 
 pub push-requires : goal.push-requires
-push-requires g c =
-    let width = length-displayed_byte c.args.byte in
-    search (rules, arith)
+push-requires g c = grind (arith, nat_tests, length-displayed_byte)

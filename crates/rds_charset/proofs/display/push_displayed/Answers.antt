@@ -1,18 +1,10 @@
+use Rattle.std.proofs.Common.{ℕ}
 use Rattle.std.proofs.Common.{arith, length-append, length, take, ap}
 use Rattle.std.proofs.lemmas.List.{length-take}
 use Rattle.rds_charset.proofs.DisplayedText.{length-displayed}
-use Rattle.rds_charset.specs.Displays.{displayed}
 use Rattle.rds_charset.proofs.display.push_displayed.Goals as goal
 
 pub push_character-requires : goal.push_character-requires
 push_character-requires g c =
     let before = length-displayed (take c.loop-byte.byte-index c.args.text.now) in
-    (omega (
-      arith,
-      ap length c.loop-byte.invariant,
-      length-append c.args.line.now
-          (displayed (take c.loop-byte.byte-index c.args.text.now)),
-      before,
-      length-take c.loop-byte.byte-index
-          c.args.text.now,
-    ))
+    omega (arith, ap length c.loop-byte.invariant, length-append {A = ℕ}, length-take {A = ℕ})

@@ -1,3 +1,4 @@
+use Rattle.std.proofs.Common.{ℕ}
 use Rattle.std.proofs.Common.{◌≡◌, ◌++◌, arith, length-append, length, take, ap}
 use Rattle.std.proofs.lemmas.List.{length-take, take_all}
 use Rattle.rds_charset.proofs.PrintedText.{length-printed}
@@ -6,18 +7,8 @@ use Rattle.rds_charset.proofs.printing.push_text.Goals as goal
 
 pub push_byte-requires : goal.push_byte-requires
 push_byte-requires g c =
-    let before = length-printed (take c.loop-byte.byte-index c.args.text.now) in (
-      search arith,
-      omega (
-        arith,
-        ap length c.loop-byte.invariant,
-        length-append c.args.line.now
-            (printed (take c.loop-byte.byte-index c.args.text.now)),
-        before,
-        length-take c.loop-byte.byte-index
-            c.args.text.now,
-      ),
-    )
+    let before = length-printed (take c.loop-byte.byte-index c.args.text.now) in
+    (search arith, omega (arith, ap length c.loop-byte.invariant, length-append {A = ℕ}, length-take {A = ℕ}))
 
 pub returns-clause-room : goal.returns-clause-room
 returns-clause-room g c =

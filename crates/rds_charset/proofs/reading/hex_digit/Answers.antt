@@ -1,4 +1,6 @@
-use Rattle.std.proofs.Common.{ℕ, List, ◌≡◌, ◌∷◌, ◌<◌, IfNone, subst, sym}
+use Rattle.std.proofs.Common.{arith}
+use Rattle.std.proofs.lemmas.Bool.Decides.{nat_tests}
+use Rattle.std.proofs.Common.{ℕ, List, ◌≡◌, ◌∷◌, ◌<◌}
 use Rattle.std.specs.Char.{digit_value}
 use Rattle.rds_charset.proofs.Symbols.{first-digit}
 use Rattle.rds_charset.proofs.reading.hex_digit.Goals as goal
@@ -6,8 +8,6 @@ use Rattle.rds_charset.proofs.reading.hex_digit.Goals as goal
 pub returns-in_err-digit-clause-none : goal.returns-in_err-digit-clause-none
 returns-in_err-digit-clause-none c =
     let none = λ (digit : ℕ) (rest : List ℕ) (is : c.args.text.now ≡ digit ∷ rest) (small : digit_value digit < 16).
-    c.in_err-digit.ensures.value (subst (λ d. digit_value d < 16)
-    (sym (first-digit c.args.text.now c.in_ok-first.first c.in_ok-first.rest.now digit rest
-    c.in_ok-first.ensures.some is small)) small) in
-    subst (λ r. IfNone r ((digit : ℕ) (rest : List ℕ) → c.args.text.now ≡ digit ∷ rest → digit_value digit < 16 → ⊥))
-    (sym c.from_residual-in_err-digit.ensures) none
+    c.in_err-digit.ensures.value (rw (first-digit c.args.text.now c.in_ok-first.first c.in_ok-first.rest.now digit rest
+    c.in_ok-first.ensures.some is small) small) in
+    grind (arith, nat_tests)

@@ -6,17 +6,18 @@ use Rattle.rds_charset.proofs.reading.read_text.Goals as goal
 
 pub returns-in_err-count : goal.returns-in_err-count
 returns-in_err-count c =
-    let outcome = Outcome-stopped c.args.text.now (length c.args.into.now) c.from_residual.result
-    c.in_err-count.field-0.0 (search rules) c.in_err-count.ensures.err in
+    let text = c.args.text.now in
+    let room = length c.args.into.now in
+    let outcome = Outcome-stopped text room c.from_residual.result c.in_err-count.field-0.0 (search rules)
+    c.in_err-count.ensures.err in
     record {
-      read = Outcome-read c.args.text.now (length c.args.into.now) c.from_residual.result outcome;
+      read = Outcome-read text room c.from_residual.result outcome;
       count = search rules;
       bytes = search rules;
       rest = search rules;
-      bad_escape = Outcome-bad_escape c.args.text.now (length c.args.into.now) c.from_residual.result outcome;
-      no_such_character = Outcome-no_such_character c.args.text.now (length c.args.into.now) c.from_residual.result
-          outcome;
-      no_room = Outcome-no_room c.args.text.now (length c.args.into.now) c.from_residual.result outcome;
+      bad_escape = Outcome-bad_escape text room c.from_residual.result outcome;
+      no_such_character = Outcome-no_such_character text room c.from_residual.result outcome;
+      no_room = Outcome-no_room text room c.from_residual.result outcome;
       err = search rules;
     }
 

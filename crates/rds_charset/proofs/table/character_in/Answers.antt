@@ -1,3 +1,5 @@
+use Rattle.std.proofs.Common.{arith}
+use Rattle.std.proofs.lemmas.Bool.Decides.{nat_tests}
 use Rattle.std.proofs.Common.{sym, ◌∙◌, map}
 use Rattle.std.proofs.lemmas.List.{at_drop_all}
 use Rattle.rds_charset.proofs.Characters.{character_in-found, character_in-passed}
@@ -6,12 +8,10 @@ use Rattle.rds_charset.specs.Table.{character_in}
 use Rattle.rds_charset.proofs.table.character_in.Goals as goal
 
 pub returns-in-Some : goal.returns-in-Some
-returns-in-Some c = sym (character_in-found c.args.ranges.now c.loop-range.range-index _ c.args.byte
-    c.in-Some.character c.loop-range-test.true (sym c.in-Some.ensures)) ∙ c.loop-range.invariant
+returns-in-Some c = grind (arith, nat_tests, character_in-found)
 
 pub loop-range-preserved : goal.loop-range-preserved
-loop-range-preserved c = sym (character_in-passed c.args.ranges.now c.loop-range.range-index _ c.args.byte
-    c.loop-range-test.true (sym c.in_default.ensures)) ∙ c.loop-range.invariant
+loop-range-preserved c = grind (arith, nat_tests, character_in-passed)
 
 pub returns : goal.returns
 returns c = sym (at_drop_all (λ ranges. character_in (map range_of ranges) c.args.byte) c.args.ranges.now
