@@ -1,5 +1,5 @@
 -- Lemmas: a buffer of zeros with a text written over its front.
-use Rattle.std.proofs.Common.{◌≡◌, ℕ, ◌+◌, ◌-◌, ◌≤◌, List, ◌++◌, length, take, drop, ap, subst, ◌∙◌, sym, arith}
+use Rattle.std.proofs.Common.{◌≡◌, ℕ, ◌-◌, ◌≤◌, List, ◌++◌, length, drop, ap, ◌∙◌, sym, arith}
 use Rattle.std.proofs.Common.{length-append}
 use Rattle.std.specs.Prelude.{replicate}
 use Rattle.std.proofs.lemmas.Simd.{length-replicate}
@@ -11,20 +11,15 @@ use Rattle.rds_assembly.specs.Filled.{IsZeroFilled}
 rest_long : (n k : ℕ) → length (drop n (replicate {A = ℕ} k 0)) ≡ k - n
 rest_long n k = ap length (drop-replicate n k 0) ∙ length-replicate (k - n) 0
 
-joined : (a b n m : ℕ) → a ≡ n → b ≡ m - n → n ≤ m → a + b ≡ m
-joined a b n m e f h = omega arith
-
 -- a text with zeros behind it is filled so
 pub written : (n : ℕ) (x : List ℕ) → length x ≡ n → IsText x → IsZeroFilled n (x ++ drop n (replicate 64 0))
 written n x e t =
     let within : n ≤ 64 = (let long = t.at_most in omega arith) in
+    let rest = rest_long n 64 in
     record {
-      full = length-append x (drop n (replicate 64 0)) ∙ joined (length x) _ n 64 e (rest_long n 64) within;
+      full = omega (arith, length-append x (drop n (replicate 64 0)));
       within = within;
       zeros = ap (λ k. drop k (x ++ drop n (replicate 64 0))) (sym e) ∙ drop-append_seam x (drop n (replicate 64 0))
           ∙ drop-replicate n 64 0;
-      text = subst IsText (sym (front n x _ e)) t;
+      text = rw (← e, take-append_seam x (drop (length x) (replicate 64 0))) t;
     }
-  where
-    front : (k : ℕ) (a b : List ℕ) → length a ≡ k → take k (a ++ b) ≡ a
-    front k a b f = ap (λ j. take j (a ++ b)) (sym f) ∙ take-append_seam a b

@@ -28,59 +28,40 @@ cell_in mask bytes a = cond (bit_at mask a == 1) (Some (segment_of bytes a)) Non
 
 one_more : (a mask : ℕ) (bytes : List ℕ) (q : ℕ) → q ≢ a
     → get (cells_below (suc a) mask bytes) q ≡ get (cells_below a mask bytes) q
-one_more a mask bytes q apart = by_bit (bit_at mask a == 1) refl
-  where
-    by_bit : (b : Bool) → (bit_at mask a == 1) ≡ b
-        → get (cells_below (suc a) mask bytes) q ≡ get (cells_below a mask bytes) q
-    by_bit true e =
-        let other : nat_eq q a ≡ false = grind (arith, nat_tests) in
-        rw e (get-put (cells_below a mask bytes) a (segment_of bytes a) q ∙ rw other refl)
-    by_bit false e = rw e refl
+one_more a mask bytes q apart = grind (arith, nat_tests, get-put)
 
 above : (n mask : ℕ) (bytes : List ℕ) (q : ℕ) → n ≤ q → get (cells_below n mask bytes) q ≡ None
 above zero mask bytes q h = get-empty nat_cmp q
-above (suc a) mask bytes q h =
-    let apart : q ≢ a = omega arith in
-    one_more a mask bytes q apart ∙ above a mask bytes q (omega arith)
+above (suc a) mask bytes q h = grind (arith, nat_tests, above a mask bytes q (omega arith), one_more)
 
 newest : (a mask : ℕ) (bytes : List ℕ) → get (cells_below (suc a) mask bytes) a ≡ cell_in mask bytes a
-newest a mask bytes = by_bit (bit_at mask a == 1) refl
-  where
-    by_bit : (b : Bool) → (bit_at mask a == 1) ≡ b → get (cells_below (suc a) mask bytes) a ≡ cell_in mask bytes a
-    by_bit true e =
-        let same : nat_eq a a ≡ true = grind (arith, nat_tests) in
-        rw e (get-put (cells_below a mask bytes) a (segment_of bytes a) a ∙ rw same refl)
-    by_bit false e = rw e (above a mask bytes a (omega arith))
+newest a mask bytes = grind (arith, nat_tests, get-put, above)
 
 below : (n mask : ℕ) (bytes : List ℕ) (q : ℕ) → q < n → get (cells_below n mask bytes) q ≡ cell_in mask bytes q
 below zero mask bytes q h = absurd (omega arith)
-below (suc a) mask bytes q h =
-    elim (cases_lt q a) [
-      | inl l ↦ (let apart : q ≢ a = omega arith in one_more a mask bytes q apart ∙ below a mask bytes q l)
-      | inr l ↦ (let same : q ≡ a = omega arith in rw same (newest a mask bytes))
-    ]
+below (suc a) mask bytes q h = elim (cases_lt q a) [
+  | inl l ↦ one_more a mask bytes q (omega arith) ∙ below a mask bytes q l
+  | inr l ↦ (let same : q ≡ a = omega arith in rw same (newest a mask bytes))
+]
 
 -- the cell that is held at an address
 pub get-held : (mask : ℕ) (bytes : List ℕ) (a : ℕ) → a < 16 → get (held_cells mask bytes) a ≡ cell_in mask bytes a
 unfolding held_cells
 get-held mask bytes a h = below 16 mask bytes a h
 
-past_all : (mask : ℕ) (bytes : List ℕ) (a : ℕ) → 16 ≤ a → get (held_cells mask bytes) a ≡ None
+-- nothing is held at an address behind the last one
+pub past_all : (mask : ℕ) (bytes : List ℕ) (a : ℕ) → 16 ≤ a → get (held_cells mask bytes) a ≡ None
 unfolding held_cells
 past_all mask bytes a h = above 16 mask bytes a h
 
 -- a set bit gives the segment at its address
 pub get-set : (mask : ℕ) (bytes : List ℕ) (a : ℕ) → a < 16 → bit_at mask a ≡ 1
     → get (held_cells mask bytes) a ≡ Some (segment_of bytes a)
-get-set mask bytes a h on =
-    let on' : (bit_at mask a == 1) ≡ true = rw on refl in
-    get-held mask bytes a h ∙ ap (λ b. cond b (Some (segment_of bytes a)) None) on'
+get-set mask bytes a h on = grind (arith, nat_tests, get-held)
 
 -- a bit that is not set gives no segment
 pub get-unset : (mask : ℕ) (bytes : List ℕ) (a : ℕ) → a < 16 → bit_at mask a ≡ 0 → get (held_cells mask bytes) a ≡ None
-get-unset mask bytes a h off =
-    let off' : (bit_at mask a == 1) ≡ false = rw off refl in
-    get-held mask bytes a h ∙ ap (λ b. cond b (Some (segment_of bytes a)) None) off'
+get-unset mask bytes a h off = grind (arith, nat_tests, get-held)
 
 -- a place of a segment that is held has its byte
 pub byte_in : (mask : ℕ) (bytes : List ℕ) (i : ℕ) → i < 64 → bit_at mask (i / 4) ≡ 1
@@ -100,12 +81,7 @@ AreSetBelow mask n = (i : ℕ) → i < n → bit_at mask (i / 4) ≡ 1
 -- cells whose bits are set below n spell the first n bytes
 pub spelled : (mask : ℕ) (bytes : List ℕ) (n : ℕ) → n ≤ 64 → length bytes ≡ 64 → AreSetBelow mask n
     → IsSpelled (held_cells mask bytes) (take n bytes)
-spelled mask bytes n h long on =
-    let cut : length (take n bytes) ≡ n = length-take-le n bytes (omega arith) in
-    record {
-      bytes = λ i l. let e : get_or (take n bytes) i 0 ≡ get_or bytes i 0 = get_or-take n bytes i 0 (omega arith)
-          in rw e (byte_in mask bytes i (omega arith) (on i (omega arith)));
-    }
+spelled mask bytes n h long on = grind (arith, nat_tests, length-take-le, get_or-take, byte_in)
 
 -- without a bit there is no cell
 none_set : (n : ℕ) (bytes : List ℕ) → cells_below n 0 bytes ≡ empty
@@ -119,17 +95,16 @@ nothing_held bytes = none_set 16 bytes
 
 -- without a cell there is no bit
 pub no_bit : (mask : ℕ) (bytes : List ℕ) → mask < 65536 → held_cells mask bytes ≡ empty → mask ≡ 0
-no_bit mask bytes fits none = same_from_bits_below 16 mask 0 fits (lit< tt) (λ a h. by_bit a h (bit_at mask a) refl
+no_bit mask bytes fits none = same_from_bits_below 16 mask 0 fits (lit< tt) (λ a h. by a h (bit_at mask a) refl
     ∙ sym (bit_at-zero a))
   where
-    by_bit : (a : ℕ) → a < 16 → (b : ℕ) → bit_at mask a ≡ b → bit_at mask a ≡ 0
-    by_bit a h zero e = e
-    by_bit a h (suc b) e =
+    by : (a : ℕ) → a < 16 → (b : ℕ) → bit_at mask a ≡ b → bit_at mask a ≡ 0
+    by a h zero e = e
+    by a h (suc b) e =
         let low = bit_at-lt mask a in
-        let on : bit_at mask a ≡ 1 = omega arith in
-        let held = get-set mask bytes a h on in
+        let held = get-set mask bytes a h (omega arith) in
         let nothing = get-empty {X = List ℕ} nat_cmp a in
-        absurd (cc)
+        cc
 
 -- a segment is put and its bit set, and the others do not change
 pub put_held : (mask after a : ℕ) (bytes written segment : List ℕ) → a < 16 → bit_at after a ≡ 1
@@ -137,23 +112,18 @@ pub put_held : (mask after a : ℕ) (bytes written segment : List ℕ) → a < 1
     → segment_of written a ≡ segment → ((q : ℕ) → q ≢ a → segment_of written q ≡ segment_of bytes q)
     → held_cells after written ≡ insert (held_cells mask bytes) a segment
 put_held mask after a bytes written segment h set kept here others =
-    same_map nat_cmp_total nat_cmp-IsAntisymmetric _ _ (λ q. by_address q (nat_eq q a) refl
+    same_map nat_cmp_total nat_cmp-IsAntisymmetric _ _ (λ q. by q (nat_eq q a) refl
     ∙ sym (get-put (held_cells mask bytes) a segment q))
   where
     other : (q : ℕ) → q ≢ a → (q < 16) ⊎ (16 ≤ q) → get (held_cells after written) q ≡ get (held_cells mask bytes) q
-    other q apart (inl l) =
-        get-held after written q l ∙ ap (λ n. cond (n == 1) (Some (segment_of written q)) None) (kept q apart)
-        ∙ ap (λ s. cond (bit_at mask q == 1) (Some s) None) (others q apart) ∙ sym (get-held mask bytes q l)
+    other q apart (inl l) = rw (get-held after written q l, get-held mask bytes q l, kept q apart, others q apart)
     other q apart (inr l) = past_all after written q l ∙ sym (past_all mask bytes q l)
 
-    by_address : (q : ℕ) (b : Bool) → nat_eq q a ≡ b
+    by : (q : ℕ) (b : Bool) → nat_eq q a ≡ b
         → get (held_cells after written) q ≡ cond (nat_eq q a) (Some segment) (get (held_cells mask bytes) q)
-    by_address q true e =
-        let same : q ≡ a = grind (arith, nat_tests) in
-        rw e (rw same (get-set after written a h set ∙ ap Some here))
-    by_address q false e =
-        let apart : q ≢ a = grind (arith, nat_tests) in
-        rw e (other q apart (cases_lt q 16))
+    by q true e = (let same : q ≡ a = grind (arith, nat_tests) in
+        rw (e, same) (get-set after written a h set ∙ ap Some here))
+    by q false e = rw e (other q (grind (arith, nat_tests)) (cases_lt q 16))
 
 -- writing four bytes keeps the other segments and puts this one
 pub others_stay : (a k : ℕ) (bytes segment : List ℕ) → k ≡ 4 → length segment ≡ 4 → 4 * a + 4 ≤ length bytes → (q : ℕ)
@@ -181,17 +151,11 @@ segment_stands a k bytes segment e long room =
 -- a cell is held exactly if its bit is set
 pub contains-held : (mask : ℕ) (bytes : List ℕ) (a : ℕ) → a < 16
     → contains_key (held_cells mask bytes) a ≡ (bit_at mask a == 1)
-contains-held mask bytes a h = ap is_some (get-held mask bytes a h) ∙ as_bit (bit_at mask a == 1)
-  where
-    as_bit : (b : Bool) → is_some (cond b (Some (segment_of bytes a)) None) ≡ b
-    as_bit true = refl
-    as_bit false = refl
+contains-held mask bytes a h = grind (arith, nat_tests, get-held)
 
 pub contained_set : (mask : ℕ) (bytes : List ℕ) (a : ℕ) → a < 16 → contains_key (held_cells mask bytes) a ≡ true
     → bit_at mask a ≡ 1
-contained_set mask bytes a h there =
-    let set : (bit_at mask a == 1) ≡ true = sym (contains-held mask bytes a h) ∙ there in
-    grind (arith, nat_tests)
+contained_set mask bytes a h there = grind (arith, nat_tests, contains-held)
 
 -- a byte that is held has the bit of its segment
 pub byte_set : (mask : ℕ) (bytes : List ℕ) (i b : ℕ) → i < 64 → HasByte (held_cells mask bytes) i b
@@ -202,6 +166,4 @@ byte_set mask bytes i b h byte = contained_set mask bytes (i / 4) (omega arith) 
 pub held_again : (mask a : ℕ) (bytes segment : List ℕ) → a < 16 → contains_key (held_cells mask bytes) a ≡ true
     → segment_of bytes a ≡ segment
     → held_cells mask bytes ≡ insert (held_cells mask bytes) a segment
-held_again mask a bytes segment h there here =
-    put_held mask mask a bytes bytes segment h (contained_set mask bytes a h there) (λ q apart. refl) here
-    (λ q apart. refl)
+held_again mask a bytes segment h there here = grind (arith, nat_tests, put_held, contained_set)

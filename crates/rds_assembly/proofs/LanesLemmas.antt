@@ -1,5 +1,5 @@
 -- Lemmas about one bit of a mask of lanes, and of one that is spread over four places each.
-use Rattle.std.proofs.Common.{◌≡◌, ℕ, zero, suc, ◌+◌, ◌-◌, ◌*◌, ◌/◌, ◌%◌, ◌^◌, ◌<◌, ◌≤◌, List, Bool, true, false, cond}
+use Rattle.std.proofs.Common.{◌≡◌, ℕ, zero, suc, ◌+◌, ◌-◌, ◌*◌, ◌/◌, ◌%◌, ◌^◌, ◌<◌, ◌≤◌, List, Bool, true, cond}
 use Rattle.std.proofs.Common.{map, eqb, nat_eq, nat_lt, ◌&&◌, get_or, refl, sym, ap, ◌∙◌, inl, inr, bit_and, bit_or}
 use Rattle.std.proofs.Common.{arith}
 use Rattle.std.specs.Int.{bit_at, from_bool}
@@ -14,8 +14,7 @@ use Rattle.std.proofs.lemmas.Simd.{bit_mask_l}
 use lib.Lanes.{mask_l}
 
 one_or_zero : (b : Bool) → cond b 1 0 ≡ from_bool b
-one_or_zero true = refl
-one_or_zero false = refl
+one_or_zero b = grind (arith, nat_tests)
 
 -- a bit of the mask tells whether its byte is a carriage return
 pub bit_at-mask : (bytes : List ℕ) (i : ℕ)
@@ -67,25 +66,16 @@ shift-or a b s =
     ])
 
 or_crossed : (a b c d : ℕ) → bit_or (bit_or a b) (bit_or c d) ≡ bit_or (bit_or a c) (bit_or b d)
-or_crossed a b c d =
-    same_from_bits _ _ (λ i. let before = bit_at_or (bit_or a b) (bit_or c d) i in
-    let after = bit_at_or (bit_or a c) (bit_or b d) i in
-    omega (arith, bit_at_or a b i, bit_at_or c d i, bit_at_or a c i, bit_at_or b d i))
+or_crossed a b c d = same_from_bits _ _ (λ i. grind (arith, bit_at_or))
 
 twice-or : (a b s : ℕ) → twice (bit_or a b) s ≡ bit_or (twice a s) (twice b s)
-twice-or a b s =
-    let moved : bit_or a b * 2 ^ s % 2 ^ 64 ≡ bit_or (a * 2 ^ s % 2 ^ 64) (b * 2 ^ s % 2 ^ 64) = ap (λ n. n % 2 ^ 64)
-    (shift-or a b s) ∙ or_mod (a * 2 ^ s) (b * 2 ^ s) 64 in
-    ap (bit_or (bit_or a b)) moved ∙ or_crossed a b (a * 2 ^ s % 2 ^ 64) (b * 2 ^ s % 2 ^ 64)
+twice-or a b s = search (arith, shift-or, or_mod, or_crossed)
 
 and-or : (a b c : ℕ) → bit_and (bit_or a b) c ≡ bit_or (bit_and a c) (bit_and b c)
-and-or a b c =
-    same_from_bits _ _ (λ i. let before = bit_at_and (bit_or a b) c i in
-    let after = bit_at_or (bit_and a c) (bit_and b c) i in
-    omega (arith, bit_at_or a b i, bit_at_and a c i, bit_at_and b c i))
+and-or a b c = same_from_bits _ _ (λ i. grind (arith, bit_at_or, bit_at_and))
 
 half-or : (a b s comb : ℕ) → half (bit_or a b) s comb ≡ bit_or (half a s comb) (half b s comb)
-half-or a b s comb = ap (λ n. bit_and n comb) (twice-or a b s) ∙ and-or (twice a s) (twice b s) comb
+half-or a b s comb = rw (twice-or a b s) (and-or (twice a s) (twice b s) comb)
 
 wide-or : (a b : ℕ) → wide (bit_or a b) ≡ bit_or (wide a) (wide b)
 wide-or a b =
@@ -101,19 +91,13 @@ abbrev IsWide : ℕ → Type 0
 IsWide mask = (i : ℕ) → bit_at (wide mask) i ≡ bit_at mask (i / 4)
 
 wide_both : (a b : ℕ) → IsWide a → IsWide b → IsWide (bit_or a b)
-wide_both a b p q i = ap (λ n. bit_at n i) (wide-or a b) ∙ bit_at_or (wide a) (wide b) i
-    ∙ rw (p i, q i) (sym (bit_at_or a b (i / 4)))
-
--- masks of one bit, tried one by one
-same_number : (a b : ℕ) → nat_eq a b ≡ true → a ≡ b
-same_number a b e = grind (arith, nat_tests)
+wide_both a b p q i = grind (arith, nat_tests, wide-or, bit_at_or)
 
 smaller : (a b : ℕ) → nat_lt a b ≡ true → a < b
 smaller a b e = grind (arith, nat_tests)
 
 both : (a b : Bool) → (a && b) ≡ true → (a ≡ true) × (b ≡ true)
-both true b e = (refl, e)
-both false b e = absurd (cc)
+both a b e = grind (arith, nat_tests)
 
 abbrev agree : ℕ → ℕ → ℕ → Bool
 agree mask spread zero = true
@@ -121,12 +105,7 @@ agree mask spread (suc i) = nat_eq (bit_at spread i) (bit_at mask (i / 4)) && ag
 
 agree_at : (mask spread n : ℕ) → agree mask spread n ≡ true → (i : ℕ) → i < n → bit_at spread i ≡ bit_at mask (i / 4)
 agree_at mask spread zero t i h = absurd (omega arith)
-agree_at mask spread (suc n) t i h =
-    let tests = both (nat_eq (bit_at spread n) (bit_at mask (n / 4))) (agree mask spread n) t in
-    elim (cases_lt i n) [
-      | inl less ↦ agree_at mask spread n tests.1 i less
-      | inr last ↦ (let at : i ≡ n = omega arith in rw at (same_number _ _ tests.0))
-    ]
+agree_at mask spread (suc n) t i h = grind (arith, nat_tests, agree_at mask spread n)
 
 abbrev is_wide : ℕ → ℕ → Bool
 is_wide mask spread = nat_lt mask 65536 && (nat_lt spread 18446744073709551616 && agree mask spread 64)

@@ -1,8 +1,7 @@
 -- Lemmas: which text the search for carriage returns among the held segments finds.
-use Rattle.std.proofs.Common.{◌≡◌, ◌≢◌, ℕ, ◌+◌, ◌-◌, ◌/◌, ◌^◌, ◌<◌, ◌≤◌, List, length, slice_index, get_or, take, None}
-use Rattle.std.proofs.Common.{bit_and, refl, sym, subst, ◌∙◌, ◌⊎◌, inl, inr, arith, w64}
-use Rattle.std.specs.Prelude.{◌==◌}
-use Rattle.std.specs.Int.{bit_at, from_bool, trailing_ones, trailing_zeros}
+use Rattle.std.proofs.Common.{◌≡◌, ◌≢◌, ℕ, ◌+◌, ◌-◌, ◌/◌, ◌^◌, ◌<◌, ◌≤◌, List, length, slice_index, take, None}
+use Rattle.std.proofs.Common.{bit_and, sym, ◌∙◌, ◌⊎◌, inl, inr, arith, w64}
+use Rattle.std.specs.Int.{bit_at, trailing_ones, trailing_zeros}
 use Rattle.std.specs.Int.Count.{trailing_of_zero}
 use Rattle.std.specs.FinMap.{get}
 use Rattle.std.proofs.lemmas.Bool.{cases_lt, cases_order}
@@ -23,27 +22,20 @@ abbrev Passed : Cells → ℕ → Type 0
 Passed m n = (k : ℕ) → k < n → (b : ℕ) × HasByte m k b × (b ≢ 13)
 
 not_both : (m : Cells) (i b : ℕ) → HasByte m i b → get m (i / 4) ≡ None → ⊥
-not_both m i b h n =
-    let held = h.held in
-    cc
+not_both m i b h n = grind (arith, nat_tests)
 
 missing : (m : Cells) (n : ℕ) → Passed m n → n < 64 → get m (n / 4) ≡ None → (x : List ℕ) → IsWholeText m x → ⊥
-missing m n p h none x w =
-    elim (cases_order (length x) n) [
-      | inl e ↦ elim w.ends [
-        | inl f ↦ omega arith
-        | inr f ↦ not_both m n 13 (subst (λ (k : ℕ). HasByte m k 13) e f.1)
-            none
-      ]
-      | inr o ↦ elim o [
-        | inl less ↦ elim w.ends [
-          | inl f ↦ omega arith
-          | inr f ↦ (p (length x) less).2
-              (one_byte m (length x) _ _ (p (length x) less).1 f.1)
-        ]
-        | inr more ↦ not_both m n _ (w.spelled.bytes n more) none
-      ]
-    ]
+missing m n p h none x w = elim (cases_order (length x) n) [
+  | inl e ↦ elim w.ends [
+    | inl f ↦ omega arith
+    | inr f ↦ not_both m n 13 (rw e at f.1) none
+  ]
+  | inr (inl less) ↦ elim w.ends [
+    | inl f ↦ omega arith
+    | inr f ↦ (p (length x) less).2 (one_byte m (length x) _ _ (p (length x) less).1 f.1)
+  ]
+  | inr (inr more) ↦ not_both m n _ (w.spelled.bytes n more) none
+]
 
 -- which bytes are held, and which are carriage returns
 pub record AreLanes (mask : ℕ) (bytes : List ℕ) (held returns : ℕ) : Type 0 where
@@ -54,22 +46,11 @@ pub record AreLanes (mask : ℕ) (bytes : List ℕ) (held returns : ℕ) : Type 
 
 other_byte : (mask : ℕ) (bytes : List ℕ) (held returns i : ℕ) → AreLanes mask bytes held returns
     → bit_at (bit_and returns held) i ≡ 0 → bit_at held i ≡ 1 → slice_index bytes i ≢ 13
-other_byte mask bytes held returns i lanes off on is =
-    let joined = bit_at_and returns held i in
-    let return = lanes.marks i in
-    let one : from_bool (slice_index bytes i == 13) ≡ 1 = rw is refl in
-    omega arith
+other_byte mask bytes held returns i lanes off on is = grind (arith, nat_tests, bit_at_and)
 
 return_byte : (mask : ℕ) (bytes : List ℕ) (held returns i : ℕ) → AreLanes mask bytes held returns
     → bit_at (bit_and returns held) i ≡ 1 → (bit_at held i ≡ 1) × (slice_index bytes i ≡ 13)
-return_byte mask bytes held returns i lanes on =
-    let joined = bit_at_and returns held i in
-    let return = lanes.marks i in
-    let low = bit_at-lt held i in
-    (omega arith, is_byte (slice_index bytes i) (omega arith))
-  where
-    is_byte : (b : ℕ) → 1 ≤ from_bool (b == 13) → b ≡ 13
-    is_byte b p = grind (arith, nat_tests)
+return_byte mask bytes held returns i lanes on = grind (arith, nat_tests, bit_at_and, bit_at-lt)
 
 -- the first set bit is at place p, or no bit is set and p is 64
 record IsFirst (found p : ℕ) : Type 0 where
@@ -101,37 +82,33 @@ gap held fits =
 upto : (mask : ℕ) (bytes : List ℕ) (held returns p t : ℕ) → AreLanes mask bytes held returns
     → IsFirst (bit_and returns held) p → IsGap held t → p ≤ t → IsWholeText (held_cells mask bytes) (take p bytes)
 upto mask bytes held returns p t lanes a g h =
-    let within : p ≤ 64 = elim a.at [ inl e ↦ omega arith | inr e ↦ omega (arith, e.0) ] in
-    let long = lanes.long in
-    let cut : length (take p bytes) ≡ p = length-take-le p bytes (omega arith) in
+    let within : p ≤ 64 = grind arith in
+    let cut : length (take p bytes) ≡ p = length-take-le p bytes (omega (arith, lanes.long)) in
+    let plain = λ (i : ℕ) (l : i < length (take p bytes)). other_byte mask bytes held returns i lanes
+    (a.below i (omega arith)) (g.below i (omega arith)) in
     record {
-      plain = λ i l. let e : get_or (take p bytes) i 0 ≡ get_or bytes i 0 = get_or-take p bytes i 0 (omega arith)
-          in rw e (other_byte mask bytes held returns i lanes (a.below i (omega arith)) (g.below i (omega arith)));
-      spelled = spelled mask bytes p within long (λ i l. sym (lanes.bits i) ∙ g.below i (omega arith));
+      plain = λ i l. rw (get_or-take p bytes i 0 (omega arith)) (plain i l);
+      spelled = spelled mask bytes p within lanes.long (λ i l. sym (lanes.bits i) ∙ g.below i (omega arith));
       ends = elim a.at [
         | inl e ↦ inl (cut ∙ e)
-        | inr e ↦ (let r = return_byte mask bytes held returns p lanes e.1
-            in inr (rw cut (
-              e.0,
-              subst (λ (b : ℕ). HasByte (held_cells mask bytes) p b) r.1
-                  (byte_in mask bytes p e.0 (sym (lanes.bits p) ∙ r.0)),
-            )))
+        | inr e ↦ (
+            let r = return_byte mask bytes held returns p lanes e.1 in
+            let byte = byte_in mask bytes p e.0 (sym (lanes.bits p) ∙ r.0) in
+            inr (rw cut (e.0, rw r.1 at byte)))
       ];
     }
 
 beyond : (mask : ℕ) (bytes : List ℕ) (held returns p t : ℕ) → AreLanes mask bytes held returns
     → IsFirst (bit_and returns held) p → IsGap held t → t < p → (x : List ℕ) → IsWholeText (held_cells mask bytes) x → ⊥
 beyond mask bytes held returns p t lanes a g h =
-    let within : p ≤ 64 = elim a.at [ inl e ↦ omega arith | inr e ↦ omega (arith, e.0) ] in
-    let off : bit_at held t ≡ 0 = elim g.at [ inl e ↦ absurd (omega arith) | inr e ↦ e.1 ] in
-    missing (held_cells mask bytes) t
-    (λ k l. (
+    let within : p ≤ 64 = grind arith in
+    let off : bit_at held t ≡ 0 = grind arith in
+    let unset = get-unset mask bytes (t / 4) (omega arith) (sym (lanes.bits t) ∙ off) in
+    missing (held_cells mask bytes) t (λ k l. (
       slice_index bytes k,
       byte_in mask bytes k (omega arith) (sym (lanes.bits k) ∙ g.below k l),
-      other_byte mask
-          bytes held returns k lanes (a.below k (omega arith)) (g.below k l),
-    ))
-    (omega arith) (get-unset mask bytes (t / 4) (omega arith) (sym (lanes.bits t) ∙ off))
+      other_byte mask bytes held returns k lanes (a.below k (omega arith)) (g.below k l),
+    )) (omega arith) unset
 
 -- the comparison in the code
 pub found_whole : (mask : ℕ) (bytes : List ℕ) (held returns : ℕ) → AreLanes mask bytes held returns
@@ -146,7 +123,4 @@ found_whole mask bytes held returns lanes h =
 pub found_none : (mask : ℕ) (bytes : List ℕ) (held returns : ℕ) → AreLanes mask bytes held returns
     → trailing_ones w64 held < trailing_zeros w64 (bit_and returns held)
     → (x : List ℕ) → IsWholeText (held_cells mask bytes) x → ⊥
-found_none mask bytes held returns lanes h =
-    let wide = lanes.wide in
-    let least = and_le_r returns held in
-    beyond mask bytes held returns _ _ lanes (first (bit_and returns held) (omega arith)) (gap held wide) h
+found_none mask bytes held returns lanes h = grind (arith, nat_tests, and_le_r, beyond, first, gap)

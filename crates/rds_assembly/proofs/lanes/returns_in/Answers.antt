@@ -1,5 +1,4 @@
-use Rattle.std.proofs.Common.{eqb, ap, ◌∙◌, arith, w8}
-use Rattle.std.specs.Int.{bit_at}
+use Rattle.std.proofs.Common.{eqb, arith, w8}
 use Rattle.std.proofs.lemmas.Simd.{bitmask_splat}
 use Rattle.rds_assembly.proofs.LanesLemmas.{bit_at-mask}
 use Rattle.rds_assembly.proofs.lanes.returns_in.Goals as goal
@@ -7,4 +6,4 @@ use Rattle.rds_assembly.proofs.lanes.returns_in.Goals as goal
 pub returns : goal.returns
 returns c i =
     let bytes = c.args.bytes.now in
-    ap (λ n. bit_at n i) (bitmask_splat w8 eqb bytes 64 13 c.told-bytes (omega arith)) ∙ bit_at-mask bytes i
+    rw (bitmask_splat w8 eqb bytes 64 13 c.told-bytes (omega arith)) (bit_at-mask bytes i)

@@ -10,11 +10,10 @@ use Rattle.rds_assembly.proofs.type_name.TypeNameService.length.Goals as goal
 
 -- the two lowest bits
 both_set : (mask : ℕ) → mask % 4 ≡ 3 → AreSetBelow mask 8
-both_set mask e i h =
-    elim (cases_lt i 4) [
-      | inl l ↦ (let at : i / 4 ≡ 0 = omega arith in let set : bit_at mask 0 ≡ 1 = omega arith in rw at set)
-      | inr l ↦ (let at : i / 4 ≡ 1 = omega arith in let set : bit_at mask 1 ≡ 1 = omega arith in rw at set)
-    ]
+both_set mask e i h = elim (cases_lt i 4) [
+  | inl l ↦ (let at : i / 4 ≡ 0 = omega arith in rw at (omega arith))
+  | inr l ↦ (let at : i / 4 ≡ 1 = omega arith in rw at (omega arith))
+]
 
 both_there : (mask : ℕ) (bytes x : List ℕ) → IsWholeName (held_cells mask bytes) x → mask % 4 ≡ 3
 both_there mask bytes x w =
