@@ -1,11 +1,11 @@
 -- Lemmas about one more set: the state of the encoder follows from the longer list.
-use Rattle.std.proofs.Common.{◌≡◌, ℕ, List, ◌∷◌, true, false, Option, Some, None, Ok, refl, ap, arith, is_ok}
+use Rattle.std.proofs.lemmas.Bool.Decides.{nat_tests}
+use Rattle.std.proofs.Common.{◌≡◌, ℕ, List, ◌∷◌, Option, Some, None, Ok, arith}
 use Rattle.std.proofs.Math.Nat.{zero-mod}
 use Rattle.rds_fields.specs.declared.head.Head.{Head}
 use Rattle.rds_fields.specs.Tag.{PairFields}
-use Rattle.rds_encoder.specs.Entries.{Entry, SetText, SetName, Set, name_moves, slot_of, text_moves}
+use Rattle.rds_encoder.specs.Entries.{Entry, SetText, SetName, Set, name_moves, text_moves}
 use Rattle.rds_encoder.specs.Reply.{reply_to}
-use Rattle.rds_encoder.specs.Sent.{is_text_turn}
 use Rattle.rds_encoder.specs.EncoderAt.{HoldsBack, EncoderAt}
 use Rattle.rds_encoder.specs.State.{EncoderState, TextState, TrackState}
 use Rattle.rds_encoder.proofs.Turns.{none_yet}
@@ -25,18 +25,7 @@ pub text_accepted : (station : Head) (m : ℕ) (e : EncoderState) (track : Track
       name = e.name;
       pair = pair;
     } (SetText x ∷ entries)
-text_accepted station m e track pair entries x st ok back on none =
-    let done : is_ok (reply_to m (text_moves entries)) ≡ true = ap is_ok ok in
-    let first = none_yet (is_text_turn m) (slot_of (text_moves entries)) (text_moves entries) (omega arith) in
-    record {
-      head = st.head;
-      distance = st.distance;
-      silence = st.silence;
-      round = st.round;
-      text = record { hold = back; on_air = rw (on, done, first, zero-mod) refl };
-      name = st.name;
-      pair = rw (done, none) refl;
-    }
+text_accepted station m e track pair entries x st ok back on none = grind (arith, nat_tests, none_yet, zero-mod)
 
 -- a name that is accepted, or refused
 pub name_accepted : (station : Head) (m : ℕ) (e : EncoderState) (track : TrackState (List ℕ)) (entries : List Entry)
@@ -52,31 +41,4 @@ pub name_accepted : (station : Head) (m : ℕ) (e : EncoderState) (track : Track
       name = track;
       pair = e.pair;
     } (SetName x ∷ entries)
-name_accepted station m e track entries x st ok back on =
-    let done : is_ok (reply_to m (name_moves entries)) ≡ true = ap is_ok ok in
-    record {
-      head = st.head;
-      distance = st.distance;
-      silence = st.silence;
-      round = st.round;
-      text = st.text;
-      name = record { hold = back; on_air = rw (on, done) refl };
-      pair = st.pair;
-    }
-
--- a name that is refused changes nothing
-pub name_refused : (station : Head) (m : ℕ) (e : EncoderState) (entries : List Entry) (x : List ℕ)
-    → EncoderAt station m e entries → is_ok (reply_to m (name_moves entries)) ≡ false
-    → EncoderAt station m e (SetName x ∷ entries)
-name_refused station m e entries x st absent = record {
-  head = st.head;
-  distance = st.distance;
-  silence = st.silence;
-  round = st.round;
-  text = st.text;
-  name = record {
-    hold = record { left = rw absent st.name.hold.left; flag = rw absent st.name.hold.flag };
-    on_air = rw absent st.name.on_air;
-  };
-  pair = st.pair;
-}
+name_accepted station m e track entries x st ok back on = grind (arith, nat_tests)
