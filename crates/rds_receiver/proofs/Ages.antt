@@ -1,13 +1,12 @@
 -- Lemmas: the ages that the plain numbers of a receiver stand for.
-use Rattle.std.proofs.Common.{◌≡◌, ◌≢◌, ◌⊎◌, ◌+◌, ◌-◌, ◌<◌, ◌≤◌, ◌==◌, ℕ, List, [], ◌∷◌, Option, Some, None}
-use Rattle.std.proofs.Common.{length, refl, sym, ap, ◌∙◌, subst, inl, inr, arith}
-use Rattle.std.specs.FinMap.{empty, get, get-empty, get-insert, insert}
+use Rattle.std.proofs.Common.{◌≡◌, ◌≢◌, ◌⊎◌, ◌+◌, ◌-◌, ◌<◌, ◌≤◌, ℕ, List, [], ◌∷◌, Option, Some, None}
+use Rattle.std.proofs.Common.{length, refl, sym, ap, ◌∙◌, inl, inr, arith}
+use Rattle.std.specs.FinMap.{empty, get-empty, get-insert, insert}
 use Rattle.std.specs.Ordering.{nat_cmp}
 use Rattle.std.specs.Cmp.{unsigned_tied}
 use mathlib.Core.Bool.{not}
-use Rattle.std.proofs.Common.{cond, nat_eq, true}
 use Rattle.std.proofs.lemmas.Cmp.{nat_cmp_total}
-use Rattle.std.proofs.lemmas.Bool.{cases_eq, cases_lt, cond-false, cond-true, eq-eqb, ne_eqb}
+use Rattle.std.proofs.lemmas.Bool.{cases_eq, cases_lt, cond-false, eq-eqb}
 use Rattle.std.proofs.lemmas.Bool.Decides.{nat_tests}
 use Rattle.rds_fields.specs.declared.message.Message.{Message}
 use Rattle.rds_fields.specs.Stored.{fields_stored, is_set, pair_stored}
@@ -34,107 +33,87 @@ use Rattle.rds_receiver.specs.declared.display.StoredSegments.{StoredSegments}
 use Rattle.rds_fields.specs.declared.stored.StoredPair.{StoredPair}
 
 pub age_held : (m rest : ℕ) (s : StoredSegments) → s.mask ≢ 0 → age_stored m rest s ≡ m - rest - s.later
-age_held m rest s some = cond-false (s.mask == 0) m (m - rest - s.later) (ne_eqb s.mask 0 some)
+age_held m rest s some = grind (arith, nat_tests)
 
 pub age_none : (m rest : ℕ) (s : StoredSegments) → s.mask ≡ 0 → age_stored m rest s ≡ m
-age_none m rest s none = cond-true (s.mask == 0) m (m - rest - s.later) (eq-eqb s.mask 0 none)
+age_none m rest s none = grind (arith, nat_tests)
 
 -- held segments are younger than the dwell, and only they
 pub young : (m rest : ℕ) (s : StoredSegments) → 0 < rest → rest ≤ m → s.mask ≢ 0 → age_stored m rest s < m
-young m rest s rests soon some = (let age = age_held m rest s some in omega (arith, age, rests, soon))
+young m rest s rests soon some = omega (arith, age_held m rest s some)
 
 -- segments younger than the dwell are held
 pub some_held : (m rest : ℕ) (s : StoredSegments) → age_stored m rest s < m → s.mask ≢ 0
-some_held m rest s l none = (let age = age_none m rest s none in omega (arith, age, l))
+some_held m rest s l none = omega (arith, age_none m rest s none)
 
 -- segments as old as the dwell are not held
 pub none_held : (m rest : ℕ) (s : StoredSegments) → 0 < rest → rest ≤ m → (age_stored m rest s < m → ⊥) → s.mask ≡ 0
-none_held m rest s rests soon old = by (cases_eq s.mask 0)
-  where
-    by : (s.mask ≡ 0) ⊎ (s.mask ≢ 0) → s.mask ≡ 0
-    by (inl none) = none
-    by (inr some) = absurd (old (young m rest s rests soon some))
+none_held m rest s rests soon old = grind (arith, young m rest s rests soon)
 
 -- after a segment was taken, some are held
 pub taken_held : (mask : ℕ) (bytes : List ℕ) (cells : Cells) (a : ℕ) (b : List ℕ)
     → held_cells mask bytes ≡ insert cells a b → mask ≢ 0
 taken_held mask bytes cells a b now none =
-    let same : nat_eq a a ≡ true = grind (arith, nat_tests) in
-    let here : get (insert cells a b) a ≡ Some b = get-insert nat_cmp_total cells a b a
-    ∙ ap (λ is. cond is (Some b) (get cells a)) (unsigned_tied a a ∙ same) in
-    let nothing : insert cells a b ≡ empty = sym now ∙ ap (λ n. held_cells n bytes) none ∙ nothing_held bytes in
-    let there : get (insert cells a b) a ≡ None = ap (λ (c : Cells). get c a) nothing ∙ get-empty {X = List ℕ} nat_cmp a
-    in
-    absurd (cc)
+    let here = get-insert nat_cmp_total cells a b a in
+    let tied = unsigned_tied a a in
+    let nothing = nothing_held bytes in
+    let there = get-empty {X = List ℕ} nat_cmp a in
+    grind (arith, nat_tests)
 
 -- a segment that is taken has age 0
 pub age_taken : (m rest : ℕ) (s : StoredSegments) (cells : Cells) (a : ℕ) (b : List ℕ)
     → held_cells s.mask s.bytes ≡ insert cells a b → s.later ≡ m - rest → age_stored m rest s ≡ 0
-age_taken m rest s cells a b now later = (let age = age_held m rest s (taken_held s.mask s.bytes cells a b now)
-    in omega (arith, age, later))
+age_taken m rest s cells a b now later = omega (arith, age_held m rest s (taken_held s.mask s.bytes cells a b now))
 
 -- a look: segments that it is due to are dropped
 pub looked : (m rest : ℕ) (s one after : StoredSegments) → 0 < m → AreWithin m 1 s → (0 < s.later → one ≡ s)
     → (s.later ≡ 0 → one ≡ record s { mask = 0 })
     → (one.mask ≢ 0 → rest ≤ one.later) → after ≡ record one { later = one.later - rest }
     → AreOlder m (segments_stored m 1 s) (segments_stored m rest after)
-looked m rest s one after lasts within later due soon is = by (cases_eq s.mask 0) (cases_eq s.later 0)
+looked m rest s one after lasts within later due soon is = rw is (by (cases_eq s.mask 0) (cases_eq s.later 0))
   where
-    same_age : AreOlder m (segments_stored m 1 s) (segments_stored m rest (record one { later = one.later - rest }))
-        → AreOlder m (segments_stored m 1 s) (segments_stored m rest after)
-    same_age = subst (λ (x : StoredSegments). AreOlder m (segments_stored m 1 s) (segments_stored m rest x)) (sym is)
-
-    of_one : (x : StoredSegments) → one ≡ x
-        → AreOlder m (segments_stored m 1 s) (segments_stored m rest (record x { later = x.later - rest }))
-        → AreOlder m (segments_stored m 1 s) (segments_stored m rest after)
-    of_one x e h = same_age (subst (λ (y : StoredSegments). AreOlder m (segments_stored m 1 s)
-        (segments_stored m rest (record y { later = y.later - rest }))) (sym e) h)
-
     by : (s.mask ≡ 0) ⊎ (s.mask ≢ 0) → (s.later ≡ 0) ⊎ (s.later ≢ 0)
-        → AreOlder m (segments_stored m 1 s) (segments_stored m rest after)
+        → AreOlder m (segments_stored m 1 s) (segments_stored m rest (record one { later = one.later - rest }))
     by (inl none) (inl now) =
         let old = age_none m 1 s none in
-        of_one (record s { mask = 0 }) (due now) (record {
+        rw (due now) record {
           gone = λ _ i. record { cells = held_cells (sym none i) s.bytes; flag = is_set s.flag; age = sym old i };
-          older = λ l. absurd (omega (arith, l, old));
-          over = λ e. absurd (omega (arith, e, old));
-        })
+          older = λ l. absurd (omega arith);
+          over = λ e. absurd (omega arith);
+        }
     by (inl none) (inr then_) =
         let old = age_none m 1 s none in
         let new = age_none m rest (record s { later = s.later - rest }) none in
-        of_one s (later (omega (arith, then_))) (record {
+        rw (later (omega arith)) record {
           gone = λ _ i. record { cells = held_cells s.mask s.bytes; flag = is_set s.flag; age = (new ∙ sym old) i };
-          older = λ l. absurd (omega (arith, l, old));
-          over = λ e. absurd (omega (arith, e, old));
-        })
+          older = λ l. absurd (omega arith);
+          over = λ e. absurd (omega arith);
+        }
     by (inr some) (inl now) =
         let old = age_held m 1 s some in
-        of_one (record s { mask = 0 }) (due now) (record {
-          gone = λ l. absurd (omega (arith, l, old, lasts));
-          older = λ l. absurd (omega (arith, l, old, now));
+        rw (due now) record {
+          gone = λ l. absurd (omega arith);
+          older = λ l. absurd (omega arith);
           over = λ _ i. record { cells = nothing_held s.bytes i; flag = is_set s.flag; age = m };
-        })
+        }
     by (inr some) (inr then_) =
-        let e : one ≡ s = later (omega (arith, then_)) in
+        let e = later (omega arith) in
         let old = age_held m 1 s some in
         let new = age_held m rest (record s { later = s.later - rest }) some in
-        let rests : rest ≤ s.later = subst (λ (x : StoredSegments). x.mask ≢ 0 → rest ≤ x.later) e soon some in
+        let rests = (rw e at soon) some in
         let left = within some in
-        let more : age_stored m rest (record s { later = s.later - rest }) ≡ age_stored m 1 s
-        + 1 = omega (arith, old, new, rests, left, then_) in
-        of_one s e (record {
-          gone = λ l. absurd (omega (arith, l, old, lasts));
+        let more : age_stored m rest (record s { later = s.later - rest }) ≡ age_stored m 1 s + 1 = omega arith in
+        rw e record {
+          gone = λ l. absurd (omega arith);
           older = λ _ i. record { cells = held_cells s.mask s.bytes; flag = is_set s.flag; age = more i };
-          over = λ q. absurd (omega (arith, q, old, left, then_));
-        })
+          over = λ q. absurd (omega arith);
+        }
 
 run_older_at : (m first : ℕ) (pick : Message → Option Fragment) (heard : List (Option Message)) (h now : HeldSegments)
     → AreOlder m h now
     → HoldsRun m (newest_slot first heard) (run m (newest_slot first heard) (segments pick first heard)) h
     → HoldsRun m (first + length heard) (run m (first + length heard) (segments pick first heard)) now
-run_older_at m first pick [] h now older st =
-    subst (λ (x : HeldSegments). HoldsRun m (first + length {A = Option Message} []) [] x)
-    (sym (older.gone (omega (arith, st.age)))) record { cells = st.cells; flag = tt; age = st.age }
+run_older_at m first pick [] h now older st = grind (arith, older.gone)
 run_older_at m first pick (x ∷ before) h now older st = run_older m (first + length before)
     (first + length (x ∷ before)) (segments pick first (x ∷ before)) h now (omega arith) older st
 
@@ -142,12 +121,10 @@ run_older_at m first pick (x ∷ before) h now older st = run_older m (first + l
 goes_on : (m t n : ℕ) (segs : List Segment) (h : HeldSegments) → t ≤ n → HoldsRun m n (run m n segs) h → h.age < m
     → run m t segs ≡ run m n segs
 goes_on m t n [] h later st young = refl
-goes_on m t n (g ∷ older) h later st young = by (cases_lt n (g.slot + m))
-  where
-    by : (n < g.slot + m) ⊎ (g.slot + m ≤ n) → run m t (g ∷ older) ≡ run m n (g ∷ older)
-    by (inl l) = run_recent m t g older (omega (arith, l, later)) ∙ sym (run_recent m n g older l)
-    by (inr over) = (let none = subst (λ (r : List Segment). HoldsRun m n r h) (run_over m n g older over) st
-        in absurd (omega (arith, none.age, young)))
+goes_on m t n (g ∷ older) h later st young = elim (cases_lt n (g.slot + m)) [
+  | inl l ↦ run_recent m t g older (omega arith) ∙ sym (run_recent m n g older l)
+  | inr over ↦ absurd (let none = rw (run_over m n g older over) at st in omega (arith, none.age))
+]
 
 not_later : (first : ℕ) (heard : List (Option Message)) → newest_slot first heard ≤ first + length heard
 not_later first [] = omega arith
@@ -161,7 +138,7 @@ receiver_older m first r after heard older st = record {
   dwell = older.dwell ∙ st.dwell;
   lasts = st.lasts;
   text = text;
-  name = one_later name_fragment r.name after.name (at_dwell r.name after.name older.name) st.name;
+  name = run_older_at m first name_fragment heard r.name after.name (rw st.dwell at older.name) st.name;
   pair = by_age (cases_lt after.text.age m);
   known = older.known ∙ st.known;
 }
@@ -172,41 +149,28 @@ receiver_older m first r after heard older st = record {
     n : ℕ
     n = first + length heard
 
-    at_dwell : (h now : HeldSegments) → AreOlder r.dwell h now → AreOlder m h now
-    at_dwell h now = subst (λ (d : ℕ). AreOlder d h now) st.dwell
-
-    one_later : (pick : Message → Option Fragment) (h now : HeldSegments) → AreOlder m h now
-        → HoldsRun m t (run m t (segments pick first heard)) h → HoldsRun m n (run m n (segments pick first heard)) now
-    one_later pick h now is holds = run_older_at m first pick heard h now is holds
-
     text : HoldsRun m n (run m n (segments text_fragment first heard)) after.text
-    text = one_later text_fragment r.text after.text (at_dwell r.text after.text older.text) st.text
-
-    last_slot : r.text.age < m → m ≤ after.text.age → (r.text.age + 1 < m) ⊎ (m ≤ r.text.age + 1) → r.text.age + 1 ≡ m
-    last_slot l over (inl young) =
-        let now : after.text.age ≡ r.text.age + 1 = ap (λ (h : HeldSegments). h.age)
-        ((at_dwell r.text after.text older.text).older young) in
-        absurd (omega (arith, now, over, young))
-    last_slot l over (inr old) = omega (arith, l, old)
+    text = run_older_at m first text_fragment heard r.text after.text (rw st.dwell at older.text) st.text
 
     none : m ≤ after.text.age → (r.text.age < m) ⊎ (m ≤ r.text.age) → after.pair ≡ None
-    none over (inl l) = older.dropped (let last : r.text.age + 1 ≡ m = last_slot l over (cases_lt (r.text.age + 1) m)
-        in last ∙ sym st.dwell)
+    none over (inl l) =
+        let ages = rw st.dwell at older.text in
+        let now = λ (young : r.text.age + 1 < m). ap (λ (h : HeldSegments). h.age) (ages.older young) in
+        let dwell = st.dwell in
+        older.dropped (grind (arith, now))
     none over (inr old) =
-        let before : r.pair ≡ None = st.pair ∙ ap (λ (s : List Segment). pair_from first (begins_in s) heard)
-        (is_not_held m t (segments text_fragment first heard) r.text st.text (λ l. omega (arith, l, old))) in
-        elim older.pair [ inl same ↦ same ∙ before | inr gone ↦ gone ]
+        let before = is_not_held m t (segments text_fragment first heard) r.text st.text (λ l. omega arith) in
+        let was = st.pair in
+        elim older.pair [ inl same ↦ same ∙ was ∙ rw before | inr gone ↦ gone ]
 
     by_age : (after.text.age < m) ⊎ (m ≤ after.text.age)
         → after.pair ≡ pair_from first (begins_in (run m n (segments text_fragment first heard))) heard
     by_age (inl l) =
-        older.held (subst (λ (d : ℕ). after.text.age < d) (sym st.dwell) l) ∙ st.pair
-        ∙ ap (λ (s : List Segment). pair_from first (begins_in s) heard)
-        (goes_on m t n (segments text_fragment first heard) after.text (not_later first heard) text l)
+        let same = goes_on m t n (segments text_fragment first heard) after.text (not_later first heard) text l in
+        older.held (rw st.dwell l) ∙ st.pair ∙ rw same
     by_age (inr over) =
-        none over (cases_lt r.text.age m)
-        ∙ ap (λ (s : List Segment). pair_from first (begins_in s) heard)
-        (sym (is_not_held m n (segments text_fragment first heard) after.text text (λ l. omega (arith, l, over))))
+        rw (is_not_held m n (segments text_fragment first heard) after.text text (λ l. omega arith))
+        (none over (cases_lt r.text.age m))
 
 -- what a look does to the segments of one service
 pub record Looks (m rest : ℕ) (s one : StoredSegments) (later : ℕ) : Type 0 where

@@ -1,5 +1,5 @@
 -- Lemmas: a receiver shows the same if its cells make the same values whole and it holds the same pair.
-use Rattle.std.proofs.Common.{◌≡◌, ◌⊎◌, ℕ, List, None, Option, Some, sym, ap, ◌∙◌, subst, refl, inl, inr}
+use Rattle.std.proofs.Common.{◌≡◌, ◌⊎◌, ℕ, List, None, Option, Some, ◌∙◌, refl, inl, inr}
 use Rattle.rds_block.specs.declared.group.Group.{Group}
 use Rattle.rds_fields.specs.declared.message.Message.{Message}
 use Rattle.rds_fields.specs.declared.pair.Which.TheVariants.{One, Two}
@@ -55,12 +55,7 @@ nothing_beside : (text : Option (List ℕ)) (cells : Cells) (p q : Option PairFi
     → (q ≡ p) ⊎ IsShown IsWholeText cells None
     → (item_of text p ≡ item_of text q) × (tag_of One text p ≡ tag_of One text q)
     × (tag_of Two text p ≡ tag_of Two text q)
-nothing_beside text cells p q shown (inl same) = (
-  ap (item_of text) (sym same),
-  ap (tag_of One text) (sym same),
-  ap
-      (tag_of Two text) (sym same),
-)
+nothing_beside text cells p q shown (inl same) = rw same (refl, refl, refl)
 nothing_beside None cells p q shown (inr none) = (refl, refl, refl)
 nothing_beside (Some x) cells p q shown (inr none) = absurd (none x shown)
 
@@ -69,25 +64,24 @@ pub view_stays : (r after : DisplayState) (m first : ℕ) (heard more : List (Op
     → HoldsAt m (newest_slot first more) first after more → ShowsAlike r after → ShowsView m first heard view
     → ShowsView m first more view
 view_stays r after m first heard more view s u alike shown =
-    let text : IsShown IsWholeText r.text.cells view.text = subst (λ (c : Cells). IsShown IsWholeText c view.text)
-    (sym (text_cells r m first heard s)) shown.text in
-    let name : IsShown IsWholeName r.name.cells view.name = subst (λ (c : Cells). IsShown IsWholeName c view.name)
-    (sym (name_cells r m first heard s)) shown.name in
+    let text = rw (← text_cells r m first heard s) at shown.text in
+    let name = rw (← name_cells r m first heard s) at shown.name in
     let beside = nothing_beside view.text r.text.cells r.pair after.pair text alike.pair in
     let before = pair_is r m first heard s in
     let now = pair_is after m first more u in
     record {
       text = text_shown after view.text ((alike.text view.text).0 text) m first more u;
       name = name_shown after view.name ((alike.name view.name).0 name) m first more u;
-      item = shown.item ∙ ap (item_of view.text) (sym before) ∙ beside.0 ∙ ap (item_of view.text) now;
-      one = shown.one ∙ ap (tag_of One view.text) (sym before) ∙ beside.1 ∙ ap (tag_of One view.text) now;
-      two = shown.two ∙ ap (tag_of Two view.text) (sym before) ∙ beside.2 ∙ ap (tag_of Two view.text) now;
+      item = rw (← now) (rw (← before) at shown.item ∙ beside.0);
+      one = rw (← now) (rw (← before) at shown.one ∙ beside.1);
+      two = rw (← now) (rw (← before) at shown.two ∙ beside.2);
     }
 
 -- the view of a receiver stays if its display shows the same
 pub stays_shown : (t : Tuning) (r after : Receiver) (input more : List (Option Group)) (view : ShownView)
     → ReceiverAt t r input → ReceiverAt t after more
     → ShowsAlike (display_stored r.display) (display_stored after.display) → IsView t input view → IsView t more view
-stays_shown t r after input more view s u alike shown = view_stays (display_stored r.display) (display_stored after.display) t.dwell t.first
+stays_shown t r after input more view s u alike shown =
+    view_stays (display_stored r.display) (display_stored after.display) t.dwell t.first
     (counted t (heard_of t.programme input)) (counted t (heard_of t.programme more)) view (shows_counted t r input s)
     (shows_counted t after more u) alike shown

@@ -1,55 +1,25 @@
 -- Lemmas: the run is the longest last part that is chained.
-use Rattle.std.proofs.Common.{◌≡◌, ◌⊎◌, ◌+◌, ◌<◌, ◌≤◌, ◌&&◌, ◌++◌, ℕ, Bool, true, false, nat_lt, List, [], ◌∷◌, length}
+use Rattle.std.proofs.Common.{◌≡◌, ◌+◌, ◌<◌, ◌≤◌, ◌&&◌, ◌++◌, ℕ, Bool, true, false, nat_lt, List, [], ◌∷◌, length}
 use Rattle.std.proofs.Common.{refl, sym, ap, subst, inl, inr, arith}
 use Rattle.std.specs.Prelude.{if◌then◌else◌}
 use Rattle.std.specs.List.{All}
 use Rattle.std.proofs.lemmas.List.Elements.{All-cons, All-head, All-nil, All-tail}
 use Rattle.std.proofs.lemmas.Bool.{cases_lt}
+use Rattle.std.proofs.lemmas.Bool.Decides.{nat_tests}
 use Rattle.rds_receiver.specs.Receipts.{Segment}
 use Rattle.rds_receiver.specs.Run.{is_same, run, run_before}
 use Rattle.rds_receiver.specs.Chained.{IsChained}
-use Rattle.rds_receiver.proofs.Runs.{run_over, run_recent, same_is, test_false, test_true}
+use Rattle.rds_receiver.proofs.Runs.{run_over, run_recent, same_is}
 
 -- these segments, from the newest on, belong to the run of a segment with flag f that came in slot s
 abbrev GoOn : ℕ → Bool → ℕ → List Segment → Type 0
 GoOn m f s [] = Unit {0}
 GoOn m f s (g ∷ older) = (g.fragment.flag ≡ f) × (s < g.slot + m) × GoOn m f g.slot older
 
-is_same-true : (f g : Bool) → is_same f g ≡ true → g ≡ f
-is_same-true true true e = refl
-is_same-true false false e = refl
-is_same-true true false e = absurd (cc)
-is_same-true false true e = absurd (cc)
-
-and-true : (a b : Bool) → (a && b) ≡ true → (a ≡ true) × (b ≡ true)
-and-true true true e = (refl, refl)
-and-true true false e = absurd (cc)
-and-true false b e = absurd (cc)
-
-test_below : (a b : ℕ) → nat_lt a b ≡ true → a < b
-test_below a b e = by (cases_lt a b)
-  where
-    by : (a < b) ⊎ (b ≤ a) → a < b
-    by (inl h) = h
-    by (inr h) =
-        let no : nat_lt a b ≡ false = test_false a b h in
-        absurd (cc)
-
--- a segment for which both tests hold belongs to the run
-go_on_if : (m s : ℕ) (f : Bool) (g : Segment) (rest : List Segment) (b : Bool)
-    → (is_same f g.fragment.flag && nat_lt s (g.slot + m)) ≡ b → GoOn m f g.slot rest
-    → GoOn m f s (if b then g ∷ rest else [])
-go_on_if m s f g rest true e go =
-    let both = and-true (is_same f g.fragment.flag) (nat_lt s (g.slot + m)) e in
-    (is_same-true f g.fragment.flag both.0, test_below s (g.slot + m) both.1, go)
-go_on_if m s f g rest false e go = tt
-
 -- the part of a run before a segment belongs to it
 before_goes_on : (m s : ℕ) (f : Bool) (segs : List Segment) → GoOn m f s (run_before m f s segs)
 before_goes_on m s f [] = tt
-before_goes_on m s f (g ∷ older) =
-    go_on_if m s f g (run_before m f g.slot older) (is_same f g.fragment.flag && nat_lt s (g.slot + m)) refl
-    (before_goes_on m g.slot f older)
+before_goes_on m s f (g ∷ older) = grind (arith, nat_tests, before_goes_on m g.slot f older)
 
 flags_of : (m s : ℕ) (f : Bool) (segs : List Segment) → GoOn m f s segs → All (λ g. g.fragment.flag ≡ f) segs
 flags_of m s f [] go = All-nil (λ g. g.fragment.flag ≡ f)
@@ -59,19 +29,9 @@ near_of : (m s : ℕ) (f : Bool) (segs newer older : List Segment) (g h : Segmen
     → segs ≡ newer ++ g ∷ h ∷ older → g.slot < h.slot + m
 near_of m s f [] [] older g h go e = absurd (cc)
 near_of m s f [] (n ∷ newer) older g h go e = absurd (cc)
-near_of m s f (x ∷ []) [] older g h go e =
-    let tail : [] ≡ h ∷ older = (cc) in
-    absurd (cc)
-near_of m s f (x ∷ y ∷ rest) [] older g h go e =
-    let first : x ≡ g = (cc) in
-    let second : y ≡ h = (cc) in
-    let one : x.slot ≡ g.slot = ap (λ (z : Segment). z.slot) first in
-    let two : y.slot ≡ h.slot = ap (λ (z : Segment). z.slot) second in
-    let near : x.slot < y.slot + m = go.2.1 in
-    omega arith
-near_of m s f (x ∷ rest) (n ∷ newer) older g h go e =
-    let tail : rest ≡ newer ++ g ∷ h ∷ older = (cc) in
-    near_of m x.slot f rest newer older g h go.2 tail
+near_of m s f (x ∷ []) [] older g h go e = absurd (grind arith)
+near_of m s f (x ∷ y ∷ rest) [] older g h go e = grind arith
+near_of m s f (x ∷ rest) (n ∷ newer) older g h go e = near_of m x.slot f rest newer older g h go.2 (cc)
 
 none_chained : (m t : ℕ) → IsChained m t []
 none_chained m t = record {
@@ -97,18 +57,15 @@ goes_on_chained m t g older h go = record {
 -- the run is chained
 pub run_chained : (m t : ℕ) (segs : List Segment) → IsChained m t (run m t segs)
 run_chained m t [] = none_chained m t
-run_chained m t (g ∷ older) = by (cases_lt t (g.slot + m))
-  where
-    by : (t < g.slot + m) ⊎ (g.slot + m ≤ t) → IsChained m t (run m t (g ∷ older))
-    by (inl h) =
-        subst (λ (r : List Segment). IsChained m t r) (sym (run_recent m t g older h))
-        (goes_on_chained m t g (run_before m g.fragment.flag g.slot older) h
-        (before_goes_on m g.slot g.fragment.flag older))
-    by (inr h) = subst (λ (r : List Segment). IsChained m t r) (sym (run_over m t g older h)) (none_chained m t)
+run_chained m t (g ∷ older) = elim (cases_lt t (g.slot + m)) [
+  | inl h ↦ rw (run_recent m t g older h) (goes_on_chained m t g (run_before m g.fragment.flag g.slot older) h
+      (before_goes_on m g.slot g.fragment.flag older))
+  | inr h ↦ rw (run_over m t g older h) (none_chained m t)
+]
 
 part_if : (b : Bool) (g : Segment) (rest front : List Segment) → ((older : List Segment) × (rest ≡ front ++ older))
     → (older : List Segment) × (g ∷ rest ≡ (if b then g ∷ front else []) ++ older)
-part_if true g rest front (older, e) = (older, ap (λ (xs : List Segment). g ∷ xs) e)
+part_if true g rest front (older, e) = (older, rw e)
 part_if false g rest front (older, e) = (g ∷ rest, refl)
 
 before_last : (m s : ℕ) (f : Bool) (segs : List Segment)
@@ -140,9 +97,8 @@ before_longest : (m s : ℕ) (f : Bool) (front older : List Segment) → GoOn m 
 before_longest m s f [] older go = omega arith
 before_longest m s f (g ∷ front) older go =
     let rest = before_longest m g.slot f front older go.2 in
-    let same : is_same f g.fragment.flag ≡ true = rw go.0 (same_is f) in
-    let longer : length (g ∷ front) ≤ length (g ∷ run_before m f g.slot (front ++ older)) = omega arith in
-    rw (same, test_true s (g.slot + m) go.1) longer
+    let same = same_is f in
+    grind (arith, nat_tests)
 
 -- no chained last part is longer than the run
 pub run_longest : (m t : ℕ) (front older : List Segment) → IsChained m t front

@@ -1,8 +1,8 @@
 -- Lemmas: why nothing is shown follows from what is held.
-use Rattle.std.proofs.Common.{◌≡◌, ◌⊎◌, ◌+◌, ◌<◌, ◌≤◌, ◌∙◌, ℕ, List, [], ◌∷◌, ap, sym, subst, inl, inr, arith}
+use Rattle.std.proofs.Common.{◌≡◌, ◌+◌, ◌<◌, ℕ, List, [], ◌∷◌, inl, inr, arith}
 use Rattle.std.proofs.lemmas.Bool.{cases_lt}
 use Rattle.rds_receiver.specs.Receipts.{Segment}
-use Rattle.rds_receiver.specs.Run.{run, run_before}
+use Rattle.rds_receiver.specs.Run.{run}
 use Rattle.rds_receiver.specs.Holds.{HoldsRun}
 use Rattle.rds_receiver.specs.State.{HeldSegments}
 use Rattle.rds_receiver.specs.NotShown.{why_of}
@@ -15,15 +15,13 @@ pub why_held : (m t : ℕ) (segs : List Segment) (held : HeldSegments) (why : Wh
     → HoldsRun m t (run m t segs) held
     → (held.age < m → why ≡ Incomplete) → ((held.age < m → ⊥) → why ≡ Dropped) → why ≡ why_of (run m t segs)
 why_held m t [] held why some holds young old = old (λ l. omega (arith, l, holds.age))
-why_held m t (g ∷ older) held why some holds young old = by (cases_lt t (g.slot + m))
-  where
-    by : (t < g.slot + m) ⊎ (g.slot + m ≤ t) → why ≡ why_of (run m t (g ∷ older))
-    by (inl l) =
-        let recent = run_recent m t g older l in
-        let now : HoldsRun m t (g ∷ run_before m g.fragment.flag g.slot older) held = subst
-        (λ (r : List Segment). HoldsRun m t r held) recent holds in
-        young (omega (arith, l, now.age)) ∙ sym (ap why_of recent)
-    by (inr l) =
-        let over = run_over m t g older l in
-        let now : HoldsRun m t [] held = subst (λ (r : List Segment). HoldsRun m t r held) over holds in
-        old (λ s. omega (arith, s, now.age)) ∙ sym (ap why_of over)
+why_held m t (g ∷ older) held why some holds young old = elim (cases_lt t (g.slot + m)) [
+  | inl l ↦
+      let recent = run_recent m t g older l in
+      let now = rw recent at holds in
+      rw recent (young (omega (arith, now.age)))
+  | inr l ↦
+      let over = run_over m t g older l in
+      let now = rw over at holds in
+      rw over (old (λ s. omega (arith, s, now.age)))
+]

@@ -1,8 +1,7 @@
 -- Lemmas: how the pair held changes from slot to slot.
-use Rattle.std.proofs.Common.{◌≡◌, ◌+◌, ◌<◌, ◌≤◌, ◌&&◌, ℕ, Bool, true, false, nat_lt, List, [], ◌∷◌, Option, Some, None}
-use Rattle.std.proofs.Common.{length, refl, sym, ap, subst, ◌∙◌, arith}
+use Rattle.std.proofs.Common.{◌≡◌, ◌+◌, ◌<◌, ◌≤◌, ℕ, Bool, true, List, [], ◌∷◌, Option, Some, None}
+use Rattle.std.proofs.Common.{length, refl, sym, arith}
 use Rattle.std.specs.Option.{option_eq}
-use Rattle.std.specs.Prelude.{if◌then◌else◌}
 use Rattle.std.proofs.lemmas.Bool.Decides.{nat_tests}
 use Rattle.rds_fields.specs.contracts.pair.TagPairPartialEq.TheImpl.{eq-value}
 use Rattle.rds_fields.specs.declared.message.Message.{Message}
@@ -10,11 +9,10 @@ use Rattle.rds_fields.specs.declared.message.Message.TheVariants.{Text, Name, An
 use Rattle.rds_fields.specs.Tag.{PairFields}
 use Rattle.rds_receiver.specs.Receipts.{Segment, picked, segments, with_segment}
 use Rattle.rds_receiver.specs.declared.fragment.Fragment.{Fragment}
-use Rattle.rds_receiver.specs.Run.{begins_in, is_same, run, run_before}
+use Rattle.rds_receiver.specs.Run.{begins_in, run, run_before}
 use Rattle.rds_receiver.specs.Holds.{HoldsRun}
 use Rattle.rds_receiver.specs.State.{HeldSegments}
 use Rattle.rds_receiver.specs.Tags.{is_known, pair_from, pair_since, says_of_rtplus, unless_contrary}
-use Rattle.rds_receiver.proofs.Runs.{and_false, test_false, test_true}
 
 -- the segments all came before slot n
 abbrev pub AllBelow : ℕ → List Segment → Type 0
@@ -23,27 +21,20 @@ AllBelow n (g ∷ older) = (g.slot < n) × AllBelow n older
 
 below_later : (n k : ℕ) (segs : List Segment) → n ≤ k → AllBelow n segs → AllBelow k segs
 below_later n k [] h all = tt
-below_later n k (g ∷ older) h all = (let l = all.0 in omega arith, below_later n k older h all.1)
-
-below_if : (n : ℕ) (b : Bool) (segs : List Segment) → AllBelow n segs → AllBelow n (if b then segs else [])
-below_if n true segs all = all
-below_if n false segs all = tt
+below_later n k (g ∷ older) h all = (omega arith, below_later n k older h all.1)
 
 before_below : (m n s : ℕ) (f : Bool) (segs : List Segment) → AllBelow n segs → AllBelow n (run_before m f s segs)
 before_below m n s f [] all = tt
-before_below m n s f (g ∷ older) all = below_if n (is_same f g.fragment.flag && nat_lt s (g.slot + m))
-    (g ∷ run_before m f g.slot older) (all.0, before_below m n g.slot f older all.1)
+before_below m n s f (g ∷ older) all = grind (arith, before_below m n g.slot f older all.1)
 
 -- the run of segments below a slot is below it
 pub run_below : (m n t : ℕ) (segs : List Segment) → AllBelow n segs → AllBelow n (run m t segs)
 run_below m n t [] all = tt
-run_below m n t (g ∷ older) all = below_if n (nat_lt t (g.slot + m)) (g ∷ run_before m g.fragment.flag g.slot older)
-    (all.0, before_below m n g.slot g.fragment.flag older all.1)
+run_below m n t (g ∷ older) all = grind (arith, before_below m n g.slot g.fragment.flag older all.1)
 
 with_below : (slot n : ℕ) (o : Option Fragment) (segs : List Segment) → slot < n → AllBelow slot segs
     → AllBelow n (with_segment slot o segs)
-with_below slot n None segs h all = below_later slot n segs (omega arith) all
-with_below slot n (Some p) segs h all = (h, below_later slot n segs (omega arith) all)
+with_below slot n o segs h all = grind (arith, below_later slot n segs (omega arith) all)
 
 -- all segments were heard before now
 pub segments_below : (pick : Message → Option Fragment) (first : ℕ) (heard : List (Option Message))
@@ -53,24 +44,16 @@ segments_below pick first (x ∷ before) = with_below (first + length before) (f
     (picked pick x) (segments pick first before) (omega arith) (segments_below pick first before)
 
 unless_none : (says : Option Bool) → unless_contrary says None ≡ None
-unless_none None = refl
-unless_none (Some true) = refl
-unless_none (Some false) = refl
+unless_none says = grind arith
 
 -- no pair came later than the newest slot
 pub none_since : (first since : ℕ) (heard : List (Option Message)) → first + length heard ≤ since + 1
     → pair_since first since heard ≡ None
 none_since first since [] h = refl
-none_since first since (None ∷ before) h = none_since first since before (omega arith)
-none_since first since (Some (Tags pair) ∷ before) h =
-    rw (test_false since (first + length before) (omega arith), and_false (is_known before))
-    (none_since first since before (omega arith))
+none_since first since (Some (Tags pair) ∷ before) h = grind (arith, nat_tests, none_since first since before)
 none_since first since (Some (Announce code bits aid) ∷ before) h =
-    ap (unless_contrary (says_of_rtplus code aid)) (none_since first since before (omega arith))
-    ∙ unless_none (says_of_rtplus code aid)
-none_since first since (Some (Text f a b) ∷ before) h = none_since first since before (omega arith)
-none_since first since (Some (Name f a b) ∷ before) h = none_since first since before (omega arith)
-none_since first since (Some Other ∷ before) h = none_since first since before (omega arith)
+    rw (none_since first since before (omega arith), unless_none (says_of_rtplus code aid))
+none_since first since (x ∷ before) h = none_since first since before (omega arith)
 
 -- a text segment that extends the run keeps the pair
 pub pair_goes_on : (first n : ℕ) (heard : List (Option Message)) (f : Bool) (a : ℕ) (b : List ℕ) (g : Segment)
@@ -80,32 +63,28 @@ pair_goes_on first n heard f a b g [] at here = sym (none_since first g.slot hea
 pair_goes_on first n heard f a b g (o ∷ older) at here = from (begins_in (o ∷ older))
   where
     from : (begins : Option ℕ) → pair_from first begins heard ≡ pair_from first begins (Some (Text f a b) ∷ heard)
-    from None = refl
-    from (Some since) = refl
+    from begins = grind arith
 
 -- a slot without a text, tags or an announcement keeps the pair
 pub pair_of_none : (first : ℕ) (begins : Option ℕ) (heard : List (Option Message))
     → pair_from first begins heard ≡ pair_from first begins (None ∷ heard)
-pair_of_none first None heard = refl
-pair_of_none first (Some since) heard = refl
+pair_of_none first begins heard = grind arith
 
 -- another message changes no pair of tags
 pub pair_of_other : (first : ℕ) (begins : Option ℕ) (heard : List (Option Message))
     → pair_from first begins heard ≡ pair_from first begins (Some Other ∷ heard)
-pair_of_other first None heard = refl
-pair_of_other first (Some since) heard = refl
+pair_of_other first begins heard = grind arith
 
 -- a segment of a name changes no pair of tags
 pub pair_of_name : (first : ℕ) (begins : Option ℕ) (heard : List (Option Message)) (f : Bool) (a : ℕ) (b : List ℕ)
     → pair_from first begins heard ≡ pair_from first begins (Some (Name f a b) ∷ heard)
-pair_of_name first None heard f a b = refl
-pair_of_name first (Some since) heard f a b = refl
+pair_of_name first begins heard f a b = grind arith
 
 -- tags that come while RadioText Plus is known are held if there is a run
 tags_known : (first : ℕ) (g : Segment) (older : List Segment) (heard : List (Option Message)) (pair : PairFields)
     → AllBelow (first + length heard) (g ∷ older) → is_known heard ≡ true
     → Some pair ≡ pair_from first (begins_in (g ∷ older)) (Some (Tags pair) ∷ heard)
-tags_known first g [] heard pair all h = rw (h, test_true g.slot (first + length heard) all.0) refl
+tags_known first g [] heard pair all h = grind (arith, nat_tests)
 tags_known first g (o ∷ older) heard pair all h = tags_known first o older heard pair all.1 h
 
 tags_taken_by : (m n first : ℕ) (the_run : List Segment) (heard : List (Option Message)) (pair : PairFields)
@@ -127,12 +106,9 @@ tags_taken m n first pick heard pair held st young h =
 -- the test of a held pair decides whether it is this one
 pub is_held_pair : (held : Option PairFields) (pair : PairFields) → option_eq eq-value.it held (Some pair) ≡ true
     → held ≡ Some pair
-is_held_pair None pair e = absurd (grind (arith, e))
-is_held_pair (Some held) pair e = ap Some (grind (arith, e, nat_tests))
+is_held_pair held pair e = grind (arith, e, nat_tests)
 
 -- the held pair is tested as equal
 pub held_pair_is : (held : Option PairFields) (pair : PairFields) → held ≡ Some pair
     → option_eq eq-value.it held (Some pair) ≡ true
-held_pair_is None pair e = absurd (cc)
-held_pair_is (Some held) pair e = (let same : held ≡ pair = cc in subst (λ (p : PairFields). option_eq eq-value.it
-    (Some p) (Some pair) ≡ true) (sym same) (grind (arith, nat_tests)))
+held_pair_is held pair e = rw e (grind (arith, nat_tests))

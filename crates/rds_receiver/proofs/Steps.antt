@@ -1,6 +1,6 @@
 -- Lemmas: the state of a receiver follows from its input after each slot.
-use Rattle.std.proofs.Common.{◌≡◌, ◌≢◌, ◌⊎◌, ◌+◌, ◌<◌, ℕ, Bool, true, List, ◌∷◌, Option, Some, None, length, refl, sym}
-use Rattle.std.proofs.Common.{ap, ◌∙◌, subst, inl, inr, arith}
+use Rattle.std.proofs.Common.{◌≡◌, ◌≢◌, ◌⊎◌, ◌+◌, ◌<◌, ℕ, true, List, ◌∷◌, Option, Some, None, length, refl, sym}
+use Rattle.std.proofs.Common.{◌∙◌, inl, inr, arith}
 use Rattle.std.specs.FinMap.{empty, insert}
 use Rattle.rds_fields.specs.declared.message.Message.{Message}
 use Rattle.rds_fields.specs.declared.message.Message.TheVariants.{Tags}
@@ -8,7 +8,7 @@ use Rattle.rds_fields.specs.Tag.{PairFields}
 use Rattle.rds_receiver.specs.Receipts.{Segment, name_fragment, name_of, segments, text_fragment, text_of}
 use Rattle.rds_receiver.specs.declared.fragment.Fragment.{Fragment}
 use Rattle.rds_receiver.specs.Run.{begins_in, run, run_before}
-use Rattle.rds_receiver.specs.Holds.{HasFlag, HoldsAt, HoldsRun}
+use Rattle.rds_receiver.specs.Holds.{HoldsAt}
 use Rattle.rds_receiver.specs.State.{HeldSegments, DisplayState}
 use Rattle.rds_receiver.specs.Tags.{pair_from}
 use Rattle.rds_receiver.proofs.Runs.{before_other, before_same, equal_or_not, held_taken, run_recent}
@@ -45,10 +45,8 @@ text_heard m first r after heard p dwell known name takes stays gone st = record
   dwell = dwell ∙ st.dwell;
   lasts = st.lasts;
   text = held_taken m n segs p r.text after.text st.lasts takes.same takes.other takes.flag takes.age st.text;
-  name = subst (λ (h : HeldSegments). HoldsRun m (first + length heard)
-      (run m (first + length heard) (segments name_fragment first heard)) h) (sym name) st.name;
-  pair = by_flag (equal_or_not p.flag r.text.flag) ∙ ap (λ (x : List Segment). pair_from first (begins_in x)
-      (Some (text_of p) ∷ heard)) (sym (run_recent m n g segs (omega (arith, st.lasts))));
+  name = rw name st.name;
+  pair = rw (run_recent m n g segs (omega (arith, st.lasts))) (by_flag (equal_or_not p.flag r.text.flag));
   known = known ∙ st.known;
 }
   where
@@ -64,14 +62,11 @@ text_heard m first r after heard p dwell known name takes stays gone st = record
     by_flag : (p.flag ≡ r.text.flag) ⊎ (p.flag ≢ r.text.flag)
         → after.pair ≡ pair_from first (begins_in (g ∷ run_before m p.flag n segs)) (Some (text_of p) ∷ heard)
     by_flag (inl e) =
-        let goes_on = before_same m n p.flag segs
-        (subst (λ (x : Bool). HasFlag (run m n segs) x) (sym e) st.text.flag) in
-        stays e ∙ st.pair ∙ pair_goes_on first n heard p.flag p.address p.bytes g (run m n segs) refl refl
-        ∙ ap (λ (x : List Segment). pair_from first (begins_in (g ∷ x)) (Some (text_of p) ∷ heard)) (sym goes_on)
+        rw (before_same m n p.flag segs (rw (← e) at st.text.flag)) (stays e ∙ st.pair
+        ∙ pair_goes_on first n heard p.flag p.address p.bytes g (run m n segs) refl refl)
     by_flag (inr ne) =
-        let begins = before_other m n p.flag r.text.flag segs st.text.flag ne in
-        gone ne ∙ sym (none_since first n heard (omega arith))
-        ∙ ap (λ (x : List Segment). pair_from first (begins_in (g ∷ x)) (Some (text_of p) ∷ heard)) (sym begins)
+        rw (before_other m n p.flag r.text.flag segs st.text.flag ne) (gone ne
+        ∙ sym (none_since first n heard (omega arith)))
 
 -- a slot with a name segment
 pub name_heard : (m first : ℕ) (r after : DisplayState) (heard : List (Option Message)) (p : Fragment)
@@ -82,8 +77,7 @@ pub name_heard : (m first : ℕ) (r after : DisplayState) (heard : List (Option 
 name_heard m first r after heard p dwell known text pair takes st = record {
   dwell = dwell ∙ st.dwell;
   lasts = st.lasts;
-  text = subst (λ (h : HeldSegments). HoldsRun m (first + length heard)
-      (run m (first + length heard) (segments text_fragment first heard)) h) (sym text) st.text;
+  text = rw text st.text;
   name = held_taken m (first + length heard)
       (segments name_fragment first heard) p r.name after.name st.lasts takes.same takes.other takes.flag takes.age
       st.name;
@@ -113,23 +107,14 @@ pub text_heard_by : (m first : ℕ) (r between after : DisplayState) (heard : Li
     → after ≡ record between { text = after.text }
     → HoldsAt m (first + length heard) first r heard
     → HoldsAt m (first + length heard) first after (Some (text_of p) ∷ heard)
-text_heard_by m first r between after heard p same other takes is st = by (equal_or_not p.flag r.text.flag)
-  where
-    by : (p.flag ≡ r.text.flag) ⊎ (p.flag ≢ r.text.flag)
-        → HoldsAt m (first + length heard) first after (Some (text_of p) ∷ heard)
-    by (inl e) =
-        let now : after ≡ record r { text = after.text } = is
-        ∙ ap (λ (x : DisplayState). record x { text = after.text }) (same e) in
-        let took = subst (λ (x : DisplayState). Takes p x.text after.text)
-        (same e) takes in
-        text_heard m first r after heard p (ap (λ (x : DisplayState). x.dwell) now)
-        (ap (λ (x : DisplayState). x.is_known) now) (ap (λ (x : DisplayState). x.name) now)
-        took (λ _. ap (λ (x : DisplayState). x.pair) now) (λ ne. absurd (ne e)) st
-    by (inr ne) =
-        let now : after ≡ record r { text = after.text; pair = None } = is
-        ∙ ap (λ (x : DisplayState). record x { text = after.text }) (other ne) in
-        let took = subst (λ (x : DisplayState). Takes p x.text after.text)
-        (other ne) takes in
-        text_heard m first r after heard p (ap (λ (x : DisplayState). x.dwell) now)
-        (ap (λ (x : DisplayState). x.is_known) now) (ap (λ (x : DisplayState). x.name) now)
-        took (λ e. absurd (ne e)) (λ _. ap (λ (x : DisplayState). x.pair) now) st
+text_heard_by m first r between after heard p same other takes is st = elim (equal_or_not p.flag r.text.flag) [
+  | inl e ↦
+      let now : after ≡ record r { text = after.text } = rw (same e) at is in
+      rw now
+      (text_heard m first r record r { text = after.text } heard p refl refl refl (rw (same e) at takes) (λ _. refl)
+      (λ ne. absurd (ne e)) st)
+  | inr ne ↦
+      let now : after ≡ record r { text = after.text; pair = None } = rw (other ne) at is in
+      rw now (text_heard m first r record r { text = after.text; pair = None } heard p refl refl refl
+      (rw (other ne) at takes) (λ e. absurd (ne e)) (λ _. refl) st)
+]

@@ -9,7 +9,9 @@ use Rattle.rds_receiver.proofs.ConfirmingSteps.{lasts_aged, message_counted, mes
 use Rattle.rds_receiver.proofs.receiver.Receiver.hear_if_confirmed.Goals as goal
 
 pub returns-in_default-clause-holds : goal.returns-in_default-clause-holds
-returns-in_default-clause-holds c stored = rw (ap (λ d. heard_in d.pi c.args.group) (sym c.age_lasts.ensures.display) ∙ sym c.heard_blocks.ensures ∙ c.in_default.is) by
+returns-in_default-clause-holds c stored =
+    rw (ap (λ d. heard_in d.pi c.args.group) (sym c.age_lasts.ensures.display) ∙ sym c.heard_blocks.ensures
+    ∙ c.in_default.is) by
   where
     by : (window : Option ℕ) (m first : ℕ) (heard : List (Option Message))
         → HasAged window m first (receiver_stored c.args.self.now) heard
@@ -19,7 +21,9 @@ returns-in_default-clause-holds c stored = rw (ap (λ d. heard_in d.pi c.args.gr
         (ap display_stored c.age_lasts.ensures.display) (c.age_lasts.ensures.lasts stored w m first heard) aged)
 
 pub returns-then-not-confirm-clause-holds : goal.returns-then-not-confirm-clause-holds
-returns-then-not-confirm-clause-holds c stored = rw (ap (λ d. heard_in d.pi c.args.group) (sym c.age_lasts.ensures.display) ∙ sym c.heard_blocks.ensures ∙ c.in-Some.is) by
+returns-then-not-confirm-clause-holds c stored =
+    rw (ap (λ d. heard_in d.pi c.args.group) (sym c.age_lasts.ensures.display) ∙ sym c.heard_blocks.ensures
+    ∙ c.in-Some.is) by
   where
     by : (window : Option ℕ) (m first : ℕ) (heard : List (Option Message))
         → HasAged window m first (receiver_stored c.args.self.now) heard
@@ -40,7 +44,9 @@ returns-then-not-confirm-clause-same c calm =
     (sym (c.confirm.ensures.display ∙ c.age_lasts.ensures.display)) (alike_itself _)
 
 pub returns-clause-holds : goal.returns-clause-holds
-returns-clause-holds c stored = rw (ap (λ d. heard_in d.pi c.args.group) (sym c.age_lasts.ensures.display) ∙ sym c.heard_blocks.ensures ∙ c.in-Some.is) by
+returns-clause-holds c stored =
+    rw (ap (λ d. heard_in d.pi c.args.group) (sym c.age_lasts.ensures.display) ∙ sym c.heard_blocks.ensures
+    ∙ c.in-Some.is) by
   where
     by : (window : Option ℕ) (m first : ℕ) (heard : List (Option Message))
         → HasAged window m first (receiver_stored c.args.self.now) heard

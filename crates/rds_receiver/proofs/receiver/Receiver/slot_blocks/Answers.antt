@@ -13,12 +13,11 @@ returns-clause-stands c t input st =
     let grown = c.grow_older-aged in
     let heard = heard_of t.programme input in
     let here : grown.new.self.pi ≡ t.programme = grown.ensures.programme ∙ st.tuned in
-    let good : IsStoredReceiver (record c.args.self.now { display = grown.new.self }) = record { display = grown.ensures.good st.good.display; pair = st.good.pair } in
-    slot_stands t _ _ input c.args.group st (c.hear-is_new.ensures.good good) (c.hear-is_new.ensures.programme ∙ grown.ensures.programme)
-    (subst (λ (pi : ℕ). HoldsBy t.window t.dwell (t.first + length heard) t.first (receiver_stored c.hear-is_new.new.self)
-    (heard_in pi c.args.group ∷ heard)) here
-    (c.hear-is_new.ensures.holds good
-    t.window t.dwell t.first heard record {
+    let good : IsStoredReceiver (record c.args.self.now { display = grown.new.self }) =
+    record { display = grown.ensures.good st.good.display; pair = st.good.pair } in
+    slot_stands t _ _ input c.args.group st (c.hear-is_new.ensures.good good)
+    (c.hear-is_new.ensures.programme ∙ grown.ensures.programme)
+    (rw here at (c.hear-is_new.ensures.holds good t.window t.dwell t.first heard record {
       display = display_grown t.window t.dwell t.first _ _ heard (grown.ensures.holds st.good.display)
           st.holds.display;
       lasts = with_display t.window t.dwell (newest_slot t.first heard) t.first (receiver_stored c.args.self.now)
