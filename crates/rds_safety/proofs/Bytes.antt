@@ -1,10 +1,10 @@
 -- Lemmas: a run in one broadcast makes the bytes of that broadcast whole, or nothing.
-use Rattle.std.proofs.Common.{◌≡◌, ℕ, Bool, true, false, nat_eq, List, [], ◌∷◌, Some, cond, refl, sym, ap, ◌∙◌, subst}
+use Rattle.std.proofs.Common.{◌≡◌, ℕ, nat_eq, List, [], ◌∷◌, Some, cond, arith}
 use Rattle.std.specs.Cmp.{unsigned_tied}
 use Rattle.std.specs.List.{AllByRecursion}
 use Rattle.std.specs.FinMap.{empty, get, get-empty, get-insert, insert}
 use Rattle.std.specs.Ordering.{nat_cmp}
-use Rattle.std.proofs.lemmas.Bool.{eqb-true}
+use Rattle.std.proofs.lemmas.Bool.Decides.{nat_tests}
 use Rattle.std.proofs.lemmas.Cmp.{nat_cmp_total}
 use Rattle.rds_assembly.specs.Body.{AreSegmentsOf, name_body, segment_of, text_body}
 use Rattle.rds_assembly.specs.Cells.{Cells}
@@ -23,24 +23,16 @@ use Rattle.rds_safety.proofs.Told.{AreOf}
 -- the cells with one more cell have it at its address, and the others as before
 pub get-put : (cells : Cells) (k : ℕ) (cell : List ℕ) (a : ℕ)
     → get (insert cells k cell) a ≡ cond (nat_eq a k) (Some cell) (get cells a)
-get-put cells k cell a = get-insert nat_cmp_total cells k cell a ∙ ap (λ same. cond same (Some cell) (get cells a))
-    (unsigned_tied a k)
+get-put cells k cell a = rw (← unsigned_tied a k) (get-insert nat_cmp_total cells k cell a)
 
 -- what holds of the address and the bytes of each segment holds of each cell
 pub cell_has : (P : ℕ → List ℕ → Type 0) (gs : List Segment)
     → AllByRecursion (λ (g : Segment). P g.fragment.address g.fragment.bytes) gs
     → (a : ℕ) (cell : List ℕ) → get (cells_of gs) a ≡ Some cell → P a cell
 cell_has P [] all a cell e = (let none = get-empty {X = List ℕ} nat_cmp a in absurd (cc))
-cell_has P (g ∷ older) all a cell e = by (nat_eq a g.fragment.address) refl
-    (sym (get-put (cells_of older) g.fragment.address g.fragment.bytes a) ∙ e) (cell_has P older all.1 a cell)
-  where
-    by : (same : Bool) → nat_eq a g.fragment.address ≡ same → cond same (Some g.fragment.bytes) (get (cells_of older) a)
-        ≡ Some cell
-        → (get (cells_of older) a ≡ Some cell → P a cell) → P a cell
-    by true t e rest =
-        let newest : g.fragment.bytes ≡ cell = cc in
-        subst (P a) newest (subst (λ (n : ℕ). P n g.fragment.bytes) (sym (eqb-true a g.fragment.address t)) all.0)
-    by false t e rest = rest e
+cell_has P (g ∷ older) all a cell e =
+    let put = get-put (cells_of older) g.fragment.address g.fragment.bytes a in
+    grind (arith, nat_tests, cell_has P older all.1 a cell)
 
 -- the segments are of a value
 abbrev pub AreParts : Kind → List ℕ → List Segment → Type 0

@@ -1,8 +1,7 @@
 -- Lemmas: a receiver that shows only what it heard twice shows a text or a name of which each segment came twice.
 use Rattle.std.proofs.Common.{◌≡◌, ◌+◌, ◌<◌, ◌≤◌, ◌==◌, ℕ, Bool, true, false, List, [], ◌∷◌, length, Option, Some, refl}
-use Rattle.std.proofs.Common.{sym, ap, ◌∙◌, subst, inl, inr, arith}
-use Rattle.std.specs.Prelude.{bytes_eq, nat_lt}
-use Rattle.std.proofs.lemmas.Bool.{cond-false, cond-true, eqb-false, eqb-true, lt-ltb}
+use Rattle.std.proofs.Common.{sym, ◌∙◌, inl, arith}
+use Rattle.std.proofs.lemmas.Bool.Decides.{nat_tests}
 use Rattle.std.proofs.lemmas.Slice.Eq.{bytes_eq-Decides}
 use Rattle.rds_fields.specs.declared.message.Message.{Message}
 use Rattle.rds_assembly.specs.Body.{AreAllHeld, segment_count, segment_of}
@@ -12,8 +11,8 @@ use Rattle.rds_assembly.specs.Whole.{IsWholeName, IsWholeText}
 use Rattle.rds_encoder.specs.Plan.{Broadcast, Covers}
 use Rattle.rds_receiver.specs.Receipts.{Segment, name_fragment, segments, text_fragment}
 use Rattle.rds_receiver.specs.declared.fragment.Fragment.{Fragment}
-use Rattle.rds_receiver.specs.Run.{cells_of, is_same, run_at}
-use Rattle.rds_receiver.specs.Shown.{IsShown, ShowsView}
+use Rattle.rds_receiver.specs.Run.{cells_of, run_at}
+use Rattle.rds_receiver.specs.Shown.{IsShown}
 use Rattle.rds_receiver.specs.Confirmed.{confirmed, last_at, segment_again}
 use Rattle.rds_receiver.specs.ConfirmedLemmas.{confirmed_long}
 use Rattle.rds_safety.specs.Flags.{is_same_flag}
@@ -46,36 +45,19 @@ record IsLastSince (a since : ℕ) (gs : List Segment) : Type 0 where
 last_since : (n a : ℕ) (gs : List Segment) (g : Segment) → AreFalling n gs → IsIn gs g → g.fragment.address ≡ a
     → IsLastSince a g.slot gs
 last_since n a [] g falls is_in at = absurd is_in
-last_since n a (h ∷ older) g falls is_in at = by (h.fragment.address == a) refl (λ older_in. last_since h.slot a older g
-    falls.1 older_in at)
+last_since n a (h ∷ older) g falls is_in at = by (h.fragment.address == a) refl
+    (λ older_in. last_since h.slot a older g falls.1 older_in at)
   where
-    later : IsIn (h ∷ older) g → g.slot ≤ h.slot
-    later (inl e) = subst (λ (x : Segment). x.slot ≤ h.slot) (sym e) (omega arith)
-    later (inr older_in) = omega (arith, in_below h.slot older g falls.1 older_in)
-
-    rest : (h.fragment.address == a) ≡ false → IsIn (h ∷ older) g → IsIn older g
-    rest other (inl e) = absurd (eqb-false h.fragment.address a other (ap (λ (x : Segment). x.fragment.address) (sym e)
-        ∙ at))
-    rest other (inr older_in) = older_in
-
     by : (same : Bool) → (h.fragment.address == a) ≡ same → (IsIn older g → IsLastSince a g.slot older)
         → IsLastSince a g.slot (h ∷ older)
     by true e before = record {
       segment = h;
-      last = cond-true (h.fragment.address == a) (Some h) (last_at a older) e;
-      later = later is_in;
+      last = grind arith;
+      later = grind (arith, in_below h.slot older g falls.1);
       is_in = inl refl;
-      address = eqb-true h.fragment.address a e;
+      address = grind (arith, nat_tests);
     }
-    by false e before =
-        let l = before (rest e is_in) in
-        record {
-          segment = l.segment;
-          last = cond-false (h.fragment.address == a) (Some h) (last_at a older) e ∙ l.last;
-          later = l.later;
-          is_in = inr l.is_in;
-          address = l.address;
-        }
+    by false e before = (let l = before (grind (arith, nat_tests)) in grind arith)
 
 module _ (laws : PlanLaws) (w k m t s : ℕ) (kind : Kind) (sends : SendsItsBody kind) (pick : Message
     → Option Fragment) (of : Option Message → Mark)
@@ -90,19 +72,13 @@ module _ (laws : PlanLaws) (w k m t s : ℕ) (kind : Kind) (sends : SendsItsBody
       → (p.flag ≡ b.flag) × (p.bytes ≡ segment_of (kind.body b.bytes) p.address)
   own u message p picks since came =
       let sent = heard.each u u (Some message) (hears.right u message since came) came in
-      let marked = rw (alike.picked message p picks) at (mark_sent of log u (Some message) sent) in
-      let lies = law.fragments u p marked in
-      let mine : Covers b u = record {
-        from = omega (arith, hears.from, since);
-        to = omega
-            (arith, hears.to, now, before_end raw.first raw.heard u (Some message) came);
-      } in
-      let same : lies.broadcast ≡ b = one_covers laws (m + lateness_of_two w k) plan lies.number hears.number
-      lies.broadcast b u law.spaced lies.planned hears.planned lies.is.covers mine in (
-        lies.is.flag ∙ ap (λ (y : Broadcast). y.flag) same,
-        (sends.parts lies.broadcast.bytes p lies.is.fragment).bytes
-            ∙ ap (λ (y : Broadcast). segment_of (kind.body y.bytes) p.address) same,
-      )
+      let lies = law.fragments u p (rw (alike.picked message p picks) at (mark_sent of log u (Some message) sent)) in
+      let past = before_end raw.first raw.heard u (Some message) came in
+      let mine : Covers b u = (let from = hears.from in let to = hears.to in omega arith) in
+      let same = one_covers laws (m + lateness_of_two w k) plan lies.number hears.number lies.broadcast b u law.spaced
+      lies.planned hears.planned lies.is.covers mine in
+      let part = sends.parts lies.broadcast.bytes p lies.is.fragment in
+      (rw same at lies.is.flag, rw same at part.bytes)
 
   -- so the second receipt of each is confirmed
   second_confirmed : (a : ℕ) → (c : CameTwice pick w s a raw)
@@ -127,16 +103,13 @@ module _ (laws : PlanLaws) (w k m t s : ℕ) (kind : Kind) (sends : SendsItsBody
           (segments_fall pick raw.first before) is_in (c.first.at ∙ sym c.second.at) in
           let g = l.segment in
           let picked = all_in (IsPicked pick raw.first before) gs g (all_picked pick raw.first before) l.is_in in
-          let mine = own g.slot picked.message g.fragment picked.fragment (omega (arith, c.since, l.later))
-          (still g.slot (Some picked.message) picked.came) in
-          let theirs = own c.two c.second.message q c.second.picks (omega (arith, c.since, c.later)) c.second.heard in
-          let flag : is_same q.flag g.fragment.flag ≡ true = is_same_flag q.flag g.fragment.flag (theirs.0 ∙ sym mine.0)
-          in
-          let same : q.bytes ≡ g.fragment.bytes = theirs.1 ∙ ap (segment_of (kind.body b.bytes)) (sym l.address)
-          ∙ sym mine.1 in
-          let bytes : bytes_eq q.bytes g.fragment.bytes ≡ true = (bytes_eq-Decides q.bytes g.fragment.bytes).1 same in
-          let recent : nat_lt c.two (g.slot + w) ≡ true = lt-ltb c.two (g.slot + w) (omega (arith, c.soon, l.later)) in
-          (g.slot, ap (segment_again w c.two q.flag q.bytes) l.last ∙ rw (flag, bytes, recent) refl)
+          let mine = own g.slot picked.message g.fragment picked.fragment (omega arith) (still g.slot (Some
+          picked.message) picked.came) in
+          let theirs = own c.two c.second.message q c.second.picks (omega arith) c.second.heard in
+          let flag = is_same_flag q.flag g.fragment.flag (theirs.0 ∙ sym mine.0) in
+          let same : q.bytes ≡ g.fragment.bytes = (let at = l.address in cc) in
+          let bytes = (bytes_eq-Decides q.bytes g.fragment.bytes).1 same in
+          (g.slot, rw l.last (grind (arith, nat_tests)))
 
   shown_twice : (IsWhole : Cells → List ℕ → Type 0) → IsService kind IsWhole
       → ((cells : Cells) → AreAllHeld (kind.body b.bytes) cells → IsWhole cells b.bytes)
@@ -156,9 +129,11 @@ module _ (laws : PlanLaws) (w k m t s : ℕ) (kind : Kind) (sends : SendsItsBody
       fresh : (u r : ℕ) → s ≤ u → CameFrom (confirmed_input w m raw) u r → s ≤ r
       fresh u r since p =
           let f = from_one_of_two w m raw.first raw.heard raw.origins u r heard.beside p in
-          let same = own_kept w m raw.first raw.heard raw.origins u u r heard.beside (hears.right u f.message since
-          f.came) p in
-          omega (arith, since, same)
+          omega (
+            arith,
+            own_kept w m raw.first raw.heard raw.origins u u r heard.beside (hears.right u f.message since
+                f.came) p,
+          )
 
       each : (a : ℕ) → a < segment_count (kind.body b.bytes)
           → CameSince (segments pick raw.first (confirmed w m raw.first raw.heard)) s a
@@ -166,7 +141,7 @@ module _ (laws : PlanLaws) (w k m t s : ℕ) (kind : Kind) (sends : SendsItsBody
           let c = hears.each a within in
           record {
             segment = came_in c.two c.second.fragment;
-            since = omega (arith, c.since, c.later);
+            since = omega arith;
             at = c.second.at;
             is_in = in_segments pick raw.first (confirmed w m raw.first raw.heard) c.two c.second.message
                 c.second.fragment (second_confirmed a c) c.second.picks;
@@ -179,7 +154,7 @@ text_shown_twice laws w k m t s plans log r b law listens hears =
     text_fragments_marked
     text_receipts law.text listens.heard listens.once listens.now hears
     IsWholeText text_service (λ cells held. all_text cells b.bytes value held) (one_segment b.bytes) r.view.text
-    (subst (λ (x : Input). ShowsView m x.first x.heard r.view) listens.confirmed listens.shows).text
+    (rw listens.confirmed at listens.shows.text)
 
 pub name_shown_twice : PlanLaws → WhoHearsBothSegmentsTwiceShowsTheName
 name_shown_twice laws w k m t s plans log r b law listens hears =
@@ -187,7 +162,6 @@ name_shown_twice laws w k m t s plans log r b law listens hears =
     let two = two_segments b.bytes value in
     shown_twice laws w k m t s names names_send_their_body name_fragment name_mark plans.name log listens.raw b
     name_fragments_marked
-    name_receipts law.name listens.heard listens.once listens.now
-    (subst (λ (n : ℕ). HearsEachTwice name_fragment w m t s n plans.name listens.raw b) (sym two) hears)
-    IsWholeName name_service (λ cells held. all_name cells b.bytes value held) (omega (arith, two)) r.view.name
-    (subst (λ (x : Input). ShowsView m x.first x.heard r.view) listens.confirmed listens.shows).name
+    name_receipts law.name listens.heard listens.once listens.now (rw two hears)
+    IsWholeName name_service (λ cells held. all_name cells b.bytes value held) (omega arith) r.view.name
+    (rw listens.confirmed at listens.shows.name)

@@ -1,5 +1,5 @@
 -- Lemmas about entries of lists by their slots, and about the slots in which entries were sent.
-use Rattle.std.proofs.Common.{◌≡◌, ◌+◌, ◌<◌, ℕ, suc, List, [], ◌∷◌, length, Option, Some, None, refl, sym, ap, ◌∙◌}
+use Rattle.std.proofs.Common.{◌≡◌, ◌+◌, ◌<◌, ℕ, suc, List, [], ◌∷◌, length, Option, Some, None, refl, sym, ap}
 use Rattle.std.proofs.Common.{subst, inl, inr, arith}
 use Rattle.rds_fields.specs.declared.message.Message.{Message}
 use Rattle.rds_safety.specs.Late.{CameFrom, HasEntry, Input, InputOf, IsHeardInOrder, IsOfItsOrigin, SentIn}
@@ -10,27 +10,23 @@ use Rattle.rds_safety.specs.Near.{IsHeard, IsOfItsOriginIfMarked, IsUnmarked}
 pub before_end : {X : Type 0} (first : ℕ) (entries : List X) (t : ℕ) (x : X) → HasEntry first entries t x
     → t < first + length entries
 before_end first [] t x a = absurd a
-before_end first (n ∷ before) t x (inl a) = omega arith
-before_end first (n ∷ before) t x (inr a) = omega (arith, before_end first before t x a)
+before_end first (n ∷ before) t x a = grind (arith, before_end first before t x)
 
 -- a slot has one entry
 pub one_entry : {X : Type 0} (first : ℕ) (entries : List X) (t : ℕ) (x y : X) → HasEntry first entries t x
     → HasEntry first entries t y → x ≡ y
 one_entry first [] t x y p q = absurd p
-one_entry first (n ∷ before) t x y (inl p) (inl q) = p.1 ∙ sym q.1
-one_entry first (n ∷ before) t x y (inl p) (inr q) = absurd (omega (arith, before_end first before t y q))
-one_entry first (n ∷ before) t x y (inr p) (inl q) = absurd (omega (arith, before_end first before t x p))
-one_entry first (n ∷ before) t x y (inr p) (inr q) = one_entry first before t x y p q
+one_entry first (n ∷ before) t x y p q =
+    grind (arith, before_end first before t x, before_end first before t y, one_entry first before t x y)
 
 -- two lists of one length have entries in the same slots
 pub entry_beside : {X : Type 0} {Y : Type 0} (first : ℕ) (xs : List X) (ys : List Y) (t : ℕ) (x : X)
     → length ys ≡ length xs → HasEntry first xs t x → (y : Y) × HasEntry first ys t y
 entry_beside first [] ys t x e a = absurd a
 entry_beside first (n ∷ before) [] t x e a = absurd (omega arith)
-entry_beside first (n ∷ before) (y ∷ ys) t x e (inl a) = (let shorter : length ys ≡ length before = omega arith
-    in (y, inl (omega arith, refl)))
-entry_beside first (n ∷ before) (y ∷ ys) t x e (inr a) = (let w = entry_beside first before ys t x (omega arith) a
-    in (w.0, inr w.1))
+entry_beside first (n ∷ before) (y ∷ ys) t x e (inl a) = (y, grind arith)
+entry_beside first (n ∷ before) (y ∷ ys) t x e (inr a) =
+    (let w = entry_beside first before ys t x (omega arith) a in (w.0, inr w.1))
 
 -- a log has as many marks as slots
 pub marks_long : (of : Option Message → Mark) (log : List (Option Message)) → length (marks of log) ≡ length log
@@ -41,8 +37,7 @@ marks_long of (x ∷ log) = ap suc (marks_long of log)
 pub mark_sent : (of : Option Message → Mark) (log : List (Option Message)) (s : ℕ) (message : Option Message)
     → SentIn log s message → IsMarkIn (marks of log) s (of message)
 mark_sent of [] s message a = absurd a
-mark_sent of (x ∷ log) s message (inl a) = inl (omega (arith, marks_long of log), ap of a.1)
-mark_sent of (x ∷ log) s message (inr a) = inr (mark_sent of log s message a)
+mark_sent of (x ∷ log) s message a = grind (arith, marks_long of log, mark_sent of log s message)
 
 -- the message that came in slot t was sent in a slot of the log
 pub record Arrival (log : List (Option Message)) (input : Input) (t : ℕ) (message : Message) : Type 0 where
@@ -75,4 +70,4 @@ in_order_is_heard log input order = record {
 
 -- an entry has one origin
 pub one_origin : {X : Type 0} (input : InputOf X) (t r s : ℕ) → CameFrom input t r → CameFrom input t s → r ≡ s
-one_origin input t r s p q = (let e = one_entry input.first input.origins t (Some r) (Some s) p q in cc)
+one_origin input t r s p q = grind (arith, one_entry input.first input.origins t (Some r) (Some s) p q)

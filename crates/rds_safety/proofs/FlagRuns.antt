@@ -1,9 +1,11 @@
 -- Lemmas about the runs of a receiver with the flag bit alone that heard a segment of each broadcast before news: all
 -- segments of a run are of its source's value, or this value is empty.
-use Rattle.std.proofs.Common.{◌≡◌, ◌≢◌, ◌⊎◌, ◌+◌, ◌-◌, ◌<◌, ◌≤◌, ℕ, zero, suc, Bool, true, false, List, [], ◌∷◌, length}
-use Rattle.std.proofs.Common.{Option, refl, sym, ap, ◌∙◌, subst, inl, inr, arith}
+use Rattle.std.proofs.Common.{◌≡◌, ◌≢◌, ◌⊎◌, ◌+◌, ◌-◌, ◌<◌, ◌≤◌, ℕ, zero, suc, Bool, List, [], ◌∷◌, length}
+use Rattle.std.proofs.Common.{Option, refl, sym, ◌∙◌, inl, inr, arith}
+use Rattle.std.specs.Prelude.{bytes_eq}
 use Rattle.std.specs.List.{AllByRecursion}
-use Rattle.std.proofs.lemmas.Bool.{cases_eq, cases_lt, cases_order, cond_both}
+use Rattle.std.proofs.lemmas.Bool.{both_ways, cases_Bool, cases_lt, cond_both}
+use Rattle.std.proofs.lemmas.Slice.Eq.{bytes_eq-Decides}
 use Rattle.rds_fields.specs.declared.message.Message.{Message}
 use Rattle.rds_encoder.specs.Laws.{EachNumberNamesOne}
 use Rattle.rds_encoder.specs.Plan.{Broadcast, Covers, HasNumber}
@@ -13,7 +15,7 @@ use Rattle.rds_receiver.specs.declared.fragment.Fragment.{Fragment}
 use Rattle.rds_receiver.specs.Run.{is_same}
 use Rattle.rds_safety.specs.FlagAlone.{HearsEach, IsHarmless, IsHeardFrom, IsNews, TurnsTheFlag, flag_run}
 use Rattle.rds_safety.specs.FlagAlone.{flag_run_before, run_by_flag}
-use Rattle.rds_safety.specs.Flags.{same_flag}
+use Rattle.rds_safety.specs.Flags.{same_flag, same_or_other}
 use Rattle.rds_safety.specs.Late.{CameFrom, Input, InputOf, IsHeardInOrder}
 use Rattle.rds_safety.specs.Lawful.{IsLawful, Kind}
 use Rattle.rds_safety.specs.Laws.{PlanLaws}
@@ -26,54 +28,29 @@ use Rattle.rds_safety.proofs.Told.{AreJoined, IsOfAny, IsSegmentLike, IsSegmentO
 
 -- joining without harm is transitive
 pub harmless_on : (x y z : Broadcast) → IsHarmless x y → IsHarmless y z → IsHarmless x z
-harmless_on x y z u (inr none) = inr none
-harmless_on x y z (inl e) (inl f) = inl (e ∙ f)
-harmless_on x y z (inr none) (inl f) = inr (sym f ∙ none)
+harmless_on x y z u v = grind arith
 
 -- an entry that was sent earlier came earlier
 pub came_earlier : {X : Type 0} (log : List (Option X)) (input : InputOf X) (t u r s : ℕ) → IsHeardInOrder log input
     → CameFrom input t r → CameFrom input u s → r < s → t < u
-came_earlier log input t u r s order p q less =
-    elim (cases_order t u) [
-      | inl same ↦ absurd (omega (arith, one_origin input u r s (subst (λ (n : ℕ). CameFrom input n r) same p) q))
-      | inr o ↦ elim o [ inl earlier ↦ earlier | inr later ↦ absurd (omega (arith, order.rising u t s r q p later)) ]
-    ]
+came_earlier log input t u r s order p q less = grind (arith, order.rising u t s r q p, one_origin input t r s p)
 
 -- each segment of a run is one of the segments
 pub all_before : (P : Segment → Type 0) (f : Bool) (gs : List Segment) → AllByRecursion P gs
     → AllByRecursion P (flag_run_before f gs)
 all_before P f [] all = tt
-all_before P f (g ∷ older) all =
-    cond_both (is_same f g.fragment.flag) (g ∷ flag_run_before f older) [] (AllByRecursion P)
-    (λ _. (all.0, all_before P f older all.1)) (λ _. tt)
+all_before P f (g ∷ older) all = grind (arith, all_before P f older all.1)
 
 -- a segment that was picked was heard, with its origin
 pub heard_from : (pick : Message → Option Fragment) (input : Input) (g : Segment) (r : ℕ)
     → IsPicked pick input.first input.heard g → CameFrom input g.slot r → IsHeardFrom pick input g.slot r
-heard_from pick input g r is from = record {
-  message = is.message;
-  fragment = g.fragment;
-  came = is.came;
-  picked = is.fragment;
-  from = from;
-}
-
--- there are no bytes, or some
-no_or_some : (bytes : List ℕ) → (bytes ≡ []) ⊎ (bytes ≢ [])
-no_or_some [] = inl refl
-no_or_some (b ∷ bytes) = inr (λ e. (cc))
+heard_from pick input g r is from = grind arith
 
 -- these bytes are the same, or they differ
 same_or_differ : (x y : List ℕ) → (x ≡ y) ⊎ (x ≢ y)
-same_or_differ [] [] = inl refl
-same_or_differ [] (b ∷ y) = inr (λ e. (cc))
-same_or_differ (a ∷ x) [] = inr (λ e. (cc))
-same_or_differ (a ∷ x) (b ∷ y) = elim (cases_eq a b) [
-  | inr differ ↦ inr (λ e. differ (let same : a ≡ b = cc in same))
-  | inl head ↦ elim (same_or_differ x y) [
-    | inl tail ↦ inl (let same : a ∷ x ≡ b ∷ y = cc in same)
-    | inr differ ↦ inr (λ e. differ (let same : x ≡ y = cc in same))
-  ]
+same_or_differ x y = elim (cases_Bool (bytes_eq x y)) [
+  | inl same ↦ inl ((bytes_eq-Decides x y).0 same)
+  | inr differ ↦ inr (λ e. both_ways _ differ ((bytes_eq-Decides x y).1 e))
 ]
 
 -- broadcast a has the flag and the bytes of b
@@ -81,21 +58,13 @@ abbrev IsLike : Broadcast → Broadcast → Type 0
 IsLike a b = (a.flag ≡ b.flag) × (a.bytes ≡ b.bytes)
 
 like_or_not : (a b : Broadcast) → IsLike a b ⊎ (IsLike a b → ⊥)
-like_or_not a b = by a.flag b.flag refl refl
-  where
-    by : (f g : Bool) → a.flag ≡ f → b.flag ≡ g → IsLike a b ⊎ (IsLike a b → ⊥)
-    by true false e h = inr (λ like. (let bad : true ≡ false = sym e ∙ like.0 ∙ h in cc))
-    by false true e h = inr (λ like. (let bad : false ≡ true = sym e ∙ like.0 ∙ h in cc))
-    by true true e h = elim (same_or_differ a.bytes b.bytes) [
-      | inl same ↦ inl (e ∙ sym h, same)
-      | inr differ ↦ inr
-          (λ like. differ like.1)
-    ]
-    by false false e h = elim (same_or_differ a.bytes b.bytes) [
-      | inl same ↦ inl (e ∙ sym h, same)
-      | inr differ ↦ inr
-          (λ like. differ like.1)
-    ]
+like_or_not a b = elim (same_or_other a.flag b.flag) [
+  | inr differ ↦ inr (λ like. differ like.0)
+  | inl flag ↦ elim (same_or_differ a.bytes b.bytes) [
+    | inl same ↦ inl (flag, same)
+    | inr differ ↦ inr (λ like. differ like.1)
+  ]
+]
 
 -- a broadcast is news if it is filled and not like one of the two before it
 is_news : PlanLaws → (plan : List Broadcast) (l : ℕ) (c e b : Broadcast) → HasNumber plan (l - 1) c
@@ -104,16 +73,7 @@ is_news : PlanLaws → (plan : List Broadcast) (l : ℕ) (c e b : Broadcast) →
 is_news laws plan l c e b p q two filled one other = record { filled = filled; new = new }
   where
     new : (j : ℕ) (a : Broadcast) → HasNumber plan j a → j < l → l ≤ j + 2 → a.flag ≡ b.flag → a.bytes ≡ b.bytes → ⊥
-    new j a r less near flag bytes = elim (cases_lt j (l - 1)) [
-      | inl second ↦
-          let same : a ≡ e = laws.one plan (l - 2) a e (let at : j ≡ l - 2 = omega (arith, second, near, two)
-          in subst (λ (n : ℕ). HasNumber plan n a) at r) q in
-          other (subst (λ (x : Broadcast). IsLike x b) {x = a} same (flag, bytes))
-      | inr first ↦
-          let same : a ≡ c = laws.one plan (l - 1) a c (let at : j ≡ l - 1 = omega (arith, first, less)
-          in subst (λ (n : ℕ). HasNumber plan n a) at r) p in
-          one (subst (λ (x : Broadcast). IsLike x b) {x = a} same (flag, bytes))
-    ]
+    new j a r less near flag bytes = grind (arith, laws.one plan (l - 2) a e, laws.one plan (l - 1) a c, one, other)
 
 module _ (laws : PlanLaws) (names_one : EachNumberNamesOne) (d now : ℕ) (pick : Message → Option Fragment)
     (plan : List Broadcast) (log : List (Option Message)) (input : Input)
@@ -134,29 +94,21 @@ module _ (laws : PlanLaws) (names_one : EachNumberNamesOne) (d now : ℕ) (pick 
         → Covers a r → b.start ≤ s
         → k + 1 < l → Is plan l b → ⊥
     none_passes Is each slot s h r k l a b next earlier by_now is from p q covers begun far so =
-        let between = names_one plan (l - 1) (omega (arith, laws.below plan l b q)) in
-        let c = between.0 in
-        let after : a.end < c.start = laws.order d plan k (l - 1) a c spaced p between.1 (omega (arith, far)) in
-        let before : c.end < b.start = laws.order d plan (l - 1) l c b spaced between.1 q (omega (arith, far)) in
-        let number : l ≡ l - 1 + 1 = omega (arith, far) in
-        let w = each (l - 1) c b h.slot r between.1 (subst (λ (n : ℕ). HasNumber plan n b) number q)
-        (subst (λ (n : ℕ). Is plan n b) number so) (heard_from pick input h r is from)
-        (omega (arith, covers.to, after)) (omega (arith, begun, by_now)) in
+        let c = names_one plan (l - 1) (omega (arith, laws.below plan l b q)) in
+        let after = laws.order d plan k (l - 1) a c.0 spaced p c.1 (omega arith) in
+        let before = laws.order d plan (l - 1) l c.0 b spaced c.1 q (omega arith) in
+        let number : l ≡ l - 1 + 1 = omega arith in
+        let w = each (l - 1) c.0 b h.slot r c.1 (rw number at q) (rw number at so) (heard_from pick input h r is from)
+        (omega arith) (omega arith) in
         let its = w.heard in
         next (came_in w.slot its.fragment) (in_segments pick input.first input.heard w.slot its.message its.fragment
-        its.came its.picked)
-        (came_earlier log input h.slot w.slot r w.origin order from its.from (omega (arith, covers.to, after, w.since)))
-        (earlier w.slot w.origin its.from (omega (arith, w.until, before, begun)))
+        its.came its.picked) (came_earlier log input h.slot w.slot r w.origin order from its.from (omega arith))
+        (earlier w.slot w.origin its.from (omega arith))
 
     -- the next broadcast with one flag does no harm
     next_is_harmless : TurnsTheFlag plan → (k l : ℕ) (a b : Broadcast) → l ≡ k + 1 → HasNumber plan k a
         → HasNumber plan l b → a.flag ≡ b.flag → IsHarmless a b
-    next_is_harmless turns k l a b follows p q flag =
-        elim (turns k a b p (subst (λ (m : ℕ). HasNumber plan m b) follows q)) [
-          | inl differ ↦ absurd (differ flag)
-          | inr
-              harmless ↦ harmless
-        ]
+    next_is_harmless turns k l a b follows p q flag = grind (arith, turns k a b p)
 
     -- so each broadcast with the flag of that of h does no harm, if what was missed comes before no news
     harmless_after : HearsEach IsNews pick plan now input → TurnsTheFlag plan
@@ -166,51 +118,31 @@ module _ (laws : PlanLaws) (names_one : EachNumberNamesOne) (d now : ℕ) (pick 
         → (n l : ℕ) (b : Broadcast) → l ≤ k + 1 + n → k < l → HasNumber plan l b → b.start ≤ s → a.flag ≡ b.flag
         → IsHarmless a b
     harmless_after each turns slot s h r k a next earlier by_now is from p covers zero l b within less q begun
-        flag = next_is_harmless turns k l a b (omega (arith, within, less)) p q flag
+        flag = next_is_harmless turns k l a b (omega arith) p q flag
     harmless_after each turns slot s h r k a next earlier by_now is from p covers (suc m) l b within less q begun
         flag = elim (cases_lt (k + 1) l) [
-          | inr near ↦ next_is_harmless turns k l a b (omega (arith, near, less)) p q flag
+          | inr near ↦ next_is_harmless turns k l a b (omega arith) p q flag
           | inl far ↦
               let one = names_one plan (l - 1) (omega (arith, laws.below plan l b q)) in
               let two = names_one plan (l - 2) (omega (arith, laws.below plan l b q)) in
-              elim (no_or_some b.bytes) [
+              let one_ends = laws.order d plan (l - 1) l one.0 b spaced one.1 q (omega arith) in
+              let two_ends = laws.order d plan (l - 2) l two.0 b spaced two.1 q (omega arith) in
+              let rest = harmless_after each turns slot s h r k a next earlier by_now is from p covers m in
+              elim (same_or_differ b.bytes []) [
                 | inl none ↦ inr none
                 | inr filled ↦ elim (like_or_not one.0 b) [
                   | inl like ↦
-                      harmless_on a one.0 b
-                      (harmless_after each turns slot s h r k a next earlier by_now is from p covers m (l - 1) one.0
-                      (omega (arith, within)) (omega (arith, far)) one.1
-                      (omega (
-                        arith,
-                        spaced.lasts (l - 1) one.0 one.1,
-                        laws.order d plan (l - 1) l one.0 b spaced one.1 q
-                            (omega (arith, far)),
-                        begun,
-                      )) (flag ∙ sym like.0))
-                      (inl like.1)
+                      harmless_on a one.0 b (rest (l - 1) one.0 (omega arith) (omega arith) one.1
+                      (omega (arith, spaced.lasts (l - 1) one.0 one.1)) (flag ∙ sym like.0)) (inl like.1)
                   | inr not_one ↦ elim (like_or_not two.0 b) [
                     | inr not_two ↦ absurd (none_passes IsNews each slot s h r k l a b next earlier by_now is from p q
-                        covers
-                        begun far (is_news laws plan l one.0 two.0 b one.1 two.1 (omega (arith, far)) filled not_one
+                        covers begun far (is_news laws plan l one.0 two.0 b one.1 two.1 (omega arith) filled not_one
                         not_two))
                     | inl like ↦ elim (cases_lt k (l - 2)) [
                       | inl further ↦
-                          harmless_on a two.0 b
-                          (harmless_after each turns slot s h r k a next earlier by_now is from p covers m (l - 2) two.0
-                          (omega (arith, within)) further two.1
-                          (omega (
-                            arith,
-                            spaced.lasts (l - 2) two.0 two.1,
-                            laws.order d plan (l - 2) l two.0 b spaced two.1 q
-                                (omega (arith, far)),
-                            begun,
-                          )) (flag ∙ sym like.0))
-                          (inl like.1)
-                      | inr here ↦
-                          let same : a ≡ two.0 = laws.one plan (l - 2) a two.0 (let at : k
-                          ≡ l - 2 = omega (arith, here, far)
-                          in subst (λ (x : ℕ). HasNumber plan x a) at p) two.1 in
-                          inl (ap (λ (x : Broadcast). x.bytes) same ∙ like.1)
+                          harmless_on a two.0 b (rest (l - 2) two.0 (omega arith) further two.1
+                          (omega (arith, spaced.lasts (l - 2) two.0 two.1)) (flag ∙ sym like.0)) (inl like.1)
+                      | inr here ↦ grind (arith, laws.one plan k a two.0 p)
                     ]
                   ]
                 ]
@@ -223,17 +155,12 @@ module _ (laws : PlanLaws) (names_one : EachNumberNamesOne) (d now : ℕ) (pick 
         → IsPicked pick input.first input.heard h
         → (r s : ℕ) → CameFrom input h.slot r → CameFrom input g.slot s → IsTold IsHarmless plan r s
     told each turns g h falls next is r s from to k l a b p q u v flag =
-        let later : r < s = order.rising h.slot g.slot r s from to falls in
-        elim (cases_order k l) [
-          | inl same ↦ inl (ap (λ (x : Broadcast). x.bytes)
-              (laws.one plan l a b (subst (λ (n : ℕ). HasNumber plan n a) {x = k} same p) q))
-          | inr o ↦ elim o [
-            | inl less ↦
-                harmless_after each turns g.slot s h r k a next (λ t n came before. came_earlier log input t g.slot n s
-                order came to before) (past g.slot s to) is from p u
-                l l b (omega arith) less q v.from flag
-            | inr more ↦ absurd (omega (arith, laws.order d plan l k b a spaced q p more, u.from, v.to, later))
-          ]
+        let later = order.rising h.slot g.slot r s from to falls in
+        elim (cases_lt k l) [
+          | inl less ↦
+              harmless_after each turns g.slot s h r k a next (λ t n came before. came_earlier log input t g.slot n s
+              order came to before) (past g.slot s to) is from p u l l b (omega arith) less q v.from flag
+          | inr more ↦ grind (arith, laws.one plan k a b p, laws.order d plan l k b a spaced q p)
         ]
 
     -- so the run is joined
@@ -253,16 +180,10 @@ module _ (laws : PlanLaws) (names_one : EachNumberNamesOne) (d now : ℕ) (pick 
         (λ _. tt)
       where
         next : IsNext g.slot h
-        next x is_in after before = elim (holds x is_in before) [
-          | inl same ↦ omega (arith, ap (λ (y : Segment). y.slot) same, after)
-          | inr is_older ↦ omega (arith, in_below h.slot older x falls.1 is_older, after)
-        ]
+        next x is_in after before = grind (arith, holds x is_in, in_below h.slot older x falls.1)
 
         rest : (x : Segment) → IsIn all_segments x → x.slot < h.slot → IsIn older x
-        rest x is_in before = elim (holds x is_in (omega (arith, before, falls.0))) [
-          | inl same ↦ absurd (omega (arith, ap (λ (y : Segment). y.slot) same, before))
-          | inr is_older ↦ is_older
-        ]
+        rest x is_in before = grind (arith, holds x is_in, falls.0)
 
 -- a run has one value, that of the broadcast of its newest segment, or that broadcast is empty
 pub record IsOfOneValue (kind : Kind) (plan : List Broadcast) (input : Input) (g : Segment) (older : List Segment)
@@ -297,29 +218,15 @@ run_is_of_one_value laws names_one d now kind pick of plan log input alike law t
     by [] falls picks all holds = tt
     by (g ∷ older) falls picks all holds =
         let its = all.0 in
+        let rest = all_like IsHarmless harmless_on kind plan input its.broadcast g
+        (flag_run_before g.fragment.flag older) its.number its.broadcast its.planned its.is (inl refl)
+        (joined_before laws names_one d now pick plan log input law.spaced order past each turns g.fragment.flag g older
+        refl falls.1 picks.1 (λ x is_in before. grind (arith, holds x is_in)))
+        (all_before (IsOfAny kind plan input) g.fragment.flag older all.1) in
         record {
           number = its.number;
           broadcast = its.broadcast;
           planned = its.planned;
           newest = its.is;
-          all = (
-            record {
-              number = its.number;
-              broadcast = its.broadcast;
-              planned = its.planned;
-              is = its.is;
-              alike = inl
-                  refl;
-            },
-            all_like IsHarmless harmless_on kind plan input its.broadcast g (flag_run_before g.fragment.flag older)
-                its.number its.broadcast its.planned its.is (inl refl)
-                (joined_before laws names_one d now pick plan log input law.spaced order past each turns g.fragment.flag
-                g older refl falls.1 picks.1
-                (λ x is_in before. elim (holds x is_in) [
-                  | inl same ↦ absurd (omega (arith, ap (λ (y : Segment). y.slot) same, before))
-                  | inr is_older ↦
-                      is_older
-                ]))
-                (all_before (IsOfAny kind plan input) g.fragment.flag older all.1),
-          );
+          all = (grind arith, rest);
         }

@@ -1,25 +1,20 @@
 -- Lemmas in slots: a receiver that hears a segment in each n slots in a row hears one of each broadcast that lasts for
 -- n slots. And a receiver with the flag bit alone shows the same as one with a dwell within which each segment followed
 -- the one before.
-use Rattle.std.proofs.Common.{◌≡◌, ◌+◌, ◌<◌, ◌≤◌, ◌&&◌, ℕ, Bool, true, false, List, [], ◌∷◌, length, Option, Some, cond}
-use Rattle.std.proofs.Common.{refl, sym, ap, ◌∙◌, subst, arith, ◌⊎◌, ◌-◌, zero, suc, inl, inr}
-use Rattle.std.specs.Prelude.{nat_lt}
-use Rattle.std.proofs.lemmas.Bool.{cases_eq, cases_lt, cond-true, lt-ltb}
+use Rattle.std.proofs.Common.{◌≡◌, ◌+◌, ◌<◌, ◌≤◌, ℕ, Bool, true, false, List, [], ◌∷◌, length, Option, Some}
+use Rattle.std.proofs.Common.{refl, sym, ◌∙◌, arith, ◌⊎◌, ◌-◌, zero, suc, inl, inr}
+use Rattle.std.proofs.lemmas.Bool.Decides.{nat_tests}
 use Rattle.rds_fields.specs.declared.message.Message.{Message}
 use Rattle.rds_fields.specs.declared.message.Message.TheVariants.{Tags}
-use Rattle.rds_assembly.specs.Whole.{IsWholeName, IsWholeText}
-use Rattle.rds_encoder.specs.Plan.{Broadcast, Covers}
+use Rattle.rds_encoder.specs.Plan.{Broadcast}
 use Rattle.rds_encoder.specs.Spaced.{IsSpaced}
 use Rattle.rds_receiver.specs.Receipts.{Segment, name_fragment, segments, text_fragment}
 use Rattle.rds_receiver.specs.declared.fragment.Fragment.{Fragment}
-use Rattle.rds_receiver.specs.Run.{begins_in, cells_of, is_same, run, run_at, run_before}
-use Rattle.rds_receiver.specs.Shown.{IsShown, ShowsView}
+use Rattle.rds_receiver.specs.Run.{run, run_at, run_before}
 use Rattle.rds_receiver.specs.Holds.{newest_slot}
 use Rattle.rds_receiver.proofs.Runs.{run_at_newest}
-use Rattle.rds_receiver.specs.Tags.{item_of, pair_from, pair_held, tag_of}
-use Rattle.rds_fields.specs.declared.pair.Which.TheVariants.{One, Two}
 use Rattle.rds_safety.specs.FlagAlone.{EachLasts, GetsInARow, HearsEach, HearsOneIn, HearsTextBeforeTags, IsFilled}
-use Rattle.rds_safety.specs.FlagAlone.{IsNews, ListensByFlag, ShowsByFlag, flag_run, flag_run_before, pair_by_flag}
+use Rattle.rds_safety.specs.FlagAlone.{IsNews, ListensByFlag, flag_run, flag_run_before}
 use Rattle.rds_safety.specs.FlagAlone.{run_by_flag}
 use Rattle.rds_safety.specs.FlagLaws.{CameWithin, HearsWithin, TheFlagAloneIsADwellWhileHeard, TheFlagAloneIsALongDwell}
 use Rattle.rds_safety.specs.FlagLaws.{WhoGetsSomeHearsOneIn, WhoHearsOneInHearsEach, WhoLosesFewGetsSome}
@@ -31,7 +26,7 @@ use Rattle.rds_safety.specs.OwnClock.{next_slot}
 use Rattle.rds_safety.specs.Safe.{Listener}
 use Rattle.rds_safety.proofs.Entries.{arrival, entry_beside, in_order_is_heard, mark_sent, one_entry, one_origin}
 use Rattle.rds_safety.proofs.Pairs.{tags_are_marked}
-use Rattle.rds_safety.proofs.Hearing.{AreFalling, segments_fall}
+use Rattle.rds_safety.proofs.Hearing.{AreFalling, fall_below, segments_fall}
 use Rattle.rds_safety.proofs.HeldWhole.{one_covers}
 
 hears_each_so : (Is : List Broadcast → ℕ → Broadcast → Type 0) (d n now : ℕ) (pick : Message → Option Fragment)
@@ -40,8 +35,8 @@ hears_each_so : (Is : List Broadcast → ℕ → Broadcast → Type 0) (d n now 
 hears_each_so Is d n now pick plan input spaced often lasts k b next t r p q so heard before begun =
     let long = lasts k b next p q so in
     let after = spaced.order k b next p q in
-    let w = often k b.start t r b p (omega arith) long (omega (arith, long, after, begun)) heard before in
-    record { slot = w.slot; origin = w.origin; heard = w.heard; since = w.since; until = omega (arith, w.until, long) }
+    let w = often k b.start t r b p (omega arith) long (omega arith) heard before in
+    grind arith
 
 pub hears_each : WhoHearsOneInHearsEach
 hears_each d n now pick plan input spaced often = (
@@ -57,25 +52,15 @@ pub hears_text_before_tags : PlanLaws → (d now : ℕ) (plan : List Broadcast) 
 hears_text_before_tags laws d now plan log r law listens often t s u q k pair b came from planned covers heard before =
     let w = arrival log r.input t (Tags pair) (in_order_is_heard log r.input listens.order) (tags_are_marked pair) came
     in
-    let slot : w.slot ≡ s = one_origin r.input t w.slot s w.from from in
+    let slot = one_origin r.input t w.slot s w.from from in
     let lies = law.tags w.slot pair (mark_sent text_mark log w.slot (Some (Tags pair)) w.sent) in
-    let mine : Covers b w.slot = record { from = omega (arith, covers.from, slot); to = omega (arith, covers.to, slot) }
-    in
-    let theirs : Covers lies.broadcast w.slot = record { from = omega (arith, lies.is.lasted); to = lies.is.to } in
-    let same : lies.broadcast ≡ b = one_covers laws d plan lies.number k lies.broadcast b w.slot law.spaced lies.planned
-    planned theirs mine in
-    let lasted : b.start + d ≤ w.slot = subst (λ (x : Broadcast). x.start + d ≤ w.slot) {x = lies.broadcast} same
-    lies.is.lasted in
-    let one = often k b.start u q b planned (omega arith) (omega (arith, lasted, slot, covers.to))
-    (omega (arith, lasted, slot, listens.past t s from)) heard before in
-    record {
-      slot = one.slot;
-      origin = one.origin;
-      heard = one.heard;
-      since = one.since;
-      until = omega
-          (arith, one.until, lasted, slot);
-    }
+    let same =
+        one_covers laws d plan lies.number k lies.broadcast b w.slot law.spaced lies.planned planned (omega arith)
+    (omega arith) in
+    let lasted : b.start + d ≤ s = grind arith in
+    let past = listens.past t s from in
+    let one = often k b.start u q b planned (omega arith) (omega arith) (omega arith) heard before in
+    grind arith
 
 -- each entry is that of the log in its origin
 pub came_as_sent : (log : List (Option Message)) (input : Input) (t s : ℕ) (message : Message)
@@ -83,120 +68,75 @@ pub came_as_sent : (log : List (Option Message)) (input : Input) (t s : ℕ) (me
     → HasEntry input.first input.heard t (Some message)
 came_as_sent log input t s message order from sent =
     let w = entry_beside input.first input.origins input.heard t (Some s) (sym order.beside) from in
-    let same : w.0 ≡ Some message = one_entry 0 log s w.0 (Some message) (order.each t (Some s) w.0 from w.1) sent in
-    subst (λ (x : Option Message). HasEntry input.first input.heard t x) same w.1
+    rw (one_entry 0 log s w.0 (Some message) (order.each t (Some s) w.0 from w.1) sent) at w.1
 
 pub hears_one_in : WhoGetsSomeHearsOneIn
 hears_one_in r n now pick plan log input order sends gets k s t q b planned from to by_now heard before =
     let got = gets k s t q b planned from to by_now heard before in
-    let w = sends k got.first b planned (omega (arith, from, got.since)) (omega (arith, to, got.until)) in
+    let w = sends k got.first b planned (omega arith) (omega arith) in
     let came = got.each w.slot w.since w.until in
-    record {
-      slot = came.0;
-      origin = w.slot;
-      heard = record {
-        message = w.message;
-        fragment = w.fragment;
-        came = came_as_sent log input came.0 w.slot w.message
-            order came.1 w.is_sent;
-        picked = w.picked;
-        from = came.1;
-      };
-      since = omega (arith, got.since, w.since);
-      until = omega (arith, got.until, w.until);
-    }
+    let heard_it = came_as_sent log input came.0 w.slot w.message order came.1 w.is_sent in
+    grind arith
 
 -- all of k slots in a row came, or one was lost
 all_or_lost : (got : ℕ → Bool) (s k : ℕ)
     → ((v : ℕ) → s ≤ v → v < s + k → got v ≡ true) ⊎ ((x : ℕ) × (s ≤ x) × (x < s + k) × (got x ≡ false))
-all_or_lost got s zero = inl (λ v from to. absurd (omega (arith, from, to)))
+all_or_lost got s zero = inl (λ v from to. absurd (omega arith))
 all_or_lost got s (suc k) = by (all_or_lost got s k) (got (s + k)) refl
   where
     by : ((v : ℕ) → s ≤ v → v < s + k → got v ≡ true) ⊎ ((x : ℕ) × (s ≤ x) × (x < s + k) × (got x ≡ false)) → (b : Bool)
         → got (s + k) ≡ b
         → ((v : ℕ) → s ≤ v → v < s + suc k → got v ≡ true) ⊎ ((x : ℕ) × (s ≤ x) × (x < s + suc k) × (got x ≡ false))
-    by (inr lost) b is = inr (lost.0, lost.1, omega (arith, lost.2), lost.3)
+    by (inr lost) b is = inr (lost.0, lost.1, omega arith, lost.3)
     by (inl all) false is = inr (s + k, omega arith, omega arith, is)
-    by (inl all) true is = inl (λ v from to. elim (cases_lt v (s + k)) [
-      | inl less ↦ all v from less
-      | inr last ↦ subst (λ (n : ℕ). got n ≡ true) (let same : s + k ≡ v = omega (arith, to, last) in same) is
-    ])
+    by (inl all) true is = inl (λ v from to. grind (arith, all))
 
 -- between a lost slot and one that came, some lost slot is followed by one that came
 edge : (got : ℕ → Bool) (j x : ℕ) → got x ≡ false → got (x + 1 + j) ≡ true
     → (y : ℕ) × (x ≤ y) × (y ≤ x + j) × (got y ≡ false) × (got (y + 1) ≡ true)
-edge got zero x lost came = (
-  x,
-  omega arith,
-  omega arith,
-  lost,
-  subst (λ (n : ℕ). got n ≡ true) (let same : x + 1 + 0
-      ≡ x + 1 = omega arith in same) came,
-)
-edge got (suc j) x lost came = by (got (x + 1)) refl (λ next. edge got j (x + 1) next (subst (λ (n : ℕ). got n ≡ true)
-    (let same : x + 1 + suc j ≡ x + 1 + 1 + j = omega arith in same) came))
+edge got zero x lost came = (x, omega arith, omega arith, lost, grind arith)
+edge got (suc j) x lost came = by (got (x + 1)) refl (λ next. edge got j (x + 1) next (grind arith))
   where
     by : (b : Bool) → got (x + 1) ≡ b → (got (x + 1) ≡ false
         → (y : ℕ) × (x + 1 ≤ y) × (y ≤ x + 1 + j) × (got y ≡ false) × (got (y + 1) ≡ true))
         → (y : ℕ) × (x ≤ y) × (y ≤ x + suc j) × (got y ≡ false) × (got (y + 1) ≡ true)
     by true is rest = (x, omega arith, omega arith, lost, is)
-    by false is rest = (let w = rest is in (w.0, omega (arith, w.1), omega (arith, w.2), w.3, w.4))
+    by false is rest = (let w = rest is in (w.0, omega arith, omega arith, w.3, w.4))
 
 pub gets_some : WhoLosesFewGetsSome
 gets_some most r n now pick plan input got few loses k s t q b planned from to by_now heard before =
     by (all_or_lost got s r)
   where
-    after : (x : ℕ) → s ≤ x → x < s + r → got x ≡ false → (v : ℕ) × (x ≤ v) × (v ≤ x + most) × (got v ≡ true)
-    after x since until lost = loses.short x t q heard (omega (arith, before, since))
-        (omega (arith, until, few, by_now))
-
     later : (x v : ℕ) → x ≤ v → got x ≡ false → got v ≡ true → x < v
-    later x v le lost came = elim (cases_eq x v) [
-      | inl same ↦ absurd (let bad : true ≡ false = sym came ∙ ap got (sym same) ∙ lost in cc)
-      | inr differ ↦ elim (cases_lt x v) [ inl less ↦ less | inr more ↦ absurd (differ (omega (arith, le, more))) ]
-    ]
+    later x v le lost came = grind arith
 
     by : ((v : ℕ) → s ≤ v → v < s + r → got v ≡ true) ⊎ ((x : ℕ) × (s ≤ x) × (x < s + r) × (got x ≡ false))
         → GetsInARow r input s (s + n)
-    by (inl all) = record {
-      first = s;
-      since = omega arith;
-      until = omega (arith, few);
-      each = λ v u w. loses.came v
-          (all v u w);
-    }
+    by (inl all) =
+        record { first = s; since = omega arith; until = omega arith; each = λ v u w. loses.came v (all v u w) }
     by (inr (x, since, until, lost)) =
-        let v = after x since until lost in
+        let v = loses.short x t q heard (omega arith) (omega arith) in
         let less = later x v.0 v.1 lost v.3 in
-        let place : x + 1 + (v.0 - x - 1) ≡ v.0 = omega (arith, less) in
-        let e = edge got (v.0 - x - 1) x lost (subst (λ (m : ℕ). got m ≡ true) (sym place) v.3) in
+        let place : x + 1 + (v.0 - x - 1) ≡ v.0 = omega arith in
+        let e = edge got (v.0 - x - 1) x lost (rw place v.3) in
         record {
           first = e.0 + 1;
-          since = omega (arith, e.1, since);
-          until = omega (arith, e.2, v.2, less, until, few);
-          each = λ u from_u to_u. loses.came u (loses.long e.0 u e.3 e.4 (omega (arith, from_u)) (omega (arith, to_u))
-              (omega (arith, to_u, e.2, v.2, less, until, few, by_now)));
+          since = omega arith;
+          until = omega arith;
+          each = λ u from_u to_u. loses.came u
+              (loses.long e.0 u e.3 e.4 (omega arith) (omega arith) (omega arith));
         }
 
 -- ---- a long dwell
 
-both : (a b : Bool) (x y : List Segment) → b ≡ true → x ≡ y → cond (a && b) x [] ≡ cond a y []
-both true b x y e same = cond-true b x [] e ∙ same
-both false b x y e same = refl
-
 within_before : (m : ℕ) (f : Bool) (s : ℕ) (gs : List Segment) → CameWithin m s gs
     → run_before m f s gs ≡ flag_run_before f gs
 within_before m f s [] came = refl
-within_before m f s (g ∷ older) came =
-    both (is_same f g.fragment.flag) (nat_lt s (g.slot + m)) (g ∷ run_before m f g.slot older)
-    (g ∷ flag_run_before f older) (lt-ltb s (g.slot + m) came.0)
-    (ap (λ (gs : List Segment). g ∷ gs) (within_before m f g.slot older came.1))
+within_before m f s (g ∷ older) came = grind (arith, nat_tests, within_before m f g.slot older came.1)
 
 within_run : (m t : ℕ) (gs : List Segment) → CameWithin m t gs → run m t gs ≡ flag_run gs
 within_run m t [] came = refl
-within_run m t (g ∷ older) came =
-    cond-true (nat_lt t (g.slot + m)) (g ∷ run_before m g.fragment.flag g.slot older) [] (lt-ltb t (g.slot + m) came.0)
-    ∙ ap (λ (gs : List Segment). g ∷ gs) (within_before m g.fragment.flag g.slot older came.1)
+within_run m t (g ∷ older) came = grind (arith, nat_tests, within_before m g.fragment.flag g.slot older came.1)
 
 run_while_heard : (pick : Message → Option Fragment) (m : ℕ) (input : Input) → HearsWithin m pick input
     → run_at pick m input.first input.heard ≡ run_by_flag pick input
@@ -208,11 +148,11 @@ run_while_heard pick m input came =
 falls_within : (m t : ℕ) (gs : List Segment) → t < m → AreFalling (t + 1) gs → CameWithin m t gs
 falls_within m t [] long falls = tt
 falls_within m t (g ∷ older) long falls =
-    let before = falls.0 in (omega arith, falls_within m g.slot older (omega arith) (lower older falls.1))
-  where
-    lower : (gs : List Segment) → AreFalling g.slot gs → AreFalling (g.slot + 1) gs
-    lower [] falls = tt
-    lower (h ∷ older) falls = (let before = falls.0 in omega arith, falls.1)
+    let before = falls.0 in (
+      omega arith,
+      falls_within m g.slot older (omega arith)
+          (fall_below g.slot (g.slot + 1) older (omega arith) falls.1),
+    )
 
 long_within : (pick : Message → Option Fragment) (m : ℕ) (input : Input) → next_slot input ≤ m
     → HearsWithin m pick input
@@ -223,40 +163,14 @@ long_within pick m input long = by input.heard long
     by [] long = tt
     by (x ∷ before) long =
         let next : input.first + length (x ∷ before) ≡ input.first + length before + 1 = omega arith in
-        falls_within m (input.first + length before) (segments pick input.first (x ∷ before))
-        (omega (arith, long, next))
-        (subst (λ (n : ℕ). AreFalling n (segments pick input.first (x ∷ before))) next (segments_fall pick input.first
-        (x ∷ before)))
+        falls_within m (input.first + length before) (segments pick input.first (x ∷ before)) (omega arith)
+        (rw next at (segments_fall pick input.first (x ∷ before)))
 
 pub while_heard : TheFlagAloneIsADwellWhileHeard
-while_heard m input view texts_came names_came = (to, from)
-  where
-    text_run : run_at text_fragment m input.first input.heard ≡ run_by_flag text_fragment input
-    text_run = run_while_heard text_fragment m input texts_came
-
-    name_run : run_at name_fragment m input.first input.heard ≡ run_by_flag name_fragment input
-    name_run = run_while_heard name_fragment m input names_came
-
-    pair : pair_held m input.first input.heard ≡ pair_by_flag input
-    pair = ap (λ (gs : List Segment). pair_from input.first (begins_in gs) input.heard) text_run
-
-    to : ShowsByFlag input view → ShowsView m input.first input.heard view
-    to shows = record {
-      text = subst (λ (gs : List Segment). IsShown IsWholeText (cells_of gs) view.text) (sym text_run) shows.text;
-      name = subst (λ (gs : List Segment). IsShown IsWholeName (cells_of gs) view.name) (sym name_run) shows.name;
-      item = shows.item ∙ ap (item_of view.text) (sym pair);
-      one = shows.one ∙ ap (tag_of One view.text) (sym pair);
-      two = shows.two ∙ ap (tag_of Two view.text) (sym pair);
-    }
-
-    from : ShowsView m input.first input.heard view → ShowsByFlag input view
-    from shows = record {
-      text = subst (λ (gs : List Segment). IsShown IsWholeText (cells_of gs) view.text) text_run shows.text;
-      name = subst (λ (gs : List Segment). IsShown IsWholeName (cells_of gs) view.name) name_run shows.name;
-      item = shows.item ∙ ap (item_of view.text) pair;
-      one = shows.one ∙ ap (tag_of One view.text) pair;
-      two = shows.two ∙ ap (tag_of Two view.text) pair;
-    }
+while_heard m input view texts_came names_came =
+    let text = run_while_heard text_fragment m input texts_came in
+    let name = run_while_heard name_fragment m input names_came in
+    (λ shows. search (text, name), λ shows. search (← text, ← name))
 
 pub long_dwell : TheFlagAloneIsALongDwell
 long_dwell m input view long = while_heard m input view (long_within text_fragment m input long)

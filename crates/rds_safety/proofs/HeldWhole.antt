@@ -1,17 +1,17 @@
 -- Lemmas: a run holds each recent segment, so a broadcast is shown if all its segments came recently.
-use Rattle.std.proofs.Common.{◌≡◌, ◌+◌, ◌<◌, ◌≤◌, ◌⊎◌, ℕ, Bool, true, false, List, [], ◌∷◌, Option, Some, None, cond}
-use Rattle.std.proofs.Common.{length, nat_eq, nat_lt, ◌&&◌, refl, sym, ap, ◌∙◌, subst, inl, inr, arith}
+use Rattle.std.proofs.Common.{◌≡◌, ◌+◌, ◌<◌, ◌≤◌, ◌⊎◌, ℕ, Bool, List, [], ◌∷◌, Option, Some, None}
+use Rattle.std.proofs.Common.{length, refl, sym, ap, ◌∙◌, subst, inl, inr, arith}
 use Rattle.std.specs.FinMap.{get}
 use Rattle.std.specs.List.{AllByRecursion}
-use Rattle.std.proofs.lemmas.Bool.{cases_order, eqb-false, eqb-true, lt-ltb}
+use Rattle.std.proofs.lemmas.Bool.Decides.{nat_tests}
 use Rattle.rds_fields.specs.declared.message.Message.{Message}
 use Rattle.rds_assembly.specs.Body.{AreAllHeld, segment_count, segment_of}
 use Rattle.rds_assembly.specs.Cells.{Cells}
 use Rattle.rds_encoder.specs.Plan.{Broadcast, Covers, HasNumber}
 use Rattle.rds_encoder.specs.Spaced.{IsSpaced}
-use Rattle.rds_receiver.specs.Receipts.{Segment, picked, segments, with_segment}
+use Rattle.rds_receiver.specs.Receipts.{Segment, segments}
 use Rattle.rds_receiver.specs.declared.fragment.Fragment.{Fragment}
-use Rattle.rds_receiver.specs.Run.{cells_of, is_same, run, run_at, run_before}
+use Rattle.rds_receiver.specs.Run.{begins_in, cells_of, run, run_at, run_before}
 use Rattle.rds_receiver.specs.Shown.{IsShown}
 use Rattle.rds_safety.specs.Late.{CameFrom, HasEntry, Input, IsHeardLate}
 use Rattle.rds_safety.specs.Lawful.{IsLawful, Kind}
@@ -34,8 +34,13 @@ IsIn (newest ∷ older) g = (g ≡ newest) ⊎ IsIn older g
 -- what holds of all segments holds of each
 pub all_in : (P : Segment → Type 0) (gs : List Segment) (g : Segment) → AllByRecursion P gs → IsIn gs g → P g
 all_in P [] g all is_in = absurd is_in
-all_in P (h ∷ older) g all (inl e) = subst P (sym e) all.0
-all_in P (h ∷ older) g all (inr is_in) = all_in P older g all.1 is_in
+all_in P (h ∷ older) g all is_in = grind (arith, all_in P older g all.1)
+
+-- a run begins with one of its segments
+pub first_in : (g : Segment) (older : List Segment)
+    → (h : Segment) × (begins_in (g ∷ older) ≡ Some h.slot) × IsIn (g ∷ older) h
+first_in g [] = (g, refl, inl refl)
+first_in g (h ∷ older) = (let f = first_in h older in (f.0, f.1, inr f.2))
 
 abbrev pub came_in : ℕ → Fragment → Segment
 came_in slot p = record { slot = slot; fragment = p }
@@ -45,38 +50,24 @@ pub in_segments : (pick : Message → Option Fragment) (first : ℕ) (heard : Li
     (message : Message) (p : Fragment)
     → HasEntry first heard u (Some message) → pick message ≡ Some p → IsIn (segments pick first heard) (came_in u p)
 in_segments pick first [] u message p has is = absurd has
-in_segments pick first (x ∷ before) u message p (inl now) is =
-    let picks : picked pick x ≡ Some p = ap (picked pick) (sym now.1) ∙ is in
-    subst (λ (o : Option Fragment). IsIn (with_segment (first + length before) o (segments pick first before))
-    (came_in u p)) (sym picks) (inl (ap (λ n. came_in n p) now.0))
-in_segments pick first (x ∷ before) u message p (inr earlier) is = by (picked pick x) (in_segments pick first before u
-    message p earlier is)
-  where
-    by : (o : Option Fragment) → IsIn (segments pick first before) (came_in u p)
-        → IsIn (with_segment (first + length before) o (segments pick first before)) (came_in u p)
-    by None has = has
-    by (Some q) has = inr has
+in_segments pick first (x ∷ before) u message p (inl now) is = grind arith
+in_segments pick first (x ∷ before) u message p (inr earlier) is =
+    let rest = in_segments pick first before u message p earlier is in
+    grind arith
 
 -- a segment among those that fall below n came before n
 pub in_below : (n : ℕ) (gs : List Segment) (g : Segment) → AreFalling n gs → IsIn gs g → g.slot < n
 in_below n [] g falls is_in = absurd is_in
-in_below n (h ∷ older) g falls (inl e) = subst (λ (x : Segment). x.slot < n) (sym e) falls.0
-in_below n (h ∷ older) g falls (inr is_in) = omega (arith, falls.0, in_below h.slot older g falls.1 is_in)
+in_below n (h ∷ older) g falls is_in = grind (arith, in_below h.slot older g falls.1)
 
 -- if one of the segments came in slot s or later, so did the newest one
 newest_since : (s : ℕ) (h : Segment) (older : List Segment) (g : Segment) → AreFalling h.slot older → s ≤ g.slot
     → IsIn (h ∷ older) g → s ≤ h.slot
-newest_since s h older g falls since (inl e) = subst (λ (x : Segment). s ≤ x.slot) e since
-newest_since s h older g falls since (inr is_in) = omega (arith, since, in_below h.slot older g falls is_in)
+newest_since s h older g falls since is_in = grind (arith, in_below h.slot older g falls)
 
 -- the segments that came in slot s or later have the flag
 abbrev HaveFlag : Bool → ℕ → List Segment → Type 0
 HaveFlag f s gs = AllByRecursion (λ (g : Segment). s ≤ g.slot → g.fragment.flag ≡ f) gs
-
-both_true : (a b : Bool) → a ≡ true → b ≡ true → (a && b) ≡ true
-both_true true true p q = refl
-both_true true false p q = absurd (cc)
-both_true false b p q = absurd (cc)
 
 -- if slots s to t are at most m, the run in slot t has each segment that came in slot s or later
 module _ (m t s : ℕ) (f : Bool) (soon : t < s + m) where
@@ -84,34 +75,18 @@ module _ (m t s : ℕ) (f : Bool) (soon : t < s + m) where
       → IsIn gs g → IsIn (run_before m f n gs) g
   kept_before n [] g past falls flags since is_in = absurd is_in
   kept_before n (h ∷ older) g past falls flags since is_in =
-      let new : s ≤ h.slot = newest_since s h older g falls.1 since is_in in
-      let below = falls.0 in
-      let joins : (is_same f h.fragment.flag && nat_lt n (h.slot + m)) ≡ true =
-      both_true (is_same f h.fragment.flag) (nat_lt n (h.slot + m)) (is_same_flag f h.fragment.flag (sym (flags.0 new)))
-      (lt-ltb n (h.slot + m) (omega (arith, soon, new, past))) in
-      subst (λ (b : Bool). IsIn (cond b (h ∷ run_before m f h.slot older) []) g) (sym joins)
-      (by is_in (kept_before h.slot older g (omega (arith, below, past)) falls.1 flags.1 since))
-    where
-      by : (g ≡ h) ⊎ IsIn older g → (IsIn older g → IsIn (run_before m f h.slot older) g)
-          → (g ≡ h) ⊎ IsIn (run_before m f h.slot older) g
-      by (inl e) rest = inl e
-      by (inr is_in) rest = inr (rest is_in)
+      let new = newest_since s h older g falls.1 since is_in in
+      let joins = is_same_flag f h.fragment.flag (sym (flags.0 new)) in
+      let rest = kept_before h.slot older g (omega arith) falls.1 flags.1 since in
+      grind (arith, nat_tests, rest)
 
   kept : (gs : List Segment) (g : Segment) → AreFalling (t + 1) gs → HaveFlag f s gs → s ≤ g.slot → IsIn gs g
       → IsIn (run m t gs) g
   kept [] g falls flags since is_in = absurd is_in
   kept (h ∷ older) g falls flags since is_in =
-      let new : s ≤ h.slot = newest_since s h older g falls.1 since is_in in
-      let below = falls.0 in
-      subst (λ (b : Bool). IsIn (cond b (h ∷ run_before m h.fragment.flag h.slot older) []) g)
-      (sym (lt-ltb t (h.slot + m) (omega (arith, soon, new))))
-      (subst (λ (x : Bool). IsIn (h ∷ run_before m x h.slot older) g) (sym (flags.0 new))
-      (by is_in (kept_before h.slot older g (omega (arith, below)) falls.1 flags.1 since)))
-    where
-      by : (g ≡ h) ⊎ IsIn older g → (IsIn older g → IsIn (run_before m f h.slot older) g)
-          → (g ≡ h) ⊎ IsIn (run_before m f h.slot older) g
-      by (inl e) rest = inl e
-      by (inr is_in) rest = inr (rest is_in)
+      let new = newest_since s h older g falls.1 since is_in in
+      let flag = flags.0 new in
+      grind (arith, nat_tests, kept_before h.slot older g (omega arith) falls.1 flags.1 since)
 
 -- for each segment of a run in one broadcast, that broadcast's segment is held at its address
 held_own : (kind : Kind) → SendsItsBody kind → (input : Input) (b : Broadcast) (gs : List Segment) (g : Segment)
@@ -120,32 +95,16 @@ held_own : (kind : Kind) → SendsItsBody kind → (input : Input) (b : Broadcas
     → get (cells_of gs) g.fragment.address ≡ Some (segment_of (kind.body b.bytes) g.fragment.address)
 held_own kind sends input b [] g all is_in = absurd is_in
 held_own kind sends input b (h ∷ older) g all is_in =
-    get-put (cells_of older) h.fragment.address h.fragment.bytes g.fragment.address
-    ∙ by (nat_eq g.fragment.address h.fragment.address) refl is_in (held_own kind sends input b older g all.1)
-  where
-    by : (same : Bool) → nat_eq g.fragment.address h.fragment.address ≡ same → IsIn (h ∷ older) g
-        → (IsIn older g
-        → get (cells_of older) g.fragment.address ≡ Some (segment_of (kind.body b.bytes) g.fragment.address))
-        → cond same (Some h.fragment.bytes) (get (cells_of older) g.fragment.address)
-        ≡ Some (segment_of (kind.body b.bytes) g.fragment.address)
-    by true e is_in rest = ap Some ((sends.parts b.bytes h.fragment all.0.has.fragment).bytes ∙ ap (segment_of
-        (kind.body b.bytes))
-        (sym (eqb-true g.fragment.address h.fragment.address e)))
-    by false e (inl own) rest = absurd (eqb-false g.fragment.address h.fragment.address e
-        (ap (λ (x : Segment). x.fragment.address) own))
-    by false e (inr is_in) rest = rest is_in
+    let put = get-put (cells_of older) h.fragment.address h.fragment.bytes g.fragment.address in
+    let own = sends.parts b.bytes h.fragment all.0.has.fragment in
+    let bytes = own.bytes in
+    grind (arith, nat_tests, held_own kind sends input b older g all.1)
 
 -- one broadcast covers a slot
 pub one_covers : PlanLaws → (d : ℕ) (plan : List Broadcast) (k l : ℕ) (a b : Broadcast) (u : ℕ) → IsSpaced d plan
     → HasNumber plan k a → HasNumber plan l b → Covers a u → Covers b u → a ≡ b
 one_covers laws d plan k l a b u spaced p q v w =
-    elim (cases_order k l) [
-      | inl same ↦ laws.one plan l a b (subst (λ (n : ℕ). HasNumber plan n a) {x = k} same p) q
-      | inr o ↦ elim o [
-        | inl less ↦ absurd (omega (arith, laws.order d plan k l a b spaced p q less, v.to, w.from))
-        | inr more ↦ absurd (omega (arith, laws.order d plan l k b a spaced q p more, v.from, w.to))
-      ]
-    ]
+    grind (arith, laws.one plan k a b p, laws.order d plan k l a b spaced p q, laws.order d plan l k b a spaced q p)
 
 -- a segment with this address came in slot s or later
 pub record CameSince (gs : List Segment) (s address : ℕ) : Type 0 where
@@ -175,20 +134,15 @@ module _ (laws : PlanLaws) (d m t s : ℕ) (kind : Kind) (sends : SendsItsBody k
           let sent = rw (alike.picked all.0.message g.fragment all.0.fragment)
           at (mark_sent of log came.slot (Some all.0.message) came.sent) in
           let lies = law.fragments came.slot g.fragment sent in
-          let mine : Covers b came.slot = record {
-            from = omega (arith, from, fresh g.slot came.slot since came.from);
-            to = omega
-                (arith, to, hears.past g.slot came.slot came.from);
-          } in
-          let same : lies.broadcast ≡ b = one_covers laws d plan lies.number number lies.broadcast b came.slot
-          law.spaced lies.planned planned lies.is.covers mine in
-          lies.is.flag ∙ ap (λ (x : Broadcast). x.flag) same
+          let past = hears.past g.slot came.slot came.from in
+          let mine : Covers b came.slot = omega (arith, fresh g.slot came.slot since came.from) in
+          lies.is.flag ∙ ap (λ (x : Broadcast). x.flag) (one_covers laws d plan lies.number number lies.broadcast b
+          came.slot law.spaced lies.planned planned lies.is.covers mine)
 
   run_is : (heard : List (Option Message)) → input.first + length heard ≡ t + 1
       → run_at pick m input.first heard ≡ run m t (segments pick input.first heard)
   run_is [] e = refl
-  run_is (x ∷ before) e = (let slot : input.first + length before ≡ t = omega arith
-      in ap (λ (n : ℕ). run m n (segments pick input.first (x ∷ before))) slot)
+  run_is (x ∷ before) e = (let slot : input.first + length before ≡ t = omega arith in rw slot)
 
   in_run : (g : Segment) → s ≤ g.slot → IsIn its_segments g → IsIn (run m t its_segments) g
   in_run g since is_in =
@@ -210,31 +164,22 @@ module _ (laws : PlanLaws) (d m t s : ℕ) (kind : Kind) (sends : SendsItsBody k
       same : lies.broadcast ≡ b
       same =
           let w = each 0 some in
-          let g = w.segment in
-          let own : IsSegmentOf kind input g lies.broadcast = all_in (λ (x : Segment). IsSegmentOf kind input x
-          lies.broadcast) (h ∷ older) g lies.all (holds g w.since w.is_in) in
-          let mine : Covers b own.slot = record {
-            from = omega (arith, from, fresh g.slot own.slot w.since own.from);
-            to = omega
-                (arith, to, hears.past g.slot own.slot own.from);
-          } in
+          let own = all_in (λ (x : Segment). IsSegmentOf kind input x lies.broadcast) (h ∷ older) w.segment lies.all
+          (holds w.segment w.since w.is_in) in
+          let past = hears.past w.segment.slot own.slot own.from in
           one_covers laws d plan lies.number number lies.broadcast b own.slot law.spaced lies.planned planned
-          own.has.covers mine
-
-      own_run : AreOf kind input b (h ∷ older)
-      own_run = subst (λ (x : Broadcast). AreOf kind input x (h ∷ older)) same lies.all
+          own.has.covers (omega (arith, fresh w.segment.slot own.slot w.since own.from))
 
       held : (a : ℕ) → a < segment_count (kind.body b.bytes)
           → get (cells_of (h ∷ older)) a ≡ Some (segment_of (kind.body b.bytes) a)
       held a within =
           let w = each a within in
-          subst (λ (n : ℕ). get (cells_of (h ∷ older)) n ≡ Some (segment_of (kind.body b.bytes) n)) w.at
-          (held_own kind sends input b (h ∷ older) w.segment own_run (holds w.segment w.since w.is_in))
+          rw w.at at (held_own kind sends input b (h ∷ older) w.segment
+          (subst (λ (x : Broadcast). AreOf kind input x (h ∷ older)) same lies.all) (holds w.segment w.since w.is_in))
 
       by : (shown : Option (List ℕ)) → IsShown IsWhole (cells_of (h ∷ older)) shown → shown ≡ Some b.bytes
       by None is = absurd (is b.bytes (all (cells_of (h ∷ older)) record { held = held }))
-      by (Some x) is = ap Some (bytes_of_run d t kind IsWhole plan input h older x service law.values lies is
-          ∙ ap (λ (y : Broadcast). y.bytes) same)
+      by (Some x) is = rw (bytes_of_run d t kind IsWhole plan input h older x service law.values lies is, same)
 
   -- a receiver that heard each segment of a broadcast lately shows its whole value
   pub shown_near : (IsWhole : Cells → List ℕ → Type 0) → IsService kind IsWhole
@@ -243,11 +188,9 @@ module _ (laws : PlanLaws) (d m t s : ℕ) (kind : Kind) (sends : SendsItsBody k
       → ((a : ℕ) → a < segment_count (kind.body b.bytes) → CameSince its_segments s a) → (shown : Option (List ℕ))
       → IsShown IsWhole (cells_of (run_at pick m input.first input.heard)) shown → shown ≡ Some b.bytes
   shown_near IsWhole service all some each shown is =
-      let the_run : run_at pick m input.first input.heard ≡ run m t its_segments = run_is input.heard now in
-      shown_of IsWhole service (run m t its_segments)
-      (subst (λ (xs : List Segment). RunLiesInOne d t kind plan input xs) the_run (heard_run_lies laws d m t kind pick
-      of plan log input alike law hears))
-      in_run all some each shown (subst (λ (xs : List Segment). IsShown IsWhole (cells_of xs) shown) the_run is)
+      let the_run = run_is input.heard now in
+      shown_of IsWhole service (run m t its_segments) (rw the_run at (heard_run_lies laws d m t kind pick of plan log
+      input alike law hears)) in_run all some each shown (rw the_run at is)
 
 -- the same if the input is at most k slots late
 pub shown_whole : PlanLaws → (m t s : ℕ) (kind : Kind) → SendsItsBody kind → (pick : Message

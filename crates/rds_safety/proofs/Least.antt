@@ -3,11 +3,10 @@
 -- nothing in n slots, then the second segment of `BBBBDDD`. For it the two came less than its dwell apart, so it shows
 -- `AAAADDD`, which nobody set. If j is n + k, the first came k slots late and the second on time. By a clock of its own
 -- any j will do.
-use Rattle.std.proofs.Common.{◌≡◌, ◌≢◌, ◌⊎◌, ◌+◌, ◌-◌, ◌<◌, ℕ, zero, suc, true, false, List, [], ◌∷◌, length}
-use Rattle.std.proofs.Common.{slice_index, Option, Some, None, refl, sym, ap, ◌∙◌, subst, inl, inr, arith}
-use Rattle.std.specs.Prelude.{IfSome, nat_lt}
+use Rattle.std.proofs.Common.{◌≡◌, ◌⊎◌, ◌+◌, ◌-◌, ◌<◌, ℕ, zero, suc, true, false, List, [], ◌∷◌, length}
+use Rattle.std.proofs.Common.{slice_index, Option, Some, None, refl, ap, ◌∙◌, inl, inr, arith}
 use Rattle.std.specs.FinMap.{empty, get, insert}
-use Rattle.std.proofs.lemmas.Bool.{cond-true, lt-ltb}
+use Rattle.std.proofs.lemmas.Bool.Decides.{nat_tests}
 use Rattle.rds_fields.specs.declared.message.Message.{Message}
 use Rattle.rds_fields.specs.declared.message.Message.TheVariants.{Text}
 use Rattle.rds_fields.specs.declared.pair.Which.TheVariants.{One, Two}
@@ -22,7 +21,7 @@ use Rattle.rds_encoder.specs.Plan.{Broadcast, HasNumber}
 use Rattle.rds_encoder.specs.Spaced.{IsSpaced}
 use Rattle.rds_receiver.specs.Receipts.{Segment, name_fragment, segments, text_fragment}
 use Rattle.rds_receiver.specs.declared.fragment.Fragment.{Fragment}
-use Rattle.rds_receiver.specs.Run.{run, run_at, run_before}
+use Rattle.rds_receiver.specs.Run.{run, run_at}
 use Rattle.rds_receiver.specs.Shown.{ShowsView, ShownView}
 use Rattle.rds_receiver.specs.Tags.{item_of, pair_held, tag_of}
 use Rattle.rds_safety.specs.Late.{HasEntry, Input, IsHeardLate, SentIn}
@@ -30,8 +29,7 @@ use Rattle.rds_safety.specs.Lawful.{HasOne, HasFragment, HasTags, IsLawful, name
 use Rattle.rds_safety.specs.Laws.{ShowsAMix}
 use Rattle.rds_safety.specs.Marks.{IsMarkIn, Mark, Nothing, Sends, Tagged, marks, name_mark, text_mark}
 use Rattle.rds_safety.specs.Plans.{AreLawful}
-use Rattle.rds_safety.specs.Safe.{AreSafeViews, Listener, ListensTo, RunWasOnAir}
-use Rattle.rds_safety.specs.Source.{text_run}
+use Rattle.rds_safety.specs.Safe.{AreSafeViews, Listener, ListensTo}
 use Rattle.rds_safety.proofs.Bytes.{get-put}
 use Rattle.rds_safety.proofs.OnTime.{input_of, nothing_heard, one_more}
 
@@ -69,14 +67,7 @@ abbrev pub last_message : Option Message
 last_message = Some (Text false 1 (three_and_end 68))
 
 of_seven : (P : ℕ → Type 0) (a b : ℕ) → P a → P b → (i : ℕ) → i < 7 → P (slice_index (text_of_two a b) i)
-of_seven P a b p q zero h = p
-of_seven P a b p q (suc zero) h = p
-of_seven P a b p q (suc (suc zero)) h = p
-of_seven P a b p q (suc (suc (suc zero))) h = p
-of_seven P a b p q (suc (suc (suc (suc zero)))) h = q
-of_seven P a b p q (suc (suc (suc (suc (suc zero))))) h = q
-of_seven P a b p q (suc (suc (suc (suc (suc (suc zero)))))) h = q
-of_seven P a b p q (suc (suc (suc (suc (suc (suc (suc i))))))) h = absurd (omega arith)
+of_seven P a b p q i h = grind arith
 
 -- the text of two such bytes is a text
 pub is_text : (a b : ℕ) → a < 256 → b < 256 → is_text_byte a ≡ true → is_text_byte b ≡ true → IsText (text_of_two a b)
@@ -98,25 +89,14 @@ plan c = newer c ∷ older ∷ []
 
 -- the plan has two broadcasts, the older one with number 0 and the newer one with number 1
 pub which : (c k : ℕ) (b : Broadcast) → HasNumber (plan c) k b → ((k ≡ 1) × (b ≡ newer c)) ⊎ ((k ≡ 0) × (b ≡ older))
-which c k b (inl p) = inl p
-which c k b (inr (inl p)) = inr p
-which c k b (inr (inr p)) = absurd p
+which c k b p = grind arith
 
 spaced : (c : ℕ) → 0 < c → IsSpaced c (plan c)
 spaced c later = record {
-  lasts = λ k b p. elim (which c k b p) [ inl q ↦ rw q.1 (omega arith) | inr q ↦ rw q.1 (omega arith) ];
-  order = λ k a b p q. elim (which c k a p) [
-    | inl u ↦ absurd (elim (which c (k + 1) b q) [ inl v ↦ omega arith | inr v ↦ omega arith ])
-    | inr u ↦ elim (which c (k + 1) b q) [ inl v ↦ rw (u.1, v.1) later | inr v ↦ absurd (omega arith) ]
-  ];
-  apart = λ k a b p q. elim (which c k a p) [
-    | inl u ↦ absurd (elim (which c (k + 1) b q) [ inl v ↦ omega arith | inr v ↦ omega arith ])
-    | inr u ↦ elim (which c (k + 1) b q) [ inl v ↦ inr (rw (u.1, v.1) (omega arith)) | inr v ↦ absurd (omega arith) ]
-  ];
-  far = λ k a b p q. absurd (elim (which c k a p) [
-    | inl u ↦ elim (which c (k + 2) b q) [ inl v ↦ omega arith | inr v ↦ omega arith ]
-    | inr u ↦ elim (which c (k + 2) b q) [ inl v ↦ omega arith | inr v ↦ omega arith ]
-  ]);
+  lasts = λ k b p. grind (arith, which c k b p);
+  order = λ k a b p q. grind (arith, which c k a p, which c (k + 1) b q);
+  apart = λ k a b p q. grind (arith, which c k a p, which c (k + 1) b q);
+  far = λ k a b p q. grind (arith, which c k a p, which c (k + 2) b q);
 }
 
 -- the first segment, then nothing in j slots
@@ -139,16 +119,12 @@ marks_long (suc j) = ap suc (marks_long j)
 
 pub quiet_texts : (j t : ℕ) (m : Mark) → IsMarkIn (marks text_mark (quiet j)) t m
     → (m ≡ Nothing) ⊎ ((t ≡ 0) × (m ≡ Sends first_fragment))
-quiet_texts zero t m (inl s) = inr s
-quiet_texts zero t m (inr s) = absurd s
-quiet_texts (suc j) t m (inl s) = inl s.1
-quiet_texts (suc j) t m (inr s) = quiet_texts j t m s
+quiet_texts zero t m s = grind arith
+quiet_texts (suc j) t m s = grind (arith, quiet_texts j t m)
 
 quiet_names : (j t : ℕ) (m : Mark) → IsMarkIn (marks name_mark (quiet j)) t m → m ≡ Nothing
-quiet_names zero t m (inl s) = s.1
-quiet_names zero t m (inr s) = absurd s
-quiet_names (suc j) t m (inl s) = s.1
-quiet_names (suc j) t m (inr s) = quiet_names j t m s
+quiet_names zero t m s = grind arith
+quiet_names (suc j) t m s = grind (arith, quiet_names j t m)
 
 -- what was sent: after these slots the second segment
 abbrev pub log : ℕ → List (Option Message)
@@ -175,11 +151,7 @@ texts_lawful j = record {
           number = 1;
           broadcast = newer (j + 1);
           planned = inl (refl, refl);
-          is = rw (same, slot) record {
-            covers = record { from = omega arith; to = omega arith };
-            flag = refl;
-            fragment = record { within = omega arith; bytes = refl };
-          };
+          is = rw (same, slot) record { covers = omega arith; flag = refl; fragment = grind arith };
         }
     fragments t p (inr s) = elim (quiet_texts j t (Sends p) s) [
       | inl none ↦ absurd (cc)
@@ -189,39 +161,21 @@ texts_lawful j = record {
             number = 0;
             broadcast = older;
             planned = inr (inl (refl, refl));
-            is = rw (same, one.0) record {
-              covers = record { from = omega arith; to = omega arith };
-              flag = refl;
-              fragment = record { within = omega arith; bytes = refl };
-            };
+            is = rw (same, one.0) record { covers = omega arith; flag = refl; fragment = grind arith };
           }
     ]
 
     tags : (t : ℕ) (pair : PairFields) → IsMarkIn (marks text_mark (log j)) t (Tagged pair)
         → HasOne (plan (j + 1)) (HasTags (j + 1) t pair)
-    tags t pair (inl s) = (let e = s.1 in absurd (cc))
-    tags t pair (inr s) = elim (quiet_texts j t (Tagged pair) s) [
-      | inl none ↦ absurd (cc)
-      | inr one ↦ (let e = one.1
-          in absurd (cc))
-    ]
+    tags t pair s = absurd (grind (arith, quiet_texts j t (Tagged pair)))
 
 names_lawful : (d j : ℕ) → IsLawful d names [] (marks name_mark (log j))
 names_lawful d j = record {
-  spaced = record {
-    lasts = λ k b p. absurd p;
-    order = λ k a b p q. absurd p;
-    apart = λ k a b p q. absurd p;
-    far = λ k a b p q. absurd p;
-  };
+  spaced = grind arith;
   values = λ k b p. absurd p;
-  fragments = λ t p s. absurd (none t (Sends p) s (λ e. (cc)));
-  tags = λ t pair s. absurd (none t (Tagged pair) s (λ e. (cc)));
+  fragments = λ t p s. absurd (grind (arith, quiet_names j t (Sends p)));
+  tags = λ t pair s. absurd (grind (arith, quiet_names j t (Tagged pair)));
 }
-  where
-    none : (t : ℕ) (m : Mark) → IsMarkIn (marks name_mark (log j)) t m → m ≢ Nothing → ⊥
-    none t m (inl s) ne = ne s.1
-    none t m (inr s) ne = ne (quiet_names j t m s)
 
 -- what the receiver got, from slot k on
 abbrev pub heard : ℕ → List (Option Message)
@@ -232,15 +186,13 @@ input k n j = input_of k (heard n) (Some (j + 1) ∷ quiet_origins n)
 
 -- slot 0 has the first message, whatever follows
 pub first_sent : (j : ℕ) → HasEntry 0 (quiet j) 0 first_message
-first_sent zero = inl (omega arith, refl)
+first_sent zero = grind arith
 first_sent (suc j) = inr (first_sent j)
 
 -- all that was heard came from slot 0
 pub all_from_first : (k n u s : ℕ) → HasEntry k (quiet_origins n) u (Some s) → s ≡ 0
-all_from_first k zero u s (inl p) = (let e = p.1 in cc)
-all_from_first k zero u s (inr p) = absurd p
-all_from_first k (suc n) u s (inl p) = (let e = p.1 in absurd (cc))
-all_from_first k (suc n) u s (inr p) = all_from_first k n u s p
+all_from_first k zero u s p = grind arith
+all_from_first k (suc n) u s p = grind (arith, all_from_first k n u s)
 
 quiet_late : (k n : ℕ) (sent : List (Option Message)) → SentIn sent 0 first_message
     → IsHeardLate k sent (input_of k (quiet n) (quiet_origins n))
@@ -253,7 +205,7 @@ is_late : (k n : ℕ) → IsHeardLate k (log (n + k)) (input k n (n + k))
 is_late k n = one_more k (log (n + k)) k (quiet n) (quiet_origins n) (Some (n + k + 1)) last_message
     (quiet_late k n (log (n + k)) (inr (first_sent (n + k))))
     (inl (omega (arith, quiet_long (n + k)), refl)) (omega (arith, quiet_long n), omega (arith, quiet_long n))
-    (λ r u s e a. (let r_is : n + k + 1 ≡ r = cc in omega (arith, all_from_first k n u s a)))
+    (λ r u s e a. grind (arith, all_from_first k n u s a))
 
 -- its run is both segments
 abbrev pub first_segment : ℕ → Segment
@@ -274,21 +226,14 @@ no_segments k (suc n) = no_segments k n
 -- so it shows the mix until the last segment is as old as the dwell
 pub mixed_by : (k n now : ℕ) → now < k + length (quiet n) + (n + 2)
     → run (n + 2) now (segments text_fragment k (heard n)) ≡ last_segment (k + length (quiet n)) ∷ first_segment k ∷ []
-mixed_by k n now soon =
-    let t : ℕ = k + length (quiet n) in
-    let recent : nat_lt now (t + (n + 2)) ≡ true = lt-ltb _ _ soon in
-    let joins : nat_lt t (k + 0 + (n + 2)) ≡ true = lt-ltb _ _ (omega (arith, quiet_long n)) in
-    ap (λ gs. run (n + 2) now (last_segment t ∷ gs)) (quiet_segments k n)
-    ∙ cond-true (nat_lt now (t + (n + 2))) (last_segment t ∷ run_before (n + 2) false t (first_segment k ∷ [])) []
-    recent
-    ∙ ap (λ gs. last_segment t ∷ gs) (cond-true (nat_lt t (k + 0 + (n + 2))) (first_segment k ∷ []) [] joins)
+mixed_by k n now soon = grind (arith, nat_tests, quiet_segments k n, quiet_long n)
 
 mixed : (k n : ℕ) → run_at text_fragment (n + 2) k (heard n) ≡ last_segment (k + length (quiet n)) ∷ first_segment k
     ∷ []
 mixed k n = mixed_by k n (k + length (quiet n)) (omega arith)
 
 no_name : (k n : ℕ) → run_at name_fragment (n + 2) k (heard n) ≡ []
-no_name k n = ap (λ gs. run (n + 2) (k + length (quiet n)) gs) (no_segments k n)
+no_name k n = rw (no_segments k n)
 
 abbrev pub both_cells : Cells
 both_cells = insert (insert empty 0 (four 65)) 1 (three_and_end 68)
@@ -313,13 +258,9 @@ view k n = record {
 
 -- a receiver that heard both messages shows the mix
 pub shows : (k n : ℕ) → ShowsView (n + 2) k (heard n) (view k n)
-shows k n = record {
-  text = rw (mixed k n) mix_is_whole;
-  name = rw (no_name k n) no_name_of_none;
-  item = refl;
-  one = refl;
-  two = refl;
-}
+shows k n =
+    let text = rw (mixed k n) mix_is_whole in
+    record { text = text; name = rw (no_name k n) no_name_of_none; item = refl; one = refl; two = refl }
 
 abbrev receiver : ℕ → ℕ → ℕ → Listener
 receiver k n j = record { input = input k n j; view = view k n }
@@ -337,19 +278,12 @@ fifth_byte a b a' b' e = cc
 
 -- no broadcast of the plan is the mix
 pub of_none : (c k : ℕ) (b : Broadcast) → HasNumber (plan c) k b → b.bytes ≡ mix → ⊥
-of_none c k b p same = elim (which c k b p) [
-  | inl q ↦ (let e : newer_text ≡ mix = ap (λ (x : Broadcast). x.bytes) (sym q.1) ∙ same
-      in omega (arith, one_byte _ _ _ _ e))
-  | inr q ↦ (let e : older_text ≡ mix = ap (λ (x : Broadcast). x.bytes) (sym q.1) ∙ same
-      in omega (arith, fifth_byte 65 67 65 68 e))
-]
+of_none c k b p same = grind (arith, which c k b p)
 
 not_safe : (c d m t : ℕ) (sent : List (Option Message)) (r : Listener) → r.view.text ≡ Some mix
     → AreSafeViews d m t record { text = plan c; name = [] } sent (r ∷ []) → ⊥
 not_safe c d m t sent r shown safe =
-    let w = subst (λ (x : Option (List ℕ)). IfSome x (RunWasOnAir d t (plan c) r.input (text_run m r.input))) shown
-    (safe.texts 0 r (omega arith)) in
-    of_none c w.number w.broadcast w.source.planned w.bytes
+    (let w = rw shown at (safe.texts 0 r (omega arith)) in of_none c w.number w.broadcast w.source.planned w.bytes)
 
 pub lawful : (j : ℕ) → AreLawful (j + 1) record { text = plan (j + 1); name = [] } (log j)
 lawful j = record { text = texts_lawful j; name = names_lawful (j + 1) j }
@@ -378,5 +312,4 @@ pub one_slot_less : (m k : ℕ) → 1 < m → ShowsAMix (m + k - 1) m (ListensTo
 one_slot_less m k h =
     let e : m - 2 + 2 ≡ m = omega arith in
     let slots : m - 2 + k + 1 ≡ m + k - 1 = omega arith in
-    subst (λ (x : ℕ). ShowsAMix (m + k - 1) x (ListensTo k x)) e
-    (subst (λ (x : ℕ). ShowsAMix x (m - 2 + 2) (ListensTo k (m - 2 + 2))) slots (at_two_or_more (m - 2) k))
+    rw (e, slots) at (at_two_or_more (m - 2) k)

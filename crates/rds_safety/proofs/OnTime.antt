@@ -1,6 +1,6 @@
 -- Lemmas about one more entry of an input in order, or of a late one, and about inputs that are on time.
-use Rattle.std.proofs.Common.{◌≡◌, ◌⊎◌, ◌+◌, ◌<◌, ◌≤◌, ℕ, suc, List, [], ◌∷◌, length, Option, Some, None, refl, sym, ap}
-use Rattle.std.proofs.Common.{subst, inl, inr, arith}
+use Rattle.std.proofs.Common.{◌≡◌, ◌⊎◌, ◌+◌, ◌<◌, ◌≤◌, ℕ, suc, List, [], ◌∷◌, length, Option, Some, None, refl, ap}
+use Rattle.std.proofs.Common.{inl, inr, arith}
 use Rattle.rds_safety.specs.Late.{HasEntry, InputOf, IsHeardInOrder, IsHeardLate, IsHeardOnTime, IsOfItsOrigin, SentIn}
 use Rattle.rds_safety.specs.Late.{own_origins}
 use Rattle.rds_safety.proofs.Entries.{before_end, entry_beside}
@@ -10,12 +10,7 @@ input_of first heard origins = record { first = first; heard = heard; origins = 
 
 -- who heard nothing heard it in order
 pub nothing_in_order : {X : Type 0} (log : List (Option X)) (first : ℕ) → IsHeardInOrder log (input_of first [] [])
-nothing_in_order log first = record {
-  beside = refl;
-  each = λ t origin entry o a. absurd o;
-  rising = λ t u r s p q h.
-      absurd p;
-}
+nothing_in_order log first = grind arith
 
 -- an entry of the log extends an input in order, if its origin is later than all origins before
 pub one_more_in_order : {X : Type 0} (log : List (Option X)) (first : ℕ) (heard : List (Option X))
@@ -23,26 +18,19 @@ pub one_more_in_order : {X : Type 0} (log : List (Option X)) (first : ℕ) (hear
     → IsHeardInOrder log (input_of first heard origins) → IsOfItsOrigin log o x
     → ((r u s : ℕ) → o ≡ Some r → HasEntry first origins u (Some s) → s < r)
     → IsHeardInOrder log (input_of first (x ∷ heard) (o ∷ origins))
-one_more_in_order {X} log first heard origins o x order says after = record {
-  beside = (let beside = order.beside in omega arith);
-  each = each;
-  rising = rising;
-}
+one_more_in_order {X} log first heard origins o x order says after =
+    let beside = order.beside in record { beside = omega arith; each = each; rising = rising }
   where
     each : (t : ℕ) (origin : Option ℕ) (entry : Option X) → HasEntry first (o ∷ origins) t origin
         → HasEntry first (x ∷ heard) t entry → IsOfItsOrigin log origin entry
-    each t origin entry (inl p) (inl q) = subst (λ y. IsOfItsOrigin log y entry) (sym p.1)
-        (subst (λ y. IsOfItsOrigin log o y) (sym q.1) says)
+    each t origin entry (inl p) (inl q) = rw (p.1, q.1) says
     each t origin entry (inl p) (inr q) = absurd (omega (arith, before_end first heard t entry q, order.beside))
     each t origin entry (inr p) (inl q) = absurd (omega (arith, before_end first origins t origin p, order.beside))
     each t origin entry (inr p) (inr q) = order.each t origin entry p q
 
     rising : (t u r s : ℕ) → HasEntry first (o ∷ origins) t (Some r) → HasEntry first (o ∷ origins) u (Some s) → t < u
         → r < s
-    rising t u r s (inl p) (inl q) l = absurd (omega arith)
-    rising t u r s (inl p) (inr q) l = absurd (omega (arith, before_end first origins u (Some s) q))
-    rising t u r s (inr p) (inl q) l = after s t r (sym q.1) p
-    rising t u r s (inr p) (inr q) l = order.rising t u r s p q l
+    rising t u r s p q l = grind (arith, before_end first origins u (Some s), after s t r, order.rising t u r s)
 
 -- the origin of an entry that came in slot t, if it has one, is one of the slots t - k to t
 abbrev pub IsSoon : ℕ → ℕ → Option ℕ → Type 0
@@ -51,12 +39,7 @@ IsSoon k t (Some s) = (s ≤ t) × (t ≤ s + k)
 
 -- who heard nothing heard it late enough for any k
 pub nothing_heard : {X : Type 0} (k : ℕ) (log : List (Option X)) (first : ℕ) → IsHeardLate k log (input_of first [] [])
-nothing_heard k log first = record {
-  order = nothing_in_order log first;
-  past = λ t s p. absurd p;
-  late = λ t s p.
-      absurd p;
-}
+nothing_heard k log first = (let order = nothing_in_order log first in grind arith)
 
 -- the same for a late input, if the entry came so soon
 pub one_more : {X : Type 0} (k : ℕ) (log : List (Option X)) (first : ℕ) (heard : List (Option X))
@@ -71,9 +54,7 @@ one_more {X} k log first heard origins o x late says soon after = record {
 }
   where
     all_soon : (t s : ℕ) → HasEntry first (o ∷ origins) t (Some s) → (s ≤ t) × (t ≤ s + k)
-    all_soon t s (inl p) =
-        let here : t ≡ first + length heard = omega (arith, p.0, late.order.beside) in
-        subst (λ n. IsSoon k n (Some s)) (sym here) (subst (λ y. IsSoon k (first + length heard) y) (sym p.1) soon)
+    all_soon t s (inl p) = (let beside = late.order.beside in grind arith)
     all_soon t s (inr p) = (late.past t s p, late.late t s p)
 
 -- zero slots late, each entry is that of its slot
@@ -86,7 +67,7 @@ each_on_time {X} log first heard origins late t entry a = by (entry_beside first
     by (None, o) = inl (late.order.each t None entry o a)
     by (Some s, o) =
         let same : s ≡ t = omega (arith, late.past t s o, late.late t s o) in
-        inr (subst (λ n. SentIn log n entry) same (late.order.each t (Some s) entry o a))
+        inr (rw same at (late.order.each t (Some s) entry o a))
 
 own_long : {X : Type 0} (first : ℕ) (heard : List (Option X)) → length (own_origins first heard) ≡ length heard
 own_long first [] = refl
@@ -97,15 +78,8 @@ own_long first (Some x ∷ before) = ap suc (own_long first before)
 origin_is_slot : {X : Type 0} (first : ℕ) (heard : List (Option X)) (t s : ℕ)
     → HasEntry first (own_origins first heard) t (Some s) → (s ≡ t) × (t < first + length heard)
 origin_is_slot first [] t s a = absurd a
-origin_is_slot first (None ∷ before) t s (inl p) = (let bad = p.1 in absurd (cc))
-origin_is_slot first (None ∷ before) t s (inr p) = (let rest = origin_is_slot first before t s p
-    in (rest.0, omega (arith, rest.1)))
-origin_is_slot first (Some x ∷ before) t s (inl p) =
-    let origin = p.1 in
-    let s_is : s ≡ first + length before = cc in
-    (omega (arith, own_long first before, p.0), omega (arith, own_long first before, p.0))
-origin_is_slot first (Some x ∷ before) t s (inr p) = (let rest = origin_is_slot first before t s p
-    in (rest.0, omega (arith, rest.1)))
+origin_is_slot first (None ∷ before) t s a = grind (arith, origin_is_slot first before t s)
+origin_is_slot first (Some x ∷ before) t s a = grind (arith, own_long first before, origin_is_slot first before t s)
 
 -- an input that is on time is zero slots late
 pub no_slot_late : {X : Type 0} (log : List (Option X)) (first : ℕ) (heard : List (Option X))
@@ -114,15 +88,8 @@ no_slot_late log first [] each = nothing_heard 0 log first
 no_slot_late log first (None ∷ before) each =
     one_more 0 log first before (own_origins first before) None None (no_slot_late log first before
     (λ t entry a. each t entry (inr a))) refl tt (λ r u s e a. absurd (cc))
-no_slot_late {X} log first (Some x ∷ before) each = by (each (first + length before) (Some x) (inl (refl, refl)))
+no_slot_late {X} log first (Some x ∷ before) each =
+    one_more 0 log first before (own_origins first before) (Some (first + length before)) (Some x)
     (no_slot_late log first before (λ t entry a. each t entry (inr a)))
-  where
-    by : (Some x ≡ None) ⊎ SentIn log (first + length before) (Some x)
-        → IsHeardLate 0 log (input_of first before (own_origins first before))
-        → IsHeardLate 0 log (input_of first (Some x ∷ before) (own_origins first (Some x ∷ before)))
-    by (inl none) late = absurd (cc)
-    by (inr sent) late =
-        one_more 0 log first before (own_origins first before) (Some (first + length before)) (Some x) late
-        sent (omega arith, omega arith)
-        (λ r u s e a. (let r_is : first + length before ≡ r = cc in let own = origin_is_slot first before u s a
-        in omega (arith, own.0, own.1)))
+    (grind (arith, each (first + length before) (Some x) (inl (refl, refl)))) (omega arith, omega arith)
+    (λ r u s e a. grind (arith, origin_is_slot first before u s a))

@@ -1,10 +1,11 @@
 -- Lemmas: a run lies in one broadcast. A receiver knows only one bit of a broadcast, but any two neighbours of a run
 -- have one flag and were sent less than d slots apart, in whatever order and by whatever clock they came.
-use Rattle.std.proofs.Common.{◌≡◌, ◌+◌, ◌<◌, ◌≤◌, ℕ, Bool, List, [], ◌∷◌, length, Option, Some, ◌&&◌, refl, sym, ap}
-use Rattle.std.proofs.Common.{◌∙◌, subst, inl, inr, arith}
+use Rattle.std.proofs.Common.{◌≡◌, ◌+◌, ◌<◌, ◌≤◌, ℕ, Bool, List, [], ◌∷◌, length, Option, Some, ◌&&◌, refl, sym}
+use Rattle.std.proofs.Common.{◌∙◌, subst, arith}
 use Rattle.std.specs.Prelude.{nat_lt}
 use Rattle.std.specs.List.{AllByRecursion}
-use Rattle.std.proofs.lemmas.Bool.{and_parts, cases_order, cond_both, ltb-true}
+use Rattle.std.proofs.lemmas.Bool.{cond_both}
+use Rattle.std.proofs.lemmas.Bool.Decides.{nat_tests}
 use Rattle.rds_fields.specs.declared.message.Message.{Message}
 use Rattle.rds_encoder.specs.Plan.{Broadcast, Covers, HasNumber}
 use Rattle.rds_encoder.specs.Spaced.{IsSpaced}
@@ -19,20 +20,14 @@ use Rattle.rds_safety.specs.Near.{IsHeard, IsHeardNear, IsUnmarked}
 use Rattle.rds_safety.proofs.Entries.{arrival, mark_sent}
 use Rattle.rds_safety.specs.Flags.{same_flag}
 use Rattle.rds_safety.proofs.Hearing.{AreFalling, IsPicked, all_picked, segments_fall}
-use Rattle.rds_safety.proofs.Told.{AreJoined, AreOf, IsOfAny, IsTold, all_of_one}
+use Rattle.rds_safety.proofs.Told.{AreJoined, AreOf, IsOfAny, IsSegmentOf, IsTold, all_of_one}
 
 -- broadcasts of one flag that cover slots less than d apart are one
 one_number : PlanLaws → (d : ℕ) (plan : List Broadcast) (k l : ℕ) (a b : Broadcast) (s r : ℕ) → IsSpaced d plan
     → HasNumber plan k a → HasNumber plan l b
     → Covers a s → Covers b r → r < s + d → s < r + d → a.flag ≡ b.flag → k ≡ l
 one_number laws d plan k l a b s r spaced p q u v after before e =
-    elim (cases_order k l) [
-      | inl same ↦ same
-      | inr o ↦ elim o [
-        | inl less ↦ absurd (omega (arith, laws.one_flag d plan k l a b spaced p q less e, u.to, v.from))
-        | inr more ↦ absurd (omega (arith, laws.one_flag d plan l k b a spaced q p more (sym e), u.from, v.to))
-      ]
-    ]
+    grind (arith, laws.one_flag d plan k l a b spaced p q, laws.one_flag d plan l k b a spaced q p)
 
 -- the fragment picked from a message is that of its mark, and an entry that is neither a segment nor tags has no mark
 pub record PicksWhatIsMarked (pick : Message → Option Fragment) (of : Option Message → Mark) : Type 0 where
@@ -42,11 +37,8 @@ pub record PicksWhatIsMarked (pick : Message → Option Fragment) (of : Option M
 -- so what is picked from is marked
 pub is_marked : (pick : Message → Option Fragment) (of : Option Message → Mark) (message : Message) (p : Fragment)
     → PicksWhatIsMarked pick of → pick message ≡ Some p → IsUnmarked (Some message) → ⊥
-is_marked pick of message p alike picks none = no_fragment p (sym (alike.picked message p picks)
-    ∙ alike.unmarked (Some message) none)
-  where
-    no_fragment : (p : Fragment) → Sends p ≡ Nothing → ⊥
-    no_fragment p e = cc
+is_marked pick of message p alike picks none =
+    grind (arith, alike.picked message p picks, alike.unmarked (Some message) none)
 
 -- each segment that was picked is of some broadcast
 pub all_of_any : (d : ℕ) (kind : Kind) (pick : Message → Option Fragment) (of : Option Message → Mark)
@@ -60,15 +52,9 @@ all_of_any d kind pick of plan log input (g ∷ gs) alike law hears all =
     all.0.came in
     let sent = rw (alike.picked message g.fragment all.0.fragment)
     at (mark_sent of log came.slot (Some message) came.sent) in
-    let lies = law.fragments came.slot g.fragment sent in (
-      record {
-        number = lies.number;
-        broadcast = lies.broadcast;
-        planned = lies.planned;
-        is = record { slot = came.slot; from = came.from; has = lies.is };
-      },
-      all_of_any d kind pick of plan log input gs alike law hears all.1,
-    )
+    let lies = law.fragments came.slot g.fragment sent in
+    let its : IsSegmentOf kind input g lies.broadcast = grind arith in
+    (grind arith, all_of_any d kind pick of plan log input gs alike law hears all.1)
 
 -- the run lies in one broadcast, and its last segment was sent in the d slots up to slot t
 pub record LiesInOne (d t : ℕ) (kind : Kind) (plan : List Broadcast) (input : Input) (g : Segment)
@@ -89,9 +75,7 @@ RunLiesInOne d t kind plan input (g ∷ older) = LiesInOne d t kind plan input g
 all_before : (P : Segment → Type 0) (m : ℕ) (f : Bool) (s : ℕ) (gs : List Segment) → AllByRecursion P gs
     → AllByRecursion P (run_before m f s gs)
 all_before P m f s [] all = tt
-all_before P m f s (g ∷ older) all =
-    cond_both (is_same f g.fragment.flag && nat_lt s (g.slot + m)) (g ∷ run_before m f g.slot older) []
-    (AllByRecursion P) (λ _. (all.0, all_before P m f g.slot older all.1)) (λ _. tt)
+all_before P m f s (g ∷ older) all = grind (arith, all_before P m f g.slot older all.1)
 
 module _ (laws : PlanLaws) (d m t : ℕ) (kind : Kind) (plan : List Broadcast) (log : List (Option Message))
     (input : Input) (spaced : IsSpaced d plan) (hears : IsHeardNear d m t log input) where
@@ -100,9 +84,8 @@ module _ (laws : PlanLaws) (d m t : ℕ) (kind : Kind) (plan : List Broadcast) (
       → CameFrom input g.slot s → IsTold (λ x y. x ≡ y) plan r s
   told g h falls near r s from to k l a b p q u v flag =
       let after = hears.between h.slot g.slot r s from to near in
-      let before = hears.between g.slot h.slot s r to from (omega (arith, falls)) in
-      let same = one_number laws d plan k l a b r s spaced p q u v after before flag in
-      laws.one plan l a b (subst (λ (n : ℕ). HasNumber plan n a) {x = k} same p) q
+      let before = hears.between g.slot h.slot s r to from (omega arith) in
+      grind (arith, one_number laws d plan k l a b r s spaced p q u v after before flag, laws.one plan k a b p)
 
   -- so a run is joined
   joined_before : (f : Bool) (g : Segment) (gs : List Segment) → g.fragment.flag ≡ f → AreFalling g.slot gs
@@ -112,11 +95,9 @@ module _ (laws : PlanLaws) (d m t : ℕ) (kind : Kind) (plan : List Broadcast) (
       cond_both (is_same f h.fragment.flag && nat_lt g.slot (h.slot + m)) (h ∷ run_before m f h.slot older) []
       (λ (gs : List Segment). AreJoined (λ x y. x ≡ y) plan input (g ∷ gs))
       (λ joins.
-      let parts = and_parts (is_same f h.fragment.flag) (nat_lt g.slot (h.slot + m)) joins in
-      let flag : f ≡ h.fragment.flag = same_flag f h.fragment.flag parts.0 in (
-        record { flag = e ∙ flag; told = told g h falls.0 (ltb-true g.slot (h.slot + m) parts.1) },
-        joined_before f h
-            older (sym flag) falls.1,
+      let flag : f ≡ h.fragment.flag = grind (arith, same_flag) in (
+        record { flag = e ∙ flag; told = told g h falls.0 (grind (arith, nat_tests)) },
+        joined_before f h older (sym flag) falls.1,
       ))
       (λ _. tt)
 
@@ -140,7 +121,7 @@ module _ (laws : PlanLaws) (d m t : ℕ) (kind : Kind) (plan : List Broadcast) (
               g.fragment.flag g.slot older all.1),
         );
         past = hears.past g.slot its.slot its.from;
-        recent = hears.since g.slot its.slot its.from (omega (arith, next, ltb-true _ _ near));
+        recent = hears.since g.slot its.slot its.from (grind (arith, nat_tests));
       })
       (λ _. tt)
 
@@ -157,13 +138,10 @@ heard_run_lies laws d m t kind pick of plan log input alike law hears = by input
     by [] e = tt
     by (newest ∷ before) e =
         let n : ℕ = input.first + length before in
-        let next : input.first + length input.heard ≡ n + 1 = ap (λ (h : List (Option Message)). input.first + length h)
-        e ∙ omega arith in
+        let next : input.first + length input.heard ≡ n + 1 = rw e (omega arith) in
         let of_any = all_of_any d kind pick of plan log input (segments pick input.first input.heard) alike law
         hears.heard (all_picked pick input.first input.heard) in
-        let falls = segments_fall pick input.first input.heard in
         run_lies laws d m t kind plan log input law.spaced hears n (segments pick input.first (newest ∷ before)) next
-        (subst (λ (h : List (Option Message)). AreFalling (n + 1) (segments pick input.first h)) e
-        (subst (λ (i : ℕ). AreFalling i (segments pick input.first input.heard)) next falls))
-        (subst (λ (h : List (Option Message)). AllByRecursion (IsOfAny kind plan input) (segments pick input.first h)) e
-        of_any)
+        (rw (next, e) at (segments_fall pick input.first input.heard))
+        (subst (λ (h : List (Option Message)). AllByRecursion (IsOfAny kind plan input) (segments pick input.first h))
+        e of_any)

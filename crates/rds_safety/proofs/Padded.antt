@@ -1,7 +1,7 @@
 -- Lemmas: segments of a text with padding make this text whole, or nothing. Only places up to its carriage return
 -- count.
-use Rattle.std.proofs.Common.{◌≡◌, ◌≢◌, ◌⊎◌, ◌+◌, ◌*◌, ◌/◌, ◌%◌, ◌<◌, ◌≤◌, ◌∙◌, ℕ, List, [], ◌∷◌, true, length, Option}
-use Rattle.std.proofs.Common.{slice_index, sym, ap, subst, inl, inr, arith}
+use Rattle.std.proofs.Common.{◌≡◌, ◌≢◌, ◌+◌, ◌*◌, ◌/◌, ◌%◌, ◌<◌, ◌≤◌, ◌∙◌, ℕ, List, [], ◌∷◌, length, Option}
+use Rattle.std.proofs.Common.{slice_index, sym, ap, inl, inr, arith}
 use Rattle.std.specs.List.{AllByRecursion}
 use Rattle.std.proofs.lemmas.Bool.{cases_order}
 use Rattle.std.proofs.lemmas.Grind.{same_number_lists}
@@ -9,7 +9,7 @@ use Rattle.rds_fields.specs.declared.message.Message.{Message}
 use Rattle.rds_assembly.specs.Body.{text_body}
 use Rattle.rds_assembly.specs.Cells.{HasByte}
 use Rattle.rds_assembly.specs.ServiceLaws.{no_text_of_none}
-use Rattle.rds_assembly.specs.Value.{IsText, is_text_byte}
+use Rattle.rds_assembly.specs.Value.{IsText}
 use Rattle.rds_assembly.specs.Whole.{IsWholeText}
 use Rattle.rds_encoder.specs.Plan.{Broadcast}
 use Rattle.rds_receiver.specs.Receipts.{Segment}
@@ -24,9 +24,7 @@ use Rattle.rds_safety.proofs.Bytes.{AreParts, IsService, cell_has}
 
 -- no byte of a text is a carriage return
 no_return : (x : List ℕ) → IsText x → (i : ℕ) → i < length x → slice_index x i ≢ 13
-no_return x t i h e =
-    let bad : is_text_byte 13 ≡ true = sym (ap is_text_byte e) ∙ t.allowed i h in
-    cc
+no_return x t i h e = (let allowed = rw e at (t.allowed i h) in cc)
 
 -- ---- a run of a text with padding
 
@@ -38,7 +36,7 @@ HoldsUpToEnd x a cell =
 all_hold : (x : List ℕ) (gs : List Segment) → AreParts padded_texts x gs
     → AllByRecursion (λ (g : Segment). HoldsUpToEnd x g.fragment.address g.fragment.bytes) gs
 all_hold x [] all = tt
-all_hold x (g ∷ older) all = (all.0.bytes, all_hold x older all.1)
+all_hold x (g ∷ older) all = (let bytes = all.0.bytes in (bytes, all_hold x older all.1))
 
 -- a byte that is held up to the end of the text is that of the body
 byte_of : (x : List ℕ) (gs : List Segment) (i b : ℕ) → AreParts padded_texts x gs → i ≤ length x
@@ -60,16 +58,13 @@ own_padded gs x y t all w =
           | inr end ↦ no_return x t (length y) shorter
               (sym (text_below x (length y) shorter) ∙ sym (byte_of x gs (length y) 13 all (omega arith) end.1))
         ])
-        | inr longer ↦ absurd (w.plain (length x) longer
-            (byte_of x gs (length x) _ all (omega arith) (w.spelled.bytes (length x) longer)
-            ∙ text_end x (below longer w.ends)))
+        | inr longer ↦
+            let ends = w.ends in
+            let short : length x < 64 = omega arith in
+            absurd (w.plain (length x) longer (byte_of x gs (length x) _ all (omega arith)
+            (w.spelled.bytes (length x) longer) ∙ text_end x short))
       ]
     ]
-  where
-    below : length x < length y → (length y ≡ 64) ⊎ ((length y < 64) × HasByte (cells_of gs) (length y) 13)
-        → length x < 64
-    below l (inl e) = omega arith
-    below l (inr e) = (let f = e.0 in omega arith)
 
 -- a whole text has the bytes of its value, whatever stands behind its carriage return
 pub padded_service : IsService padded_texts IsWholeText
@@ -80,11 +75,10 @@ padded_service = record { own = own_padded; none = no_text_of_none }
 -- a segment of the body is one with padding
 segment_is_padded : ASegmentIsPadded
 segment_is_padded x p t is = record {
-  within = (let w = is.within in omega (arith, w, text_few x t));
+  within = (let w = is.within in omega (arith, text_few x t));
   four = ap length is.bytes ∙ segment_long (text_body x) p.address is.within;
-  fits = λ k. subst (λ (bs : List ℕ). slice_index bs k < 256) (sym is.bytes) (segment_fits (text_body x) p.address k
-      is.within (text_fits x t));
-  bytes = λ k h up. ap (λ (bs : List ℕ). slice_index bs k) is.bytes ∙ segment_byte (text_body x) p.address k h;
+  fits = λ k. rw is.bytes (segment_fits (text_body x) p.address k is.within (text_fits x t));
+  bytes = λ k h up. rw is.bytes (segment_byte (text_body x) p.address k h);
 }
 
 wider_texts : (d : ℕ) (plan : List Broadcast) (log : List (Option Message))
@@ -95,16 +89,8 @@ wider_texts d plan log law = record {
   values = law.values;
   fragments = λ slot p sent.
       let w = law.fragments slot p sent in
-      record {
-        number = w.number;
-        broadcast = w.broadcast;
-        planned = w.planned;
-        is = record {
-          covers = w.is.covers;
-          flag = w.is.flag;
-          fragment = segment_is_padded w.broadcast.bytes p (law.values w.number w.broadcast w.planned) w.is.fragment;
-        };
-      };
+      let padded = segment_is_padded w.broadcast.bytes p (law.values w.number w.broadcast w.planned) w.is.fragment in
+      grind arith;
   tags = law.tags;
 }
 

@@ -1,14 +1,12 @@
 -- Lemmas: lawful plans make each slot safe for any number of receivers.
-use Rattle.std.proofs.Common.{◌≡◌, ◌+◌, ℕ, List, Option, Some, slice_index_or, ap}
+use Rattle.std.proofs.Common.{◌+◌, ℕ, List, Option, slice_index_or, arith}
 use Rattle.std.specs.List.{All}
 use Rattle.rds_fields.specs.declared.message.Message.{Message}
-use Rattle.rds_fields.specs.declared.message.Message.TheVariants.{Text, Name, Announce, Tags, Other}
 use Rattle.rds_assembly.specs.Whole.{IsWholeName, IsWholeText}
 use Rattle.rds_receiver.specs.Receipts.{name_fragment, text_fragment}
-use Rattle.rds_receiver.specs.declared.fragment.Fragment.{Fragment}
 use Rattle.rds_safety.specs.Lawful.{Kind, names}
 use Rattle.rds_safety.specs.Laws.{PlanLaws}
-use Rattle.rds_safety.specs.Marks.{Sends, name_mark, text_mark}
+use Rattle.rds_safety.specs.Marks.{name_mark, text_mark}
 use Rattle.rds_safety.specs.Near.{ListensNear}
 use Rattle.rds_safety.specs.OwnClock.{ListensByOwnClock, ListensBySlowClock}
 use Rattle.rds_safety.specs.Plans.{AreLawfulAs, Plans}
@@ -24,25 +22,11 @@ use Rattle.rds_safety.proofs.Confirmed.{confirmed_listens}
 
 -- the segments of texts that are heard are those that are marked in the log
 pub text_fragments_marked : PicksWhatIsMarked text_fragment text_mark
-text_fragments_marked = record { picked = picks; unmarked = λ entry none. none.text }
-  where
-    picks : (message : Message) (p : Fragment) → text_fragment message ≡ Some p → text_mark (Some message) ≡ Sends p
-    picks (Text f a b) p e = (let same : record { flag = f; address = a; bytes = b } ≡ p = cc in ap Sends same)
-    picks (Name f a b) p e = absurd (cc)
-    picks (Announce code bits aid) p e = absurd (cc)
-    picks (Tags pair) p e = absurd (cc)
-    picks Other p e = absurd (cc)
+text_fragments_marked = record { picked = λ message p e. grind arith; unmarked = λ entry none. none.text }
 
 -- the segments of names that are heard are those that are marked in the log
 pub name_fragments_marked : PicksWhatIsMarked name_fragment name_mark
-name_fragments_marked = record { picked = picks; unmarked = λ entry none. none.name }
-  where
-    picks : (message : Message) (p : Fragment) → name_fragment message ≡ Some p → name_mark (Some message) ≡ Sends p
-    picks (Text f a b) p e = absurd (cc)
-    picks (Name f a b) p e = (let same : record { flag = f; address = a; bytes = b } ≡ p = cc in ap Sends same)
-    picks (Announce code bits aid) p e = absurd (cc)
-    picks (Tags pair) p e = absurd (cc)
-    picks Other p e = absurd (cc)
+name_fragments_marked = record { picked = λ message p e. grind arith; unmarked = λ entry none. none.name }
 
 module _ (laws : PlanLaws) (kind : Kind) (service : IsService kind IsWholeText) (d m t : ℕ) (plans : Plans)
     (log : List (Option Message)) (law : AreLawfulAs kind d plans log) where

@@ -1,7 +1,6 @@
 -- Lemmas: what is shown was on air, a run has one source, and the sources of two runs are near each other.
-use Rattle.std.proofs.Common.{◌≡◌, ◌+◌, ◌≤◌, ℕ, List, [], ◌∷◌, Option, Some, None, sym, subst, inl, inr, arith}
+use Rattle.std.proofs.Common.{◌≡◌, ◌+◌, ◌≤◌, ℕ, List, [], ◌∷◌, Option, Some, None, arith}
 use Rattle.std.specs.Prelude.{IfSome}
-use Rattle.std.proofs.lemmas.Bool.{cases_lt, cases_order}
 use Rattle.rds_assembly.specs.Cells.{Cells}
 use Rattle.rds_encoder.specs.Plan.{Broadcast, Covers, HasNumber}
 use Rattle.rds_encoder.specs.Spaced.{IsSpaced}
@@ -20,8 +19,7 @@ use Rattle.rds_safety.proofs.OneBroadcast.{LiesInOne, RunLiesInOne}
 -- the source that a run has
 pub source_of : (d t : ℕ) (kind : Kind) (plan : List Broadcast) (input : Input) (g : Segment) (older : List Segment)
     → (l : LiesInOne d t kind plan input g older) → IsSource plan input (g ∷ older) l.number l.broadcast
-source_of d t kind plan input g older l =
-    record { planned = l.planned; slot = l.all.0.slot; sent = l.all.0.from; covers = l.all.0.has.covers }
+source_of d t kind plan input g older l = grind arith
 
 was_on_air : (d t : ℕ) (kind : Kind) (IsWhole : Cells → List ℕ → Type 0) (plan : List Broadcast) (input : Input)
     (the_run : List Segment) (x : List ℕ)
@@ -30,17 +28,9 @@ was_on_air : (d t : ℕ) (kind : Kind) (IsWhole : Cells → List ℕ → Type 0)
     → RunWasOnAir d t plan input the_run x
 was_on_air d t kind IsWhole plan input [] x service values l whole = absurd (service.none x whole)
 was_on_air d t kind IsWhole plan input (g ∷ older) x service values l whole =
-    let last = l.all.0 in
-    record {
-      number = l.number;
-      broadcast = l.broadcast;
-      source = source_of d t kind plan input g older l;
-      bytes = sym (bytes_of_run d t kind IsWhole plan input g older x service values l whole);
-      slot = last.slot;
-      covers = last.has.covers;
-      past = l.past;
-      recent = l.recent;
-    }
+    let source = source_of d t kind plan input g older l in
+    let bytes = bytes_of_run d t kind IsWhole plan input g older x service values l whole in
+    grind arith
 
 -- what is shown was on air
 pub shown_on_air : (d t : ℕ) (kind : Kind) (IsWhole : Cells → List ℕ → Type 0) (plan : List Broadcast) (input : Input)
@@ -56,13 +46,7 @@ shown_on_air d t kind IsWhole plan input the_run (Some x) service values l is = 
 one_covers : PlanLaws → (d : ℕ) (plan : List Broadcast) (k l : ℕ) (a b : Broadcast) (s : ℕ) → IsSpaced d plan
     → HasNumber plan k a → HasNumber plan l b → Covers a s → Covers b s → k ≡ l
 one_covers laws d plan k l a b s spaced p q u v =
-    elim (cases_order k l) [
-      | inl same ↦ same
-      | inr o ↦ elim o [
-        | inl less ↦ absurd (omega (arith, laws.order d plan k l a b spaced p q less, u.to, v.from))
-        | inr more ↦ absurd (omega (arith, laws.order d plan l k b a spaced q p more, u.from, v.to))
-      ]
-    ]
+    grind (arith, laws.order d plan k l a b spaced p q, laws.order d plan l k b a spaced q p)
 
 one_last : (input : Input) (the_run : List Segment) (r s : ℕ) → LastWasSentIn input the_run r
     → LastWasSentIn input the_run s → r ≡ s
@@ -74,10 +58,9 @@ pub one_source : PlanLaws → (d : ℕ) (plan : List Broadcast) (input : Input) 
     (a b : Broadcast) → IsSpaced d plan
     → IsSource plan input the_run k a → IsSource plan input the_run l b → (k ≡ l) × (a ≡ b)
 one_source laws d plan input the_run k l a b spaced p q =
-    let in_one_slot : Covers b p.slot = subst (Covers b) (one_last input the_run q.slot p.slot q.sent p.sent) q.covers
-    in
-    let same : k ≡ l = one_covers laws d plan k l a b p.slot spaced p.planned q.planned p.covers in_one_slot in
-    (same, laws.one plan l a b (subst (λ (n : ℕ). HasNumber plan n a) same p.planned) q.planned)
+    let slot = one_last input the_run q.slot p.slot q.sent p.sent in
+    let same = one_covers laws d plan k l a b p.slot spaced p.planned q.planned p.covers (grind arith) in
+    (same, laws.one plan l a b (rw same at p.planned) q.planned)
 
 -- in one slot, the source of a run is at most the next one after that of another run
 not_far : PlanLaws → (d t : ℕ) (kind : Kind) (plan : List Broadcast) (x : Input) (x_run : List Segment) (y : Input)
@@ -87,22 +70,9 @@ not_far : PlanLaws → (d t : ℕ) (kind : Kind) (plan : List Broadcast) (x : In
 not_far laws d t kind plan x [] y y_run n l a b spaced u v p q = absurd p.sent
 not_far laws d t kind plan x (g ∷ older) y [] n l a b spaced u v p q = absurd q.sent
 not_far laws d t kind plan x (g ∷ g_older) y (h ∷ h_older) n l a b spaced u v p q =
-    elim (cases_lt (n + 1) l) [
-      | inr near ↦ near
-      | inl far ↦
-          let one = one_origin x g.slot p.slot u.all.0.slot p.sent u.all.0.from in
-          let two = one_origin y h.slot q.slot v.all.0.slot q.sent v.all.0.from in
-          absurd (omega (
-            arith,
-            laws.far d plan n l a b spaced p.planned q.planned (omega arith),
-            p.covers.to,
-            q.covers.from,
-            u.recent,
-            v.past,
-            one,
-            two,
-          ))
-    ]
+    let one = one_origin x g.slot p.slot u.all.0.slot p.sent u.all.0.from in
+    let two = one_origin y h.slot q.slot v.all.0.slot q.sent v.all.0.from in
+    grind (arith, laws.far d plan n l a b spaced p.planned q.planned)
 
 -- two runs that lie in one broadcast each lie in the same one or in neighbours
 pub near_sources : PlanLaws → (d t : ℕ) (kind : Kind) (plan : List Broadcast) (x : Input) (x_run : List Segment)

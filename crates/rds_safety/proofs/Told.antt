@@ -1,6 +1,6 @@
 -- Lemmas: if the flag separates each two neighbours of a run, the run is of one broadcast, or of some that are alike,
 -- whatever makes the receiver drop segments. This serves receivers with a dwell and receivers with the flag bit alone.
-use Rattle.std.proofs.Common.{◌≡◌, ℕ, List, [], ◌∷◌, refl, sym, ◌∙◌, subst}
+use Rattle.std.proofs.Common.{◌≡◌, ℕ, List, [], ◌∷◌, refl, sym, ◌∙◌}
 use Rattle.std.specs.List.{AllByRecursion}
 use Rattle.rds_encoder.specs.Plan.{Broadcast, Covers, HasNumber}
 use Rattle.rds_receiver.specs.Receipts.{Segment}
@@ -77,4 +77,4 @@ all_of_one kind plan input l b g older p own joined all = by older (all_like (λ
     by : (gs : List Segment) → AllByRecursion (IsSegmentLike (λ x y. x ≡ y) kind plan input b) gs
         → AreOf kind input b gs
     by [] like = tt
-    by (h ∷ gs) like = (subst (IsSegmentOf kind input h) like.0.alike like.0.is, by gs like.1)
+    by (h ∷ gs) like = (rw like.0.alike at like.0.is, by gs like.1)

@@ -1,6 +1,6 @@
 -- Worked examples of the definitions of safety, calculated by hand. Lists have the newest first.
-use Rattle.std.proofs.Common.{◌≡◌, ◌+◌, ◌<◌, ◌≤◌, ℕ, true, false, List, [], ◌∷◌, ◌++◌, take, drop, slice_index, Option}
-use Rattle.std.proofs.Common.{Some, None, refl, sym, ap, ◌∙◌, inl, inr, arith, replicate}
+use Rattle.std.proofs.Common.{◌≡◌, ◌+◌, ◌<◌, ◌≤◌, ℕ, true, false, List, [], ◌∷◌, ◌++◌, take, drop, Option}
+use Rattle.std.proofs.Common.{Some, None, refl, inl, inr, arith, replicate}
 use Rattle.rds_fields.specs.declared.message.Message.{Message}
 use Rattle.rds_fields.specs.declared.message.Message.TheVariants.{Text}
 use Rattle.rds_encoder.specs.Entries.{Entry, SetText, Tick, text_moves}
@@ -90,13 +90,7 @@ run_in_20 = refl
 
 -- and its source is the third broadcast
 source_in_20 : IsSource (songs 20) heard_in_20 (text_run 4 heard_in_20) 2 (third_broadcast 20)
-source_in_20 = record {
-  planned = inl (refl, refl);
-  slot = 20;
-  sent = inl (refl, refl);
-  covers = record
-      { from = omega arith; to = omega arith };
-}
+source_in_20 = record { planned = inl (refl, refl); slot = 20; sent = inl (refl, refl); covers = omega arith }
 
 -- of the texts that it could show then, the third song was on air
 third_was_on_air : RunWasOnAir 4 20 (songs 20) heard_in_20 (text_run 4 heard_in_20) third_song
@@ -106,7 +100,7 @@ third_was_on_air = record {
   source = source_in_20;
   bytes = refl;
   slot = 20;
-  covers = record { from = omega arith; to = omega arith };
+  covers = omega arith;
   past = omega arith;
   recent = omega arith;
 }
@@ -122,19 +116,10 @@ mix_was_not w = by w.source.slot w.source.sent w.broadcast w.source.planned w.so
         → b.bytes ≡ mixed_song → ⊥
     by slot (inr earlier) b planned covers e = omega (
       arith,
-      before_end 0 (lost 11 ++ Some 8 ∷ None ∷ Some 6 ∷ lost 6)
-          20 (Some slot) earlier,
+      before_end 0 (lost 11 ++ Some 8 ∷ None ∷ Some 6 ∷ lost 6) 20
+          (Some slot) earlier,
     )
-    by slot (inl now) b (inl third) covers e =
-        let bytes : third_song ≡ mixed_song = ap (λ (x : Broadcast). x.bytes) (sym third.1) ∙ e in
-        omega (arith, ap (λ (x : List ℕ). slice_index x 4) bytes)
-    by slot (inl now) b (inr (inl other)) covers e =
-        let in_20 : slot ≡ 20 = (let o = now.1 in cc) in
-        omega (arith, covers.to, ap (λ (x : Broadcast). x.end) other.1)
-    by slot (inl now) b (inr (inr (inl first))) covers e =
-        let in_20 : slot ≡ 20 = (let o = now.1 in cc) in
-        omega (arith, covers.to, ap (λ (x : Broadcast). x.end) first.1)
-    by slot (inl now) b (inr (inr (inr none))) covers e = none
+    by slot (inl now) b planned covers e = grind arith
 
 -- in slot 24 its run is the three segments of the third song, and the source the same
 abbrev heard_in_24 : Input
@@ -152,13 +137,7 @@ run_in_24 : text_run 4 heard_in_24
 run_in_24 = refl
 
 source_in_24 : IsSource (songs 24) heard_in_24 (text_run 4 heard_in_24) 2 (third_broadcast 24)
-source_in_24 = record {
-  planned = inl (refl, refl);
-  slot = 24;
-  sent = inl (refl, refl);
-  covers = record
-      { from = omega arith; to = omega arith };
-}
+source_in_24 = record { planned = inl (refl, refl); slot = 24; sent = inl (refl, refl); covers = omega arith }
 
 -- a receiver with the flag bit alone that gets the same joins the two songs in slot 20, which the dwell keeps apart
 run_by_flag_in_20 : run_by_flag text_fragment heard_in_20
@@ -218,21 +197,11 @@ handed_less = record {
 }
 
 source_with_it : IsSource (two_on_air ∷ one_on_air ∷ []) handed (text_run 4 handed) 1 two_on_air
-source_with_it = record {
-  planned = inl (refl, refl);
-  slot = 12;
-  sent = inl (refl, refl);
-  covers = record
-      { from = omega arith; to = omega arith };
-}
+source_with_it = record { planned = inl (refl, refl); slot = 12; sent = inl (refl, refl); covers = omega arith }
 
 source_without : IsSource (two_on_air ∷ one_on_air ∷ []) handed_less (text_run 4 handed_less) 0 one_on_air
-source_without = record {
-  planned = inr (inl (refl, refl));
-  slot = 10;
-  sent = inr (inr (inl (refl, refl)));
-  covers = record { from = omega arith; to = omega arith };
-}
+source_without =
+    record { planned = inr (inl (refl, refl)); slot = 10; sent = inr (inr (inl (refl, refl))); covers = omega arith }
 
 -- a late group: what was sent in slot 3 comes in slot 4, one slot late and not on time
 abbrev late_log : List (Option Message)
@@ -245,11 +214,7 @@ one_slot_late = one_more 1 late_log 4 [] [] (Some 3) ng (nothing_heard 1 late_lo
 not_on_time : IsHeardOnTime late_log 4 (ng ∷ []) → ⊥
 not_on_time each = elim (each 4 ng (inl (refl, refl))) [
   | inl none ↦ absurd (cc)
-  | inr sent ↦ elim sent [
-    | inl now ↦ (let none = now.1 in absurd (cc))
-    | inr before ↦ omega
-        (arith, before_end 0 (ng ∷ nothing 3) 4 ng before)
-  ]
+  | inr sent ↦ grind (arith, before_end 0 (ng ∷ nothing 3) 4 ng)
 ]
 
 -- the tags of `ABBA - WATERLOO` mark its artist and its title
@@ -263,10 +228,10 @@ abbrev abba_waterloo : List ℕ
 abba_waterloo = abba ++ 0x20 ∷ 0x2D ∷ 0x20 ∷ waterloo
 
 artist : NamesPiece record { class = 4; start = 0; extra = 3 } abba_waterloo (4, abba)
-artist = record { class = refl; real = omega arith; ends = omega arith; piece = refl }
+artist = grind arith
 
 title : NamesPiece record { class = 1; start = 7; extra = 7 } abba_waterloo (1, waterloo)
-title = record { class = refl; real = omega arith; ends = omega arith; piece = refl }
+title = grind arith
 
 -- two songs, and the first one again with its flag after a restart: the second is news and the third is not
 abbrev first_then_other_then_first : List Broadcast
@@ -285,8 +250,4 @@ other_is_news = record { filled = λ none. (cc); new = new }
   where
     new : (j : ℕ) (a : Broadcast) → HasNumber first_then_other_then_first j a → j < 1 → 1 ≤ j + 2 → a.flag ≡ true
         → a.bytes ≡ other_song → ⊥
-    new j a (inl p) before near flag bytes = omega (arith, p.0, before)
-    new j a (inr (inl p)) before near flag bytes = omega (arith, p.0, before)
-    new j a (inr (inr (inl p))) before near flag bytes = (let bad : false ≡ true = ap (λ (b : Broadcast). b.flag)
-        (sym p.1) ∙ flag in cc)
-    new j a (inr (inr (inr p))) before near flag bytes = p
+    new j a p before near flag bytes = grind arith
