@@ -1,19 +1,18 @@
 -- Lemmas: a filled log is heard by an own clock that counts no slot too few.
-use Rattle.std.proofs.Common.{◌≡◌, ◌⊎◌, ◌+◌, ◌-◌, ◌<◌, ◌≤◌, ℕ, zero, suc, List, [], ◌∷◌, length}
-use Rattle.std.proofs.Common.{Option, Some, None, max, refl, sym, ap, inl, inr, arith}
-use Rattle.std.proofs.Math.Nat.{le-max_right}
+use Rattle.std.proofs.lemmas.Bool.Decides.{nat_tests}
+use Rattle.std.proofs.Common.{◌≡◌, ◌⊎◌, ◌+◌, ◌<◌, ◌≤◌, ℕ, zero, suc, List, [], ◌∷◌, length}
+use Rattle.std.proofs.Common.{Option, Some, None, max, refl, sym, ap, arith}
 use Rattle.std.specs.List.{All}
 use Rattle.std.proofs.lemmas.List.Elements.{All-head, All-tail}
 use Rattle.rds_safety.specs.Late.{CameFrom, HasEntry, IsHeardInOrder}
 use Rattle.rds_safety.specs.OwnClock.{IsHeardByOwnClock}
 use Rattle.rds_safety.proofs.Entries.{before_end}
 use Rattle.rds_safety.proofs.OnTime.{nothing_in_order, one_more_in_order}
-use Rattle.rds_arrivals.specs.Arrivals.{and_lost, filled, lost_before, lost_between}
+use Rattle.rds_arrivals.specs.Arrivals.{and_lost, filled, lost_before}
 use Rattle.rds_arrivals.specs.Arrivals.{lost_until}
 use Rattle.rds_arrivals.specs.Delivered.{AreBelowASlot, AreOf, Delivery, EachTwo, IsLater, IsOnItsWay}
 use Rattle.rds_arrivals.specs.Delivered.{KeepsPace, arrivals, delivered_input, origins}
 use Rattle.rds_arrivals.specs.Laws.{AreDelivered}
-use Rattle.rds_arrivals.proofs.Counting.{IsAcross, IsWithin, are_lost, between_cases}
 
 lost_long : {X : Type 0} (n : ℕ) (before : List (Option X)) → length (and_lost n before) ≡ n + length before
 lost_long zero before = omega arith
@@ -23,8 +22,7 @@ lost_long (suc n) before = (let more = lost_long n before in omega arith)
 lost_came : {X : Type 0} (first n : ℕ) (before : List (Option X)) (t : ℕ) (x : X)
     → HasEntry first (and_lost n before) t (Some x) → HasEntry first before t (Some x)
 lost_came first zero before t x a = a
-lost_came first (suc n) before t x (inl a) = (let e = a.1 in absurd (cc))
-lost_came first (suc n) before t x (inr a) = lost_came first n before t x a
+lost_came first (suc n) before t x a = grind (arith, lost_came first n before t x)
 
 -- the times alone decide the lost slots
 same_lost : {X : Type 0} (grain m : ℕ) (before : List (Delivery X)) (time : ℕ)
@@ -64,9 +62,7 @@ came_cases : {X : Type 0} (grain m first : ℕ) (d : Delivery X) (before : List 
     → CameFrom (delivered_input grain m first 0 (d ∷ before)) t s
     → ((t + 1 ≡ first + length (from_of grain m (d ∷ before))) × (s ≡ d.slot))
     ⊎ CameFrom (delivered_input grain m first 0 before) t s
-came_cases grain m first d before t s (inl a) = (let e = a.0 in inl (omega arith, some_is d.slot s a.1))
-came_cases grain m first d before t s (inr a) = inr (lost_came first (lost_at grain m before d) (from_of grain m before)
-    t s a)
+came_cases grain m first d before t s came = grind (arith, nat_tests, some_is, lost_came)
 
 -- the number of own slots
 long : {X : Type 0} (grain m : ℕ) (d : Delivery X) (before : List (Delivery X))
@@ -76,46 +72,22 @@ long grain m d before = (let n = lost_long (lost_at grain m before d) (from_of g
 -- what holds for each two deliveries holds for each two of those before the newest
 shorter : {X : Type 0} (Holds : Delivery X → Delivery X → Type 0) (d : Delivery X) (before : List (Delivery X))
     → EachTwo Holds (d ∷ before) → EachTwo Holds before
-shorter Holds d [] all = tt
-shorter Holds d (e ∷ before) all = all.1
+shorter Holds d before all = grind (arith, nat_tests)
 
 -- no entry was sent later than the newest
 pub no_later : {X : Type 0} (grain m first : ℕ) (d : Delivery X) (before : List (Delivery X))
     → EachTwo IsLater (d ∷ before) → (t s : ℕ) → CameFrom (delivered_input grain m first 0 (d ∷ before)) t s
     → s ≤ d.slot
-no_later {X} grain m first d [] later t s p = by (came_cases grain m first d [] t s p)
-  where
-    by : ((t + 1 ≡ first + length (from_of grain m (d ∷ []))) × (s ≡ d.slot))
-        ⊎ CameFrom (delivered_input {X = X} grain m first 0 []) t s → s ≤ d.slot
-    by (inl a) = omega (arith, a.1)
-    by (inr a) = absurd a
-no_later {X} grain m first d (e ∷ before) later t s p = by (came_cases grain m first d (e ∷ before) t s p)
-    (no_later grain m first e before later.1 t s)
-  where
-    by : ((t + 1 ≡ first + length (from_of grain m (d ∷ e ∷ before))) × (s ≡ d.slot))
-        ⊎ CameFrom (delivered_input grain m first 0 (e ∷ before)) t s
-        → (CameFrom (delivered_input grain m first 0 (e ∷ before)) t s → s ≤ e.slot) → s ≤ d.slot
-    by (inl a) older = omega (arith, a.1)
-    by (inr a) older = omega (arith, later.0, older a)
+no_later {X} grain m first d [] later t s p = grind (arith, came_cases grain m first d [] t s p)
+no_later {X} grain m first d (e ∷ before) later t s p =
+    grind (arith, came_cases grain m first d (e ∷ before) t s p, no_later grain m first e before later.1 t s)
 
 -- the slots on air from one delivery to the next are no more than the own slots, unless m own slots are lost between
 -- them
 keeps_up : {X : Type 0} (grain spread m : ℕ) (d e : Delivery X) (before : List (Delivery X))
     → AreBelowASlot grain spread → KeepsPace spread d e
     → (m ≤ lost_at grain m (e ∷ before) d) ⊎ (d.slot ≤ e.slot + lost_at grain m (e ∷ before) d + 1)
-keeps_up grain spread m d e before wide pace = by (between_cases grain m e.arrival.time d.arrival.time) pace
-  where
-    least : lost_between grain m e.arrival.time d.arrival.time ≤ lost_at grain m (e ∷ before) d
-    least = le-max_right d.arrival.told (lost_between grain m e.arrival.time d.arrival.time)
-
-    by : IsAcross grain m e.arrival.time d.arrival.time ⊎ IsWithin grain m e.arrival.time d.arrival.time
-        → KeepsPace spread d e
-        → (m ≤ lost_at grain m (e ∷ before) d) ⊎ (d.slot ≤ e.slot + lost_at grain m (e ∷ before) d + 1)
-    by (inl across) p = inl (omega (arith, least, across.lost))
-    by (inr within) (inl b) = absurd (omega (arith, within.after, within.in_an_hour, b))
-    by (inr within) (inr p) =
-        let lost = are_lost grain (d.arrival.time - e.arrival.time) in
-        inr (omega (arith, least, within.after, within.lost, p, wide, lost.no_more))
+keeps_up grain spread m d e before wide pace = grind (arith, nat_tests)
 
 -- an entry that came less than m own slots before the next one was sent no more slots before
 pub recent : {X : Type 0} (grain spread m first : ℕ) (d : Delivery X) (before : List (Delivery X))
@@ -123,38 +95,13 @@ pub recent : {X : Type 0} (grain spread m first : ℕ) (d : Delivery X) (before 
     → (t s : ℕ) → CameFrom (delivered_input grain m first 0 (d ∷ before)) t s
     → first + length (from_of grain m (d ∷ before)) ≤ t + m
     → d.slot + t + 1 ≤ s + (first + length (from_of grain m (d ∷ before)))
-recent {X} grain spread m first d [] wide pace t s p near = by (came_cases grain m first d [] t s p)
-  where
-    by : ((t + 1 ≡ first + length (from_of grain m (d ∷ []))) × (s ≡ d.slot))
-        ⊎ CameFrom (delivered_input {X = X} grain m first 0 []) t s
-        → d.slot + t + 1 ≤ s + (first + length (from_of grain m (d ∷ [])))
-    by (inl a) = omega (arith, a.0, a.1)
-    by (inr a) = absurd a
+recent {X} grain spread m first d [] wide pace t s p near = grind (arith, came_cases grain m first d [] t s p)
 recent {X} grain spread m first d (e ∷ before) wide pace t s p near =
-    by (came_cases grain m first d (e ∷ before) t s p) (keeps_up grain spread m d e before wide pace.0)
-    (recent grain spread m first e before wide pace.1 t s)
-  where
-    more : length (from_of grain m (d ∷ e ∷ before)) ≡ lost_at grain m (e ∷ before) d
-        + length (from_of grain m (e ∷ before)) + 1
-    more = long grain m d (e ∷ before)
-
-    by : ((t + 1 ≡ first + length (from_of grain m (d ∷ e ∷ before))) × (s ≡ d.slot))
-        ⊎ CameFrom (delivered_input grain m first 0 (e ∷ before)) t s
-        → (m ≤ lost_at grain m (e ∷ before) d) ⊎ (d.slot ≤ e.slot + lost_at grain m (e ∷ before) d + 1)
-        → (CameFrom (delivered_input grain m first 0 (e ∷ before)) t s
-        → first + length (from_of grain m (e ∷ before)) ≤ t + m
-        → e.slot + t + 1 ≤ s + (first + length (from_of grain m (e ∷ before))))
-        → d.slot + t + 1 ≤ s + (first + length (from_of grain m (d ∷ e ∷ before)))
-    by (inl a) up older = omega (arith, a.0, a.1)
-    by (inr a) (inl all) older = absurd (omega (
-      arith,
-      more,
-      all,
-      near,
-      before_end first (from_of grain m (e ∷ before))
-          t (Some s) a,
-    ))
-    by (inr a) (inr up) older = omega (arith, more, up, older a (omega (arith, more, near)))
+    let up = keeps_up grain spread m d e before wide pace.0 in
+    let older = recent grain spread m first e before wide pace.1 t s in
+    let more = long grain m d (e ∷ before) in
+    let came = came_cases grain m first d (e ∷ before) t s p in
+    grind (arith, before_end first (from_of grain m (e ∷ before)) t (Some s))
 
 -- the filled log is heard in order
 pub in_order : {X : Type 0} (grain m first : ℕ) (log : List (Option X)) (given : List (Delivery X)) → AreOf log given
@@ -188,26 +135,10 @@ between : {X : Type 0} (grain spread m first : ℕ) (given : List (Delivery X)) 
     → CameFrom (delivered_input grain m first 0 given) u s → u < t + m → s < r + m
 between grain spread m first [] wide some later pace t u r s p q near = absurd p
 between {X} grain spread m first (d ∷ before) wide some later pace t u r s p q near =
-    by (came_cases grain m first d before t r p) (came_cases grain m first d before u s q)
-    (λ a b. between grain spread m first before wide some (shorter IsLater d before later)
-    (shorter (KeepsPace spread) d before pace) t u r s a b near)
-  where
-    by : ((t + 1 ≡ first + length (from_of grain m (d ∷ before))) × (r ≡ d.slot))
-        ⊎ CameFrom (delivered_input grain m first 0 before) t r
-        → ((u + 1 ≡ first + length (from_of grain m (d ∷ before))) × (s ≡ d.slot))
-        ⊎ CameFrom (delivered_input grain m first 0 before) u s
-        → (CameFrom (delivered_input grain m first 0 before) t r → CameFrom (delivered_input grain m first 0 before) u s
-        → s < r + m) → s < r + m
-    by (inl a) b older = omega (arith, a.1, some, no_later grain m first d before later u s q)
-    by (inr a) (inl b) older = omega (
-      arith,
-      b.0,
-      b.1,
-      near,
-      recent grain spread m first d before wide pace t r p
-          (omega (arith, b.0, near)),
-    )
-    by (inr a) (inr b) older = older a b
+    let later_before = shorter IsLater d before later in
+    let pace_before = shorter (KeepsPace spread) d before pace in
+    let older = between grain spread m first before wide some later_before pace_before t u r s in
+    grind (arith, nat_tests, came_cases, no_later, recent)
 
 -- a receiver of a filled log hears by a clock of its own that counts no slot too few
 pub own_clock : {X : Type 0} (grain spread m first lost : ℕ) (log : List (Option X)) (d : Delivery X)
@@ -220,20 +151,7 @@ own_clock grain spread m first lost log d before wide some are =
     let long = lost_long lost (from_of grain m (d ∷ before)) in
     let came = λ (t s : ℕ) (p : CameFrom (delivered_input grain m first lost (d ∷ before)) t s). lost_came first lost
     (from_of grain m (d ∷ before)) t s p in
-    record {
-      order = all;
-      between = λ t u r s p q near. between grain spread m first (d ∷ before) wide some are.later are.pace t u r s
-          (came t r p) (came u s q) near;
-      since = λ t s p near. omega (
-        arith,
-        all.beside,
-        long,
-        near,
-        recent grain spread m first d before wide are.pace t s
-            (came t s p) (omega (arith, all.beside, long, near)),
-      );
-      past = λ t s p. omega (arith, no_later grain m first d before are.later t s (came t s p));
-    }
+    grind (arith, nat_tests, in_order, lost_in_order, lost_long, lost_came, between, recent, no_later)
 
 -- ---- exact: the delays vary by no more than the grain, and no break is among them
 
@@ -245,10 +163,7 @@ keep_pace least ahead spread (d ∷ []) ways = tt
 keep_pace {X} least ahead spread (d ∷ e ∷ before) ways =
     let late = All-head (IsOnItsWay {X = X} least ahead spread) d (e ∷ before) ways in
     let rest = All-tail (IsOnItsWay {X = X} least ahead spread) d (e ∷ before) ways in
-    let early = All-head (IsOnItsWay {X = X} least ahead spread) e before rest in (
-      inr (omega (arith, late.at_most, late.at_least, early.at_least, early.at_most)),
-      keep_pace least ahead spread
-          (e ∷ before) rest,
-    )
+    let early = All-head (IsOnItsWay {X = X} least ahead spread) e before rest in
+    grind (arith, nat_tests, keep_pace least ahead spread (e ∷ before))
 
 -- ---- the times of even delays are not coarse

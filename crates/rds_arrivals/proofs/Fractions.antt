@@ -1,8 +1,7 @@
 -- Lemmas: a fraction with one digit more.
-use Rattle.std.proofs.Common.{◌≡◌, ◌≢◌, ◌+◌, ◌-◌, ◌*◌, ◌/◌, ◌<◌, ◌≤◌, ◌∙◌, ℕ, zero, suc, Bool, true, false, List, []}
-use Rattle.std.proofs.Common.{◌∷◌, Option, Some, None, ap, arith, cond, drop, inl, inr, length, nat_lt, refl}
+use Rattle.std.proofs.Common.{◌≡◌, ◌≢◌, ◌+◌, ◌-◌, ◌*◌, ◌/◌, ◌<◌, ◌≤◌, ℕ, zero, suc, Bool, true, false, List, []}
+use Rattle.std.proofs.Common.{◌∷◌, Option, Some, None, ap, arith, cond, drop, length, nat_lt, refl}
 use Rattle.std.specs.Option.{option_map_or}
-use Rattle.std.proofs.lemmas.Bool.{cases_lt}
 use Rattle.std.proofs.lemmas.Bool.Decides.{nat_tests}
 use Rattle.rds_arrivals.specs.Stamps.{digit_at, digit_before, fraction, is_digit, leading_digits}
 
@@ -12,8 +11,7 @@ abbrev value : Option ℕ → ℕ
 value digit = option_map_or (λ d. d) digit 0
 
 at_front : (t : Bool) (d n : ℕ) → cond t (suc n) 0 ≡ option_map_or (λ _. suc n) (cond t (Some d) None) 0
-at_front true d n = refl
-at_front false d n = refl
+at_front t d n = grind (arith, nat_tests)
 
 not_empty : (n : ℕ) → nat_lt (suc n) 0 ≡ false
 not_empty n = grind (arith, nat_tests)
@@ -36,13 +34,11 @@ pub digit_leads : (text : List ℕ) (n digit : ℕ) → digit_at text n ≡ Some
     → leading_digits (drop n text) ≡ suc (leading_digits (drop (n + 1) text))
 digit_leads text n digit is =
     let next : suc n ≡ n + 1 = omega arith in
-    leads text n ∙ ap (λ (o : Option ℕ). option_map_or (λ _. suc (leading_digits (drop (suc n) text))) o 0) is
-    ∙ ap (λ (k : ℕ). suc (leading_digits (drop k text))) next
+    grind (arith, nat_tests, leads)
 
 -- where no digit stands, none leads
 pub none_leads : (text : List ℕ) (n : ℕ) → digit_at text n ≡ None → leading_digits (drop n text) ≡ 0
-none_leads text n is = leads text n ∙ ap (λ (o : Option ℕ). option_map_or
-    (λ _. suc (leading_digits (drop (suc n) text))) o 0) is
+none_leads text n is = grind (arith, nat_tests, leads)
 
 -- ---- the weight of digit i, in microseconds
 
@@ -57,23 +53,11 @@ weight (suc (suc (suc (suc (suc (suc i)))))) = 0
 
 -- each place weighs a tenth of the one before
 pub next_weight : (i : ℕ) → weight i / 10 ≡ weight (suc i)
-next_weight zero = refl
-next_weight (suc zero) = refl
-next_weight (suc (suc zero)) = refl
-next_weight (suc (suc (suc zero))) = refl
-next_weight (suc (suc (suc (suc zero)))) = refl
-next_weight (suc (suc (suc (suc (suc zero))))) = refl
-next_weight (suc (suc (suc (suc (suc (suc i)))))) = refl
+next_weight i = grind (arith, nat_tests)
 
 -- a digit weighs at most 900,000 microseconds
 pub light : (i digit : ℕ) → digit ≤ 9 → weight i * digit ≤ 900000
-light zero digit h = omega (arith, h)
-light (suc zero) digit h = omega (arith, h)
-light (suc (suc zero)) digit h = omega (arith, h)
-light (suc (suc (suc zero))) digit h = omega (arith, h)
-light (suc (suc (suc (suc zero)))) digit h = omega (arith, h)
-light (suc (suc (suc (suc (suc zero))))) digit h = omega (arith, h)
-light (suc (suc (suc (suc (suc (suc i)))))) digit h = omega (arith, h)
+light i digit h = grind (arith, nat_tests)
 
 -- ---- one digit more
 
@@ -102,66 +86,23 @@ behind text p end h = (let test : nat_lt p end ≡ false = grind (arith, nat_tes
 
 one_digit : (text : List ℕ) (p first i k digit : ℕ) → p ≡ first + k → digit_at text (first + i) ≡ Some digit
     → digit_before text p (first + suc i) ≡ digit_before text p (first + i) + at k i digit
-one_digit text p first i k digit here is = elim (cases_lt k i) [
-  | inl less ↦ (
-      let new = before text p (first + suc i) (omega (arith, here, less)) in
-      let old = before text p (first + i) (omega (arith, here, less)) in
-      let none = at_other k i digit (λ e. omega (arith, e, less)) in
-      omega (arith, new, old, none)
-      )
-  | inr more ↦ elim (cases_lt i k) [
-    | inl less ↦ (
-        let new = behind text p (first + suc i) (omega (arith, here, less)) in
-        let old = behind text p (first + i) (omega (arith, here, less)) in
-        let none = at_other k i digit (λ e. omega (arith, e, less)) in
-        omega (arith, new, old, none)
-        )
-    | inr less ↦ (
-        let same : k ≡ i = omega (arith, more, less) in
-        let place : p ≡ first + i = omega (arith, here, same) in
-        let new = before text p (first + suc i) (omega (arith, here, same)) ∙ ap (λ (n : ℕ). value (digit_at text n))
-        place ∙ ap value is in
-        let old = behind text p (first + i) (omega (arith, here, same)) in
-        let own : at k i digit ≡ digit = ap (λ (n : ℕ). at n i digit) same ∙ at_own i digit in
-        omega (arith, new, old, own)
-        )
-  ]
-]
-
--- what one digit more adds at a place
-abbrev More : List ℕ → ℕ → ℕ → ℕ → ℕ → ℕ → Type 0
-More text first p k digit i = digit_before text p (first + suc i) ≡ digit_before text p (first + i) + at k i digit
+one_digit text p first i k digit here is = grind (arith, nat_tests, before, at_other, behind, at_own)
 
 -- a fraction with one digit more
 pub more_fraction : (text : List ℕ) (first i digit : ℕ) → digit_at text (first + i) ≡ Some digit
     → fraction text first (first + suc i) ≡ fraction text first (first + i) + weight i * digit
-more_fraction text first i digit is = by i
-    (one_digit text first first i 0 digit (omega arith) is) (one_digit text (first + 1) first i 1 digit refl is)
-    (one_digit text (first + 2) first i 2 digit refl is) (one_digit text (first + 3) first i 3 digit refl is)
-    (one_digit text (first + 4) first i 4 digit refl is) (one_digit text (first + 5) first i 5 digit refl is)
-  where
-    by : (i : ℕ) → More text first first 0 digit i → More text first (first + 1) 1 digit i
-        → More text first (first + 2) 2 digit i → More text first (first + 3) 3 digit i
-        → More text first (first + 4) 4 digit i → More text first (first + 5) 5 digit i
-        → fraction text first (first + suc i) ≡ fraction text first (first + i) + weight i * digit
-    by zero a b c d e f = omega (arith, a, b, c, d, e, f)
-    by (suc zero) a b c d e f = omega (arith, a, b, c, d, e, f)
-    by (suc (suc zero)) a b c d e f = omega (arith, a, b, c, d, e, f)
-    by (suc (suc (suc zero))) a b c d e f = omega (arith, a, b, c, d, e, f)
-    by (suc (suc (suc (suc zero)))) a b c d e f = omega (arith, a, b, c, d, e, f)
-    by (suc (suc (suc (suc (suc zero))))) a b c d e f = omega (arith, a, b, c, d, e, f)
-    by (suc (suc (suc (suc (suc (suc i)))))) a b c d e f = omega (arith, a, b, c, d, e, f)
+more_fraction text first i digit is =
+    let a = one_digit text first first i 0 digit (omega arith) is in
+    let b = one_digit text (first + 1) first i 1 digit refl is in
+    let c = one_digit text (first + 2) first i 2 digit refl is in
+    let d = one_digit text (first + 3) first i 3 digit refl is in
+    let e = one_digit text (first + 4) first i 4 digit refl is in
+    let f = one_digit text (first + 5) first i 5 digit refl is in
+    grind arith
 
 -- no digit yet
 pub no_fraction : (text : List ℕ) (first : ℕ) → fraction text first first ≡ 0
-no_fraction text first =
-    let a = behind text first first (omega arith) in
-    let b = behind text (first + 1) first (omega arith) in
-    let c = behind text (first + 2) first (omega arith) in
-    let d = behind text (first + 3) first (omega arith) in
-    let e = behind text (first + 4) first (omega arith) in
-    let f = behind text (first + 5) first (omega arith) in
-    omega (arith, a, b, c, d, e, f)
+no_fraction text first = grind (arith, nat_tests, behind)
 
 -- ---- a fraction is less than a second
 
@@ -170,11 +111,4 @@ small text p end = grind (arith, nat_tests)
 
 -- a fraction is below a second
 pub below_a_second : (text : List ℕ) (first end : ℕ) → fraction text first end ≤ 999999
-below_a_second text first end =
-    let a = small text first end in
-    let b = small text (first + 1) end in
-    let c = small text (first + 2) end in
-    let d = small text (first + 3) end in
-    let e = small text (first + 4) end in
-    let f = small text (first + 5) end in
-    omega (arith, a, b, c, d, e, f)
+below_a_second text first end = grind (arith, nat_tests, small)

@@ -1,5 +1,5 @@
 -- Lemmas: a minute depends on its sixteen bytes alone.
-use Rattle.std.proofs.Common.{◌≡◌, ◌+◌, ◌*◌, ◌%◌, ◌^◌, ◌<◌, ◌≤◌, ◌∙◌, ℕ, zero, suc, Bool, true, false, List, [], ◌∷◌}
+use Rattle.std.proofs.Common.{◌≡◌, ◌+◌, ◌*◌, ◌%◌, ◌^◌, ◌<◌, ◌≤◌, ◌∙◌, ℕ, zero, suc, true, List, [], ◌∷◌}
 use Rattle.std.proofs.Common.{refl, sym, ap, arith, cond, length, map, nat_eq, nat_lt, slice_index, take, drop, w8}
 use Rattle.std.proofs.lemmas.Bool.Decides.{nat_tests}
 use Rattle.std.proofs.lemmas.Simd.{mask_l-mod, tops_compared}
@@ -22,9 +22,9 @@ here t i h = grind (arith, nat_tests)
 
 digit_same : (t : List ℕ) (p i k : ℕ) → i ≡ p + k → k < 16 → p + 16 ≤ length t → digit_at t i ≡ digit_at (sixteen t p) k
 digit_same t p i k at h long =
-    let one = here t i (omega (arith, at, h, long)) in
-    let other = here (sixteen t p) k (let all = sixteen_long t p long in omega (arith, all, h)) in
-    rw (one, other, byte_same t p i k at h) refl
+    let one = here t i (omega arith) in
+    let other = here (sixteen t p) k (omega (arith, sixteen_long t p long)) in
+    rw (one, other, byte_same t p i k at h)
 
 two_same : (t : List ℕ) (p i k : ℕ) → i ≡ p + k → k + 1 < 16 → p + 16 ≤ length t → two_at t i ≡ two_at (sixteen t p) k
 two_same t p i k at h long =
@@ -33,9 +33,9 @@ two_same t p i k at h long =
 has_same : (t : List ℕ) (p i k byte : ℕ) → i ≡ p + k → k < 16 → p + 16 ≤ length t
     → has t i byte ≡ has (sixteen t p) k byte
 has_same t p i k byte at h long =
-    let one = here t i (omega (arith, at, h, long)) in
-    let other = here (sixteen t p) k (let all = sixteen_long t p long in omega (arith, all, h)) in
-    rw (one, other, byte_same t p i k at h) refl
+    let one = here t i (omega arith) in
+    let other = here (sixteen t p) k (omega (arith, sixteen_long t p long)) in
+    rw (one, other, byte_same t p i k at h)
 
 date_same : (t : List ℕ) (p : ℕ) → p + 16 ≤ length t → date_at t p ≡ date_at (sixteen t p) 0
 date_same t p long =
@@ -69,10 +69,6 @@ abbrev pub ones : ℕ → ℕ
 ones zero = 0
 ones (suc n) = 1 + 2 * ones n
 
-first_set : (b : Bool) (m k : ℕ) → cond b 1 0 + 2 * m ≡ 1 + 2 * k → (b ≡ true) × (m ≡ k)
-first_set true m k e = (refl, omega (arith, e))
-first_set false m k e = absurd (omega (arith, e))
-
 equal : (a b : ℕ) → nat_eq a b ≡ true → a ≡ b
 equal a b e = grind (arith, nat_tests)
 
@@ -80,18 +76,13 @@ equal a b e = grind (arith, nat_tests)
 begins_with : (n : ℕ) (xs ys : List ℕ) → length xs ≡ n → mask_l (zip2 nat_eq xs ys) ≡ ones n
     → (take n ys ≡ xs) × (n ≤ length ys)
 begins_with zero [] ys long e = (refl, omega arith)
-begins_with (suc n) (x ∷ xs) [] long e = absurd (omega (arith, e))
-begins_with (suc n) (x ∷ xs) (y ∷ ys) long e =
-    let set = first_set (nat_eq x y) (mask_l (zip2 nat_eq xs ys)) (ones n) e in
-    let (rest, room) = begins_with n xs ys (omega (arith, long)) set.1 in
-    (rw (equal x y set.0, rest) refl, omega (arith, room))
-begins_with zero (x ∷ xs) ys long e = absurd (omega (arith, long))
-begins_with (suc n) [] ys long e = absurd (omega (arith, long))
+begins_with (suc n) (x ∷ xs) (y ∷ ys) long e = grind (arith, nat_tests, begins_with n xs ys (omega arith))
+begins_with n xs ys long e = absurd (omega arith)
 
 no_longer : (xs ys : List ℕ) → length (zip2 nat_eq xs ys) ≤ length xs
 no_longer [] ys = omega arith
 no_longer (x ∷ xs) [] = omega arith
-no_longer (x ∷ xs) (y ∷ ys) = (let rest = no_longer xs ys in omega (arith, rest))
+no_longer (x ∷ xs) (y ∷ ys) = omega (arith, no_longer xs ys)
 
 -- a text that has the kept bytes at this place has the same minute there
 pub minute_of_same : (t : List ℕ) (p : ℕ) (kept : List ℕ) → p + 16 ≤ length t
@@ -99,8 +90,8 @@ pub minute_of_same : (t : List ℕ) (p : ℕ) (kept : List ℕ) → p + 16 ≤ l
     → minute_at t p ≡ minute_at kept 0
 minute_of_same t p kept room e =
     let lanes = tops_compared w8 nat_eq (sixteen t p) kept in
-    let few : length (zip2 nat_eq (sixteen t p) kept) ≤ 64 = (let all = sixteen_long t p room in let rest = no_longer
-    (sixteen t p) kept in omega (arith, all, rest)) in
+    let all = sixteen_long t p room in
+    let few : length (zip2 nat_eq (sixteen t p) kept) ≤ 64 = omega (arith, no_longer (sixteen t p) kept) in
     let set = sym (ap (λ m. mask_l m % 2 ^ 64) lanes ∙ mask_l-mod (zip2 nat_eq (sixteen t p) kept) 64 few) ∙ e in
-    let (same, long) = begins_with 16 (sixteen t p) kept (sixteen_long t p room) set in
-    minute_same t p room ∙ ap (λ (b : List ℕ). minute_at b 0) (sym same) ∙ sym (minute_same kept 0 long)
+    let (same, long) = begins_with 16 (sixteen t p) kept all set in
+    rw (minute_same t p room, minute_same kept 0 long, same)
