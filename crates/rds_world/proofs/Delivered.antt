@@ -1,8 +1,7 @@
 -- Lemmas: a receiver of a world that got on time each free one of enough slots of a broadcast shows it, as each
 -- receiver of a station does.
-use Rattle.std.proofs.Common.{◌≡◌, ◌+◌, ◌-◌, ◌≤◌, ℕ, inl, inr, Bool, true, false, List, [], ◌∷◌, ◌++◌, length-append}
-use Rattle.std.proofs.Common.{Option, Some, refl, sym, ap, ◌∙◌, subst, arith, length}
-use Rattle.std.specs.Prelude.{slice_index_or}
+use Rattle.std.proofs.Common.{◌≡◌, ◌+◌, ◌-◌, ◌≤◌, ℕ, Bool, true, List, [], ◌∷◌, ◌++◌, length-append}
+use Rattle.std.proofs.Common.{Option, Some, refl, sym, ap, subst, arith, length}
 use Rattle.rds_fields.specs.declared.head.Head.{Head}
 use Rattle.rds_fields.specs.declared.message.Message.{Message}
 use Rattle.rds_encoder.specs.Delivery.{free_in}
@@ -15,16 +14,13 @@ use Rattle.rds_safety.specs.Plans.{Plans}
 use Rattle.rds_safety.specs.Safe.{Listener, ListensTo}
 use Rattle.rds_safety.proofs.Counts.{one_segment}
 use Rattle.rds_world.specs.declared.event.Command.{Command}
-use Rattle.rds_world.specs.declared.event.Command.TheVariants as command
 use Rattle.rds_world.specs.declared.event.Reception.{Reception}
-use Rattle.rds_world.specs.declared.event.Reception.TheVariants.{Got, Lost, Wrong}
-use Rattle.rds_world.specs.declared.event.Reception.TheVariants as reception
 use Rattle.rds_world.specs.declared.receiver_kind.ReceiverKind.TheVariants.{WithDwell}
 use Rattle.rds_world.specs.Delivery.{ANameIsDelivered, AStationDeliversAName, AStationDeliversAText}
 use Rattle.rds_world.specs.Delivery.{AStationDeliversAnyText, ATextIsDelivered, AnyTextIsDelivered, GetsEachFree}
 use Rattle.rds_world.specs.Delivery.{GetsIfFree, GotOfStation, GotRecently, LieIn, LieInBroadcast, free_slots}
 use Rattle.rds_world.specs.Event.{Event}
-use Rattle.rds_world.specs.Slots.{commanded, entries, input_of, log, plans_of, received}
+use Rattle.rds_world.specs.Slots.{commanded, entries, input_of, plans_of, received}
 use Rattle.rds_world.specs.WorldAt.{WorldAt}
 use Rattle.rds_world.specs.State.{distance}
 use Rattle.rds_world.specs.Station.{AreEndedSlots, IsFreeIn, slots_in, station_plans}
@@ -36,18 +32,10 @@ use Rattle.rds_world.proofs.WorldSlots.{reaches, slots_of_a_world, text_service}
 -- ---- the entries of recent slots and of those before
 
 commanded_front : (c : Command) (es more : List Entry) → commanded c es ++ more ≡ commanded c (es ++ more)
-commanded_front command.Quiet es more = refl
-commanded_front command.Restart es more = refl
-commanded_front (command.SetText x) es more = refl
-commanded_front (command.SetName x) es more = refl
-commanded_front (command.SetTags pair) es more = refl
+commanded_front c es more = grind arith
 
 free_commanded : (c : Command) (es : List Entry) → free_in (commanded c es) ≡ free_in es
-free_commanded command.Quiet es = refl
-free_commanded command.Restart es = refl
-free_commanded (command.SetText x) es = refl
-free_commanded (command.SetName x) es = refl
-free_commanded (command.SetTags pair) es = refl
+free_commanded c es = grind arith
 
 -- the recent entries, which come after those of the slots before
 record HasRecent (recent before : List Event) : Type 0 where
@@ -61,8 +49,7 @@ has_recent (e ∷ recent) before =
     let w = has_recent recent before in
     record {
       later = Tick e.free ∷ commanded e.command w.later;
-      is = ap (λ (es : List Entry). Tick e.free ∷ es) (ap (λ (es : List Entry). commanded e.command es) w.is
-          ∙ sym (commanded_front e.command w.later (entries before)));
+      is = grind (arith, w.is, commanded_front e.command w.later (entries before));
       free = omega (arith, free_commanded e.command w.later, w.free);
     }
 
@@ -74,63 +61,29 @@ slots_are events = reaches text_moves text_service events
 -- the receiver got this slot, which is free, in its own slot
 own_origin : (r : Reception) (slot : ℕ) (sent : List (Option Message)) (input : Input) → GetsIfFree true r
     → input.first + length input.origins ≡ slot → CameFrom (received r slot sent input) slot slot
-own_origin (Got back) slot sent input gets now = inl (
-  sym now,
-  (let own : slot ≡ slot - back = omega (arith, gets)
-      in ap (λ (n : ℕ). Some n) own),
-)
-own_origin Lost slot sent input gets now = absurd gets
-own_origin (Wrong x) slot sent input gets now = absurd gets
-own_origin reception.Restart slot sent input gets now = absurd gets
+own_origin r slot sent input gets now = grind arith
 
 came_still : (r : Reception) (free : Bool) (slot : ℕ) (sent : List (Option Message)) (input : Input) (t s : ℕ)
     → GetsIfFree free r → CameFrom input t s → CameFrom (received r slot sent input) t s
-came_still (Got back) free slot sent input t s gets came = inr came
-came_still Lost free slot sent input t s gets came = inr came
-came_still (Wrong x) true slot sent input t s gets came = absurd gets
-came_still (Wrong x) false slot sent input t s gets came = absurd gets
-came_still reception.Restart true slot sent input t s gets came = absurd gets
-came_still reception.Restart false slot sent input t s gets came = absurd gets
+came_still r free slot sent input t s gets came = grind arith
 
 -- a command ends no slot
 free_by_command : (c : Command) (es : List Entry) (s : ℕ) → IsFreeIn (commanded c es) s → IsFreeIn es s
-free_by_command command.Quiet es s free = free
-free_by_command command.Restart es s free = free
-free_by_command (command.SetText x) es s free = free
-free_by_command (command.SetName x) es s free = free
-free_by_command (command.SetTags pair) es s free = free
+free_by_command c es s free = grind arith
 
 -- the input of a receiver has an origin up to the last slot
 origins : (d i : ℕ) (events : List Event) → (input_of d i events).first + length (input_of d i events).origins
     ≡ length events
 origins d i [] = refl
-origins d i (e ∷ before) = by (slice_index_or e.receptions i Lost) (origins d i before)
-  where
-    by : (r : Reception) → (input_of d i before).first + length (input_of d i before).origins ≡ length before
-        → (received r (length before) (log d (e ∷ before)) (input_of d i before)).first
-        + length (received r (length before) (log d (e ∷ before)) (input_of d i before)).origins
-        ≡ length (e ∷ before)
-    by (Got back) now = omega (arith, now)
-    by Lost now = omega (arith, now)
-    by (Wrong x) now = omega (arith, now)
-    by reception.Restart now = omega arith
+origins d i (e ∷ before) = grind (arith, origins d i before)
 
 -- each free one of the recent slots came in its own slot
 came_in_own : (d i : ℕ) (recent before : List Event) → GetsEachFree i recent → (s : ℕ) → length before ≤ s
     → IsFreeIn (entries (recent ++ before)) s → CameFrom (input_of d i (recent ++ before)) s s
-came_in_own d i [] before gets s since free = absurd
-    (omega (arith, since, free_before (entries before) s free, slots_are before))
-came_in_own d i (e ∷ recent) before gets s since (inr earlier) =
-    let older = recent ++ before in
-    came_still (slice_index_or e.receptions i Lost) e.free (length older) (log d (e ∷ older)) (input_of d i older) s s
-    gets.0
-    (came_in_own d i recent before gets.1 s since (free_by_command e.command (entries older) s earlier))
-came_in_own d i (e ∷ recent) before gets s since (inl here) =
-    let older = recent ++ before in
-    let slot : s ≡ length older = here.0 ∙ text_service.same_slot e.command (entries older) ∙ slots_are older in
-    subst (λ (n : ℕ). CameFrom (input_of d i (e ∷ older)) n n) (sym slot)
-    (own_origin (slice_index_or e.receptions i Lost) (length older) (log d (e ∷ older)) (input_of d i older)
-    (subst (λ (b : Bool). GetsIfFree b (slice_index_or e.receptions i Lost)) here.1 gets.0) (origins d i older))
+came_in_own d i [] before gets s since free = grind (arith, free_before, slots_are)
+came_in_own d i (e ∷ recent) before gets s since earlier =
+    let before_it = came_in_own d i recent before gets.1 s since in
+    grind (arith, came_still, free_by_command, text_service, slots_are, own_origin, origins)
 
 -- ---- a receiver of a world
 
@@ -174,21 +127,12 @@ module _ (head : Head) (m k : ℕ) (e : Event) (recent before : List Event) (vie
   got_of_station = record {
     slots = subst AreEndedSlots told.is (slots_of_a_world d events due.values).slots;
     listens = subst (λ (es : List Entry). ListensTo k m (slots_in es - 1) (sent_log d es) receiver) told.is listening;
-    within = subst (λ (es : List Entry). slots_in es ≤ slots_in (entries before) + m) told.is within;
+    within = (let same = ap slots_in told.is in
+        omega (arith, gets.within, slots_are events, slots_are before, length-append (e ∷ recent) before));
     got = λ s since free. came_in_own d gets.number (e ∷ recent) before gets.got s
         (omega (arith, since, slots_are before))
         (subst (λ (es : List Entry). IsFreeIn es s) (sym told.is) free);
   }
-    where
-      within : slots_in (entries events) ≤ slots_in (entries before) + m
-      within = (let most = gets.within in omega (
-        arith,
-        most,
-        slots_are events,
-        slots_are before,
-        length-append
-            (e ∷ recent) before,
-      ))
 
   -- a broadcast of the plans of the world is one of the plans of its station
   lies_of : (plan : Plans → List Broadcast) (b : Broadcast) → LieIn (plan (plans_of d events)) (e ∷ recent) before b
@@ -198,9 +142,8 @@ module _ (head : Head) (m k : ℕ) (e : Event) (recent before : List Event) (vie
     planned = subst (λ (es : List Entry). HasNumber (plan (station_plans d es)) lies.number b) told.is
         (subst (λ (plans : Plans). HasNumber (plan plans) lies.number b)
         (sym (slots_of_a_world d events due.values).plans) lies.planned);
-    from = (let from = lies.from in omega (arith, from, slots_are before));
-    to = subst (λ (es : List Entry). slots_in es ≤ b.end + 1) told.is (let to = lies.to
-        in omega (arith, to, slots_are events));
+    from = omega (arith, lies.from, slots_are before);
+    to = (let same = ap slots_in told.is in omega (arith, lies.to, slots_are events));
   }
 
 -- what holds in each world without a window holds wherever receivers got the recent slots

@@ -1,12 +1,12 @@
 -- Lemmas: each message that a receiver of a world got was sent at most k slots before or is wrong, if its receptions
 -- are due.
-use Rattle.std.proofs.Common.{◌≡◌, ◌+◌, ◌-◌, ◌<◌, ◌≤◌, ℕ, zero, suc, List, [], ◌∷◌, Option, Some, None, refl, sym}
-use Rattle.std.proofs.Common.{subst, ◌∙◌, inl, inr, arith, length}
+use Rattle.std.proofs.Common.{◌≡◌, ◌+◌, ◌-◌, ◌<◌, ◌≤◌, ℕ, zero, suc, List, [], ◌∷◌, Option, Some, None, refl}
+use Rattle.std.proofs.Common.{inl, arith, length}
 use Rattle.std.specs.Prelude.{IfSome, slice_index_or}
 use Rattle.rds_fields.specs.declared.message.Message.{Message}
 use Rattle.rds_world.specs.declared.event.Reception.{Reception}
 use Rattle.rds_world.specs.declared.event.Reception.TheVariants.{Got, Lost, Wrong, Restart}
-use Rattle.rds_world.specs.Due.{AreDue, IsDue, last_named, named}
+use Rattle.rds_world.specs.Due.{AreDue, IsDue, last_named}
 use Rattle.rds_world.specs.Event.{Event}
 use Rattle.rds_safety.specs.Late.{CameFrom, HasEntry, Input, SentIn}
 use Rattle.rds_safety.specs.Confirmed.{IsHeardWithWrong}
@@ -22,23 +22,11 @@ IsSaid log (Some s) entry = SentIn log s entry
 -- a longer log has the entries of the shorter one
 longer_log : (k : ℕ) (log : List (Option Message)) (sent : Option Message) (input : Input)
     → IsHeardWithWrong k log input → IsHeardWithWrong k (sent ∷ log) input
-longer_log k log sent input heard = record {
-  beside = heard.beside;
-  each = λ t s entry o a. inr (heard.each t s entry o a);
-  rising = heard.rising;
-  past = heard.past;
-  late = heard.late;
-}
+longer_log k log sent input heard = grind arith
 
 nothing_heard : (k : ℕ) (log : List (Option Message)) (first : ℕ)
     → IsHeardWithWrong k log record { first = first; heard = []; origins = [] }
-nothing_heard k log first = record {
-  beside = refl;
-  each = λ t s entry o a. absurd o;
-  rising = λ t u r s p q h. absurd p;
-  past = λ t s p. absurd p;
-  late = λ t s p. absurd p;
-}
+nothing_heard k log first = grind arith
 
 -- one more entry: that of the log in its origin, which is later than all origins before, or one without an origin
 one_more : (k : ℕ) (log : List (Option Message)) (first : ℕ) (heard : List (Option Message)) (origins : List (Option ℕ))
@@ -47,44 +35,14 @@ one_more : (k : ℕ) (log : List (Option Message)) (first : ℕ) (heard : List (
     → IsSoon k (first + length heard) o
     → ((r u s : ℕ) → o ≡ Some r → HasEntry first origins u (Some s) → s < r)
     → IsHeardWithWrong k log record { first = first; heard = x ∷ heard; origins = o ∷ origins }
-one_more k log first heard origins o x old says soon after = record {
-  beside = (let beside = old.beside in omega arith);
-  each = each;
-  rising = rising;
-  past = λ t s p. (all_soon t s p).0;
-  late = λ t s p. (all_soon t s p).1;
-}
-  where
-    each : (t s : ℕ) (entry : Option Message) → HasEntry first (o ∷ origins) t (Some s)
-        → HasEntry first (x ∷ heard) t entry → SentIn log s entry
-    each t s entry (inl p) (inl q) = subst (λ (y : Option ℕ). IsSaid log y entry) (sym p.1)
-        (subst (λ (y : Option Message). IsSaid log o y) (sym q.1) says)
-    each t s entry (inl p) (inr q) = absurd (omega (arith, before_end first heard t entry q, old.beside))
-    each t s entry (inr p) (inl q) = absurd (omega (arith, before_end first origins t (Some s) p, old.beside))
-    each t s entry (inr p) (inr q) = old.each t s entry p q
-
-    rising : (t u r s : ℕ) → HasEntry first (o ∷ origins) t (Some r) → HasEntry first (o ∷ origins) u (Some s) → t < u
-        → r < s
-    rising t u r s (inl p) (inl q) l = absurd (omega arith)
-    rising t u r s (inl p) (inr q) l = absurd (omega (arith, before_end first origins u (Some s) q))
-    rising t u r s (inr p) (inl q) l = after s t r (sym q.1) p
-    rising t u r s (inr p) (inr q) l = old.rising t u r s p q l
-
-    all_soon : (t s : ℕ) → HasEntry first (o ∷ origins) t (Some s) → (s ≤ t) × (t ≤ s + k)
-    all_soon t s (inl p) =
-        let here : t ≡ first + length heard = omega (arith, p.0, old.beside) in
-        subst (λ n. IsSoon k n (Some s)) (sym here) (subst (λ y. IsSoon k (first + length heard) y) (sym p.1) soon)
-    all_soon t s (inr p) = (old.past t s p, old.late t s p)
+one_more k log first heard origins o x old says soon after = grind (arith, before_end)
 
 -- the message sent so many slots before the last one of a log is its entry in that slot
 back_in_log : (back : ℕ) (newest : Option Message) (before : List (Option Message)) → back ≤ length before
     → HasEntry 0 (newest ∷ before) (length before - back) (sent_back back (newest ∷ before))
 back_in_log zero newest before h = inl (omega arith, refl)
 back_in_log (suc back) newest [] h = absurd (omega arith)
-back_in_log (suc back) newest (x ∷ before) h =
-    let earlier : length before - back ≡ length (x ∷ before) - suc back = omega arith in
-    inr (subst (λ (s : ℕ). HasEntry 0 (x ∷ before) s (sent_back back (x ∷ before))) earlier
-    (back_in_log back x before (omega arith)))
+back_in_log (suc back) newest (x ∷ before) h = grind (arith, back_in_log back x before (omega arith))
 
 -- the slot is the last one given, or comes before it
 abbrev IsUpTo : Option ℕ → ℕ → Type 0
@@ -96,22 +54,7 @@ abbrev AreUpTo : Option ℕ → Input → Type 0
 AreUpTo last input = (u s : ℕ) → CameFrom input u s → IsUpTo last s
 
 up_to_next : (last : Option ℕ) (next s : ℕ) → IfSome last (λ l. l < next) → IsUpTo last s → s < next
-up_to_next None next s after h = absurd h
-up_to_next (Some l) next s after h = omega (arith, after, h)
-
--- the input after one more slot
-up_to_with : (k : ℕ) (r : Reception) (slot : ℕ) (sent : List (Option Message)) (input : Input) (last : Option ℕ)
-    → IsDue k slot last r
-    → AreUpTo last input → AreUpTo (named r slot last) (received r slot sent input)
-up_to_with k (Got back) slot sent input last due upto u s (inl now) = (let same : s ≡ slot - back = (let e = now.1
-    in cc) in omega (arith, same))
-up_to_with k (Got back) slot sent input last due upto u s (inr earlier) = (let less = up_to_next last (slot - back) s
-    due.after (upto u s earlier) in omega (arith, less))
-up_to_with k Lost slot sent input last due upto u s (inl now) = absurd (let e = now.1 in cc)
-up_to_with k Lost slot sent input last due upto u s (inr earlier) = upto u s earlier
-up_to_with k (Wrong x) slot sent input last due upto u s (inl now) = absurd (let e = now.1 in cc)
-up_to_with k (Wrong x) slot sent input last due upto u s (inr earlier) = upto u s earlier
-up_to_with k Restart slot sent input last due upto u s h = absurd h
+up_to_next last next s after h = grind arith
 
 in_time_with : (k : ℕ) (r : Reception) (slot : ℕ) (sent : Option Message) (log : List (Option Message)) (input : Input)
     (last : Option ℕ) → slot ≡ length log → input.first + length input.heard ≡ slot
@@ -120,17 +63,9 @@ in_time_with : (k : ℕ) (r : Reception) (slot : ℕ) (sent : Option Message) (l
 in_time_with k (Got back) slot sent log input last reached now due upto late =
     let there = due.there in
     let soon = due.soon in
-    let named_slot : length log - back ≡ slot - back = omega (arith, reached) in
     one_more k (sent ∷ log) input.first input.heard input.origins (Some (slot - back)) (sent_back back (sent ∷ log))
-    (longer_log k log sent input late)
-    (subst (λ (s : ℕ). HasEntry 0 (sent ∷ log) s (sent_back back (sent ∷ log))) named_slot
-    (back_in_log back sent log (omega (arith, there, reached))))
-    (omega (arith, now, there), omega (arith, now, there, soon))
-    (λ r u s e o. (
-    let here : slot - back ≡ r = cc in
-    let less : s < slot - back = up_to_next last (slot - back) s due.after (upto u s o) in
-    omega (arith, here, less)
-    ))
+    (longer_log k log sent input late) (grind (arith, back_in_log back sent log)) (omega arith, omega arith)
+    (λ r u s e o. grind (arith, up_to_next))
 in_time_with k Lost slot sent log input last reached now due upto late =
     one_more k (sent ∷ log) input.first input.heard input.origins None None (longer_log k log sent input late) tt tt
     (λ r u s e o. absurd (cc))
@@ -139,21 +74,11 @@ in_time_with k (Wrong x) slot sent log input last reached now due upto late =
     (λ r u s e o. absurd (cc))
 in_time_with k Restart slot sent log input last reached now due upto late = nothing_heard k (sent ∷ log) (slot + 1)
 
-reaches : (r : Reception) (slot : ℕ) (sent : List (Option Message)) (input : Input)
-    → input.first + length input.heard ≡ slot
-    → (received r slot sent input).first + length (received r slot sent input).heard ≡ slot + 1
-reaches (Got back) slot sent input now = omega (arith, now)
-reaches Lost slot sent input now = omega (arith, now)
-reaches (Wrong x) slot sent input now = omega (arith, now)
-reaches Restart slot sent input now = omega arith
-
 -- the input of a receiver has an entry up to the last slot
 pub input_reaches : (d i : ℕ) (events : List Event) → (input_of d i events).first + length (input_of d i events).heard
     ≡ length events
 input_reaches d i [] = refl
-input_reaches d i (e ∷ before) =
-    reaches (slice_index_or e.receptions i Lost) (length before) (log d (e ∷ before)) (input_of d i before)
-    (input_reaches d i before) ∙ omega arith
+input_reaches d i (e ∷ before) = grind (arith, input_reaches d i before)
 
 pub logged : (d : ℕ) (events : List Event) → length events ≡ length (log d events)
 logged d [] = refl
@@ -161,9 +86,7 @@ logged d (e ∷ before) = omega (arith, logged d before)
 
 up_to : (d k i : ℕ) (events : List Event) → AreDue k events → AreUpTo (last_named i events) (input_of d i events)
 up_to d k i [] due u s h = absurd h
-up_to d k i (e ∷ before) due u s h =
-    up_to_with k (slice_index_or e.receptions i Lost) (length before) (log d (e ∷ before)) (input_of d i before)
-    (last_named i before) (due.0 i) (up_to d k i before due.1) u s h
+up_to d k i (e ∷ before) due u s h = grind (arith, up_to d k i before due.1)
 
 -- what is due in a world is heard in time
 pub in_time : (d k i : ℕ) (events : List Event) → AreDue k events

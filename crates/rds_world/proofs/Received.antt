@@ -1,6 +1,6 @@
 -- Lemmas: the input of a receiver after one more slot, and one entry of a list after it was written.
-use Rattle.std.proofs.Common.{◌≡◌, ◌&&◌, ◌≢◌, ◌<◌, ℕ, zero, suc, Bool, true, false, List, [], ◌∷◌, Option, Some, None}
-use Rattle.std.proofs.Common.{refl, ap, subst, take, arith, sym, ◌∙◌}
+use Rattle.std.proofs.Common.{◌≡◌, ◌&&◌, ◌<◌, ℕ, zero, suc, Bool, true, false, List, [], ◌∷◌, Option, Some, None}
+use Rattle.std.proofs.Common.{refl, subst, take, arith, sym, ◌∙◌}
 use Rattle.std.specs.List.{AllByRecursion}
 use Rattle.std.specs.Prelude.{slice_get, slice_index_or, slice_set}
 use Rattle.rds_block.specs.declared.group.Group.{Group}
@@ -9,11 +9,9 @@ use Rattle.rds_fields.specs.declared.message.Message.{Message}
 use Rattle.rds_encoder.specs.Sent.{IsSent}
 use Rattle.rds_receiver.specs.Receipts.{Hears}
 use Rattle.rds_receiver.specs.OneView.{heard_next, hears_spelled}
-use Rattle.rds_receiver.specs.Shown.{IsView, ShowsView}
+use Rattle.rds_receiver.specs.Shown.{IsView}
 use Rattle.rds_receiver.specs.ReceiverAt.{KeepsView, TakesSlot}
-use Rattle.rds_receiver.specs.Confirmed.{counted}
 use Rattle.rds_safety.specs.Late.{Input}
-use Rattle.rds_world.specs.ReceiverKind.{dwell_of}
 use Rattle.rds_receiver.specs.declared.receiver.Receiver.{Receiver}
 use Rattle.rds_world.specs.WorldAt.{HasHeard, HeardNothing, StaysShown, tuned_to}
 use Rattle.rds_world.specs.declared.world.Config.{Config}
@@ -48,9 +46,8 @@ pub stays_shown : (config : Config) (input : Input) (old : Receiver) (group : Op
     → HasHeard config input old
     → StaysShown config input (input_from input.first (heard ∷ input.heard) (origin ∷ input.origins))
 stays_shown config input old group heard origin hears stays has view shown =
-    let by_own : IsView (tuned_to config input) has.groups view = subst (λ (x : List (Option Message)).
-    ShowsView (dwell_of config.kind config.dwell) input.first (counted (tuned_to config input) x) view)
-    (sym shown.spelled ∙ has.spelled) shown.is in
+    let by_own : IsView (tuned_to config input) has.groups view =
+    rw (sym shown.spelled ∙ has.spelled) at shown.is in
     record {
       groups = group ∷ has.groups;
       spelled = heard_next config.head.pi group has.groups heard input.heard hears has.spelled;
@@ -62,14 +59,6 @@ pub heard_nothing : (config : Config) (first : ℕ) (r : Receiver) → HeardNoth
     → HasHeard config (input_from first [] []) r
 heard_nothing config first r begins = record { groups = []; spelled = refl; stands = begins first }
 
--- writing one entry of a list keeps the others
-pub other_kept : {X : Type 0} (rs : List X) (i k : ℕ) (r : X) → k ≢ i → slice_get (slice_set rs i r) k ≡ slice_get rs k
-other_kept [] i k r ne = refl
-other_kept (x ∷ rs) zero zero r ne = absurd (ne refl)
-other_kept (x ∷ rs) zero (suc k) r ne = refl
-other_kept (x ∷ rs) (suc i) zero r ne = refl
-other_kept (x ∷ rs) (suc i) (suc k) r ne = other_kept rs i k r (λ e. ne (ap suc e))
-
 -- what is written at a place is there
 pub written : {X : Type 0} (rs : List X) (i : ℕ) (r s : X) → slice_get (slice_set rs i r) i ≡ Some s → r ≡ s
 written [] i r s e = absurd (cc)
@@ -79,32 +68,20 @@ written (x ∷ rs) (suc i) r s e = written rs i r s e
 -- each of the first entries is one of all entries
 pub one_of_first : {X : Type 0} (P : X → Type 0) (n : ℕ) (rs : List X) (i : ℕ) (r : X) → AllByRecursion P rs
     → slice_get (take n rs) i ≡ Some r → P r
-one_of_first P zero rs i r all e = absurd (cc)
-one_of_first P (suc n) [] i r all e = absurd (cc)
 one_of_first P (suc n) (x ∷ rs) zero r all e = subst P (cc) all.0
 one_of_first P (suc n) (x ∷ rs) (suc i) r all e = one_of_first P n rs i r all.1 e
+one_of_first P _ _ i r all e = absurd (cc)
 
 -- what is among the first entries is an entry
 pub of_first : {X : Type 0} (n : ℕ) (xs : List X) (i : ℕ) (x : X) → slice_get (take n xs) i ≡ Some x
     → (i < n) × (slice_get xs i ≡ Some x)
-of_first zero xs i x e = absurd (cc)
-of_first (suc n) [] i x e = absurd (cc)
 of_first (suc n) (y ∷ xs) zero x e = (omega arith, e)
-of_first (suc n) (y ∷ xs) (suc i) x e = (let later = of_first n xs i x e in (omega (arith, later.0), later.1))
-
--- writing one mark of a list keeps the others
-pub other_marked : {X : Type 0} (xs : List X) (i k : ℕ) (x d : X) → k ≢ i
-    → slice_index_or (slice_set xs i x) k d ≡ slice_index_or xs k d
-other_marked [] i k x d ne = refl
-other_marked (y ∷ xs) zero zero x d ne = absurd (ne refl)
-other_marked (y ∷ xs) zero (suc k) x d ne = refl
-other_marked (y ∷ xs) (suc i) zero x d ne = refl
-other_marked (y ∷ xs) (suc i) (suc k) x d ne = other_marked xs i k x d (λ e. ne (ap suc e))
+of_first (suc n) (y ∷ xs) (suc i) x e = grind (arith, of_first n xs i x e)
+of_first _ _ i x e = absurd (cc)
 
 -- two marks that both hold
 pub both_hold : (a b : Bool) → (a && b) ≡ true → (a ≡ true) × (b ≡ true)
-both_hold true b e = (refl, e)
-both_hold false b e = absurd (cc)
+both_hold a b e = grind arith
 
 -- a mark that is set is the one that was written
 pub marked : (xs : List Bool) (i : ℕ) (b : Bool) → slice_index_or (slice_set xs i b) i false ≡ true → b ≡ true

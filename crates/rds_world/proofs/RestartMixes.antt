@@ -1,8 +1,8 @@
 -- Lemmas: a restart mixes if another text than the empty one comes first after it, for d = 1. `AAAACCC` is set in slot
 -- 1, the encoder restarts in slot 4, and `BBBBDDD` is set in slot 5, with flag 0 again. A receiver with the flag bit
 -- alone that gets each slot joins, in slot 5, the second segment of `AAAACCC` with the first of `BBBBDDD`.
-use Rattle.std.proofs.Common.{◌≡◌, ◌<◌, ◌≤◌, ℕ, zero, suc, true, false, List, [], ◌∷◌, Option, Some, None, refl, sym}
-use Rattle.std.proofs.Common.{ap, ◌∙◌, inl, inr, arith}
+use Rattle.std.proofs.Common.{◌≡◌, ◌<◌, ◌≤◌, ℕ, true, false, List, [], ◌∷◌, Option, Some, None, refl}
+use Rattle.std.proofs.Common.{inr, arith}
 use Rattle.std.specs.FinMap.{empty, get, insert}
 use Rattle.rds_fields.specs.declared.message.Message.{Message}
 use Rattle.rds_fields.specs.declared.message.Message.TheVariants.{Text}
@@ -16,7 +16,7 @@ use Rattle.rds_safety.specs.FlagAlone.{ShowsByFlag}
 use Rattle.rds_safety.specs.Late.{CameFrom, Input, IsHeardLate, own_origins}
 use Rattle.rds_safety.proofs.Bytes.{get-put}
 use Rattle.rds_safety.proofs.Entries.{before_end}
-use Rattle.rds_safety.proofs.Least.{four, is_text, newer_text, older_text, one_byte, fifth_byte, text_of_two}
+use Rattle.rds_safety.proofs.Least.{four, is_text, newer_text, older_text, text_of_two}
 use Rattle.rds_safety.proofs.Least.{three_and_end}
 use Rattle.rds_safety.proofs.OnTime.{input_of, no_slot_late}
 use Rattle.rds_world.specs.declared.event.Command.{Command}
@@ -67,9 +67,7 @@ abbrev both : Cells
 both = insert until_slot_3 0 (four 66)
 
 both_held : (a : ℕ) → a < 2 → get both a ≡ Some (segment_of (text_body mix) a)
-both_held zero h = get-put until_slot_3 0 (four 66) 0
-both_held (suc zero) h = get-put until_slot_3 0 (four 66) 1 ∙ get-put (insert empty 0 (four 65)) 1 (three_and_end 67) 1
-both_held (suc (suc a)) h = absurd (omega arith)
+both_held a h = grind (arith, get-put, four, three_and_end)
 
 abbrev view : ShownView
 view = record { text = Some mix; name = None; item = None; one = None; two = None }
@@ -84,17 +82,7 @@ shows = record {
 }
 
 of_none : (k : ℕ) (b : Broadcast) → HasNumber (newer ∷ older ∷ []) k b → b.bytes ≡ mix → ⊥
-of_none k b (inl last) same = omega (
-  arith,
-  fifth_byte 66 68 66 67 (ap (λ (x : Broadcast). x.bytes) (sym last.1)
-      ∙ same),
-)
-of_none k b (inr (inl first)) same = omega (
-  arith,
-  one_byte _ _ _ _ (ap (λ (x : Broadcast). x.bytes) (sym first.1)
-      ∙ same),
-)
-of_none k b (inr (inr never)) same = never
+of_none k b last same = grind arith
 
 pub a_restart_mixes : MixesAStation 1
 a_restart_mixes = record {

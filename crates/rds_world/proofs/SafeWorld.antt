@@ -8,10 +8,8 @@ use Rattle.rds_fields.specs.declared.message.Message.{Message}
 use Rattle.rds_receiver.specs.Receipts.{Tuning}
 use Rattle.rds_receiver.specs.Shown.{IsView, ShowsView, ShownView}
 use Rattle.rds_receiver.specs.Confirmed.{counted_in}
-use Rattle.rds_world.specs.ReceiverKind.{counted_input, dwell_of, is_flag_alone, lateness_in, own_window, window_of}
+use Rattle.rds_world.specs.ReceiverKind.{counted_input, is_flag_alone, lateness_in, window_of}
 use Rattle.rds_receiver.specs.declared.receiver.Receiver.{Receiver}
-use Rattle.rds_world.specs.declared.receiver_kind.ReceiverKind.{ReceiverKind}
-use Rattle.rds_world.specs.declared.receiver_kind.ReceiverKind.TheVariants.{Confirming, FlagAlone, WithDwell}
 use Rattle.rds_world.specs.Due.{AreDue}
 use Rattle.rds_world.specs.Event.{Event}
 use Rattle.rds_safety.specs.Late.{Input}
@@ -33,16 +31,6 @@ use Rattle.rds_world.proofs.WorldSlots.{events_are_lawful}
 use Rattle.rds_world.proofs.InTime.{in_time, input_reaches}
 
 -- receivers with the dwell have that of the station, and its window
-own_dwell : (kind : ReceiverKind) (m : ℕ) → is_flag_alone kind ≡ false → dwell_of kind m ≡ m
-own_dwell WithDwell m has = refl
-own_dwell (Confirming w) m has = refl
-own_dwell (FlagAlone window) m has = absurd (cc)
-
-same_window : (kind : ReceiverKind) → is_flag_alone kind ≡ false → own_window kind ≡ window_of kind
-same_window WithDwell has = refl
-same_window (Confirming w) has = refl
-same_window (FlagAlone window) has = absurd (cc)
-
 tuned_alike : (config : Config) (input : Input) → is_flag_alone config.kind ≡ false
     → tuned_to config input ≡ record {
       programme = config.head.pi;
@@ -50,12 +38,7 @@ tuned_alike : (config : Config) (input : Input) → is_flag_alone config.kind �
       window = window_of config.kind;
       first = input.first;
     }
-tuned_alike config input has = λ i. record {
-  programme = config.head.pi;
-  dwell = own_dwell config.kind config.dwell has i;
-  window = same_window config.kind has i;
-  first = input.first;
-}
+tuned_alike config input has = grind arith
 
 -- the view of a receiver is that of what counts of its input
 pub shows_view : (config : Config) (input : Input) (r : Receiver) (view : ShownView)
@@ -77,16 +60,8 @@ listens_in : (window : Option ℕ) (k m t : ℕ) (log : List (Option Message)) (
     → IsHeardWithWrong k log input → KeepsPremise window input → next_slot input ≡ t + 1
     → ShowsView m input.first (counted_in window m input.first input.heard) view
     → ListensIn window k m t log record { input = counted_input window m input; view = view }
-listens_in None k m t log input view heard keeps now shows = record
-    { late = each_is_late k log input heard keeps; now = now; shows = shows }
-listens_in (Some w) k m t log input view heard keeps now shows = record {
-  raw = input;
-  heard = heard;
-  once = keeps;
-  now = now;
-  confirmed = refl;
-  shows = shows;
-}
+listens_in None k m t log input view heard keeps now shows = search (arith, each_is_late)
+listens_in (Some w) k m t log input view heard keeps now shows = grind arith
 
 -- a receiver of a world listens as the laws of safety want it
 pub listens : (config : Config) (e : Event) (before : List Event) (i : ℕ) (r : Receiver) (view : ShownView)

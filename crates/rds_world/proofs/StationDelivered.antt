@@ -1,8 +1,7 @@
 -- Lemmas: a receiver that got on time each free one of enough slots of a broadcast shows it, whatever the station sets
 -- in a slot.
 use Rattle.std.proofs.Common.{◌≡◌, ◌+◌, ◌-◌, ◌*◌, ◌<◌, ◌≤◌, ℕ, zero, suc, inl, inr, Bool, true, false, List, [], ◌∷◌}
-use Rattle.std.proofs.Common.{◌++◌, Option, Some, None, refl, sym, ap, ◌∙◌, subst, arith}
-use Rattle.std.proofs.lemmas.Bool.{cases_order}
+use Rattle.std.proofs.Common.{◌++◌, Option, Some, None, refl, sym, ap, arith}
 use Rattle.rds_fields.specs.declared.message.Message.{Message}
 use Rattle.rds_fields.specs.declared.message.Message.TheVariants.{Text, Name}
 use Rattle.rds_assembly.specs.Body.{name_body, segment_count, segment_of, text_body}
@@ -10,7 +9,7 @@ use Rattle.rds_assembly.specs.OwnSegments.{all_name, all_text}
 use Rattle.rds_assembly.specs.Value.{IsName, IsText}
 use Rattle.rds_assembly.specs.Whole.{IsWholeName, IsWholeText}
 use Rattle.rds_encoder.specs.Delivery.{ANameIsSentWhole, ATextIsSentWhole, IsOnThroughout, IsSentAmong, free_in}
-use Rattle.rds_encoder.specs.Entries.{Entry, Restart, SetText, SetName, SetTags, Tick, Move, Begin, Set, End}
+use Rattle.rds_encoder.specs.Entries.{Entry, Restart, SetText, SetName, Tick, Move, Begin, Set, End}
 use Rattle.rds_encoder.specs.Entries.{name_moves, slot_of, text_moves}
 use Rattle.rds_encoder.specs.Laws.{OnlyWhatIsOnAirCoversTheSlot, WhatIsOnAirWasOnAir}
 use Rattle.rds_encoder.specs.Plan.{Broadcast, HasNumber, OnAir, endless, on_air, plan_of}
@@ -22,7 +21,7 @@ use Rattle.rds_safety.specs.Lawful.{names, texts}
 use Rattle.rds_safety.specs.Laws.{PlanLaws}
 use Rattle.rds_safety.specs.Marks.{name_mark, text_mark}
 use Rattle.rds_safety.specs.Plans.{AreLawful}
-use Rattle.rds_safety.specs.Safe.{Listener, ListensTo}
+use Rattle.rds_safety.specs.Safe.{Listener}
 use Rattle.rds_safety.proofs.Bytes.{name_service, names_send_their_body, text_service, texts_send_their_body}
 use Rattle.rds_safety.proofs.Counts.{few_segments, one_segment, two_segments}
 use Rattle.rds_safety.proofs.Entries.{one_origin}
@@ -31,7 +30,7 @@ use Rattle.rds_safety.proofs.HeldWhole.{CameSince, came_in, in_segments, shown_w
 use Rattle.rds_safety.proofs.Safety.{name_fragments_marked, text_fragments_marked}
 use Rattle.rds_world.specs.Delivery.{AStationDeliversAName, AStationDeliversAText, AStationDeliversAnyText}
 use Rattle.rds_world.specs.Delivery.{GotOfStation, LieInBroadcast}
-use Rattle.rds_world.specs.Station.{AreEndedSlots, EndsASlot, IsFreeIn, TheEncoderIsLawful, slots_in, station_plans}
+use Rattle.rds_world.specs.Station.{EndsASlot, IsFreeIn, TheEncoderIsLawful, slots_in, station_plans}
 use Rattle.rds_world.proofs.LawfulStation.{logged_names, logged_texts}
 
 -- the laws about each encoder
@@ -45,8 +44,7 @@ pub record DeliveryLaws : Type 0 where
 
 -- nothing is sent in a slot that is not free
 others_slot : (m : ℕ) (free : Bool) (es : List Entry) → free ≡ false → sent_in m free es ≡ None
-others_slot m true es e = absurd (cc)
-others_slot m false es e = refl
+others_slot m free es e = grind arith
 
 -- one service: an entry is at most one move of it, and the end of a slot is exactly one
 record IsMoves (moves : List Entry → List Move) : Type 0 where
@@ -55,68 +53,45 @@ record IsMoves (moves : List Entry → List Move) : Type 0 where
   rises : (entry : Entry) (es : List Entry) → slot_of (moves es) ≤ slot_of (moves (entry ∷ es))
 
 moves_of_texts : IsMoves text_moves
-moves_of_texts = record { ticks = λ free es. refl; longer = longer; rises = rises }
+moves_of_texts = record { ticks = λ free es. refl; longer = longer; rises = λ entry es. grind arith }
   where
     longer : (entry : Entry) (es : List Entry) → (told : List Move) × (text_moves (entry ∷ es) ≡ told ++ text_moves es)
     longer Restart es = (Begin ∷ [], refl)
     longer (SetText x) es = (Set x ∷ [], refl)
-    longer (SetName x) es = ([], refl)
-    longer (SetTags pair) es = ([], refl)
     longer (Tick free) es = (End free ∷ [], refl)
-
-    rises : (entry : Entry) (es : List Entry) → slot_of (text_moves es) ≤ slot_of (text_moves (entry ∷ es))
-    rises Restart es = omega arith
-    rises (SetText x) es = omega arith
-    rises (SetName x) es = omega arith
-    rises (SetTags pair) es = omega arith
-    rises (Tick free) es = omega arith
+    longer _ es = ([], refl)
 
 moves_of_names : IsMoves name_moves
-moves_of_names = record { ticks = λ free es. refl; longer = longer; rises = rises }
+moves_of_names = record { ticks = λ free es. refl; longer = longer; rises = λ entry es. grind arith }
   where
     longer : (entry : Entry) (es : List Entry) → (told : List Move) × (name_moves (entry ∷ es) ≡ told ++ name_moves es)
     longer Restart es = (Begin ∷ [], refl)
-    longer (SetText x) es = ([], refl)
     longer (SetName x) es = (Set x ∷ [], refl)
-    longer (SetTags pair) es = ([], refl)
     longer (Tick free) es = (End free ∷ [], refl)
-
-    rises : (entry : Entry) (es : List Entry) → slot_of (name_moves es) ≤ slot_of (name_moves (entry ∷ es))
-    rises Restart es = omega arith
-    rises (SetText x) es = omega arith
-    rises (SetName x) es = omega arith
-    rises (SetTags pair) es = omega arith
-    rises (Tick free) es = omega arith
+    longer _ es = ([], refl)
 
 -- a value that is on air at the end, and began by the first slot, was on air throughout
 throughout : WhatIsOnAirWasOnAir → (moves : List Entry → List Move) → IsMoves moves
     → (m : ℕ) (air : OnAir) (later : List Entry) (free : Bool) (earlier : List Entry)
     → air.start ≤ slot_of (moves earlier) → on_air m (moves ((later ++ Tick free ∷ []) ++ earlier)) ≡ Some air
     → IsOnThroughout moves m air (later ++ Tick free ∷ []) earlier
-throughout was moves service m air [] free earlier from on =
-    (on, subst (λ (h : List Move). on_air m h ≡ Some air) (service.ticks free earlier) on)
+throughout was moves service m air [] free earlier from on = grind arith
 throughout was moves service m air (entry ∷ later) free earlier from on =
     let rest = (later ++ Tick free ∷ []) ++ earlier in
     let more = service.longer entry rest in
-    let past : air.start < slot_of (moves rest) = omega (arith, from, rises later) in (
-      on,
-      throughout was moves service m air later free earlier from
-          (was m more.0 (moves rest) air (subst (λ (h : List Move). on_air m h ≡ Some air) more.1 on) past),
-    )
+    let past : air.start < slot_of (moves rest) = omega (arith, rises later) in
+    let before = was m more.0 (moves rest) air (rw more.1 at on) past in
+    (on, throughout was moves service m air later free earlier from before)
   where
     rises : (xs : List Entry) → slot_of (moves earlier) + 1 ≤ slot_of (moves ((xs ++ Tick free ∷ []) ++ earlier))
-    rises [] = (let e = ap slot_of (service.ticks free earlier) in omega (arith, e))
+    rises [] = grind (arith, service.ticks free earlier)
     rises (x ∷ xs) = omega (arith, rises xs, service.rises x ((xs ++ Tick free ∷ []) ++ earlier))
 
 -- ---- slots
 
 slots_rise : (later earlier : List Entry) → slots_in earlier ≤ slots_in (later ++ earlier)
 slots_rise [] earlier = omega arith
-slots_rise (Restart ∷ later) earlier = slots_rise later earlier
-slots_rise (SetText x ∷ later) earlier = slots_rise later earlier
-slots_rise (SetName x ∷ later) earlier = slots_rise later earlier
-slots_rise (SetTags pair ∷ later) earlier = slots_rise later earlier
-slots_rise (Tick free ∷ later) earlier = omega (arith, slots_rise later earlier)
+slots_rise (x ∷ later) earlier = grind (arith, slots_rise later earlier)
 
 -- names have the slots of texts
 same_slots : (told : List Entry) → slot_of (name_moves told) ≡ slots_in told
@@ -132,27 +107,14 @@ record WasSentFree (d : ℕ) (later earlier : List Entry) (message : Message) : 
 sent_free : (d : ℕ) (later earlier : List Entry) (message : Message) → IsSentAmong d later earlier message
     → WasSentFree d later earlier message
 sent_free d [] earlier message among = absurd among
-sent_free d (Restart ∷ later) earlier message among = (let w = sent_free d later earlier message among
-    in record { slot = w.slot; since = w.since; free = w.free; sent = w.sent })
-sent_free d (SetText x ∷ later) earlier message among = (let w = sent_free d later earlier message among
-    in record { slot = w.slot; since = w.since; free = w.free; sent = w.sent })
-sent_free d (SetName x ∷ later) earlier message among = (let w = sent_free d later earlier message among
-    in record { slot = w.slot; since = w.since; free = w.free; sent = w.sent })
-sent_free d (SetTags pair ∷ later) earlier message among = (let w = sent_free d later earlier message among
-    in record { slot = w.slot; since = w.since; free = w.free; sent = w.sent })
-sent_free d (Tick free ∷ later) earlier message (inr among) = (let w = sent_free d later earlier message among
-    in record { slot = w.slot; since = w.since; free = inr w.free; sent = inr w.sent })
 sent_free d (Tick free ∷ later) earlier message (inl is) = record {
   slot = slots_in (later ++ earlier);
   since = slots_rise later earlier;
-  free = inl (refl, by free refl is);
+  free = inl (refl, grind (arith, others_slot d free (later ++ earlier)));
   sent = inl (omega (arith, logged_texts d (later ++ earlier)), sym is);
 }
-  where
-    by : (b : Bool) → free ≡ b → sent_in d free (later ++ earlier) ≡ Some message → free ≡ true
-    by true e is = e
-    by false e is = absurd (let none = others_slot d free (later ++ earlier) e
-        in (let bad : None ≡ Some message = sym none ∙ is in cc))
+sent_free d (Tick free ∷ later) earlier message (inr among) = grind (arith, sent_free d later earlier message among)
+sent_free d (_ ∷ later) earlier message among = grind (arith, sent_free d later earlier message among)
 
 -- entries split into newer ones, the end of the first free slot, and older ones without a free slot
 record HasFirst (later : List Entry) : Type 0 where
@@ -165,38 +127,27 @@ longer_first : (x : Entry) (later : List Entry) → HasFirst later → HasFirst 
 longer_first x later f = record {
   newer = x ∷ f.newer;
   older = f.older;
-  is = ap (λ (es : List Entry). x ∷ es) f.is;
+  is = rw f.is;
   others = f.others;
 }
 
 has_first : (later : List Entry) → 0 < free_in later → HasFirst later
 has_first [] some = absurd (omega (arith, some))
-has_first (Restart ∷ later) some = longer_first Restart later (has_first later some)
-has_first (SetText x ∷ later) some = longer_first (SetText x) later (has_first later some)
-has_first (SetName x ∷ later) some = longer_first (SetName x) later (has_first later some)
-has_first (SetTags pair ∷ later) some = longer_first (SetTags pair) later (has_first later some)
 has_first (Tick free ∷ later) some = by free (free_in later) refl refl (has_first later)
   where
     by : (b : Bool) (n : ℕ) → free ≡ b → free_in later ≡ n → (0 < free_in later → HasFirst later)
         → HasFirst (Tick free ∷ later)
-    by true zero is none rest = record {
-      newer = [];
-      older = later;
-      is = ap (λ (b : Bool). Tick b ∷ later) is;
-      others = none;
-    }
-    by false zero is none rest = absurd (let no : one_if free ≡ 0 = ap one_if is in omega (arith, some, no, none))
-    by b (suc n) is more rest = longer_first (Tick free) later (rest (omega (arith, more)))
+    by true zero is none rest = record
+        { newer = []; older = later; is = ap (λ (b : Bool). Tick b ∷ later) is; others = none }
+    by false zero is none rest = absurd (grind (arith, ap one_if is))
+    by b (suc n) is more rest = longer_first (Tick free) later (rest (omega arith))
+has_first (x ∷ later) some = longer_first x later (has_first later some)
 
 -- the older ones can be left out
 free_without : (newer older : List Entry) → free_in older ≡ 0
     → free_in (newer ++ Tick true ∷ older) ≡ free_in (newer ++ Tick true ∷ [])
 free_without [] older none = omega (arith, none)
-free_without (Restart ∷ newer) older none = free_without newer older none
-free_without (SetText x ∷ newer) older none = free_without newer older none
-free_without (SetName x ∷ newer) older none = free_without newer older none
-free_without (SetTags pair ∷ newer) older none = free_without newer older none
-free_without (Tick free ∷ newer) older none = omega (arith, free_without newer older none)
+free_without (x ∷ newer) older none = grind (arith, free_without newer older none)
 
 parts : (newer older earlier : List Entry) → (newer ++ Tick true ∷ older) ++ earlier ≡ (newer ++ Tick true ∷ [])
     ++ (older ++ earlier)
@@ -205,19 +156,11 @@ parts (x ∷ newer) older earlier = ap (λ (es : List Entry). x ∷ es) (parts n
 
 first_is_free : (newer rest : List Entry) → IsFreeIn ((newer ++ Tick true ∷ []) ++ rest) (slots_in rest)
 first_is_free [] rest = inl (refl, refl)
-first_is_free (Restart ∷ newer) rest = first_is_free newer rest
-first_is_free (SetText x ∷ newer) rest = first_is_free newer rest
-first_is_free (SetName x ∷ newer) rest = first_is_free newer rest
-first_is_free (SetTags pair ∷ newer) rest = first_is_free newer rest
-first_is_free (Tick free ∷ newer) rest = inr (first_is_free newer rest)
+first_is_free (x ∷ newer) rest = grind (arith, first_is_free newer rest)
 
 some_slots : (newer rest : List Entry) → slots_in rest < slots_in ((newer ++ Tick true ∷ []) ++ rest)
 some_slots [] rest = omega arith
-some_slots (Restart ∷ newer) rest = some_slots newer rest
-some_slots (SetText x ∷ newer) rest = some_slots newer rest
-some_slots (SetName x ∷ newer) rest = some_slots newer rest
-some_slots (SetTags pair ∷ newer) rest = some_slots newer rest
-some_slots (Tick free ∷ newer) rest = omega (arith, some_slots newer rest)
+some_slots (x ∷ newer) rest = grind (arith, some_slots newer rest)
 
 -- a broadcast that covers the last slot is on air in it
 on_now : (laws : DeliveryLaws) (moves : List Entry → List Move) → IsMoves moves
@@ -226,20 +169,12 @@ on_now : (laws : DeliveryLaws) (moves : List Entry → List Move) → IsMoves mo
     → HasNumber (plan_of d (slot_of (moves told) - 1) (moves told)) k b → b.start + 1 ≤ slots_in told
     → slots_in told ≤ b.end + 1 → on_air d (moves told) ≡ Some (endless b)
 on_now laws moves service same d some [] ended k b planned from to = absurd (omega (arith, from))
-on_now laws moves service same d some (Restart ∷ rest) ended k b planned from to = absurd ended
-on_now laws moves service same d some (SetText x ∷ rest) ended k b planned from to = absurd ended
-on_now laws moves service same d some (SetName x ∷ rest) ended k b planned from to = absurd ended
-on_now laws moves service same d some (SetTags pair ∷ rest) ended k b planned from to = absurd ended
 on_now laws moves service same d some (Tick free ∷ rest) ended k b planned from to =
     let h = moves rest in
     let ticks = service.ticks free rest in
-    let last : slot_of (moves (Tick free ∷ rest)) - 1 ≡ slot_of h = omega (arith, ap slot_of ticks) in
-    let now : HasNumber (plan_of d (slot_of h) h) k b =
-    subst (λ n. HasNumber (plan_of d n h) k b) last
-    (subst (λ (all : List Move). HasNumber (plan_of d (slot_of (moves (Tick free ∷ rest)) - 1) all) k b) ticks
-    planned) in
-    subst (λ (all : List Move). on_air d all ≡ Some (endless b)) (sym ticks)
-    (laws.only d h k b some now record { from = omega (arith, same rest, from); to = omega (arith, same rest, to) })
+    let last : slot_of h + 1 - 1 ≡ slot_of h = omega arith in
+    rw ticks (laws.only d h k b some (rw last at (rw ticks at planned)) (omega (arith, same rest)))
+on_now laws moves service same d some (_ ∷ rest) ended k b planned from to = absurd ended
 
 -- ---- what a receiver got since the first free slot
 
@@ -266,17 +201,7 @@ module _ (laws : DeliveryLaws) (k m : ℕ) (some : 0 < m) (newer rest : List Ent
 
   -- an entry that came since the first free slot was sent since then
   fresh : (u s : ℕ) → first ≤ u → CameFrom r.input u s → first ≤ s
-  fresh u s since came = elim (cases_order first u) [
-    | inl same ↦ omega (
-      arith,
-      one_origin r.input first first s own (subst (λ (n : ℕ). CameFrom r.input n s) (sym same)
-          came),
-    )
-    | inr other ↦ elim other [
-      | inl less ↦ omega (arith, gets.listens.late.order.rising first u first s own came less)
-      | inr more ↦ absurd (omega (arith, since, more))
-    ]
-  ]
+  fresh u s since came = grind (arith, one_origin, own)
 
   soon : slots_in told - 1 < first + m
   soon = (let within = gets.within in omega (arith, within, some_slots newer rest))
@@ -284,10 +209,7 @@ module _ (laws : DeliveryLaws) (k m : ℕ) (some : 0 < m) (newer rest : List Ent
   on : (moves : List Entry → List Move) → IsMoves moves → ((es : List Entry) → slot_of (moves es) ≡ slots_in es)
       → (number : ℕ) → HasNumber (plan_of (m + k) (slot_of (moves told) - 1) (moves told)) number b
       → IsOnThroughout moves (m + k) (endless b) recent rest
-  on moves service same number planned =
-      throughout laws.was moves service (m + k) (endless b) newer true rest (omega (arith, same rest, from))
-      (on_now laws moves service same (m + k) lasts told gets.slots.ended number b planned
-      (omega (arith, some_slots newer rest, from)) to)
+  on moves service same number planned = grind (arith, throughout, on_now, lasts, some_slots)
 
   -- each message sent since then came since then
   came : (pick : Message → Option Fragment) (message : Message) (p : Fragment) → pick message ≡ Some p
@@ -344,58 +266,32 @@ module _ (laws : DeliveryLaws) (k m : ℕ) (some : 0 < m) (newer rest : List Ent
 split : (k m : ℕ) (newer older earlier : List Entry) (r : Listener)
     → GotOfStation k m (newer ++ Tick true ∷ older) earlier r
     → GotOfStation k m (newer ++ Tick true ∷ []) (older ++ earlier) r
-split k m newer older earlier r gets =
-    let e = parts newer older earlier in
-    record {
-      slots = subst AreEndedSlots e gets.slots;
-      listens = subst (λ (es : List Entry). ListensTo k m (slots_in es - 1) (sent_log (m + k) es) r) e gets.listens;
-      within = (let within = subst (λ (es : List Entry). slots_in es ≤ slots_in earlier + m) e gets.within
-          in omega (arith, within, slots_rise older earlier));
-      got = λ s since free. gets.got s (omega (arith, since, slots_rise older earlier))
-          (subst (λ (es : List Entry). IsFreeIn es s) (sym e) free);
-    }
+split k m newer older earlier r gets = grind (arith, parts, slots_rise)
 
 module _ (laws : DeliveryLaws) (k m : ℕ) (earlier : List Entry) (r : Listener) (b : Broadcast) (some : 0 < m) where
   text_of : (newer older : List Entry) → free_in older ≡ 0 → GotOfStation k m (newer ++ Tick true ∷ older) earlier r
       → LieInBroadcast (station_plans (m + k) ((newer ++ Tick true ∷ older) ++ earlier)).text (newer ++ Tick true
       ∷ older) earlier b
       → 2 * segment_count (text_body b.bytes) ≤ free_in (newer ++ Tick true ∷ older) → r.view.text ≡ Some b.bytes
-  text_of newer older none gets lies enough =
-      let e = parts newer older earlier in
-      let from = lies.from in
-      text_shown laws k m some newer (older ++ earlier) r b (split k m newer older earlier r gets)
-      (omega (arith, from, slots_rise older earlier))
-      (subst (λ (es : List Entry). slots_in es ≤ b.end + 1) e lies.to) lies.number
-      (subst (λ (es : List Entry). HasNumber (station_plans (m + k) es).text lies.number b) e lies.planned)
-      (omega (arith, enough, free_without newer older none))
+  text_of newer older none gets lies enough = grind (arith, parts, text_shown, split, slots_rise, free_without)
 
   name_of : (newer older : List Entry) → free_in older ≡ 0 → GotOfStation k m (newer ++ Tick true ∷ older) earlier r
       → LieInBroadcast (station_plans (m + k) ((newer ++ Tick true ∷ older) ++ earlier)).name (newer ++ Tick true
       ∷ older) earlier b
       → 8 ≤ free_in (newer ++ Tick true ∷ older) → r.view.name ≡ Some b.bytes
-  name_of newer older none gets lies enough =
-      let e = parts newer older earlier in
-      let from = lies.from in
-      name_shown laws k m some newer (older ++ earlier) r b (split k m newer older earlier r gets)
-      (omega (arith, from, slots_rise older earlier))
-      (subst (λ (es : List Entry). slots_in es ≤ b.end + 1) e lies.to) lies.number
-      (subst (λ (es : List Entry). HasNumber (station_plans (m + k) es).name lies.number b) e lies.planned)
-      (omega (arith, enough, free_without newer older none))
+  name_of newer older none gets lies enough = grind (arith, parts, name_shown, split, slots_rise, free_without)
 
 -- a planned text is valid
 planned_text : DeliveryLaws → (k m : ℕ) (later earlier : List Entry) (r : Listener) (b : Broadcast) → 0 < m
     → GotOfStation k m later earlier r
     → LieInBroadcast (station_plans (m + k) (later ++ earlier)).text later earlier b → IsText b.bytes
-planned_text laws k m later earlier r b some gets lies = (laws.lawful (m + k) (later ++ earlier) (omega (arith, some))
-    gets.slots).text.values lies.number b lies.planned
+planned_text laws k m later earlier r b some gets lies = grind arith
 
 pub text_delivered : DeliveryLaws → AStationDeliversAText
 text_delivered laws k m later earlier r b some gets lies enough =
     let f = has_first later (omega (arith, enough, one_segment b.bytes)) in
     text_of laws k m earlier r b some f.newer f.older f.others
-    (subst (λ (es : List Entry). GotOfStation k m es earlier r) f.is gets)
-    (subst (λ (es : List Entry). LieInBroadcast (station_plans (m + k) (es ++ earlier)).text es earlier b) f.is lies)
-    (subst (λ (es : List Entry). 2 * segment_count (text_body b.bytes) ≤ free_in es) f.is enough)
+    (rw f.is at gets) (rw f.is at lies) (rw f.is at enough)
 
 pub any_text_delivered : DeliveryLaws → AStationDeliversAnyText
 any_text_delivered laws k m later earlier r b some gets lies enough =
@@ -406,6 +302,4 @@ pub name_delivered : DeliveryLaws → AStationDeliversAName
 name_delivered laws k m later earlier r b some gets lies enough =
     let f = has_first later (omega (arith, enough)) in
     name_of laws k m earlier r b some f.newer f.older f.others
-    (subst (λ (es : List Entry). GotOfStation k m es earlier r) f.is gets)
-    (subst (λ (es : List Entry). LieInBroadcast (station_plans (m + k) (es ++ earlier)).name es earlier b) f.is lies)
-    (subst (λ (es : List Entry). 8 ≤ free_in es) f.is enough)
+    (rw f.is at gets) (rw f.is at lies) (rw f.is at enough)

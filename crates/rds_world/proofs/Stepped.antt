@@ -1,5 +1,5 @@
 -- Lemmas: a world after one more slot.
-use Rattle.std.proofs.Common.{◌≡◌, ◌≤◌, ◌++◌, take, drop, ℕ, List, ◌∷◌, Option, Some, None, sym, ◌∙◌, subst, arith}
+use Rattle.std.proofs.Common.{◌≡◌, ◌≤◌, ◌++◌, take, drop, ℕ, List, ◌∷◌, Option, Some, None, sym, subst, arith}
 use Rattle.std.proofs.Common.{length, refl, is_some, nat_lt, true, false}
 use Rattle.std.specs.Borrow.{Bor}
 use Rattle.std.specs.Prelude.{IfSome, slice_get, slice_index_or}
@@ -24,9 +24,7 @@ use Rattle.rds_world.specs.declared.world.Config.{Config}
 -- the first n of eight entries were written
 pub front_is : {X : Type 0} (new old : List X) (n : ℕ) → length new ≡ length (take n old) → n ≤ 8 → length old ≡ 8
     → new ≡ take n (new ++ drop n old)
-front_is {X} new old n long few eight =
-    let same : length new ≡ n = long ∙ length-take-le n old (omega (arith, few, eight)) in
-    subst (λ (k : ℕ). new ≡ take k (new ++ drop n old)) same (sym (take-append_seam new (drop n old)))
+front_is {X} new old n long few eight = grind (arith, length-take-le, take-append_seam)
 
 -- a world stands at its slots with its own configuration
 pub by_own : (config : Config) (w : WorldState) (events : List Event) → WorldAt config w events
@@ -45,21 +43,7 @@ pub stepped : (config : Config) (old new : WorldState) (events : List Event) (e 
     → AreLastSent old.config (log (distance old.config) (e ∷ events)) new.sent
     → ((i : ℕ) → slice_index_or new.stays i false ≡ true → ShowsStill old.config i (e ∷ events))
     → WorldAt config new (e ∷ events)
-stepped config old new events e st same value due fit told heard reaches pasts sent stay =
-    let own = by_own config old events st in
-    subst (λ (c : Config). WorldAt c new (e ∷ events)) st.is_set record {
-      is_set = same;
-      lasts = own.lasts;
-      values = (value, own.values);
-      due = (due, own.due);
-      fit = (fit, own.fit);
-      encoder = told;
-      receivers = heard;
-      reaches = reaches;
-      pasts = pasts;
-      sent = sent;
-      stay = stay;
-    }
+stepped config old new events e st same value due fit told heard reaches pasts sent stay = search (arith, by_own)
 
 -- the view of a borrowed receiver is that of its input
 pub shows_what_it_heard : (config : Config) (w : WorldState) (i : ℕ) (events : List Event) → WorldAt config w events

@@ -1,6 +1,6 @@
 -- Worked examples of due receptions, of wrong groups, of inputs, of what may come first after a restart and of the sets
 -- of a slot, calculated by hand. Lists have the newest first.
-use Rattle.std.proofs.Common.{◌≡◌, ◌-◌, ◌<◌, ℕ, zero, suc, List, [], ◌∷◌, Option, Some, None, true, false, refl, ap}
+use Rattle.std.proofs.Common.{◌≡◌, ◌<◌, ℕ, List, [], ◌∷◌, Option, Some, None, true, false, refl}
 use Rattle.std.proofs.Common.{inl, inr, arith}
 use Rattle.rds_encoder.specs.Entries.{Move, Begin, Set, End}
 use Rattle.rds_encoder.specs.Plan.{plan_of}
@@ -19,10 +19,7 @@ use Rattle.rds_world.specs.Wrong.{IsFit, wrong_of}
 received_now : (slot : ℕ) (newest : Option Message) (before : List (Option Message)) (input : Input)
     → received (Got 0) slot (newest ∷ before) input
     ≡ record { first = input.first; heard = newest ∷ input.heard; origins = Some slot ∷ input.origins }
-received_now slot newest before input =
-    (let same : slot - 0 ≡ slot = omega arith in ap
-    (λ (n : ℕ). record { first = input.first; heard = newest ∷ input.heard; origins = Some n ∷ input.origins })
-    same)
+received_now slot newest before input = grind arith
 
 -- with K = 0, the slot itself is due if the last `Got` gave an earlier one
 due_now : (slot s : ℕ) → s < slot → IsDueBack 0 slot (Some s) 0
@@ -51,9 +48,7 @@ after_two fit = fit refl (1, omega arith, refl)
 
 -- one that was wrong three slots before is fit, and so is one that was wrong before a restart
 after_three : IsFit (Some 3) (None ∷ None ∷ Some wrong_segment ∷ []) (Wrong wrong_segment)
-after_three two (zero, below, is) = cc
-after_three two (suc zero, below, is) = cc
-after_three two (suc (suc k), below, is) = omega (arith, below)
+after_three two below = grind arith
 
 after_restart : wrong_of 0 (record { command = Quiet; free = true; receptions = Restart ∷ [] }
     ∷ record { command = Quiet; free = true; receptions = Wrong wrong_segment ∷ [] } ∷ []) ≡ []
@@ -72,12 +67,7 @@ empty_is_safe = inl (inr refl)
 
 -- the second one is not: a receiver that missed it still holds the first one
 last_is_not_safe : IsSafeAfter 1 (plan_of 1 4 one_slot_of_two) (0x42 ∷ []) → ⊥
-last_is_not_safe (inl (inl same)) = omega (arith, one_byte 0x41 0x42 same)
-  where
-    one_byte : (a b : ℕ) → (a ∷ []) ≡ (b ∷ []) → a ≡ b
-    one_byte a b same = cc
-last_is_not_safe (inl (inr none)) = (cc)
-last_is_not_safe (inr long) = (let lasted = long.1 in omega (arith, lasted))
+last_is_not_safe same = grind arith
 
 -- if it lasted for two slots, each text is safe
 after_two_slots : IsSafeAfter 1 (plan_of 1 5 (Begin ∷ End true ∷ End true ∷ Set (0x42 ∷ []) ∷ End true ∷ End true

@@ -1,5 +1,5 @@
 -- Lemmas: the slots of a world are slots of a station, and their moves as texts alone, or names alone, see them.
-use Rattle.std.proofs.Common.{◌≡◌, ◌-◌, ◌<◌, ℕ, List, [], ◌∷◌, ◌++◌, length, refl, sym, ap, ◌∙◌, subst, arith, Option}
+use Rattle.std.proofs.Common.{◌≡◌, ◌-◌, ◌<◌, ℕ, List, [], ◌∷◌, ◌++◌, length, refl, sym, ap, subst, arith, Option}
 use Rattle.std.specs.List.{AllByRecursion}
 use Rattle.rds_fields.specs.declared.message.Message.{Message}
 use Rattle.rds_encoder.specs.Entries.{Entry, Move, Begin, Set, End, name_moves, slot_of, text_moves}
@@ -8,9 +8,9 @@ use Rattle.rds_encoder.specs.Spaced.{IsUnset, RestartsComeFirst}
 use Rattle.rds_encoder.specs.Sent.{sent_log}
 use Rattle.rds_safety.specs.Plans.{AreLawful, Plans}
 use Rattle.rds_world.specs.declared.event.Command.{Command}
-use Rattle.rds_world.specs.declared.event.Command.TheVariants.{Quiet, Restart, SetText, SetName, SetTags}
+use Rattle.rds_world.specs.declared.event.Command.TheVariants.{Restart, SetText, SetName}
 use Rattle.rds_world.specs.Event.{Event}
-use Rattle.rds_world.specs.Slots.{SetValues, SetsAValue, commanded, entries, log, plans_of}
+use Rattle.rds_world.specs.Slots.{SetValues, commanded, entries, log, plans_of}
 use Rattle.rds_world.specs.Station.{EndsASlot, IsValid, SlotsOfAWorldAreSlots, TheEncoderIsLawful, station_plans}
 
 -- one service: its moves in a slot are at most one restart or set, and then the end of the slot
@@ -26,104 +26,60 @@ pub record IsService (moves : List Entry → List Move) : Type 0 where
 
 -- the moves of texts are a service
 pub text_service : IsService text_moves
-text_service = record { none = refl; slot = λ e before. refl; longer = longer; same_slot = same_slot; first = first }
+text_service = record {
+  none = refl;
+  slot = λ e before. refl;
+  longer = longer;
+  same_slot = λ c before. grind arith;
+  first = λ c before unset restarts. grind arith;
+}
   where
     longer : (c : Command) (before : List Entry)
         → (told : List Move) × (text_moves (commanded c before) ≡ told ++ text_moves before)
-    longer Quiet before = ([], refl)
     longer Restart before = (Begin ∷ [], refl)
     longer (SetText x) before = (Set x ∷ [], refl)
-    longer (SetName x) before = ([], refl)
-    longer (SetTags pair) before = ([], refl)
-
-    same_slot : (c : Command) (before : List Entry)
-        → slot_of (text_moves (commanded c before)) ≡ slot_of (text_moves before)
-    same_slot Quiet before = refl
-    same_slot Restart before = refl
-    same_slot (SetText x) before = refl
-    same_slot (SetName x) before = refl
-    same_slot (SetTags pair) before = refl
-
-    first : (c : Command) (before : List Entry) → IsUnset (text_moves before) → RestartsComeFirst (text_moves before)
-        → RestartsComeFirst (text_moves (commanded c before))
-    first Quiet before unset restarts = restarts
-    first Restart before unset restarts = (unset, restarts)
-    first (SetText x) before unset restarts = restarts
-    first (SetName x) before unset restarts = restarts
-    first (SetTags pair) before unset restarts = restarts
+    longer _ before = ([], refl)
 
 pub name_service : IsService name_moves
-name_service = record { none = refl; slot = λ e before. refl; longer = longer; same_slot = same_slot; first = first }
+name_service = record {
+  none = refl;
+  slot = λ e before. refl;
+  longer = longer;
+  same_slot = λ c before. grind arith;
+  first = λ c before unset restarts. grind arith;
+}
   where
     longer : (c : Command) (before : List Entry)
         → (told : List Move) × (name_moves (commanded c before) ≡ told ++ name_moves before)
-    longer Quiet before = ([], refl)
     longer Restart before = (Begin ∷ [], refl)
-    longer (SetText x) before = ([], refl)
     longer (SetName x) before = (Set x ∷ [], refl)
-    longer (SetTags pair) before = ([], refl)
-
-    same_slot : (c : Command) (before : List Entry)
-        → slot_of (name_moves (commanded c before)) ≡ slot_of (name_moves before)
-    same_slot Quiet before = refl
-    same_slot Restart before = refl
-    same_slot (SetText x) before = refl
-    same_slot (SetName x) before = refl
-    same_slot (SetTags pair) before = refl
-
-    first : (c : Command) (before : List Entry) → IsUnset (name_moves before) → RestartsComeFirst (name_moves before)
-        → RestartsComeFirst (name_moves (commanded c before))
-    first Quiet before unset restarts = restarts
-    first Restart before unset restarts = (unset, restarts)
-    first (SetText x) before unset restarts = restarts
-    first (SetName x) before unset restarts = restarts
-    first (SetTags pair) before unset restarts = restarts
+    longer _ before = ([], refl)
 
 module _ (moves : List Entry → List Move) (service : IsService moves) where
   -- the moves reach as many slots as there are events
   pub reaches : (events : List Event) → slot_of (moves (entries events)) ≡ length events
   reaches [] = ap slot_of service.none
-  reaches (e ∷ before) = ap slot_of (service.slot e before)
-      ∙ omega (arith, service.same_slot e.command (entries before), reaches before)
+  reaches (e ∷ before) = grind (arith, reaches before)
 
   unset : (events : List Event) → IsUnset (moves (entries events))
-  unset [] = subst IsUnset (sym service.none) tt
-  unset (e ∷ before) = subst IsUnset (sym (service.slot e before)) tt
+  unset [] = rw service.none tt
+  unset (e ∷ before) = rw (service.slot e before) tt
 
   restarts_first : (events : List Event) → RestartsComeFirst (moves (entries events))
   restarts_first [] = subst RestartsComeFirst (sym service.none) tt
-  restarts_first (e ∷ before) = subst RestartsComeFirst (sym (service.slot e before))
-      (service.first e.command (entries before) (unset before) (restarts_first before))
+  restarts_first (e ∷ before) = grind (arith, restarts_first before, unset)
 
 are_valid : (events : List Event) → SetValues events → AllByRecursion IsValid (entries events)
 are_valid [] set = tt
-are_valid (e ∷ before) set = (tt, by e.command set.0 (are_valid before set.1))
-  where
-    by : (c : Command) → SetsAValue c → AllByRecursion IsValid (entries before)
-        → AllByRecursion IsValid (commanded c (entries before))
-    by Quiet value valid = valid
-    by Restart value valid = (tt, valid)
-    by (SetText x) value valid = (value, valid)
-    by (SetName x) value valid = (value, valid)
-    by (SetTags pair) value valid = (tt, valid)
+are_valid (e ∷ before) set = grind (arith, are_valid before set.1)
 
 ends_a_slot : (events : List Event) → EndsASlot (entries events)
 ends_a_slot [] = tt
 ends_a_slot (e ∷ before) = tt
 
-logged_before : (d : ℕ) (c : Command) (before : List Entry) → sent_log d (commanded c before) ≡ sent_log d before
-logged_before d Quiet before = refl
-logged_before d Restart before = refl
-logged_before d (SetText x) before = refl
-logged_before d (SetName x) before = refl
-logged_before d (SetTags pair) before = refl
-
 same_log : (d : ℕ) (events : List Event) → sent_log d (entries events) ≡ log d events
 same_log d [] = refl
-same_log d (e ∷ before) =
-    let older : sent_log d (commanded e.command (entries before)) ≡ log d before = logged_before d e.command
-    (entries before) ∙ same_log d before in
-    rw older refl
+same_log d (e ∷ before) = grind (arith, same_log d before)
 
 -- the plans with these numbers of slots
 abbrev plans_to : ℕ → List Event → ℕ → ℕ → Plans

@@ -1,4 +1,5 @@
-use Rattle.std.proofs.Common.{◌≡◌, ◌+◌, ◌-◌, None, Some, false, refl, rules, subst}
+use Rattle.std.proofs.Common.{arith}
+use Rattle.std.proofs.Common.{◌≡◌, ◌-◌, None, Some, false, refl, rules, subst}
 use Rattle.rds_receiver.specs.Receipts.{Hears}
 use Rattle.rds_world.specs.Due.{IsDue}
 use Rattle.rds_world.specs.declared.event.Reception.{Reception}
@@ -21,8 +22,7 @@ returns-in-Lost-clause-heard c slot sent input last kept due has = rw c.in-Lost.
     _ None None None refl c.slot_blocks-in-Lost.ensures.stands has)
 
 pub returns-in-Restart-clause-heard : goal.returns-in-Restart-clause-heard
-returns-in-Restart-clause-heard c slot sent input last kept due has = rw c.in-Restart.is
-    (heard_nothing c.args.config.now (slot + 1) _ c.new_receiver.ensures.new)
+returns-in-Restart-clause-heard c slot sent input last kept due has = grind (arith, heard_nothing)
 
 pub returns-in-Got-clause-stays : goal.returns-in-Got-clause-stays
 returns-in-Got-clause-stays c slot sent input last kept due has stays =

@@ -1,3 +1,4 @@
+use Rattle.std.proofs.Common.{arith}
 use Rattle.std.proofs.Common.{◌≡◌, ◌∙◌, Option, Some, None, ap, sym}
 use Rattle.std.specs.Option.{option_copied}
 use Rattle.std.specs.Prelude.{slice_get}
@@ -8,12 +9,7 @@ use Rattle.rds_world.proofs.DueSteps.{nothing_there}
 use Rattle.rds_world.proofs.recent.Recent.back.Goals as goal
 
 pub returns-in_err-get : goal.returns-in_err-get
-returns-in_err-get c =
-    let at : slice_get c.args.self.now.items c.args.slots ≡ None =
-    ap (λ (b : Buffer (Option Group)). slice_get b.items c.args.slots) (sym c.self.view_is)
-    ∙ ap (slice_get c.self.inside.groups.items) (sym c.from.ensures) ∙ sym c.get.ensures
-    ∙ ap option_copied c.in_err-get.was in
-    c.from_residual.ensures ∙ sym (nothing_there c.args.self.now.items c.args.slots at)
+returns-in_err-get c = grind (arith, nothing_there)
 
 pub returns : goal.returns
 returns c =

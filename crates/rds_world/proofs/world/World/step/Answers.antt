@@ -101,7 +101,8 @@ returns-clause-stands c config events st =
     subst (λ (x : Event). HaveReaches late (x ∷ events) new.reaches) (sym same)
     (subst (λ (n : ℕ). HaveReaches late (e ∷ events) (take n c.in-Ok.reaches)) many
     (c.in-Ok.ensures.reaches events own.reaches)) in
-    let stay = rw c.as_slice-receptions.ensures.value at (c.hand_out_first-self-inside.ensures.stays (length events) all_sent
+    let stay =
+        rw c.as_slice-receptions.ensures.value at (c.hand_out_first-self-inside.ensures.stays (length events) all_sent
     (λ i. input_of apart i events) (λ i. last_named i events) kept due_told own.receivers) in
     subst (λ (x : Event). WorldAt config new (x ∷ events)) same
     (stepped config old new events now at refl c.obey-reply.ensures.value due_now fit ticked all reaches pasts kept
