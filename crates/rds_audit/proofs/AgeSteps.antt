@@ -1,5 +1,6 @@
 -- Lemmas: how the ages change with the reigns.
-use Rattle.std.proofs.Common.{◌≡◌, ◌≢◌, ◌+◌, ◌-◌, ◌<◌, ◌≤◌, min, not, ◌&&◌, ◌↔◌, ℕ, Bool, IsTrue, true, false, List, []}
+use Rattle.std.proofs.lemmas.Bool.Decides.{nat_tests}
+use Rattle.std.proofs.Common.{◌≡◌, ◌+◌, ◌-◌, ◌<◌, ◌≤◌, min, not, ◌&&◌, ◌↔◌, ℕ, Bool, IsTrue, true, false, List, []}
 use Rattle.std.proofs.Common.{◌∷◌, refl, sym, ◌∙◌, arith}
 use Rattle.std.specs.List.{AllByRecursion}
 use Rattle.rds_receiver.specs.declared.fragment.Fragment.{Fragment}
@@ -23,14 +24,7 @@ pub ages_renewed : (d now opened : ℕ) (fragments : List Fragment) (tags : List
       fragments = fragments;
       tags = tags;
     } ∷ older) record a { since_last = 0 }
-ages_renewed d now opened fragments tags r older a h = record
-    { newest = omega arith; second = h.second; current = h.current; turns = renewed older h.turns }
-  where
-    renewed : (rs : List Reign) → IsTrue a.turns ↔ AlternateFlags (r ∷ rs)
-        → IsTrue a.turns ↔ AlternateFlags (record
-        { start = r.start; opened = opened; last = now; flag = r.flag; fragments = fragments; tags = tags } ∷ rs)
-    renewed [] h = h
-    renewed (q ∷ rs) h = h
+ages_renewed d now opened fragments tags r older a h = grind (arith, nat_tests)
 
 -- a fragment of this flag joins the newest reign
 pub joins_near : (d now : ℕ) (flag : Bool) (r : Reign) (older : List Reign) (a : Ages) → HoldsAges d now (r ∷ older) a
@@ -48,63 +42,23 @@ none_joins d now flag a h g = omega (arith, h.newest, g.1)
 
 -- the flag turned to a reign that is opened exactly if it is the first one, or has another flag than the newest
 and_not : (x y : Bool) → ((x && not y) ≡ true) ↔ ((x ≡ true) × (y ≡ false))
-and_not true true = (
-  (λ e. absurd (let bad : false ≡ true = e in cc)),
-  (λ p. absurd (let bad : true ≡ false = p.1
-      in cc)),
-)
+and_not true true = grind (arith, nat_tests)
 and_not true false = ((λ e. (refl, refl)), (λ p. refl))
 and_not false y = ((λ e. absurd (let bad : false ≡ true = e in cc)), (λ p. absurd (let bad : false ≡ true = p.0 in cc)))
 
 opened_turns : (d now : ℕ) (q : Reign) (rs : List Reign) (a : Ages) → HoldsAges d now rs a
     → IsTrue (a.turns && not (a.is_open && is_same q.flag a.flag)) ↔ AlternateFlags (q ∷ rs)
-opened_turns d now q [] a h =
-    let had : a.turns ≡ true = h.turns.1 tt in
-    ((λ _. tt), (λ _. (and_not a.turns (a.is_open && is_same q.flag a.flag)).1 (had, rw h.current refl)))
-opened_turns d now q (r ∷ older) a h =
-    let test : ((a.turns && not (a.is_open && is_same q.flag a.flag)) ≡ true)
-    ↔ ((a.turns ≡ true) × ((a.is_open && is_same q.flag a.flag) ≡ false)) =
-    and_not a.turns (a.is_open && is_same q.flag a.flag) in
-    ((λ e. (other (test.0 e).1, h.turns.0 (test.0 e).0)), (λ g. test.1 (h.turns.1 g.1, differs g.0)))
-  where
-    other : (a.is_open && is_same q.flag a.flag) ≡ false → r.flag ≢ q.flag
-    other none same =
-        let yes : is_same q.flag a.flag ≡ true = is_same_flag q.flag a.flag (sym (h.current.1 ∙ same)) in
-        let bad : true ≡ false = rw (h.current.0, yes) at none in
-        cc
-
-    differs : r.flag ≢ q.flag → (a.is_open && is_same q.flag a.flag) ≡ false
-    differs ne = rw (h.current.0, is_other_flag q.flag a.flag (λ e. ne (sym h.current.1 ∙ sym e))) refl
+opened_turns d now q [] a h = grind (arith, nat_tests, and_not)
+opened_turns d now q (r ∷ older) a h = grind (arith, nat_tests, and_not, is_same_flag, is_other_flag)
 
 -- the ages once a reign was opened that started n slots ago
 pub ages_begun : (d now n : ℕ) (q : Reign) (rs : List Reign) (a : Ages) → q.last ≡ now → n ≡ min (now - q.start) d
     → HoldsAges d now rs a → HoldsAges d now (q ∷ rs) record (restarted n q.flag a) { since_last = 0 }
-ages_begun d now n q rs a last start h = record {
-  newest = omega (arith, last);
-  second = h.newest;
-  current = (refl, refl, start);
-  turns = opened_turns d now q rs a
-      h;
-}
+ages_begun d now n q rs a last start h = grind (arith, nat_tests, opened_turns)
 
 -- one slot older
 pub ages_later : (d now : ℕ) (rs : List Reign) (a : Ages) → AreOver (now + 1) rs → HoldsAges d now rs a
     → HoldsAges d (now + 1) rs (aged d a)
-ages_later d now [] a over h = record {
-  newest = omega (arith, h.newest);
-  second = omega (arith, h.second);
-  current = h.current;
-  turns = h.turns;
-}
-ages_later d now (r ∷ []) a over h = record {
-  newest = omega (arith, h.newest, over.0.1);
-  second = omega (arith, h.second);
-  current = (h.current.0, h.current.1, omega (arith, h.current.2, over.0));
-  turns = h.turns;
-}
-ages_later d now (r ∷ q ∷ older) a over h = record {
-  newest = omega (arith, h.newest, over.0.1);
-  second = omega (arith, h.second, over.1.0.1);
-  current = (h.current.0, h.current.1, omega (arith, h.current.2, over.0));
-  turns = h.turns;
-}
+ages_later d now [] a over h = grind (arith, nat_tests)
+ages_later d now (r ∷ []) a over h = grind (arith, nat_tests)
+ages_later d now (r ∷ q ∷ older) a over h = grind (arith, nat_tests)

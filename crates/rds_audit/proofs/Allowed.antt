@@ -1,6 +1,7 @@
 -- Lemmas: which lengths a fragment of a text allows.
+use Rattle.std.proofs.lemmas.Bool.Decides.{nat_tests}
 use Rattle.std.proofs.Common.{◌≡◌, ◌⊎◌, ◌+◌, ◌<◌, ◌≤◌, ℕ, zero, suc, Bool, true, false, nat_eq, List, [], ◌∷◌, length}
-use Rattle.std.proofs.Common.{slice_index, Option, Some, None, cond, refl, sym, ap, ◌∙◌, subst, inl, inr, arith}
+use Rattle.std.proofs.Common.{slice_index, Option, Some, None, cond, refl, ap, ◌∙◌, subst, inl, inr, arith}
 use Rattle.std.proofs.lemmas.Bool.{and_parts, cases_lt, eqb-true}
 use Rattle.rds_assembly.specs.Body.{text_body}
 use Rattle.rds_assembly.specs.Value.{IsText, is_text_byte}
@@ -31,14 +32,7 @@ body_spaces x i (b ∷ bs) h past s =
     rw (e, rest) refl
 
 not_return : (b : ℕ) → is_text_byte b ≡ true → nat_eq b 13 ≡ false
-not_return b t = by (nat_eq b 13) refl
-  where
-    by : (v : Bool) → nat_eq b 13 ≡ v → nat_eq b 13 ≡ false
-    by false e = e
-    by true e =
-        let same : b ≡ 13 = eqb-true b 13 e in
-        let bad : is_text_byte 13 ≡ true = sym (ap is_text_byte same) ∙ t in
-        absurd (cc)
+not_return b t = grind (arith, nat_tests)
 
 -- the fragment of a text allows its length
 abbrev pub Allows : ℕ → Option Lengths → Type 0
@@ -79,16 +73,10 @@ pub record Agrees (n i b : ℕ) : Type 0 where
 spaces_agree : (n i : ℕ) (bs : List ℕ) → n < i → are_spaces bs ≡ true → (j : ℕ) → j < length bs
     → Agrees n (i + j) (slice_index bs j)
 spaces_agree n i [] h t j l = absurd (omega arith)
-spaces_agree n i (b ∷ bs) h t zero l =
-    record {
-      below = λ lt. absurd (omega arith);
-      end = λ e. absurd (omega arith);
-      past = λ _. eqb-true b 32
-          (and_parts (nat_eq b 32) (are_spaces bs) t).0;
-    }
+spaces_agree n i (b ∷ bs) h t zero l = grind (arith, nat_tests)
 spaces_agree n i (b ∷ bs) h t (suc j) l =
-    subst (λ k. Agrees n k (slice_index bs j)) (omega arith) (spaces_agree n (i + 1) bs (omega arith)
-    (and_parts (nat_eq b 32) (are_spaces bs) t).1 j (omega arith))
+    let rest = (and_parts (nat_eq b 32) (are_spaces bs) t).1 in
+    grind (arith, nat_tests, spaces_agree n (i + 1) bs (omega arith) rest j (omega arith))
 
 -- if a length is allowed, each byte agrees with it
 pub allowed_agree : (n i : ℕ) (bs : List ℕ) → Allows n (lengths_from i bs)

@@ -1,6 +1,6 @@
 -- Lemmas: each broadcast with a sent fragment has a reign.
-use Rattle.std.proofs.Common.{◌≡◌, ℕ, List, [], ◌∷◌, length, subst, inl, inr, arith}
-use Rattle.std.proofs.lemmas.Bool.{cases_order}
+use Rattle.std.proofs.lemmas.Bool.Decides.{nat_tests}
+use Rattle.std.proofs.Common.{ℕ, List, [], ◌∷◌, length, inl, inr, arith}
 use Rattle.rds_encoder.specs.Plan.{Broadcast, Covers, HasNumber}
 use Rattle.rds_encoder.specs.Spaced.{IsSpaced}
 use Rattle.rds_receiver.specs.declared.fragment.Fragment.{Fragment}
@@ -19,16 +19,7 @@ module _ (laws : PlanLaws) (d : ℕ) (kind : Kind) (plan : List Broadcast) (spac
       → SomeReign (IsReignOf d kind b) rs
   has_reign n k t b p [] a q c h = absurd h
   has_reign n k t b p (r ∷ older) a q c (inr h) = inr (has_reign a.0 k t b p older a.5 q c h)
-  has_reign n k t b p (r ∷ older) a q c (inl h) =
-      elim (cases_order a.0 k) [
-        | inl same ↦
-            let one : a.1 ≡ b = laws.one plan k a.1 b (subst (λ (i : ℕ). HasNumber plan i a.1) {x = a.0} same a.3) q in
-            inl (subst (λ (x : Broadcast). IsReignOf d kind x r) {x = a.1} one a.4)
-        | inr other ↦ elim other [
-          | inl less ↦ absurd (omega (arith, laws.order d plan a.0 k a.1 b spaced a.3 q less, a.4.to, h.to, c.from))
-          | inr more ↦ absurd (omega (arith, laws.order d plan k a.0 b a.1 spaced q a.3 more, a.4.from, h.from, c.to))
-        ]
-      ]
+  has_reign n k t b p (r ∷ older) a q c (inl h) = grind (arith, nat_tests)
 
 -- the reigns are the broadcasts of each lawful and dense plan
 pub the_reigns : PlanLaws → (d : ℕ) (kind : Kind) (plan : List Broadcast) (sent : List Mark) → IsLawful d kind plan sent

@@ -1,10 +1,11 @@
 -- Lemmas: the fault of a log has the name of the rule that its first failing slot breaks first.
-use Rattle.std.proofs.Common.{◌≡◌, ◌⊎◌, ◌≤◌, ◌+◌, ◌&&◌, ◌||◌, ◌∷◌, ◌∙◌, [], ℕ, Bool, true, false, not, List, Option}
+use Rattle.std.proofs.Common.{◌≡◌, ◌⊎◌, ◌≤◌, ◌+◌, ◌∷◌, ◌∙◌, [], ℕ, true, false, not, List, Option}
 use Rattle.std.proofs.Common.{None, Some, ap, arith, inl, inr, length, nat_lt, refl, subst, sym}
 use Rattle.std.specs.List.{AllByRecursion}
-use Rattle.std.proofs.lemmas.Bool.{and_parts, ltb-false, ltb-true}
+use Rattle.std.proofs.lemmas.Bool.{and_parts, ltb-false, ltb-true, not-false, or_parts}
+use Rattle.std.proofs.lemmas.Bool.Decides.{nat_tests}
 use Rattle.rds_fields.specs.declared.message.Message.{Message}
-use Rattle.rds_fields.specs.declared.message.Message.TheVariants.{Text, Name, Announce, Tags, Other}
+use Rattle.rds_fields.specs.declared.message.Message.TheVariants.{Name}
 use Rattle.rds_fields.specs.Tag.{PairFields}
 use Rattle.rds_receiver.specs.declared.fragment.Fragment.{Fragment}
 use Rattle.rds_safety.specs.Lawful.{names}
@@ -16,7 +17,7 @@ use Rattle.rds_audit.specs.Broken.{BreaksByFragment, BreaksByTags, BreaksRule, F
 use Rattle.rds_audit.specs.Forms.{text_kind}
 use Rattle.rds_audit.specs.declared.text_form.TextForm.{TextForm}
 use Rattle.rds_audit.specs.Lengths.{AllJoin, Gauge, IsExact, IsFormed, all_fit, changes, gauge_of, is_other}
-use Rattle.rds_audit.specs.Lengths.{lengths_of, measured_after, name_gauge, sent_last, tags_end}
+use Rattle.rds_audit.specs.Lengths.{lengths_of, name_gauge, sent_last, tags_end}
 use Rattle.rds_audit.specs.Listing.{IsFaultOf, Span, added, broken_by, broken_newest, first_fault, first_of}
 use Rattle.rds_audit.specs.Listing.{first_of_span, fits, none_broken, or_else, reigns_of, slot_adds, span_with, spans}
 use Rattle.rds_audit.specs.Listing.{spans_after, spans_tagged}
@@ -36,20 +37,11 @@ IsFirst f EarlyTag = f.early_tag ≡ true
 IsFirst f TagOutside = (f.not_one_text ≡ false) × (f.early_tag ≡ false) × (f.tag_outside ≡ true)
 
 first_is : (f : FaultSet) (fault : AuditFault) → first_of f ≡ Some fault → IsFirst f fault
-first_is f fault e = by f.changed f.early_flag f.not_one_text f.early_tag f.tag_outside e
-  where
-    this : (s : FaultSet) (found : AuditFault) → Some found ≡ Some fault → IsFirst s found → IsFirst s fault
-    this s found e is = subst (IsFirst s) (let same : found ≡ fault = cc in same) is
-
-    by : (c e n g o : Bool)
-        → first_of record { changed = c; early_flag = e; not_one_text = n; early_tag = g; tag_outside = o } ≡ Some fault
-        → IsFirst record { changed = c; early_flag = e; not_one_text = n; early_tag = g; tag_outside = o } fault
-    by true e n g o is = this _ Changed is refl
-    by false true n g o is = this _ EarlyFlag is refl
-    by false false true g o is = this _ NotOneText is refl
-    by false false false true o is = this _ EarlyTag is refl
-    by false false false false true is = this _ TagOutside is (refl, refl, refl)
-    by false false false false false is = absurd (let bad : None ≡ Some fault = is in cc)
+first_is f Changed e = grind arith
+first_is f EarlyFlag e = grind arith
+first_is f NotOneText e = grind arith
+first_is f EarlyTag e = grind arith
+first_is f TagOutside e = (grind arith, grind arith, grind arith)
 
 module _ (g : Gauge) (exact : IsExact g) (d : ℕ) where
   -- ---- what the marks of a span say of its reign
@@ -59,32 +51,16 @@ module _ (g : Gauge) (exact : IsExact g) (d : ℕ) where
   untagged r = record r { reign = record r.reign { tags = [] } }
 
   no_value : (r : Span) → not (fits g r) ≡ true → HaveOneValue g.kind r.reign.fragments [] → ⊥
-  no_value r none one =
-      let fit : fits g r ≡ true = one_fits g exact d (untagged r) one in
-      let bad : false ≡ true = sym (ap not fit) ∙ none in cc
+  no_value r none one = cc (one_fits g exact d (untagged r) one)
 
   some_value : (r : Span) → AllByRecursion (IsFormed g.segments) r.reign.fragments → AllJoin g r.reign.fragments
       → not (fits g r) ≡ false → HaveOneValue g.kind r.reign.fragments []
-  some_value r formed joins some = fits_one g exact d (untagged r) formed joins (holds (fits g r) some) (omega arith)
-    where
-      holds : (b : Bool) → not b ≡ false → b ≡ true
-      holds true e = refl
-      holds false e = absurd (let bad : true ≡ false = e in cc)
+  some_value r formed joins some = fits_one g exact d (untagged r) formed joins (not-false _ some) (omega arith)
 
   -- a fragment that joins and does not fit has the bytes that its address was sent with last
   no_other : (p : Fragment) (older : List Fragment) → changes g older p ≡ false → all_fit g older ≡ true
       → not (all_fit g (p ∷ older)) ≡ true → is_other (sent_last p.address older) p.bytes ≡ false
-  no_other p older joins fit none =
-      by (is_other (sent_last p.address older) p.bytes) (g.bends) ((measured_after g older p).fits) (all_fit g older)
-      joins fit none
-    where
-      by : (other bends new old : Bool) → (other && not (bends && new)) ≡ false → old ≡ true → not (new && old) ≡ true
-          → other ≡ false
-      by false bends new old joins fit none = refl
-      by true false new old joins fit none = absurd (let bad : true ≡ false = joins in cc)
-      by true true false old joins fit none = absurd (let bad : true ≡ false = joins in cc)
-      by true true true false joins fit none = absurd (let bad : false ≡ true = fit in cc)
-      by true true true true joins fit none = absurd (let bad : false ≡ true = none in cc)
+  no_other p older joins fit none = grind arith
 
   outside : (r : Span)
       → nat_lt (lengths_of g r.reign.fragments).most (tags_end r.reign.tags) ≡ true
@@ -98,30 +74,26 @@ module _ (g : Gauge) (exact : IsExact g) (d : ℕ) where
   opened_breaks : (slot start : ℕ) (p : Fragment) (older : List Reign) (fault : AuditFault) → IsFormed g.segments p
       → start ≤ slot → IsFirst (broken_by g d (first_of_span slot p start false false)) fault
       → BreaksByFragment g.kind (opened_from start slot p ∷ older) fault
-  opened_breaks slot start p older Changed formed late is = absurd (let bad : false ≡ true = is in cc)
-  opened_breaks slot start p older EarlyFlag formed late is = absurd (let bad : false ≡ true = is in cc)
+  opened_breaks slot start p older Changed formed late is = (cc)
+  opened_breaks slot start p older EarlyFlag formed late is = (cc)
   opened_breaks slot start p older NotOneText formed late is =
       (late, refl, no_value (first_of_span slot p start false false) is)
-  opened_breaks slot start p older EarlyTag formed late is = absurd (let bad : false ≡ true = is in cc)
-  opened_breaks slot start p older TagOutside formed late is =
-      absurd (omega (arith, ltb-true _ _ is.2))
+  opened_breaks slot start p older EarlyTag formed late is = (cc)
+  opened_breaks slot start p older TagOutside formed late is = absurd (omega (arith, ltb-true _ _ is.2))
 
   -- a fragment joins a reign
   joined_breaks : (slot : ℕ) (p : Fragment) (r : Span) (older : List Reign) (fault : AuditFault)
       → IsFormed g.segments p → CanBeBroadcast d g.kind r.reign → broken_by g d r ≡ none_broken
       → changes g r.reign.fragments p ≡ false → IsFirst (broken_by g d (span_with slot p r)) fault
       → BreaksByFragment g.kind (with_fragment slot p r.reign ∷ older) fault
-  joined_breaks slot p r older Changed formed was none joins is =
-      absurd (let bad : true ≡ false = sym is ∙ ap (λ (f : FaultSet). f.changed) none in cc)
-  joined_breaks slot p r older EarlyFlag formed was none joins is =
-      absurd (let bad : true ≡ false = sym is ∙ ap (λ (f : FaultSet). f.early_flag) none in cc)
+  joined_breaks slot p r older Changed formed was none joins is = cc (ap (λ (f : FaultSet). f.changed) none)
+  joined_breaks slot p r older EarlyFlag formed was none joins is = cc (ap (λ (f : FaultSet). f.early_flag) none)
   joined_breaks slot p r older NotOneText formed was none joins is = (
     was.begun,
     no_other p r.reign.fragments joins (exact.measured r.reign.fragments r.reign.tags was.one).fit is,
     no_value (span_with slot p r) is,
   )
-  joined_breaks slot p r older EarlyTag formed was none joins is =
-      absurd (let bad : true ≡ false = sym is ∙ ap (λ (f : FaultSet). f.early_tag) none in cc)
+  joined_breaks slot p r older EarlyTag formed was none joins is = cc (ap (λ (f : FaultSet). f.early_tag) none)
   joined_breaks slot p r older TagOutside formed was none joins is = (
     was.begun,
     some_value (span_with slot p r) (formed, exact.formed r.reign.fragments r.reign.tags was.one)
@@ -137,7 +109,7 @@ module _ (g : Gauge) (exact : IsExact g) (d : ℕ) where
       subst (BreaksByFragment g.kind (with_fragment slot p r ∷ older)) is (
         was.begun,
         (and_parts (is_other (sent_last p.address r.fragments) p.bytes) _ changed).0,
-        λ one. let bad : true ≡ false = sym changed ∙ (exact.measured (p ∷ r.fragments) [] one).joins.0 in cc,
+        λ one. cc ((exact.measured (p ∷ r.fragments) [] one).joins.0),
       )
 
   fragment_breaks : (p : Fragment) (before : List Mark) (rs : List Span) (fault : AuditFault)
@@ -153,13 +125,10 @@ module _ (g : Gauge) (exact : IsExact g) (d : ℕ) where
       d (length before) p r older
       (λ joins is. joined_breaks (length before) p r (reigns_of older) fault formed was.0 none joins
       (first_is _ fault is))
-      (λ changed is. changed_breaks (length before) p r.reign (reigns_of older) fault was.0 changed
-      (let e : Some Changed ≡ Some fault = is in let same : Changed ≡ fault = cc in same))
+      (λ changed is. changed_breaks (length before) p r.reign (reigns_of older) fault was.0 changed (cc))
       (λ start late is. opened_breaks (length before) start p (reigns_of (r ∷ older)) fault formed late
       (first_is _ fault is))
-      (λ start late less is. subst (BreaksByFragment g.kind (opened_from late (length before) p
-      ∷ reigns_of (r ∷ older)))
-      (let e : Some EarlyFlag ≡ Some fault = is in let same : EarlyFlag ≡ fault = cc in same) less)
+      (λ start late less is. let same : fault ≡ EarlyFlag = cc in rw same less)
       is
 
   -- tags break a rule
@@ -167,33 +136,21 @@ module _ (g : Gauge) (exact : IsExact g) (d : ℕ) where
       → broken_by g d r ≡ none_broken
       → IsFirst (broken_by g d (record r { reign = with_tags slot pair r.reign })) fault
       → BreaksByTags d g.kind slot (with_tags slot pair r.reign ∷ older) fault
-  tagged_breaks slot pair r older Changed none is =
-      absurd (let bad : true ≡ false = sym is ∙ ap (λ (f : FaultSet). f.changed) none in cc)
-  tagged_breaks slot pair r older EarlyFlag none is =
-      absurd (let bad : true ≡ false = sym is ∙ ap (λ (f : FaultSet). f.early_flag) none in cc)
-  tagged_breaks slot pair r older NotOneText none is =
-      absurd (let bad : true ≡ false = sym is ∙ ap (λ (f : FaultSet). f.not_one_text) none in cc)
+  tagged_breaks slot pair r older Changed none is = cc (ap (λ (f : FaultSet). f.changed) none)
+  tagged_breaks slot pair r older EarlyFlag none is = cc (ap (λ (f : FaultSet). f.early_flag) none)
+  tagged_breaks slot pair r older NotOneText none is = cc (ap (λ (f : FaultSet). f.not_one_text) none)
   tagged_breaks slot pair r older EarlyTag none is =
-      ltb-true _ _ (newest (nat_lt slot (r.reign.start + d)) _ (ap (λ (f : FaultSet). f.early_tag) none) is)
-    where
-      newest : (x y : Bool) → y ≡ false → (x || y) ≡ true → x ≡ true
-      newest true y was e = refl
-      newest false y was e = absurd (let bad : true ≡ false = sym e ∙ was in cc)
+      grind (arith, nat_tests, ap (λ (f : FaultSet). f.early_tag) none)
   tagged_breaks slot pair r older TagOutside none is = (
-    ltb-false _ _ (neither (nat_lt slot (r.reign.start + d)) _ is.1),
+    ltb-false _ _ (or_parts (nat_lt slot (r.reign.start + d)) _ is.1).0,
     outside (record r { reign = with_tags slot pair r.reign }) is.2,
   )
-    where
-      neither : (x y : Bool) → (x || y) ≡ false → x ≡ false
-      neither true y e = absurd (let bad : true ≡ false = e in cc)
-      neither false y e = refl
 
   tags_break : (pair : PairFields) (before : List Mark) (rs : List Span) (fault : AuditFault)
       → broken_newest g d before rs ≡ none_broken
       → first_of (broken_newest g d (Tagged pair ∷ before) (spans_tagged (length before) pair rs)) ≡ Some fault
       → BreaksByTags d g.kind (length before) (after_tags (length before) pair (reigns_of rs)) fault
-  tags_break pair before [] fault none is =
-      let e : Some EarlyTag ≡ Some fault = is in let same : fault ≡ EarlyTag = cc in same
+  tags_break pair before [] fault none is = (cc)
   tags_break pair before (r ∷ older) fault none is =
       tagged_breaks (length before) pair r (reigns_of older) fault none (first_is _ fault is)
 
@@ -202,52 +159,41 @@ module _ (g : Gauge) (exact : IsExact g) (d : ℕ) where
       → Passes d g.kind before → first_of (added g d mark before) ≡ Some fault
       → BreaksRule d g.kind mark before fault
   service_breaks Nothing before fault formed passes is =
-      absurd (let bad : None ≡ Some fault = sym (ap first_of (nothing_adds g d before)) ∙ is in cc)
+      cc (ap first_of (nothing_adds g d before))
   service_breaks (Sends p) before fault formed passes is =
       let h = are_reigns g exact d before passes in
-      subst (λ (regs : List Reign). BreaksByFragment g.kind (after_fragment d (length before) p regs) fault) h.same
-      (fragment_breaks p before (spans g d before) fault formed
-      (subst (AllByRecursion (CanBeBroadcast d g.kind)) (sym h.same) passes.reigns) h.none
+      rw (← h.same) (fragment_breaks p before (spans g d before) fault formed (rw h.same passes.reigns) h.none
       (sym (ap first_of (adds_all g exact d (Sends p) before h.none)) ∙ is))
   service_breaks (Tagged pair) before fault formed passes is =
       let h = are_reigns g exact d before passes in
-      subst (λ (regs : List Reign). BreaksByTags d g.kind (length before) (after_tags (length before) pair regs) fault)
-      h.same
-      (tags_break pair before (spans g d before) fault h.none
+      rw (← h.same) (tags_break pair before (spans g d before) fault h.none
       (sym (ap first_of (adds_all g exact d (Tagged pair) before h.none)) ∙ is))
 
 -- ---- the fault of a log
+
+-- a message is silent for names or for texts
+one_silent : (m : Option Message) → (name_mark m ≡ Nothing) ⊎ (text_mark m ≡ Nothing)
+one_silent None = inl refl
+one_silent (Some (Name f a b)) = inr refl
+one_silent (Some m) = inl refl
 
 slot_breaks : (form : TextForm) (d : ℕ) (newest : Option Message) (before : List (Option Message)) (fault : AuditFault)
     → IsFormedMessage newest → LogPasses form d before → first_of (slot_adds form d newest before) ≡ Some fault
     → BreaksRule d (text_kind form) (text_mark newest) (marks text_mark before) fault
     ⊎ BreaksRule d names (name_mark newest) (marks name_mark before) fault
-slot_breaks form d newest before fault formed passes is = by newest refl
-  where
-    text : name_mark newest ≡ Nothing → BreaksRule d (text_kind form) (text_mark newest) (marks text_mark before) fault
-    text silent = service_breaks (gauge_of form) (gauge_is_exact form) d (text_mark newest)
-        (marks text_mark before) fault
-        formed.text passes.text (sym (ap first_of (texts_add form d newest before silent)) ∙ is)
-
-    name : text_mark newest ≡ Nothing → BreaksRule d names (name_mark newest) (marks name_mark before) fault
-    name silent = service_breaks name_gauge name_gauge_is_exact d (name_mark newest) (marks name_mark before) fault
-        formed.name passes.name (sym (ap first_of (names_add form d newest before silent)) ∙ is)
-
-    by : (m : Option Message) → newest ≡ m
-        → BreaksRule d (text_kind form) (text_mark newest) (marks text_mark before) fault
-        ⊎ BreaksRule d names (name_mark newest) (marks name_mark before) fault
-    by None e = inl (text (ap name_mark e))
-    by (Some (Text f a b)) e = inl (text (ap name_mark e))
-    by (Some (Name f a b)) e = inr (name (ap text_mark e))
-    by (Some (Announce code bits aid)) e = inl (text (ap name_mark e))
-    by (Some (Tags pair)) e = inl (text (ap name_mark e))
-    by (Some Other) e = inl (text (ap name_mark e))
+slot_breaks form d newest before fault formed passes is = elim (one_silent newest) [
+  | inl silent ↦ inl (service_breaks (gauge_of form) (gauge_is_exact form) d (text_mark newest)
+      (marks text_mark before) fault formed.text passes.text
+      (sym (ap first_of (texts_add form d newest before silent)) ∙ is))
+  | inr silent ↦ inr (service_breaks name_gauge name_gauge_is_exact d (name_mark newest) (marks name_mark before) fault
+      formed.name passes.name (sym (ap first_of (names_add form d newest before silent)) ∙ is))
+]
 
 -- the fault of a log is that of the rule that its first failing slot breaks first
 pub fails_by : (form : TextForm) (d : ℕ) (log : List (Option Message)) (fault : AuditFault)
     → AllByRecursion IsFormedMessage log
     → IsFaultOf form d log fault → FailsBy form d log fault
-fails_by form d [] fault formed is = absurd (let bad : None ≡ Some fault = is in cc)
+fails_by form d [] fault formed is = (cc)
 fails_by form d (newest ∷ before) fault formed is = by (fails_by form d before fault formed.1)
     (first_fault form d before) refl
   where

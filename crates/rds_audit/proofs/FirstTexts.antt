@@ -1,11 +1,12 @@
 -- Lemmas: a recording from its first text segment on, with slots in front in which nothing was sent.
+use Rattle.std.proofs.lemmas.Bool.Decides.{nat_tests}
 use Rattle.std.proofs.Common.{◌≡◌, ◌+◌, ◌<◌, ◌≤◌, ◌&&◌, ◌||◌, ℕ, suc, Bool, true, false, List, [], ◌∷◌, Option, Some}
 use Rattle.std.proofs.Common.{None, length, refl, sym, ap, ◌∙◌, subst, inl, inr, arith}
-use Rattle.std.specs.Prelude.{nat_lt, replicate, if◌then◌else◌}
-use Rattle.std.proofs.lemmas.Bool.{cond_both, le-ltb, lt-ltb}
+use Rattle.std.specs.Prelude.{nat_lt, if◌then◌else◌}
+use Rattle.std.proofs.lemmas.Bool.{and_right, cond_both, le-ltb, lt-ltb, or_right}
 use Rattle.std.proofs.lemmas.List.{length-append, length-replicate}
 use Rattle.rds_fields.specs.declared.message.Message.{Message}
-use Rattle.rds_fields.specs.declared.message.Message.TheVariants.{Text, Name, Announce, Tags, Other}
+use Rattle.rds_fields.specs.declared.message.Message.TheVariants.{Text, Tags}
 use Rattle.rds_fields.specs.Tag.{PairFields}
 use Rattle.rds_safety.specs.Late.{SentIn}
 use Rattle.rds_safety.specs.Marks.{IsMarkIn, Tagged, marks, text_mark}
@@ -15,12 +16,7 @@ use Rattle.rds_audit.specs.Recording.{counted_after, from_first_text, has_text, 
 -- ---- the slots in front
 
 length_preceded : (n : ℕ) (log : List (Option Message)) → length (preceded n log) ≡ length log + n
-length_preceded n log = omega (
-  arith,
-  length-append log (replicate n None),
-  length-replicate n
-      (let none : Option Message = None in none),
-)
+length_preceded n log = grind (arith, nat_tests, length-append, length-replicate)
 
 -- what was sent is sent n slots later
 pub sent_later : (n : ℕ) (log : List (Option Message)) (s : ℕ) (entry : Option Message) → SentIn log s entry
@@ -32,12 +28,8 @@ sent_later n (newest ∷ before) s entry (inr h) = inr (sent_later n before s en
 -- ---- the slots after a text segment
 
 abbrev pub is_text : Option Message → Bool
-is_text None = false
 is_text (Some (Text f a b)) = true
-is_text (Some (Name f a b)) = false
-is_text (Some (Announce code bits aid)) = false
-is_text (Some (Tags pair)) = false
-is_text (Some Other) = false
+is_text _ = false
 
 -- a segment of a text was sent before this slot
 abbrev pub text_before : List (Option Message) → ℕ → Bool
@@ -46,59 +38,28 @@ text_before (newest ∷ before) s = (is_text newest && nat_lt (length before) s)
 
 -- the entry, except tags that do not count
 abbrev pub settled : Bool → Option Message → Option Message
-settled counts None = None
-settled counts (Some (Text f a b)) = Some (Text f a b)
-settled counts (Some (Name f a b)) = Some (Name f a b)
-settled counts (Some (Announce code bits aid)) = Some (Announce code bits aid)
 settled counts (Some (Tags pair)) = if counts then Some (Tags pair) else None
-settled counts (Some Other) = Some Other
-
-or_true : (x y : Bool) → y ≡ true → (x || y) ≡ true
-or_true true y e = refl
-or_true false y e = e
-
-true_or : (x y : Bool) → x ≡ true → (x || y) ≡ true
-true_or true y e = refl
-true_or false y e = absurd (cc)
-
-and_true : (x y : Bool) → x ≡ true → y ≡ true → (x && y) ≡ true
-and_true true y e f = f
-and_true false y e f = e
-
-false_or : (x y z : Bool) → y ≡ false → ((x && y) || z) ≡ z
-false_or true true z e = absurd (cc)
-false_or true false z e = refl
-false_or false y z e = refl
+settled counts message = message
 
 -- the newest entry is not before its own slot
 newest_not : (newest : Option Message) (before : List (Option Message)) (s : ℕ) → s ≤ length before
     → text_before (newest ∷ before) s ≡ text_before before s
-newest_not newest before s h = false_or (is_text newest) (nat_lt (length before) s) (text_before before s)
-    (le-ltb (length before) s h)
+newest_not newest before s h = rw (and_right (is_text newest) (nat_lt (length before) s) (le-ltb (length before) s h))
 
 -- after a text segment that was sent
 pub after_text : (log : List (Option Message)) (s : ℕ) (f : Bool) (a : ℕ) (b : List ℕ) (v : ℕ)
     → SentIn log s (Some (Text f a b)) → s < v → text_before log v ≡ true
 after_text [] s f a b v h later = absurd h
-after_text (newest ∷ before) s f a b v (inl h) later = true_or _ (text_before before v)
-    (and_true (is_text newest) (nat_lt (length before) v) (ap is_text (sym h.1))
-    (lt-ltb (length before) v (omega (arith, h.0, later))))
-after_text (newest ∷ before) s f a b v (inr h) later = or_true (is_text newest && nat_lt (length before) v)
-    (text_before before v) (after_text before s f a b v h later)
+after_text (newest ∷ before) s f a b v (inl h) later = rw (← h.1, lt-ltb (length before) v (omega (arith, h.0)))
+after_text (newest ∷ before) s f a b v (inr h) later =
+    grind (arith, nat_tests, after_text before s f a b v h later, or_right)
 
 -- at the end of a log
 all_before : (log : List (Option Message)) (s : ℕ) → length log ≤ s → text_before log s ≡ has_text (from_first_text log)
 all_before [] s h = refl
-all_before (None ∷ before) s h = all_before before s (omega arith)
-all_before (Some (Text f a b) ∷ before) s h = true_or (nat_lt (length before) s) (text_before before s)
-    (lt-ltb (length before) s (omega arith))
-all_before (Some (Name f a b) ∷ before) s h = all_before before s (omega arith)
-all_before (Some (Announce code bits aid) ∷ before) s h = all_before before s (omega arith)
-all_before (Some (Tags pair) ∷ before) s h =
-    cond_both (has_text (from_first_text before)) (Some (Tags pair)) None (λ (x : Option Message). text_before before s
-    ≡ has_text (x ∷ from_first_text before))
-    (λ _. all_before before s (omega arith)) (λ _. all_before before s (omega arith))
-all_before (Some Other ∷ before) s h = all_before before s (omega arith)
+all_before (Some (Text f a b) ∷ before) s h = rw (lt-ltb (length before) s (omega arith))
+all_before (Some (Tags pair) ∷ before) s h = grind (arith, nat_tests, all_before before s (omega arith))
+all_before (_ ∷ before) s h = all_before before s (omega arith)
 
 same_length : (log : List (Option Message)) → length (from_first_text log) ≡ length log
 same_length [] = refl
@@ -106,25 +67,15 @@ same_length (newest ∷ before) = ap suc (same_length before)
 
 settled_is_counted : (judged : List (Option Message)) (message : Option Message)
     → settled (has_text judged) message ≡ counted_after judged message
-settled_is_counted judged None = refl
-settled_is_counted judged (Some (Text f a b)) = refl
-settled_is_counted judged (Some (Name f a b)) = refl
-settled_is_counted judged (Some (Announce code bits aid)) = refl
 settled_is_counted judged (Some (Tags pair)) = refl
-settled_is_counted judged (Some Other) = refl
+settled_is_counted judged _ = refl
 
 -- what was sent is still sent from the first text segment on, except tags before it
 pub sent_from_first_text : (log : List (Option Message)) (s : ℕ) (entry : Option Message) → SentIn log s entry
     → SentIn (from_first_text log) s (settled (text_before log s) entry)
 sent_from_first_text [] s entry h = absurd h
 sent_from_first_text (newest ∷ before) s entry (inl h) =
-    let counts : text_before (newest ∷ before) s ≡ has_text (from_first_text before) = newest_not newest before s
-    (omega (arith, h.0)) ∙ all_before before s (omega (arith, h.0)) in
-    inl (
-      omega (arith, h.0, same_length before),
-      ap (λ (is : Bool). settled is entry) counts
-          ∙ ap (settled (has_text (from_first_text before))) h.1 ∙ settled_is_counted (from_first_text before) newest,
-    )
+    grind (arith, nat_tests, newest_not, all_before, same_length, settled_is_counted)
 sent_from_first_text (newest ∷ before) s entry (inr h) =
     let counts : text_before (newest ∷ before) s ≡ text_before before s = newest_not newest before s
     (omega (arith, before_end 0 before s entry h)) in
@@ -147,11 +98,7 @@ tags_are_of_the_log (newest ∷ before) s pair (inl h) = inl (h.0 ∙ marked_len
 
     by : (message : Option Message) → Tagged pair ≡ text_mark (counted_after (from_first_text before) message)
         → Tagged pair ≡ text_mark message
-    by None e = e
-    by (Some (Text f a b)) e = e
-    by (Some (Name f a b)) e = e
-    by (Some (Announce code bits aid)) e = e
     by (Some (Tags q)) e = cond_both (has_text (from_first_text before)) (Some (Tags q)) None
         (λ (x : Option Message). Tagged pair ≡ text_mark x → Tagged pair ≡ Tagged q) (λ _ same. same)
         (λ _ none. absurd (cc)) e
-    by (Some Other) e = e
+    by _ e = e

@@ -1,16 +1,15 @@
 -- Lemmas: a log that passes, and whose flag turns from each reign to the next one, is safe for receivers with the flag
 -- bit alone that hear a segment of each reign.
-use Rattle.std.proofs.Common.{◌≡◌, ◌≢◌, ◌⊎◌, ◌+◌, ◌<◌, ◌≤◌, ◌&&◌, ℕ, Bool, true, false, nat_lt, List, [], ◌∷◌, length}
+use Rattle.std.proofs.lemmas.Bool.Decides.{nat_tests}
+use Rattle.std.proofs.Common.{◌≡◌, ◌≢◌, ◌⊎◌, ◌+◌, ◌<◌, ◌≤◌, ◌&&◌, ℕ, Bool, true, false, List, [], ◌∷◌}
 use Rattle.std.proofs.Common.{Option, refl, sym, ◌∙◌, subst, inl, inr, arith}
 use Rattle.std.specs.List.{AllByRecursion}
-use Rattle.std.proofs.lemmas.Bool.{cond_both, lt-ltb}
 use Rattle.rds_fields.specs.declared.message.Message.{Message}
 use Rattle.rds_fields.specs.Tag.{PairFields}
 use Rattle.rds_encoder.specs.Laws.{ANumberIsBelowTheLength}
 use Rattle.rds_encoder.specs.Plan.{Broadcast, HasNumber}
 use Rattle.rds_receiver.specs.Receipts.{name_fragment, text_fragment}
 use Rattle.rds_receiver.specs.declared.fragment.Fragment.{Fragment}
-use Rattle.rds_receiver.specs.Run.{is_same}
 use Rattle.rds_safety.specs.FlagAlone.{HearsEach, HearsOneBetween, IsHeardFrom, IsNews, TurnsTheFlag}
 use Rattle.rds_safety.specs.FlagLaws.{NamesByFlagAreOfTheirSource, TagsByFlagAreOfTheirText}
 use Rattle.rds_safety.specs.FlagLaws.{TextsByFlagAreOfTheirSource}
@@ -20,7 +19,7 @@ use Rattle.rds_safety.specs.Lawful.{Kind, names, texts}
 use Rattle.rds_safety.specs.Laws.{PlanLaws}
 use Rattle.rds_safety.specs.Marks.{Mark, Nothing, Sends, Tagged, marks, name_mark, text_mark}
 use Rattle.rds_audit.specs.FlagLaws.{HasNoPause, HearsEachReign, IsSafeByFlag, IsSoonAfter}
-use Rattle.rds_audit.specs.Reigns.{AlternateFlags, IsOfEachTwo, Reign, after_fragment, after_tags, joins, reigns}
+use Rattle.rds_audit.specs.Reigns.{AlternateFlags, IsOfEachTwo, Reign, after_fragment, after_tags, reigns}
 use Rattle.rds_audit.specs.Rules.{CanBeBroadcast, LogPasses}
 use Rattle.rds_audit.specs.declared.text_form.TextForm.TheVariants.{Plain}
 use Rattle.rds_audit.proofs.Planning.{has_plan_of_reigns, plan_from}
@@ -40,15 +39,11 @@ of_each_two P below d kind (r ∷ []) a all k b c (inl p) (inl q) = absurd (omeg
 of_each_two P below d kind (r ∷ []) a all k b c (inl p) (inr q) = absurd q
 of_each_two P below d kind (r ∷ []) a all k b c (inr p) q = absurd p
 of_each_two P below d kind (r ∷ e ∷ older) a all k b c (inl p) (inl q) = absurd (omega (arith, p.0, q.0))
-of_each_two P below d kind (r ∷ e ∷ older) a all k b c (inl p) (inr q) = absurd
-    (omega (arith, p.0, below (plan_from d kind (e ∷ older) a.1) (k + 1) c q))
-of_each_two P below d kind (r ∷ e ∷ older) a all k b c (inr p) (inr q) = of_each_two P below d kind (e ∷ older) a.1
-    all.1 k b c p q
-of_each_two P below d kind (r ∷ e ∷ older) a all k b c (inr (inr p)) (inl q) = absurd
-    (omega (arith, q.0, below (plan_from d kind older a.1.1) k b p))
-of_each_two P below d kind (r ∷ e ∷ older) a all k b c (inr (inl p)) (inl q) =
-    subst (λ (x : Broadcast). P x c) (sym p.1) (subst (P (broadcast_of e a.1.0.one.value)) (sym q.1)
-    (all.0 a.1.0.one.value a.0.one.value))
+of_each_two P below d kind (r ∷ e ∷ older) a all k b c (inl p) (inr q) = search (arith, plan_from)
+of_each_two P below d kind (r ∷ e ∷ older) a all k b c (inr p) (inr q) =
+    search (arith, of_each_two P below d kind (e ∷ older) a.1 all.1 k b c p q)
+of_each_two P below d kind (r ∷ e ∷ older) a all k b c (inr (inr p)) (inl q) = grind (arith, nat_tests, plan_from)
+of_each_two P below d kind (r ∷ e ∷ older) a all k b c (inr (inl p)) (inl q) = grind (arith, nat_tests)
 
 -- one property follows from another
 of_each_two_too : (P Q : Reign → Reign → Type 0) → ((r next : Reign) → P r next → Q r next) → (rs : List Reign)
@@ -126,20 +121,7 @@ still_alternate r s (e ∷ older) same all = (λ equal. all.0 (equal ∙ same), 
 after_fragment_alternate : (d slot : ℕ) (p : Fragment) (rs : List Reign) → IsSoonAfter d slot rs → AlternateFlags rs
     → AlternateFlags (after_fragment d slot p rs)
 after_fragment_alternate d slot p [] soon all = tt
-after_fragment_alternate d slot p (r ∷ older) soon all =
-    cond_both (joins d slot p.flag r) _ _ AlternateFlags (λ _. still_alternate r record {
-      start = r.start;
-      opened = r.opened;
-      last = slot;
-      flag = r.flag;
-      fragments = p ∷ r.fragments;
-      tags = r.tags;
-    } older refl all)
-    (λ apart. (
-      other_flag r.flag p.flag (first_fails (is_same r.flag p.flag) (nat_lt slot (r.last + d)) apart
-          (lt-ltb slot (r.last + d) soon)),
-      all,
-    ))
+after_fragment_alternate d slot p (r ∷ older) soon all = search (arith, still_alternate, other_flag, first_fails)
 
 after_tags_alternate : (slot : ℕ) (pair : PairFields) (rs : List Reign) → AlternateFlags rs
     → AlternateFlags (after_tags slot pair rs)
@@ -151,7 +133,5 @@ after_tags_alternate slot pair (r ∷ e ∷ older) all = all
 pub alternate : (d : ℕ) (sent : List Mark) → HasNoPause d sent → AlternateFlags (reigns d sent)
 alternate d [] no_pause = tt
 alternate d (Nothing ∷ before) no_pause = alternate d before no_pause
-alternate d (Sends p ∷ before) no_pause = after_fragment_alternate d (length before) p (reigns d before) no_pause.0
-    (alternate d before no_pause.1)
-alternate d (Tagged pair ∷ before) no_pause = after_tags_alternate (length before) pair (reigns d before)
-    (alternate d before no_pause)
+alternate d (Sends p ∷ before) no_pause = search (arith, alternate d before no_pause.1, after_fragment_alternate)
+alternate d (Tagged pair ∷ before) no_pause = search (arith, alternate d before no_pause, after_tags_alternate)

@@ -1,4 +1,5 @@
 -- Lemmas: the gauges of texts and of names are exact.
+use Rattle.std.proofs.lemmas.Bool.Decides.{nat_tests}
 use Rattle.std.proofs.Common.{◌<◌, ◌≤◌, ℕ, List, [], ◌∷◌, length, slice_index, sym, ap, ◌∙◌, subst, arith}
 use Rattle.std.specs.List.{AllByRecursion}
 use Rattle.rds_assembly.specs.Body.{name_body, segment_count, text_body}
@@ -29,9 +30,7 @@ all_formed n body (p ∷ older) few fits all = (
 )
 
 name_fits : (x : List ℕ) → IsName x → (i : ℕ) → i < length (name_body x) → slice_index (name_body x) i < 256
-name_fits x n i h =
-    let same = name_alone x n.0 in
-    subst (λ (b : List ℕ). slice_index b i < 256) (sym same) (n.1.bytes i (omega (arith, ap length same)))
+name_fits x n i h = grind (arith, nat_tests, name_alone)
 
 -- texts without padding are measured exactly
 pub text_gauge_is_exact : IsExact text_gauge
@@ -41,13 +40,7 @@ text_gauge_is_exact = ranged_is_exact texts 16 64 text_lengths text_fragments
 
 -- texts with padding are measured exactly
 pub padded_gauge_is_exact : IsExact padded_gauge
-padded_gauge_is_exact = record {
-  measured = padded_measured;
-  formed = padded_formed;
-  one = padded_one;
-  narrower = padded_narrower;
-  again = padded_again;
-}
+padded_gauge_is_exact = search (arith, padded_measured, padded_formed, padded_one, padded_narrower, padded_again)
 
 -- texts of each form are measured exactly
 pub gauge_is_exact : (form : TextForm) → IsExact (gauge_of form)

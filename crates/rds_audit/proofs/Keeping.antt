@@ -1,4 +1,5 @@
 -- Lemmas: what the reigns of a log keep from slot to slot.
+use Rattle.std.proofs.lemmas.Bool.Decides.{nat_tests}
 use Rattle.std.proofs.Common.{◌≡◌, ◌+◌, ◌<◌, ◌≤◌, ℕ, nat_lt, List, [], ◌∷◌, length, refl, inl, inr, arith}
 use Rattle.std.proofs.lemmas.Bool.{and_parts, cond_both, ltb-true}
 use Rattle.rds_fields.specs.Tag.{PairFields}
@@ -6,7 +7,8 @@ use Rattle.rds_receiver.specs.declared.fragment.Fragment.{Fragment}
 use Rattle.rds_receiver.specs.Run.{is_same}
 use Rattle.rds_audit.specs.Dense.{IsBridged, IsMarked}
 use Rattle.rds_safety.specs.Marks.{IsMarkIn, Mark, Nothing, Sends, Tagged}
-use Rattle.rds_audit.specs.Reigns.{Reign, after_fragment, after_tags, joins, opened_by, reigns, with_fragment}
+use Rattle.rds_audit.specs.Reigns.{Reign, after_fragment, after_tags, joins, opened_by, reigns}
+use Rattle.rds_audit.specs.Reigns.{with_fragment, with_tags}
 use Rattle.rds_audit.proofs.Sending.{bridged_later, early, marked_before, marked_early, marked_later}
 use Rattle.rds_audit.proofs.Sending.{fragment_is_marked, sent_before}
 
@@ -55,55 +57,59 @@ pub are_kept_later : (d : ℕ) (x : Mark) (sent : List Mark) (rs : List Reign) �
     → AreKept d (x ∷ sent) rs
 are_kept_later d x sent [] k = tt
 are_kept_later d x sent (r ∷ older) k =
-    let now = early sent r.opened (Sends k.0.first) k.0.opened in (
-      kept_later d x sent r k.0,
-      (λ u m lt. behind_later x sent older u (omega arith) (k.1 u (marked_before x sent u (omega arith) m) lt)),
-      are_kept_later d x sent older k.2,
-    )
+    grind (arith, nat_tests, are_kept_later d x sent older k.2, early, kept_later, behind_later, marked_before)
 
 -- a slot with nothing of the service
 nothing_behind : (sent : List Mark) (rs : List Reign) → AllBehind sent rs → AllBehind (Nothing ∷ sent) rs
-nothing_behind sent rs h u m = by m.mark m.some m.is_sent
-  where
-    by : (x : Mark) → (x ≡ Nothing → ⊥) → IsMarkIn (Nothing ∷ sent) u x → IsBehind (Nothing ∷ sent) rs u
-    by x some (inl s) = absurd (some s.1)
-    by x some (inr s) = behind_later Nothing sent rs u (early sent u x s)
-        (h u record { mark = x; some = some; is_sent = s })
+nothing_behind sent rs h u m = grind (arith, nat_tests, behind_later, early)
 
 -- tags
 tags_behind : (sent : List Mark) (pair : PairFields) (rs : List Reign) → AllBehind sent rs
     → AllBehind (Tagged pair ∷ sent) (after_tags (length sent) pair rs)
-tags_behind sent pair [] h u m = none
-  where
-    none : (p : Fragment) → IsMarkIn (Tagged pair ∷ sent) u (Sends p) → ⊥
-    none p (inl q) = (let e : Sends p ≡ Tagged pair = q.1 in cc)
-    none p (inr q) = h u (fragment_is_marked sent u p q) p q
+tags_behind sent pair [] h u m = grind (arith, nat_tests, fragment_is_marked)
 tags_behind sent pair (r ∷ older) h u m = omega (arith, marked_early (Tagged pair ∷ sent) u m)
+
+-- a mark that goes on with the newest reign
+renewed_kept : (d : ℕ) (x : Mark) (sent : List Mark) (r more : Reign) (older : List Reign) → (x ≡ Nothing → ⊥)
+    → more.opened ≡ r.opened → more.last ≡ length sent
+    → ((p : Fragment) → Sends p ≡ x → length sent < r.last + d) → AllBehind sent (r ∷ older)
+    → AreKept d sent (r ∷ older) → AreKept d (x ∷ sent) (more ∷ older)
+renewed_kept d x sent r more older some opened last near h k =
+    let rest = are_kept_later d x sent (r ∷ older) k in
+    let now = early sent r.opened (Sends k.0.first) k.0.opened in (
+      record {
+        first = k.0.first;
+        opened = rw opened (inr k.0.opened);
+        ends = record { mark = x; some = some; is_sent = inl (last, refl) };
+        until = omega arith;
+        dense = λ u t q p su st from lt to. dense u t q p su st (omega arith) lt;
+      },
+      rw opened rest.1,
+      rest.2,
+    )
+  where
+    dense : (u t : ℕ) (q p : Fragment) → IsMarkIn (x ∷ sent) u (Sends q) → IsMarkIn (x ∷ sent) t (Sends p)
+        → r.opened ≤ u → u < t → IsBridged d (x ∷ sent) u t
+    dense u t q p su (inl st) from lt =
+        let before = sent_before x sent u (Sends q) (omega arith) su in
+        let less = near p st.1 in
+        record {
+          slot = r.last;
+          marked = marked_later x sent r.last k.0.ends;
+          from = h u (fragment_is_marked sent u q before);
+          before = omega (arith, marked_early sent r.last k.0.ends);
+          near = omega arith;
+        }
+    dense u t q p su (inr st) from lt =
+        let now = early sent t (Sends p) st in
+        bridged_later d x sent u t (k.0.dense u t q p (sent_before x sent u (Sends q) (omega arith) su)
+        st from lt (h t (fragment_is_marked sent t p st)))
 
 tags_kept : (d : ℕ) (sent : List Mark) (pair : PairFields) (rs : List Reign) → AllBehind sent rs → AreKept d sent rs
     → AreKept d (Tagged pair ∷ sent) (after_tags (length sent) pair rs)
 tags_kept d sent pair [] h k = tt
-tags_kept d sent pair (r ∷ older) h k =
-    let rest = are_kept_later d (Tagged pair) sent (r ∷ older) k in
-    let now = early sent r.opened (Sends k.0.first) k.0.opened in (
-      record {
-        first = k.0.first;
-        opened = inr k.0.opened;
-        ends = record { mark = Tagged pair; some = λ e. (cc); is_sent = inl (refl, refl) };
-        until = omega arith;
-        dense = λ u t q p su st from lt to. dense u t q p su st from lt;
-      },
-      rest.1,
-      rest.2,
-    )
-  where
-    dense : (u t : ℕ) (q p : Fragment) → IsMarkIn (Tagged pair ∷ sent) u (Sends q)
-        → IsMarkIn (Tagged pair ∷ sent) t (Sends p) → r.opened ≤ u → u < t → IsBridged d (Tagged pair ∷ sent) u t
-    dense u t q p su (inl st) from lt = (let e : Sends p ≡ Tagged pair = st.1 in absurd (cc))
-    dense u t q p su (inr st) from lt =
-        let now = early sent t (Sends p) st in
-        bridged_later d (Tagged pair) sent u t (k.0.dense u t q p (sent_before (Tagged pair) sent u (Sends q)
-        (omega arith) su) st from lt (h t (fragment_is_marked sent t p st)))
+tags_kept d sent pair (r ∷ older) h k = renewed_kept d (Tagged pair) sent r (with_tags (length sent) pair r) older
+    (λ e. (cc)) refl refl (λ p e. absurd (cc)) h k
 
 -- a fragment that opens a reign
 opened_kept : (d : ℕ) (sent : List Mark) (p : Fragment) (rs : List Reign) → AllBehind sent rs → AreKept d sent rs
@@ -120,40 +126,6 @@ opened_kept d sent p rs h k = (
   are_kept_later d (Sends p) sent rs k,
 )
 
--- a fragment that joins a reign
-joined_kept : (d : ℕ) (sent : List Mark) (p : Fragment) (r : Reign) (older : List Reign) → length sent < r.last + d
-    → AllBehind sent (r ∷ older) → AreKept d sent (r ∷ older)
-    → AreKept d (Sends p ∷ sent) (with_fragment (length sent) p r ∷ older)
-joined_kept d sent p r older near h k =
-    let rest = are_kept_later d (Sends p) sent (r ∷ older) k in
-    let now = early sent r.opened (Sends k.0.first) k.0.opened in (
-      record {
-        first = k.0.first;
-        opened = inr k.0.opened;
-        ends = record { mark = Sends p; some = λ e. (cc); is_sent = inl (refl, refl) };
-        until = omega arith;
-        dense = λ u t q g su st from lt to. dense u t q g su st from lt;
-      },
-      rest.1,
-      rest.2,
-    )
-  where
-    dense : (u t : ℕ) (q g : Fragment) → IsMarkIn (Sends p ∷ sent) u (Sends q) → IsMarkIn (Sends p ∷ sent) t (Sends g)
-        → r.opened ≤ u → u < t → IsBridged d (Sends p ∷ sent) u t
-    dense u t q g su (inl st) from lt =
-        let before = sent_before (Sends p) sent u (Sends q) (omega arith) su in
-        record {
-          slot = r.last;
-          marked = marked_later (Sends p) sent r.last k.0.ends;
-          from = h u (fragment_is_marked sent u q before);
-          before = omega (arith, marked_early sent r.last k.0.ends);
-          near = omega arith;
-        }
-    dense u t q g su (inr st) from lt =
-        let now = early sent t (Sends g) st in
-        bridged_later d (Sends p) sent u t (k.0.dense u t q g (sent_before (Sends p) sent u (Sends q) (omega arith) su)
-        st from lt (h t (fragment_is_marked sent t g st)))
-
 -- the reigns are kept, and all marks are behind them
 abbrev pub Keeps : ℕ → List Mark → List Reign → Type 0
 Keeps d sent rs = AreKept d sent rs × AllBehind sent rs
@@ -164,16 +136,15 @@ now_behind sent p r older e u m = omega (arith, marked_early (Sends p ∷ sent) 
 
 fragment_keeps : (d : ℕ) (sent : List Mark) (p : Fragment) (rs : List Reign) → Keeps d sent rs
     → Keeps d (Sends p ∷ sent) (after_fragment d (length sent) p rs)
-fragment_keeps d sent p [] k = (
-  opened_kept d sent p [] k.1 k.0,
-  now_behind sent p (opened_by d (length sent) p []) []
-      refl,
-)
+fragment_keeps d sent p [] k = search (arith, opened_kept, now_behind)
 fragment_keeps d sent p (r ∷ older) k =
     cond_both (joins d (length sent) p.flag r) _ _ (Keeps d (Sends p ∷ sent))
     (λ t. let near : length sent < r.last + d = ltb-true _ _ (and_parts (is_same r.flag p.flag)
-    (nat_lt (length sent) (r.last + d)) t).1 in
-    (joined_kept d sent p r older near k.1 k.0, now_behind sent p (with_fragment (length sent) p r) older refl))
+    (nat_lt (length sent) (r.last + d)) t).1 in (
+      renewed_kept d (Sends p) sent r (with_fragment (length sent) p r) older (λ e. (cc)) refl refl (λ g e. near)
+          k.1 k.0,
+      now_behind sent p (with_fragment (length sent) p r) older refl,
+    ))
     (λ _. (
       opened_kept d sent p (r ∷ older) k.1 k.0,
       now_behind sent p (opened_by d (length sent) p (r ∷ older))
@@ -183,14 +154,6 @@ fragment_keeps d sent p (r ∷ older) k =
 -- the reigns keep each fragment and each pair of tags
 pub keeps : (d : ℕ) (sent : List Mark) → Keeps d sent (reigns d sent)
 keeps d [] = (tt, λ u m. absurd m.is_sent)
-keeps d (Nothing ∷ sent) = (let k = keeps d sent in (
-  are_kept_later d Nothing sent (reigns d sent) k.0,
-  nothing_behind
-      sent (reigns d sent) k.1,
-))
+keeps d (Nothing ∷ sent) = grind (arith, nat_tests, keeps d sent, are_kept_later, nothing_behind)
 keeps d (Sends p ∷ sent) = fragment_keeps d sent p (reigns d sent) (keeps d sent)
-keeps d (Tagged pair ∷ sent) = (let k = keeps d sent in (
-  tags_kept d sent pair (reigns d sent) k.1 k.0,
-  tags_behind sent
-      pair (reigns d sent) k.1,
-))
+keeps d (Tagged pair ∷ sent) = grind (arith, nat_tests, keeps d sent, tags_kept, tags_behind)

@@ -17,7 +17,6 @@ pub mod Gauges
 pub mod LengthSteps
 pub mod PaddedSteps
 pub mod AgeSteps
-pub mod ContentSteps
 pub mod Recordings
 pub mod FirstTexts
 pub mod Settled

@@ -1,11 +1,11 @@
 -- Lemmas: the reigns of a log are of broadcasts of any lawful and dense plan, in order.
-use Rattle.std.proofs.Common.{◌≡◌, ◌+◌, ◌<◌, ◌≤◌, max, ℕ, Bool, true, nat_lt, List, [], ◌∷◌, length, refl, sym, ◌∙◌}
+use Rattle.std.proofs.lemmas.Bool.Decides.{nat_tests}
+use Rattle.std.proofs.Common.{◌≡◌, ◌+◌, ◌<◌, ◌≤◌, ℕ, Bool, List, [], ◌∷◌, length, refl}
 use Rattle.std.proofs.Common.{subst, inl, inr, arith}
 use Rattle.std.specs.List.{AllByRecursion}
-use Rattle.std.proofs.lemmas.Bool.{and_parts, cases_order, cond_both, lt-ltb, ltb-true}
+use Rattle.std.proofs.lemmas.Bool.{cases_order}
 use Rattle.rds_fields.specs.Tag.{BothEndIn, PairFields}
 use Rattle.rds_receiver.specs.declared.fragment.Fragment.{Fragment}
-use Rattle.rds_receiver.specs.Run.{is_same}
 use Rattle.rds_encoder.specs.Plan.{Broadcast, Covers, HasNumber}
 use Rattle.rds_encoder.specs.Spaced.{IsSpaced}
 use Rattle.rds_audit.specs.AuditLaws.{AreReignsOf, AreTagsOf, IsReignOf}
@@ -13,7 +13,7 @@ use Rattle.rds_audit.specs.Dense.{HasPlan, IsDense}
 use Rattle.rds_safety.specs.Lawful.{HasFragment, HasTags, IsLawful, Kind}
 use Rattle.rds_safety.specs.Laws.{PlanLaws}
 use Rattle.rds_safety.specs.Marks.{Mark, Nothing, Sends, Tagged}
-use Rattle.rds_audit.specs.Reigns.{Reign, SentTags, after_fragment, after_tags, joins, opened_by, past_newest, reigns}
+use Rattle.rds_audit.specs.Reigns.{Reign, SentTags, after_fragment, after_tags, opened_by, past_newest, reigns}
 use Rattle.rds_audit.specs.Reigns.{start_after, with_fragment, with_tags}
 use Rattle.rds_audit.specs.Rules.{CanBeBroadcast, Passes}
 use Rattle.rds_safety.specs.Flags.{is_same_flag, same_flag}
@@ -22,87 +22,36 @@ use Rattle.rds_audit.proofs.Sending.{dense_before, early, lawful_before, marked_
 
 opened_of : (d now : ℕ) (kind : Kind) (b : Broadcast) (p : Fragment) (rs : List Reign)
     → start_after d p.flag rs ≤ b.start → HasFragment kind now p b → IsReignOf d kind b (opened_by d now p rs)
-opened_of d now kind b p rs le has = record {
-  start = le;
-  from = has.covers.from;
-  to = has.covers.to;
-  flag = has.flag;
-  fragments = (has.fragment, tt);
-  tags = tt;
-}
+opened_of d now kind b p rs le has = grind (arith, nat_tests)
 
 joined_of : (d now : ℕ) (kind : Kind) (b : Broadcast) (p : Fragment) (r : Reign) → HasFragment kind now p b
     → IsReignOf d kind b r → IsReignOf d kind b (with_fragment now p r)
-joined_of d now kind b p r has of = record {
-  start = of.start;
-  from = of.from;
-  to = has.covers.to;
-  flag = of.flag;
-  fragments = (has.fragment, of.fragments);
-  tags = of.tags;
-}
+joined_of d now kind b p r has of = grind (arith, nat_tests)
 
 module _ (laws : PlanLaws) (d : ℕ) (kind : Kind) (plan : List Broadcast) (spaced : IsSpaced d plan) where
   past_newest_before : (k l : ℕ) (b : Broadcast) (rs : List Reign) → HasNumber plan l b → k < l
       → AreReignsOf d kind plan k rs → past_newest d rs ≤ b.start
   past_newest_before k l b [] q lt a = omega arith
-  past_newest_before k l b (r ∷ rs) q lt a = omega (
-    arith,
-    laws.far d plan a.0 l a.1 b spaced a.3 q (omega arith),
-    a.4.to,
-  )
+  past_newest_before k l b (r ∷ rs) q lt a = grind (arith, nat_tests)
 
   -- a reign that is opened in a later broadcast starts no later than this broadcast
   start_before : (k l : ℕ) (c b : Broadcast) (flag : Bool) (r : Reign) (older : List Reign)
       → HasNumber plan k c → HasNumber plan l b → k < l → flag ≡ b.flag → IsReignOf d kind c r
       → AreReignsOf d kind plan k older → start_after d flag (r ∷ older) ≤ b.start
-  start_before k l c b flag r older p q lt e of a =
-      cond_both (is_same r.flag flag) (r.last + d) (max (r.last + 1) (past_newest d older)) (λ n. n ≤ b.start)
-      (λ t. omega (arith, laws.one_flag d plan k l c b spaced p q lt (sym of.flag ∙ same_flag _ _ t ∙ e), of.to))
-      (λ _. omega (arith, laws.order d plan k l c b spaced p q lt, of.to, past_newest_before k l b older q lt a))
+  start_before k l c b flag r older p q lt e of a = grind (arith, nat_tests, same_flag, past_newest_before)
 
   -- a fragment that is sent in the broadcast of the newest reign joins that reign
   fragment_joins : (now n k : ℕ) (b : Broadcast) (p : Fragment) (r : Reign) (older : List Reign)
       → HasNumber plan k b → k < n → HasFragment kind now p b → IsReignOf d kind b r → now < r.last + d
       → AreReignsOf d kind plan k older → AreReignsOf d kind plan n (after_fragment d now p (r ∷ older))
-  fragment_joins now n k b p r older q lt has of near a =
-      let same : is_same r.flag p.flag ≡ true = is_same_flag r.flag p.flag (of.flag ∙ sym has.flag) in
-      let both : after_fragment d now p (r ∷ older) ≡ with_fragment now p r
-      ∷ older = rw (same, lt-ltb now (r.last + d) near) refl in
-      subst (λ (rs : List Reign). AreReignsOf d kind plan n rs) (sym both) (
-        k,
-        b,
-        lt,
-        q,
-        joined_of d now kind b p r has
-            of,
-        a,
-      )
+  fragment_joins now n k b p r older q lt has of near a = grind (arith, nat_tests, is_same_flag, joined_of)
 
   -- a fragment that is sent in a later broadcast opens a reign
   fragment_opens : (now n k l : ℕ) (c b : Broadcast) (p : Fragment) (r : Reign) (older : List Reign)
       → HasNumber plan k c → HasNumber plan l b → k < l → l < n → HasFragment kind now p b → IsReignOf d kind c r
       → AreReignsOf d kind plan k older → AreReignsOf d kind plan n (after_fragment d now p (r ∷ older))
   fragment_opens now n k l c b p r older pc pb lt ln has of a =
-      cond_both (joins d now p.flag r) _ _ (AreReignsOf d kind plan n)
-      (λ t. let parts = and_parts (is_same r.flag p.flag) (nat_lt now (r.last + d)) t in
-      absurd (omega (
-        arith,
-        ltb-true _ _ parts.1,
-        laws.one_flag d plan k l c b spaced pc pb lt (sym of.flag
-            ∙ same_flag _ _ parts.0 ∙ has.flag),
-        of.to,
-        has.covers.from,
-      )))
-      (λ _. (
-        l,
-        b,
-        ln,
-        pb,
-        opened_of d now kind b p (r ∷ older) (start_before k l c b p.flag r older pc pb lt has.flag
-            of a) has,
-        (k, c, lt, pc, of, a),
-      ))
+      grind (arith, nat_tests, same_flag, opened_of, start_before)
 
   -- broadcasts with one number are equal
   same_broadcast : (k l : ℕ) (a b : Broadcast) → HasNumber plan k a → HasNumber plan l b → k ≡ l → a ≡ b
@@ -113,15 +62,7 @@ module _ (laws : PlanLaws) (d : ℕ) (kind : Kind) (plan : List Broadcast) (spac
       → IsDense d plan (Sends p ∷ sent) → HasNumber plan l b → l < n → HasFragment kind (length sent) p b
       → Keeps d sent rs → AreReignsOf d kind plan n rs
       → AreReignsOf d kind plan n (after_fragment d (length sent) p rs)
-  fragment_of n l sent b p [] dense q lt has k a = (
-    l,
-    b,
-    lt,
-    q,
-    opened_of d (length sent) kind b p [] (omega arith)
-        has,
-    tt,
-  )
+  fragment_of n l sent b p [] dense q lt has k a = grind (arith, nat_tests, opened_of)
   fragment_of n l sent b p (r ∷ older) dense q lt has keep a =
       elim (cases_order a.0 l) [
         | inl same ↦
@@ -196,8 +137,9 @@ module _ (laws : PlanLaws) (d : ℕ) (kind : Kind) (plan : List Broadcast) (spac
 pub are_reigns_of : PlanLaws → (d : ℕ) (kind : Kind) (plan : List Broadcast) (sent : List Mark)
     → IsLawful d kind plan sent → IsDense d plan sent → AreReignsOf d kind plan (length plan) (reigns d sent)
 are_reigns_of laws d kind plan [] law dense = tt
-are_reigns_of laws d kind plan (Nothing ∷ sent) law dense = are_reigns_of laws d kind plan sent
-    (lawful_before d kind plan Nothing sent law) (dense_before d plan Nothing sent dense)
+are_reigns_of laws d kind plan (Nothing ∷ sent) law dense =
+    let lawful = lawful_before d kind plan Nothing sent law in
+    grind (arith, nat_tests, are_reigns_of laws d kind plan sent lawful (dense_before d plan Nothing sent dense))
 are_reigns_of laws d kind plan (Sends p ∷ sent) law dense =
     let before = are_reigns_of laws d kind plan sent (lawful_before d kind plan (Sends p) sent law)
     (dense_before d plan (Sends p) sent dense) in

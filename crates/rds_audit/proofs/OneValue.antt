@@ -1,11 +1,11 @@
 -- Lemmas: some value has fragments and tags exactly if no address changed, each fragment allows a length, and one
 -- length is allowed by all and reaches the ends of the tags.
-use Rattle.std.proofs.Common.{◌≡◌, ◌⊎◌, ◌+◌, ◌-◌, ◌*◌, ◌/◌, ◌%◌, ◌<◌, ◌≤◌, ◌++◌, max, ℕ, zero, suc, Bool, true, false}
-use Rattle.std.proofs.Common.{nat_eq, nat_le, List, [], ◌∷◌, length, slice_index, Option, Some, None, cond, refl, sym}
+use Rattle.std.proofs.Common.{◌≡◌, ◌+◌, ◌-◌, ◌*◌, ◌/◌, ◌%◌, ◌<◌, ◌≤◌, ◌++◌, max, ℕ, zero, suc, true}
+use Rattle.std.proofs.Common.{List, [], ◌∷◌, length, slice_index, Option, Some, None, refl, sym}
 use Rattle.std.proofs.Common.{ap, ◌∙◌, subst, inl, inr, arith}
-use Rattle.std.specs.Prelude.{◌||◌, is_some, replicate}
+use Rattle.std.specs.Prelude.{replicate}
 use Rattle.std.specs.List.{AllByRecursion}
-use Rattle.std.proofs.lemmas.Bool.{and_parts, cases_lt, cases_order}
+use Rattle.std.proofs.lemmas.Bool.{and_parts}
 use Rattle.std.proofs.lemmas.Bool.Decides.{nat_tests}
 use Rattle.std.proofs.lemmas.Grind.{same_number_lists}
 use Rattle.std.proofs.lemmas.List.{append-nil}
@@ -16,7 +16,6 @@ use Rattle.rds_receiver.specs.declared.fragment.Fragment.{Fragment}
 use Rattle.rds_safety.specs.Lawful.{IsFragmentOf, names, texts}
 use Rattle.rds_audit.specs.Rules.{AreUnchanged, HaveOneValue}
 use Rattle.rds_audit.specs.Reigns.{SentTags}
-use Rattle.rds_audit.specs.declared.audited.Lengths.{Lengths}
 use Rattle.rds_audit.specs.Lengths.{IsFormed, are_name_bytes, common_lengths, name_lengths, sent_last, tag_end}
 use Rattle.rds_audit.specs.Lengths.{tags_end, text_lengths}
 use Rattle.rds_safety.proofs.Bodies.{segment_byte, segment_long, text_below, text_end, text_full, text_long, text_past}
@@ -28,41 +27,20 @@ use Rattle.rds_audit.proofs.SentCells.{longest_at_most}
 
 -- tags that end in n characters
 ends_below : (n : ℕ) (tag : TagFields) → ends_in n tag ≡ true → tag_end tag ≤ n
-ends_below n tag e = by (nat_eq tag.class 0) e
-  where
-    by : (v : Bool) → (v || nat_le (tag.start + tag.extra + 1) n) ≡ true → cond v 0 (tag.start + tag.extra + 1) ≤ n
-    by true e = omega arith
-    by false e = grind (arith, nat_tests)
+ends_below n tag e = grind (arith, nat_tests)
 
 below_ends : (n : ℕ) (tag : TagFields) → tag_end tag ≤ n → ends_in n tag ≡ true
-below_ends n tag h = by (nat_eq tag.class 0) h
-  where
-    by : (v : Bool) → cond v 0 (tag.start + tag.extra + 1) ≤ n → (v || nat_le (tag.start + tag.extra + 1) n) ≡ true
-    by true h = refl
-    by false h = grind (arith, nat_tests)
+below_ends n tag h = grind (arith, nat_tests)
 
 pub ends_most : (n : ℕ) (tags : List SentTags) → AllByRecursion (λ (s : SentTags). BothEndIn n s.pair) tags
     → tags_end tags ≤ n
 ends_most n [] all = omega arith
-ends_most n (s ∷ tags) all = omega (
-  arith,
-  ends_most n tags all.1,
-  ends_below n s.pair.one all.0.one,
-  ends_below n
-      s.pair.two all.0.two,
-)
+ends_most n (s ∷ tags) all = grind (arith, nat_tests, ends_most n tags all.1, ends_below)
 
 pub most_ends : (n : ℕ) (tags : List SentTags) → tags_end tags ≤ n
     → AllByRecursion (λ (s : SentTags). BothEndIn n s.pair) tags
 most_ends n [] h = tt
-most_ends n (s ∷ tags) h = (
-  record {
-    one = below_ends n s.pair.one (omega arith);
-    two = below_ends n s.pair.two
-        (omega arith);
-  },
-  most_ends n tags (omega arith),
-)
+most_ends n (s ∷ tags) h = grind (arith, nat_tests, most_ends n tags (omega arith), below_ends)
 
 -- the bytes that fragments have, with spaces between
 abbrev pub byte_in : Option (List ℕ) → ℕ → ℕ
@@ -84,8 +62,7 @@ fill_byte : (fragments : List Fragment) (i n k : ℕ) → k < n
     → slice_index (fill fragments i n) k ≡ byte_at fragments (i + k)
 fill_byte fragments i zero k h = absurd (omega arith)
 fill_byte fragments i (suc n) zero h = ap (byte_at fragments) (omega arith)
-fill_byte fragments i (suc n) (suc k) h = fill_byte fragments (i + 1) n k (omega arith) ∙ ap (byte_at fragments)
-    (omega arith)
+fill_byte fragments i (suc n) (suc k) h = grind (arith, nat_tests, fill_byte fragments (i + 1) n k (omega arith))
 
 pub filled_byte : (fragments : List Fragment) (n k : ℕ) → k < n
     → slice_index (fill fragments 0 n) k ≡ byte_at fragments k
@@ -95,46 +72,26 @@ filled_byte fragments n k h = fill_byte fragments 0 n k h ∙ ap (byte_at fragme
 pub byte_is : (P : ℕ → Type 0) (fragments : List Fragment) (i : ℕ) → P 32
     → ((p : Fragment) → IsIn p fragments → p.address ≡ i / 4 → P (slice_index p.bytes (i % 4)))
     → P (byte_at fragments i)
-byte_is P fragments i space each = by (sent_last (i / 4) fragments) refl
-  where
-    by : (o : Option (List ℕ)) → sent_last (i / 4) fragments ≡ o → P (byte_in o (i % 4))
-    by None e = space
-    by (Some s) e = (let w = cell_from fragments (i / 4) s e in subst (λ (bs : List ℕ). P (slice_index bs (i % 4))) w.3
-        (each w.0 w.1 w.2))
+byte_is P fragments i space each = grind (arith, nat_tests, cell_from)
 
 -- a fragment's own byte is filled in
 own_byte : (fragments : List Fragment) (p : Fragment) (k : ℕ) → AreUnchanged fragments → IsIn p fragments → k < 4
     → byte_at fragments (4 * p.address + k) ≡ slice_index p.bytes k
-own_byte fragments p k u i h =
-    let at : (4 * p.address + k) / 4 ≡ p.address = omega arith in
-    let rest : (4 * p.address + k) % 4 ≡ k = omega arith in
-    rw (at, rest) (ap (λ o. byte_in o k) (cell_of fragments p u i))
+own_byte fragments p k u i h = grind (arith, nat_tests, cell_of)
 
 -- texts
 address_within : (x : List ℕ) (a : ℕ) → length x ≤ 64 → a < segment_count (text_body x) → 4 * a ≤ length x
-address_within x a long h =
-    elim (cases_lt (length x) 64) [
-      | inl l ↦ omega (arith, text_long x l)
-      | inr m ↦ (let full : length x ≡ 64 = omega arith in omega (arith, ap length (text_full x full)))
-    ]
+address_within x a long h = grind (arith, nat_tests, text_long, text_full)
 
 fragment_stands : (body : List ℕ) (p : Fragment) → IsFragmentOf body p → Stands body (4 * p.address) p.bytes
-fragment_stands body p is =
-    let long : length p.bytes ≡ 4 = ap length is.bytes ∙ segment_long body p.address is.within in
-    record {
-      within = (let w = is.within in omega arith);
-      bytes = λ j h. ap (λ (bs : List ℕ). slice_index bs j) is.bytes ∙ segment_byte body p.address j (omega arith);
-    }
+fragment_stands body p is = grind (arith, nat_tests, segment_long, segment_byte)
 
 each_allows : (x : List ℕ) (fragments : List Fragment) → IsText x
     → AllByRecursion (IsFragmentOf (text_body x)) fragments
     → AllByRecursion (λ (p : Fragment). Allows (length x) (text_lengths p.address p.bytes)) fragments
 each_allows x [] t all = tt
-each_allows x (p ∷ older) t all = (
-  body_allows x (4 * p.address) p.bytes t (address_within x p.address t.at_most all.0.within)
-      (fragment_stands (text_body x) p all.0),
-  each_allows x older t all.1,
-)
+each_allows x (p ∷ older) t all =
+    search (arith, each_allows x older t all.1, body_allows, address_within, fragment_stands)
 
 -- fragments and tags of one text are measured so
 pub text_fragments : (fragments : List Fragment) (tags : List SentTags) → HaveOneValue texts fragments tags
@@ -151,58 +108,46 @@ text_fragments fragments tags h =
     }
 
 segment_there : (x : List ℕ) (a : ℕ) → length x ≤ 64 → 4 * a ≤ length x → a < 16 → a < segment_count (text_body x)
-segment_there x a long h l =
-    elim (cases_lt (length x) 64) [
-      | inl short ↦ omega (arith, text_long x short)
-      | inr m ↦ (let full : length x ≡ 64 = omega arith in omega (arith, ap length (text_full x full)))
-    ]
+segment_there x a long h l = grind (arith, nat_tests, text_long, text_full)
 
--- the value that is filled in has the fragment
+-- the value that is filled in has the bytes of the fragment
+text_byte : (fragments : List Fragment) (n : ℕ) (p : Fragment) (k : ℕ) → n ≤ 64 → AreUnchanged fragments
+    → IsIn p fragments → IsFormed 16 p → k < 4 → p.address < segment_count (text_body (fill fragments 0 n))
+    → Agrees n (4 * p.address + k) (slice_index p.bytes k)
+    → slice_index p.bytes k ≡ slice_index (text_body (fill fragments 0 n)) (4 * p.address + k)
+text_byte fragments n p k long u i well h within agree = grind (
+  arith,
+  agree.end,
+  agree.past,
+  well.address,
+  fill_long fragments 0 n,
+  text_end,
+  text_below,
+  text_past,
+  filled_byte,
+  own_byte fragments p k u i h,
+)
+
 text_has : (fragments : List Fragment) (n : ℕ) (p : Fragment) → n ≤ 64 → AreUnchanged fragments → IsIn p fragments
     → IsFormed 16 p → Allows n (text_lengths p.address p.bytes) → IsFragmentOf (text_body (fill fragments 0 n)) p
 text_has fragments n p long u i well a =
+    let size = fill_long fragments 0 n in
     let agree = allowed_agree n (4 * p.address) p.bytes a in
-    let within = segment_there x p.address (omega (arith, size)) (omega (arith, agree.0, size)) well.address in
+    let within = segment_there (fill fragments 0 n) p.address (omega arith) (omega (arith, agree.0)) well.address in
     record {
       within = within;
-      bytes = same_number_lists p.bytes (segment_of (text_body x) p.address) (well.four
-          ∙ sym (segment_long (text_body x) p.address within))
-          (λ k h. at k (omega (arith, well.four)) within (agree.1 k h) (cases_order (4 * p.address + k) n)
-          ∙ sym (segment_byte (text_body x) p.address k (omega (arith, well.four))));
+      bytes = same_number_lists p.bytes (segment_of (text_body (fill fragments 0 n)) p.address)
+          (well.four ∙ sym (segment_long (text_body (fill fragments 0 n)) p.address within))
+          (λ k h. text_byte fragments n p k long u i well (omega (arith, well.four)) within (agree.1 k h)
+          ∙ sym (segment_byte (text_body (fill fragments 0 n)) p.address k (omega (arith, well.four))));
     }
-  where
-    x : List ℕ
-    x = fill fragments 0 n
-
-    size : length (fill fragments 0 n) ≡ n
-    size = fill_long fragments 0 n
-
-    at : (k : ℕ) → k < 4 → p.address < segment_count (text_body x)
-        → Agrees n (4 * p.address + k) (slice_index p.bytes k)
-        → (4 * p.address + k ≡ n) ⊎ ((4 * p.address + k < n) ⊎ (n < 4 * p.address + k))
-        → slice_index p.bytes k ≡ slice_index (text_body x) (4 * p.address + k)
-    at k h w agree (inl same) =
-        let address = well.address in
-        let e : 4 * p.address + k ≡ length x = same ∙ sym size in
-        agree.end same ∙ sym (ap (λ j. slice_index (text_body x) j) e ∙ text_end x (omega (arith, size)))
-    at k h w agree (inr (inl less)) =
-        sym (text_below x (4 * p.address + k) (omega (arith, size)) ∙ filled_byte fragments n (4 * p.address + k) less
-        ∙ own_byte fragments p k u i h)
-    at k h w agree (inr (inr more)) =
-        let address = well.address in
-        agree.past more ∙ sym (text_past x (4 * p.address + k) (omega (arith, size)) (omega (arith, size))
-        (omega arith))
 
 all_have : (whole fragments : List Fragment) (n : ℕ) → n ≤ 64 → AreUnchanged whole
     → ((p : Fragment) → IsIn p fragments → IsIn p whole) → AllByRecursion (IsFormed 16) fragments
     → AllByRecursion (λ (p : Fragment). Allows n (text_lengths p.address p.bytes)) fragments
     → AllByRecursion (IsFragmentOf (text_body (fill whole 0 n))) fragments
 all_have whole [] n long u sub well all = tt
-all_have whole (p ∷ older) n long u sub well all = (
-  text_has whole n p long u (sub p (inl refl)) well.0 all.0,
-  all_have whole older n long u (λ q i. sub q (inr i))
-      well.1 all.1,
-)
+all_have whole (p ∷ older) n long u sub well all = search (arith, all_have whole older n long u, text_has, inl, inr)
 
 fill_is_text : (fragments : List Fragment) (n : ℕ) → n ≤ 64 → AllByRecursion (IsFormed 16) fragments
     → AllByRecursion (λ (p : Fragment). Allows n (text_lengths p.address p.bytes)) fragments
@@ -258,14 +203,7 @@ named_are (b ∷ bs) h (suc k) l = named_are bs (and_parts (is_name_byte b) (are
 
 name_allows : (x : List ℕ) (p : Fragment) → IsName x → IsFragmentOf (name_body x) p
     → Allows 8 (name_lengths p.address p.bytes)
-name_allows x p n is =
-    let s = fragment_stands (name_body x) p is in
-    let body : name_body x ≡ x = name_alone x n.0 in
-    let good : are_name_bytes p.bytes ≡ true = are_named p.bytes (λ k l.
-    let e : slice_index p.bytes k ≡ slice_index x (4 * p.address + k) = s.bytes k l
-    ∙ ap (λ (b : List ℕ). slice_index b (4 * p.address + k)) body in
-    ap is_name_byte e ∙ n.1.allowed (4 * p.address + k) (omega (arith, s.within, ap length body))) in
-    rw good (omega arith, omega arith)
+name_allows x p n is = grind (arith, nat_tests, fragment_stands, name_alone, are_named)
 
 each_name_allows : (x : List ℕ) (fragments : List Fragment) → IsName x
     → AllByRecursion (IsFragmentOf (name_body x)) fragments
@@ -309,22 +247,11 @@ all_names_have : (whole fragments : List Fragment) → AreUnchanged whole
     → ((p : Fragment) → IsIn p fragments → IsIn p whole) → AllByRecursion (IsFormed 2) fragments
     → AllByRecursion (IsFragmentOf (name_body (fill whole 0 8))) fragments
 all_names_have whole [] u sub well = tt
-all_names_have whole (p ∷ older) u sub well = (
-  name_has whole p u (sub p (inl refl)) well.0,
-  all_names_have whole older
-      u (λ q i. sub q (inr i)) well.1,
-)
+all_names_have whole (p ∷ older) u sub well = grind (arith, nat_tests, all_names_have whole older u, name_has)
 
 some_name : (n : ℕ) (fragments : List Fragment) → EachAllows name_lengths fragments → (p : Fragment) → IsIn p fragments
     → are_name_bytes p.bytes ≡ true
-some_name n fragments each p i = by (are_name_bytes p.bytes) refl
-    (all_in (λ (p : Fragment). is_some (name_lengths p.address p.bytes) ≡ true) p fragments each i)
-  where
-    by : (v : Bool) → are_name_bytes p.bytes ≡ v
-        → is_some {T = Lengths} (cond v (Some record { least = 8; most = 8 }) None) ≡ true
-        → are_name_bytes p.bytes ≡ true
-    by true e s = e
-    by false e s = absurd (cc)
+some_name n fragments each p i = grind (arith, nat_tests, all_in)
 
 -- formed fragments and tags that are measured so have one name
 pub one_name : (fragments : List Fragment) (tags : List SentTags) → AllByRecursion (IsFormed 2) fragments

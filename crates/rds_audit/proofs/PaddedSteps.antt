@@ -1,12 +1,11 @@
 -- Lemmas: what a text with padding can have, byte by byte and segment by segment.
 use Rattle.std.proofs.Common.{◌≡◌, ◌+◌, ◌-◌, ◌*◌, ◌<◌, ◌&&◌, ℕ, suc, Bool, true, false}
 use Rattle.std.proofs.Common.{List, length, get_or, map, set, min, drop, drop-cons, Option, Some}
-use Rattle.std.proofs.Common.{None, cond, not, refl}
+use Rattle.std.proofs.Common.{None, not, refl}
 use Rattle.std.proofs.Common.{sym, ap, ◌∙◌, arith}
 use Rattle.std.proofs.lemmas.Bool.{false_from_ne_true, le-ltb, lt-ltb}
 use Rattle.std.proofs.lemmas.Bool.Decides.{nat_tests}
 use Rattle.std.proofs.lemmas.List.{get_or-map}
-use Rattle.rds_fields.specs.Stored.{is_set}
 use Rattle.rds_audit.specs.declared.stored.StoredCell.{StoredCell}
 use Rattle.rds_audit.specs.Stored.{cell_stored}
 use Rattle.rds_audit.specs.declared.audited.Lengths.{Lengths}
@@ -44,27 +43,18 @@ cell_fails n k cells bs h e fails = ap (all_allow n (4 * k)) (drop-cons cells k 
 -- the cell at an address at which nothing was sent, and at which bytes were
 pub none_stored : (cells : List StoredCell) (k : ℕ) (d : StoredCell) → k < length cells
     → (get_or cells k d).is_sent ≡ 0 → get_or (map cell_stored cells) k None ≡ None
-none_stored cells k d h e = get_or-map cell_stored cells k d None h
-    ∙ ap (λ n. cond (is_set n) (Some (get_or cells k d).bytes) None) e
+none_stored cells k d h e = grind (arith, nat_tests, get_or-map)
 
 pub some_stored : (cells : List StoredCell) (k : ℕ) (d : StoredCell) → k < length cells
     → ((get_or cells k d).is_sent ≡ 0 → ⊥)
     → get_or (map cell_stored cells) k None ≡ Some (get_or cells k d).bytes
-some_stored cells k d h other = get_or-map cell_stored cells k d None h
-    ∙ ap (λ b. cond b (Some (get_or cells k d).bytes) None) (set_if (get_or cells k d).is_sent other)
-  where
-    set_if : (n : ℕ) → (n ≡ 0 → ⊥) → is_set n ≡ true
-    set_if n other = grind (arith, nat_tests, other)
+some_stored cells k d h other = grind (arith, nat_tests, get_or-map)
 
 -- ---- the greatest length
 
 pub lower : (ok : ℕ → Bool) (limit back : ℕ) → back < limit → ok (limit - back - 1) ≡ false
     → greatest_below ok (limit - back) ≡ greatest_below ok (limit - (back + 1))
-lower ok limit back h fails = by (limit - back - 1) (omega arith) fails
-  where
-    by : (n : ℕ) → limit - back ≡ suc n → ok n ≡ false
-        → greatest_below ok (limit - back) ≡ greatest_below ok (limit - (back + 1))
-    by n e fails = ap (greatest_below ok) e ∙ rw fails (ap (greatest_below ok) (omega (arith, e)))
+lower ok limit back h fails = grind (arith, nat_tests)
 
 pub sent_same : (g : Gauge) (address : ℕ) (bytes held : List ℕ) (c : ContentState) → cell_at address c ≡ Some held
     → held ≡ bytes → false ≡ changes_in g address bytes c
@@ -87,17 +77,11 @@ not_held (Some held) bytes other = false_from_ne_true _ (λ t. other (ap Some (s
 pub measured_held : (cells : List (Option (List ℕ))) (l : Lengths) (address : ℕ) (bytes : List ℕ)
     → get_or cells address None ≡ Some bytes
     → record { lengths = l; fits = true } ≡ padded_measure cells l address bytes
-measured_held cells l address bytes is =
-    let e : holds (get_or cells address None) bytes ≡ true = ap (λ (o : Option (List ℕ)). holds o bytes) is
-    ∙ bytes_same bytes bytes refl in
-    rw e refl
+measured_held cells l address bytes is = grind (arith, nat_tests, bytes_same)
 
 pub measured_is : (cells : List (Option (List ℕ))) (l : Lengths) (address : ℕ) (bytes : List ℕ) (o : Option ℕ)
     (limit : ℕ) → (get_or cells address None ≡ Some bytes → ⊥)
     → o ≡ greatest_below (λ n. all_allow n 0 (set cells address (Some bytes))) limit
     → limit ≡ min (limit_at address (get_or cells address None) bytes) (l.most + 1)
     → measured_up_to o l ≡ padded_measure cells l address bytes
-measured_is cells l address bytes o limit other r m =
-    rw (not_held (get_or cells address None) bytes other)
-    (ap (λ (x : Option ℕ). measured_up_to x l) (r
-    ∙ ap (greatest_below (λ n. all_allow n 0 (set cells address (Some bytes)))) m))
+measured_is cells l address bytes o limit other r m = grind (arith, nat_tests, not_held)

@@ -1,11 +1,11 @@
 -- Lemmas: the reigns of a log that passes are a lawful and dense plan.
-use Rattle.std.proofs.Common.{◌≡◌, ◌≢◌, ◌⊎◌, ◌+◌, ◌<◌, ◌≤◌, max, ℕ, Bool, nat_lt, List, [], ◌∷◌, length, refl, sym, ap}
-use Rattle.std.proofs.Common.{◌∙◌, subst, inl, inr, arith}
+use Rattle.std.proofs.lemmas.Bool.Decides.{nat_tests}
+use Rattle.std.proofs.Common.{◌≡◌, ◌≢◌, ◌⊎◌, ◌+◌, ◌<◌, ◌≤◌, ℕ, Bool, List, [], ◌∷◌, length, refl, sym, ap}
+use Rattle.std.proofs.Common.{subst, inl, inr, arith}
 use Rattle.std.specs.List.{AllByRecursion}
-use Rattle.std.proofs.lemmas.Bool.{and_parts, cases_lt, cases_order, cond_both}
+use Rattle.std.proofs.lemmas.Bool.{cases_lt, cond_both}
 use Rattle.rds_fields.specs.Tag.{BothEndIn, PairFields}
 use Rattle.rds_receiver.specs.declared.fragment.Fragment.{Fragment}
-use Rattle.rds_receiver.specs.Run.{is_same}
 use Rattle.rds_encoder.specs.Plan.{Broadcast, Covers, HasNumber}
 use Rattle.rds_encoder.specs.Laws.{ANumberIsBelowTheLength}
 use Rattle.rds_audit.specs.AuditLaws.{SomeReign}
@@ -13,8 +13,7 @@ use Rattle.rds_audit.specs.Dense.{HasFragmentBefore, HasPlan, IsBridged, IsMarke
 use Rattle.rds_safety.specs.Lawful.{HasOne, HasFragment, HasTags, Kind}
 use Rattle.rds_safety.specs.Marks.{IsMarkIn, Mark, Nothing, Sends, Tagged}
 use Rattle.rds_audit.proofs.Members.{IsIn, all_in}
-use Rattle.rds_audit.specs.Reigns.{Reign, SentTags, after_fragment, after_tags, joins, past_newest, reigns, start_after}
-use Rattle.rds_audit.specs.Reigns.{with_fragment}
+use Rattle.rds_audit.specs.Reigns.{Reign, SentTags, after_fragment, after_tags, joins, reigns, start_after}
 use Rattle.rds_audit.specs.Rules.{CanBeBroadcast, Passes}
 use Rattle.rds_safety.specs.Flags.{other_flag, same_flag}
 use Rattle.rds_audit.proofs.Keeping.{AreKept, IsBehind, Keeps, keeps}
@@ -55,29 +54,18 @@ pub record HoldsTags (t : ℕ) (pair : PairFields) (r : Reign) : Type 0 where
 fragment_stays : (d now t : ℕ) (p q : Fragment) (rs : List Reign) → t ≤ now → SomeReign (HoldsFragment t p) rs
     → SomeReign (HoldsFragment t p) (after_fragment d now q rs)
 fragment_stays d now t p q [] le h = absurd h
-fragment_stays d now t p q (r ∷ older) le h =
-    cond_both (joins d now q.flag r) _ _ (SomeReign (HoldsFragment t p)) (λ _. joined h) (λ _. inr h)
-  where
-    joined : SomeReign (HoldsFragment t p) (r ∷ older) → SomeReign (HoldsFragment t p) (with_fragment now q r ∷ older)
-    joined (inl i) = inl record { from = i.from; to = le; flag = i.flag; listed = inr i.listed }
-    joined (inr i) = inr i
+fragment_stays d now t p q (r ∷ older) le h = grind (arith, nat_tests)
 
 fragment_stays_tagged : (now t : ℕ) (p : Fragment) (pair : PairFields) (rs : List Reign) → t ≤ now
     → SomeReign (HoldsFragment t p) rs → SomeReign (HoldsFragment t p) (after_tags now pair rs)
 fragment_stays_tagged now t p pair [] le h = absurd h
-fragment_stays_tagged now t p pair (r ∷ older) le (inl i) = inl record
-    { from = i.from; to = le; flag = i.flag; listed = i.listed }
+fragment_stays_tagged now t p pair (r ∷ older) le (inl i) = grind (arith, nat_tests)
 fragment_stays_tagged now t p pair (r ∷ older) le (inr i) = inr i
 
 tags_stay : (d now t : ℕ) (pair : PairFields) (q : Fragment) (rs : List Reign) → t ≤ now
     → SomeReign (HoldsTags t pair) rs → SomeReign (HoldsTags t pair) (after_fragment d now q rs)
 tags_stay d now t pair q [] le h = absurd h
-tags_stay d now t pair q (r ∷ older) le h =
-    cond_both (joins d now q.flag r) _ _ (SomeReign (HoldsTags t pair)) (λ _. joined h) (λ _. inr h)
-  where
-    joined : SomeReign (HoldsTags t pair) (r ∷ older) → SomeReign (HoldsTags t pair) (with_fragment now q r ∷ older)
-    joined (inl i) = inl record { to = le; listed = i.listed }
-    joined (inr i) = inr i
+tags_stay d now t pair q (r ∷ older) le h = grind (arith, nat_tests)
 
 tags_stay_tagged : (now t : ℕ) (pair other : PairFields) (rs : List Reign) → t ≤ now → SomeReign (HoldsTags t pair) rs
     → SomeReign (HoldsTags t pair) (after_tags now other rs)
@@ -89,15 +77,7 @@ tags_stay_tagged now t pair other (r ∷ older) le (inr i) = inr i
 new_fragment : (d now : ℕ) (p : Fragment) (sent : List Mark) (rs : List Reign) → now ≡ length sent → Keeps d sent rs
     → SomeReign (HoldsFragment now p) (after_fragment d now p rs)
 new_fragment d now p sent [] e k = inl record { from = omega arith; to = omega arith; flag = refl; listed = inl refl }
-new_fragment d now p sent (r ∷ older) e k =
-    cond_both (joins d now p.flag r) _ _ (SomeReign (HoldsFragment now p))
-    (λ t. inl record {
-      from = omega (arith, early sent r.opened (Sends k.0.0.first) k.0.0.opened);
-      to = omega arith;
-      flag = sym (same_flag _ _ (and_parts (is_same r.flag p.flag) (nat_lt now (r.last + d)) t).0);
-      listed = inl refl;
-    })
-    (λ _. inl record { from = omega arith; to = omega arith; flag = refl; listed = inl refl })
+new_fragment d now p sent (r ∷ older) e k = grind (arith, nat_tests, early, same_flag)
 
 -- each fragment that was sent is in a reign
 pub fragment_held : (d : ℕ) (sent : List Mark) (t : ℕ) (p : Fragment) → IsMarkIn sent t (Sends p)
@@ -106,29 +86,14 @@ fragment_held d [] t p s = absurd s
 fragment_held d (Nothing ∷ sent) t p (inl s) = (let e : Sends p ≡ Nothing = s.1 in absurd (cc))
 fragment_held d (Nothing ∷ sent) t p (inr s) = fragment_held d sent t p s
 fragment_held d (Tagged pair ∷ sent) t p (inl s) = (let e : Sends p ≡ Tagged pair = s.1 in absurd (cc))
-fragment_held d (Tagged pair ∷ sent) t p (inr s) = (let n = early sent t (Sends p) s in fragment_stays_tagged
-    (length sent) t p pair (reigns d sent) (omega arith) (fragment_held d sent t p s))
-fragment_held d (Sends q ∷ sent) t p (inr s) = (let n = early sent t (Sends p) s in fragment_stays d (length sent) t p q
-    (reigns d sent) (omega arith) (fragment_held d sent t p s))
-fragment_held d (Sends q ∷ sent) t p (inl s) =
-    let e : Sends p ≡ Sends q = s.1 in
-    let same : p ≡ q = cc in
-    subst (λ (g : Fragment). SomeReign (HoldsFragment t g) (after_fragment d (length sent) q (reigns d sent)))
-    (sym same)
-    (subst (λ (n : ℕ). SomeReign (HoldsFragment n q) (after_fragment d (length sent) q (reigns d sent))) (sym s.0)
-    (new_fragment d (length sent) q sent (reigns d sent) refl (keeps d sent)))
+fragment_held d (Tagged pair ∷ sent) t p (inr s) =
+    grind (arith, nat_tests, fragment_held d sent t p s, early, fragment_stays_tagged)
+fragment_held d (Sends q ∷ sent) t p (inr s) =
+    grind (arith, nat_tests, fragment_held d sent t p s, early, fragment_stays)
+fragment_held d (Sends q ∷ sent) t p (inl s) = grind (arith, nat_tests, new_fragment, keeps)
 
 after_before : (x : Mark) (sent : List Mark) → TagsAreAfter (x ∷ sent) → TagsAreAfter sent
-after_before x sent h t pair s =
-    let w = h t pair (inr s) in
-    let now = early sent t (Tagged pair) s in
-    record {
-      slot = w.slot;
-      fragment = w.fragment;
-      is_sent = sent_before x sent w.slot (Sends w.fragment)
-          (omega (arith, w.before)) w.is_sent;
-      before = w.before;
-    }
+after_before x sent h t pair s = grind (arith, nat_tests, early, sent_before)
 
 new_tags : (d : ℕ) (pair : PairFields) (sent : List Mark) (rs : List Reign) → (u : ℕ) (p : Fragment)
     → IsMarkIn (Tagged pair ∷ sent) u (Sends p) → u < length sent → Keeps d sent rs
@@ -143,11 +108,11 @@ tags_held d [] h t pair s = absurd s
 tags_held d (Nothing ∷ sent) h t pair (inl s) = (let e : Tagged pair ≡ Nothing = s.1 in absurd (cc))
 tags_held d (Nothing ∷ sent) h t pair (inr s) = tags_held d sent (after_before Nothing sent h) t pair s
 tags_held d (Sends q ∷ sent) h t pair (inl s) = (let e : Tagged pair ≡ Sends q = s.1 in absurd (cc))
-tags_held d (Sends q ∷ sent) h t pair (inr s) = (let n = early sent t (Tagged pair) s in tags_stay d (length sent) t
-    pair q (reigns d sent) (omega arith) (tags_held d sent (after_before (Sends q) sent h) t pair s))
-tags_held d (Tagged other ∷ sent) h t pair (inr s) = (let n = early sent t (Tagged pair) s
-    in tags_stay_tagged (length sent) t pair other (reigns d sent) (omega arith)
-    (tags_held d sent (after_before (Tagged other) sent h) t pair s))
+tags_held d (Sends q ∷ sent) h t pair (inr s) =
+    grind (arith, nat_tests, tags_held d sent (after_before (Sends q) sent h) t pair s, early, tags_stay, after_before)
+tags_held d (Tagged other ∷ sent) h t pair (inr s) =
+    let before = after_before (Tagged other) sent h in
+    grind (arith, nat_tests, tags_held d sent before t pair s, early, tags_stay_tagged)
 tags_held d (Tagged other ∷ sent) h t pair (inl s) =
     let e : Tagged pair ≡ Tagged other = s.1 in
     let same : pair ≡ other = cc in
@@ -167,23 +132,18 @@ lasting : (d : ℕ) (kind : Kind) (sent : List Mark) (rs : List Reign) (a : AllB
     → AreKept d sent rs → (k : ℕ) (b : Broadcast) → HasNumber (plan_from d kind rs a) k b → b.start ≤ b.end
 lasting d kind sent [] a keep k b n = absurd n
 lasting d kind sent (r ∷ older) a keep k b (inr n) = lasting d kind sent older a.1 keep.2 k b n
-lasting d kind sent (r ∷ older) a keep k b (inl n) =
-    subst (λ (x : Broadcast). x.start ≤ x.end) (sym n.1) (omega (arith, a.0.begun, keep.0.until))
+lasting d kind sent (r ∷ older) a keep k b (inl n) = grind (arith, nat_tests)
 
 starts_after : (d : ℕ) (flag : Bool) (r : Reign) (older : List Reign) → 0 < d → r.last < start_after d flag (r ∷ older)
-starts_after d flag r older pos = cond_both (is_same r.flag flag) (r.last + d) (max (r.last + 1) (past_newest d older))
-    (λ n. r.last < n) (λ _. omega arith) (λ _. omega arith)
+starts_after d flag r older pos = grind (arith, nat_tests)
 
 starts_apart : (d : ℕ) (flag : Bool) (r : Reign) (older : List Reign)
     → (r.flag ≢ flag) ⊎ (r.last + d ≤ start_after d flag (r ∷ older))
-starts_apart d flag r older =
-    cond_both (is_same r.flag flag) (r.last + d) (max (r.last + 1) (past_newest d older)) (λ n. (r.flag ≢ flag)
-    ⊎ (r.last + d ≤ n)) (λ _. inr (omega arith)) (λ t. inl (other_flag r.flag flag t))
+starts_apart d flag r older = grind (arith, nat_tests, other_flag)
 
 starts_far : (d : ℕ) (flag : Bool) (r q : Reign) (older : List Reign) → q.last ≤ r.last
     → q.last + d ≤ start_after d flag (r ∷ q ∷ older)
-starts_far d flag r q older le = cond_both (is_same r.flag flag) (r.last + d) (max (r.last + 1) (q.last + d))
-    (λ n. q.last + d ≤ n) (λ _. omega arith) (λ _. omega arith)
+starts_far d flag r q older le = grind (arith, nat_tests)
 
 ordering : ANumberIsBelowTheLength
     → (d : ℕ) (kind : Kind) (rs : List Reign) (a : AllByRecursion (CanBeBroadcast d kind) rs) → 0 < d → IsChained d rs
@@ -192,22 +152,12 @@ ordering : ANumberIsBelowTheLength
     → (x.end < y.start) × ((x.flag ≢ y.flag) ⊎ (x.end + d ≤ y.start))
 ordering below d kind [] a pos c k x y p q = absurd p
 ordering below d kind (r ∷ older) a pos c k x y (inl p) (inl q) = absurd (omega (arith, p.0, q.0))
-ordering below d kind (r ∷ older) a pos c k x y (inl p) (inr q) = absurd
-    (omega (arith, p.0, below (plan_from d kind older a.1) (k + 1) y q))
+ordering below d kind (r ∷ older) a pos c k x y (inl p) (inr q) = grind (arith, nat_tests)
 ordering below d kind (r ∷ older) a pos c k x y (inr p) (inr q) = ordering below d kind older a.1 pos c.1 k x y p q
 ordering below d kind (r ∷ []) a pos c k x y (inr p) (inl q) = absurd p
-ordering below d kind (r ∷ e ∷ older) a pos c k x y (inr (inr p)) (inl q) = absurd
-    (omega (arith, q.0, below (plan_from d kind older a.1.1) k x p))
+ordering below d kind (r ∷ e ∷ older) a pos c k x y (inr (inr p)) (inl q) = grind (arith, nat_tests)
 ordering below d kind (r ∷ e ∷ older) a pos c k x y (inr (inl p)) (inl q) =
-    let start : y.start ≡ start_after d r.flag (e ∷ older) = ap (λ (b : Broadcast). b.start) q.1 ∙ c.0 in
-    let end : x.end ≡ e.last = ap (λ (b : Broadcast). b.end) p.1 in (
-      omega (arith, starts_after d r.flag e older pos),
-      elim (starts_apart d r.flag e older) [
-        | inl ne ↦ inl (λ same. ne (ap (λ (b : Broadcast). b.flag) (sym p.1) ∙ same ∙ ap (λ (b : Broadcast). b.flag)
-            q.1))
-        | inr far ↦ inr (omega arith)
-      ],
-    )
+    grind (arith, nat_tests, starts_after, starts_apart)
 
 distance : ANumberIsBelowTheLength
     → (d : ℕ) (kind : Kind) (sent : List Mark) (rs : List Reign) (a : AllByRecursion (CanBeBroadcast d kind) rs) → 0 < d
@@ -215,20 +165,15 @@ distance : ANumberIsBelowTheLength
     → HasNumber (plan_from d kind rs a) k x → HasNumber (plan_from d kind rs a) (k + 2) y → x.end + d ≤ y.start
 distance below d kind sent [] a pos c keep k x y p q = absurd p
 distance below d kind sent (r ∷ older) a pos c keep k x y (inl p) (inl q) = absurd (omega (arith, p.0, q.0))
-distance below d kind sent (r ∷ older) a pos c keep k x y (inl p) (inr q) = absurd
-    (omega (arith, p.0, below (plan_from d kind older a.1) (k + 2) y q))
-distance below d kind sent (r ∷ older) a pos c keep k x y (inr p) (inr q) = distance below d kind sent older a.1 pos c.1
-    keep.2 k x y p q
+distance below d kind sent (r ∷ older) a pos c keep k x y (inl p) (inr q) = grind (arith, nat_tests)
+distance below d kind sent (r ∷ older) a pos c keep k x y (inr p) (inr q) =
+    grind (arith, nat_tests, distance below d kind sent older a.1 pos c.1 keep.2 k x y p q)
 distance below d kind sent (r ∷ []) a pos c keep k x y (inr p) (inl q) = absurd p
 distance below d kind sent (r ∷ e ∷ older) a pos c keep k x y (inr (inl p)) (inl q) = absurd (omega (arith, p.0, q.0))
 distance below d kind sent (r ∷ e ∷ []) a pos c keep k x y (inr (inr p)) (inl q) = absurd p
-distance below d kind sent (r ∷ e ∷ f ∷ older) a pos c keep k x y (inr (inr (inr p))) (inl q) = absurd
-    (omega (arith, q.0, below (plan_from d kind older a.1.1.1) k x p))
+distance below d kind sent (r ∷ e ∷ f ∷ older) a pos c keep k x y (inr (inr (inr p))) (inl q) = grind (arith, nat_tests)
 distance below d kind sent (r ∷ e ∷ f ∷ older) a pos c keep k x y (inr (inr (inl p))) (inl q) =
-    let start : y.start ≡ start_after d r.flag (e ∷ f ∷ older) = ap (λ (b : Broadcast). b.start) q.1 ∙ c.0 in
-    let end : x.end ≡ f.last = ap (λ (b : Broadcast). b.end) p.1 in
-    let f_before : f.last < e.start = subst (λ (n : ℕ). f.last < n) (sym c.1.0) (starts_after d e.flag f older pos) in
-    omega (arith, starts_far d r.flag e f older (omega (arith, a.1.0.begun, keep.2.0.until)))
+    grind (arith, nat_tests, starts_after, starts_far)
 
 valued : (d : ℕ) (kind : Kind) (rs : List Reign) (a : AllByRecursion (CanBeBroadcast d kind) rs)
     → (k : ℕ) (b : Broadcast) → HasNumber (plan_from d kind rs a) k b → kind.IsValue b.bytes
@@ -243,8 +188,8 @@ fragment_planned : (d : ℕ) (kind : Kind) (t : ℕ) (p : Fragment) (rs : List R
     (a : AllByRecursion (CanBeBroadcast d kind) rs) → SomeReign (HoldsFragment t p) rs
     → HasOne (plan_from d kind rs a) (HasFragment kind t p)
 fragment_planned d kind t p [] a h = absurd h
-fragment_planned d kind t p (r ∷ older) a (inr h) = wider _ (plan_from d kind older a.1) (HasFragment kind t p)
-    (fragment_planned d kind t p older a.1 h)
+fragment_planned d kind t p (r ∷ older) a (inr h) =
+    grind (arith, nat_tests, fragment_planned d kind t p older a.1 h, wider)
 fragment_planned d kind t p (r ∷ older) a (inl h) = record {
   number = length (plan_from d kind older a.1);
   broadcast = record { start = r.start; end = r.last; flag = r.flag; bytes = a.0.one.value };
@@ -260,8 +205,8 @@ tags_planned : (d : ℕ) (kind : Kind) (t : ℕ) (pair : PairFields) (rs : List 
     (a : AllByRecursion (CanBeBroadcast d kind) rs) → SomeReign (HoldsTags t pair) rs
     → HasOne (plan_from d kind rs a) (HasTags d t pair)
 tags_planned d kind t pair [] a h = absurd h
-tags_planned d kind t pair (r ∷ older) a (inr h) = wider _ (plan_from d kind older a.1) (HasTags d t pair)
-    (tags_planned d kind t pair older a.1 h)
+tags_planned d kind t pair (r ∷ older) a (inr h) =
+    grind (arith, nat_tests, tags_planned d kind t pair older a.1 h, wider)
 tags_planned d kind t pair (r ∷ older) a (inl h) = record {
   number = length (plan_from d kind older a.1);
   broadcast = record { start = r.start; end = r.last; flag = r.flag; bytes = a.0.one.value };
@@ -288,8 +233,8 @@ dense_fragments : (d : ℕ) (kind : Kind) (sent : List Mark) (rs : List Reign) (
     → Covers b t → IsMarkIn sent u (Sends q) → IsMarkIn sent t (Sends p) → u < t
     → IsBridged d sent u t
 dense_fragments d kind sent [] a pos c keep k b u t q p n cu ct su st lt = absurd n
-dense_fragments d kind sent (r ∷ older) a pos c keep k b u t q p (inr n) cu ct su st lt = dense_fragments d kind sent
-    older a.1 pos c.1 keep.2 k b u t q p n cu ct su st lt
+dense_fragments d kind sent (r ∷ older) a pos c keep k b u t q p (inr n) cu ct su st lt =
+    grind (arith, nat_tests, dense_fragments d kind sent older a.1 pos c.1 keep.2 k b u t q p n cu ct su st lt)
 dense_fragments d kind sent (r ∷ older) a pos c keep k b u t q p (inl n) cu ct su st lt =
     let start : b.start ≡ r.start = ap (λ (x : Broadcast). x.start) n.1 in
     let end : b.end ≡ r.last = ap (λ (x : Broadcast). x.end) n.1 in
@@ -304,14 +249,9 @@ opened_before : (d : ℕ) (sent : List Mark) (r : Reign) (older : List Reign) (t
     → TagsAreAfter sent → r.start ≡ start_after d r.flag older → r.start ≤ t
     → ((u : ℕ) → IsMarked sent u → u < r.opened → IsBehind sent older u) → IsMarkIn sent t (Tagged pair) → t < r.opened
     → ⊥
-opened_before d sent r [] t pair pos h c from gap s lt = (let w = h t pair s
-    in gap w.slot (fragment_is_marked sent w.slot w.fragment w.is_sent) (omega (arith, w.before)) w.fragment w.is_sent)
-opened_before d sent r (e ∷ older) t pair pos h c from gap s lt = omega (
-  arith,
-  starts_after d r.flag e older pos,
-  gap t
-      (tags_are_marked sent t pair s) lt,
-)
+opened_before d sent r [] t pair pos h c from gap s lt = grind (arith, nat_tests, fragment_is_marked)
+opened_before d sent r (e ∷ older) t pair pos h c from gap s lt =
+    grind (arith, nat_tests, starts_after, tags_are_marked)
 
 dense_tags : (d : ℕ) (kind : Kind) (sent : List Mark) (rs : List Reign) (a : AllByRecursion (CanBeBroadcast d kind) rs)
     → 0 < d → TagsAreAfter sent → IsChained d rs → AreKept d sent rs
@@ -319,30 +259,10 @@ dense_tags : (d : ℕ) (kind : Kind) (sent : List Mark) (rs : List Reign) (a : A
     → IsMarkIn sent t (Tagged pair)
     → HasFragmentBefore sent b t
 dense_tags d kind sent [] a pos h c keep k b t pair n ct st = absurd n
-dense_tags d kind sent (r ∷ older) a pos h c keep k b t pair (inr n) ct st = dense_tags d kind sent older a.1 pos h c.1
-    keep.2 k b t pair n ct st
+dense_tags d kind sent (r ∷ older) a pos h c keep k b t pair (inr n) ct st =
+    grind (arith, nat_tests, dense_tags d kind sent older a.1 pos h c.1 keep.2 k b t pair n ct st)
 dense_tags d kind sent (r ∷ older) a pos h c keep k b t pair (inl n) ct st =
-    let start : b.start ≡ r.start = ap (λ (x : Broadcast). x.start) n.1 in
-    let end : b.end ≡ r.last = ap (λ (x : Broadcast). x.end) n.1 in
-    record {
-      slot = r.opened;
-      fragment = keep.0.first;
-      is_sent = keep.0.opened;
-      covers = record { from = omega (arith, a.0.begun); to = omega (arith, keep.0.until) };
-      before = elim (cases_order r.opened t) [
-        | inl same ↦
-            let tags : IsMarkIn sent r.opened (Tagged pair) = subst (λ (n : ℕ). IsMarkIn sent n (Tagged pair))
-            (sym same) st in
-            let e : Sends keep.0.first ≡ Tagged pair = one_mark sent r.opened (Sends keep.0.first) (Tagged pair)
-            keep.0.opened tags in
-            absurd (cc)
-        | inr other ↦ elim other [
-          | inl less ↦ less
-          | inr more ↦ absurd (opened_before d sent r older t pair pos h c.0
-              (omega (arith, ct.from)) keep.1 st more)
-        ]
-      ];
-    }
+    grind (arith, nat_tests, one_mark, opened_before)
 
 -- a service that passes has the plan of its reigns
 pub has_plan_of_reigns : ANumberIsBelowTheLength → (d : ℕ) (kind : Kind) (sent : List Mark) → 0 < d

@@ -1,11 +1,12 @@
 -- Lemmas: services whose segments allow ranges of lengths: texts without padding, and names. What a fragment leaves of
 -- the lengths is what all fragments allow together, and no fragment changes the value exactly if no address changed.
-use Rattle.std.proofs.Common.{◌≡◌, ◌⊎◌, ◌≤◌, ◌&&◌, ℕ, Bool, true, false, nat_eq, max, min, not, List, [], ◌∷◌}
+use Rattle.std.proofs.lemmas.Bool.Decides.{nat_tests}
+use Rattle.std.proofs.Common.{◌≡◌, ◌⊎◌, ◌≤◌, ◌&&◌, ℕ, Bool, true, false, not, List, [], ◌∷◌}
 use Rattle.std.proofs.Common.{Option}
-use Rattle.std.proofs.Common.{Some, None, cond, refl, sym, ap, ◌∙◌, inl, inr, arith}
+use Rattle.std.proofs.Common.{Some, None, refl, sym, ap, ◌∙◌, inl, inr, arith}
 use Rattle.std.specs.Prelude.{is_some}
 use Rattle.std.specs.List.{AllByRecursion}
-use Rattle.std.proofs.lemmas.Bool.{and_from, and_parts, eqb-true, leb-true, le-leb}
+use Rattle.std.proofs.lemmas.Bool.{leb-true, le-leb}
 use Rattle.rds_receiver.specs.declared.fragment.Fragment.{Fragment}
 use Rattle.rds_safety.specs.Lawful.{Kind}
 use Rattle.rds_audit.specs.declared.audited.Lengths.{Lengths}
@@ -28,18 +29,12 @@ pub record AreRanged (allowed : ℕ → List ℕ → Option Lengths) (longest : 
 
 narrowed_twice : (o : Option Lengths) (l : Lengths) → narrowed o (narrowed o l) ≡ narrowed o l
 narrowed_twice None l = refl
-narrowed_twice (Some k) l =
-    let least : max (max l.least k.least) k.least ≡ max l.least k.least = omega arith in
-    let most : min (min l.most k.most) k.most ≡ min l.most k.most = omega arith in
-    λ i. record { least = least i; most = most i }
+narrowed_twice (Some k) l = grind (arith, nat_tests)
 
 narrowed_swap : (o k : Option Lengths) (l : Lengths) → narrowed o (narrowed k l) ≡ narrowed k (narrowed o l)
 narrowed_swap None k l = refl
 narrowed_swap (Some o) None l = refl
-narrowed_swap (Some o) (Some k) l =
-    let least : max (max l.least k.least) o.least ≡ max (max l.least o.least) k.least = omega arith in
-    let most : min (min l.most k.most) o.most ≡ min (min l.most o.most) k.most = omega arith in
-    λ i. record { least = least i; most = most i }
+narrowed_swap (Some o) (Some k) l = grind (arith, nat_tests)
 
 -- the last bytes that were sent at an address narrow nothing again
 narrowed_again : (allowed : ℕ → List ℕ → Option Lengths) (longest a : ℕ) (sent : List Fragment) (bytes : List ℕ)
@@ -47,22 +42,7 @@ narrowed_again : (allowed : ℕ → List ℕ → Option Lengths) (longest a : �
     → narrowed (allowed a bytes) (common_lengths allowed longest sent) ≡ common_lengths allowed longest sent
 narrowed_again allowed longest a [] bytes e = absurd (cc)
 narrowed_again allowed longest a (q ∷ older) bytes e =
-    by (nat_eq a q.address) refl e (narrowed_again allowed longest a older bytes)
-  where
-    by : (v : Bool) → nat_eq a q.address ≡ v → cond v (Some q.bytes) (sent_last a older) ≡ Some bytes
-        → (sent_last a older ≡ Some bytes → narrowed (allowed a bytes) (common_lengths allowed longest older)
-        ≡ (common_lengths allowed longest older))
-        → narrowed (allowed a bytes) (narrowed (allowed q.address q.bytes) (common_lengths allowed longest older))
-        ≡ narrowed (allowed q.address q.bytes) (common_lengths allowed longest older)
-    by true n e rest =
-        let same : q.bytes ≡ bytes = cc in
-        let mine : allowed a bytes ≡ allowed q.address q.bytes = ap (allowed a) (sym same)
-        ∙ ap (λ x. allowed x q.bytes) (eqb-true a q.address n) in
-        ap (λ o. narrowed o (narrowed (allowed q.address q.bytes) (common_lengths allowed longest older))) mine
-        ∙ narrowed_twice (allowed q.address q.bytes) (common_lengths allowed longest older)
-    by false n e rest = narrowed_swap (allowed a bytes) (allowed q.address q.bytes)
-        (common_lengths allowed longest older)
-        ∙ ap (narrowed (allowed q.address q.bytes)) (rest e)
+    grind (arith, nat_tests, narrowed_again allowed longest a older bytes, narrowed_twice, narrowed_swap)
 
 measured_lengths : (o : Option Lengths) (l : Lengths) → (measured_by o l).lengths ≡ narrowed o l
 measured_lengths None l = refl
@@ -103,29 +83,21 @@ module _ (kind : Kind) (segments longest : ℕ) (allowed : ℕ → List ℕ → 
 
   lengths_are : (fragments : List Fragment) → lengths_of its fragments ≡ common_lengths allowed longest fragments
   lengths_are [] = refl
-  lengths_are (p ∷ older) = measured_lengths (allowed p.address p.bytes) (lengths_of its older)
-      ∙ ap (narrowed (allowed p.address p.bytes)) (lengths_are older)
+  lengths_are (p ∷ older) = grind (arith, nat_tests, lengths_are older, measured_lengths)
 
   fit_parts : (fragments : List Fragment) → all_fit its fragments ≡ true
       → EachAllows allowed fragments
       × ((common_lengths allowed longest fragments).least ≤ (common_lengths allowed longest fragments).most)
   fit_parts [] e = (tt, omega arith)
-  fit_parts (p ∷ older) e =
-      let parts = and_parts (measured_after its older p).fits (all_fit its older) e in
-      let rest = fit_parts older parts.1 in
-      let mine = measured_fits (allowed p.address p.bytes) (common_lengths allowed longest older)
-      (ap (λ (l : Lengths). (measured_by (allowed p.address p.bytes) l).fits) (sym (lengths_are older)) ∙ parts.0) in
-      ((mine.0, rest.0), mine.1)
+  fit_parts (p ∷ older) e = grind (arith, nat_tests, fit_parts older, measured_fits, lengths_are)
 
   parts_fit : (fragments : List Fragment) → EachAllows allowed fragments
       → (common_lengths allowed longest fragments).least ≤ (common_lengths allowed longest fragments).most
       → all_fit its fragments ≡ true
   parts_fit [] each room = refl
   parts_fit (p ∷ older) each room =
-      and_from _ _
-      (ap (λ (l : Lengths). (measured_by (allowed p.address p.bytes) l).fits) (lengths_are older)
-      ∙ fits_measured (allowed p.address p.bytes) (common_lengths allowed longest older) each.0 room)
-      (parts_fit older each.1 (room_before (allowed p.address p.bytes) (common_lengths allowed longest older) room))
+      let before = room_before (allowed p.address p.bytes) (common_lengths allowed longest older) room in
+      grind (arith, nat_tests, parts_fit older each.1 before, lengths_are, fits_measured)
 
   no_change : (o : Option (List ℕ)) (bytes : List ℕ) (b : Bool) → (o ≡ None) ⊎ (o ≡ Some bytes)
       → (is_other o bytes && b) ≡ false
@@ -144,15 +116,11 @@ module _ (kind : Kind) (segments longest : ℕ) (allowed : ℕ → List ℕ → 
 
   unchanged_join : (fragments : List Fragment) → AreUnchanged fragments → AllJoin its fragments
   unchanged_join [] u = tt
-  unchanged_join (p ∷ older) u = (
-    no_change (sent_last p.address older) p.bytes _ (holds_unchanged p older u),
-    unchanged_join older u.1,
-  )
+  unchanged_join (p ∷ older) u = grind (arith, nat_tests, unchanged_join older u.1, no_change, holds_unchanged)
 
   join_unchanged : (fragments : List Fragment) → AllJoin its fragments → AreUnchanged fragments
   join_unchanged [] j = tt
-  join_unchanged (p ∷ older) j = unchanged_by p older (join_unchanged older j.1)
-      (no_other (sent_last p.address older) p.bytes j.0)
+  join_unchanged (p ∷ older) j = grind (arith, nat_tests, join_unchanged older j.1, unchanged_by, no_other)
 
   sent_again : (older : List Fragment) (p : Fragment) → sent_last p.address older ≡ Some p.bytes
       → ((measured_after its older p).lengths ≡ lengths_of its older)

@@ -1,6 +1,7 @@
 -- Lemmas: logs that begin in the middle.
+use Rattle.std.proofs.lemmas.Bool.Decides.{nat_tests}
 use Rattle.std.proofs.Common.{◌≡◌, ℕ, zero, suc, Bool, true, false, List, [], ◌∷◌, Option, Some, None, length, refl, ap}
-use Rattle.std.proofs.Common.{◌∙◌, inl, inr, arith}
+use Rattle.std.proofs.Common.{inl, inr, arith}
 use Rattle.std.specs.Prelude.{replicate}
 use Rattle.rds_fields.specs.declared.message.Message.{Message}
 use Rattle.rds_fields.specs.declared.message.Message.TheVariants.{Text, Name, Announce, Tags, Other}
@@ -8,8 +9,6 @@ use Rattle.rds_fields.specs.Tag.{PairFields}
 use Rattle.rds_safety.specs.Marks.{IsMarkIn, Mark, Nothing, Tagged, marks, name_mark, text_mark}
 use Rattle.rds_audit.specs.declared.log_start.LogStart.{LogStart}
 use Rattle.rds_audit.specs.declared.log_start.LogStart.TheVariants.{Complete, Running}
-use Rattle.rds_audit.specs.Ages.{Ages}
-use Rattle.rds_audit.specs.ReignsState.{ContentState, ReignsState}
 use Rattle.rds_audit.specs.Recording.{counted_as, from_first_text, has_text, judged_as, silent_as}
 use Rattle.rds_audit.specs.Reigns.{reigns}
 use Rattle.rds_audit.specs.Rules.{Passes}
@@ -51,10 +50,7 @@ no_tags (suc n) t pair (inr s) = no_tags n t pair s
 
 -- what is silent passes
 silence : (kind : Kind) (d lost : ℕ) → Passes d kind (replicate lost Nothing)
-silence kind d lost = record {
-  reigns = rw (silent_reigns d lost) tt;
-  tagged = λ t pair h. absurd (no_tags lost t pair h);
-}
+silence kind d lost = grind (arith, nat_tests, silent_reigns, no_tags)
 
 -- silence passes
 pub silent_passes : (kind : Kind) (start : LogStart) (d : ℕ) → Passes d kind (silent_as start d)
@@ -114,11 +110,3 @@ announcement_counts Running judged code bits aid = (refl, refl)
 pub other_counts : (start : LogStart) (judged : List (Option Message)) → IsSilent (counted_as start judged (Some Other))
 other_counts Complete judged = (refl, refl)
 other_counts Running judged = (refl, refl)
-
--- a state by its two parts
-pub state_is : (after : ReignsState) (ages : Ages) (content : ContentState) → after.ages ≡ ages
-    → after.content ≡ content → after ≡ record { ages = ages; content = content }
-state_is after ages content e f = ap (λ (x : Ages). both x after.content) e ∙ ap (λ (x : ContentState). both ages x) f
-  where
-    both : Ages → ContentState → ReignsState
-    both x y = record { ages = x; content = y }

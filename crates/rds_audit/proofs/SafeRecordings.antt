@@ -1,20 +1,17 @@
 -- Lemmas: a recording that passes is safe for the receivers of the log as it is. The view of each of them is that of a
 -- receiver of what was judged.
+use Rattle.std.proofs.lemmas.Bool.Decides.{nat_tests}
 use Rattle.std.proofs.Common.{◌≡◌, ◌+◌, ◌<◌, ℕ, true, List, [], ◌∷◌, Option, Some, None, length, map, option_map, refl}
-use Rattle.std.proofs.Common.{sym, ap, ◌∙◌, subst, inl, inr, arith}
+use Rattle.std.proofs.Common.{sym, ap, ◌∙◌, inl, inr, arith}
 use Rattle.std.specs.List.{All}
 use Rattle.std.specs.Prelude.{IfSome}
 use Rattle.std.proofs.lemmas.List.{length-map}
 use Rattle.std.proofs.lemmas.List.Elements.{All-cons, All-head, All-map, All-nil, All-tail, All-weaker}
 use Rattle.rds_fields.specs.declared.message.Message.{Message}
 use Rattle.rds_fields.specs.declared.message.Message.TheVariants.{Text}
-use Rattle.rds_assembly.specs.Whole.{IsWholeName, IsWholeText}
 use Rattle.rds_encoder.specs.Plan.{Broadcast}
 use Rattle.rds_receiver.specs.Receipts.{Segment}
-use Rattle.rds_receiver.specs.Run.{cells_of}
-use Rattle.rds_receiver.specs.Shown.{IsShown, ShowsView}
-use Rattle.rds_receiver.specs.Tags.{item_of, tag_of}
-use Rattle.rds_fields.specs.declared.pair.Which.TheVariants.{One, Two}
+use Rattle.rds_receiver.specs.Shown.{ShowsView}
 use Rattle.rds_safety.specs.Late.{HasEntry, IsHeardInOrder, IsOfItsOrigin}
 use Rattle.rds_safety.specs.Laws.{ASlowClockIsAnOwnClock, LateIsBySlowClock, LawfulPlansAreSafeByOwnClocksAs}
 use Rattle.rds_safety.specs.OwnClock.{ListensByOwnClock}
@@ -23,7 +20,7 @@ use Rattle.rds_audit.specs.declared.text_form.TextForm.{TextForm}
 use Rattle.rds_safety.specs.Plans.{Plans}
 use Rattle.rds_safety.specs.Safe.{AreNeighbours, AreSafeViews, Listener, ListensTo, ShowsNameOnAir, ShowsTagsOfItsText}
 use Rattle.rds_safety.specs.Safe.{ShowsTextOnAir, RunWasOnAir}
-use Rattle.rds_safety.specs.Source.{IsSource, LastWasSentIn, name_run, text_run}
+use Rattle.rds_safety.specs.Source.{IsSource, name_run, text_run}
 use Rattle.rds_safety.proofs.Entries.{entry_beside}
 use Rattle.rds_audit.specs.AuditLaws.{IsSafeRecording, PassesExactlyByPlans, PlansOfARecordingAreSafe}
 use Rattle.rds_audit.specs.AuditLaws.{WhatPassesAsARecordingIsSafe, later}
@@ -54,8 +51,7 @@ was_origin n first (o ∷ origins) t origin (inl h) = record {
   came = inl (h.0 ∙ ap (λ (i : ℕ). first + i) (length-map origins (option_map (λ (s : ℕ). s + n))), refl);
   is = h.1;
 }
-was_origin n first (o ∷ origins) t origin (inr h) = (let w = was_origin n first origins t origin h
-    in record { was = w.was; came = inr w.came; is = w.is })
+was_origin n first (o ∷ origins) t origin (inr h) = grind (arith, nat_tests, was_origin n first origins t origin h)
 
 record WasSent (n first : ℕ) (origins : List (Option ℕ)) (t s : ℕ) : Type 0 where
   slot : ℕ
@@ -104,9 +100,7 @@ module _ (n : ℕ) (log : List (Option Message)) (r : Listener) (order : IsHeard
       let w = was_origin n r.input.first r.input.origins t origin a in
       let h = was_heard_as (preceded n log) r.input.first r.input.heard (origins_later n r.input.origins) t origin entry
       beside a b in
-      subst (IsOfItsOrigin (from_first_text (preceded n log)) origin) (sym h.is)
-      (subst (λ (o : Option ℕ). IsOfItsOrigin (from_first_text (preceded n log)) o (settled (counts (preceded n log) o)
-      h.was)) (sym w.is) (entry_sent t w.was h.was w.came h.came))
+      simp (h.is, w.is) (entry_sent t w.was h.was w.came h.came)
 
   in_order : IsHeardInOrder (from_first_text (preceded n log)) (judging n log r).input
   in_order = record {
@@ -140,13 +134,11 @@ module _ (n : ℕ) (log : List (Option Message)) (r : Listener) (order : IsHeard
       let held = held_same (preceded n log) m r.input.first r.input.heard (origins_later n r.input.origins) beside
       tags_count in
       record {
-        text = subst (λ (gs : List Segment). IsShown IsWholeText (cells_of gs) r.view.text)
-            (sym (texts_same (preceded n log) m r.input.first r.input.heard (origins_later n r.input.origins))) is.text;
-        name = subst (λ (gs : List Segment). IsShown IsWholeName (cells_of gs) r.view.name)
-            (sym (names_same (preceded n log) m r.input.first r.input.heard (origins_later n r.input.origins))) is.name;
-        item = is.item ∙ ap (item_of r.view.text) (sym held);
-        one = is.one ∙ ap (tag_of One r.view.text) (sym held);
-        two = is.two ∙ ap (tag_of Two r.view.text) (sym held);
+        text = rw (texts_same (preceded n log) m r.input.first r.input.heard (origins_later n r.input.origins)) is.text;
+        name = rw (names_same (preceded n log) m r.input.first r.input.heard (origins_later n r.input.origins)) is.name;
+        item = rw held is.item;
+        one = rw held is.one;
+        two = rw held is.two;
       }
 
 listens_judging : (d m now n : ℕ) (log : List (Option Message)) (r : Listener) → ListensByOwnClock d m now log r
@@ -177,40 +169,19 @@ listens_judging d m now n log r listens = record {
 source_from : (n : ℕ) (log : List (Option Message)) (r : Listener) (plan : List Broadcast) (gs hs : List Segment)
     (k : ℕ) (b : Broadcast) → gs ≡ hs
     → IsSource plan (judging n log r).input gs k b → IsSource plan (later n r).input hs k b
-source_from n log r plan gs hs k b e h = record {
-  planned = h.planned;
-  slot = h.slot;
-  sent = subst (λ (x : List Segment). LastWasSentIn (later n r).input x h.slot)
-      e h.sent;
-  covers = h.covers;
-}
+source_from n log r plan gs hs k b e h = grind (arith, nat_tests)
 
 source_to : (n : ℕ) (log : List (Option Message)) (r : Listener) (plan : List Broadcast) (gs hs : List Segment) (k : ℕ)
     (b : Broadcast) → gs ≡ hs
     → IsSource plan (later n r).input hs k b → IsSource plan (judging n log r).input gs k b
-source_to n log r plan gs hs k b e h = record {
-  planned = h.planned;
-  slot = h.slot;
-  sent = subst
-      (λ (x : List Segment). LastWasSentIn (judging n log r).input x h.slot) (sym e) h.sent;
-  covers = h.covers;
-}
+source_to n log r plan gs hs k b e h = grind (arith, nat_tests)
 
 on_air : (n : ℕ) (log : List (Option Message)) (r : Listener) (d t : ℕ) (plan : List Broadcast) (gs hs : List Segment)
     (shown : Option (List ℕ)) → gs ≡ hs
     → IfSome shown (RunWasOnAir d t plan (judging n log r).input gs)
     → IfSome shown (RunWasOnAir d t plan (later n r).input hs)
 on_air n log r d t plan gs hs None e h = tt
-on_air n log r d t plan gs hs (Some x) e h = record {
-  number = h.number;
-  broadcast = h.broadcast;
-  source = source_from n log r plan gs hs h.number h.broadcast e h.source;
-  bytes = h.bytes;
-  slot = h.slot;
-  covers = h.covers;
-  past = h.past;
-  recent = h.recent;
-}
+on_air n log r d t plan gs hs (Some x) e h = grind (arith, nat_tests, source_from)
 
 module _ (n d m t : ℕ) (plans : Plans) (log : List (Option Message)) where
   text_runs : (r : Listener) → text_run m (judging n log r).input ≡ text_run m (later n r).input
@@ -220,30 +191,15 @@ module _ (n d m t : ℕ) (plans : Plans) (log : List (Option Message)) where
   name_runs r = names_same (preceded n log) m r.input.first r.input.heard (origins_later n r.input.origins)
 
   shows_text : (r : Listener) → ShowsTextOnAir d m t plans (judging n log r) → ShowsTextOnAir d m t plans (later n r)
-  shows_text r h = on_air n log r d t plans.text (text_run m (judging n log r).input) (text_run m (later n r).input)
-      r.view.text (text_runs r) h
+  shows_text r h = grind (arith, nat_tests, on_air, text_runs)
 
   shows_name : (r : Listener) → ShowsNameOnAir d m t plans (judging n log r) → ShowsNameOnAir d m t plans (later n r)
-  shows_name r h = on_air n log r d t plans.name (name_run m (judging n log r).input) (name_run m (later n r).input)
-      r.view.name (name_runs r) h
+  shows_name r h = grind (arith, nat_tests, on_air, name_runs)
 
   shows_tags : (r : Listener) → ShowsTagsOfItsText d m plans (from_first_text (preceded n log)) (judging n log r)
       → ShowsTagsOfItsText d m plans (preceded n log) (later n r)
   shows_tags r (inl h) = inl h
-  shows_tags r (inr h) = inr record {
-    number = h.number;
-    broadcast = h.broadcast;
-    source = source_from n log r plans.text (text_run m (judging n log r).input) (text_run m (later n r).input) h.number
-        h.broadcast (text_runs r) h.source;
-    pair = h.pair;
-    slot = h.slot;
-    tagged = tags_are_of_the_log (preceded n log) h.slot h.pair h.tagged;
-    lasted = h.lasted;
-    to = h.to;
-    item = h.item;
-    one = h.one;
-    two = h.two;
-  }
+  shows_tags r (inr h) = grind (arith, nat_tests, source_from, text_runs, tags_are_of_the_log)
 
   near : (x y : Listener) → AreNeighbours m plans (judging n log x) (judging n log y)
       → AreNeighbours m plans (later n x) (later n y)
@@ -321,5 +277,4 @@ safe_recording law own late slow form m k log pos p =
 pub safe_as_it_is : WhatPassesAsARecordingIsSafe → (form : TextForm) (m k : ℕ) (start : LogStart)
     (heard : List (Option Message)) → start ≡ Running → 0 < m → LogPasses form (m + k) (judged_as start (m + k) heard)
     → IsSafeRecording form m k heard
-safe_as_it_is law form m k start heard running pos passes = law form m k heard pos
-    (subst (λ (x : LogStart). LogPasses form (m + k) (judged_as x (m + k) heard)) running passes)
+safe_as_it_is law form m k start heard running pos passes = grind (arith, nat_tests)

@@ -1,4 +1,5 @@
 -- Lemmas: the marks before and after one more slot.
+use Rattle.std.proofs.lemmas.Bool.Decides.{nat_tests}
 use Rattle.std.proofs.Common.{◌≡◌, ◌<◌, ℕ, List, [], ◌∷◌, length, sym, ◌∙◌, inl, inr, arith}
 use Rattle.rds_fields.specs.Tag.{PairFields}
 use Rattle.rds_receiver.specs.declared.fragment.Fragment.{Fragment}
@@ -35,12 +36,7 @@ sent_before x before t m h (inr s) = s
 -- an older slot that has a mark had it before the newest slot
 pub marked_before : (x : Mark) (before : List Mark) (t : ℕ) → t < length before → IsMarked (x ∷ before) t
     → IsMarked before t
-marked_before x before t h m = record {
-  mark = m.mark;
-  some = m.some;
-  is_sent = sent_before x before t m.mark h
-      m.is_sent;
-}
+marked_before x before t h m = grind (arith, nat_tests, sent_before)
 
 -- a slot that has a mark has it after one slot more
 pub marked_later : (x : Mark) (before : List Mark) (t : ℕ) → IsMarked before t → IsMarked (x ∷ before) t
@@ -49,13 +45,7 @@ marked_later x before t m = record { mark = m.mark; some = m.some; is_sent = inr
 -- slots that are bridged stay so after one slot more
 pub bridged_later : (d : ℕ) (x : Mark) (before : List Mark) (u t : ℕ) → IsBridged d before u t
     → IsBridged d (x ∷ before) u t
-bridged_later d x before u t b = record {
-  slot = b.slot;
-  marked = marked_later x before b.slot b.marked;
-  from = b.from;
-  before = b.before;
-  near = b.near;
-}
+bridged_later d x before u t b = grind (arith, nat_tests, marked_later)
 
 -- the slot of a fragment has a mark
 pub fragment_is_marked : (sent : List Mark) (t : ℕ) (p : Fragment) → IsMarkIn sent t (Sends p) → IsMarked sent t
@@ -76,12 +66,7 @@ after_later x sent t w = record { slot = w.slot; fragment = w.fragment; is_sent 
 -- a plan that is lawful and dense for a log is so for its earlier slots
 pub lawful_before : (d : ℕ) (kind : Kind) (plan : List Broadcast) (x : Mark) (before : List Mark)
     → IsLawful d kind plan (x ∷ before) → IsLawful d kind plan before
-lawful_before d kind plan x before h = record {
-  spaced = h.spaced;
-  values = h.values;
-  fragments = λ t p s. h.fragments t p (inr s);
-  tags = λ t pair s. h.tags t pair (inr s);
-}
+lawful_before d kind plan x before h = grind (arith, nat_tests)
 
 -- a plan that is dense for some marks is dense for those before the newest
 pub dense_before : (d : ℕ) (plan : List Broadcast) (x : Mark) (before : List Mark) → IsDense d plan (x ∷ before)

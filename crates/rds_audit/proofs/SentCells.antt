@@ -1,6 +1,9 @@
 -- Lemmas: the bytes that fragments have at an address, and the lengths that they allow together.
+use Rattle.std.proofs.lemmas.Bool.Decides.{nat_tests}
 use Rattle.std.proofs.Common.{◌≡◌, ◌⊎◌, ◌≤◌, ℕ, Bool, true, false, nat_eq, List, [], ◌∷◌, Option, Some, None, cond}
-use Rattle.std.proofs.Common.{refl, sym, ap, ◌∙◌, inl, inr, arith}
+use Rattle.std.proofs.Common.{refl, sym, ap, ◌∙◌, inl, inr, arith, ◌<◌, length, get_or}
+use Rattle.std.proofs.lemmas.Bool.Decides.{eqb_tells}
+use Rattle.std.proofs.lemmas.List.{get_or-replicate, get_or-set_other, get_or-set_same, length-set}
 use Rattle.std.specs.Prelude.{is_some}
 use Rattle.std.specs.List.{AllByRecursion}
 use Rattle.std.proofs.lemmas.Bool.{eqb-true}
@@ -8,7 +11,7 @@ use Rattle.rds_assembly.specs.Body.{segment_of}
 use Rattle.rds_receiver.specs.declared.fragment.Fragment.{Fragment}
 use Rattle.rds_audit.specs.declared.audited.Lengths.{Lengths}
 use Rattle.rds_safety.specs.Lawful.{IsFragmentOf}
-use Rattle.rds_audit.specs.Lengths.{common_lengths, narrowed, sent_last}
+use Rattle.rds_audit.specs.Lengths.{common_lengths, narrowed, sent_cells, sent_last}
 use Rattle.rds_audit.specs.Rules.{AreUnchanged}
 use Rattle.rds_audit.proofs.Allowed.{Allows}
 use Rattle.rds_audit.proofs.Members.{IsIn, all_in}
@@ -21,21 +24,13 @@ same_number n = grind arith
 pub cell_from : (fragments : List Fragment) (a : ℕ) (s : List ℕ) → sent_last a fragments ≡ Some s
     → (p : Fragment) × IsIn p fragments × (p.address ≡ a) × (p.bytes ≡ s)
 cell_from [] a s e = absurd (cc)
-cell_from (q ∷ older) a s e = by (nat_eq a q.address) refl e (cell_from older a s)
-  where
-    by : (v : Bool) → nat_eq a q.address ≡ v → cond v (Some q.bytes) (sent_last a older) ≡ Some s
-        → (sent_last a older ≡ Some s → (p : Fragment) × IsIn p older × (p.address ≡ a) × (p.bytes ≡ s))
-        → (p : Fragment) × IsIn p (q ∷ older) × (p.address ≡ a) × (p.bytes ≡ s)
-    by true t e rest = (q, inl refl, sym (eqb-true a q.address t), (cc))
-    by false t e rest = (let w = rest e in (w.0, inr w.1, w.2, w.3))
+cell_from (q ∷ older) a s e = grind (arith, nat_tests, cell_from older a s)
 
 -- if no address changed, each fragment is at its address
 pub cell_of : (fragments : List Fragment) (p : Fragment) → AreUnchanged fragments → IsIn p fragments
     → sent_last p.address fragments ≡ Some p.bytes
 cell_of [] p u i = absurd i
-cell_of (q ∷ older) p u (inl e) =
-    let same : nat_eq p.address q.address ≡ true = rw e (same_number q.address) in
-    rw same (ap (λ (x : Fragment). Some x.bytes) (sym e))
+cell_of (q ∷ older) p u (inl e) = grind (arith, nat_tests, same_number)
 cell_of (q ∷ older) p u (inr i) = by (nat_eq p.address q.address) refl (cell_of older p u.1 i)
   where
     by : (v : Bool) → nat_eq p.address q.address ≡ v → sent_last p.address older ≡ Some p.bytes
@@ -68,15 +63,7 @@ unchanged_by p older u h = (each older (λ q i. i), u)
 -- if no address changed, the last bytes at the address of the newest fragment are its own, or none
 pub holds_unchanged : (p : Fragment) (older : List Fragment) → AreUnchanged (p ∷ older)
     → (sent_last p.address older ≡ None) ⊎ (sent_last p.address older ≡ Some p.bytes)
-holds_unchanged p older u = by (sent_last p.address older) refl
-  where
-    by : (o : Option (List ℕ)) → sent_last p.address older ≡ o
-        → (sent_last p.address older ≡ None) ⊎ (sent_last p.address older ≡ Some p.bytes)
-    by None e = inl e
-    by (Some s) e =
-        let w = cell_from older p.address s e in
-        inr (e ∙ ap Some (sym w.3 ∙ all_in (λ (q : Fragment). q.address ≡ p.address → q.bytes ≡ p.bytes) w.0 older u.0
-        w.1 w.2))
+holds_unchanged p older u = grind (arith, nat_tests, cell_from, all_in)
 
 -- fragments of one body leave the addresses unchanged
 pub are_unchanged : (body : List ℕ) (fragments : List Fragment) → AllByRecursion (IsFragmentOf body) fragments
@@ -89,6 +76,18 @@ are_unchanged body (p ∷ older) all = (each older all.1, are_unchanged body old
     each [] h = tt
     each (q ∷ rest) h = ((λ e. h.0.bytes ∙ ap (segment_of body) e ∙ sym all.0.bytes), each rest h.1)
 
+-- there is a cell for each address
+pub cells_long : (fragments : List Fragment) → length (sent_cells fragments) ≡ 16
+cells_long [] = refl
+cells_long (p ∷ older) = length-set (sent_cells older) p.address (Some p.bytes) ∙ cells_long older
+
+-- the cell at an address has what was sent last
+pub cells_sent : (fragments : List Fragment) (a : ℕ) → a < 16
+    → get_or (sent_cells fragments) a None ≡ sent_last a fragments
+cells_sent [] a less = get_or-replicate {A = Option (List ℕ)} 16 a None None less
+cells_sent (p ∷ older) a less =
+    grind (arith, nat_tests, cells_sent older a less, eqb_tells, get_or-set_same, cells_long, get_or-set_other)
+
 -- each fragment allows some length
 abbrev pub EachAllows : (ℕ → List ℕ → Option Lengths) → List Fragment → Type 0
 EachAllows allowed fragments = AllByRecursion (λ (p : Fragment). is_some (allowed p.address p.bytes) ≡ true) fragments
@@ -99,17 +98,8 @@ pub allowed_by_all : (allowed : ℕ → List ℕ → Option Lengths) (longest n 
     → ((common_lengths allowed longest fragments).least ≤ n) × (n ≤ (common_lengths allowed longest fragments).most)
     × EachAllows allowed fragments
 allowed_by_all allowed longest n [] h all = (omega arith, h, tt)
-allowed_by_all allowed longest n (p ∷ older) h all = by (allowed p.address p.bytes) refl all.0
-    (allowed_by_all allowed longest n older h all.1)
-  where
-    by : (o : Option Lengths) → allowed p.address p.bytes ≡ o → Allows n o
-        → ((common_lengths allowed longest older).least ≤ n) × (n ≤ (common_lengths allowed longest older).most)
-        × EachAllows allowed older
-        → ((narrowed (allowed p.address p.bytes) (common_lengths allowed longest older)).least ≤ n)
-        × (n ≤ (narrowed (allowed p.address p.bytes) (common_lengths allowed longest older)).most) × EachAllows allowed
-        (p ∷ older)
-    by None e a rest = absurd a
-    by (Some l) e a rest = rw e (omega (arith, a.0, rest.0), omega (arith, a.1, rest.1), (refl, rest.2))
+allowed_by_all allowed longest n (p ∷ older) h all =
+    grind (arith, nat_tests, allowed_by_all allowed longest n older h all.1)
 
 -- a length within the lengths of all fragments is allowed by each
 pub all_allow : (allowed : ℕ → List ℕ → Option Lengths) (longest n : ℕ) (fragments : List Fragment)
@@ -137,9 +127,4 @@ all_allow allowed longest n (p ∷ older) lo hi each = by (allowed p.address p.b
 pub longest_at_most : (allowed : ℕ → List ℕ → Option Lengths) (longest : ℕ) (fragments : List Fragment)
     → (common_lengths allowed longest fragments).most ≤ longest
 longest_at_most allowed longest [] = omega arith
-longest_at_most allowed longest (p ∷ older) = by (allowed p.address p.bytes) (longest_at_most allowed longest older)
-  where
-    by : (o : Option Lengths) → (common_lengths allowed longest older).most ≤ longest
-        → (narrowed o (common_lengths allowed longest older)).most ≤ longest
-    by None h = h
-    by (Some l) h = omega (arith, h)
+longest_at_most allowed longest (p ∷ older) = grind (arith, nat_tests, longest_at_most allowed longest older)

@@ -1,17 +1,17 @@
 -- Lemmas: what a receiver shows stays the same if the tags that it heard before the first text segment of a log are
 -- left out of its input.
+use Rattle.std.proofs.lemmas.Bool.Decides.{nat_tests}
 use Rattle.std.proofs.Common.{◌≡◌, ◌⊎◌, ◌+◌, ◌<◌, ◌&&◌, ℕ, suc, Bool, true, false, List, [], ◌∷◌, Option, Some, None}
 use Rattle.std.proofs.Common.{length, refl, sym, ap, ◌∙◌, inl, inr, arith}
 use Rattle.std.specs.Prelude.{nat_lt, if◌then◌else◌}
-use Rattle.std.proofs.lemmas.Bool.{and_parts, cond_both, ltb-true}
+use Rattle.std.proofs.lemmas.Bool.{ltb-true}
 use Rattle.rds_fields.specs.declared.message.Message.{Message}
-use Rattle.rds_fields.specs.declared.message.Message.TheVariants.{Text, Name, Announce, Tags, Other}
+use Rattle.rds_fields.specs.declared.message.Message.TheVariants.{Text, Announce, Tags}
 use Rattle.rds_fields.specs.Tag.{PairFields}
-use Rattle.rds_receiver.specs.Receipts.{Segment, name_fragment, picked, segments, text_fragment, with_segment}
+use Rattle.rds_receiver.specs.Receipts.{Segment, name_fragment, picked, segments, text_fragment}
 use Rattle.rds_receiver.specs.declared.fragment.Fragment.{Fragment}
-use Rattle.rds_receiver.specs.Run.{begins_in, is_same, run, run_at, run_before}
+use Rattle.rds_receiver.specs.Run.{begins_in, run, run_at, run_before}
 use Rattle.rds_receiver.specs.Tags.{is_known, or_before, pair_from, pair_held, pair_since, says_of_rtplus}
-use Rattle.rds_receiver.specs.Tags.{unless_contrary}
 use Rattle.rds_safety.specs.Late.{HasEntry}
 use Rattle.rds_safety.proofs.Entries.{before_end}
 use Rattle.rds_audit.proofs.FirstTexts.{settled, text_before}
@@ -49,31 +49,20 @@ pub was_heard_as : (log : List (Option Message)) (first : ℕ) (heard : List (Op
 was_heard_as log first [] origins t origin entry e a b = absurd b
 was_heard_as log first (h ∷ heard) [] t origin entry e a b = absurd a
 was_heard_as log first (h ∷ heard) (o ∷ origins) t origin entry e (inl a) (inl b) =
-    record {
-      was = h;
-      came = inl (b.0 ∙ ap (λ (n : ℕ). first + n) (settle_long log heard origins), refl);
-      is = b.1
-          ∙ ap (λ (x : Option ℕ). settled (counts log x) h) (sym a.1);
-    }
+    grind (arith, nat_tests, settle_long, settled)
 was_heard_as log first (h ∷ heard) (o ∷ origins) t origin entry e (inl a) (inr b) = absurd
     (omega (arith, a.0, settle_long log heard origins, before_end first (settle log heard origins) t entry b))
 was_heard_as log first (h ∷ heard) (o ∷ origins) t origin entry e (inr a) (inl b) = absurd
     (omega (arith, b.0, settle_long log heard origins, before_end first origins t origin a))
 was_heard_as log first (h ∷ heard) (o ∷ origins) t origin entry e (inr a) (inr b) =
-    let w = was_heard_as log first heard origins t origin entry (omega arith) a b in
-    record { was = w.was; came = inr w.came; is = w.is }
+    grind (arith, nat_tests, was_heard_as log first heard origins t origin entry (omega arith) a b)
 
 -- ---- segments
 
 picked_same : (pick : Message → Option Fragment) → ((pair : PairFields) → pick (Tags pair) ≡ None)
     → (is : Bool) (h : Option Message) → picked pick (settled is h) ≡ picked pick h
-picked_same pick none is None = refl
-picked_same pick none is (Some (Text f a b)) = refl
-picked_same pick none is (Some (Name f a b)) = refl
-picked_same pick none is (Some (Announce code bits aid)) = refl
-picked_same pick none is (Some (Tags pair)) = cond_both is (Some (Tags pair)) None (λ (x : Option Message). picked pick
-    x ≡ pick (Tags pair)) (λ _. refl) (λ _. sym (none pair))
-picked_same pick none is (Some Other) = refl
+picked_same pick none is (Some (Tags pair)) = grind (arith, nat_tests)
+picked_same pick none is _ = refl
 
 module _ (pick : Message → Option Fragment) (none : (pair : PairFields) → pick (Tags pair) ≡ None)
     (log : List (Option Message)) (first : ℕ) where
@@ -82,20 +71,13 @@ module _ (pick : Message → Option Fragment) (none : (pair : PairFields) → pi
   segments_same [] origins = refl
   segments_same (h ∷ heard) [] = refl
   segments_same (h ∷ heard) (o ∷ origins) =
-      ap (λ (n : ℕ). with_segment (first + n) (picked pick (settled (counts log o) h))
-      (segments pick first (settle log heard origins))) (settle_long log heard origins)
-      ∙ ap (λ (p : Option Fragment). with_segment (first + length heard) p
-      (segments pick first (settle log heard origins))) (picked_same pick none (counts log o) h)
-      ∙ ap (with_segment (first + length heard) (picked pick h)) (segments_same heard origins)
+      grind (arith, nat_tests, segments_same heard origins, settled, settle_long, picked_same)
 
   run_same : (m : ℕ) (heard : List (Option Message)) (origins : List (Option ℕ))
       → run_at pick m first (settle log heard origins) ≡ run_at pick m first heard
   run_same m [] origins = refl
   run_same m (h ∷ heard) [] = refl
-  run_same m (h ∷ heard) (o ∷ origins) =
-      ap (λ (n : ℕ). run m (first + n) (segments pick first (settle log (h ∷ heard) (o ∷ origins))))
-      (settle_long log heard origins)
-      ∙ ap (run m (first + length heard)) (segments_same (h ∷ heard) (o ∷ origins))
+  run_same m (h ∷ heard) (o ∷ origins) = grind (arith, nat_tests, settle_long, segments_same)
 
 -- the run of texts is the same as settled
 pub texts_same : (log : List (Option Message)) (m first : ℕ) (heard : List (Option Message)) (origins : List (Option ℕ))
@@ -111,20 +93,15 @@ names_same log m first heard origins = run_same name_fragment (λ _. refl) log f
 
 known_if : (is : Bool) (h : Option Message) (before after : List (Option Message)) → is_known after ≡ is_known before
     → is_known (settled is h ∷ after) ≡ is_known (h ∷ before)
-known_if is None before after e = e
-known_if is (Some (Text f a b)) before after e = e
-known_if is (Some (Name f a b)) before after e = e
 known_if is (Some (Announce code bits aid)) before after e = ap (or_before (says_of_rtplus code aid)) e
-known_if is (Some (Tags pair)) before after e = cond_both is (Some (Tags pair)) None (λ (x : Option Message). is_known
-    (x ∷ after) ≡ is_known before) (λ _. e) (λ _. e)
-known_if is (Some Other) before after e = e
+known_if is (Some (Tags pair)) before after e = grind (arith, nat_tests)
+known_if is _ before after e = e
 
 known_same : (log heard : List (Option Message)) (origins : List (Option ℕ))
     → is_known (settle log heard origins) ≡ is_known heard
 known_same log [] origins = refl
 known_same log (h ∷ heard) [] = refl
-known_same log (h ∷ heard) (o ∷ origins) = known_if (counts log o) h heard (settle log heard origins)
-    (known_same log heard origins)
+known_same log (h ∷ heard) (o ∷ origins) = grind (arith, nat_tests, known_same log heard origins, known_if)
 
 -- the tags that came later than this slot count
 abbrev pub TagsCount : List (Option Message) → ℕ → ℕ → List (Option Message) → List (Option ℕ) → Type 0
@@ -141,40 +118,24 @@ module _ (log : List (Option Message)) (first since : ℕ) where
   newest_pair : (pair : PairFields) (n m : ℕ) (k l : Bool) (x y : Option PairFields) → n ≡ m → k ≡ l → x ≡ y
       → (if k && nat_lt since (first + n) then Some pair else x) ≡ (if l && nat_lt since (first + m) then Some pair
       else y)
-  newest_pair pair n m k l x y e f g =
-      ap (λ (i : ℕ). if k && nat_lt since (first + i) then Some pair else x) e
-      ∙ ap (λ (i : Bool). if i && nat_lt since (first + m) then Some pair else x) f
-      ∙ ap (λ (i : Option PairFields). if l && nat_lt since (first + m) then Some pair else i) g
+  newest_pair pair n m k l x y e f g = rw (e, f, g)
 
   pair_if : (is : Bool) (pair : PairFields) (before after : List (Option Message)) → length after ≡ length before
       → is_known after ≡ is_known before → pair_since first since after ≡ pair_since first since before
       → (is ≡ false → nat_lt since (first + length before) ≡ true → ⊥)
       → pair_since first since (settled is (Some (Tags pair)) ∷ after) ≡ pair_since first since (Some (Tags pair)
       ∷ before)
-  pair_if true pair before after e f g count = newest_pair pair (length after) (length before) (is_known after)
-      (is_known before) (pair_since first since after) (pair_since first since before) e f g
-  pair_if false pair before after e f g count =
-      cond_both (is_known before && nat_lt since (first + length before)) (Some pair) (pair_since first since before)
-      (λ (x : Option PairFields). pair_since first since after ≡ x)
-      (λ t. absurd (count refl (and_parts (is_known before) (nat_lt since (first + length before)) t).1))
-      (λ _. g)
+  pair_if true pair before after e f g count = grind (arith, nat_tests, newest_pair)
+  pair_if false pair before after e f g count = grind (arith, nat_tests)
 
   pair_same : (heard : List (Option Message)) (origins : List (Option ℕ)) → length origins ≡ length heard
       → TagsCount log first since heard origins
       → pair_since first since (settle log heard origins) ≡ pair_since first since heard
   pair_same [] origins e count = refl
   pair_same (h ∷ heard) [] e count = refl
-  pair_same (None ∷ heard) (o ∷ origins) e count = pair_same heard origins (omega arith)
-      (older_count None heard o origins count)
-  pair_same (Some (Text f a b) ∷ heard) (o ∷ origins) e count = pair_same heard origins (omega arith)
-      (older_count (Some (Text f a b)) heard o origins count)
-  pair_same (Some (Name f a b) ∷ heard) (o ∷ origins) e count = pair_same heard origins (omega arith)
-      (older_count (Some (Name f a b)) heard o origins count)
-  pair_same (Some Other ∷ heard) (o ∷ origins) e count = pair_same heard origins (omega arith)
-      (older_count (Some Other) heard o origins count)
   pair_same (Some (Announce code bits aid) ∷ heard) (o ∷ origins) e count =
-      ap (unless_contrary (says_of_rtplus code aid)) (pair_same heard origins (omega arith)
-      (older_count (Some (Announce code bits aid)) heard o origins count))
+      let older = older_count (Some (Announce code bits aid)) heard o origins count in
+      grind (arith, nat_tests, pair_same heard origins (omega arith) older)
   pair_same (Some (Tags pair) ∷ heard) (o ∷ origins) e count =
       pair_if (counts log o) pair heard (settle log heard origins) (settle_long log heard origins)
       (known_same log heard origins)
@@ -187,6 +148,8 @@ module _ (log : List (Option Message)) (first since : ℕ) where
           let yes : text_before log s ≡ true = its (first + length heard) s pair (ltb-true since (first + length heard)
           late) (inl (refl, refl)) (inl (omega arith, refl)) in
           absurd (cc)
+  pair_same (h ∷ heard) (o ∷ origins) e count =
+      grind (arith, nat_tests, pair_same heard origins (omega arith) (older_count h heard o origins count), older_count)
 
 -- ---- the first segment of a run
 
@@ -203,25 +166,11 @@ first_or g (h ∷ older) since e = inr e
 came_before : (m : ℕ) (f : Bool) (s : ℕ) (gs : List Segment) (since : ℕ) → begins_in (run_before m f s gs) ≡ Some since
     → CameIn since gs
 came_before m f s [] since e = absurd (cc)
-came_before m f s (g ∷ older) since e =
-    cond_both (is_same f g.fragment.flag && nat_lt s (g.slot + m)) (g ∷ run_before m f g.slot older) []
-    (λ (gs : List Segment). begins_in gs ≡ Some since → CameIn since (g ∷ older))
-    (λ _ begins. elim (first_or g (run_before m f g.slot older) since begins) [
-      | inl here ↦ inl here
-      | inr there ↦ inr (came_before m f g.slot older since there)
-    ])
-    (λ _ none. absurd (cc)) e
+came_before m f s (g ∷ older) since e = grind (arith, nat_tests, came_before m f g.slot older since, first_or)
 
 came_in : (m t : ℕ) (gs : List Segment) (since : ℕ) → begins_in (run m t gs) ≡ Some since → CameIn since gs
 came_in m t [] since e = absurd (cc)
-came_in m t (g ∷ older) since e =
-    cond_both (nat_lt t (g.slot + m)) (g ∷ run_before m g.fragment.flag g.slot older) []
-    (λ (gs : List Segment). begins_in gs ≡ Some since → CameIn since (g ∷ older))
-    (λ _ begins. elim (first_or g (run_before m g.fragment.flag g.slot older) since begins) [
-      | inl here ↦ inl here
-      | inr there ↦ inr (came_before m g.fragment.flag g.slot older since there)
-    ])
-    (λ _ none. absurd (cc)) e
+came_in m t (g ∷ older) since e = grind (arith, nat_tests, first_or, came_before)
 
 -- a text segment was heard in this slot
 pub record HeardText (first : ℕ) (heard : List (Option Message)) (slot : ℕ) : Type 0 where
@@ -237,24 +186,16 @@ still_text first h heard slot w = record { flag = w.flag; address = w.address; b
 text_came : (first : ℕ) (heard : List (Option Message)) (slot : ℕ) → CameIn slot (segments text_fragment first heard)
     → HeardText first heard slot
 text_came first [] slot h = absurd h
-text_came first (None ∷ heard) slot h = still_text first None heard slot (text_came first heard slot h)
 text_came first (Some (Text f a b) ∷ heard) slot (inl h) = record
     { flag = f; address = a; bytes = b; came = inl (h, refl) }
-text_came first (Some (Text f a b) ∷ heard) slot (inr h) = still_text first (Some (Text f a b)) heard slot
-    (text_came first heard slot h)
-text_came first (Some (Name f a b) ∷ heard) slot h = still_text first (Some (Name f a b)) heard slot
-    (text_came first heard slot h)
-text_came first (Some (Announce code bits aid) ∷ heard) slot h = still_text first (Some (Announce code bits aid)) heard
-    slot (text_came first heard slot h)
-text_came first (Some (Tags pair) ∷ heard) slot h = still_text first (Some (Tags pair)) heard slot
-    (text_came first heard slot h)
-text_came first (Some Other ∷ heard) slot h = still_text first (Some Other) heard slot (text_came first heard slot h)
+text_came first (Some (Text f a b) ∷ heard) slot (inr h) =
+    grind (arith, nat_tests, text_came first heard slot h, still_text)
+text_came first (m ∷ heard) slot h = still_text first m heard slot (text_came first heard slot h)
 
 begins_with_text : (m first : ℕ) (heard : List (Option Message)) (since : ℕ)
     → begins_in (run_at text_fragment m first heard) ≡ Some since → HeardText first heard since
 begins_with_text m first [] since e = absurd (cc)
-begins_with_text m first (h ∷ heard) since e = text_came first (h ∷ heard) since (came_in m (first + length heard)
-    (segments text_fragment first (h ∷ heard)) since e)
+begins_with_text m first (h ∷ heard) since e = grind (arith, nat_tests, text_came, came_in)
 
 -- if the tags count that came later than a text segment, the pair held is the same
 pub held_same : (log : List (Option Message)) (m first : ℕ) (heard : List (Option Message)) (origins : List (Option ℕ))

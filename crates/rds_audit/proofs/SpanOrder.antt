@@ -1,14 +1,15 @@
 -- Lemmas: the slots of spans, and the same bytes.
-use Rattle.std.proofs.Common.{◌≡◌, ◌+◌, ◌<◌, ◌≤◌, ℕ, suc, Bool, true, false, nat_eq, nat_lt, List, [], ◌∷◌}
-use Rattle.std.proofs.Common.{length, cond, refl, arith}
-use Rattle.std.proofs.lemmas.Bool.{and_parts, cond_both, eqb-true, ltb-false}
+use Rattle.std.proofs.lemmas.Bool.Decides.{nat_tests}
+use Rattle.std.proofs.Common.{◌≡◌, ◌+◌, ◌<◌, ◌≤◌, ℕ, suc, Bool, true, false, nat_lt, List, [], ◌∷◌}
+use Rattle.std.proofs.Common.{length, refl, arith}
+use Rattle.std.proofs.lemmas.Bool.{cond_both, ltb-false}
 use Rattle.rds_fields.specs.Tag.{PairFields}
 use Rattle.rds_receiver.specs.declared.fragment.Fragment.{Fragment}
 use Rattle.rds_receiver.specs.Run.{is_same}
 use Rattle.rds_audit.specs.Lengths.{Gauge, changes, same_bytes}
-use Rattle.rds_audit.specs.Listing.{Span, due_after, joined, span_with, spans, spans_after, spans_tagged}
+use Rattle.rds_audit.specs.Listing.{Span, joined, span_with, spans, spans_after, spans_tagged}
 use Rattle.rds_audit.specs.Listing.{turned}
-use Rattle.rds_audit.specs.Reigns.{Reign, opened_from, with_fragment, with_tags}
+use Rattle.rds_audit.specs.Reigns.{Reign, opened_from}
 use Rattle.rds_safety.specs.Marks.{Mark, Nothing, Sends, Tagged}
 use Rattle.rds_audit.proofs.SentCells.{same_number}
 
@@ -44,26 +45,15 @@ first_in_order from now start p after begun = record { after = after; begun = be
 -- a span that goes on to this slot
 more_in_order : (from now : ℕ) (r more : Reign) → more.start ≡ r.start → more.last ≡ now → IsInOrder from now r
     → IsInOrder from (suc now) more
-more_in_order from now r more start last h = record {
-  after = omega (arith, start, h.after);
-  begun = omega (arith, start, last, h.begun, h.over);
-  over = omega (arith, last);
-}
+more_in_order from now r more start last h = grind (arith, nat_tests)
 
 turned_in_order : (d now : ℕ) (p : Fragment) (is_changed : Bool) (r : Span) (older : List Span)
     → AreInOrder now (r ∷ older) → AreInOrder (suc now) (turned d now p is_changed r older)
-turned_in_order d now p is_changed r older h =
-    let is_early : Bool = nat_lt now (due_after d r older) in
-    let after : r.reign.last + 1 ≤ cond is_early (r.reign.last + 1) (due_after d r older) =
-    cond_both is_early _ _ (λ n. r.reign.last + 1 ≤ n) (λ _. omega arith) (λ _. omega arith) in
-    let begun : cond is_early (r.reign.last + 1) (due_after d r older) ≤ now =
-    cond_both is_early _ _ (λ n. n ≤ now) (λ _. omega (arith, h.0.over)) (λ f. ltb-false _ _ f) in
-    (first_in_order (r.reign.last + 1) now _ p after begun, all_later now (r ∷ older) h)
+turned_in_order d now p is_changed r older h = grind (arith, nat_tests, first_in_order, all_later)
 
 goes_on : (now : ℕ) (p : Fragment) (r : Span) (older : List Span) → AreInOrder now (r ∷ older)
     → AreInOrder (suc now) (span_with now p r ∷ older)
-goes_on now p r older h =
-    (more_in_order (after_span older) now r.reign (with_fragment now p r.reign) refl refl h.0, all_later now older h.1)
+goes_on now p r older h = grind (arith, nat_tests, more_in_order, all_later)
 
 joined_in_order : (g : Gauge) (d now : ℕ) (p : Fragment) (r : Span) (older : List Span)
     → AreInOrder now (r ∷ older) → AreInOrder (suc now) (joined g d now p r older)
@@ -87,17 +77,14 @@ after_in_order g d now p (r ∷ older) pos h =
 tagged_in_order : (now : ℕ) (pair : PairFields) (rs : List Span) → AreInOrder now rs
     → AreInOrder (suc now) (spans_tagged now pair rs)
 tagged_in_order now pair [] h = tt
-tagged_in_order now pair (r ∷ older) h =
-    (more_in_order (after_span older) now r.reign (with_tags now pair r.reign) refl refl h.0, all_later now older h.1)
+tagged_in_order now pair (r ∷ older) h = grind (arith, nat_tests, more_in_order, all_later)
 
 -- each span started after the one before it, and ended before now
 pub in_order : (g : Gauge) (d : ℕ) (sent : List Mark) → 0 < d → AreInOrder (length sent) (spans g d sent)
 in_order g d [] pos = tt
 in_order g d (Nothing ∷ before) pos = all_later (length before) (spans g d before) (in_order g d before pos)
-in_order g d (Sends p ∷ before) pos = after_in_order g d (length before) p (spans g d before) pos
-    (in_order g d before pos)
-in_order g d (Tagged pair ∷ before) pos = tagged_in_order (length before) pair (spans g d before)
-    (in_order g d before pos)
+in_order g d (Sends p ∷ before) pos = grind (arith, nat_tests, in_order g d before pos, after_in_order)
+in_order g d (Tagged pair ∷ before) pos = grind (arith, nat_tests, in_order g d before pos, tagged_in_order)
 
 -- ---- the same bytes
 
@@ -106,19 +93,11 @@ pub bytes_same : (b c : List ℕ) → b ≡ c → same_bytes b c ≡ true
 bytes_same [] [] e = refl
 bytes_same [] (c ∷ cs) e = absurd (cc)
 bytes_same (b ∷ bs) [] e = absurd (cc)
-bytes_same (b ∷ bs) (c ∷ cs) e =
-    let first : b ≡ c = cc in
-    let test : nat_eq b c ≡ true = rw first (same_number c) in
-    let rest : bs ≡ cs = cc in
-    rw (test, bytes_same bs cs rest) refl
+bytes_same (b ∷ bs) (c ∷ cs) e = grind (arith, nat_tests, bytes_same bs cs, same_number)
 
 -- bytes that pass the test are equal
 pub same_bytes_are : (b c : List ℕ) → same_bytes b c ≡ true → b ≡ c
 same_bytes_are [] [] e = refl
 same_bytes_are [] (c ∷ cs) e = absurd (cc)
 same_bytes_are (b ∷ bs) [] e = absurd (cc)
-same_bytes_are (b ∷ bs) (c ∷ cs) e =
-    let parts = and_parts (nat_eq b c) (same_bytes bs cs) e in
-    let first : b ≡ c = eqb-true b c parts.0 in
-    let rest : bs ≡ cs = same_bytes_are bs cs parts.1 in
-    cc
+same_bytes_are (b ∷ bs) (c ∷ cs) e = grind (arith, nat_tests, same_bytes_are bs cs)

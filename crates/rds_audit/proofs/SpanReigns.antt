@@ -1,11 +1,12 @@
 -- Lemmas: up to the first fault of a service, its spans have its reigns and break no rule; marks that add nothing to
 -- its list pass.
-use Rattle.std.proofs.Common.{◌≡◌, ◌≢◌, ◌⊎◌, ◌+◌, ◌<◌, ◌≤◌, ◌&&◌, ◌||◌, not, ℕ, Bool, true, false, nat_eq, nat_lt}
-use Rattle.std.proofs.Common.{List, [], ◌∷◌, length, cond, refl, sym, ap, ◌∙◌, subst, inl, inr}
+use Rattle.std.proofs.lemmas.Bool.Decides.{nat_tests}
+use Rattle.std.proofs.Common.{◌≡◌, ◌+◌, ◌<◌, ◌≤◌, not, ℕ, true, false, nat_lt}
+use Rattle.std.proofs.Common.{List, [], ◌∷◌, length, refl, sym, ap, ◌∙◌, inl, inr}
 use Rattle.std.proofs.Common.{arith}
 use Rattle.std.specs.List.{AllByRecursion, list_any}
-use Rattle.std.proofs.lemmas.Bool.{cases_lt, cond_both, le-ltb, lt-ltb}
-use Rattle.std.proofs.lemmas.Bool.{ltb-false, or_from}
+use Rattle.std.proofs.lemmas.Bool.{le-ltb}
+use Rattle.std.proofs.lemmas.Bool.{ltb-false, not-false, or_from, or_parts}
 use Rattle.rds_fields.specs.Tag.{PairFields}
 use Rattle.rds_receiver.specs.declared.fragment.Fragment.{Fragment}
 use Rattle.rds_safety.specs.Flags.{is_other_flag, is_same_flag, same_or_other}
@@ -13,12 +14,12 @@ use Rattle.rds_safety.specs.Lawful.{Kind}
 use Rattle.rds_safety.specs.Marks.{Mark, Nothing, Sends, Tagged}
 use Rattle.rds_audit.specs.declared.fault_set.FaultSet.{FaultSet}
 use Rattle.rds_audit.specs.Lengths.{AllJoin, Gauge, IsExact, IsFormed, changes, lengths_of, tags_end}
-use Rattle.rds_audit.specs.Listing.{Span, added, broken_by, broken_newest, due_after, first_of_span, fits, joined}
-use Rattle.rds_audit.specs.Listing.{none_broken, not_before, reigns_of, span_with, spans, spans_after}
+use Rattle.rds_audit.specs.Listing.{Span, added, broken_by, broken_newest, first_of_span, fits, joined}
+use Rattle.rds_audit.specs.Listing.{none_broken, reigns_of, span_with, spans, spans_after}
 use Rattle.rds_audit.specs.Listing.{spans_tagged, turned}
 use Rattle.rds_audit.specs.ListingLaws.{IsFormedMark}
 use Rattle.rds_audit.specs.Reigns.{Reign, SentTags, after_fragment, after_tags, joins, reigns}
-use Rattle.rds_audit.specs.Reigns.{opened_by, opened_from, with_fragment, with_tags}
+use Rattle.rds_audit.specs.Reigns.{opened_from, with_fragment, with_tags}
 use Rattle.rds_audit.specs.Rules.{CanBeBroadcast, HaveOneValue, IsAfterFragment, Passes}
 use Rattle.rds_audit.proofs.Keeping.{AreKept, Keeps, keeps}
 use Rattle.rds_audit.proofs.Sending.{TagsAreAfter, after_later, early, fragment_is_marked, sent_before}
@@ -29,32 +30,12 @@ use Rattle.rds_audit.proofs.SpanSteps.{sets_are}
 fragment_before : (d slot : ℕ) (kind : Kind) (p : Fragment) (rs : List Reign)
     → AllByRecursion (CanBeBroadcast d kind) (after_fragment d slot p rs) → AllByRecursion (CanBeBroadcast d kind) rs
 fragment_before d slot kind p [] all = tt
-fragment_before d slot kind p (r ∷ older) all = by (joins d slot p.flag r) all
-  where
-    by : (v : Bool)
-        → AllByRecursion (CanBeBroadcast d kind) (cond v (with_fragment slot p r ∷ older)
-        (opened_by d slot p (r ∷ older) ∷ r ∷ older)) → AllByRecursion (CanBeBroadcast d kind) (r ∷ older)
-    by true all = (
-      record {
-        begun = all.0.begun;
-        lasted = all.0.lasted;
-        one = record { value = all.0.one.value; valid = all.0.one.valid; has = all.0.one.has.1; ends = all.0.one.ends };
-      },
-      all.1,
-    )
-    by false all = all.1
+fragment_before d slot kind p (r ∷ older) all = grind (arith, nat_tests)
 
 tags_before : (d slot : ℕ) (kind : Kind) (pair : PairFields) (rs : List Reign)
     → AllByRecursion (CanBeBroadcast d kind) (after_tags slot pair rs) → AllByRecursion (CanBeBroadcast d kind) rs
 tags_before d slot kind pair [] all = tt
-tags_before d slot kind pair (r ∷ older) all = (
-  record {
-    begun = all.0.begun;
-    lasted = all.0.lasted.1;
-    one = record { value = all.0.one.value; valid = all.0.one.valid; has = all.0.one.has; ends = all.0.one.ends.1 };
-  },
-  all.1,
-)
+tags_before d slot kind pair (r ∷ older) all = search
 
 reigns_before : (d : ℕ) (kind : Kind) (mark : Mark) (before : List Mark)
     → AllByRecursion (CanBeBroadcast d kind) (reigns d (mark ∷ before))
@@ -66,19 +47,7 @@ reigns_before d kind (Tagged pair) before all = tags_before d (length before) ki
 -- a service that passes passed before its newest mark
 pub service_passed_before : (d : ℕ) (kind : Kind) (mark : Mark) (before : List Mark) → Passes d kind (mark ∷ before)
     → Passes d kind before
-service_passed_before d kind mark before h = record {
-  reigns = reigns_before d kind mark before h.reigns;
-  tagged = λ t pair is.
-      let w = h.tagged t pair (inr is) in
-      let less = early before t (Tagged pair) is in
-      record {
-        slot = w.slot;
-        fragment = w.fragment;
-        is_sent = sent_before mark before w.slot (Sends w.fragment)
-            (omega (arith, w.before, less)) w.is_sent;
-        before = w.before;
-      };
-}
+service_passed_before d kind mark before h = grind (arith, nat_tests, reigns_before, early, sent_before)
 
 -- tags come after a fragment with a mark that is no tags, and with tags after a fragment
 tags_after : (x : Mark) (sent : List Mark) → ((pair : PairFields) → Tagged pair ≡ x → ⊥) → TagsAreAfter sent
@@ -88,19 +57,13 @@ tags_after x sent none h t pair (inr s) = after_later x sent t (h t pair s)
 
 tagged_after : (pair : PairFields) (sent : List Mark) → IsAfterFragment sent (length sent) → TagsAreAfter sent
     → TagsAreAfter (Tagged pair ∷ sent)
-tagged_after pair sent w h t other (inl s) = after_later (Tagged pair) sent t (subst (λ (n : ℕ). IsAfterFragment sent n)
-    (sym s.0) w)
+tagged_after pair sent w h t other (inl s) = after_later (Tagged pair) sent t (rw s.0 w)
 tagged_after pair sent w h t other (inr s) = after_later (Tagged pair) sent t (h t other s)
 
 after_some : (d : ℕ) (sent : List Mark) (rs : List Reign) → AreKept d sent rs → (rs ≡ [] → ⊥)
     → IsAfterFragment sent (length sent)
 after_some d sent [] k some = absurd (some refl)
-after_some d sent (r ∷ older) k some = record {
-  slot = r.opened;
-  fragment = k.0.first;
-  is_sent = k.0.opened;
-  before = early sent r.opened (Sends k.0.first) k.0.opened;
-}
+after_some d sent (r ∷ older) k some = grind (arith, nat_tests, early)
 
 -- what passes with tags has a reign for them
 tagged_some : (d : ℕ) (kind : Kind) (pair : PairFields) (before : List Mark) (rs : List Reign) → Keeps d before rs
@@ -126,8 +89,7 @@ module _ (g : Gauge) (exact : IsExact g) (d : ℕ) where
   pub fits_one : (r : Span) → AllByRecursion (IsFormed g.segments) r.reign.fragments → AllJoin g r.reign.fragments
       → fits g r ≡ true → tags_end r.reign.tags ≤ (lengths_of g r.reign.fragments).most
       → HaveOneValue g.kind r.reign.fragments r.reign.tags
-  fits_one r formed joins fit ends =
-      exact.one r.reign.fragments r.reign.tags formed record { joins = joins; fit = fit; ends = ends }
+  fits_one r formed joins fit ends = grind (arith, nat_tests)
 
   -- a span that can be a broadcast breaks no rule
   breaks_none : (r : Span) → CanBeBroadcast d g.kind r.reign → r.is_changed ≡ false → r.is_early ≡ false
@@ -139,13 +101,7 @@ module _ (g : Gauge) (exact : IsExact g) (d : ℕ) where
   -- a span that breaks no rule has one value
   quiet_one : (r : Span) → AllByRecursion (IsFormed g.segments) r.reign.fragments → AllJoin g r.reign.fragments
       → broken_by g d r ≡ none_broken → HaveOneValue g.kind r.reign.fragments r.reign.tags
-  quiet_one r formed joins none = fits_one r formed joins
-      (holds (fits g r) (ap (λ (f : FaultSet). f.not_one_text) none))
-      (ltb-false _ _ (ap (λ (f : FaultSet). f.tag_outside) none))
-    where
-      holds : (b : Bool) → not b ≡ false → b ≡ true
-      holds true e = refl
-      holds false e = absurd (let bad : true ≡ false = e in cc)
+  quiet_one r formed joins none = grind (arith, nat_tests, fits_one, not-false)
 
 -- ---- spans and reigns after one more fragment
 
@@ -161,29 +117,10 @@ module _ (g : Gauge) (Q : List Span → List Reign → Type 0) (d slot : ℕ) (p
     (opens_early : (start late : ℕ) → slot < late
     → Q (first_of_span slot p start false true ∷ r ∷ older) (opened_from late slot p ∷ reigns_of (r ∷ older))) where
   by_change : Q (joined g d slot p r older) (with_fragment slot p r.reign ∷ reigns_of older)
-  by_change =
-      cond_both (changes g r.reign.fragments p) _ _ (λ (rs : List Span). Q rs (with_fragment slot p r.reign
-      ∷ reigns_of older)) changes_it joins_it
+  by_change = grind (arith, nat_tests)
 
   pub by_fragment : Q (spans_after g d slot p (r ∷ older)) (after_fragment d slot p (reigns_of (r ∷ older)))
-  by_fragment = by (same_or_other r.reign.flag p.flag)
-    where
-      by : (r.reign.flag ≡ p.flag) ⊎ (r.reign.flag ≢ p.flag)
-          → Q (spans_after g d slot p (r ∷ older)) (after_fragment d slot p (reigns_of (r ∷ older)))
-      by (inl e) =
-          elim (cases_lt slot (r.reign.last + d)) [
-            | inl near ↦ rw (is_same_flag r.reign.flag p.flag e, lt-ltb slot (r.reign.last + d) near)
-                by_change
-            | inr far ↦ rw (is_same_flag r.reign.flag p.flag e, le-ltb slot (r.reign.last + d) far)
-                (opens_late (r.reign.last + d) far)
-          ]
-      by (inr ne) =
-          elim (cases_lt slot (due_after d r older)) [
-            | inl early ↦ rw (is_other_flag r.reign.flag p.flag ne, lt-ltb slot (due_after d r older) early)
-                (opens_early (r.reign.last + 1) (due_after d r older) early)
-            | inr late ↦ rw (is_other_flag r.reign.flag p.flag ne, le-ltb slot (due_after d r older) late)
-                (opens_late (due_after d r older) late)
-          ]
+  by_fragment = grind (arith, nat_tests, same_or_other, is_same_flag, by_change, is_other_flag)
 
 -- ---- up to the first fault
 
@@ -216,8 +153,7 @@ module _ (g : Gauge) (exact : IsExact g) (d : ℕ) where
         none = breaks_none g exact d (span_with (length before) p r) all.0 (ap (λ (f : FaultSet). f.changed) h.none)
             (ap (λ (f : FaultSet). f.early_flag) h.none);
       })
-      (λ changed all. absurd (let kept = (can_be_joined (with_fragment (length before) p r.reign) all.0).0 in
-      let bad : true ≡ false = sym changed ∙ kept in cc))
+      (λ changed all. cc ((can_be_joined (with_fragment (length before) p r.reign) all.0).0))
       (λ start late all. record {
         same = refl;
         none = breaks_none g exact d (first_of_span (length before) p start false false) all.0 refl refl;
@@ -239,53 +175,33 @@ module _ (g : Gauge) (exact : IsExact g) (d : ℕ) where
 
   nothing_reigns : (before : List Mark) (rs : List Span) (regs : List Reign) → AreReigns g d before rs regs
       → AreReigns g d (Nothing ∷ before) rs regs
-  nothing_reigns before [] regs h = record { same = h.same; none = h.none }
-  nothing_reigns before (r ∷ older) regs h = record { same = h.same; none = h.none }
+  nothing_reigns before [] regs h = assumption
+  nothing_reigns before (r ∷ older) regs h = assumption
 
   -- the spans of a service that passes have its reigns, and the newest breaks no rule
   pub are_reigns : (sent : List Mark) → Passes d g.kind sent → AreReigns g d sent (spans g d sent) (reigns d sent)
   are_reigns [] passes = record { same = refl; none = refl }
-  are_reigns (Nothing ∷ before) passes = nothing_reigns before (spans g d before) (reigns d before)
-      (are_reigns before (service_passed_before d g.kind Nothing before passes))
+  are_reigns (Nothing ∷ before) passes =
+      let passed = service_passed_before d g.kind Nothing before passes in
+      grind (arith, nat_tests, are_reigns before passed, nothing_reigns)
   are_reigns (Sends p ∷ before) passes =
       let passed = service_passed_before d g.kind (Sends p) before passes in
       let h = are_reigns before passed in
-      subst (λ (regs : List Reign). AreReigns g d (Sends p ∷ before) (spans_after g d (length before) p
-      (spans g d before))
-      (after_fragment d (length before) p regs)) h.same
-      (fragment_reigns p before (spans g d before) (subst (AllByRecursion (CanBeBroadcast d g.kind)) (sym h.same)
-      passed.reigns)
-      (subst (λ (regs : List Reign). AllByRecursion (CanBeBroadcast d g.kind) (after_fragment d (length before) p regs))
-      (sym h.same) passes.reigns) record { same = refl; none = h.none })
+      rw (← h.same) (fragment_reigns p before (spans g d before) (rw h.same passed.reigns) (rw h.same passes.reigns)
+      record { same = refl; none = h.none })
   are_reigns (Tagged pair ∷ before) passes =
       let passed = service_passed_before d g.kind (Tagged pair) before passes in
       let h = are_reigns before passed in
-      let some : reigns_of (spans g d before) ≡ []
-      → ⊥ = λ e. tagged_some d g.kind pair before (reigns d before) (keeps d before) passes (sym h.same ∙ e) in
-      subst (λ (regs : List Reign). AreReigns g d (Tagged pair ∷ before) (spans_tagged (length before) pair
-      (spans g d before)) (after_tags (length before) pair regs)) h.same
-      (tags_reigns pair before (spans g d before) some
-      (subst (λ (regs : List Reign). AllByRecursion (CanBeBroadcast d g.kind) (after_tags (length before) pair regs))
-      (sym h.same) passes.reigns) record { same = refl; none = h.none })
+      rw (← h.same) (tags_reigns pair before (spans g d before)
+      (λ e. tagged_some d g.kind pair before (reigns d before) (keeps d before) passes (sym h.same ∙ e))
+      (rw h.same passes.reigns) record { same = refl; none = h.none })
 
   -- ---- at the first fault
 
   -- without a fault before, a slot adds what the newest span breaks
   pub adds_all : (mark : Mark) (before : List Mark) → broken_newest g d before (spans g d before) ≡ none_broken
       → added g d mark before ≡ broken_newest g d (mark ∷ before) (spans g d (mark ∷ before))
-  adds_all mark before none =
-      cond_both (nat_eq (length (spans g d (mark ∷ before))) (length (spans g d before))) _ _ (λ (f : FaultSet). f
-      ≡ broken_newest g d (mark ∷ before) (spans g d (mark ∷ before)))
-      (λ _. ap (λ (f : FaultSet). not_before f (broken_newest g d (mark ∷ before) (spans g d (mark ∷ before)))) none
-      ∙ all_new (broken_newest g d (mark ∷ before) (spans g d (mark ∷ before)))) (λ _. refl)
-    where
-      and_true : (b : Bool) → (b && true) ≡ b
-      and_true true = refl
-      and_true false = refl
-
-      all_new : (f : FaultSet) → not_before none_broken f ≡ f
-      all_new f = sets_are _ _ (and_true f.changed) (and_true f.early_flag) (and_true f.not_one_text)
-          (and_true f.early_tag) (and_true f.tag_outside)
+  adds_all mark before none = grind (arith, nat_tests, sets_are)
 
   -- a mark that breaks no rule adds nothing
   pub adds_none : (mark : Mark) (before : List Mark) → Passes d g.kind (mark ∷ before)
@@ -320,7 +236,7 @@ module _ (g : Gauge) (exact : IsExact g) (d : ℕ) where
         },
         was.1,
       ))
-      (λ other none. absurd (let bad : true ≡ false = ap (λ (f : FaultSet). f.changed) none in cc))
+      (λ other none. cc (ap (λ (f : FaultSet). f.changed) none))
       (λ start late none. (
         record {
           begun = late;
@@ -330,7 +246,7 @@ module _ (g : Gauge) (exact : IsExact g) (d : ℕ) where
         },
         was,
       ))
-      (λ start late less none. absurd (let bad : true ≡ false = ap (λ (f : FaultSet). f.early_flag) none in cc))
+      (λ start late less none. cc (ap (λ (f : FaultSet). f.early_flag) none))
       none
 
   can_be_tagged : (pair : PairFields) (before : List Mark) (rs : List Span)
@@ -338,8 +254,7 @@ module _ (g : Gauge) (exact : IsExact g) (d : ℕ) where
       → broken_newest g d (Tagged pair ∷ before) (spans_tagged (length before) pair rs) ≡ none_broken
       → (reigns_of rs ≡ [] → ⊥) × AllByRecursion (CanBeBroadcast d g.kind) (after_tags (length before) pair
       (reigns_of rs))
-  can_be_tagged pair before [] was none = absurd (let bad : true ≡ false = ap (λ (f : FaultSet). f.early_tag) none
-      in cc)
+  can_be_tagged pair before [] was none = cc (ap (λ (f : FaultSet). f.early_tag) none)
   can_be_tagged pair before (r ∷ older) was none = (
     (λ e. (cc)),
     (
@@ -353,36 +268,27 @@ module _ (g : Gauge) (exact : IsExact g) (d : ℕ) where
     ),
   )
     where
-      not_first : (x y : Bool) → (x || y) ≡ false → x ≡ false
-      not_first true y e = absurd (let bad : true ≡ false = e in cc)
-      not_first false y e = refl
-
       late : r.reign.start + d ≤ length before
-      late = ltb-false _ _ (not_first (nat_lt (length before) (r.reign.start + d)) _ (ap (λ (f : FaultSet). f.early_tag)
-          none))
+      late = ltb-false _ _ (or_parts (nat_lt (length before) (r.reign.start + d)) _ (ap (λ (f : FaultSet). f.early_tag)
+          none)).0
 
   -- a mark that adds nothing to marks that pass: they pass with it too
   pub quiet_passes : (mark : Mark) (before : List Mark) → IsFormedMark g.segments mark → Passes d g.kind before
       → added g d mark before ≡ none_broken → Passes d g.kind (mark ∷ before)
-  quiet_passes Nothing before formed passes none = record
-      { reigns = passes.reigns; tagged = tags_after Nothing before (λ pair e. (cc)) passes.tagged }
+  quiet_passes Nothing before formed passes none = grind (arith, nat_tests, tags_after)
   quiet_passes (Sends p) before formed passes none =
       let h = are_reigns before passes in
       record {
-        reigns =
-            subst (λ (regs : List Reign). AllByRecursion (CanBeBroadcast d g.kind) (after_fragment d (length before) p
-            regs)) h.same
-            (can_be_after p before (spans g d before) formed (subst (AllByRecursion (CanBeBroadcast d g.kind))
-            (sym h.same) passes.reigns) (sym (adds_all (Sends p) before h.none) ∙ none));
+        reigns = rw (← h.same) (can_be_after p before (spans g d before) formed (rw h.same passes.reigns)
+            (sym (adds_all (Sends p) before h.none) ∙ none));
         tagged = tags_after (Sends p) before (λ pair e. (cc)) passes.tagged;
       }
   quiet_passes (Tagged pair) before formed passes none =
       let h = are_reigns before passes in
-      let can = can_be_tagged pair before (spans g d before) (subst (AllByRecursion (CanBeBroadcast d g.kind))
-      (sym h.same) passes.reigns) (sym (adds_all (Tagged pair) before h.none) ∙ none) in
+      let can = can_be_tagged pair before (spans g d before) (rw h.same passes.reigns)
+      (sym (adds_all (Tagged pair) before h.none) ∙ none) in
       record {
-        reigns = subst (λ (regs : List Reign). AllByRecursion (CanBeBroadcast d g.kind) (after_tags (length before) pair
-            regs)) h.same can.1;
+        reigns = rw (← h.same) can.1;
         tagged = tagged_after pair before (after_some d before (reigns d before) (keeps d before).0
             (λ e. can.0 (h.same ∙ e))) passes.tagged;
       }

@@ -8,10 +8,10 @@ use Rattle.rds_receiver.specs.declared.fragment.Fragment.{Fragment}
 use Rattle.rds_audit.specs.declared.audit.AuditFault.{AuditFault}
 use Rattle.rds_audit.specs.declared.fault_set.FaultSet.{FaultSet}
 use Rattle.rds_audit.specs.Ages.{HoldsAges}
-use Rattle.rds_audit.specs.Lengths.{Gauge, gauge_of, lengths_of, name_gauge, sent_cells, sent_last, tags_end}
-use Rattle.rds_audit.specs.Listing.{IsFaultOf, Span, broken_newest, first_of, reigns_of, slot_adds, spans}
+use Rattle.rds_audit.specs.Lengths.{Gauge, gauge_of, lengths_of, name_gauge, sent_cells, tags_end}
+use Rattle.rds_audit.specs.Listing.{IsFaultOf, Span, added, broken_newest, first_of, reigns_of, slot_adds, spans}
 use Rattle.rds_audit.specs.AuditState.{AuditState, SpansState}
-use Rattle.rds_audit.specs.ReignsState.{ContentState, cell_at}
+use Rattle.rds_audit.specs.ReignsState.{ContentState}
 use Rattle.rds_audit.specs.Recording.{counted_as, judged_as}
 use Rattle.rds_audit.specs.Reigns.{SentTags}
 use Rattle.rds_audit.specs.Rules.{LogPasses}
@@ -27,19 +27,16 @@ abbrev pub tags_now : List Span → List SentTags
 tags_now [] = []
 tags_now (r ∷ older) = r.reign.tags
 
--- the content follows from these fragments and tags
-pub record HoldsContent (g : Gauge) (fragments : List Fragment) (tags : List SentTags) (c : ContentState) : Type 0 where
-  pub long : length c.cells ≡ 16
-  pub held : c.cells ≡ sent_cells fragments
-  pub cells : (a : ℕ) → a < 16 → cell_at a c ≡ sent_last a fragments
-  pub lengths : c.lengths ≡ lengths_of g fragments
-  pub ends : c.tags_end ≡ tags_end tags
+-- the content of these fragments and tags
+abbrev pub content_of : Gauge → List Fragment → List SentTags → ContentState
+content_of g fragments tags =
+    record { cells = sent_cells fragments; lengths = lengths_of g fragments; tags_end = tags_end tags }
 
 -- in slot `now` of these marks, the state of a service follows from these spans of the marks
 pub record FollowsFrom (g : Gauge) (d now : ℕ) (sent : List Mark) (rs : List Span)
     (s : SpansState) : Type 0 where
   pub ages : HoldsAges d now (reigns_of rs) s.reigns.ages
-  pub content : HoldsContent g (fragments_now rs) (tags_now rs) s.reigns.content
+  pub content : s.reigns.content ≡ content_of g (fragments_now rs) (tags_now rs)
   pub count : s.count ≡ min (length rs) (2 ^ 64 - 1)
   pub broken : s.broken ≡ broken_newest g d sent rs
 
@@ -52,9 +49,10 @@ abbrev pub HoldsNewestSpans : Gauge → ℕ → Mark → List Mark → SpansStat
 HoldsNewestSpans g d newest before s =
     FollowsFrom g d (length before) (newest ∷ before) (spans g d (newest ∷ before)) s
 
--- this holds of all marks that the state holds
-abbrev pub WhereSpansHold : Gauge → ℕ → SpansState → (List Mark → Type 0) → Type 0
-WhereSpansHold g d s Holds = 0 < d → (sent : List Mark) → HoldsSpans g d sent s → Holds sent
+-- a service took this mark: its state follows from all marks with it, in its slot, and the result is what the mark adds
+abbrev pub TakesMark : Gauge → ℕ → Mark → SpansState → SpansState → FaultSet → Type 0
+TakesMark g d mark s after result = 0 < d → (sent : List Mark) → HoldsSpans g d sent s
+    → HoldsNewestSpans g d mark sent after × (result ≡ added g d mark sent)
 
 -- d slots are a spacing, as a `Distance` of rds_fields is
 pub record IsSpacing (d : ℕ) : Type 0 where

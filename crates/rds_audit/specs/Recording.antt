@@ -4,7 +4,7 @@
 use Rattle.std.specs.Prelude.{◌++◌, ℕ, Bool, true, false, List, [], ◌∷◌, Option, Some, None, replicate}
 use Rattle.std.specs.Prelude.{if◌then◌else◌}
 use Rattle.rds_fields.specs.declared.message.Message.{Message}
-use Rattle.rds_fields.specs.declared.message.Message.TheVariants.{Text, Name, Announce, Tags, Other}
+use Rattle.rds_fields.specs.declared.message.Message.TheVariants.{Text, Tags}
 use Rattle.rds_audit.specs.declared.log_start.LogStart.{LogStart}
 use Rattle.rds_audit.specs.declared.log_start.LogStart.TheVariants.{Complete, Running}
 use Rattle.rds_safety.specs.Marks.{Mark, Nothing}
@@ -12,21 +12,13 @@ use Rattle.rds_safety.specs.Marks.{Mark, Nothing}
 -- a segment of a text is among the messages
 abbrev pub has_text : List (Option Message) → Bool
 has_text [] = false
-has_text (None ∷ before) = has_text before
 has_text (Some (Text f a b) ∷ before) = true
-has_text (Some (Name f a b) ∷ before) = has_text before
-has_text (Some (Announce code bits aid) ∷ before) = has_text before
-has_text (Some (Tags pair) ∷ before) = has_text before
-has_text (Some Other ∷ before) = has_text before
+has_text (_ ∷ before) = has_text before
 
 -- the message of a slot after these: tags count as nothing if no text segment came before
 abbrev pub counted_after : List (Option Message) → Option Message → Option Message
-counted_after before None = None
-counted_after before (Some (Text f a b)) = Some (Text f a b)
-counted_after before (Some (Name f a b)) = Some (Name f a b)
-counted_after before (Some (Announce code bits aid)) = Some (Announce code bits aid)
 counted_after before (Some (Tags pair)) = if has_text before then Some (Tags pair) else None
-counted_after before (Some Other) = Some Other
+counted_after before message = message
 
 -- the messages, except the tags before the first text segment
 abbrev pub from_first_text : List (Option Message) → List (Option Message)

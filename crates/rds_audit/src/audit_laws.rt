@@ -51,6 +51,11 @@ pub fn what_passes_as_a_recording_is_safe()
 }
 
 /// States that a log passes exactly if it has no fault, and that the slot with its fault breaks the rule of that name.
+#[tactic(auto, using(
+    crate::proofs::ListingSteps::no_fault,
+    crate::proofs::ListingSteps::passes_without,
+    crate::proofs::Breaking::fails_by,
+))]
 pub fn passes_without_a_fault()
     ensures fails { WhatHasAFaultDoesNotPass }
     ensures passes { WhatHasNoFaultPasses }
@@ -60,6 +65,7 @@ pub fn passes_without_a_fault()
 /// States a promise to receivers with the flag bit alone: if the flag of a log that passes turns from each reign to the
 /// next, and they hear a segment of each reign, they show only texts, names and tags of the plans. The flag always
 /// turns so if each segment except the first comes less than d slots after a segment or tags.
+#[tactic(auto, using(crate::proofs::FlagLogs::safe_by_flag, crate::proofs::FlagLogs::alternate))]
 pub fn what_passes_is_safe_by_the_flag()
     ensures safe { WhatPassesIsSafeByTheFlag }
     ensures without_pause { WithoutPauseFlagsAlternate }
@@ -69,6 +75,12 @@ pub fn what_passes_is_safe_by_the_flag()
 }
 
 /// States that up to the first fault the list of a log judges the reigns of the log, and is empty.
+#[tactic(auto, using(
+    crate::proofs::SpanReigns::are_reigns,
+    crate::proofs::Gauges::gauge_is_exact,
+    crate::proofs::Gauges::name_gauge_is_exact,
+    crate::proofs::ListingSteps::passing_adds,
+))]
 pub fn the_list_judges_the_reigns()
     ensures texts { (form : TextForm) → SpansAreReigns (gauge_of form) }
     ensures names { SpansAreReigns name_gauge }

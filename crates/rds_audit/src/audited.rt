@@ -81,6 +81,7 @@ impl Audited for Texts {
         reigns.narrowed(text_lengths(address, bytes))
     }
 
+    #[tactic(auto, using(crate::proofs::Gauges::text_gauge_is_exact))]
     fn exact() {}
 }
 
@@ -126,6 +127,7 @@ impl Audited for PaddedTexts {
         measured_up_to(greatest_below(limit, &cells), before)
     }
 
+    #[tactic(auto, using(crate::proofs::Gauges::padded_gauge_is_exact))]
     fn exact() {}
 }
 
@@ -157,6 +159,7 @@ impl Audited for Names {
         reigns.narrowed(name_lengths(bytes))
     }
 
+    #[tactic(auto, using(crate::proofs::Gauges::name_gauge_is_exact))]
     fn exact() {}
 }
 
@@ -236,6 +239,7 @@ fn limit_at(address: u8, held: Option<[u8; 4]>, bytes: [u8; 4]) -> u8
 }
 
 /// Returns the greatest length below the limit that a text with these segments and padding can have, if there is one.
+#[tactic(auto, using(crate::proofs::PaddedSteps::lower))]
 pub(crate) fn greatest_below(limit: u8, cells: &[StoredCell; 16]) -> Option<u8>
     requires { limit ≤ 65 }
     ensures { result ≡ greatest_below (λ n. all_allow n 0 (map cell_stored cells.now)) limit }
@@ -266,6 +270,7 @@ fn all_allow(length: u8, cells: &[StoredCell; 16]) -> bool
 }
 
 /// Returns whether a text of this length can have these bytes at the places from `first` on, with padding.
+#[tactic(auto, using(crate::proofs::PaddedSteps::behind))]
 fn allows(length: u8, first: u8, bytes: [u8; 4]) -> bool
     requires { first ≤ 60 }
     ensures { result ≡ allows length first bytes }

@@ -118,6 +118,7 @@ impl Audit {
 
     /// Takes the group of this slot, if it is one of the programme.
     #[inline(always)]
+    #[tactic(auto, using(crate::proofs::ListingSteps::nothing_listed, crate::proofs::Recordings::nothing_counts))]
     fn hear_group(&mut self, group: Option<Blocks>) -> FaultSet
         ensures keeps { KeepsLog self.old self.new }
         ensures fault { self.new.fault ≡ self.old.fault }

@@ -1,8 +1,7 @@
 //! The spans of a service: what a list of faults judges.
 ghost use Rattle.std.specs.Prelude.{◌≡◌, ◌+◌, ◌≤◌, ◌<◌, ◌^◌, ℕ, List};
 ghost use Rattle.rds_audit.specs.Lengths.{gauge_of};
-ghost use Rattle.rds_audit.specs.Listing.{added};
-ghost use Rattle.rds_audit.specs.AuditAt.{HoldsNewestSpans, HoldsSpans, WhereSpansHold};
+ghost use Rattle.rds_audit.specs.AuditAt.{HoldsSpans, TakesMark};
 ghost use Rattle.rds_fields.specs.Stored.{is_set};
 ghost use Rattle.rds_audit.specs.AuditState.{aged_in, form_if, judged_ends, opened_in, put_in, repeated_in, tagged_in};
 ghost use Rattle.rds_audit.specs.Stored.{spans_stored};
@@ -47,11 +46,8 @@ impl StoredSpans {
     #[inline(always)]
     pub(crate) fn take_text(&mut self, is_padded: u8, distance: u32, fragment: Fragment) -> FaultSet
         requires { fragment.address < 16 }
-        ensures added { WhereSpansHold (gauge_of (form_if (is_set is_padded))) distance (spans_stored self.old)
-            (λ sent. result ≡ added (gauge_of (form_if (is_set is_padded))) distance (Sends fragment) sent) }
-        ensures holds { WhereSpansHold (gauge_of (form_if (is_set is_padded))) distance (spans_stored self.old)
-            (λ sent. HoldsNewestSpans (gauge_of (form_if (is_set is_padded))) distance (Sends fragment) sent
-            (spans_stored self.new)) }
+        ensures { TakesMark (gauge_of (form_if (is_set is_padded))) distance (Sends fragment) (spans_stored self.old)
+            (spans_stored self.new) result }
     {
         if is_padded == 0 {
             self.take::<Texts>(distance, fragment)
@@ -62,11 +58,8 @@ impl StoredSpans {
 
     /// Does what [`take_tags`](Self::take_tags) does for texts of the stored form.
     pub(crate) fn take_text_tags(&mut self, is_padded: u8, distance: u32, pair: TagPair) -> FaultSet
-        ensures added { WhereSpansHold (gauge_of (form_if (is_set is_padded))) distance (spans_stored self.old)
-            (λ sent. result ≡ added (gauge_of (form_if (is_set is_padded))) distance (Tagged pair) sent) }
-        ensures holds { WhereSpansHold (gauge_of (form_if (is_set is_padded))) distance (spans_stored self.old)
-            (λ sent. HoldsNewestSpans (gauge_of (form_if (is_set is_padded))) distance (Tagged pair) sent
-            (spans_stored self.new)) }
+        ensures { TakesMark (gauge_of (form_if (is_set is_padded))) distance (Tagged pair) (spans_stored self.old)
+            (spans_stored self.new) result }
     {
         if is_padded == 0 {
             self.take_tags::<Texts>(distance, pair)
@@ -80,10 +73,7 @@ impl StoredSpans {
     #[inline(always)]
     pub(crate) fn take<S: Audited>(&mut self, distance: u32, fragment: Fragment) -> FaultSet
         requires { fragment.address < S.gauge.segments }
-        ensures added { WhereSpansHold S.gauge distance (spans_stored self.old)
-            (λ sent. result ≡ added S.gauge distance (Sends fragment) sent) }
-        ensures holds { WhereSpansHold S.gauge distance (spans_stored self.old)
-            (λ sent. HoldsNewestSpans S.gauge distance (Sends fragment) sent (spans_stored self.new)) }
+        ensures { TakesMark S.gauge distance (Sends fragment) (spans_stored self.old) (spans_stored self.new) result }
     {
         if self.reigns.joins(distance, fragment.flag)
             && self.reigns.has(fragment.address, fragment.bytes)
@@ -102,10 +92,7 @@ impl StoredSpans {
     #[inline(never)]
     fn take_new<S: Audited>(&mut self, distance: u32, fragment: Fragment) -> FaultSet
         requires { fragment.address < S.gauge.segments }
-        ensures added { WhereSpansHold S.gauge distance (spans_stored self.old)
-            (λ sent. result ≡ added S.gauge distance (Sends fragment) sent) }
-        ensures holds { WhereSpansHold S.gauge distance (spans_stored self.old)
-            (λ sent. HoldsNewestSpans S.gauge distance (Sends fragment) sent (spans_stored self.new)) }
+        ensures { TakesMark S.gauge distance (Sends fragment) (spans_stored self.old) (spans_stored self.new) result }
     {
         // Prover: a call of a law (docs/PROVER.md, "Idioms").
         S::exact();
@@ -125,10 +112,7 @@ impl StoredSpans {
 
     /// Takes tags that were sent in this slot. Returns the faults that they add to the list.
     pub(crate) fn take_tags<S: Audited>(&mut self, distance: u32, pair: TagPair) -> FaultSet
-        ensures added { WhereSpansHold S.gauge distance (spans_stored self.old)
-            (λ sent. result ≡ added S.gauge distance (Tagged pair) sent) }
-        ensures holds { WhereSpansHold S.gauge distance (spans_stored self.old)
-            (λ sent. HoldsNewestSpans S.gauge distance (Tagged pair) sent (spans_stored self.new)) }
+        ensures { TakesMark S.gauge distance (Tagged pair) (spans_stored self.old) (spans_stored self.new) result }
     {
         // Prover: a call of a law (docs/PROVER.md, "Idioms").
         S::exact();

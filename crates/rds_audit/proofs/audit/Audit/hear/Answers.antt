@@ -11,16 +11,14 @@ pub returns-in-Text-clause-lists : goal.returns-in-Text-clause-lists
 returns-in-Text-clause-lists c =
     let is : c.args.message ≡ text_of c.new.result = c.in-Text.is ∙ sym (ap text_of c.new.ensures.place) in
     rw (← c.self.view_is, is) (texts_listed (audit_stored c.self.inside.state) _ (Some (text_of c.new.result))
-    c.take_text.result refl refl refl (λ judged h. text_counts _ judged _ _ _)
-    c.take_text.ensures.holds c.take_text.ensures.added)
+    c.take_text.result refl refl refl (λ judged h. text_counts _ judged _ _ _) c.take_text.ensures)
 
 pub returns-in-Name-clause-lists : goal.returns-in-Name-clause-lists
 returns-in-Name-clause-lists c =
     let is : c.args.message ≡ name_of c.new-in-Name.result = c.in-Name.is
     ∙ sym (ap name_of c.new-in-Name.ensures.place) in
     rw (← c.self.view_is, is) (names_listed (audit_stored c.self.inside.state) _ (Some (name_of c.new-in-Name.result))
-    c.take.result refl refl refl (λ judged h. name_counts _ judged _ _ _)
-    c.take.ensures.holds c.take.ensures.added)
+    c.take.result refl refl refl (λ judged h. name_counts _ judged _ _ _) c.take.ensures)
 
 pub returns-then-awaits_text-clause-lists : goal.returns-then-awaits_text-clause-lists
 returns-then-awaits_text-clause-lists c =
@@ -37,7 +35,7 @@ returns-else-awaits_text-clause-lists c =
     (λ judged h. elim (rw (← c.self.view_is) at (c.awaits_text.ensures.begun c.if-awaits_text.false)) [
       | inl complete ↦ tags_complete _ judged c.in-Tags.pair complete
       | inr open_now ↦ tags_count _ judged c.in-Tags.pair (sym (text_open _ judged _ h) ∙ open_now)
-    ]) c.take_text_tags.ensures.holds c.take_text_tags.ensures.added)
+    ]) c.take_text_tags.ensures)
 
 pub returns-in-Announce-clause-lists : goal.returns-in-Announce-clause-lists
 returns-in-Announce-clause-lists c = elim c.in-Announce.is [

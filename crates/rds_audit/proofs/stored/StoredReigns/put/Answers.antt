@@ -4,9 +4,6 @@ use Rattle.rds_audit.specs.declared.audited.Measured.{Measured}
 use Rattle.rds_audit.specs.Stored.{cell_stored}
 use Rattle.rds_audit.proofs.stored.StoredReigns.put.Goals as goal
 
-pub returns-clause-fits : goal.returns-clause-fits
-returns-clause-fits g c = ap (λ (m : Measured). m.fits) c.measure-measured.ensures
-
 pub returns-clause-taken : goal.returns-clause-taken
 returns-clause-taken g c = λ i. record {
   cells = map-set cell_stored c.args.self.now.cells c.args.address record
