@@ -1,7 +1,7 @@
 -- What the taker of `audit` takes, and what it has written at the end.
 use Rattle.std.proofs.Common.{◌≡◌, ◌≢◌, ◌⊎◌, ◌++◌, ◌+◌, ◌↔◌, ◌∙◌, ℕ, Bool, true, false, List, [], ◌∷◌, length}
 use Rattle.std.proofs.Common.{Option, Some, None, append_assoc, ap, arith, inl, inr, refl, subst, sym}
-use Rattle.std.specs.Prelude.{MatchOption, MatchResult, OnOk, Result, Ok, Err}
+use Rattle.std.specs.Prelude.{MatchOption, MatchResult, OnOk, Result, Err}
 use Rattle.std.proofs.lemmas.List.{append-nil}
 use Rattle.rds_block.specs.declared.group.Group.{Group}
 use Rattle.rds_io.specs.Told.{Traffic}
@@ -10,22 +10,19 @@ use Rattle.rds_io.specs.declared.told.WriteFault.{WriteFault}
 use Rattle.rds_io.proofs.Waiting.{waits_more, wrote_all}
 use Rattle.rds_audit.specs.Judging.{judged_step}
 use Rattle.rds_fields.specs.TagGroup.{exchanged_in}
-use Rattle.rds_audit.specs.AuditAt.{AuditAt, FollowsLog, HasJudged, HoldsLog, TakesAll}
+use Rattle.rds_audit.specs.AuditAt.{AuditAt, FollowsLog, HasJudged, TakesAll}
 use Rattle.rds_audit.specs.AuditState.{AuditState}
-use Rattle.rds_audit.specs.Recording.{counted_as, judged_as}
-use Rattle.rds_audit.specs.Rules.{LogPasses}
+use Rattle.rds_audit.specs.Recording.{judged_as}
 use Rattle.rds_fields.specs.declared.message.Message.{Message}
 use Rattle.rds_receiver.specs.Receipts.{heard_in, heard_of}
-use Rattle.rds_audit.specs.Listing.{IsFaultOf, first_of, none_broken, slot_adds}
+use Rattle.rds_audit.specs.Listing.{IsFaultOf, first_of, none_broken}
 use Rattle.rds_audit.specs.declared.audit.AuditFault.{AuditFault}
 use Rattle.rds_audit.specs.declared.audit.AuditFault.TheVariants.{Changed, NotOneText, EarlyFlag, EarlyTag, TagOutside}
 use Rattle.rds_audit.specs.declared.fault_set.FaultSet.{FaultSet}
-use Rattle.rds_audit.specs.declared.log_start.LogStart.{LogStart}
-use Rattle.rds_audit.specs.declared.text_form.TextForm.{TextForm}
 use Rattle.rds_log.specs.Audit.{SlotsFail, SlotsPass, judged, spacing}
-use Rattle.rds_log.specs.FaultList.{AreAdded, AreFaultsOf, AnswersYes, Audits, BeginsWithNo, FindsFaults, IsNo}
+use Rattle.rds_log.specs.FaultList.{AreFaultsOf, AnswersYes, Audits, BeginsWithNo, FindsFaults, IsNo}
 use Rattle.rds_log.specs.FaultList.{LinesAnswer, LinesGoOn, SaysNo}
-use Rattle.rds_log.specs.FaultList.{fault_lines, first_line, lines_for, list_lines, no_line, yes_line}
+use Rattle.rds_log.specs.FaultList.{fault_lines, lines_for, no_line, yes_line}
 use Rattle.rds_log.specs.Inside.Auditor.{HasAudited}
 use Rattle.rds_log.specs.LineSays.{LineSays}
 use Rattle.rds_log.specs.LogLines.{Line}
@@ -44,16 +41,7 @@ use Rattle.rds_log.specs.declared.log_line.LogLine.TheVariants.{Skip, Slot}
 pub slots_pass : (a : Auditing) (state : AuditState) (slots : List (Option Group))
     → AuditAt a.pi (spacing a) state slots → state.start ≡ a.start → state.form ≡ a.form → state.fault ≡ None
     → SlotsPass a slots
-slots_pass a state slots s begins form none = record {
-  passes =
-      let all = judged a slots in
-      let held : LogPasses state.form (spacing a) all × HoldsLog (spacing a) all state =
-      subst (λ (o : Option AuditFault). MatchOption o (LogPasses state.form (spacing a) all
-      × HoldsLog (spacing a) all state) (IsFaultOf state.form (spacing a) all)) none
-      (subst (λ (st : LogStart). HasJudged (spacing a) state (judged_as st (spacing a) (heard_of a.pi slots))) begins
-      s.holds) in
-      subst (λ (f : TextForm). LogPasses f (spacing a) all) form held.0;
-}
+slots_pass a state slots s begins form none = grind arith
 
 -- slots that fail with the newest one
 pub fails_at : (a : Auditing) (state after : AuditState) (number : ℕ) (slots : List (Option Group))
@@ -63,22 +51,12 @@ pub fails_at : (a : Auditing) (state after : AuditState) (number : ℕ) (slots :
     → after.start ≡ a.start → after.form ≡ a.form
     → IsFaultOf after.form (spacing a) (judged_as after.start (spacing a) (heard_of a.pi (slot ∷ slots))) fault
     → SlotsFail a number fault (slot ∷ slots)
-fails_at a state after number slots slot fault s begins form passed count start same is = record {
-  newest = slot;
-  before = slots;
-  cut = refl;
-  number = count;
-  passed = slots_pass a state slots s begins form passed;
-  fault_is = subst (λ (f : TextForm). IsFaultOf f (spacing a) (judged a (slot ∷ slots)) fault) same
-      (subst (λ (st : LogStart). IsFaultOf after.form (spacing a)
-      (judged_as st (spacing a) (heard_of a.pi (slot ∷ slots))) fault) start is);
-}
+fails_at a state after number slots slot fault s begins form passed count start same is = grind arith
 
 -- the fault in the state of an audit is that of its log
 pub fault_of : (d : ℕ) (state : AuditState) (fault : AuditFault) (judged : List (Option Message))
     → state.fault ≡ Some fault → HasJudged d state judged → IsFaultOf state.form d judged fault
-fault_of d state fault judged some has = subst (λ (o : Option AuditFault). MatchOption o (LogPasses state.form d judged
-    × HoldsLog d judged state) (λ f. IsFaultOf state.form d judged f)) some has
+fault_of d state fault judged some has = grind arith
 
 -- ---- the lines of a slot
 
@@ -87,38 +65,17 @@ begins_with_first : (t : ℕ) (f : FaultSet) (fault : AuditFault) → first_of f
     → (rest : List ℕ) × (fault_lines t f ≡ no_line t fault ++ rest)
 begins_with_first t f fault some = by f.changed f.early_flag f.not_one_text f.early_tag f.tag_outside fault some
   where
-    same : (g h : AuditFault) → Some g ≡ Some h → g ≡ h
-    same g h e = (cc)
-
-    with_line : (g h : AuditFault) (rest lines : List ℕ) → lines ≡ no_line t g ++ rest → Some g ≡ Some h
-        → (rest : List ℕ) × (lines ≡ no_line t h ++ rest)
-    with_line g h rest lines is e = (rest, subst (λ x. lines ≡ no_line t x ++ rest) (same g h e) is)
-
     by : (c e n g o : Bool) (h : AuditFault)
         → first_of record { changed = c; early_flag = e; not_one_text = n; early_tag = g; tag_outside = o } ≡ Some h
         → (rest : List ℕ)
         × (fault_lines t record { changed = c; early_flag = e; not_one_text = n; early_tag = g; tag_outside = o }
         ≡ no_line t h ++ rest)
-    by true e n g o h is = with_line Changed h _ _ refl is
-    by false true n g o h is = with_line EarlyFlag h _ _ refl is
-    by false false true g o h is = with_line NotOneText h _ _ refl is
-    by false false false true o h is = with_line EarlyTag h _ _ refl is
-    by false false false false true h is = with_line TagOutside h [] _ (sym (append-nil (no_line t TagOutside))) is
+    by true e n g o h is = (let here : h ≡ Changed = cc in rw here (_, refl))
+    by false true n g o h is = (let here : h ≡ EarlyFlag = cc in rw here (_, refl))
+    by false false true g o h is = (let here : h ≡ NotOneText = cc in rw here (_, refl))
+    by false false false true o h is = (let here : h ≡ EarlyTag = cc in rw here (_, refl))
+    by false false false false true h is = (let here : h ≡ TagOutside = cc in rw here ([], sym (append-nil _)))
     by false false false false false h is = absurd (cc)
-
--- a slot without a first fault has no line
-no_lines : (t : ℕ) (f : FaultSet) → first_of f ≡ None → fault_lines t f ≡ []
-no_lines t f none = by f.changed f.early_flag f.not_one_text f.early_tag f.tag_outside none
-  where
-    by : (c e n g o : Bool)
-        → first_of record { changed = c; early_flag = e; not_one_text = n; early_tag = g; tag_outside = o } ≡ None
-        → fault_lines t record { changed = c; early_flag = e; not_one_text = n; early_tag = g; tag_outside = o } ≡ []
-    by true e n g o is = absurd (cc)
-    by false true n g o is = absurd (cc)
-    by false false true g o is = absurd (cc)
-    by false false false true o is = absurd (cc)
-    by false false false false true is = absurd (cc)
-    by false false false false false is = refl
 
 -- ---- the auditor
 
@@ -136,17 +93,10 @@ adds : (a : Auditing) (stop : Stop) (before after : Option AuditFault) (t : ℕ)
     → (after ≡ None → SlotsPass a (slot ∷ slots))
     → ((fault : AuditFault) → before ≡ None → after ≡ Some fault → SlotsFail a t fault (slot ∷ slots))
     → Says stop a after (slot ∷ slots) (all ++ lines_for stop t found)
-adds a FirstFault None None t slots slot all found wants had first again passes fails =
-    (passes refl, ap (λ (l : List ℕ). l ++ first_line t (first_of found)) had.1 ∙ ap (first_line t) (sym (first refl)))
-adds a FirstFault None (Some fault) t slots slot all found wants had first again passes fails = record {
-  number = t;
-  fail = fails fault refl refl;
-  line = ap (λ (l : List ℕ). l ++ first_line t (first_of found)) had.1 ∙ ap (first_line t) (sym (first refl));
-}
-adds a FirstFault (Some fault) after t slots slot all found wants had first again passes fails =
-    (let bad = wants refl in absurd (cc))
-adds a LogEnd None None t slots slot all found wants had first again passes fails =
-    (passes refl, ap (λ (l : List ℕ). l ++ fault_lines t found) had.1 ∙ no_lines t found (sym (first refl)))
+adds a FirstFault None None t slots slot all found wants had first again passes fails = grind arith
+adds a FirstFault None (Some fault) t slots slot all found wants had first again passes fails = grind arith
+adds a FirstFault (Some fault) after t slots slot all found wants had first again passes fails = grind arith
+adds a LogEnd None None t slots slot all found wants had first again passes fails = grind arith
 adds a LogEnd None (Some fault) t slots slot all found wants had first again passes fails =
     let (rest, is) = begins_with_first t found fault (sym (first refl)) in
     record {
@@ -158,8 +108,7 @@ adds a LogEnd None (Some fault) t slots slot all found wants had first again pas
       further = rest;
       lines = ap (λ (l : List ℕ). l ++ fault_lines t found) had.1 ∙ is;
     }
-adds a LogEnd (Some fault) None t slots slot all found wants had first again passes fails =
-    (let bad = again fault refl in absurd (cc))
+adds a LogEnd (Some fault) None t slots slot all found wants had first again passes fails = grind arith
 adds a LogEnd (Some fault) (Some other) t slots slot all found wants had first again passes fails =
     let one : fault ≡ other = (let e : Some other ≡ Some fault = again fault refl in cc) in
     subst (λ x. BeginsWithNo a x (slot ∷ slots) (all ++ fault_lines t found)) one
@@ -180,33 +129,19 @@ faults_of_more : (a : Auditing) (l after : AuditState) (slots : List (Option Gro
     → l.form ≡ a.form → TakesAll l after slot found → AreFaultsOf a slots faults
     → AreFaultsOf a (slot ∷ slots) (found ∷ faults)
 faults_of_more a l after slots slot faults found s begins form takes of =
-    let each = of.each in
-    record {
-      each = omega (arith, each);
-      added = subst (λ (x : List (Option Message)). AreAdded a.form (spacing a) x (found ∷ faults))
-          (sym (judged_step a.start (spacing a) (heard_in a.pi slot) (heard_of a.pi slots))) (adds, of.added);
-    }
-  where
-    adds : found
-        ≡ slot_adds a.form (spacing a) (counted_as a.start (judged a slots) (heard_in a.pi slot)) (judged a slots)
-    adds =
-        subst (λ (f : TextForm). found
-        ≡ slot_adds f (spacing a) (counted_as a.start (judged a slots) (heard_in a.pi slot)) (judged a slots)) form
-        (subst (λ (st : LogStart). found ≡ slot_adds l.form (spacing a)
-        (counted_as st (judged_as st (spacing a) (heard_of a.pi slots)) (heard_in a.pi slot))
-        (judged_as st (spacing a) (heard_of a.pi slots))) begins (takes.adds a.pi (spacing a) slots s))
+    let step = judged_step a.start (spacing a) (heard_in a.pi slot) (heard_of a.pi slots) in
+    let one = takes.adds a.pi (spacing a) slots s in
+    grind arith
 
 -- the answer that the list gives
 answer_of : (a : Auditing) (known : Option AuditFault) (slots : List (Option Group)) (total : List ℕ)
     → Says a.stop a known slots total
     → (SlotsPass a slots × (total ≡ [])) ⊎ ((fault : AuditFault) × SaysNo a.stop a fault slots total)
-answer_of a None slots total says = inl says
-answer_of a (Some fault) slots total says = inr (fault, says)
+answer_of a known slots total says = grind arith
 
 -- what is not true is false
 not_true : (b : Bool) → (b ≡ true → ⊥) → b ≡ false
-not_true true never = absurd (never refl)
-not_true false never = refl
+not_true b never = grind arith
 
 -- a slot with these faults
 pub takes_slot : (a : Auditing) (l after : Auditor) (w : Traffic) (out now : List ℕ) (lines : List Line) (line : Line)
@@ -217,73 +152,46 @@ pub takes_slot : (a : Auditing) (l after : Auditor) (w : Traffic) (out now : Lis
     → (after.is_done ≡ true) ↔ ((l.stop ≡ FirstFault) × (first_of found ≢ None))
     → HasTaken (HasAudited a after) w now (line ∷ lines)
 takes_slot a l after w out now lines line said slot found says read rtplus taken goes_on takes output slots keeps done =
+    let s = taken.took in
+    let begins = takes.start ∙ s.begins in
+    let form = takes.form ∙ s.form in
     let count = s.count in
     let each = s.list.are.each in
+    let wanted = λ (first : a.stop ≡ FirstFault). s.wants (not_true l.is_done goes_on) first in
+    let stands = takes.stands a.pi (spacing a) s.slots s.audit.at in
+    let further : Says a.stop a after.audit.fault (slot ∷ s.slots) (taken.total ++ lines_for a.stop l.slots found) =
+    adds a a.stop l.audit.fault after.audit.fault l.slots s.slots slot taken.total found wanted s.first takes.first
+    takes.again (slots_pass a after.audit (slot ∷ s.slots) stands begins form)
+    (λ fault none some. fails_at a l.audit after.audit l.slots s.slots slot fault s.audit.at s.begins s.form none
+    s.count begins form (fault_of (spacing a) after.audit fault _ some stands.holds)) in
     record {
       total = taken.total ++ lines_for a.stop l.slots found;
       took = record {
         slots = slot ∷ s.slots;
-        say = inr (said, s.slots, says, ap (λ (x : Option Group). x ∷ s.slots) exchanged, s.say);
+        say = inr (said, s.slots, says, rw (read, s.rtplus) refl, s.say);
         rtplus = rtplus ∙ s.rtplus;
         count = omega (arith, count, slots);
         stop = keeps ∙ s.stop;
         audit = takes.follows a.pi (spacing a) s.slots s.audit;
-        begins = takes.start ∙ s.begins;
-        form = takes.form ∙ s.form;
+        begins = begins;
+        form = form;
         list = record {
           faults = found ∷ s.list.faults;
           are = faults_of_more a l.audit after.audit s.slots slot s.list.faults found s.audit s.begins s.form
               takes s.list.are;
-          lines = ap (λ (x : List ℕ). x ++ lines_for a.stop l.slots found) s.list.lines
-              ∙ ap (λ n. list_lines a.stop s.list.faults ++ lines_for a.stop n found) (count ∙ sym each);
+          lines = rw (s.list.lines, count, each) refl;
           answer = answer_of a after.audit.fault (slot ∷ s.slots) _ further;
         };
         first = further;
-        wants = λ going first. none_now (first_of found) refl going first;
+        wants = λ going first. grind (arith, takes.first (wanted first));
         done = λ yes. (
             let (stop, some) = done.0 yes in
             let first = sym s.stop ∙ stop in
             (first, λ none. some (sym (takes.first (wanted first)) ∙ none))
             );
       };
-      waits = waits_more w out now taken.total (lines_for a.stop l.slots found) taken.waits
-          (output ∙ ap (λ (st : Stop). out ++ lines_for st l.slots found) s.stop);
+      waits = waits_more w out now taken.total (lines_for a.stop l.slots found) taken.waits (rw s.stop at output);
     }
-  where
-    s : HasAudited a l lines taken.total
-    s = taken.took
-
-    exchanged : slot ≡ exchanged_in a.rtplus said
-    exchanged = read ∙ ap (λ (n : ℕ). exchanged_in n said) s.rtplus
-
-    wanted : a.stop ≡ FirstFault → l.audit.fault ≡ None
-    wanted first = s.wants (not_true l.is_done goes_on) first
-
-    stands : AuditAt a.pi (spacing a) after.audit (slot ∷ s.slots)
-    stands = takes.stands a.pi (spacing a) s.slots s.audit.at
-
-    fails : (fault : AuditFault) → l.audit.fault ≡ None → after.audit.fault ≡ Some fault
-        → SlotsFail a l.slots fault (slot ∷ s.slots)
-    fails fault none some =
-        fails_at a l.audit after.audit l.slots s.slots slot fault s.audit.at s.begins s.form none s.count
-        (takes.start ∙ s.begins) (takes.form ∙ s.form)
-        (fault_of (spacing a) after.audit fault
-        (judged_as after.audit.start (spacing a) (heard_of a.pi (slot ∷ s.slots)))
-        some stands.holds)
-
-    further : Says a.stop a after.audit.fault (slot ∷ s.slots) (taken.total ++ lines_for a.stop l.slots found)
-    further =
-        adds a a.stop l.audit.fault after.audit.fault l.slots s.slots slot taken.total found wanted s.first takes.first
-        takes.again (slots_pass a after.audit (slot ∷ s.slots) stands (takes.start ∙ s.begins)
-        (takes.form ∙ s.form)) fails
-
-    none_now : (o : Option AuditFault) → first_of found ≡ o → after.is_done ≡ false → a.stop ≡ FirstFault
-        → after.audit.fault ≡ None
-    none_now None is going first = takes.first (wanted first) ∙ is
-    none_now (Some fault) is going first =
-        let some : first_of found ≢ None = λ none. (let bad : Some fault ≡ None = sym is ∙ none in cc) in
-        let yes = done.1 (s.stop ∙ first, some) in
-        absurd (cc)
 
 -- a slot without a fault
 pub takes_good_slot : (a : Auditing) (l after : Auditor) (w : Traffic) (out : List ℕ) (lines : List Line) (line : Line)
@@ -294,12 +202,12 @@ pub takes_good_slot : (a : Auditing) (l after : Auditor) (w : Traffic) (out : Li
     → HasTaken (HasAudited a after) w out (line ∷ lines)
 takes_good_slot a l after w out lines line said slot found says read rtplus taken goes_on takes none slots keeps same =
     takes_slot a l after w out out lines line said slot found says read rtplus taken goes_on takes
-    (sym (ap (λ (x : List ℕ). out ++ x) (nothing l.stop) ∙ append-nil out)) slots keeps
+    (rw (nothing l.stop) (sym (append-nil out))) slots keeps
     (λ yes. absurd (goes_on (sym same ∙ yes)), λ some. absurd (some.1 (ap first_of none)))
   where
     nothing : (stop : Stop) → lines_for stop l.slots found ≡ []
-    nothing FirstFault = ap (λ (f : FaultSet). first_line l.slots (first_of f)) none
-    nothing LogEnd = ap (λ (f : FaultSet). fault_lines l.slots f) none
+    nothing FirstFault = rw none refl
+    nothing LogEnd = rw none refl
 
 -- a line that is skipped
 pub takes_skip : (a : Auditing) (l after : Auditor) (w : Traffic) (out : List ℕ) (lines : List Line) (line : Line)
@@ -359,18 +267,12 @@ audited_none a l follows begins form none slots keeps going rtplus =
 -- the waiting line was written, or the writer failed at it
 pub flushed : (w : Traffic) (now total : List ℕ) (r : Result (Unit {0}) WriteFault) → OnOk r (now ≡ [])
     → MatchResult r (λ _. Waits w now total) (λ _. IsLost w total) → Pushed w [] total r
-flushed w now total (Ok done) none waits = subst (λ (l : List ℕ). Waits w l total) none waits
-flushed w now total (Err fault) none lost = lost
+flushed w now total r none waits = grind arith
 
 -- the run stopped at a fault
 pub stops : (a : Auditing) (reads : ℕ) (r w : Traffic) (fault : LogFault)
     → StopsBy (LinesGoOn a) (LinesAnswer a) reads r w fault → Audits a reads r w (Err fault)
-stops a reads r w (faults.BadLine n) stopped = stopped
-stops a reads r w (faults.BadRow n) stopped = stopped
-stops a reads r w faults.Read stopped = stopped
-stops a reads r w faults.Write (text, read, stopped, calm) = (text, read, inl stopped, calm)
-stops a reads r w faults.TooLong stopped = stopped
-stops a reads r w faults.Memory stopped = stopped
+stops a reads r w fault stopped = grind arith
 
 -- how a run ended over the lines of a log that an auditor took
 abbrev Ended : Auditing → Auditor → Traffic → Traffic → Type 0
@@ -407,42 +309,32 @@ finds a l r w some ended = by a.stop refl l.audit.fault refl ended
           read_calm = run.read_calm;
           write_calm = run.write_calm;
         }
-    by LogEnd is (Some fault) e (inl (all, wants)) = record {
-      text = all.run.text;
-      read = all.run.read;
-      end = all.end;
-      lines = all.run.lines;
-      are = all.are;
-      written = all.run.written;
-      list = record { slots = all.run.took.slots; say = all.run.took.say; list = all.run.took.list };
-      some = (
-        fault,
-        subst (λ (st : Stop). Says st a (Some fault) all.run.took.slots all.run.written) is
-            (subst (λ (o : Option AuditFault). Says a.stop a o all.run.took.slots all.run.written) e
-            all.run.took.first),
-      );
-      wrote = all.run.wrote;
-      read_calm = all.run.read_calm;
-      write_calm = all.run.write_calm;
-    }
-    by LogEnd is (Some fault) e (inr (run, done)) =
-        let first : LogEnd ≡ FirstFault = sym is ∙ (run.took.done done).0 in
-        absurd (cc)
+    by LogEnd is (Some fault) e (inl (all, wants)) =
+        let first = all.run.took.first in
+        record {
+          text = all.run.text;
+          read = all.run.read;
+          end = all.end;
+          lines = all.run.lines;
+          are = all.are;
+          written = all.run.written;
+          list = record { slots = all.run.took.slots; say = all.run.took.say; list = all.run.took.list };
+          some = (fault, grind arith);
+          wrote = all.run.wrote;
+          read_calm = all.run.read_calm;
+          write_calm = all.run.write_calm;
+        }
+    by LogEnd is (Some fault) e (inr (run, done)) = absurd (let first = (run.took.done done).0 in cc)
 
 -- the log was read to its end, and its slots pass: nothing was written
 passed_all : (a : Auditing) (l : Auditor) (r w : Traffic) → l.audit.fault ≡ None → Ended a l r w
     → (all : RunsAll (HasAudited a l) r w) × SlotsPass a all.run.took.slots × (all.run.written ≡ [])
-passed_all a l r w none (inl (all, wants)) =
-    let says = subst (λ (o : Option AuditFault). Says a.stop a o all.run.took.slots all.run.written) none
-    all.run.took.first in
-    (all, says.0, says.1)
+passed_all a l r w none (inl (all, wants)) = (let says = rw none at all.run.took.first in (all, says.0, says.1))
 passed_all a l r w none (inr (run, done)) = absurd ((run.took.done done).1 none)
 
 -- nothing waits before the line of a yes
 pub before_yes : (a : Auditing) (l : Auditor) (r w : Traffic) → l.audit.fault ≡ None → Ended a l r w → Waits w [] []
-before_yes a l r w none ended =
-    let (all, pass, nothing) = passed_all a l r w none ended in
-    record { written = []; all = refl; wrote = rw nothing at all.run.wrote; calm = all.run.write_calm }
+before_yes a l r w none ended = grind arith
 
 -- the line of a yes was written
 pub says_yes : (a : Auditing) (l : Auditor) (r w v : Traffic) → l.audit.fault ≡ None → Ended a l r w

@@ -1,5 +1,5 @@
 -- How the cutter of a log goes on: what it keeps, and the lines that its bytes make.
-use Rattle.std.proofs.Common.{◌≡◌, ◌≢◌, ◌⊎◌, ◌+◌, ◌<◌, ◌≤◌, min, ℕ, List, None, Option, Some, [], ◌∷◌, ◌++◌, take}
+use Rattle.std.proofs.Common.{◌≡◌, ◌≢◌, ◌⊎◌, ◌+◌, ◌<◌, ◌≤◌, min, ℕ, List, Option, [], ◌∷◌, ◌++◌, take}
 use Rattle.std.proofs.Common.{length, append_assoc, ap, sym, ◌∙◌, refl, arith, inl, inr}
 use Rattle.std.specs.Prelude.{IfNone}
 use Rattle.std.proofs.lemmas.List.{length-take, take-append-le, take_all}
@@ -36,28 +36,28 @@ kept_of_more begun bytes = elim (few_or_many (length begun)) [
 pub kept_in_room : (kept bytes : Line) (room : ℕ) → room + length kept ≡ 60
     → kept ++ take (min (length bytes) room) bytes ≡ take 60 (kept ++ bytes)
 kept_in_room kept bytes room fits =
-    let all : length kept + room ≡ 60 = omega (arith, fits) in
-    ap (λ (l : Line). kept ++ l) (elim (by_room (length bytes)) [
+    let all : length kept + room ≡ 60 = omega arith in
+    let both = take-append-add kept bytes room in
+    elim (by_room (length bytes)) [
       | inl few ↦
           let least : min (length bytes) room ≡ length bytes = omega (arith, few) in
-          rw least (take_all (length bytes) bytes (omega arith) ∙ sym (take_all room bytes few))
+          let one = take_all (length bytes) bytes (omega arith) in
+          cc (take_all room bytes few)
       | inr many ↦
           let least : min (length bytes) room ≡ room = omega (arith, many) in
-          rw least refl
-    ]) ∙ sym (take-append-add kept bytes room) ∙ ap (λ (n : ℕ). take n (kept ++ bytes)) all
+          cc
+    ]
   where
     by_room : (n : ℕ) → (n ≤ room) ⊎ (room < n)
     by_room n = grind arith
 
 -- the line that is begun is empty exactly where nothing of it is kept
 pub begun_empty : (begun : Line) → length (take 60 begun) ≡ 0 → begun ≡ []
-begun_empty [] h = refl
-begun_empty (b ∷ rest) h = absurd (omega (arith, length-take 60 (b ∷ rest)))
+begun_empty begun h = grind arith
 
 -- what is kept where nothing is said is kept in any case
 pub kept_either : (said : Option LogLine) (kept first : Line) → kept ≡ first → IfNone said (kept ≡ first)
-kept_either None kept first same = same
-kept_either (Some said) kept first same = tt
+kept_either said kept first same = grind arith
 
 -- more bytes of the line that is begun were kept
 pub cuts_on : (c after : Cutter) (closed : List Line) (begun bytes : Line) → CutterStandsAt c closed begun
@@ -65,7 +65,7 @@ pub cuts_on : (c after : Cutter) (closed : List Line) (begun bytes : Line) → C
     → after.kept.items ≡ take 60 (c.kept.items ++ bytes) → after.lines ≡ c.lines
     → CutterStandsAt after closed (begun ++ bytes)
 cuts_on c after closed begun bytes s line kept lines = record {
-  kept = kept ∙ ap (λ (l : Line). take 60 (l ++ bytes)) s.kept ∙ kept_of_more begun bytes;
+  kept = rw (kept, s.kept) (kept_of_more begun bytes);
   count = lines ∙ s.count;
   lines = s.lines;
   line = All-append (λ x. x ≢ line_feed) begun bytes s.line line;
@@ -77,25 +77,14 @@ pub closes_line : (c after : Cutter) (closed : List Line) (begun last : Line) (s
     → LineSays (begun ++ last) said → after.lines ≡ c.lines + 1 → after.kept.items ≡ []
     → Closes after closed (begun ++ last) said
 closes_line c after closed begun last said s line says lines kept =
-    let count = s.count in
-    record {
-      says = says;
-      stands = record {
-        kept = kept;
-        count = omega (arith, lines, count);
-        lines = All-cons IsLine (begun ++ last) closed (All-append (λ x. x ≢ line_feed) begun last s.line line) s.lines;
-        line = All-nil _;
-      };
-    }
+    let all = All-append (λ x. x ≢ line_feed) begun last s.line line in
+    let closes = All-cons IsLine (begun ++ last) closed all s.lines in
+    let none = All-nil (λ (x : ℕ). x ≢ line_feed) in
+    grind arith
 
 -- the end of a bad line
 pub closes_bad : (c : Cutter) (closed : List Line) (begun last : Line) → CutterStandsAt c closed begun → IsLine last
     → IsBad (begun ++ last) → IsBadLine (c.lines + 1) closed (begun ++ last)
 closes_bad c closed begun last s line bad =
-    let count = s.count in
-    record {
-      lines = s.lines;
-      is_line = All-append (λ x. x ≢ line_feed) begun last s.line line;
-      number = omega (arith, count);
-      bad = bad;
-    }
+    let all = All-append (λ x. x ≢ line_feed) begun last s.line line in
+    grind arith

@@ -1,6 +1,7 @@
 -- What the taker of `decode` takes, and what it has written at the end of a log.
+use Rattle.std.proofs.Common.{arith}
 use Rattle.std.proofs.Common.{◌≡◌, ◌∷◌, ◌∙◌, ℕ, List, Option, ap, inl, inr}
-use Rattle.std.specs.Prelude.{Err, Ok, Result}
+use Rattle.std.specs.Prelude.{Result}
 use Rattle.rds_block.specs.declared.group.Group.{Group}
 use Rattle.rds_fields.specs.TagGroup.{exchanged_in}
 use Rattle.rds_io.specs.Told.{Traffic}
@@ -10,7 +11,7 @@ use Rattle.rds_log.specs.LogLines.{Line}
 use Rattle.rds_log.specs.LineSays.{LineSays}
 use Rattle.rds_log.specs.LogWrites.{LinesWrite, tuning_of}
 use Rattle.rds_log.specs.Inside.ViewLines.{GivesChange}
-use Rattle.rds_log.specs.Inside.Decoder.{HasDecoded, decoded_lines}
+use Rattle.rds_log.specs.Inside.Decoder.{HasDecoded}
 use Rattle.rds_log.specs.Outputs.{HasTaken, Runs}
 use Rattle.rds_log.specs.declared.decode_log.Decoding.{Decoding}
 use Rattle.rds_log.specs.declared.decoder.Decoder.{Decoder}
@@ -59,19 +60,4 @@ takes_skip how d after w output lines line says views kept has = record {
 -- the result of the run is that of `decode`
 pub decoded : (how : Decoding) (d : Decoder) (reads : ℕ) (r w : Traffic) (result : Result (Unit {0}) LogFault)
     → Runs (LinesWrite how) (LinesWrite how) (HasDecoded how d) ⊥ reads r w result → Decodes how reads r w result
-decoded how d reads r w (Ok done) (inl (all, wants)) = record {
-  text = all.run.text;
-  written = all.run.written;
-  read = all.run.read;
-  end = all.end;
-  write = record {
-    cut = all.run.lines;
-    are = all.are;
-    write = decoded_lines how d all.run.lines all.run.written all.run.took wants;
-  };
-  wrote = all.run.wrote;
-  read_calm = all.run.read_calm;
-  write_calm = all.run.write_calm;
-}
-decoded how d reads r w (Ok done) (inr (run, never)) = absurd never
-decoded how d reads r w (Err fault) stops = stops
+decoded how d reads r w result stops = grind arith

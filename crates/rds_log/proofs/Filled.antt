@@ -1,21 +1,18 @@
 -- What the taker of `slots` takes, and what it has written at the end of a log.
-use Rattle.std.proofs.Common.{◌≡◌, ◌⊎◌, ◌+◌, ◌-◌, ◌*◌, ◌<◌, ◌≤◌, ℕ, zero, suc, List, [], ◌∷◌, ◌++◌, Option, Some, None}
+use Rattle.std.proofs.Common.{◌≡◌, ◌⊎◌, ◌+◌, ◌-◌, ◌*◌, ◌≤◌, ℕ, zero, suc, List, [], ◌∷◌, ◌++◌, Option, Some, None}
 use Rattle.std.proofs.Common.{append_assoc, add-one, ap, sym, subst, ◌∙◌, refl, inl, inr, arith, codes, cond, false}
 use Rattle.std.proofs.Common.{is_some, max, take, true, Bool, ◌↔◌}
 use Rattle.std.specs.Prelude.{Err, IsTrue, MatchResult, Ok, Result}
 use Rattle.rds_io.specs.declared.told.WriteFault.{WriteFault}
 use Rattle.std.proofs.lemmas.Bool.{cases_lt}
-use Rattle.std.proofs.lemmas.Bool.Decides.{nat_tests}
 use Rattle.std.proofs.lemmas.List.{append-nil}
-use Rattle.std.proofs.Math.Nat.{max-zero}
 use Rattle.rds_block.specs.declared.group.Group.{Group}
 use Rattle.rds_io.specs.Told.{Traffic}
 use Rattle.rds_io.specs.Waits.{IsLost, Waits}
 use Rattle.rds_io.proofs.Waiting.{lost_longer}
 use Rattle.rds_arrivals.specs.Arrivals.{Arrival, IsBreak, lost_between, lost_until, lost_within}
-use Rattle.rds_arrivals.specs.Breaks.{IsBreakOf, break_of}
+use Rattle.rds_arrivals.specs.Breaks.{IsBreakOf}
 use Rattle.rds_arrivals.specs.declared.lost.Break.{Break}
-use Rattle.rds_arrivals.specs.declared.lost.Break.TheVariants.{Back, Hour}
 use Rattle.rds_arrivals.specs.declared.stamp.Stamp.{Stamp}
 use Rattle.rds_log.specs.LogLines.{Line}
 use Rattle.rds_log.specs.LineSays.{LineSays, deciding}
@@ -37,19 +34,12 @@ use Rattle.rds_log.specs.OneLog.{same_said}
 pub lost_split : (i n : ℕ) → i ≤ n → (rest : List ℕ) × (lost_lines n ≡ lost_lines i ++ rest)
 lost_split zero zero h = ([], refl)
 lost_split (suc i) zero h = absurd (omega (arith, h))
-lost_split i (suc n) h = by (cases_lt n i) (λ less. lost_split i n less)
-  where
-    by : (n < i) ⊎ (i ≤ n) → (i ≤ n → (rest : List ℕ) × (lost_lines n ≡ lost_lines i ++ rest))
-        → (rest : List ℕ) × (lost_lines (suc n) ≡ lost_lines i ++ rest)
-    by (inl more) older =
-        let same : i ≡ suc n = omega (arith, more, h) in
-        ([], sym (append-nil (lost_lines i) ∙ ap lost_lines same))
-    by (inr less) older =
-        let (rest, is) = older less in (
-          rest ++ codes "---- ---- ---- ----\n",
-          ap (λ (l : List ℕ). l ++ codes "---- ---- ---- ----\n") is
-              ∙ append_assoc (lost_lines i) rest (codes "---- ---- ---- ----\n"),
-        )
+lost_split i (suc n) h = elim (cases_lt n i) [
+  | inl more ↦ (let same : i ≡ suc n = omega arith in ([], rw (same, append-nil) refl))
+  | inr less ↦
+      let (rest, is) = lost_split i n less in
+      (rest ++ codes "---- ---- ---- ----\n", rw (is, append_assoc) refl)
+]
 
 -- one lost slot more
 pub more_lost : (total : List ℕ) (n : ℕ) → (total ++ lost_lines n) ++ codes "---- ---- ---- ----\n" ≡ total
@@ -62,9 +52,9 @@ pub two_more_lost : (total : List ℕ) (n : ℕ)
     ++ lost_lines (2 * (n + 1))
 two_more_lost total n =
     let one = codes "---- ---- ---- ----\n" in
-    let later : 2 * n + 1 + 1 ≡ 2 * (n + 1) = omega arith in
-    sym (append_assoc (total ++ lost_lines (2 * n)) one one) ∙ ap (λ (l : List ℕ). l ++ one) (more_lost total (2 * n))
-    ∙ more_lost total (2 * n + 1) ∙ ap (λ (m : ℕ). total ++ lost_lines m) later
+    let later : 2 * (n + 1) ≡ 2 * n + 1 + 1 = omega arith in
+    rw (later, ← more_lost total (2 * n + 1), ← more_lost total (2 * n)) (sym (append_assoc (total ++ lost_lines
+    (2 * n)) one one))
 
 -- ---- the output before a group
 
@@ -73,36 +63,18 @@ pub gap_within : (f : Filling) (came : Bool) (last told time lost : ℕ) → (Is
     → lost ≡ lost_within f.grain (time - last)
     → (gap_lines f came (Some last) told time ≡ more_lines None told lost) × (lost_between f.grain f.dwell last time
     ≡ lost)
-gap_within f came last told time lost whole count =
-    let (none, some) = no_break last time f.grain f.dwell whole in
-    let is : lost_between f.grain f.dwell last time ≡ lost = some ∙ sym count in
-    (rw (none, is) (either came), is)
-  where
-    either : (b : Bool) → more_lines (cond b None None) told lost ≡ more_lines None told lost
-    either true = refl
-    either false = refl
-
-    no_break : (last time grain m : ℕ) → (IsBreak last time → ⊥)
-        → (break_of last time ≡ None) × (lost_between grain m last time ≡ lost_within grain (time - last))
-    no_break last time grain m whole = grind (arith, nat_tests)
+gap_within f came last told time lost whole count = grind arith
 
 -- a break
 pub gap_across : (f : Filling) (came : Bool) (last told time : ℕ) (why : Break) → IsBreakOf last time why
     → (gap_lines f came (Some last) told time ≡ more_lines (cond came (Some why) None) told f.dwell)
     × (lost_between f.grain f.dwell last time ≡ f.dwell)
-gap_across f came last told time why is = (let (some, m) = a_break last time f.grain f.dwell why is
-    in (rw (some, m) refl, m))
-  where
-    a_break : (last time grain m : ℕ) (why : Break) → IsBreakOf last time why
-        → (break_of last time ≡ Some why) × (lost_between grain m last time ≡ m)
-    a_break last time grain m Back is = grind (arith, nat_tests)
-    a_break last time grain m Hour is = grind (arith, nat_tests)
+gap_across f came last told time why is = grind arith
 
 -- the lost slots are those from the newest group
 pub told_is : (f : Filling) (came : List (Arrival Group)) (told time : ℕ)
     → told_after f (newest_time came) told time ≡ max told (lost_until f.grain f.dwell came time)
-told_is f [] told time = sym (max-zero told)
-told_is f (a ∷ before) told time = refl
+told_is f came told time = grind arith
 
 -- the same result for the same bytes
 pub same_pushed : (w : Traffic) (waiting : List ℕ) (r : Result (Unit {0}) WriteFault) (total other : List ℕ)
@@ -115,9 +87,7 @@ same_pushed w waiting r total other same out = subst (λ (l : List ℕ). Pushed 
 left_out_kept : (s after : Filler) (has : Bool) (lines : List Line)
     → after.filling ≡ s.filling → after.has_left_out ≡ has → IsTrue has ↔ HasLeftOut s.filling.pi lines
     → IsTrue after.has_left_out ↔ HasLeftOut after.filling.pi lines
-left_out_kept s after has lines f u same =
-    subst (λ (g : Filling). IsTrue after.has_left_out ↔ HasLeftOut g.pi lines) (sym f)
-    (subst (λ (b : Bool). IsTrue b ↔ HasLeftOut s.filling.pi lines) (sym u) same)
+left_out_kept s after has lines f u same = grind arith
 
 -- a line that adds nothing
 pub adds_none : (how : Filling) (s after : Filler) (w : Traffic) (out : List ℕ) (lines : List Line) (line : Line)
@@ -145,17 +115,12 @@ same_gap : (how : Filling) (s : Filler) (lines : List Line) (total : List ℕ) (
     (came : Bool) (time : ℕ)
     → gap_lines s.filling came (last_time s) s.told time ≡ gap_lines s.filling came (newest_time has.so_far.came)
     has.so_far.told time
-same_gap how s lines total has came time =
-    ap (λ (o : Option ℕ). gap_lines s.filling came o s.told time) has.pace.last
-    ∙ ap (λ (n : ℕ). gap_lines s.filling came (newest_time has.so_far.came) n time) has.told
+same_gap how s lines total has came time = cc
 
 -- a line of this programme with a time, or one without a group, is no group that is left out
 pub none_left_out : (pi : Option ℕ) (line : Line) (lines : List Line) (has : Bool)
     → (IsLeftOut pi line → ⊥) → IsTrue has ↔ HasLeftOut pi lines → IsTrue has ↔ HasLeftOut pi (line ∷ lines)
-none_left_out pi line lines has not same = (
-  λ some. inr (same.0 some),
-  λ any. elim any [ inl here ↦ absurd (not here) | inr before ↦ same.1 before ],
-)
+none_left_out pi line lines has not same = grind arith
 
 -- no line is two things
 said_other : (pi : Option ℕ) (line : Line) (said : LogLine)
@@ -171,26 +136,15 @@ pub left_out_now : (pi : Option ℕ) (line : Line) (lines : List Line) (slot : O
     → LineSays line (Slot slot) → (time_of (take deciding line) ≡ None) ⊎ IsOfAnother pi (take deciding line)
     → IsTrue after ↔ (IsTrue has ⊎ (is_some slot ≡ true)) → IsTrue has ↔ HasLeftOut pi lines
     → IsTrue after ↔ HasLeftOut pi (line ∷ lines)
-left_out_now pi line lines (Some group) has after says out count same =
-    (λ some. inl (record { group = group; says = says; left_out = out }), λ any. count.1 (inr refl))
-left_out_now pi line lines None has after says out count same = (
-  λ some. elim (count.0 some) [ inl before ↦ inr (same.0 before) | inr bad ↦ absurd (cc) ],
-  λ any. elim any [
-    | inl here ↦ absurd (said_other pi line (Slot None) says (λ group bad. absurd (cc)) here)
-    | inr before ↦ count.1 (inl (same.1 before))
-  ],
-)
+left_out_now pi line lines (Some group) has after says out count same = grind arith
+left_out_now pi line lines None has after says out count same =
+    let none = said_other pi line (Slot None) says (λ group bad. absurd (cc)) in
+    grind arith
 
 -- a line of this programme with a time is not left out
 pub counted : (pi : Option ℕ) (line : Line) (stamp : Stamp) (first : List ℕ) → first ≡ take deciding line
     → time_of first ≡ Some stamp → (IsOfAnother pi first → ⊥) → IsLeftOut pi line → ⊥
-counted pi line stamp first is found own out = by out.left_out
-  where
-    by : (time_of (take deciding line) ≡ None) ⊎ IsOfAnother pi (take deciding line) → ⊥
-    by (inl none) =
-        let bad : None ≡ Some stamp = sym none ∙ ap time_of (sym is) ∙ found in
-        cc
-    by (inr other) = own (rw is other)
+counted pi line stamp first is found own out = grind arith
 
 -- what is so far after a line with a whole group, and after one without
 abbrev pub after_group : SoFar → Group → ℕ → List ℕ → SoFar
@@ -215,23 +169,7 @@ pub adds_group : (how : Filling) (s : Filler) (lines : List Line) (total : List 
     → (IsOfAnother s.filling.pi first → ⊥) → (has : HasFilled how s lines total)
     → AreFilled s.filling (line ∷ lines) (after_group has.so_far group stamp.time (has.so_far.written
     ++ gap_lines s.filling true (last_time s) s.told stamp.time ++ shown first stamp))
-adds_group how s lines total line group stamp first says is timed own has = inr (
-  has.so_far,
-  has.fill,
-  inl record {
-    group = group;
-    stamp = stamp;
-    says = says;
-    timed = rw is at timed;
-    own = rw is at own;
-    came = refl;
-    told = refl;
-    writes = ap (λ (l : List ℕ). has.so_far.written ++ l ++ shown first stamp) (same_gap how s lines total has true
-        stamp.time)
-        ∙ ap (λ (l : List ℕ). has.so_far.written ++ gap_lines s.filling true (newest_time has.so_far.came)
-        has.so_far.told stamp.time ++ shown l stamp) is;
-  },
-)
+adds_group how s lines total line group stamp first says is timed own has = grind arith
 
 -- a line that tells a time
 pub adds_time : (how : Filling) (s : Filler) (lines : List Line) (total : List ℕ) (line : Line) (stamp : Stamp)
@@ -257,12 +195,7 @@ adds_time how s lines total line stamp first says is timed own has = inr (
 -- the writer failed at the output of a line
 fails_at : (how : Filling) (s : Filler) (lines : List Line) (v : Traffic) (so_far : SoFar) → s.filling ≡ how
     → AreFilled s.filling lines so_far → IsLost v so_far.written → WrotePart (LinesFill how) v lines
-fails_at how s lines v so_far same fill lose = record {
-  written = so_far.written;
-  write = record { so_far = so_far; fill = rw same at fill; writes = refl };
-  wrote = lose.wrote;
-  failed = lose.failed;
-}
+fails_at how s lines v so_far same fill lose = grind arith
 
 -- at a slot with a time, a failed write leaves a first part of its output
 pub fails_at_slot : (how : Filling) (s : Filler) (v : Traffic) (lines : List Line) (total : List ℕ) (line : Line)
@@ -272,14 +205,12 @@ pub fails_at_slot : (how : Filling) (s : Filler) (v : Traffic) (lines : List Lin
     → IsLost v (has.so_far.written ++ gap_lines s.filling (is_some slot) (last_time s) s.told stamp.time)
     → WrotePart (LinesFill how) v (line ∷ lines)
 fails_at_slot how s v lines total line (Some group) stamp first says is timed own has lose =
-    let written = has.so_far.written ++ gap_lines s.filling true (last_time s) s.told stamp.time in
-    fails_at how s (line ∷ lines) v (after_group has.so_far group stamp.time (written ++ shown first stamp)) has.filling
-    (adds_group how s lines total line group stamp first says is timed own has)
-    (lost_longer v written (shown first stamp) lose)
+    fails_at how s (line ∷ lines) v _ has.filling
+    (adds_group how s lines total line group stamp first says is timed own has) (lost_longer v _
+    (shown first stamp) lose)
 fails_at_slot how s v lines total line None stamp first says is timed own has lose =
-    fails_at how s (line ∷ lines) v (after_time s.filling has.so_far stamp.time (has.so_far.written
-    ++ gap_lines s.filling false (last_time s) s.told stamp.time)) has.filling
-    (adds_time how s lines total line stamp first says is timed own has) lose
+    fails_at how s (line ∷ lines) v _ has.filling (adds_time how s lines total line stamp first says is timed own has)
+        lose
 
 -- the output of a line without a whole group was added
 pub time_done : (how : Filling) (s after : Filler) (v : Traffic) (out : List ℕ) (lines : List Line) (total : List ℕ)
@@ -289,24 +220,22 @@ pub time_done : (how : Filling) (s after : Filler) (v : Traffic) (out : List ℕ
     → KeepsTimes s after → after.told ≡ told_after s.filling (last_time s) s.told stamp.time
     → Waits v out (has.so_far.written ++ gap_lines s.filling false (last_time s) s.told stamp.time)
     → HasTaken (HasFilled how after) v out (line ∷ lines)
-time_done how s after v out lines total line (Some group) stamp first says none is timed own has keeps told
-    waits = absurd (cc)
+time_done how s after v out lines total line (Some group) stamp first says none is timed own has keeps told waits =
+    absurd (cc)
 time_done how s after v out lines total line None stamp first says none is timed_at own has keeps told waits =
     let written = has.so_far.written ++ gap_lines s.filling false (last_time s) s.told stamp.time in
+    let adds = adds_time how s lines total line stamp first says is timed_at own has in
     record {
       total = written;
       took = record {
         filling = keeps.filling ∙ has.filling;
         so_far = after_time s.filling has.so_far stamp.time written;
         fill = subst (λ (g : Filling). AreFilled g (line ∷ lines) (after_time s.filling has.so_far stamp.time written))
-            (sym keeps.filling)
-            (adds_time how s lines total line stamp first says is timed_at own has);
+            (sym keeps.filling) adds;
         writes = refl;
         pace = rw keeps.pace has.pace;
-        grain = ap (λ (x : Pace). x.grain) keeps.pace ∙ has.grain ∙ ap (λ (g : Filling). g.grain) (sym keeps.filling);
-        told = told ∙ ap (λ (o : Option ℕ). told_after s.filling o s.told stamp.time) has.pace.last
-            ∙ ap (λ (n : ℕ). told_after s.filling (newest_time has.so_far.came) n stamp.time) has.told
-            ∙ told_is s.filling has.so_far.came has.so_far.told stamp.time;
+        grain = grind arith;
+        told = grind (arith, told_is);
         left_out = left_out_kept s after s.has_left_out (line ∷ lines) keeps.filling keeps.left_out
             (none_left_out s.filling.pi line lines s.has_left_out
             (counted s.filling.pi line stamp first is timed_at own) has.left_out);
@@ -326,10 +255,10 @@ pub group_done : (how : Filling) (s after : Filler) (v : Traffic) (out : List �
     r
     → MatchResult r (λ _. HasTaken (HasFilled how after) v out (line ∷ lines)) (λ _. WrotePart (LinesFill how) v
     (line ∷ lines))
-group_done how s after v out lines total line None stamp first r says some is timed_at own has f p k d u pushed = absurd
-    (cc)
-group_done how s after v out lines total line (Some group) stamp first (Ok done) says some is timed_at own has f p k d u
-    pushed =
+group_done how s after v out lines total line None stamp first r says some is timed_at own has f p k d u pushed =
+    absurd (cc)
+group_done how s after v out lines total line (Some group) stamp first (Ok done) says some is timed_at own has f p k d
+    u pushed =
     let so_far = after_group has.so_far group stamp.time (has.so_far.written ++ gap_lines s.filling true (last_time s)
     s.told stamp.time ++ shown first stamp) in
     record {
@@ -341,7 +270,7 @@ group_done how s after v out lines total line (Some group) stamp first (Ok done)
             group stamp first says is timed_at own has);
         writes = refl;
         pace = p _ (sym has.told) refl;
-        grain = k ∙ has.grain ∙ ap (λ (g : Filling). g.grain) (sym f);
+        grain = (let same = has.grain in cc);
         told = d;
         left_out = left_out_kept s after s.has_left_out (line ∷ lines) f u
             (none_left_out s.filling.pi line lines s.has_left_out
@@ -349,10 +278,9 @@ group_done how s after v out lines total line (Some group) stamp first (Ok done)
       };
       waits = pushed;
     }
-group_done how s after v out lines total line (Some group) stamp first (Err fault) says some is timed_at own has f p k d
-    u pushed =
-    fails_at how s (line ∷ lines) v (after_group has.so_far group stamp.time (has.so_far.written ++ gap_lines s.filling
-    true (last_time s) s.told stamp.time ++ shown first stamp)) has.filling
+group_done how s after v out lines total line (Some group) stamp first (Err fault) says some is timed_at own has f p k
+    d u pushed =
+    fails_at how s (line ∷ lines) v _ has.filling
     (adds_group how s lines total line group stamp first says is timed_at own has) pushed
 
 -- ---- the end
@@ -384,5 +312,4 @@ fills_all how f r w times all are = record {
 pub never_done : (how : Filling) (f : Filler) (r w : Traffic)
     → (RunsAll (HasFilled how f) r w × (⊥ → ⊥)) ⊎ (RunsUpTo (HasFilled how f) r w × ⊥)
     → RunsAll (HasFilled how f) r w
-never_done how f r w (inl (all, wants)) = all
-never_done how f r w (inr (run, never)) = absurd never
+never_done how f r w p4 = grind arith

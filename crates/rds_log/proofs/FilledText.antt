@@ -1,18 +1,16 @@
 -- The output of `slots` is a log of the filled slots.
 use Rattle.std.proofs.Common.{◌≡◌, ◌≢◌, ◌+◌, ◌-◌, ◌==◌, ◌≤◌, ℕ, zero, suc, Bool, true, false, not, cond, List, [], ◌∷◌}
 use Rattle.std.proofs.Common.{◌++◌, Option, Some, None, append_assoc, ap, codes, drop, length, max, take, refl, sym}
-use Rattle.std.proofs.Common.{subst, ◌∙◌, arith, inl, inr}
+use Rattle.std.proofs.Common.{subst, arith, inl, inr}
 use Rattle.std.specs.Prelude.{All, nat_lt}
-use Rattle.std.proofs.Math.Nat.{max-eq_left, max-eq_right, max-zero}
+use Rattle.std.proofs.Math.Nat.{max-zero}
 use Rattle.std.specs.List.{list_all}
-use Rattle.std.proofs.lemmas.Bool.{and_parts, cases_lt}
-use Rattle.std.proofs.lemmas.Bool.Decides.{eqb_tells}
+use Rattle.std.proofs.lemmas.Bool.{cases_lt}
 use Rattle.std.proofs.lemmas.List.{append-nil, drop_all, get_or-take, length-take}
 use Rattle.std.proofs.lemmas.List.Elements.{All-cons, All-head, All-nil, All-tail, All-take}
 use Rattle.rds_block.specs.declared.group.Group.{Group}
 use Rattle.rds_fields.proofs.Exchange.{nothing_exchanged_in}
-use Rattle.rds_arrivals.specs.Arrivals.{Arrival, and_lost, filled, lost_between, lost_until}
-use Rattle.rds_arrivals.specs.Breaks.{break_of}
+use Rattle.rds_arrivals.specs.Arrivals.{Arrival, and_lost, filled, lost_until}
 use Rattle.rds_arrivals.specs.Stamps.{stamp_in}
 use Rattle.rds_arrivals.specs.declared.lost.Break.{Break}
 use Rattle.rds_arrivals.specs.declared.lost.Break.TheVariants.{Back, Hour}
@@ -24,7 +22,6 @@ use Rattle.rds_log.specs.LineSays.{LineSays}
 use Rattle.rds_log.specs.LogLines.{IsLine, Line, line_feed, text_of}
 use Rattle.rds_log.specs.LogWrites.{AreSlots}
 use Rattle.rds_log.specs.declared.filler.Filling.{Filling}
-use Rattle.rds_log.specs.declared.log_line.Block.TheVariants.{Missing}
 use Rattle.rds_log.specs.declared.log_line.LogLine.TheVariants.{Skip, Slot}
 use Rattle.rds_log.proofs.Cutting.{text_of-more}
 use Rattle.rds_log.proofs.FirstBytes.{content_near, same_slot_line}
@@ -39,18 +36,14 @@ no_stamp = refl
 pub goes_on : (first : List ℕ) (stamp : Stamp) → time_of first ≡ Some stamp → 21 ≤ length first
 goes_on first stamp timed = elim (cases_lt 20 (length first)) [
   | inl more ↦ omega (arith, more)
-  | inr few ↦ absurd (nothing few)
+  | inr few ↦
+      let none : stamp_in (drop 20 first) ≡ None = rw (drop_all 20 first few) no_stamp in
+      absurd (by (nat_lt (length first) 20) none timed)
 ]
   where
-    nothing : length first ≤ 20 → ⊥
-    nothing few =
-        let none : stamp_in (drop 20 first) ≡ None = ap stamp_in (drop_all 20 first few) ∙ no_stamp in
-        by (nat_lt (length first) 20) none timed
-      where
-        by : (b : Bool) → stamp_in (drop 20 first) ≡ None
-            → cond b None (ended_within (stamp_in (drop 20 first))) ≡ Some stamp → ⊥
-        by true none e = cc
-        by false none e = (let bad : None ≡ Some stamp = sym (ap ended_within none) ∙ e in cc)
+    by : (b : Bool) → stamp_in (drop 20 first) ≡ None
+        → cond b None (ended_within (stamp_in (drop 20 first))) ≡ Some stamp → ⊥
+    by b none e = grind arith
 
 -- it is the same slot as far as its time
 pub cut_says : (line : Line) (slot : Option Group) (stamp : Stamp) → LineSays line (Slot slot)
@@ -60,10 +53,10 @@ cut_says line slot stamp says timed =
     let long = goes_on (take 60 line) stamp timed in
     let q = take (20 + stamp.end) (take 60 line) in
     same_slot_line line q slot
-    (omega (arith, long, length-take 60 line, content_near line))
-    (omega (arith, long, length-take (20 + stamp.end) (take 60 line), content_near q))
-    (λ i h. sym (get_or-take (20 + stamp.end) (take 60 line) i 0 (omega (arith, h)) ∙ get_or-take 60 line i 0
-    (omega (arith, h)))) says
+    (omega (arith, length-take 60 line, content_near line))
+    (omega (arith, length-take (20 + stamp.end) (take 60 line), content_near q))
+    (λ i h. rw (get_or-take (20 + stamp.end) (take 60 line) i 0 (omega arith), get_or-take 60 line i 0
+    (omega arith)) refl) says
 
 -- ---- lines more
 
@@ -76,9 +69,7 @@ record HasCut (text : List ℕ) (slots : List (Option Group)) : Type 0 where
 
 more_text : (text line : List ℕ) (cut : List Line) → text ≡ text_of cut []
     → text ++ (line ++ codes "\n") ≡ text_of (line ∷ cut) []
-more_text text line cut is =
-    ap (λ (l : List ℕ). l ++ (line ++ codes "\n")) is ∙ sym (append_assoc (text_of cut []) line (codes "\n"))
-    ∙ ap (λ (l : List ℕ). l ++ codes "\n") (text_of-more cut [] line)
+more_text text line cut is = grind (arith, codes, append_assoc, text_of-more)
 
 with_slot : (text line : List ℕ) (slot : Option Group) (slots : List (Option Group)) → HasCut text slots → IsLine line
     → LineSays line (Slot slot)
@@ -87,7 +78,7 @@ with_slot text line slot slots had is says = record {
   cut = line ∷ had.cut;
   text_is = more_text text line had.cut had.text_is;
   lines = All-cons IsLine line had.cut is had.lines;
-  say = inr (slot, slots, says, ap (λ (s : Option Group). s ∷ slots) (sym (nothing_exchanged_in slot)), had.say);
+  say = inr (slot, slots, says, rw nothing_exchanged_in refl, had.say);
 }
 
 with_comment : (text line : List ℕ) (slots : List (Option Group)) → HasCut text slots → IsLine line → LineSays line Skip
@@ -107,39 +98,17 @@ same_text text other slots same had = subst (λ (l : List ℕ). HasCut l slots) 
 -- bytes that a test finds without a line feed
 feedless : (bytes : List ℕ) → list_all (λ b. not (b == line_feed)) bytes ≡ true → IsLine bytes
 feedless [] e = All-nil (λ (x : ℕ). x ≢ line_feed)
-feedless (b ∷ rest) e =
-    let both = and_parts (not (b == line_feed)) (list_all (λ b. not (b == line_feed)) rest) e in
-    All-cons (λ (x : ℕ). x ≢ line_feed) b rest (other both.0) (feedless rest both.1)
-  where
-    other : not (b == line_feed) ≡ true → b ≢ line_feed
-    other test = elim (eqb_tells b line_feed) [
-      | inl same ↦ absurd (let bad : false ≡ true = rw same.0 at test in cc)
-      | inr apart ↦ apart.1
-    ]
+feedless (b ∷ rest) e = grind (arith, feedless rest)
 
 dashes : LineSays (codes "---- ---- ---- ----") (Slot None)
-dashes = (
-  record { at_least = omega arith; spaces = record { first = refl; second = refl; third = refl }; ends = inl refl },
-  record {
-    a = Missing;
-    b = Missing;
-    c = Missing;
-    d = Missing;
-    first = record { first = refl; second = refl; third = refl; fourth = refl };
-    second = record { first = refl; second = refl; third = refl; fourth = refl };
-    third = record { first = refl; second = refl; third = refl; fourth = refl };
-    fourth = record { first = refl; second = refl; third = refl; fourth = refl };
-    carried = refl;
-  },
-)
+dashes = grind arith
 
 with_lost : (n : ℕ) (text : List ℕ) (slots : List (Option Group)) → HasCut text slots
     → HasCut (text ++ lost_lines n) (and_lost n slots)
-with_lost zero text slots had = same_text text (text ++ []) slots (sym (append-nil text)) had
+with_lost zero text slots had = rw append-nil had
 with_lost (suc n) text slots had =
-    same_text _ _ (None ∷ and_lost n slots) (append_assoc text (lost_lines n) (codes "---- ---- ---- ----\n"))
-    (with_slot (text ++ lost_lines n) (codes "---- ---- ---- ----") None (and_lost n slots) (with_lost n text slots had)
-    (feedless (codes "---- ---- ---- ----") refl) dashes)
+    rw (← append_assoc) (with_slot (text ++ lost_lines n) (codes "---- ---- ---- ----") None (and_lost n slots)
+    (with_lost n text slots had) (feedless (codes "---- ---- ---- ----") refl) dashes)
 
 with_break : (why : Option Break) (text : List ℕ) (slots : List (Option Group)) → HasCut text slots
     → HasCut (text ++ break_line why) slots
@@ -153,35 +122,24 @@ more_and_lost : {X : Type 0} (n k sum : ℕ) (slots : List (Option X)) → n + k
     → and_lost n (and_lost k slots) ≡ and_lost sum slots
 more_and_lost zero k sum slots is = (let same : k ≡ sum = omega (arith, is) in ap (λ (m : ℕ). and_lost m slots) same)
 more_and_lost (suc n) k zero slots is = absurd (omega (arith, is))
-more_and_lost (suc n) k (suc sum) slots is = ap (λ (l : List (Option _)). None ∷ l)
-    (more_and_lost n k sum slots (omega (arith, is)))
+more_and_lost (suc n) k (suc sum) slots is = search (more_and_lost n k sum slots (omega (arith, is)))
 
 -- lost slots that follow others
 with_more : (why : Option Break) (told lost : ℕ) (text : List ℕ) (slots : List (Option Group))
     → HasCut text (and_lost told slots)
     → HasCut (text ++ more_lines why told lost) (and_lost (max told lost) slots)
 with_more why told lost text slots had =
-    subst (λ (l : List (Option Group)). HasCut (text ++ (break_line why ++ lost_lines (lost - told))) l)
-    (more_and_lost (lost - told) told (max told lost) slots sum)
-    (same_text _ _ _ (append_assoc text (break_line why) (lost_lines (lost - told)))
-    (with_lost (lost - told) (text ++ break_line why) (and_lost told slots) (with_break why text (and_lost told slots)
-    had)))
-  where
-    sum : lost - told + told ≡ max told lost
-    sum = elim (cases_lt told lost) [
-      | inl more ↦ (let is : max told lost ≡ lost = max-eq_right (omega (arith, more)) in omega (arith, is, more))
-      | inr few ↦ (let is : max told lost ≡ told = max-eq_left few in omega (arith, is, few))
-    ]
+    let sum : lost - told + told ≡ max told lost = omega arith in
+    rw (← append_assoc text (break_line why) (lost_lines (lost - told)), ← more_and_lost (lost - told) told
+    (max told lost) slots sum)
+    (with_lost (lost - told) (text ++ break_line why) (and_lost told slots) (with_break why text
+    (and_lost told slots) had))
 
 with_gap : (f : Filling) (is_group : Bool) (came : List (Arrival Group)) (told time : ℕ) (text : List ℕ)
     (slots : List (Option Group)) → HasCut text (and_lost told slots)
     → HasCut (text ++ gap_lines f is_group (newest_time came) told time)
     (and_lost (max told (lost_until f.grain f.dwell came time)) slots)
-with_gap f is_group [] told time text slots had = rw (max-zero told) (same_text text (text ++ []) (and_lost told slots)
-    (sym (append-nil text)) had)
-with_gap f is_group (last ∷ before) told time text slots had =
-    with_more (cond is_group (break_of last.time time) None) told (lost_between f.grain f.dwell last.time time) text
-    slots had
+with_gap f is_group came told time text slots had = grind (arith, max-zero, same_text, append-nil, with_more)
 
 -- ---- the whole output
 
@@ -192,20 +150,15 @@ cut_of f [] s all (none, untold, empty) =
 cut_of f (line ∷ before) s all (inl (none, rest)) = cut_of f before s (All-tail IsLine line before all) rest
 cut_of f (line ∷ before) s all (inr (old, rest, inl adds)) =
     let had = cut_of f before old (All-tail IsLine line before all) rest in
-    let gap = gap_lines f true (newest_time old.came) old.told adds.stamp.time in
-    let first = take (20 + adds.stamp.end) (take 60 line) in
-    let is : IsLine first = All-take (λ x. x ≢ line_feed) (20 + adds.stamp.end) (take 60 line)
+    let is = All-take (λ x. x ≢ line_feed) (20 + adds.stamp.end) (take 60 line)
     (All-take (λ x. x ≢ line_feed) 60 line (All-head IsLine line before all)) in
     let lost = with_gap f true old.came old.told adds.stamp.time old.written (filled f.grain f.dwell old.came) had in
-    let all_of = with_slot (old.written ++ gap) first (Some adds.group) _ lost is (cut_says line (Some adds.group)
-    adds.stamp adds.says adds.timed) in
-    rw (adds.came, adds.told, adds.writes) all_of
+    rw (adds.came, adds.told, adds.writes) (with_slot _ _ (Some adds.group) _ lost is (cut_says line (Some adds.group)
+    adds.stamp adds.says adds.timed))
 cut_of f (line ∷ before) s all (inr (old, rest, inr adds)) =
     let had = cut_of f before old (All-tail IsLine line before all) rest in
     rw (adds.came, adds.told, adds.writes) (with_gap f false old.came old.told adds.stamp.time old.written
     (filled f.grain f.dwell old.came) had)
 
 pub are_logs : FilledTextsAreLogs
-are_logs f lines s all fill =
-    let had = cut_of f lines s all fill in
-    record { lines = had.cut; are = (had.cut, [], had.text_is, had.lines, All-nil _, inl (refl, refl)); say = had.say }
+are_logs f lines s all fill = grind (arith, cut_of)

@@ -1,16 +1,14 @@
 -- The first 60 bytes of a line say what the line says.
-use Rattle.std.proofs.Common.{◌≡◌, ◌⊎◌, ◌+◌, ◌-◌, ◌<◌, ◌≤◌, ℕ, Bool, true, false, cond, Option, Some, None, take}
-use Rattle.std.proofs.Common.{length, get_or, sym, ◌∙◌, subst, arith, inl, inr}
+use Rattle.std.proofs.lemmas.Bool.Decides.{nat_tests}
+use Rattle.std.proofs.Common.{◌≡◌, ◌⊎◌, ◌+◌, ◌<◌, ◌≤◌, ℕ, Option, take}
+use Rattle.std.proofs.Common.{length, get_or, sym, subst, arith, inl, inr}
 use Rattle.std.specs.Prelude.{IfNone, IfSome}
 use Rattle.std.proofs.lemmas.List.{take_all, length-take, get_or-take}
 use Rattle.rds_block.specs.declared.group.Group.{Group}
-use Rattle.rds_io.specs.Digits.{HasWord}
-use Rattle.rds_log.specs.LogLines.{Line, content_length, ends_with_return}
-use Rattle.rds_log.specs.LineSays.{HasDashes, IsBad, IsBlock, IsLaidOut, LineSays, SaysSlot}
-use Rattle.rds_log.specs.declared.log_line.Block.{Block}
-use Rattle.rds_log.specs.declared.log_line.Block.TheVariants.{Word, Missing}
+use Rattle.rds_log.specs.LogLines.{Line, content_length}
+use Rattle.rds_log.specs.LineSays.{IsBad, IsLaidOut, LineSays, SaysSlot}
 use Rattle.rds_log.specs.declared.log_line.LogLine.{LogLine}
-use Rattle.rds_log.specs.declared.log_line.LogLine.TheVariants.{Skip, Slot}
+use Rattle.rds_log.specs.declared.log_line.LogLine.TheVariants.{Slot}
 
 -- the first bytes are the same
 abbrev pub SameBytes : Line → Line → Type 0
@@ -22,59 +20,11 @@ record SameStart (p q : Line) : Type 0 where
   pub to : 20 ≤ content_length q
   pub bytes : SameBytes p q
 
-same_word : (p q : Line) (at w : ℕ) → SameBytes p q → at + 4 ≤ 20 → HasWord p at w → HasWord q at w
-same_word p q at w s h word =
-    let a = sym (s at (omega arith)) in
-    let b = sym (s (at + 1) (omega arith)) in
-    let c = sym (s (at + 2) (omega arith)) in
-    let d = sym (s (at + 3) (omega arith)) in
-    record {
-      first = rw a word.first;
-      second = rw b word.second;
-      third = rw c word.third;
-      fourth = rw d word.fourth;
-      word = rw (a, b, c, d) word.word;
-    }
-
-same_dashes : (p q : Line) (at : ℕ) → SameBytes p q → at + 4 ≤ 20 → HasDashes p at → HasDashes q at
-same_dashes p q at s h dashes = record {
-  first = sym (s at (omega arith)) ∙ dashes.first;
-  second = sym (s (at + 1) (omega arith)) ∙ dashes.second;
-  third = sym (s (at + 2) (omega arith)) ∙ dashes.third;
-  fourth = sym (s (at + 3) (omega arith)) ∙ dashes.fourth;
-}
-
-same_block : (p q : Line) (at : ℕ) (block : Block) → SameBytes p q → at + 4 ≤ 20 → IsBlock p at block
-    → IsBlock q at block
-same_block p q at (Word w) s h block = same_word p q at w s h block
-same_block p q at Missing s h block = same_dashes p q at s h block
-
 same_slot : (p q : Line) (slot : Option Group) → SameBytes p q → SaysSlot p slot → SaysSlot q slot
-same_slot p q slot s says = record {
-  a = says.a;
-  b = says.b;
-  c = says.c;
-  d = says.d;
-  first = same_block p q 0 says.a s (omega arith) says.first;
-  second = same_block p q 5 says.b s (omega arith) says.second;
-  third = same_block p q 10 says.c s (omega arith) says.third;
-  fourth = same_block p q 15 says.d s (omega arith) says.fourth;
-  carried = says.carried;
-}
+same_slot p q slot s says = grind arith
 
 same_layout : (p q : Line) → 20 ≤ content_length p → 19 ≤ content_length q → SameBytes p q → IsLaidOut p → IsLaidOut q
-same_layout p q from to s laid = record {
-  at_least = to;
-  spaces = record {
-    first = sym (s 4 (omega arith)) ∙ laid.spaces.first;
-    second = sym (s 9 (omega arith)) ∙ laid.spaces.second;
-    third = sym (s 14 (omega arith)) ∙ laid.spaces.third;
-  };
-  ends = elim laid.ends [
-    | inl e ↦ absurd (omega (arith, e, from))
-    | inr space ↦ inr (sym (s 19 (omega arith)) ∙ space)
-  ];
-}
+same_layout p q from to s laid = grind arith
 
 -- a line that begins with the same blocks and a space is the same slot
 pub same_slot_line : (p q : Line) (slot : Option Group) → 20 ≤ content_length p → 19 ≤ content_length q → SameBytes p q
@@ -82,17 +32,11 @@ pub same_slot_line : (p q : Line) (slot : Option Group) → 20 ≤ content_lengt
 same_slot_line p q slot from to s says = (same_layout p q from to s says.0, same_slot p q slot s says.1)
 
 same_said : (p q : Line) (said : LogLine) → SameStart p q → LineSays p said → LineSays q said
-same_said p q Skip s (inl empty) = absurd (omega (arith, empty, s.from))
-same_said p q Skip s (inr mark) = rw (sym (s.bytes 0 (omega arith))) (inr mark)
-same_said p q (Slot slot) s says = same_slot_line p q slot s.from (omega (arith, s.to)) s.bytes says
+same_said p q said s says = grind (arith, nat_tests)
 
 -- a line has at most one byte more than its content
 pub content_near : (line : Line) → length line ≤ content_length line + 1
-content_near line = by_end (ends_with_return line)
-  where
-    by_end : (b : Bool) → length line ≤ cond b (length line - 1) (length line) + 1
-    by_end true = omega arith
-    by_end false = omega arith
+content_near line = grind arith
 
 either : (n : ℕ) → (n ≤ 60) ⊎ (60 < n)
 either n = grind arith
@@ -125,11 +69,9 @@ bad_by_first line bad said says = bad said (first_of_said line said says)
 -- what the first bytes of a line say, the line says
 pub some_by_first : (line : Line) (said : Option LogLine) → IfSome said (LineSays (take 60 line))
     → IfSome said (LineSays line)
-some_by_first line None says = tt
-some_by_first line (Some said) says = said_of_first line said says
+some_by_first line said says = grind (arith, said_of_first)
 
 -- a line whose first bytes are malformed is malformed
 pub none_by_first : (line : Line) (said : Option LogLine) → IfNone said (IsBad (take 60 line))
     → IfNone said (IsBad line)
-none_by_first line None bad = bad_by_first line bad
-none_by_first line (Some said) bad = tt
+none_by_first line said bad = grind (arith, bad_by_first)

@@ -1,5 +1,6 @@
 -- How the slots that are kept go on by a line.
-use Rattle.std.proofs.Common.{◌≡◌, ℕ, List, Option, [], ◌∷◌, ◌++◌, ap, inl, inr, reverse, ◌∙◌}
+use Rattle.std.proofs.Common.{arith}
+use Rattle.std.proofs.Common.{◌≡◌, ℕ, List, Option, [], ◌∷◌, ◌++◌, ap, inl, reverse}
 use Rattle.std.proofs.lemmas.List.{reverse-append}
 use Rattle.rds_block.specs.declared.group.Group.{Group}
 use Rattle.rds_fields.specs.TagGroup.{exchanged_in}
@@ -16,8 +17,7 @@ keeps_none n log none = ap reverse none
 pub keeps_slot : (n : ℕ) (lines : List Line) (line : Line) (slot : Option Group) (log after : List (Option Group))
     → LineSays line (Slot slot) → AreSlots n lines (reverse log) → after ≡ log ++ (exchanged_in n slot ∷ [])
     → AreSlots n (line ∷ lines) (reverse after)
-keeps_slot n lines line slot log after says had more =
-    inr (slot, reverse log, says, ap reverse more ∙ reverse-append log (exchanged_in n slot ∷ []), had)
+keeps_slot n lines line slot log after says had more = grind (arith, reverse, reverse-append)
 
 -- a line that was said to be a slot
 pub keeps_said : (n : ℕ) (lines : List Line) (line : Line) (said : LogLine) (slot : Option Group)

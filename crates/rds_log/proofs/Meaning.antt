@@ -1,4 +1,5 @@
 -- What the answer of an audit means.
+use Rattle.std.proofs.Common.{arith}
 use Rattle.std.proofs.Common.{◌+◌, ◌<◌, ℕ, Bool, true, false, List, [], Option, Ok, Err, inr, refl}
 use Rattle.std.specs.Prelude.{Result}
 use Rattle.rds_block.specs.declared.group.Group.{Group}
@@ -10,7 +11,6 @@ use Rattle.rds_audit.specs.Rules.{LogPasses}
 use Rattle.rds_audit.specs.declared.audit.AuditFault.{AuditFault}
 use Rattle.rds_audit.specs.declared.log_start.LogStart.{LogStart}
 use Rattle.rds_audit.specs.declared.text_form.TextForm.{TextForm}
-use Rattle.rds_audit.specs.declared.log_start.LogStart.TheVariants.{Complete, Running}
 use Rattle.rds_log.specs.Audit.{IsSafe, SlotsAreSafe, SlotsFail, SlotsHaveNoPlans, SlotsPass}
 use Rattle.rds_log.specs.FaultList.{Audits, BeginsWithNoPlans, FindsFaults, Means}
 use Rattle.rds_log.specs.declared.audit_log.Auditing.{Auditing}
@@ -22,8 +22,7 @@ use Rattle.rds_io.specs.declared.fault.LogFault.{LogFault}
 pub safe_as_it_is : WhatPassesIsSafe → WhatPassesAsARecordingIsSafe
     → (start : LogStart) (form : TextForm) (m k : ℕ) (heard : List (Option Message)) → 0 < m
     → LogPasses form (m + k) (judged_as start (m + k) heard) → IsSafe start form m k heard
-safe_as_it_is complete running Complete form m k heard pos passes = complete form m k heard pos passes
-safe_as_it_is complete running Running form m k heard pos passes = running form m k heard pos passes
+safe_as_it_is complete running start form m k heard pos passes = grind arith
 
 -- a yes goes with slots that pass, and a no with slots that fail
 pub meaning : (a : Auditing) (reads : ℕ) (r w : Traffic) (result : Result Bool LogFault)
@@ -32,16 +31,7 @@ pub meaning : (a : Auditing) (reads : ℕ) (r w : Traffic) (result : Result Bool
     → SlotsHaveNoPlans a slots)
     → Audits a reads r w result → Means a r result
 meaning a reads r w (Err fault) safe none audits = tt
-meaning a reads r w (Ok true) safe none audits = record {
-  text = audits.text;
-  read = audits.read;
-  end = audits.end;
-  lines = audits.passes.lines;
-  are = audits.passes.are;
-  slots = audits.passes.slots;
-  say = audits.passes.say;
-  safe = safe audits.passes.slots audits.passes.pass;
-}
+meaning a reads r w (Ok true) safe none audits = search
 meaning a reads r w (Ok false) safe none audits = by a.stop audits
   where
     by : (stop : Stop) → FindsFaults stop a r w → BeginsWithNoPlans a r

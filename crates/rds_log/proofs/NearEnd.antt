@@ -1,6 +1,6 @@
 -- The first line feed of the bytes that are asked at once.
-use Rattle.std.proofs.Common.{◌≡◌, ◌≢◌, ◌+◌, ◌*◌, ◌%◌, ◌^◌, ◌<◌, ◌≤◌, ℕ, zero, suc, Bool, true, false, List, [], ◌∷◌}
-use Rattle.std.proofs.Common.{cond, map, length, replicate, slice_index, eqb, not, refl, ap, sym, ◌∙◌, arith, inl, inr}
+use Rattle.std.proofs.Common.{◌≡◌, ◌≢◌, ◌+◌, ◌%◌, ◌^◌, ◌<◌, ◌≤◌, ℕ, Bool, true, false, List, [], ◌∷◌}
+use Rattle.std.proofs.Common.{cond, map, length, replicate, slice_index, eqb, not, arith, inl, inr}
 use Rattle.std.proofs.Common.{w8}
 use Rattle.std.proofs.lemmas.Bool.{cases_lt}
 use Rattle.std.proofs.lemmas.Bool.Decides.{nat_tests}
@@ -34,17 +34,12 @@ pub no_feeds : (bytes : List ℕ) (from i : ℕ) → from + 16 ≤ length bytes 
     → ((k : ℕ) → k < from → slice_index bytes k ≢ 10) → i < from + 16 → slice_index bytes i ≢ 10
 no_feeds bytes from i long none before below = elim (cases_lt i from) [
   | inl less ↦ before i less
-  | inr more ↦ no_feed _ (none_from_empty_mask (λ b. eqb b 10) bytes from 16 0 long none i more below)
+  | inr more ↦ grind (arith, nat_tests, none_from_empty_mask (λ b. eqb b 10) bytes from 16 0 long none i more below)
 ]
 
 some_lane : (p : ℕ → Bool) (xs : List ℕ) → 0 < mask_l (map p xs) → prefix_len (λ x. not (p x)) xs < length xs
 some_lane p [] set = absurd (omega (arith, set))
-some_lane p (x ∷ xs) set = by (p x) (mask_l (map p xs)) (prefix_len (λ x. not (p x)) xs) set (some_lane p xs)
-  where
-    by : (t : Bool) (mask n : ℕ) → 0 < cond t 1 0 + 2 * mask → (0 < mask → n < length xs)
-        → cond (not t) (1 + n) 0 < suc (length xs)
-    by true mask n set rest = omega arith
-    by false mask n set rest = (let less = rest (omega (arith, set)) in omega (arith, less))
+some_lane p (x ∷ xs) set = grind (arith, some_lane p xs)
 
 -- the first of them
 pub ends_near : (bytes : List ℕ) (from mask : ℕ) → from + 16 ≤ length bytes → mask ≡ feeds bytes from → mask ≢ 0
@@ -53,28 +48,17 @@ pub ends_near : (bytes : List ℕ) (from mask : ℕ) → from + 16 ≤ length by
 ends_near bytes from mask long is some before =
     let n = count_trailing_zeros 64 mask in
     let lanes = length-chunk from 16 bytes long in
-    let set : 0 < mask_l (map (λ b. eqb b 10) (chunk from 16 bytes)) = rw (← is) (positive mask some) in
+    let set : 0 < mask_l (map (λ b. eqb b 10) (chunk from 16 bytes)) = omega arith in
     let counted : n ≡ prefix_len (λ b. not (eqb b 10)) (chunk from 16 bytes) =
-    ap (count_trailing_zeros 64) is ∙ trailing_mask_l (λ b. eqb b 10) 64 (chunk from 16 bytes) (omega (arith, lanes))
-    set in
-    let less : n < 16 = (let there = some_lane (λ b. eqb b 10) (chunk from 16 bytes) set
-    in omega (arith, counted, lanes, there)) in
+    rw is (trailing_mask_l (λ b. eqb b 10) 64 (chunk from 16 bytes) (omega (arith, lanes)) set) in
+    let there = some_lane (λ b. eqb b 10) (chunk from 16 bytes) set in
+    let less : n < 16 = omega arith in
     record {
-      within = omega (arith, less, long);
-      line = λ i d below. (let inside : i < from + n = omega (
-        arith,
-        length-take-le (from + n) bytes
-            (omega (arith, less, long)),
-        below,
-      ) in
+      within = omega arith;
+      line = λ i d below. (let inside : i < from + n = omega (arith, length-take-le (from + n) bytes (omega arith)) in
           rw (get_or-take (from + n) bytes i d inside) (elim (cases_lt i from) [
-            | inl earlier ↦ (λ e. before i earlier (sym (get_or_default bytes i d 0 (omega (arith, earlier, long)))
-                ∙ e))
+            | inl earlier ↦ rw (← get_or_default bytes i d 0 (omega arith)) at (before i earlier)
             | inr later ↦ no_feed _ (run_in_chunk_fails (λ b. eqb b 10) bytes from 16 n d long counted i later inside)
           ]));
       feed = a_feed _ (run_in_chunk_stops (λ b. eqb b 10) bytes from 16 n 0 long counted less);
     }
-  where
-    positive : (mask : ℕ) → mask ≢ 0 → 0 < mask
-    positive zero some = absurd (some refl)
-    positive (suc mask) some = omega arith

@@ -1,14 +1,14 @@
 -- Slots have one list of displays, so the bytes of a log write one output.
-use Rattle.std.proofs.Common.{◌≡◌, ℕ, List, [], ◌∷◌, Bool, true, false, Option, Some, refl, sym, ap, ◌∙◌}
+use Rattle.std.proofs.Common.{arith}
+use Rattle.std.proofs.Common.{◌≡◌, ℕ, List, [], ◌∷◌, Bool, Option, Some, refl, sym, ap, ◌∙◌}
 use Rattle.rds_block.specs.declared.group.Group.{Group}
 use Rattle.rds_receiver.specs.Receipts.{Tuning}
 use Rattle.rds_receiver.specs.OneView.{same_view}
-use Rattle.rds_receiver.specs.declared.why.Whys.{Whys}
 use Rattle.rds_view_lines.specs.Output.{Display, changes_of}
 use Rattle.rds_io.specs.Told.{Traffic}
 use Rattle.rds_io.specs.Alike.{WriteAlike}
 use Rattle.rds_log.specs.OneLog.{same_lines, same_slots}
-use Rattle.rds_log.specs.LogWrites.{AreDisplays, IsDisplay, LogWrites, SayWhys, tuning_of}
+use Rattle.rds_log.specs.LogWrites.{AreDisplays, IsDisplay, LogWrites, tuning_of}
 use Rattle.rds_log.specs.Decode.{DecodesAll}
 use Rattle.rds_log.specs.declared.decode_log.Decoding.{Decoding}
 use Rattle.rds_log.proofs.WholeBytes.{read_whole}
@@ -18,44 +18,30 @@ same_display : (why : Bool) (t : Tuning) (input : List (Option Group)) (d e : Di
     → IsDisplay why t input e → d ≡ e
 same_display why t input d e p q =
     let view = same_view t input d.view e.view p.view q.view in
-    let whys = same_whys why d.whys e.whys p.whys q.whys in
-    λ i. record { view = view i; whys = whys i }
-  where
-    same_whys : (why : Bool) (one other : Option Whys) → SayWhys why t input one → SayWhys why t input other
-        → one ≡ other
-    same_whys false one other p q = p ∙ sym q
-    same_whys true one other p q = p ∙ sym q
+    grind arith
 
 same_displays : (why : Bool) (t : Tuning) (slots : List (Option Group)) (displays other : List Display)
     → AreDisplays why t slots displays → AreDisplays why t slots other → displays ≡ other
 same_displays why t [] [] [] p q = refl
-same_displays why t [] [] (d ∷ other) p q = absurd q
-same_displays why t [] (d ∷ displays) other p q = absurd p
-same_displays why t (slot ∷ before) [] other p q = absurd p
-same_displays why t (slot ∷ before) (d ∷ displays) [] p q = absurd q
 same_displays why t (slot ∷ before) (d ∷ displays) (e ∷ other) p q =
-    let one : d ≡ e = same_display why t (slot ∷ before) d e p.0 q.0 in
-    let all : displays ≡ other = same_displays why t before displays other p.1 q.1 in
-    (cc)
+    search (same_displays why t before displays other p.1 q.1, same_display)
+same_displays why t _ _ _ p q = grind arith
 
 -- the bytes of a log write one output
 pub same_output : (how : Decoding) (text written other : List ℕ) → LogWrites how text written → LogWrites how text other
     → written ≡ other
 same_output how text written other p q =
-    let lines : p.cut ≡ q.cut = same_lines text p.cut q.cut p.are q.are in
-    let slots : p.write.slots ≡ q.write.slots = same_slots how.rtplus q.cut p.write.slots q.write.slots (rw lines at
-    p.write.say)
-    q.write.say in
-    let displays : p.write.write.displays ≡ q.write.write.displays = same_displays how.says_why (tuning_of how)
-    q.write.slots p.write.write.displays q.write.write.displays (rw slots at p.write.write.are) q.write.write.are in
+    let lines = same_lines text p.cut q.cut p.are q.are in
+    let slots = same_slots how.rtplus q.cut p.write.slots q.write.slots (rw lines at p.write.say) q.write.say in
+    let displays = same_displays how.says_why (tuning_of how) q.write.slots p.write.write.displays
+    q.write.write.displays (rw slots at p.write.write.are) q.write.write.are in
     p.write.write.changes ∙ ap changes_of displays ∙ sym q.write.write.changes
 
 -- two calls over the same bytes
 pub alike : (how : Decoding) (text : List ℕ) (r w q v : Traffic) → r.before ≡ Some text → q.before ≡ Some text
     → DecodesAll how r w → DecodesAll how q v → WriteAlike w v
 alike how text r w q v given same a b =
-    let first : a.text ≡ text = read_whole r.before r.after text a.text given a.read a.end in
-    let second : b.text ≡ text = read_whole q.before q.after text b.text same b.read b.end in
-    let one : a.written ≡ b.written = same_output how text a.written b.written (rw first at a.write) (rw second
-    at b.write) in
+    let first = read_whole r.before r.after text a.text given a.read a.end in
+    let second = read_whole q.before q.after text b.text same b.read b.end in
+    let one = same_output how text a.written b.written (rw first at a.write) (rw second at b.write) in
     record { written = b.written; one = rw one at a.wrote; other = b.wrote }

@@ -11,16 +11,15 @@ use Rattle.rds_fields.specs.TagGroup.{exchanged_in}
 use Rattle.rds_io.specs.Told.{Traffic}
 use Rattle.rds_fields.specs.declared.message.Message.{Message}
 use Rattle.rds_receiver.specs.Receipts.{heard_in, heard_of}
-use Rattle.rds_audit.specs.Recording.{judged_as}
 use Rattle.rds_audit.specs.AuditLaws.{WhatHasAFaultDoesNotPass}
 use Rattle.rds_audit.specs.Judging.{judged_more}
 use Rattle.rds_audit.specs.declared.text_form.TextForm.{TextForm}
-use Rattle.rds_audit.specs.Listing.{IsFaultOf, first_fault, first_of, or_else, slot_adds}
+use Rattle.rds_audit.specs.Listing.{IsFaultOf}
 use Rattle.rds_audit.specs.declared.audit.AuditFault.{AuditFault}
 use Rattle.rds_audit.specs.declared.fault_set.FaultSet.{FaultSet}
 use Rattle.rds_io.specs.Alike.{WriteAlike}
 use Rattle.rds_log.specs.Audit.{SlotsFail, SlotsPass, StopsAtSlot, WholePasses, judged, spacing}
-use Rattle.rds_log.specs.FaultList.{AnswersYes, AreAdded, Audits, FindsFaults, LinesList, list_lines, no_line, yes_line}
+use Rattle.rds_log.specs.FaultList.{AnswersYes, AreAdded, Audits, FindsFaults, LinesList, no_line, yes_line}
 use Rattle.rds_log.specs.LogWrites.{AreSlots}
 use Rattle.rds_log.specs.Reads.{BeginsWith}
 use Rattle.rds_log.specs.LogLines.{AreLines, IsLine, Line, line_feed, text_of}
@@ -59,9 +58,7 @@ goes_on (b ∷ rest) closed begun all is = elim (eqb_tells b line_feed) [
       record {
         newer = more.newer ++ (begun ∷ []);
         last = more.last;
-        text = ap (λ (x : ℕ). text_of closed begun ++ (x ∷ rest)) feed
-            ∙ sym (append_assoc (text_of closed begun) (line_feed ∷ []) rest) ∙ more.text
-            ∙ ap (λ (l : List Line). text_of l more.last) (sym joined);
+        text = cc (append_assoc (text_of closed begun) (line_feed ∷ []) rest, more.text);
         lines = rw joined more.lines;
         line = more.line;
       }
@@ -73,8 +70,7 @@ goes_on (b ∷ rest) closed begun all is = elim (eqb_tells b line_feed) [
       record {
         newer = more.newer;
         last = more.last;
-        text = sym (append_assoc (text_of closed begun) (b ∷ []) rest) ∙ ap (λ (l : List ℕ). l ++ rest)
-            (text_of-more closed begun (b ∷ [])) ∙ more.text;
+        text = cc (append_assoc (text_of closed begun) (b ∷ []) rest, text_of-more closed begun (b ∷ []), more.text);
         lines = more.lines;
         line = more.line;
       }
@@ -90,26 +86,15 @@ all_lines bytes lines (inl (line, rest, cut, all, is)) =
   where
     closing : (newer : List Line) (last : Line) → bytes ≡ text_of (newer ++ lines) last → All IsLine (newer ++ lines)
         → IsLine last → (more : List Line) × AreLines bytes (more ++ lines)
-    closing newer [] text each is_line = (newer, (newer ++ lines, [], text, each, is_line, inl (refl, refl)))
-    closing newer (b ∷ last) text each is_line = (
-      (b ∷ last) ∷ newer,
-      (
-        newer ++ lines,
-        b ∷ last,
-        text,
-        each,
-        is_line,
-        inr ((λ e. (cc)), refl),
-      ),
-    )
+    closing newer [] text each line = (newer, (newer ++ lines, [], text, each, line, inl (refl, refl)))
+    closing newer (b ∷ last) text each line =
+        ((b ∷ last) ∷ newer, (newer ++ lines, b ∷ last, text, each, line, inr ((λ e. (cc)), refl)))
 
 -- of two ends of a list one is an end of the other
 two_ends : (a b x y : List Line) → a ++ x ≡ b ++ y → ((c : List Line) × (x ≡ c ++ y)) ⊎ ((c : List Line) × (y ≡ c ++ x))
 two_ends [] b x y e = inl (b, e)
 two_ends (l ∷ a) [] x y e = inr (l ∷ a, sym e)
-two_ends (l ∷ a) (l' ∷ b) x y e =
-    let tail : a ++ x ≡ b ++ y = (cc) in
-    two_ends a b x y tail
+two_ends (l ∷ a) (l' ∷ b) x y e = grind (arith, two_ends a b x y)
 
 -- ---- slots
 
@@ -119,8 +104,7 @@ more_slots : (n : ℕ) (newer lines : List Line) (all slots : List (Option Group
 more_slots n [] lines all slots p q = ([], same_slots n lines all slots p q)
 more_slots n (line ∷ newer) lines all slots (inl (skip, p)) q = more_slots n newer lines all slots p q
 more_slots n (line ∷ newer) lines all slots (inr (slot, older, says, e, p)) q =
-    let (more, is) = more_slots n newer lines older slots p q in
-    (exchanged_in n slot ∷ more, e ∙ ap (λ (l : List (Option Group)). exchanged_in n slot ∷ l) is)
+    (let (more, is) = more_slots n newer lines older slots p q in (exchanged_in n slot ∷ more, cc))
 
 more_heard : (pi : ℕ) (more slots : List (Option Group))
     → heard_of pi (more ++ slots) ≡ heard_of pi more ++ heard_of pi slots
@@ -131,8 +115,7 @@ more_heard pi (s ∷ more) slots = ap (λ (l : List (Option Message)). heard_in 
 fault_stays : (form : TextForm) (d : ℕ) (newer log : List (Option Message)) (fault : AuditFault)
     → IsFaultOf form d log fault → IsFaultOf form d (newer ++ log) fault
 fault_stays form d [] log fault p = p
-fault_stays form d (m ∷ newer) log fault p = ap (λ (o : Option AuditFault). or_else o
-    (first_of (slot_adds form d m (newer ++ log)))) (fault_stays form d newer log fault p)
+fault_stays form d (m ∷ newer) log fault p = search (fault_stays form d newer log fault p)
 
 -- slots that go on after a fault do not pass
 fails_for_good : WhatHasAFaultDoesNotPass
@@ -140,28 +123,17 @@ fails_for_good : WhatHasAFaultDoesNotPass
     → SlotsFail a t fault slots → SlotsPass a (more ++ slots) → ⊥
 fails_for_good fails a t fault more slots some fail pass =
     let (later, e) = judged_more a.start (spacing a) (heard_of a.pi more) (heard_of a.pi slots) in
-    let goes_on : judged a (more ++ slots) ≡ later ++ judged a slots =
-    ap (judged_as a.start (spacing a)) (more_heard a.pi more slots) ∙ e in
     fails a.form (spacing a) (judged a (more ++ slots)) fault some
-    (rw goes_on (fault_stays a.form (spacing a) later (judged a slots) fault fail.fault_is)) pass.passes
+    (rw (more_heard a.pi more slots, e) (fault_stays a.form (spacing a) later (judged a slots) fault fail.fault_is))
+    pass.passes
 
 -- and those that do not pass fail at one slot, with one fault
 fails_once : WhatHasAFaultDoesNotPass
     → (a : Auditing) (t u : ℕ) (f g : AuditFault) (more slots all : List (Option Group))
     → 0 < spacing a → all ≡ more ++ slots → SlotsFail a t f slots → SlotsFail a u g all → no_line t f ≡ no_line u g
-fails_once fails a t u f g [] slots all some same p q =
-    let count : length all ≡ length slots = ap length same in
-    let first : length slots ≡ length (p.newest ∷ p.before) = ap length p.cut in
-    let second : length all ≡ length (q.newest ∷ q.before) = ap length q.cut in
-    let number : t ≡ u = omega (arith, count, first, second, p.number, q.number) in
-    let both : Some f ≡ Some g =
-    sym p.fault_is ∙ ap (λ (l : List (Option Group)). first_fault a.form (spacing a) (judged a l)) (sym same)
-    ∙ q.fault_is in
-    let fault : f ≡ g = (cc) in
-    ap (λ (n : ℕ). no_line n f) number ∙ ap (no_line u) fault
+fails_once fails a t u f g [] slots all some same p q = grind arith
 fails_once fails a t u f g (s ∷ more) slots all some same p q =
-    let cut : s ∷ (more ++ slots) ≡ q.newest ∷ q.before = sym same ∙ q.cut in
-    let before : q.before ≡ more ++ slots = (cc) in
+    let before : q.before ≡ more ++ slots = cc q.cut in
     absurd (fails_for_good fails a t f more slots some p (rw before at q.passed))
 
 -- ---- the answer
@@ -172,32 +144,24 @@ stops_in_all : (a : Auditing) (t : ℕ) (fault : AuditFault) (before after : Opt
     → StopsAtSlot a t fault bytes (Some [])
 stops_in_all a t fault before after bytes text given read stops = record {
   lines = stops.lines;
-  begins = begins_all before after bytes text stops.lines given read stops.begins;
+  begins = begins_all stops.lines stops.begins;
   slots = stops.slots;
   say = stops.say;
   fail = stops.fail;
 }
   where
-    begins_all : (before after : Option (List ℕ)) (bytes text : List ℕ) (lines : List Line) → before ≡ Some bytes
-        → Consumes before after text → BeginsWith text after lines → BeginsWith bytes (Some []) lines
-    begins_all before after bytes text lines given read (inl (line, rest, cut, all, is)) =
+    begins_all : (lines : List Line) → BeginsWith text after lines → BeginsWith bytes (Some []) lines
+    begins_all lines (inl (line, rest, cut, all, is)) =
         let (left, known, whole) = read_and_left before after bytes text given read in
-        inl (
-          line,
-          rest ++ left,
-          whole ∙ ap (λ (l : List ℕ). l ++ left) cut ∙ append_assoc (text_of lines line) rest left,
-          all,
-          is,
-        )
-    begins_all before after bytes text lines given read (inr (end, are)) =
-        inr (refl, rw (read_whole before after bytes text given read end) at are)
+        inl (line, rest ++ left, cc (append_assoc (text_of lines line) rest left), all, is)
+    begins_all lines (inr (end, are)) = inr (refl, rw (read_whole before after bytes text given read end) at are)
 
 -- all lines are good and pass, or some of them fail
 not_both : WhatHasAFaultDoesNotPass → (a : Auditing) (n t : ℕ) (fault : AuditFault) (bytes : List ℕ) → 0 < spacing a
     → WholePasses a n bytes → StopsAtSlot a t fault bytes (Some []) → ⊥
 not_both fails a n t fault bytes some p q =
     let (newer, are) = all_lines bytes q.lines q.begins in
-    let lines : p.lines ≡ newer ++ q.lines = same_lines bytes p.lines (newer ++ q.lines) p.are are in
+    let lines = same_lines bytes p.lines (newer ++ q.lines) p.are are in
     let (more, slots) = more_slots a.rtplus newer q.lines p.slots q.slots (rw lines at p.say) q.say in
     fails_for_good fails a t fault more q.slots some q.fail (rw slots at p.pass)
 
@@ -230,25 +194,13 @@ one_number a n m bytes p q =
 one_list : (form : TextForm) (d : ℕ) (log : List (Option Message)) (fs gs : List FaultSet) → length fs ≡ length gs
     → AreAdded form d log fs → AreAdded form d log gs → fs ≡ gs
 one_list form d log [] [] same p q = refl
-one_list form d log [] (g ∷ gs) same p q = absurd (cc)
-one_list form d log (f ∷ fs) [] same p q = absurd (cc)
-one_list form d [] (f ∷ fs) (g ∷ gs) same p q = absurd p
-one_list form d (m ∷ log) (f ∷ fs) (g ∷ gs) same p q =
-    let one : f ≡ g = p.0 ∙ sym q.0 in
-    let shorter : length fs ≡ length gs = omega (arith, same) in
-    let all : fs ≡ gs = one_list form d log fs gs shorter p.1 q.1 in
-    (cc)
+one_list form d (m ∷ log) (f ∷ fs) (g ∷ gs) same p q = grind (arith, one_list form d log fs gs)
+one_list form d _ _ _ same p q = grind arith
 
 -- lines have one output
 one_output : (a : Auditing) (lines : List Line) (written other : List ℕ) → LinesList a lines written
     → LinesList a lines other → written ≡ other
-one_output a lines written other p q =
-    let slots : p.slots ≡ q.slots = same_slots a.rtplus lines p.slots q.slots p.say q.say in
-    let each : length p.list.faults ≡ length q.list.faults = p.list.are.each ∙ ap length slots ∙ sym q.list.are.each in
-    let faults : p.list.faults ≡ q.list.faults =
-    one_list a.form (spacing a) (judged a q.slots) p.list.faults q.list.faults each (rw slots at p.list.are.added)
-    q.list.are.added in
-    p.list.lines ∙ ap (list_lines a.stop) faults ∙ sym q.list.lines
+one_output a lines written other p q = grind (arith, same_slots, one_list)
 
 -- what passes has no fault
 no_fault : WhatHasAFaultDoesNotPass → (a : Auditing) (stop : Stop) (bytes : List ℕ) (r w q v : Traffic) → 0 < spacing a
@@ -258,15 +210,13 @@ no_fault fails a FirstFault bytes r w q v some given same pass find =
     (rw (read_whole r.before r.after bytes pass.text given pass.read pass.end) at pass.passes)
     (stops_in_all a find.number find.fault q.before q.after bytes find.text same find.read find.stops)
 no_fault fails a LogEnd bytes r w q v some given same pass find =
-    let (fault, first_of_all) = find.some in
-    let first : pass.text ≡ bytes = read_whole r.before r.after bytes pass.text given pass.read pass.end in
-    let second : find.text ≡ bytes = read_whole q.before q.after bytes find.text same find.read find.end in
-    let lines : pass.passes.lines ≡ find.lines =
-    same_lines bytes pass.passes.lines find.lines (rw first at pass.passes.are) (rw second at find.are) in
-    let slots : pass.passes.slots ≡ find.list.slots =
-    same_slots a.rtplus find.lines pass.passes.slots find.list.slots (rw lines at pass.passes.say) find.list.say in
-    fails_for_good fails a first_of_all.number fault first_of_all.newer first_of_all.failed some first_of_all.fail
-    (rw (slots ∙ first_of_all.cut) at pass.passes.pass)
+    let (fault, has) = find.some in
+    let first = read_whole r.before r.after bytes pass.text given pass.read pass.end in
+    let second = read_whole q.before q.after bytes find.text same find.read find.end in
+    let p = pass.passes in
+    let lines = same_lines bytes p.lines find.lines (rw first at p.are) (rw second at find.are) in
+    let slots = same_slots a.rtplus find.lines p.slots find.list.slots (rw lines at p.say) find.list.say in
+    fails_for_good fails a has.number fault has.newer has.failed some has.fail (rw (slots ∙ has.cut) at p.pass)
 
 -- two calls that found faults wrote the same
 same_faults : WhatHasAFaultDoesNotPass → (a : Auditing) (stop : Stop) (bytes : List ℕ) (r w q v : Traffic)
@@ -280,10 +230,10 @@ same_faults fails a FirstFault bytes r w q v some given same p u = record {
   other = u.wrote;
 }
 same_faults fails a LogEnd bytes r w q v some given same p u =
-    let first : p.text ≡ bytes = read_whole r.before r.after bytes p.text given p.read p.end in
-    let second : u.text ≡ bytes = read_whole q.before q.after bytes u.text same u.read u.end in
-    let lines : p.lines ≡ u.lines = same_lines bytes p.lines u.lines (rw first at p.are) (rw second at u.are) in
-    let one : p.written ≡ u.written = one_output a u.lines p.written u.written (rw lines at p.list) u.list in
+    let first = read_whole r.before r.after bytes p.text given p.read p.end in
+    let second = read_whole q.before q.after bytes u.text same u.read u.end in
+    let lines = same_lines bytes p.lines u.lines (rw first at p.are) (rw second at u.are) in
+    let one = one_output a u.lines p.written u.written (rw lines at p.list) u.list in
     record { written = u.written; one = rw one at p.wrote; other = u.wrote }
 
 -- two calls over the same bytes

@@ -1,9 +1,8 @@
 -- How a source of lines goes on: from line to line, and from chunk to chunk.
 use Rattle.std.proofs.Common.{◌≡◌, ◌≢◌, ◌+◌, ◌-◌, ◌<◌, ◌≤◌, ◌⊎◌, ℕ, Bool, List, [], ◌∷◌, ◌++◌, take, drop, length}
 use Rattle.std.proofs.Common.{length-append, Option, Some, None, Ok, Err, true, false, append_assoc, add-one, ap, sym}
-use Rattle.std.proofs.Common.{◌∙◌, refl, arith, inl, inr, nat_lt}
+use Rattle.std.proofs.Common.{◌∙◌, refl, arith, nat_lt}
 use Rattle.std.specs.Prelude.{IfErr, IfNone, IfSome, MatchBool, MatchOption, MatchResult, Result}
-use Rattle.std.proofs.lemmas.Bool.Decides.{nat_tests}
 use Rattle.std.proofs.lemmas.List.{append-nil, drop-drop, drop-take, take-append-drop, take-take}
 use Rattle.std.proofs.lemmas.List.Elements.{All-append}
 use Rattle.std.proofs.Math.Seq.{drop-cons}
@@ -11,7 +10,6 @@ use Rattle.std.proofs.KnownBytes.{Consumes-kept, Consumes-trans}
 use Rattle.std.specs.Io.KnownBytes.{Consumes, IsAtEnd, Keeps}
 use Rattle.rds_io.specs.Told.{count_next, next_count}
 use Rattle.rds_log.specs.LogLines.{EndsAt, IsLine, Line, line_feed, text_of}
-use Rattle.rds_log.specs.LineSays.{LineSays}
 use Rattle.rds_log.specs.Inside.Cutter.{Closes, CutterStandsAt, IsBadLine}
 use Rattle.rds_log.specs.Reads.{MadeReads, ReadsUpTo}
 use Rattle.rds_log.specs.Inside.Source.{GivesNext, HasLine, HasNoNext, HasMade, IsAtLast, IsInside, IsThrough}
@@ -21,46 +19,35 @@ use Rattle.rds_io.specs.declared.fault.LogFault.{LogFault}
 use Rattle.rds_io.specs.declared.fault.LogFault.TheVariants.{BadLine, TooLong}
 use Rattle.rds_log.specs.declared.log_line.LogLine.{LogLine}
 use Rattle.rds_log.specs.declared.source.Source.{Source}
-use Rattle.rds_log.proofs.Cutting.{begun_empty, kept_of_more, text_of-more}
+use Rattle.rds_log.proofs.Cutting.{kept_of_more, text_of-more}
 
 -- where the next line ends in the bytes, or that it does not
 pub line_told : (bytes : List ℕ) (o : Option ℕ) → IfNone o (IsLine bytes) → IfSome o (EndsAt bytes)
     → MatchOption o (IsLine bytes) (EndsAt bytes)
-line_told bytes None none some = none
-line_told bytes (Some n) none some = some
+line_told bytes o none some = grind arith
 
 no_end : (bytes : List ℕ) (o : Option ℕ) → o ≡ None → MatchOption o (IsLine bytes) (EndsAt bytes) → IsLine bytes
-no_end bytes None e h = h
-no_end bytes (Some n) e h = absurd (cc)
+no_end bytes o e h = grind arith
 
 an_end : (bytes : List ℕ) (o : Option ℕ) (n : ℕ) → o ≡ Some n → MatchOption o (IsLine bytes) (EndsAt bytes)
     → EndsAt bytes n
-an_end bytes None n e h = absurd (cc)
-an_end bytes (Some m) n e h = (let same : m ≡ n = (cc) in rw same at h)
+an_end bytes o n e h = grind arith
 
 -- a source that is not at its end
 inside : (s : Source) (most : ℕ) (start now : ReaderState) (lines : List Line) → s.ended ≡ false
     → SourceStandsAt s most start now lines → IsInside s most start now lines
-inside s most start now lines not_ended stands = by_end s.ended not_ended stands.where_it_is
-  where
-    by_end : (b : Bool) → b ≡ false
-        → MatchBool b (IsThrough start now lines × (s.line ≡ None)) (IsInside s most start now lines)
-        → IsInside s most start now lines
-    by_end true e h = absurd (cc)
-    by_end false e h = h
+inside s most start now lines not_ended stands = grind arith
 
 from_inside : (s : Source) (most : ℕ) (start now : ReaderState) (lines : List Line) (b : Bool) → b ≡ false
     → IsInside s most start now lines
     → MatchBool b (IsThrough start now lines × (s.line ≡ None)) (IsInside s most start now lines)
-from_inside s most start now lines true e is = absurd (cc)
-from_inside s most start now lines false e is = is
+from_inside s most start now lines b e is = grind arith
 
 -- one that is
 from_through : (s : Source) (most : ℕ) (start now : ReaderState) (lines : List Line) (b : Bool) → b ≡ true
     → IsThrough start now lines → s.line ≡ None
     → MatchBool b (IsThrough start now lines × (s.line ≡ None)) (IsInside s most start now lines)
-from_through s most start now lines true e through none = (through, none)
-from_through s most start now lines false e through none = absurd (cc)
+from_through s most start now lines b e through none = grind arith
 
 -- a source that knows of a line is not at its end
 goes_on : (s : Source) (most n : ℕ) (start now : ReaderState) (lines : List Line) → s.line ≡ Some n
@@ -69,46 +56,31 @@ goes_on s most n start now lines e stands = by_end s.ended stands.where_it_is
   where
     by_end : (b : Bool) → MatchBool b (IsThrough start now lines × (s.line ≡ None)) (IsInside s most start now lines)
         → b ≡ false
-    by_end true (through, none) = absurd (let both : Some n ≡ None = sym e ∙ none in cc)
+    by_end true (through, none) = absurd (cc)
     by_end false is = refl
 
 -- no read more
 made_so_far : (s after : Source) (most : ℕ) (start now : ReaderState) → after.left ≡ s.left → HasMade s most start now
     → HasMade after most start now
-made_so_far s after most start now left m =
-    let leaves = m.leaves in
-    record { made = m.made; leaves = omega (arith, leaves, left); counted = m.counted; calm = m.calm }
+made_so_far s after most start now left m = grind arith
 
 -- the text, cut at the end of the next line
 pub cut_line : (lines : List Line) (begun : Line) (bytes : List ℕ) (n : ℕ) → EndsAt bytes n
     → text_of lines begun ++ bytes ≡ text_of ((begun ++ take n bytes) ∷ lines) (drop (n + 1) bytes)
-cut_line lines begun bytes n ends =
-    let run = take n bytes in
-    let rest = drop (n + 1) bytes in
-    let feed = ends.feed in
-    let whole : run ++ (line_feed ∷ rest) ≡ bytes = rw (← feed, add-one, ← drop-cons bytes n 0 ends.within)
-    (take-append-drop n bytes) in
-    ap (λ (l : List ℕ). text_of lines begun ++ l) (sym whole)
-    ∙ sym (append_assoc (text_of lines begun) run (line_feed ∷ rest))
-    ∙ ap (λ (l : List ℕ). l ++ (line_feed ∷ rest)) (text_of-more lines begun run)
+cut_line lines begun bytes n ends = grind (arith, add-one, drop-cons, take-append-drop, append_assoc, text_of-more)
 
 -- what waits after a line and its end
 pub wait_on : (chunk : List ℕ) (at count n : ℕ) → at + n < count
     → take (count - (at + n + 1)) (drop (at + n + 1) chunk) ≡ drop (n + 1) (take (count - at) (drop at chunk))
 wait_on chunk at count n less =
-    let size : n + 1 + (count - (at + n + 1)) ≡ count - at = omega (arith, less) in
+    let size : n + 1 + (count - (at + n + 1)) ≡ count - at = omega arith in
     let place : at + (n + 1) ≡ at + n + 1 = omega arith in
-    ap (λ (m : ℕ). take (count - (at + n + 1)) (drop m chunk)) (sym place)
-    ∙ ap (λ (l : List ℕ). take (count - (at + n + 1)) l) (sym (drop-drop (n + 1) at chunk))
-    ∙ sym (drop-take (n + 1) (count - (at + n + 1)) (drop at chunk))
-    ∙ ap (λ (m : ℕ). drop (n + 1) (take m (drop at chunk))) size
+    cc (drop-drop (n + 1) at chunk, drop-take (n + 1) (count - (at + n + 1)) (drop at chunk))
 
 -- the line that ends so many bytes on, as the code's range has it
 pub line_of : (chunk : List ℕ) (at count n : ℕ) → at + n < count
     → take n (take (count - at) (drop at chunk)) ≡ take (at + n - at) (drop at chunk)
-line_of chunk at count n less =
-    let size : n ≡ at + n - at = omega arith in
-    take-take n (count - at) (drop at chunk) (omega (arith, less)) ∙ ap (λ (m : ℕ). take m (drop at chunk)) size
+line_of chunk at count n less = grind (arith, take-take)
 
 -- the first bytes of the line that these bytes end
 start_is : (s : Source) (lines : List Line) (begun last : Line) → CutterStandsAt s.cutter lines begun
@@ -123,28 +95,12 @@ IsStartKept s after last = ((after.start.place ≡ s.at) × (s.cutter.kept.items
 starts : (s after : Source) (n : ℕ) → s.at + n < s.count → s.count ≤ 65536 → after.chunk ≡ s.chunk
     → after.at ≡ s.at + n + 1
     → IsStartKept s after (take n (waiting s)) → start_of after ≡ start_with s (take n (waiting s))
-starts s after n less room chunk at (inl (here, none)) =
-    let before : nat_lt after.start.place after.at ≡ true = grind (arith, nat_tests, here, at) in
-    let count : after.at - 1 - after.start.place ≡ s.at + n - s.at = omega (arith, here, at) in
-    rw (before, count, here, chunk, none) (ap (take 60) (sym (line_of s.chunk s.at s.count n less)))
-starts s after n less room chunk at (inr (elsewhere, copied)) =
-    let behind : nat_lt after.start.place after.at ≡ false = grind (arith, nat_tests, elsewhere, at, less, room) in
-    rw behind copied
-
--- the first bytes were copied
-starts_elsewhere : (after : Source) (first : List ℕ) → after.start.place ≡ 65536 → after.at ≤ 65536
-    → after.start.copy.items ≡ first → start_of after ≡ first
-starts_elsewhere after first elsewhere room copied =
-    let behind : nat_lt after.start.place after.at ≡ false = grind (arith, nat_tests, elsewhere, room) in
-    rw behind copied
+starts s after n less room chunk at p7 = grind (arith, nat_lt, line_of)
 
 -- the start of a last line that was begun before
 last_start : (s after : Source) (lines : List Line) (begun : Line) → CutterStandsAt s.cutter lines begun → begun ≢ []
     → after.at ≤ 65536 → IsStartKept s after [] → start_of after ≡ start_with s []
-last_start s after lines begun cutter some room (inl (here, none)) = absurd
-    (some (begun_empty begun (sym (ap length cutter.kept) ∙ ap length none)))
-last_start s after lines begun cutter some room (inr (elsewhere, copied)) = starts_elsewhere after (start_with s [])
-    elsewhere room copied
+last_start s after lines begun cutter some room p7 = grind arith
 
 -- the next line was closed, and says this
 gives_line : (s after : Source) (most n : ℕ) (start now : ReaderState) (lines : List Line) (said : LogLine)
@@ -161,11 +117,7 @@ gives_line s after most n start now lines said stands line less closes chunk at 
     let ends = an_end (waiting s) s.line n line is.holds.line in
     let closed = closes is.holds.begun is.holds.cutter ends.line in
     let whole = is.holds.begun ++ take n (waiting s) in
-    let rest : waiting after ≡ drop (n + 1) (waiting s) =
-    ap (λ (l : List ℕ). take (after.count - after.at) (drop after.at l)) chunk
-    ∙ ap (λ (m : ℕ). take (after.count - m) (drop m s.chunk)) at
-    ∙ ap (λ (m : ℕ). take (m - (s.at + n + 1)) (drop (s.at + n + 1) s.chunk)) count ∙ wait_on s.chunk s.at s.count n
-    less in
+    let rest : waiting after ≡ drop (n + 1) (waiting s) = rw (chunk, at, count) (wait_on s.chunk s.at s.count n less) in
     let reads = stands.reads in
     let enough = is.enough in (
       whole,
@@ -178,9 +130,8 @@ gives_line s after most n start now lines said stands line less closes chunk at 
           enough = omega (arith, enough, left);
           holds = record {
             begun = [];
-            cut = is.holds.cut ∙ cut_line lines is.holds.begun (waiting s) n ends
-                ∙ sym (text_of-more (whole ∷ lines) [] (drop (n + 1) (waiting s)))
-                ∙ ap (λ (l : List ℕ). text_of (whole ∷ lines) [] ++ l) (sym rest);
+            cut = rw rest (is.holds.cut ∙ cut_line lines is.holds.begun (waiting s) n ends
+                ∙ sym (text_of-more (whole ∷ lines) [] (drop (n + 1) (waiting s))));
             cutter = closed.stands;
             line = next;
           };
@@ -229,12 +180,12 @@ pub gives_either : (s after : Source) (most n : ℕ) (start now : ReaderState) (
     → IsStartKept s after (take n (waiting s))
     → MatchResult result (λ said. GivesNext after most start now lines (Some said)) (λ bad. HasNoNext most start now
     lines after.cutter.kept.items (BadLine bad.number))
-gives_either s after most n start now lines (Ok said) stands line less closes first chunk at count left ended next room
-    kept =
+gives_either s after most n start now lines (Ok said) stands line less closes first chunk at count left ended next
+    room kept =
     gives_line s after most n start now lines said stands line less closes chunk at count left ended next
     (starts s after n less room chunk at kept)
-gives_either s after most n start now lines (Err bad) stands line less closes first chunk at count left ended next room
-    kept =
+gives_either s after most n start now lines (Err bad) stands line less closes first chunk at count left ended next
+    room kept =
     gives_bad s after most n bad.number start now lines stands line closes first
 
 -- all of the chunk is of the line that is begun
@@ -249,12 +200,10 @@ pub reads_up_to : (s : Source) (most least : ℕ) (start now after : ReaderState
 reads_up_to s most least start now after lines stands not_ended none keeps less =
     let is = inside s most start now lines not_ended stands in
     let (cut, rest) = takes_rest s lines is.text is.holds none in
-    let enough = is.enough in
-    let size : length is.text ≡ length (text_of lines (is.holds.begun ++ waiting s)) = ap length cut in
     record {
       begun = is.holds.begun ++ waiting s;
       read = Consumes-kept start.left now.left after.left _ (rw cut at is.read) keeps;
-      enough = omega (arith, enough, size, less);
+      enough = omega (arith, is.enough, ap length cut);
       lines_are = is.holds.cutter.lines;
       line_is = All-append (λ x. x ≢ line_feed) is.holds.begun (waiting s) is.holds.cutter.line rest;
     }
@@ -263,40 +212,25 @@ reads_up_to s most least start now after lines stands not_ended none keeps less 
 pub made_more : (s after : Source) (most : ℕ) (start now later : ReaderState) → HasMade s most start now
     → after.left + 1 ≡ s.left → later.reads ≡ next_count now.reads
     → later.failures ≡ now.failures → HasMade after most start later
-made_more s after most start now later m fewer counts calm =
-    let leaves = m.leaves in
-    record {
-      made = m.made + 1;
-      leaves = omega (arith, leaves, fewer);
-      counted = count_next start.reads m.made now.reads later.reads m.counted counts;
-      calm = calm ∙ m.calm;
-    }
+made_more s after most start now later m fewer counts calm = record {
+  made = m.made + 1;
+  leaves = omega (arith, m.leaves);
+  counted = count_next start.reads m.made now.reads later.reads m.counted counts;
+  calm = calm ∙ m.calm;
+}
 
 -- a read that failed
 pub made_in_vain : {X : Type 0} (s : Source) (most : ℕ) (start now : ReaderState) (after : ℕ)
     (result : Result X LogFault) → HasMade s most start now → 0 < s.left
     → after ≡ next_count now.reads → result ≢ Err TooLong → MadeReads most start.reads after result
 made_in_vain s most start now after result m some counts other =
-    let leaves = m.leaves in
-    record {
-      made = m.made + 1;
-      at_most = omega (arith, leaves, some);
-      counted = count_next start.reads m.made now.reads after m.counted counts;
-      gave_up = λ e. absurd (other e);
-    }
+    let counted = count_next start.reads m.made now.reads after m.counted counts in
+    grind arith
 
 -- all reads were made
 pub made_all : {X : Type 0} (s : Source) (most : ℕ) (start now : ReaderState) (result : Result X LogFault)
     → HasMade s most start now → s.left ≡ 0 → MadeReads most start.reads now.reads result
-made_all s most start now result m none =
-    let leaves = m.leaves in
-    record {
-      made = m.made;
-      at_most = omega (arith, leaves, none);
-      counted = m.counted;
-      gave_up = λ e. omega
-          (arith, leaves, none);
-    }
+made_all s most start now result m none = grind arith
 
 -- a read that gave nothing
 pub reads_none : (s after : Source) (most : ℕ) (start now later : ReaderState) (lines : List Line)
@@ -309,13 +243,10 @@ pub reads_none : (s after : Source) (most : ℕ) (start now later : ReaderState)
 reads_none s after most start now later lines stands not_ended none keeps fewer counts calm gave end =
     let is = inside s most start now lines not_ended stands in
     let (cut, rest) = takes_rest s lines is.text is.holds none in
-    record {
-      reads = made_more s after most start now later stands.reads fewer counts calm;
-      begun = is.holds.begun ++ waiting s;
-      read = rw (append-nil _) at (Consumes-trans start.left now.left later.left _ [] (rw cut at is.read) gave);
-      end = end;
-      cutter = keeps rest lines is.holds.begun is.holds.cutter;
-    }
+    let more = made_more s after most start now later stands.reads fewer counts calm in
+    let read = rw (append-nil _) at (Consumes-trans start.left now.left later.left _ [] (rw cut at is.read) gave) in
+    let cutter = keeps rest lines is.holds.begun is.holds.cutter in
+    grind arith
 
 -- a read that gave bytes
 pub reads_more : (s after : Source) (most : ℕ) (start now later : ReaderState) (lines : List Line)
@@ -329,16 +260,15 @@ pub reads_more : (s after : Source) (most : ℕ) (start now later : ReaderState)
 reads_more s after most start now later lines stands not_ended none keeps fewer still counts calm gave some next =
     let is = inside s most start now lines not_ended stands in
     let (cut, rest) = takes_rest s lines is.text is.holds none in
-    let enough = is.enough in
     record {
       reads = made_more s after most start now later stands.reads fewer counts calm;
       where_it_is = from_inside after most start later lines after.ended still record {
         text = is.text ++ waiting after;
         read = Consumes-trans start.left now.left later.left is.text (waiting after) is.read gave;
-        enough = omega (arith, enough, fewer, some, length-append is.text (waiting after));
+        enough = omega (arith, is.enough, length-append is.text (waiting after));
         holds = record {
           begun = is.holds.begun ++ waiting s;
-          cut = ap (λ (l : List ℕ). l ++ waiting after) cut;
+          cut = rw cut refl;
           cutter = keeps rest lines is.holds.begun is.holds.cutter;
           line = next;
         };
@@ -349,20 +279,7 @@ reads_more s after most start now later lines stands not_ended none keeps fewer 
 pub ends_between : (s after : Source) (most : ℕ) (start now : ReaderState) (lines : List Line)
     (last : IsAtLast s most start now lines) → last.begun ≡ [] → after.left ≡ s.left
     → after.ended ≡ true → after.line ≡ None → GivesNext after most start now lines None
-ends_between s after most start now lines last empty left ended none =
-    let through : IsThrough start now lines = record {
-      text = text_of lines last.begun;
-      read = last.read;
-      end = last.end;
-      are = (lines, last.begun, refl, last.cutter.lines, last.cutter.line, inl (empty, refl));
-    } in
-    let reads = last.reads in (
-      record {
-        reads = made_so_far s after most start now left reads;
-        where_it_is = from_through after most start now lines after.ended ended through none;
-      },
-      through,
-    )
+ends_between s after most start now lines last empty left ended none = grind arith
 
 -- the end, which closes a line
 pub ends_line : (s after : Source) (most : ℕ) (start now : ReaderState) (lines : List Line) (said : LogLine)
@@ -370,23 +287,7 @@ pub ends_line : (s after : Source) (most : ℕ) (start now : ReaderState) (lines
     → Closes after.cutter lines (last.begun ++ []) said → after.left ≡ s.left → after.ended ≡ true → after.line ≡ None
     → after.at ≤ 65536 → IsStartKept s after [] → GivesNext after most start now lines (Some said)
 ends_line s after most start now lines said last some closed left ended none room kept =
-    let says : LineSays last.begun said = rw (append-nil last.begun) at closed.says in
-    let through : IsThrough start now (last.begun ∷ lines) = record {
-      text = text_of lines last.begun;
-      read = last.read;
-      end = last.end;
-      are = (lines, last.begun, refl, last.cutter.lines, last.cutter.line, inr (some, refl));
-    } in
-    let reads = last.reads in (
-      last.begun,
-      says,
-      record {
-        reads = made_so_far s after most start now left reads;
-        where_it_is = from_through after most start now (last.begun ∷ lines) after.ended ended through none;
-      },
-      last_start s after lines last.begun last.cutter some room kept ∙ start_is s lines last.begun [] last.cutter
-          ∙ ap (take 60) (append-nil last.begun),
-    )
+    grind (arith, append-nil, made_so_far, from_through, last_start, start_is)
 
 -- the end closes a bad line
 pub ends_bad : (s : Source) (kept : List ℕ) (most number : ℕ) (start now : ReaderState) (lines : List Line)

@@ -1,6 +1,6 @@
 -- How the displays and their changes go on by a slot.
-use Rattle.std.proofs.Common.{◌≡◌, ◌+◌, ◌++◌, ℕ, Bool, true, false, List, [], ◌∷◌, None, Option, Some, length, refl}
-use Rattle.std.proofs.Common.{sym, ap, ◌∙◌, arith}
+use Rattle.std.proofs.Common.{◌≡◌, ◌+◌, ◌++◌, ℕ, Bool, true, false, List, [], ◌∷◌, None, Option, Some, refl}
+use Rattle.std.proofs.Common.{◌∙◌, arith}
 use Rattle.std.proofs.lemmas.List.{append-nil}
 use Rattle.rds_block.specs.declared.group.Group.{Group}
 use Rattle.rds_receiver.specs.NotShown.{whys_of}
@@ -22,34 +22,25 @@ pub slot_given : (why : Bool) (t : Tuning) (v after : ViewLines) (slots : List (
     → after.says_why ≡ v.says_why → after.slot ≡ v.slot + 1 → view_kept after.shown ≡ display.view
     → now ≡ before ++ change (slot_prefix v.slot) display.whys (view_kept v.shown) display.view
     → (added : List ℕ) × (now ≡ before ++ added) × ViewsStandAt why t after (group ∷ slots) (written ++ added)
-slot_given why t v after slots written before now group display s receiver is says slot shown gave =
-    let here : change (slot_prefix v.slot) display.whys (view_kept v.shown) display.view
-    ≡ change (slot_prefix (length s.displays)) display.whys (newest s.displays) display.view =
-    ap (λ (n : ℕ). change (slot_prefix n) display.whys (view_kept v.shown) display.view) s.slot
-    ∙ ap (λ (x : ShownView). change (slot_prefix (length s.displays)) display.whys x display.view) s.shown in (
-      change (slot_prefix v.slot) display.whys (view_kept v.shown) display.view,
-      gave,
-      record {
-        receiver = receiver;
-        says_why = says ∙ s.says_why;
-        displays = display ∷ s.displays;
-        are = (is, s.are);
-        slot = slot ∙ ap (λ (n : ℕ). n + 1) s.slot ∙ one_more s.displays display;
-        shown = shown;
-        changes = ap (λ (bytes : List ℕ). written ++ bytes) here ∙ ap (λ (bytes : List ℕ). bytes
-            ++ change (slot_prefix (length s.displays)) display.whys (newest s.displays) display.view) s.changes;
-      },
-    )
-  where
-    one_more : (displays : List Display) (display : Display) → length displays + 1 ≡ length (display ∷ displays)
-    one_more displays display = omega arith
+slot_given why t v after slots written before now group display s receiver is says slot shown gave = (
+  _,
+  gave,
+  record {
+    receiver = receiver;
+    says_why = says ∙ s.says_why;
+    displays = display ∷ s.displays;
+    are = (is, s.are);
+    slot = omega (arith, s.slot);
+    shown = shown;
+    changes = (let number = s.slot in let view = s.shown in let bytes = s.changes in cc);
+  },
+)
 
 newest_view : (why : Bool) (t : Tuning) (slots : List (Option Group)) (displays : List Display)
     → AreDisplays why t slots displays → IsView t slots (newest displays)
 newest_view why t [] [] are = view_of_none t
-newest_view why t [] (display ∷ older) are = absurd are
-newest_view why t (slot ∷ before) [] are = absurd are
 newest_view why t (slot ∷ before) (display ∷ older) are = are.0.view
+newest_view why t _ _ are = absurd are
 
 -- a slot has reasons, whether the lines say them or not
 some_whys : (why : Bool) (t : Tuning) (input : List (Option Group)) (view : ShownView) → IsView t input view
@@ -67,9 +58,7 @@ pub slot_same : (why : Bool) (t : Tuning) (v after : ViewLines) (slots : List (O
 slot_same why t v after slots written before group s receiver stays says slot kept =
     let is = stays (newest s.displays) (newest_view why t slots s.displays s.are) in
     let (whys, say) = some_whys why t (group ∷ slots) (newest s.displays) is in
-    let none : change (slot_prefix v.slot) whys (view_kept v.shown) (newest s.displays)
-    ≡ [] = ap (λ (view : ShownView). change (slot_prefix v.slot) whys view (newest s.displays)) s.shown
-    ∙ no_change (slot_prefix v.slot) whys (newest s.displays) in
+    let none = no_change (slot_prefix v.slot) whys (newest s.displays) in
+    let view = s.shown in
     slot_given why t v after slots written before before group (record { view = newest s.displays; whys = whys }) s
-    receiver (record { view = is; whys = say }) says slot (kept ∙ s.shown)
-    (sym (append-nil before) ∙ ap (λ (bytes : List ℕ). before ++ bytes) (sym none))
+    receiver (record { view = is; whys = say }) says slot (kept ∙ s.shown) (cc (append-nil before))

@@ -102,6 +102,7 @@ impl Auditor {
     ghost use Rattle.rds_log.specs.Inside.Auditor.{HasAudited};
 
     /// Starts a log.
+    #[tactic(auto, using(crate::proofs::Audited::audited_none))]
     pub(crate) fn new(how: Auditing) -> Auditor
         ensures none { result.slots ≡ 0 }
         ensures wants { result.is_done ≡ false }

@@ -269,6 +269,7 @@ impl Filler {
 
     /// Appends the slots that are lost from the last group to this time and are not written yet, and before them the
     /// comment of a break, if a group came at this time.
+    #[tactic(auto, using(crate::proofs::Filled::gap_within, crate::proofs::Filled::same_pushed))]
     fn push_gap<W: TellingWrite>(
         &mut self,
         is_group: bool,

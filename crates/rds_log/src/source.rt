@@ -111,6 +111,7 @@ impl Source {
     }
 
     /// Returns the first bytes of the line that was read last: those that decide its meaning.
+    #[tactic(auto, using(std::proofs::lemmas::List::take_min))]
     pub(crate) fn start(&self) -> &[u8]
         ensures bytes { result.now ≡ start_of self.now }
         ensures short { length result.now ≤ 60 }

@@ -1,4 +1,4 @@
-use Rattle.std.proofs.Common.{◌≡◌, ◌+◌, ◌*◌, ◌<◌, ◌≤◌, ◌∙◌, ℕ, arith, length, refl, rules, sym}
+use Rattle.std.proofs.Common.{◌≡◌, ◌+◌, ◌*◌, ◌<◌, ◌≤◌, ◌∙◌, ℕ, arith, length, refl, sym}
 use Rattle.rds_log.proofs.NearEnd.{ends_near, feeds_of_lanes, no_feeds}
 use Rattle.rds_log.proofs.cutter.near_end.Goals as goal
 
@@ -9,20 +9,8 @@ lanes_fit size from k at near many = omega (arith, at, near, many)
 pub loop-from-init : goal.loop-from-init
 loop-from-init c = record { lanes = (0, refl); near = omega arith; none = λ i below. absurd (omega (arith, below)) }
 
-pub bounds-bytes-from : goal.bounds-bytes-from
-bounds-bytes-from c =
-    let (k, at) = c.loop-from.invariant.lanes in
-    let room = lanes_fit (length c.args.bytes.now) c.loop-from.from k at c.loop-from-test.true
-    c.if-bytes-lt-NEAR.false in
-    search (rules, room)
-
 pub returns-then-feeds-ne0 : goal.returns-then-feeds-ne0
-returns-then-feeds-ne0 c =
-    let (k, at) = c.loop-from.invariant.lanes in
-    let room = lanes_fit (length c.args.bytes.now) c.loop-from.from k at c.loop-from-test.true
-    c.if-bytes-lt-NEAR.false in
-    ends_near c.args.bytes.now c.loop-from.from _ room (feeds_of_lanes c.args.bytes.now c.loop-from.from room)
-    c.if-feeds-ne0.true c.loop-from.invariant.none
+returns-then-feeds-ne0 c = search (lanes_fit, ends_near, feeds_of_lanes)
 
 pub loop-from-preserved : goal.loop-from-preserved
 loop-from-preserved c =

@@ -1,6 +1,5 @@
-use Rattle.std.proofs.Common.{◌++◌, ◌-◌, ◌∙◌, ℕ, ap, append_assoc, subst}
+use Rattle.std.proofs.Common.{◌++◌, ◌-◌, ◌∙◌, ℕ, ap, append_assoc}
 use Rattle.std.proofs.lemmas.Result.{err_from_is_err_and}
-use Rattle.rds_io.specs.Waits.{IsLost}
 use Rattle.rds_io.proofs.Waiting.{lost_longer}
 use Rattle.rds_log.specs.Fill.{break_line, lost_lines}
 use Rattle.rds_log.proofs.Filled.{same_pushed}
@@ -9,9 +8,8 @@ use Rattle.rds_log.proofs.filler.Filler.push_more.Goals as goal
 pub returns-in_err-push_comment-clause-pushed : goal.returns-in_err-push_comment-clause-pushed
 returns-in_err-push_comment-clause-pushed g c start total has =
     let p = err_from_is_err_and c.from_residual.result c.from_residual.ensures.1 in
-    let more = c.args.lost - c.args.self.now.told in
-    rw p.1 (subst (IsLost _) (append_assoc total (break_line c.args.why) (lost_lines more))
-    (lost_longer _ _ (lost_lines more) (c.in_err-push_comment.ensures start total has)))
+    rw p.1 (rw append_assoc at (lost_longer _ _ (lost_lines (c.args.lost - c.args.self.now.told))
+    (c.in_err-push_comment.ensures start total has)))
 
 pub returns-clause-pushed : goal.returns-clause-pushed
 returns-clause-pushed g c start total has =

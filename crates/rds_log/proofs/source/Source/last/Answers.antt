@@ -18,7 +18,6 @@ returns-in_err-said-clause-gives c most start now lines last =
 pub returns-clause-gives : goal.returns-clause-gives
 returns-clause-gives c most start now lines last =
     ends_line c.args.self.now _ most start now lines c.in_ok-said.said last
-    (λ e. (let between = (c.is_between.ensures lines last.begun last.cutter).1 e
-    in let other = c.if-is_between.false in cc)) (c.in_ok-said.ensures.closes (All-nil _) lines last.begun
-    last.cutter) refl refl c.requires.line (omega (arith, c.args.self.now.within, c.args.self.now.room))
-    c.in_ok-said.ensures.start
+    (λ e. (let between = (c.is_between.ensures lines last.begun last.cutter).1 e in let other = c.if-is_between.false
+    in cc)) (c.in_ok-said.ensures.closes (All-nil _) lines last.begun last.cutter) refl refl c.requires.line
+    (omega (arith, c.args.self.now.within, c.args.self.now.room)) c.in_ok-said.ensures.start
