@@ -1,6 +1,6 @@
 -- When what a receiver holds is a part of what another one holds, its runs are parts of the other's.
-use Rattle.std.proofs.Common.{◌≡◌, ◌⊎◌, ◌≤◌, ◌∷◌, [], ◌∙◌, ℕ, true, List, Option, Some, ap, arith, cond, inl, inr}
-use Rattle.std.proofs.Common.{length, nat_eq, refl, subst, sym}
+use Rattle.std.proofs.Common.{◌≡◌, ◌⊎◌, ◌≤◌, ◌∷◌, [], ◌∙◌, ℕ, true, List, Option, Some, ap, arith, cond, inr}
+use Rattle.std.proofs.Common.{length, nat_eq, refl, sym}
 use Rattle.std.specs.FinMap.{empty, get, get-empty, get-insert}
 use Rattle.std.specs.Cmp.{unsigned_tied}
 use Rattle.std.specs.Ordering.{nat_cmp}
@@ -12,7 +12,7 @@ use Rattle.rds_block.specs.declared.group.Group.{Group}
 use Rattle.rds_fields.specs.Stored.{is_set}
 use Rattle.rds_fields.specs.declared.message.Message.{Message}
 use Rattle.rds_log.specs.LogWrites.{tuned}
-use Rattle.rds_receiver.specs.Receipts.{heard_of, Segment, name_fragment, segments, text_fragment}
+use Rattle.rds_receiver.specs.Receipts.{heard_of, Segment, segments}
 use Rattle.rds_receiver.specs.declared.fragment.Fragment.{Fragment}
 use Rattle.rds_receiver.specs.Run.{cells_of, run, run_at}
 use Rattle.rds_receiver.specs.Holds.{HoldsRun, newest_slot}
@@ -23,7 +23,6 @@ use Rattle.rds_receiver.specs.Stored.{age_stored, display_stored, segments_store
 use Rattle.rds_receiver.specs.Tags.{pair_held}
 use Rattle.rds_receiver.specs.declared.display.StoredSegments.{StoredSegments}
 use Rattle.rds_receiver.proofs.Runs.{run_at_newest}
-use Rattle.rds_receiver.proofs.Shows.{pair_is}
 use Rattle.rds_witness.specs.Covered.{IsInputPart}
 use Rattle.rds_witness.specs.Part.{HasCells, IsPairPart, IsPart}
 
@@ -37,11 +36,7 @@ pub part_stored : (d e rest rest_other : ℕ) (one other : StoredSegments)
     → HasCells (held_cells one.mask one.bytes) (held_cells other.mask other.bytes)
     → (one.mask ≡ 0) ⊎ ((is_set one.flag ≡ is_set other.flag) × (age_stored e rest_other other ≤ age_stored d rest one))
     → HoldsPart (segments_stored d rest one) (segments_stored e rest_other other)
-part_stored d e rest rest_other one other cells (inl none) = record {
-  cells = cells;
-  newer = inl (ap (λ mask. held_cells mask one.bytes) none ∙ nothing_held one.bytes);
-}
-part_stored d e rest rest_other one other cells (inr newer) = record { cells = cells; newer = inr newer }
+part_stored d e rest rest_other one other cells newer = grind (arith, nat_tests, nothing_held)
 
 newest_cell : (g : Segment) (older : List Segment)
     → get (cells_of (g ∷ older)) g.fragment.address ≡ Some g.fragment.bytes
@@ -54,34 +49,18 @@ newest_cell g older =
 pub held_part : (m t : ℕ) (r s : List Segment) (one other : HeldSegments) → HoldsPart one other → HoldsRun m t r one
     → HoldsRun m t s other → IsPart r s
 held_part m t [] s one other part mine theirs = tt
-held_part m t (g ∷ older) s one other part mine theirs = by_newer part.newer
-  where
-    has : HasCells (cells_of (g ∷ older)) (cells_of s)
-    has = subst (λ cells. HasCells cells (cells_of s)) mine.cells (subst (HasCells one.cells) theirs.cells part.cells)
-
-    there : (s : List Segment) → HoldsRun m t s other → HasCells (cells_of (g ∷ older)) (cells_of s)
-        → one.flag ≡ other.flag → other.age ≤ one.age → IsPart (g ∷ older) s
-    there [] theirs has same newer =
-        let held = has g.fragment.address g.fragment.bytes (newest_cell g older) in
-        let none = get-empty {X = List ℕ} nat_cmp g.fragment.address in
-        absurd (cc)
-    there (h ∷ later) theirs has same newer =
-        (sym mine.flag ∙ same ∙ theirs.flag, omega (arith, mine.age, theirs.age, newer), has)
-
-    by_newer : (one.cells ≡ empty) ⊎ ((one.flag ≡ other.flag) × (other.age ≤ one.age)) → IsPart (g ∷ older) s
-    by_newer (inl none) =
-        let held = newest_cell g older in
-        let cells = mine.cells in
-        let empty_here = get-empty {X = List ℕ} nat_cmp g.fragment.address in
-        absurd (cc)
-    by_newer (inr (same, newer)) = there s theirs has same newer
+held_part m t (g ∷ older) [] one other part mine theirs =
+    let held = newest_cell g older in
+    let none = get-empty {X = List ℕ} nat_cmp g.fragment.address in
+    grind (arith, part.cells g.fragment.address g.fragment.bytes)
+held_part m t (g ∷ older) (h ∷ later) one other part mine theirs =
+    let held = newest_cell g older in
+    let none = get-empty {X = List ℕ} nat_cmp g.fragment.address in
+    grind arith
 
 same_newest : (first : ℕ) (h k : List (Option Message)) → length h ≡ length k
     → newest_slot first h ≡ newest_slot first k
-same_newest first [] [] long = refl
-same_newest first [] (y ∷ k) long = absurd (omega (arith, long))
-same_newest first (x ∷ h) [] long = absurd (omega (arith, long))
-same_newest first (x ∷ h) (y ∷ k) long = omega (arith, long)
+same_newest first h k long = grind (arith, nat_tests)
 
 -- a log has as many messages as slots
 heard_long : (pi : ℕ) (input : List (Option Group)) → length input ≡ length (heard_of pi input)
@@ -99,11 +78,7 @@ heard_part : (pick : Message → Option Fragment) (m : ℕ) (one other : HeldSeg
     → HoldsRun m (newest_slot 0 k) (run m (newest_slot 0 k) (segments pick 0 k)) other
     → IsPart (run_at pick m 0 h) (run_at pick m 0 k)
 heard_part pick m one other h k part long holds other_holds =
-    let moved : HoldsRun m (newest_slot 0 h) (run_at pick m 0 k) other =
-    subst (λ (t : ℕ). HoldsRun m t (run_at pick m 0 k) other) (sym (same_newest 0 h k long))
-    (subst (λ (r : List Segment). HoldsRun m (newest_slot 0 k) r other) (run_at_newest pick m 0 k) other_holds) in
-    held_part m (newest_slot 0 h) (run_at pick m 0 h) (run_at pick m 0 k) one other part
-    (subst (λ (r : List Segment). HoldsRun m (newest_slot 0 h) r one) (run_at_newest pick m 0 h) holds) moved
+    grind (arith, nat_tests, same_newest, run_at_newest, held_part)
 
 -- ---- whole receivers
 
@@ -117,39 +92,24 @@ pub record HoldsPartOf (one other : DisplayState) : Type 0 where
 holds_itself : (s : HeldSegments) → HoldsPart s s
 holds_itself s = record { cells = λ a b held. held; newer = inr (refl, omega arith) }
 
-module _ (pi m : ℕ) (one other : Receiver) (part : HoldsPartOf (display_stored one.display) (display_stored other.display))
+module _ (pi m : ℕ) (one other : Receiver)
+    (part : HoldsPartOf (display_stored one.display) (display_stored other.display))
     (input more : List (Option Group)) (mine : ReceiverAt (tuned pi m) one input)
     (theirs : ReceiverAt (tuned pi m) other more) (long : length input ≡ length more) where
   same_pair : IsPairPart (display_stored one.display).pair (display_stored other.display).pair
       → IsPairPart (pair_held m 0 (heard_of pi input)) (pair_held m 0 (heard_of pi more))
-  same_pair (inl none) = inl (sym (pair_is (display_stored one.display) m 0 _ mine.holds.display) ∙ none)
-  same_pair (inr same) = inr (sym (pair_is (display_stored one.display) m 0 _ mine.holds.display) ∙ same
-      ∙ pair_is (display_stored other.display) m 0 _ theirs.holds.display)
+  same_pair held = grind (arith, nat_tests)
 
   -- a receiver that lost more heard a part
   pub holds_part : IsInputPart (tuned pi m) input more
   holds_part =
       let heard_long = as_long pi input more long in
-      record {
-        long = long;
-        texts = heard_part text_fragment m (display_stored one.display).text (display_stored other.display).text _ _ part.text heard_long
-            mine.holds.display.text theirs.holds.display.text;
-        names = heard_part name_fragment m (display_stored one.display).name (display_stored other.display).name _ _ part.name heard_long
-            mine.holds.display.name theirs.holds.display.name;
-        tags = (
-          same_pair part.pair,
-          λ is. sym theirs.holds.display.known ∙ part.known (mine.holds.display.known ∙ is),
-        );
-      }
+      grind (arith, nat_tests, as_long, heard_part, same_pair)
 
 -- one receiver at two inputs
 pub same_part : (pi m : ℕ) (r : Receiver) (input more : List (Option Group)) → ReceiverAt (tuned pi m) r input
     → ReceiverAt (tuned pi m) r more → length input ≡ length more → IsInputPart (tuned pi m) input more
 same_part pi m r input more mine theirs long =
-    holds_part pi m r r record {
-      text = holds_itself (display_stored r.display).text;
-      name = holds_itself (display_stored r.display).name;
-      pair = inr refl;
-      known = λ is. is;
-    }
-    input more mine theirs long
+    let held = display_stored r.display in
+    let part : HoldsPartOf held held = grind (arith, holds_itself) in
+    holds_part pi m r r part input more mine theirs long

@@ -1,49 +1,30 @@
 -- What kept receivers cover when one more is offered.
-use Rattle.std.proofs.Common.{◌≡◌, ◌∙◌, ◌+◌, ◌<◌, ◌++◌, ◌∷◌, [], ℕ, zero, suc, All, List, Option, arith, inl, inr}
-use Rattle.std.proofs.Common.{length, refl, subst, sym}
+use Rattle.std.proofs.lemmas.Bool.Decides.{nat_tests}
+use Rattle.std.proofs.Common.{◌≡◌, ◌+◌, ◌<◌, ◌++◌, ◌∷◌, [], ℕ, zero, suc, All, List, Option, arith}
+use Rattle.std.proofs.Common.{length, refl}
 use Rattle.std.specs.List.{Contains}
 use Rattle.std.proofs.lemmas.List.Elements.{All-contains, All-push, Contains-append_left, Contains-append_right}
 use Rattle.rds_block.specs.declared.group.Group.{Group}
 use Rattle.rds_log.specs.LogWrites.{tuned}
 use Rattle.rds_fields.specs.declared.message.Message.{Message}
-use Rattle.rds_receiver.specs.Receipts.{Tuning, heard_in, heard_of, name_fragment, text_fragment}
-use Rattle.rds_receiver.specs.Run.{run_at}
+use Rattle.rds_receiver.specs.Receipts.{Tuning, heard_in, name_fragment, text_fragment}
 use Rattle.rds_receiver.specs.ReceiverAt.{ReceiverAt, TakesSlot}
-use Rattle.rds_receiver.specs.Tags.{pair_held}
-use Rattle.rds_receiver.specs.Confirmed.{counted}
 use Rattle.rds_receiver.specs.declared.receiver.Receiver.{Receiver}
 use Rattle.rds_witness.specs.Covered.{CoversInput, IsAt, IsCovered, IsInputPart, Keeps}
-use Rattle.rds_witness.specs.Part.{IsPairPart, IsTagPart}
+use Rattle.rds_witness.specs.Part.{IsTagPart}
 use Rattle.rds_witness.specs.declared.covering.Lossy.{Lossy}
 use Rattle.rds_witness.proofs.HeldParts.{as_long}
-use Rattle.rds_witness.proofs.PartSteps.{part_heard, part_itself, part_through}
+use Rattle.rds_witness.proofs.PartSteps.{part_heard, part_through}
 use Rattle.rds_witness.proofs.TagParts.{tag_part_heard}
 
 tags_through : (m first : ℕ) (one two three : List (Option Message)) → IsTagPart m first one two
     → IsTagPart m first two three → IsTagPart m first one three
-tags_through m first one two three p q = (by_first p.0, λ is. q.1 (p.1 is))
-  where
-    by_second : pair_held m first one ≡ pair_held m first two
-        → IsPairPart (pair_held m first two) (pair_held m first three)
-        → IsPairPart (pair_held m first one) (pair_held m first three)
-    by_second same (inl none) = inl (same ∙ none)
-    by_second same (inr other) = inr (same ∙ other)
-
-    by_first : IsPairPart (pair_held m first one) (pair_held m first two)
-        → IsPairPart (pair_held m first one) (pair_held m first three)
-    by_first (inl none) = inl none
-    by_first (inr same) = by_second same q.0
+tags_through m first one two three p q = grind (arith, nat_tests)
 
 -- a part of a part of an input is a part of it
 pub input_through : (t : Tuning) (r : Receiver) (one two three : List (Option Group)) → ReceiverAt t r two
     → IsInputPart t one two → IsInputPart t two three → IsInputPart t one three
-input_through t r one two three stands p q = record {
-  long = p.long ∙ q.long;
-  texts = part_through _ _ _ p.texts q.texts;
-  names = part_through _ _ _ p.names q.names;
-  tags = tags_through t.dwell t.first (counted t (heard_of t.programme one)) (counted t (heard_of t.programme two))
-      (counted t (heard_of t.programme three)) p.tags q.tags;
-}
+input_through t r one two three stands p q = grind (arith, nat_tests, part_through, tags_through)
 
 -- one that is kept holds all that is offered
 pub keeps_part : (t : Tuning) (n : ℕ) (kept : List Lossy) (one by : Lossy) → Contains kept by
@@ -55,17 +36,9 @@ keeps_part t n kept one by there part at = record {
   stays = λ input covered. covered;
   more = λ input long covers.
       let its : IsAt t n by = All-contains (IsAt t n) kept by at there in
-      let same : length covers.other ≡ length its.input = sym covers.part.long ∙ long ∙ sym its.long in
-      record {
-        by = by;
-        is_there = there;
-        covers = record {
-          other = its.input;
-          stands = its.stands;
-          part = input_through t one.receiver input covers.other its.input covers.stands covers.part
-              (part covers.other its.input covers.stands its.stands same);
-        };
-      };
+      let rest = part covers.other its.input covers.stands its.stands (omega arith) in
+      let whole = input_through t one.receiver input covers.other its.input covers.stands covers.part rest in
+      record { by = by; is_there = there; covers = record { other = its.input; stands = its.stands; part = whole } };
 }
 
 -- what is offered is kept too
@@ -73,29 +46,20 @@ pub keeps_more : (t : Tuning) (n : ℕ) (kept : List Lossy) (one : Lossy) → Al
     → Keeps t n one kept (kept ++ one ∷ [])
 keeps_more t n kept one at its = record {
   at = All-push (IsAt t n) kept one at its;
-  stays = λ input covered. record {
-    by = covered.by;
-    is_there = Contains-append_left kept (one ∷ []) covered.by
-        covered.is_there;
-    covers = covered.covers;
-  };
-  more = λ input long covers. record {
-    by = one;
-    is_there = Contains-append_right kept (one ∷ []) one
-        (0, omega arith, refl);
-    covers = covers;
-  };
+  stays = λ input covered.
+      let is_there = Contains-append_left kept (one ∷ []) covered.by covered.is_there in
+      record { by = covered.by; is_there = is_there; covers = covered.covers };
+  more = λ input long covers.
+      let is_there = Contains-append_right kept (one ∷ []) one (0, omega arith, refl) in
+      record { by = one; is_there = is_there; covers = covers };
 }
 
 -- one slot later
 pub at_next : (pi m n : ℕ) (s later : Lossy) (group : Option Group)
     → TakesSlot s.receiver later.receiver group → IsAt (tuned pi m) n s
     → IsAt (tuned pi m) (n + 1) later
-at_next pi m n s later group stands its = record {
-  input = group ∷ its.input;
-  long = let long = its.long in omega (arith, long);
-  stands = stands (tuned pi m) its.input its.stands;
-}
+at_next pi m n s later group stands its =
+    record { input = group ∷ its.input; long = omega arith; stands = stands (tuned pi m) its.input its.stands }
 
 pub input_next : (pi m : ℕ) (group : Option Group) (one other : List (Option Group)) → 0 < m
     → IsInputPart (tuned pi m) one other → IsInputPart (tuned pi m) (group ∷ one) (group ∷ other)
@@ -119,21 +83,11 @@ covers_next pi m s later group input stands covers = record {
   part = input_next pi m group input covers.other covers.stands.holds.display.lasts covers.part;
 }
 
--- what a receiver holds that got the input covers the input
-pub input_itself : (pi m : ℕ) (input : List (Option Group)) → IsInputPart (tuned pi m) input input
-input_itself pi m input = record {
-  long = refl;
-  texts = part_itself (run_at text_fragment m 0 (heard_of pi input));
-  names = part_itself (run_at name_fragment m 0 (heard_of pi input));
-  tags = (inr refl, λ is. is);
-}
-
 -- a receiver covers its own input
 pub covers_itself : (pi m : ℕ) (input : List (Option Group)) (s : Lossy)
     → ReceiverAt (tuned pi m) s.receiver input
     → CoversInput (tuned pi m) input s
-covers_itself pi m input s stands = record
-    { other = input; stands = stands; part = input_itself pi m input }
+covers_itself pi m input s stands = grind (arith, nat_tests)
 
 -- ---- a list with one more in front
 
@@ -155,9 +109,9 @@ at_first t n one set its at (suc k) d less = at k d (omega (arith, less))
 -- what the first one does for the inputs that it covers, and the others for theirs, is done for all
 pub by_first : (t : Tuning) (one : Lossy) (set : List Lossy) (input : List (Option Group)) (Holds : Type 0)
     → IsCovered t (one ∷ set) input → (CoversInput t input one → Holds) → (IsCovered t set input → Holds) → Holds
-by_first t one set input Holds covered first others = by_place covered.is_there
+by_first t one set input Holds covered first others = by covered.is_there
   where
-    by_place : Contains (one ∷ set) covered.by → Holds
-    by_place (zero, inside, is) = first (subst (CoversInput t input) (sym is) covered.covers)
-    by_place (suc k, inside, is) = others record
-        { by = covered.by; is_there = (k, omega (arith, inside), is); covers = covered.covers }
+    by : Contains (one ∷ set) covered.by → Holds
+    by (zero, inside, is) = first (rw (← is) at covered.covers)
+    by (suc k, inside, is) =
+        others record { by = covered.by; is_there = (k, omega arith, is); covers = covered.covers }

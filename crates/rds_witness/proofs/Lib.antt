@@ -4,7 +4,6 @@ pub mod Logs
 pub mod PartSteps
 pub mod TagParts
 pub mod PairRuns
-pub mod Stored
 pub mod HeldParts
 pub mod KeptReceivers
 pub mod Losses

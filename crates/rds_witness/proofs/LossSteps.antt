@@ -1,25 +1,22 @@
 -- The lines of the mixes of a receiver that loses given slots, slot after slot.
+use Rattle.std.proofs.lemmas.Bool.Decides.{nat_tests}
 use Rattle.std.proofs.Common.{◌≡◌, ◌++◌, ◌∷◌, ◌+◌, ◌<◌, [], ◌∙◌, ℕ, List, Option, ap, arith, codes, inl, inr, length}
-use Rattle.std.proofs.Common.{refl, subst, sym}
+use Rattle.std.proofs.Common.{refl, sym}
 use Rattle.std.specs.List.{Contains}
 use Rattle.std.proofs.lemmas.Bool.{cases_lt}
 use Rattle.rds_block.specs.declared.group.Group.{Group}
-use Rattle.rds_fields.specs.declared.pair.Which.TheVariants.{One, Two}
 use Rattle.rds_receiver.specs.OneView.{same_view}
 use Rattle.rds_receiver.specs.Receipts.{Tuning}
 use Rattle.rds_receiver.specs.Shown.{IsView, ShownView}
 use Rattle.rds_witness.specs.Lines.{AreMixLines, mix_lines, shown_line}
 use Rattle.rds_witness.specs.LossLines.{AreLinesOfSlots, AreLossLines, joined_parts}
 use Rattle.rds_witness.specs.Lost.{got}
-use Rattle.rds_witness.specs.Mix.{Has, IsMix, IsNew, Name, ViewHas, Tag, Text, Thing, until}
+use Rattle.rds_witness.specs.Mix.{Has, IsMix, IsNew, ViewHas, Thing, until}
 use Rattle.rds_witness.specs.Search.{IsKnown}
 use Rattle.rds_witness.specs.declared.burst.Burst.{Burst}
 
 has_shows : (view : ShownView) (thing : Thing) → Has view thing → ViewHas view thing
-has_shows view (Text x) has = has
-has_shows view (Name x) has = has
-has_shows view (Tag One class piece) has = inl has
-has_shows view (Tag Two class piece) has = inr has
+has_shows view thing has = grind (arith, nat_tests)
 
 -- ---- lines that are empty
 
@@ -40,37 +37,33 @@ no_line_end : (a : List ℕ) → a ++ codes "\n" ≡ [] → ⊥
 no_line_end a none = (let end = ends_empty a (codes "\n") none in absurd (cc))
 
 no_shown_line : (slot : ℕ) (thing : Thing) → shown_line slot thing ≡ [] → ⊥
-no_shown_line slot (Text x) none = no_line_end _ none
-no_shown_line slot (Name x) none = no_line_end _ none
-no_shown_line slot (Tag which class piece) none = no_line_end _ none
+no_shown_line slot thing none = grind (arith, nat_tests, no_line_end)
 
 no_things : (slot : ℕ) (things : List Thing) → mix_lines [] slot things ≡ [] → things ≡ []
 no_things slot [] none = refl
-no_things slot (thing ∷ older) none = absurd (no_shown_line slot thing (ends_empty (mix_lines [] slot older)
-    (shown_line slot thing) none))
+no_things slot (thing ∷ older) none = grind (arith, nat_tests, no_shown_line, ends_empty)
 
 contains_none : (things : List Thing) (thing : Thing) → things ≡ [] → Contains things thing → ⊥
-contains_none things thing none (k, less, is) = (let long = ap length none in omega (arith, less, long))
+contains_none things thing none (k, less, is) = omega (arith, ap length none)
 
 module _ (t : Tuning) (ahead : ℕ) (log : List (Option Group)) (lost : List Burst) where
   no_mix_in : (slots : List (List ℕ)) → joined_parts slots ≡ [] → AreLinesOfSlots t ahead log lost slots
       → (slot : ℕ) (thing : Thing) → slot < length slots → IsMix t ahead log lost slot thing → ⊥
-  no_mix_in [] none are slot thing less mix = absurd (omega (arith, less))
+  no_mix_in [] none are slot thing less mix = absurd (omega arith)
   no_mix_in (newest ∷ older) none are slot thing less mix = elim (cases_lt slot (length older)) [
     | inl before ↦ no_mix_in older (begins_empty (joined_parts older) newest none) are.1 slot thing before mix
     | inr from ↦ (
-        let here : slot ≡ length older = omega (arith, less, from) in
-        let nothing : newest ≡ [] = ends_empty (joined_parts older) newest none in
+        let here : slot ≡ length older = omega arith in
+        let nothing = ends_empty (joined_parts older) newest none in
         contains_none are.0.things thing (no_things (length older) are.0.things (sym are.0.are ∙ nothing))
-        (are.0.all thing (subst (λ (k : ℕ). IsMix t ahead log lost k thing) here mix)))
+        (are.0.all thing (rw here at mix)))
   ]
 
   -- no line, no mix
   pub no_loss_mix : (lines : List ℕ) → lines ≡ [] → AreLossLines t ahead log lost (length log) lines
       → (slot : ℕ) (thing : Thing) → IsMix t ahead log lost slot thing → ⊥
   no_loss_mix lines none had slot thing mix =
-      no_mix_in had.slots (sym had.are ∙ none) had.each slot thing (let inside = mix.inside in let long = had.long
-      in omega (arith, inside, long)) mix
+      no_mix_in had.slots (sym had.are ∙ none) had.each slot thing (omega (arith, mix.inside, had.long)) mix
 
   -- ---- slot after slot
 
@@ -84,7 +77,7 @@ module _ (t : Tuning) (ahead : ℕ) (log : List (Option Group)) (lost : List Bur
   adds_slot slot lines here more are more_are had = record {
     slots = here ∷ had.slots;
     long = let long = had.long in omega (arith, long);
-    each = (subst (λ (k : ℕ). AreMixLines t ahead log lost [] k here) (sym had.long) are, had.each);
+    each = (rw had.long are, had.each);
     are = more_are ∙ ap (λ (l : List ℕ). l ++ here) had.are;
   }
 
@@ -95,21 +88,18 @@ module _ (t : Tuning) (ahead : ℕ) (log : List (Option Group)) (lost : List Bur
       let new = mix.new in
       let same : new.after ≡ new.before = same_view t (got lost log (slot + 1)) new.after new.before new.is
       (stays new.before new.was) in
-      new.not_shown (has_shows new.before thing (subst (λ (v : ShownView). Has v thing) same new.has))
+      new.not_shown (has_shows new.before thing (rw same at new.has))
 
   -- nor has one whose things are known
   pub known_none : (slot : ℕ) (before after : ShownView) → IsView t (got lost log slot) before
       → IsView t (got lost log (slot + 1)) after
       → ((thing : Thing) → Has after thing → IsKnown t log (until ahead log slot) before thing) → (thing : Thing)
       → IsMix t ahead log lost slot thing → ⊥
-  known_none slot before after was is known thing mix = by_known
-      (known thing (subst (λ (v : ShownView). Has v thing) (same_view t (got lost log (slot + 1)) new.after after new.is
-      is) new.has))
-    where
-      new : IsNew t log lost slot thing
-      new = mix.new
-
-      by_known : IsKnown t log (until ahead log slot) before thing → ⊥
-      by_known (inl shown) = new.not_shown (subst (λ (v : ShownView). ViewHas v thing) (same_view t (got lost log slot)
-          before new.before was new.was) shown)
-      by_known (inr seen) = mix.never seen.slot seen.view seen.before seen.is seen.shows
+  known_none slot before after was is known thing mix =
+      let new : IsNew t log lost slot thing = mix.new in
+      let now = same_view t (got lost log (slot + 1)) new.after after new.is is in
+      let then = same_view t (got lost log slot) before new.before was new.was in
+      elim (known thing (rw now at new.has)) [
+        | inl shown ↦ new.not_shown (rw then at shown)
+        | inr seen ↦ mix.never seen.slot seen.view seen.before seen.is seen.shows
+      ]

@@ -1,19 +1,18 @@
 -- How lines of mixes go on by the lines of a kind of things.
+use Rattle.std.proofs.lemmas.Bool.Decides.{nat_tests}
 use Rattle.std.proofs.Common.{◌≡◌, ◌⊎◌, ◌++◌, ◌∷◌, ◌+◌, ◌<◌, ◌≤◌, [], ◌∙◌, ℕ, List, None, Option, Some, ap}
 use Rattle.std.proofs.Common.{append_assoc}
 use Rattle.std.proofs.Common.{arith, inl, inr, refl, subst, suc}
-use Rattle.std.specs.Prelude.{option_map}
 use Rattle.std.specs.List.{Contains}
 use Rattle.std.proofs.lemmas.Bool.{cases_lt}
 use Rattle.std.proofs.lemmas.List.Elements.{All-cons, All-nil}
 use Rattle.rds_block.specs.declared.group.Group.{Group}
-use Rattle.rds_fields.specs.declared.pair.Which.TheVariants.{One, Two}
 use Rattle.rds_receiver.specs.OneView.{same_view}
 use Rattle.rds_receiver.specs.Receipts.{Tuning}
 use Rattle.rds_receiver.specs.Shown.{ShownView}
 use Rattle.rds_witness.specs.Lines.{AreMixLines, mix_line, shown_line}
 use Rattle.rds_witness.specs.Lost.{got}
-use Rattle.rds_witness.specs.Mix.{AreAround, Has, IsMix, Name, NeverShows, ViewHas, Tag, Text, Thing, until}
+use Rattle.rds_witness.specs.Mix.{AreAround, Has, IsMix, NeverShows, ViewHas, Thing, until}
 use Rattle.rds_witness.specs.SomeLines.{AreSomeMixLines, kind_of, thing_in}
 use Rattle.rds_witness.specs.declared.burst.Burst.{Burst}
 
@@ -21,39 +20,27 @@ use Rattle.rds_witness.specs.declared.burst.Burst.{Burst}
 
 -- there are four kinds
 pub kinds_below : (thing : Thing) → kind_of thing < 4
-kinds_below (Text x) = omega arith
-kinds_below (Name x) = omega arith
-kinds_below (Tag One class piece) = omega arith
-kinds_below (Tag Two class piece) = omega arith
+kinds_below thing = grind (arith, nat_tests)
 
 -- a thing that a view has is the one of its kind
 pub in_place : (view : ShownView) (thing : Thing) → Has view thing → thing_in view (kind_of thing) ≡ Some thing
-in_place view (Text x) has = ap (option_map Text) has
-in_place view (Name x) has = ap (option_map Name) has
-in_place view (Tag One class piece) has = ap (option_map (λ (tag : ℕ × List ℕ). Tag One tag.0 tag.1)) has
-in_place view (Tag Two class piece) has = ap (option_map (λ (tag : ℕ × List ℕ). Tag Two tag.0 tag.1)) has
+in_place view thing has = grind (arith, nat_tests)
 
 -- the same for a kind that is given
 pub of_kind : (view : ShownView) (kind : ℕ) (thing : Thing) → kind_of thing ≡ kind → Has view thing
     → thing_in view kind ≡ Some thing
-of_kind view kind thing is has = subst (λ (n : ℕ). thing_in view n ≡ Some thing) is (in_place view thing has)
+of_kind view kind thing is has = rw is at (in_place view thing has)
 
 -- a view has one thing of a kind
 one_thing : (view : ShownView) (a b : Thing) → kind_of a ≡ kind_of b → Has view a → Has view b → a ≡ b
-one_thing view a b same p q =
-    let first = of_kind view (kind_of b) a same p in
-    let second = in_place view b q in
-    cc
+one_thing view a b same p q = grind (arith, nat_tests)
 
 -- what holds of the things of the first kinds and of the thing of the next holds of those of one kind more
 pub more_kinds : (Holds : Thing → Type 0) (view : ShownView) (kind : ℕ)
     → ((thing : Thing) → kind_of thing < kind → Has view thing → Holds thing)
     → ((thing : Thing) → thing_in view kind ≡ Some thing → Holds thing)
     → (thing : Thing) → kind_of thing < kind + 1 → Has view thing → Holds thing
-more_kinds Holds view kind before next thing below has = elim (cases_lt (kind_of thing) kind) [
-  | inl older ↦ before thing older has
-  | inr newer ↦ next thing (of_kind view kind thing (omega arith) has)
-]
+more_kinds Holds view kind before next thing below has = grind (arith, nat_tests)
 
 contains_here : (xs : List Thing) (x : Thing) → Contains (x ∷ xs) x
 contains_here xs x = (0, omega arith, refl)
@@ -66,23 +53,12 @@ contains_more xs y x (k, less, is) = (suc k, omega (arith, less), is)
 module _ (t : Tuning) (ahead : ℕ) (log : List (Option Group)) (lost : List Burst) (words : List ℕ) (slot : ℕ) where
   -- before the first kind
   pub no_lines : (lines : List ℕ) → lines ≡ [] → AreSomeMixLines 0 t ahead log lost words slot lines
-  no_lines lines none = record {
-    things = [];
-    mixes = All-nil (IsMix t ahead log lost slot);
-    all = λ thing below is.
-        absurd (omega (arith, below));
-    are = none;
-  }
+  no_lines lines none = grind (arith, nat_tests)
 
   -- after the last kind
   pub all_kinds : (n : ℕ) (lines : List ℕ) → 4 ≤ n → AreSomeMixLines n t ahead log lost words slot lines
       → AreMixLines t ahead log lost words slot lines
-  all_kinds n lines four some = record {
-    things = some.things;
-    mixes = some.mixes;
-    all = λ thing is. some.all thing (omega (arith, kinds_below thing, four)) is;
-    are = some.are;
-  }
+  all_kinds n lines four some = grind (arith, nat_tests)
 
   -- a slot without a mix
   pub no_mixes : ((thing : Thing) → IsMix t ahead log lost slot thing → ⊥) → AreMixLines t ahead log lost words slot []
@@ -98,13 +74,7 @@ module _ (t : Tuning) (ahead : ℕ) (log : List (Option Group)) (lost : List Bur
   pub adds_none : (n : ℕ) (lines : List ℕ)
       → ((thing : Thing) → kind_of thing ≡ n → IsMix t ahead log lost slot thing → ⊥)
       → AreSomeMixLines n t ahead log lost words slot lines → AreSomeMixLines (n + 1) t ahead log lost words slot lines
-  adds_none n lines none had = record { things = had.things; mixes = had.mixes; all = all; are = had.are }
-    where
-      all : (thing : Thing) → kind_of thing < n + 1 → IsMix t ahead log lost slot thing → Contains had.things thing
-      all thing below is = elim (cases_lt (kind_of thing) n) [
-        | inl older ↦ had.all thing older is
-        | inr here ↦ absurd (none thing (omega arith) is)
-      ]
+  adds_none n lines none had = grind (arith, nat_tests)
 
   module _ (before after : ShownView) (around : AreAround t log lost slot before after) where
     has_after : (thing : Thing) → IsMix t ahead log lost slot thing → Has after thing
@@ -129,13 +99,11 @@ module _ (t : Tuning) (ahead : ℕ) (log : List (Option Group)) (lost : List Bur
         → AreSomeMixLines (kind_of thing) t ahead log lost words slot lines
         → AreSomeMixLines (kind_of thing + 1) t ahead log lost words slot lines
     adds_no_mix thing lines has isnt = adds_none (kind_of thing) lines (λ other kind is.
-        not (subst (IsMix t ahead log lost slot) (one_thing after other thing kind (has_after other is) has) is))
-      where
-        not : IsMix t ahead log lost slot thing → ⊥
-        not is = elim isnt [
-          | inl shown ↦ not_before thing is shown
-          | inr never ↦ never is.never
-        ]
+        let mix = rw (one_thing after other thing kind (has_after other is) has) at is in
+        elim isnt [
+          | inl shown ↦ not_before thing mix shown
+          | inr never ↦ never mix.never
+        ])
 
     -- the line of a mix, after the words
     pub adds_mix : (thing : Thing) (lines a more : List ℕ) → a ≡ lines ++ words → more ≡ a ++ shown_line slot thing

@@ -1,11 +1,10 @@
 -- Why a slot has no mix if receivers that hold all that others hold show nothing else than one that loses nothing.
-use Rattle.std.proofs.Common.{[], ◌≡◌, ◌∙◌, ◌+◌, ◌<◌, ◌≤◌, ◌∷◌, ℕ, Bool, false, true, List, None, Option, Some, ap}
-use Rattle.std.proofs.Common.{arith, inl, inr, length, refl, subst, sym}
-use Rattle.std.specs.Prelude.{nat_le, if◌then◌else◌}
+use Rattle.std.proofs.lemmas.Bool.Decides.{nat_tests}
+use Rattle.std.proofs.Common.{[], ◌≡◌, ◌+◌, ◌<◌, ◌≤◌, ◌∷◌, ℕ, List, None, Option, Some, ap}
+use Rattle.std.proofs.Common.{arith, length}
 use Rattle.std.proofs.lemmas.List.Elements.{All-contains}
 use Rattle.rds_block.specs.declared.group.Group.{Group}
 use Rattle.rds_fields.specs.declared.pair.Which.{Which}
-use Rattle.rds_fields.specs.declared.pair.Which.TheVariants.{One, Two}
 use Rattle.rds_fields.specs.Tag.{PairFields}
 use Rattle.rds_assembly.specs.Cells.{Cells}
 use Rattle.rds_assembly.specs.ServiceLaws.{one_name}
@@ -13,13 +12,13 @@ use Rattle.rds_assembly.specs.Whole.{IsWholeName}
 use Rattle.rds_receiver.specs.OneView.{same_text_shown}
 use Rattle.rds_receiver.specs.Receipts.{Tuning}
 use Rattle.rds_receiver.specs.Receipts.{heard_of}
-use Rattle.rds_receiver.specs.Shown.{IsNameShown, IsShown, IsTextShown, IsView, ShownView}
+use Rattle.rds_receiver.specs.Shown.{IsShown, IsView, ShownView}
 use Rattle.rds_fields.specs.Tag.{tag_in}
 use Rattle.rds_receiver.specs.Tags.{cut_by, pair_held, tag_of}
 use Rattle.rds_receiver.specs.Confirmed.{counted}
 use Rattle.rds_witness.specs.Covered.{CoversInput, IsCovered, IsInputPart}
 use Rattle.rds_witness.specs.Lost.{got}
-use Rattle.rds_witness.specs.Mix.{Has, IsBurstMix, Name, Tag, Text, Thing, until}
+use Rattle.rds_witness.specs.Mix.{Has, IsBurstMix, Thing, until}
 use Rattle.rds_witness.specs.Part.{IsPairPart}
 use Rattle.rds_witness.specs.Search.{HasViews, IsReplaced, IsSeenBefore, IsTagOfRun, ShowOnlySeen, ShowsOnlySeen}
 use Rattle.rds_witness.specs.declared.burst.Burst.{Burst}
@@ -41,20 +40,12 @@ pub record Cuts (which : Which) (text : Option (List ℕ)) (pair : Option PairFi
 
 pub cuts : (which : Which) (text : Option (List ℕ)) (pair : Option PairFields) (class : ℕ) (piece : List ℕ)
     → tag_of which text pair ≡ Some (class, piece) → Cuts which text pair class piece
-cuts which None pair class piece is = absurd (cc)
-cuts which (Some x) None class piece is = absurd (cc)
-cuts which (Some x) (Some p) class piece is = record { x = x; p = p; has_text = refl; has_pair = refl; cut = is }
+cuts which text pair class piece is = grind (arith, nat_tests)
 
 cuts_again : (which : Which) (text other : Option (List ℕ)) (pair more : Option PairFields) (class : ℕ) (piece : List ℕ)
     → ((x : List ℕ) → text ≡ Some x → other ≡ Some x) → IsPairPart pair more
     → tag_of which text pair ≡ Some (class, piece) → tag_of which other more ≡ Some (class, piece)
-cuts_again which text other pair more class piece shows (inl none) is = (let c = cuts which text pair class piece is
-    in let has = c.has_pair in absurd (cc))
-cuts_again which text other pair more class piece shows (inr same) is =
-    let c = cuts which text pair class piece is in
-    let there : other ≡ Some c.x = shows c.x c.has_text in
-    let held : more ≡ Some c.p = sym same ∙ c.has_pair in
-    rw (there, held) c.cut
+cuts_again which text other pair more class piece shows held is = grind (arith, nat_tests)
 
 -- ---- a part has no other things
 
@@ -67,24 +58,17 @@ module _ (t : Tuning) (one other : List (Option Group)) (part : IsInputPart t on
     (is : IsView t one v) (is_other : IsView t other w) where
   text_part : (x : List ℕ) → v.text ≡ Some x → w.text ≡ Some x
   text_part x has =
-      let shown = subst (IsTextShown t.dwell t.first (counted t (heard_of t.programme one))) has is.text in
+      let shown = rw has at is.text in
       same_text_shown t.dwell t.first (counted t (heard_of t.programme other)) w.text (Some x) is_other.text
       (whole_text _ _ x (part_cells _ _ part.texts) shown)
 
   name_part : (x : List ℕ) → v.name ≡ Some x → w.name ≡ Some x
   name_part x has =
-      let shown = subst (IsNameShown t.dwell t.first (counted t (heard_of t.programme one))) has is.name in
+      let shown = rw has at is.name in
       shown_name _ w.name x is_other.name (whole_name _ _ x (part_cells _ _ part.names) shown)
 
   pub view_part : (thing : Thing) → Has v thing → Has w thing
-  view_part (Text x) has = text_part x has
-  view_part (Name x) has = name_part x has
-  view_part (Tag One class piece) has = is_other.one
-      ∙ cuts_again One v.text w.text _ _ class piece text_part part.tags.0
-      (sym is.one ∙ has)
-  view_part (Tag Two class piece) has = is_other.two
-      ∙ cuts_again Two v.text w.text _ _ class piece text_part part.tags.0
-      (sym is.two ∙ has)
+  view_part thing has = grind (arith, nat_tests, text_part, name_part, cuts_again)
 
 -- ---- the receiver that loses nothing
 
@@ -94,36 +78,11 @@ own_tag : (t : Tuning) (log : List (Option Group)) (n slots : ℕ) (which : Whic
     → tag_of which view.text (pair_held t.dwell t.first (counted t (heard_of t.programme (got [] log (n + 1)))))
     ≡ Some (class, piece)
     → IsTagOfRun t log slots class piece
-own_tag t log n slots which class piece view less is has =
-    let c = cuts which view.text _ class piece has in
-    record {
-      slot = n;
-      before = less;
-      view = view;
-      is = is;
-      text = c.x;
-      shown = c.has_text;
-      pair = c.p;
-      of_run = record {
-        slot = n;
-        before = omega arith;
-        held = c.has_pair;
-        same = refl;
-      };
-      which = which;
-      cut = c.cut;
-    }
+own_tag t log n slots which class piece view less is has = search (arith, cuts)
 
 pub own_things : (t : Tuning) (log : List (Option Group)) (n slots : ℕ) (view : ShownView) (thing : Thing) → n < slots
     → IsView t (got [] log (n + 1)) view → Has view thing → IsSeenBefore t log slots thing
-own_things t log n slots view (Text x) less is has = record
-    { slot = n; view = view; before = less; is = is; shows = has }
-own_things t log n slots view (Name x) less is has = record
-    { slot = n; view = view; before = less; is = is; shows = has }
-own_things t log n slots view (Tag One class piece) less is has =
-    own_tag t log n slots One class piece view less is (sym is.one ∙ has)
-own_things t log n slots view (Tag Two class piece) less is has =
-    own_tag t log n slots Two class piece view less is (sym is.two ∙ has)
+own_things t log n slots view thing less is has = grind (arith, nat_tests, own_tag)
 
 -- ---- a slot without a mix
 
@@ -131,9 +90,7 @@ own_things t log n slots view (Tag Two class piece) less is has =
 seen_mix : (t : Tuning) (log : List (Option Group)) (burst : Burst) (n : ℕ) (thing : Thing)
     → IsBurstMix t log burst n thing → IsSeenBefore t log (until t.dwell log n) thing
     → IsReplaced t log (until t.dwell log n) thing
-seen_mix t log burst n (Text x) mix seen = mix.mix.never seen.slot seen.view seen.before seen.is seen.shows
-seen_mix t log burst n (Name x) mix seen = mix.mix.never seen.slot seen.view seen.before seen.is seen.shows
-seen_mix t log burst n (Tag which class piece) mix seen = seen
+seen_mix t log burst n thing mix seen = grind (arith, nat_tests)
 
 -- what a covered receiver shows is no mix
 pub no_mix : (t : Tuning) (log : List (Option Group)) (n slots : ℕ) → slots ≡ until t.dwell log n → n < slots
@@ -145,9 +102,9 @@ pub no_mix : (t : Tuning) (log : List (Option Group)) (n slots : ℕ) → slots 
     → ShowOnlySeen t log slots receivers → (burst : Burst) (thing : Thing) → IsBurstMix t log burst n thing
     → IsReplaced t log (until t.dwell log n) thing
 no_mix t log n slots is soon views whole receivers same_whole hold show burst thing mix =
-    seen_mix t log burst n thing mix (subst (λ (u : ℕ). IsSeenBefore t log u thing) is
-    (by_first t whole receivers (got (burst ∷ []) log (n + 1)) (IsSeenBefore t log slots thing)
-    (hold burst mix.place.order (let behind = mix.place.before in omega (arith, behind))) by_whole by_other))
+    seen_mix t log burst n thing mix (rw is at (by_first t whole receivers (got (burst ∷ []) log (n + 1)) (IsSeenBefore
+    t log slots thing) (hold burst mix.place.order (let behind = mix.place.before in omega (arith, behind))) by_whole
+    by_other))
   where
     by_whole : CoversInput t (got (burst ∷ []) log (n + 1)) whole → IsSeenBefore t log slots thing
     by_whole covers =
@@ -167,8 +124,4 @@ no_mix t log n slots is soon views whole receivers same_whole hold show burst th
 -- a slot is among those that count for it
 pub now_before_until : (dwell : ℕ) (log : List (Option Group)) (n : ℕ) → 0 < dwell → n < length log
     → n < until dwell log n
-now_before_until dwell log n some inside = by_end (nat_le (n + dwell) (length log))
-  where
-    by_end : (ends : Bool) → n < (if ends then n + dwell else length log)
-    by_end true = omega (arith, some)
-    by_end false = inside
+now_before_until dwell log n some inside = grind (arith, nat_tests)

@@ -1,6 +1,5 @@
 -- What a receiver shows wherever it stands, and in later slots.
-use Rattle.std.proofs.Common.{◌≡◌, ◌+◌, ◌≤◌, ◌∷◌, ℕ, Bool, false, true, List, Option, arith, length, refl}
-use Rattle.std.specs.Prelude.{nat_le, if◌then◌else◌}
+use Rattle.std.proofs.Common.{◌+◌, ◌≤◌, ◌∷◌, ℕ, List, Option, arith}
 use Rattle.std.proofs.lemmas.Bool.Decides.{nat_tests}
 use Rattle.rds_block.specs.declared.group.Group.{Group}
 use Rattle.rds_receiver.specs.Receipts.{Tuning}
@@ -9,13 +8,14 @@ use Rattle.rds_receiver.specs.ReceiverAt.{ReceiverAt}
 use Rattle.rds_receiver.specs.Stored.{display_stored}
 use Rattle.rds_receiver.specs.declared.receiver.Receiver.{Receiver}
 use Rattle.rds_receiver.proofs.Alike.{alike_itself, stays_shown}
-use Rattle.rds_witness.specs.Mix.{Name, Tag, Text, Thing, until}
-use Rattle.rds_witness.specs.Search.{HasOnlySeen, IsSeenBefore, ShowsOnlySeen}
+use Rattle.rds_witness.specs.Mix.{until}
+use Rattle.rds_witness.specs.Search.{HasOnlySeen, ShowsOnlySeen}
 
 -- the view of a state at two inputs
 view_at : (t : Tuning) (r : Receiver) (one other : List (Option Group)) (v : ShownView) → ReceiverAt t r one
     → ReceiverAt t r other → IsView t one v → IsView t other v
-view_at t r one other v mine theirs = stays_shown t r r one other v mine theirs (alike_itself (display_stored r.display))
+view_at t r one other v mine theirs =
+    stays_shown t r r one other v mine theirs (alike_itself (display_stored r.display))
 
 only_everywhere : (t : Tuning) (log : List (Option Group)) (n : ℕ) (r : Receiver) (input : List (Option Group))
     → ReceiverAt t r input → HasOnlySeen t log n input → ShowsOnlySeen t log n r
@@ -31,50 +31,11 @@ only_stays t log n old new group input same stands now only =
     only_everywhere t log n new (group ∷ input) now record
     { view = was.view; is = same was.view was.is; seen = was.seen }
 
-seen_later : (t : Tuning) (log : List (Option Group)) (n k : ℕ) (thing : Thing) → n ≤ k → IsSeenBefore t log n thing
-    → IsSeenBefore t log k thing
-seen_later t log n k (Text x) less seen = record {
-  slot = seen.slot;
-  view = seen.view;
-  before = let before = seen.before in omega (arith, less, before);
-  is = seen.is;
-  shows = seen.shows;
-}
-seen_later t log n k (Name x) less seen = record {
-  slot = seen.slot;
-  view = seen.view;
-  before = let before = seen.before in omega (arith, less, before);
-  is = seen.is;
-  shows = seen.shows;
-}
-seen_later t log n k (Tag which class piece) less seen = record {
-  slot = seen.slot;
-  before = let before = seen.before in omega (arith, less, before);
-  view = seen.view;
-  is = seen.is;
-  text = seen.text;
-  shown = seen.shown;
-  pair = seen.pair;
-  of_run = seen.of_run;
-  which = seen.which;
-  cut = seen.cut;
-}
-
 -- what shows only what was seen up to a slot shows only that up to a later one
 pub only_later : (t : Tuning) (log : List (Option Group)) (n k : ℕ) (r : Receiver) → n ≤ k
     → ShowsOnlySeen t log n r → ShowsOnlySeen t log k r
-only_later t log n k r less only input stands =
-    let now = only input stands in
-    record { view = now.view; is = now.is; seen = λ thing has. seen_later t log n k thing less (now.seen thing has) }
+only_later t log n k r less only input stands = grind (arith, nat_tests)
 
 -- the end of the slots that count does not go back
 pub until_later : (m : ℕ) (log : List (Option Group)) (n : ℕ) → until m log n ≤ until m log (n + 1)
-until_later m log n = by_ends (nat_le (n + m) (length log)) (nat_le (n + 1 + m) (length log)) refl refl
-  where
-    by_ends : (one other : Bool) → nat_le (n + m) (length log) ≡ one → nat_le (n + 1 + m) (length log) ≡ other
-        → (if one then n + m else length log) ≤ (if other then n + 1 + m else length log)
-    by_ends true true is now = omega arith
-    by_ends true false is now = (let less : n + m ≤ length log = grind (arith, nat_tests) in less)
-    by_ends false true is now = (let over : n + 1 + m ≤ length log = grind (arith, nat_tests) in let under : length log
-        ≤ n + m = grind (arith, nat_tests) in absurd (omega (arith, over, under)))
-    by_ends false false is now = omega arith
+until_later m log n = grind (arith, nat_tests)

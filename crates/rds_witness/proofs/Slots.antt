@@ -1,5 +1,5 @@
 -- How receivers of a log go on by a slot.
-use Rattle.std.proofs.Common.{[], ◌≡◌, ◌+◌, ◌∷◌, ◌∙◌, ℕ, List, Option, ap, arith, inl, inr, subst, sym}
+use Rattle.std.proofs.Common.{[], ◌≡◌, ◌+◌, ◌∷◌, ℕ, List, Option, arith, inl, inr}
 use Rattle.std.proofs.lemmas.Bool.{cases_lt}
 use Rattle.rds_block.specs.declared.group.Group.{Group}
 use Rattle.rds_receiver.specs.OneView.{same_view}
@@ -15,8 +15,7 @@ use Rattle.rds_witness.specs.declared.burst.Burst.{Burst}
 pub stands_more : (t : Tuning) (r : Receiver) (lost : List Burst) (log : List (Option Group)) (n : ℕ)
     (group : Option Group) → group ≡ group_left lost log n
     → ReceiverAt t r (group ∷ got lost log n) → ReceiverAt t r (got lost log (n + 1))
-stands_more t r lost log n group same stands =
-    subst (ReceiverAt t r) (ap (λ (g : Option Group). g ∷ got lost log n) same ∙ sym (got-more lost log n)) stands
+stands_more t r lost log n group same stands = rw (got-more lost log n, ← same) stands
 
 -- before slot 0 nothing was shown
 pub never_none : (t : Tuning) (log : List (Option Group)) (thing : Thing) → NeverShows t log 0 thing
@@ -26,13 +25,10 @@ never_none t log thing slot view less is shown = absurd (omega arith)
 pub never_more : (t : Tuning) (log : List (Option Group)) (n : ℕ) (thing : Thing) (view : ShownView)
     → NeverShows t log n thing → IsView t (got [] log (n + 1)) view → (ViewHas view thing → ⊥)
     → NeverShows t log (n + 1) thing
-never_more t log n thing view never is not_shown slot other less is_other shown =
-    elim (cases_lt slot n) [
-      | inl before ↦ never slot other before is_other shown
-      | inr from ↦ (
-          let here : slot ≡ n = omega arith in
-          let is_here : IsView t (got [] log (n + 1)) other = subst (λ (k : ℕ). IsView t (got [] log (k + 1)) other)
-          here is_other in
-          let same : other ≡ view = same_view t (got [] log (n + 1)) other view is_here is in
-          not_shown (subst (λ (v : ShownView). ViewHas v thing) same shown))
-    ]
+never_more t log n thing view never is not_shown slot other less is_other shown = elim (cases_lt slot n) [
+  | inl before ↦ never slot other before is_other shown
+  | inr from ↦ (
+      let here : slot ≡ n = omega arith in
+      let same = same_view t (got [] log (n + 1)) other view (rw here at is_other) is in
+      not_shown (rw same at shown))
+]

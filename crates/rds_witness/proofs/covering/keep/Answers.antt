@@ -1,19 +1,15 @@
-use Rattle.std.proofs.Common.{◌∷◌, List, arith, refl, subst}
+use Rattle.std.proofs.Common.{◌∷◌, arith, refl}
 use Rattle.std.specs.List.{Contains}
 use Rattle.std.proofs.lemmas.List.Elements.{All-push}
 use Rattle.rds_log.specs.LogWrites.{tuned}
 use Rattle.rds_witness.specs.Search.{IsChecked}
-use Rattle.rds_witness.specs.declared.covering.Lossy.{Lossy}
 use Rattle.rds_witness.proofs.KeptReceivers.{contains_next, keeps_more, keeps_part}
 use Rattle.rds_witness.proofs.covering.keep.Goals as goal
 
 pub returns-then-is_receiver_part-clause-covers : goal.returns-then-is_receiver_part-clause-covers
 returns-then-is_receiver_part-clause-covers c pi m n at its =
-    let whole = c.args.whole.now in
-    let kept = c.args.kept.now.items in
-    keeps_part (tuned pi m) n (whole ∷ kept) c.args.one.now whole (0, omega arith, refl)
-    (λ input more mine theirs long. c.is_receiver_part.ensures c.if-is_receiver_part.true pi m input more mine theirs
-    long) at
+    keeps_part (tuned pi m) n (c.args.whole.now ∷ c.args.kept.now.items) c.args.one.now _ (0, omega arith, refl)
+    (c.is_receiver_part.ensures c.if-is_receiver_part.true pi m) at
 
 pub returns-then-is_receiver_part-2-clause-covers : goal.returns-then-is_receiver_part-2-clause-covers
 returns-then-is_receiver_part-2-clause-covers c pi m n at its =
@@ -21,17 +17,10 @@ returns-then-is_receiver_part-2-clause-covers c pi m n at its =
     let kept = c.args.kept.now.items in
     let slice = c.as_slice.ensures in
     let count = c.len-place-end.ensures in
-    let test = c.loop-place-test.true in
     let by = c.receiver_at.result.now in
-    let there : Contains c.as_slice.result.now by = (
-      c.loop-place.place,
-      omega (arith, slice.len, count, test),
-      c.receiver_at.ensures by,
-    ) in
-    keeps_part (tuned pi m) n (whole ∷ kept) c.args.one.now by
-    (contains_next whole kept by (subst (λ (l : List Lossy). Contains l by) slice.value there))
-    (λ input more mine theirs long. c.is_receiver_part-in-loop-place.ensures c.if-is_receiver_part-2.true pi m input
-    more mine theirs long) at
+    let there : Contains c.as_slice.result.now by = (c.loop-place.place, omega arith, c.receiver_at.ensures by) in
+    keeps_part (tuned pi m) n (whole ∷ kept) c.args.one.now by (contains_next whole kept by (rw slice.value at there))
+    (c.is_receiver_part-in-loop-place.ensures c.if-is_receiver_part-2.true pi m) at
 
 pub returns-clause-covers : goal.returns-clause-covers
 returns-clause-covers c pi m n at its =

@@ -1,6 +1,4 @@
-use Rattle.std.proofs.Common.{subst, sym}
 use Rattle.rds_log.specs.LogWrites.{tuned}
-use Rattle.rds_receiver.specs.ReceiverAt.{ReceiverAt}
 use Rattle.rds_witness.specs.Lost.{got-none}
 use Rattle.rds_witness.proofs.LossSteps.{adds_first}
 use Rattle.rds_witness.proofs.lose_log.lines_of.Goals as goal
@@ -8,12 +6,9 @@ use Rattle.rds_witness.proofs.lose_log.lines_of.Goals as goal
 pub loop-slot-init : goal.loop-slot-init
 loop-slot-init c =
     let losing = c.args.losing.now in
-    let t = tuned losing.pi losing.dwell in
-    let log = c.args.log.now in
     record {
-      stands = subst (ReceiverAt t c.new-receiver.result) (sym (got-none losing.lost.now log))
-          (c.new-receiver.ensures.stands 0);
-      lines = adds_first t losing.ahead log losing.lost.now _ c.new-lines.ensures.items;
+      stands = rw (got-none losing.lost.now c.args.log.now) (c.new-receiver.ensures.stands 0);
+      lines = adds_first (tuned losing.pi losing.dwell) losing.ahead _ losing.lost.now _ c.new-lines.ensures.items;
     }
 
 pub loop-slot-preserved : goal.loop-slot-preserved

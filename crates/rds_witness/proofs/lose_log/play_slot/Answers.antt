@@ -1,13 +1,8 @@
-use Rattle.std.proofs.Common.{◌++◌, ◌+◌, ◌∙◌, ◌∷◌, ◌≡◌, ℕ, [], List, Option, ap, subst, sym}
+use Rattle.std.proofs.Common.{◌++◌, ◌∙◌, ℕ, [], List, ap, sym}
 use Rattle.std.proofs.lemmas.List.{append-nil}
-use Rattle.rds_block.specs.declared.group.Group.{Group}
 use Rattle.rds_log.specs.LogWrites.{tuned}
 use Rattle.rds_receiver.specs.Borrowed.{view_of}
-use Rattle.rds_receiver.specs.Shown.{IsView}
-use Rattle.rds_witness.specs.Candidates.{StandsBefore}
-use Rattle.rds_witness.specs.Lines.{AreMixLines}
-use Rattle.rds_witness.specs.Lost.{got, got-more}
-use Rattle.rds_witness.specs.Search.{IsKnown}
+use Rattle.rds_witness.specs.Lost.{got-more}
 use Rattle.rds_witness.proofs.LossSteps.{adds_slot, known_none, stays_none}
 use Rattle.rds_witness.proofs.Mixes.{no_mixes}
 use Rattle.rds_witness.proofs.Slots.{stands_more}
@@ -15,47 +10,29 @@ use Rattle.rds_witness.proofs.lose_log.play_slot.Goals as goal
 
 pub returns-then-not-changed-clause-stands : goal.returns-then-not-changed-clause-stands
 returns-then-not-changed-clause-stands c =
-    let candidate = c.args.candidate.now in
-    stands_more (tuned candidate.pi candidate.dwell) c.slot_blocks-changed.new.self candidate.lost.now
-    candidate.log.now candidate.slot c.args.group c.requires.got
-    (c.slot_blocks-changed.ensures.stands _ _ c.requires.stands)
+    stands_more _ _ _ _ _ _ c.requires.got (c.slot_blocks-changed.ensures.stands _ _ c.requires.stands)
 
 pub returns-then-knows_all-clause-stands : goal.returns-then-knows_all-clause-stands
 returns-then-knows_all-clause-stands c =
-    let candidate = c.args.candidate.now in
-    stands_more (tuned candidate.pi candidate.dwell) c.slot_blocks-changed.new.self candidate.lost.now
-    candidate.log.now candidate.slot c.args.group c.requires.got
-    (c.slot_blocks-changed.ensures.stands _ _ c.requires.stands)
+    stands_more _ _ _ _ _ _ c.requires.got (c.slot_blocks-changed.ensures.stands _ _ c.requires.stands)
 
 pub returns-in_err-extend_from_slice-clause-stands : goal.returns-in_err-extend_from_slice-clause-stands
 returns-in_err-extend_from_slice-clause-stands c =
-    let candidate = c.args.candidate.now in
-    stands_more (tuned candidate.pi candidate.dwell) c.slot_blocks-changed.new.self candidate.lost.now
-    candidate.log.now candidate.slot c.args.group c.requires.got
-    (c.slot_blocks-changed.ensures.stands _ _ c.requires.stands)
+    stands_more _ _ _ _ _ _ c.requires.got (c.slot_blocks-changed.ensures.stands _ _ c.requires.stands)
 
 pub returns-clause-stands : goal.returns-clause-stands
 returns-clause-stands c =
-    let candidate = c.args.candidate.now in
-    stands_more (tuned candidate.pi candidate.dwell) c.slot_blocks-changed.new.self candidate.lost.now
-    candidate.log.now candidate.slot c.args.group c.requires.got
-    (c.slot_blocks-changed.ensures.stands _ _ c.requires.stands)
+    stands_more _ _ _ _ _ _ c.requires.got (c.slot_blocks-changed.ensures.stands _ _ c.requires.stands)
 
 pub returns-then-not-changed-clause-lines : goal.returns-then-not-changed-clause-lines
 returns-then-not-changed-clause-lines c =
     let candidate = c.args.candidate.now in
     let t = tuned candidate.pi candidate.dwell in
-    let log = candidate.log.now in
-    let lost = candidate.lost.now in
-    let n = candidate.slot in
-    let next : got lost log (n + 1) ≡ c.args.group ∷ got lost log n = got-more lost log n
-    ∙ ap (λ (g : Option Group). g ∷ got lost log n) (sym c.requires.got) in
-    adds_slot t candidate.ahead log lost n c.args.lines.now.items [] c.args.lines.now.items
-    (no_mixes t candidate.ahead log lost [] n
-    (stays_none t candidate.ahead log lost n (λ view is. subst (λ (l : List (Option Group)). IsView t l view) (sym next)
-    (c.slot_blocks-changed.ensures.same c.if-not-changed.true view t (got lost log n) c.requires.stands
-    is))))
-    (sym (append-nil c.args.lines.now.items))
+    let next = got-more candidate.lost.now candidate.log.now candidate.slot in
+    let same = c.slot_blocks-changed.ensures.same c.if-not-changed.true in
+    adds_slot t candidate.ahead _ _ candidate.slot _ [] _ (no_mixes t candidate.ahead _ _ [] candidate.slot
+    (stays_none t candidate.ahead _ _ candidate.slot (λ view is. rw (next, ← c.requires.got)
+    (same view t _ c.requires.stands is)))) (sym (append-nil c.args.lines.now.items))
 
 pub returns-then-knows_all-clause-lines : goal.returns-then-knows_all-clause-lines
 returns-then-knows_all-clause-lines c =
@@ -65,24 +42,20 @@ returns-then-knows_all-clause-lines c =
     let lost = candidate.lost.now in
     let n = candidate.slot in
     let before = view_of c.view-before.result in
-    let stands = stands_more t c.slot_blocks-changed.new.self lost log n c.args.group c.requires.got
-    (c.slot_blocks-changed.ensures.stands _ _ c.requires.stands) in
+    let stands = returns-then-knows_all-clause-stands c in
     adds_slot t candidate.ahead log lost n c.args.lines.now.items [] c.args.lines.now.items
     (no_mixes t candidate.ahead log lost [] n
     (known_none t candidate.ahead log lost n before (view_of c.view-after.result)
-    (c.view-before.ensures t _ c.requires.stands)
-    (c.view-after.ensures t _ stands)
-    (λ thing has. subst (λ (k : ℕ). IsKnown t log k before thing) c.slots_until-until.ensures.value
-    (c.knows_all.ensures c.if-knows_all.true t log c.requires.seen thing has))))
+    (c.view-before.ensures t _ c.requires.stands) (c.view-after.ensures t _ stands)
+    (λ thing has. rw c.slots_until-until.ensures.value
+    at (c.knows_all.ensures c.if-knows_all.true t log c.requires.seen thing has))))
     (sym (append-nil c.args.lines.now.items))
 
 pub push_mixes_of-requires-clause-around : goal.push_mixes_of-requires-clause-around
 push_mixes_of-requires-clause-around c =
     let candidate = c.args.candidate.now in
     let t = tuned candidate.pi candidate.dwell in
-    let stands = stands_more t c.slot_blocks-changed.new.self candidate.lost.now candidate.log.now
-    candidate.slot c.args.group c.requires.got
-    (c.slot_blocks-changed.ensures.stands _ _ c.requires.stands) in
+    let stands = stands_more t _ _ _ _ _ c.requires.got (c.slot_blocks-changed.ensures.stands _ _ c.requires.stands) in
     record {
       inside = c.requires.inside;
       was = c.view-before.ensures t _ c.requires.stands;
@@ -93,9 +66,6 @@ pub returns-clause-lines : goal.returns-clause-lines
 returns-clause-lines c =
     let candidate = c.args.candidate.now in
     let t = tuned candidate.pi candidate.dwell in
-    let here = c.push_mixes_of.new.lines in
-    adds_slot t candidate.ahead candidate.log.now candidate.lost.now candidate.slot c.args.lines.now.items here
-    c.extend_from_slice.new.self.items
-    (subst (λ (words : List ℕ). AreMixLines t candidate.ahead candidate.log.now candidate.lost.now words candidate.slot
-    here) c.requires.words c.push_mixes_of.ensures)
+    adds_slot t candidate.ahead candidate.log.now candidate.lost.now candidate.slot c.args.lines.now.items
+    c.push_mixes_of.new.lines c.extend_from_slice.new.self.items (rw c.requires.words at c.push_mixes_of.ensures)
     (c.in_ok-extend_from_slice.ensures.items ∙ ap (λ (l : List ℕ). c.args.lines.now.items ++ l) c.bytes.ensures)

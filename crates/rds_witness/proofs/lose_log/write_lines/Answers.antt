@@ -1,4 +1,6 @@
-use Rattle.std.proofs.Common.{Bool, Err, List, Ok, Result, ℕ}
+use Rattle.std.proofs.Common.{arith}
+use Rattle.std.proofs.lemmas.Bool.Decides.{nat_tests}
+use Rattle.std.proofs.Common.{Bool, List, Result, ℕ}
 use Rattle.std.specs.Prelude.{IsErr}
 use Rattle.rds_io.specs.Told.{Traffic}
 use Rattle.rds_io.specs.declared.told.WriteFault.{WriteFault}
@@ -7,8 +9,7 @@ use Rattle.rds_witness.proofs.lose_log.write_lines.Goals as goal
 
 part_of : (Is : Bool → List ℕ → Type 0) (w : Traffic) (r : Result Bool WriteFault) → IsErr r → WrotePartOfAnswer Is w
     → Answers Is w r
-part_of Is w (Ok found) fails part = cc
-part_of Is w (Err fault) fails part = part
+part_of Is w r fails part = grind (arith, nat_tests)
 
 pub returns-in_err-put : goal.returns-in_err-put
 returns-in_err-put g c t ahead log lost are =

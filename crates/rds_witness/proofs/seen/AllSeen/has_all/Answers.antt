@@ -1,4 +1,4 @@
-use Rattle.std.proofs.Common.{◌≡◌, Some, ap, arith, subst}
+use Rattle.std.proofs.Common.{◌≡◌, Some, ap, arith}
 use Rattle.std.specs.Prelude.{option_map}
 use Rattle.rds_receiver.specs.Borrowed.{view_of}
 use Rattle.rds_witness.specs.Borrowed.{thing_of}
@@ -17,21 +17,16 @@ loop-kind-preserved c t log all = more_kinds (IsSeenBefore t log c.args.slots)
     next : (thing : Thing) → thing_in (view_of c.view-view.result) c.loop-kind.kind ≡ Some thing
         → IsSeenBefore t log c.args.slots thing
     next thing is = elim c.match-of_kind.branch [
-      | in-Some+else-not-has w ↦
-          let mapped = c.of_kind.ensures.is in
+      | in-Some+else-not-has w ↦ (
           let given = ap (option_map thing_of) w.in-Some.is in
-          let same : thing_of w.in-Some.thing ≡ thing = cc in
-          subst (IsSeenBefore t log c.args.slots) same (w.has.ensures w.if-not-has.false t log all)
-      | in_default w ↦
-          let mapped = c.of_kind.ensures.is in
-          let given = ap (option_map thing_of) w.in_default.is in
-          absurd (cc)
+          let same : thing_of w.in-Some.thing ≡ thing = cc c.of_kind.ensures.is in
+          rw same at (w.has.ensures w.if-not-has.false t log all))
+      | in_default w ↦ (let given = ap (option_map thing_of) w.in_default.is in absurd (cc c.of_kind.ensures.is))
     ]
 
 pub returns : goal.returns
 returns c holds t log all checked input stands = record {
   view = view_of c.view-view.result;
   is = c.view-view.ensures t input stands;
-  seen = λ thing has. c.loop-kind.invariant t log all thing (omega (arith, kinds_below thing, c.loop-kind-test.false))
-      has;
+  seen = λ thing has. c.loop-kind.invariant t log all thing (omega (arith, kinds_below thing)) has;
 }

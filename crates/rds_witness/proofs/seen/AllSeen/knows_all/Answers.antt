@@ -1,4 +1,5 @@
-use Rattle.std.proofs.Common.{◌≡◌, Some, ap, arith, subst}
+use Rattle.std.proofs.lemmas.Bool.Decides.{nat_tests}
+use Rattle.std.proofs.Common.{◌≡◌, Some, ap, arith}
 use Rattle.std.specs.Prelude.{option_map}
 use Rattle.rds_receiver.specs.Borrowed.{view_of}
 use Rattle.rds_witness.specs.Borrowed.{thing_of}
@@ -17,18 +18,12 @@ loop-kind-preserved c t log all = more_kinds (IsKnown t log c.args.slots (view_o
     next : (thing : Thing) → thing_in (view_of c.args.after) c.loop-kind.kind ≡ Some thing → IsKnown t log c.args.slots
         (view_of c.args.before) thing
     next thing is = elim c.match-of_kind.branch [
-      | in-Some+else-not-knows w ↦
-          let mapped = c.of_kind.ensures.is in
+      | in-Some+else-not-knows w ↦ (
           let given = ap (option_map thing_of) w.in-Some.is in
-          let same : thing_of w.in-Some.thing ≡ thing = cc in
-          subst (IsKnown t log c.args.slots (view_of c.args.before)) same
-          (w.knows.ensures w.if-not-knows.false t log all)
-      | in_default w ↦
-          let mapped = c.of_kind.ensures.is in
-          let given = ap (option_map thing_of) w.in_default.is in
-          absurd (cc)
+          let same : thing_of w.in-Some.thing ≡ thing = cc c.of_kind.ensures.is in
+          rw same at (w.knows.ensures w.if-not-knows.false t log all))
+      | in_default w ↦ (let given = ap (option_map thing_of) w.in_default.is in absurd (cc c.of_kind.ensures.is))
     ]
 
 pub returns : goal.returns
-returns c holds t log all thing has = c.loop-kind.invariant t log all thing
-    (omega (arith, kinds_below thing, c.loop-kind-test.false)) has
+returns c holds t log all thing has = grind (arith, nat_tests, kinds_below)

@@ -1,7 +1,5 @@
-use Rattle.std.proofs.Common.{◌≡◌, ◌++◌, ◌∷◌, ◌∙◌, ◌+◌, [], All, ap, subst, sym}
+use Rattle.std.proofs.Common.{◌≡◌, ◌++◌, ◌∷◌, ◌∙◌, [], ap}
 use Rattle.std.proofs.lemmas.List.Elements.{All-push}
-use Rattle.rds_receiver.specs.ReceiverAt.{ReceiverAt}
-use Rattle.rds_witness.specs.Lost.{got}
 use Rattle.rds_witness.specs.Search.{IsSeen}
 use Rattle.rds_witness.specs.declared.seen.Seen.{Seen}
 use Rattle.rds_witness.proofs.seen.AllSeen.note_with.Goals as goal
@@ -16,4 +14,4 @@ returns-clause-seen c t log inside stands of_run all =
     } in
     let items : c.push.new.self.items ≡ c.args.self.now.seen.items ++ more ∷ [] =
     c.in_ok-push.ensures.items ∙ ap (λ seen. seen.items ++ more ∷ []) c.is_new.ensures.seen in
-    subst (All (IsSeen t log)) (sym items) (All-push (IsSeen t log) c.args.self.now.seen.items more all its)
+    rw items (All-push (IsSeen t log) c.args.self.now.seen.items more all its)

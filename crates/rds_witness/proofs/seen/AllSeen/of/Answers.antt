@@ -1,4 +1,4 @@
-use Rattle.std.proofs.Common.{[], ◌≡◌, ◌∙◌, ◌+◌, ◌∷◌, ℕ, All, List, Option, ap, arith, inl, inr, subst, sym}
+use Rattle.std.proofs.Common.{[], ◌≡◌, ◌∙◌, ◌+◌, ◌∷◌, All, Option, ap, arith, inl, inr, subst, sym}
 use Rattle.std.proofs.lemmas.Bool.{cases_lt}
 use Rattle.std.proofs.lemmas.List.Elements.{All-nil}
 use Rattle.rds_block.specs.declared.group.Group.{Group}
@@ -16,12 +16,11 @@ loop-slot-init c =
     let t = tuned c.args.pi c.args.dwell in
     let log = c.args.log.now in
     record {
-      stands = subst (ReceiverAt t c.new-whole.result) (sym (got-none [] log)) (c.new-whole.ensures.stands 0);
-      view = subst (λ (l : List (Option Group)). (view : ShownView) × IsView t l view) (sym (got-none [] log))
-          (_, view_of_none t);
-      views = λ slot less. absurd (omega (arith, less));
-      seen = subst (All (IsSeen t log)) (sym c.new.ensures.items) (All-nil (IsSeen t log));
-      pairs = subst (All (IsOfRun t log 0)) (sym c.new-2.ensures.items) (All-nil (IsOfRun t log 0));
+      stands = rw (got-none [] log) (c.new-whole.ensures.stands 0);
+      view = rw (got-none [] log) (_, view_of_none t);
+      views = λ slot less. absurd (omega arith);
+      seen = rw c.new.ensures.items (All-nil (IsSeen t log));
+      pairs = rw c.new-2.ensures.items (All-nil (IsOfRun t log 0));
     }
 
 pub loop-slot-preserved : goal.loop-slot-preserved
@@ -29,61 +28,40 @@ loop-slot-preserved c =
     let t = tuned c.args.pi c.args.dwell in
     let log = c.args.log.now in
     let n = c.loop-slot.slot in
-    let group = c.received.result in
     let before = c.loop-slot.invariant in
-    let is : got [] log (n + 1) ≡ group ∷ got [] log n = got-more [] log n ∙ ap (λ (g : Option Group). g ∷ got [] log n)
-    (sym c.received.ensures) in
+    let is : got [] log (n + 1) ≡ c.received.result ∷ got [] log n = got-more [] log n
+    ∙ ap (λ (g : Option Group). g ∷ got [] log n) (sym c.received.ensures) in
     let stands : ReceiverAt t c.slot_blocks-changed.new.self (got [] log (n + 1)) =
-    subst (ReceiverAt t c.slot_blocks-changed.new.self) (sym is) (c.slot_blocks-changed.ensures.stands
-    t (got [] log n) before.stands) in
-    let pairs = c.drop_pairs.ensures.pairs c.args.pi c.args.dwell n log
-    before.stands stands before.pairs in
+    rw is (c.slot_blocks-changed.ensures.stands t (got [] log n) before.stands) in
+    let pairs = c.drop_pairs.ensures.pairs c.args.pi c.args.dwell n log before.stands stands before.pairs in
     let seen = subst (λ v. All (IsSeen t log) v.items) (sym c.drop_pairs.ensures.seen) before.seen in
     let views : (view : ShownView) × IsView t (got [] log (n + 1)) view
     → HasViews t log (n + 1) = λ view slot less. elim (cases_lt slot n) [
       | inl earlier ↦ before.views slot earlier
-      | inr from ↦ (
-          let here : n ≡ slot = omega (arith, less, from) in
-          subst (λ (k : ℕ). (view : ShownView) × IsView t (got [] log (k + 1)) view) here view)
+      | inr from ↦ (let here : n ≡ slot = omega arith in rw here at view)
     ] in
-    record {
-      stands = stands;
-      view = elim c.if-changed.branch [
-        | then-changed+in_ok-note w ↦ (w.in_ok-note.ensures t log c.loop-slot-test.true stands seen pairs).2
-        | else-changed w ↦ (
-          before.view.0,
-          subst (λ (l : List (Option Group)). IsView t l before.view.0) (sym is)
-              (c.slot_blocks-changed.ensures.same w.if-changed.false before.view.0 t (got [] log n) before.stands
-              before.view.1),
-        )
-      ];
-      views = elim c.if-changed.branch [
-        | then-changed+in_ok-note w ↦ views (w.in_ok-note.ensures t log c.loop-slot-test.true stands seen
-            pairs).2
-        | else-changed w ↦ views (
-          before.view.0,
-          subst (λ (l : List (Option Group)). IsView t l before.view.0) (sym is)
-              (c.slot_blocks-changed.ensures.same w.if-changed.false before.view.0 t (got [] log n) before.stands
-              before.view.1),
-        )
-      ];
-      seen = elim c.if-changed.branch [
-        | then-changed+in_ok-note w ↦ subst (λ v. All (IsSeen t log) v.seen.items) (sym w.all-is)
-            (w.in_ok-note.ensures t log c.loop-slot-test.true stands seen pairs).0
-        | else-changed w ↦ subst (λ v. All (IsSeen t log) v.seen.items) (sym w.all-is) seen
-      ];
-      pairs = elim c.if-changed.branch [
-        | then-changed+in_ok-note w ↦ subst (λ v. All (IsOfRun t log (n + 1)) v.pairs.items) (sym w.all-is)
-            (w.in_ok-note.ensures t log c.loop-slot-test.true stands seen pairs).1
-        | else-changed w ↦ subst (λ v. All (IsOfRun t log (n + 1)) v.pairs.items) (sym w.all-is) pairs
-      ];
-    }
+    elim c.if-changed.branch [
+      | then-changed+in_ok-note w ↦ (
+          let noted = w.in_ok-note.ensures t log c.loop-slot-test.true stands seen pairs in
+          record {
+            stands = stands;
+            view = noted.2;
+            views = views noted.2;
+            seen = rw w.all-is noted.0;
+            pairs = rw w.all-is noted.1;
+          })
+      | else-changed w ↦ (
+          let same = c.slot_blocks-changed.ensures.same w.if-changed.false before.view.0 t (got [] log n) before.stands
+          before.view.1 in
+          let view : (view : ShownView) × IsView t (got [] log (n + 1)) view = (before.view.0, rw is same) in
+          record {
+            stands = stands;
+            view = view;
+            views = views view;
+            seen = rw w.all-is seen;
+            pairs = rw w.all-is pairs;
+          })
+    ]
 
 pub returns : goal.returns
-returns c =
-    let t = tuned c.args.pi c.args.dwell in
-    let log = c.args.log.now in (
-      c.loop-slot.invariant.seen,
-      λ slot less. c.loop-slot.invariant.views slot
-          (omega (arith, less, c.loop-slot-test.false)),
-    )
+returns c = (c.loop-slot.invariant.seen, λ slot less. c.loop-slot.invariant.views slot (omega arith))

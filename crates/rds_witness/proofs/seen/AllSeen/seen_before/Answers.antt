@@ -1,6 +1,5 @@
-use Rattle.std.proofs.Common.{List, arith, subst}
+use Rattle.std.proofs.Common.{arith}
 use Rattle.std.specs.List.{Contains}
-use Rattle.rds_witness.specs.declared.seen.Seen.{Seen}
 use Rattle.rds_witness.proofs.seen.AllSeen.seen_before.Goals as goal
 
 pub returns-then-seen-slots : goal.returns-then-seen-slots
@@ -12,4 +11,4 @@ returns-then-seen-slots c =
           (arith, c.if-place-len.false, c.len.ensures, c.as_slice.ensures.len),
       c.seen_at-seen.ensures seen,
     ) in
-    (c.if-seen-slots.true, subst (λ (l : List Seen). Contains l seen) c.as_slice.ensures.value here)
+    (c.if-seen-slots.true, rw c.as_slice.ensures.value at here)

@@ -8,28 +8,16 @@ use Rattle.rds_witness.proofs.seen.Seen.has.Goals as goal
 pub returns-in-Text : goal.returns-in-Text
 returns-in-Text c holds t log n its before =
     let seen = c.args.self.now in
-    subst (λ (g : declared.Thing). IsSeenBefore t log n (thing_of g)) (sym c.in-Text.is)
-    record {
-      slot = seen.slot;
-      view = _;
-      before = before;
-      is = c.view-view.ensures t
-          (got [] log (seen.slot + 1)) its.stands;
-      shows = c.is_text.ensures.0 holds;
-    }
+    let is = c.view-view.ensures t (got [] log (seen.slot + 1)) its.stands in
+    rw c.in-Text.is
+    record { slot = seen.slot; view = _; before = before; is = is; shows = c.is_text.ensures.0 holds }
 
 pub returns-in-Name : goal.returns-in-Name
 returns-in-Name c holds t log n its before =
     let seen = c.args.self.now in
-    subst (λ (g : declared.Thing). IsSeenBefore t log n (thing_of g)) (sym c.in-Name.is)
-    record {
-      slot = seen.slot;
-      view = _;
-      before = before;
-      is = c.view-view.ensures t
-          (got [] log (seen.slot + 1)) its.stands;
-      shows = c.is_text-in-Name.ensures.0 holds;
-    }
+    let is = c.view-view.ensures t (got [] log (seen.slot + 1)) its.stands in
+    rw c.in-Name.is
+    record { slot = seen.slot; view = _; before = before; is = is; shows = c.is_text-in-Name.ensures.0 holds }
 
 pub returns-in-Tag : goal.returns-in-Tag
 returns-in-Tag c holds t log n its before =

@@ -1,5 +1,6 @@
+use Rattle.std.proofs.lemmas.Bool.Decides.{nat_tests}
 use Rattle.std.proofs.Common.{◌≡◌, ◌∙◌, ◌∷◌, ◌+◌, ◌-◌, ◌<◌, ◌≤◌, [], All, List, None, Option, ap, arith, inl, inr}
-use Rattle.std.proofs.Common.{length, refl, subst, suc, sym}
+use Rattle.std.proofs.Common.{length, refl, suc, sym}
 use Rattle.std.proofs.lemmas.Bool.{cases_lt}
 use Rattle.std.proofs.lemmas.List.Elements.{All-nil}
 use Rattle.rds_block.specs.declared.group.Group.{Group}
@@ -7,7 +8,7 @@ use Rattle.rds_log.specs.LogWrites.{tuned}
 use Rattle.rds_receiver.specs.ReceiverAt.{ReceiverAt, TakesSlot}
 use Rattle.rds_witness.specs.Covered.{CoversInput, IsAt, IsCovered}
 use Rattle.rds_witness.specs.Lost.{got, got-more}
-use Rattle.rds_witness.specs.Search.{IsChecked, ShowOnlySeen}
+use Rattle.rds_witness.specs.Search.{IsChecked}
 use Rattle.rds_witness.specs.declared.burst.Burst.{Burst}
 use Rattle.rds_witness.specs.declared.covering.Lossy.{Lossy}
 use Rattle.rds_witness.proofs.KeptReceivers.{at_first, at_next, by_first, covered_first, covers_itself, covers_next}
@@ -23,36 +24,23 @@ returns-clause-stands c pi m n log is old =
     let step = c.take_slot.ensures in
     let begins = c.lose_first.new.begins in
     let loses : TakesSlot was.receiver begins.receiver None = c.lose_first.ensures.stands in
-    let more : got [] log (n + 1) ≡ group ∷ got [] log n = got-more [] log n
-    ∙ ap (λ (g : Option Group). g ∷ got [] log n) (sym is) in
-    let after : ReceiverAt t whole.receiver (got [] log (n + 1)) = subst
-    (ReceiverAt t whole.receiver) (sym more) (step.stands t (got [] log n) old.whole)
-    in
-    let its : IsAt t (n + 1) whole = record {
-      input = got [] log (n + 1);
-      long = got_long [] log (n + 1);
-      stands = after;
-    } in
-    let was_at : IsAt t n was = record {
-      input = got [] log n;
-      long = got_long [] log n;
-      stands = old.whole;
-    } in
-    let none : (items : List Lossy) → items ≡ []
-    → All (IsAt t (n + 1)) items = λ items nothing. subst (All (IsAt t (n + 1))) (sym nothing)
-    (All-nil (IsAt t (n + 1))) in
+    let after : ReceiverAt t whole.receiver (got [] log (n + 1)) =
+    rw (got-more [] log n, ← is) (step.stands t (got [] log n) old.whole) in
+    let its : IsAt t (n + 1) whole =
+    record { input = got [] log (n + 1); long = got_long [] log (n + 1); stands = after } in
+    let was_at : IsAt t n was = record { input = got [] log n; long = got_long [] log n; stands = old.whole } in
+    let none : (items : List Lossy) → items ≡ [] → All (IsAt t (n + 1)) items =
+    λ items nothing. rw nothing (All-nil (IsAt t (n + 1))) in
     let old_losing = c.args.self.now.losing.items in
     let were_hearing : c.as_slice.result.now ≡ c.args.self.now.hearing.items = c.as_slice.ensures.value in
     let were_losing : c.as_slice-2.result.now ≡ old_losing = c.as_slice-2.ensures.value in
     let still_losing : c.as_slice-3.result.now ≡ old_losing = c.as_slice-3.ensures.value in
-    let go_on = c.in_ok-keep_after_slot.ensures.covers pi m n (subst (All (IsAt t n)) (sym were_hearing) old.hearing_at)
+    let go_on = c.in_ok-keep_after_slot.ensures.covers pi m n (rw were_hearing old.hearing_at)
     (at_first t (n + 1) whole _ its (none _ c.clear.ensures.items)) in
-    let begin = c.in_ok-keep_after_slot-2.ensures.covers pi m n (subst (All (IsAt t n)) (sym were_losing) old.losing_at)
-    go_on.at in
+    let begin = c.in_ok-keep_after_slot-2.ensures.covers pi m n (rw were_losing old.losing_at) go_on.at in
     let one_more = c.in_ok-keep.ensures.covers pi m (n + 1) (at_first t (n + 1) whole _ its
     (none _ c.clear-2.ensures.items)) (at_next pi m n was begins None loses was_at) in
-    let lose_more = c.in_ok-keep_after_slot-3.ensures.covers pi m n (subst (All (IsAt t n)) (sym still_losing)
-    old.losing_at) one_more.at in
+    let lose_more = c.in_ok-keep_after_slot-3.ensures.covers pi m n (rw still_losing old.losing_at) one_more.at in
     let hearing = c.keep_after_slot-2.new.kept.items in
     let losing = c.keep_after_slot-3.new.kept.items in
     let end_hearing : c.replace-losing.new.dest.items ≡ hearing = ap (λ v. v.items) c.replace-losing.ensures.after in
@@ -66,66 +54,53 @@ returns-clause-stands c pi m n log is old =
     → IsCovered t (whole ∷ c.replace.new.dest.items) (got (burst ∷ []) log (n + 1)) =
     λ input burst same from to covered.
     let long : length input ≡ n = ap length same ∙ got_long (burst ∷ []) log n in
-    subst (λ (l : List Lossy). IsCovered t (whole ∷ l) (got (burst ∷ []) log (n + 1))) (sym end_losing)
-    (subst (IsCovered t (whole ∷ losing)) (ap (λ (l : List (Option Group)). None ∷ l) same ∙ lost_next burst log n from
-    to)
+    rw (end_losing, ← lost_next burst log n from to, ← same)
     (by_first t was old_losing input (IsCovered t (whole ∷ losing) (None ∷ input)) covered (lost_first input long)
-    (λ others. lose_more.more input long (subst (λ (l : List Lossy). IsCovered t l input) (sym still_losing) others))))
-    in
+    (λ others. lose_more.more input long (rw still_losing others))) in
     let heard : (burst : Burst) (set : List Lossy) → burst.last < n → IsCovered t (was ∷ set) (got (burst ∷ []) log n)
     → (IsCovered t set (got (burst ∷ []) log n) → IsCovered t (whole ∷ hearing) (group ∷ got (burst ∷ []) log n))
     → IsCovered t (whole ∷ c.replace-losing.new.dest.items) (got (burst ∷ []) log (n + 1)) =
     λ burst set behind covered others.
     let input = got (burst ∷ []) log n in
-    subst (λ (l : List Lossy). IsCovered t (whole ∷ l) (got (burst ∷ []) log (n + 1))) (sym end_hearing)
-    (subst (IsCovered t (whole ∷ hearing)) (heard_next burst log n group behind is)
+    rw (end_hearing, ← heard_next burst log n group behind is)
     (by_first t was set input (IsCovered t (whole ∷ hearing) (group ∷ input)) covered
     (λ covers. covered_first t whole hearing (group ∷ input)
-    (covers_next pi m was whole group input step.stands covers)) others)) in
+    (covers_next pi m was whole group input step.stands covers)) others) in
     record {
       whole = after;
-      losing_at = subst (All (IsAt t (n + 1))) (sym end_losing) (λ k d less. lose_more.at (suc k) d
-          (omega (arith, less)));
-      hearing_at = subst (All (IsAt t (n + 1))) (sym end_hearing) (λ k d less. begin.at (suc k) d
-          (omega (arith, less)));
+      losing_at = rw end_losing (λ k d less. lose_more.at (suc k) d (omega arith));
+      hearing_at = rw end_hearing (λ k d less. begin.at (suc k) d (omega arith));
       lose = λ burst order behind. elim (cases_lt burst.first n) [
         | inl before ↦ (
             let shorter : Burst = record { first = burst.first; last = n - 1 } in
-            lost (got (shorter ∷ []) log n) burst (got_together shorter burst log n refl (omega arith)
-            (omega (arith, behind))) (omega (arith, before)) (omega (arith, behind))
-            (old.lose shorter (omega (arith, before)) (omega (arith, before))))
-        | inr from ↦ lost (got [] log n) burst (sym (got_before burst log n from)) (omega (arith, order, behind))
-            (omega (arith, behind))
+            lost (got (shorter ∷ []) log n) burst (got_together shorter burst log n refl (omega arith) (omega arith))
+            (omega arith) (omega arith) (old.lose shorter (omega arith) (omega arith)))
+        | inr from ↦ lost (got [] log n) burst (sym (got_before burst log n from)) (omega arith) (omega arith)
             (covered_first t was old_losing (got [] log n) (covers_itself pi m (got [] log n) was old.whole))
       ];
       hear = λ burst order behind. elim (cases_lt (burst.last + 1) n) [
-        | inl before ↦ heard burst c.args.self.now.hearing.items (omega (arith, before)) (old.hear burst order before)
+        | inl before ↦ heard burst c.args.self.now.hearing.items (omega arith) (old.hear burst order before)
             (λ others. begin.stays _ (go_on.more (got (burst ∷ []) log n) (got_long (burst ∷ []) log n)
-            (subst (λ (l : List Lossy). IsCovered t l (got (burst ∷ []) log n)) (sym were_hearing) others)))
-        | inr from ↦ heard burst old_losing (omega (arith, behind)) (old.lose burst order (omega (arith, behind, from)))
-            (λ others. begin.more (got (burst ∷ []) log n) (got_long (burst ∷ []) log n)
-            (subst (λ (l : List Lossy). IsCovered t l (got (burst ∷ []) log n)) (sym were_losing) others))
+            (rw were_hearing others)))
+        | inr from ↦ heard burst old_losing (omega arith) (old.lose burst order (omega arith))
+            (λ others. begin.more (got (burst ∷ []) log n) (got_long (burst ∷ []) log n) (rw were_losing others))
       ];
     }
 
 pub returns-clause-checked : goal.returns-clause-checked
 returns-clause-checked c pi m n k log old losing hearing =
     let t = tuned pi m in
-    let none : (items : List Lossy) → items ≡ []
-    → All (IsChecked t log k) items = λ items nothing. subst (All (IsChecked t log k)) (sym nothing)
-    (All-nil (IsChecked t log k)) in
+    let none : (items : List Lossy) → items ≡ [] → All (IsChecked t log k) items =
+    λ items nothing. rw nothing (All-nil (IsChecked t log k)) in
     let were_hearing = c.as_slice.ensures.value in
     let were_losing = c.as_slice-2.ensures.value in
     let still_losing = c.as_slice-3.ensures.value in
-    let go_on = c.in_ok-keep_after_slot.ensures.checked pi m n k log (subst (All (IsAt t n)) (sym were_hearing)
-    old.hearing_at) (subst (ShowOnlySeen t log k) (sym were_hearing) hearing) (none _ c.clear.ensures.items) in
-    let begin = c.in_ok-keep_after_slot-2.ensures.checked pi m n k log (subst (All (IsAt t n)) (sym were_losing)
-    old.losing_at) (subst (ShowOnlySeen t log k) (sym were_losing) losing) go_on in
+    let go_on = c.in_ok-keep_after_slot.ensures.checked pi m n k log (rw were_hearing old.hearing_at)
+    (rw were_hearing hearing) (none _ c.clear.ensures.items) in
+    let begin = c.in_ok-keep_after_slot-2.ensures.checked pi m n k log (rw were_losing old.losing_at)
+    (rw were_losing losing) go_on in
     let one_more = c.in_ok-keep.ensures.checked t log k (none _ c.clear-2.ensures.items)
     (λ alike. let changed = c.lose_first.ensures.changed in absurd (cc)) in
-    let lose_more = c.in_ok-keep_after_slot-3.ensures.checked pi m n k log (subst (All (IsAt t n)) (sym still_losing)
-    old.losing_at) (subst (ShowOnlySeen t log k) (sym still_losing) losing) one_more in (
-      subst (All (IsChecked t log k)) (sym (ap (λ v. v.items) c.replace.ensures.after)) lose_more,
-      subst
-          (All (IsChecked t log k)) (sym (ap (λ v. v.items) c.replace-losing.ensures.after)) begin,
-    )
+    let lose_more = c.in_ok-keep_after_slot-3.ensures.checked pi m n k log (rw still_losing old.losing_at)
+    (rw still_losing losing) one_more in
+    grind (arith, nat_tests)
