@@ -1,19 +1,14 @@
 -- The lines that say what the parts of views are, receiver by receiver.
-use Rattle.std.proofs.Common.{◌≡◌, ◌∙◌, ◌∷◌, ◌++◌, ◌+◌, ◌<◌, [], add-one, ℕ, zero, suc, List, None, Some, ap, ap₂}
+use Rattle.std.proofs.Common.{◌≡◌, ◌++◌, ◌+◌, ◌<◌, add-one, ℕ, zero, suc, List, None, Some, ap}
 use Rattle.std.proofs.Common.{append_assoc, append-nil, arith, refl, sym}
 use Rattle.rds_receiver.specs.Shown.{ShownView}
-use Rattle.rds_view_lines.specs.Output.{air_prefix, change, receiver_prefix}
+use Rattle.rds_view_lines.specs.Output.{receiver_prefix}
 use Rattle.rds_world.specs.Event.{Event}
-use Rattle.rds_world.specs.OnAir.{air_of}
-use Rattle.rds_world.specs.ReceiverKind.{is_flag_alone}
 use Rattle.rds_world.specs.declared.world.Config.{Config}
-use Rattle.rds_world.specs.Slots.{input_of}
 use Rattle.rds_world.specs.WorldAt.{ShowsStill}
-use Rattle.rds_world.specs.State.{distance}
 use Rattle.rds_script.specs.Inside.Compared.{WereBefore, WereKept, airings_at}
 use Rattle.rds_script.specs.Inside.Watched.{AreKept}
-use Rattle.rds_script.specs.OnAir.{airings}
-use Rattle.rds_script.specs.Outcomes.{compared_lines, if_alone, airings_change, airings_changes, view_at}
+use Rattle.rds_script.specs.Outcomes.{compared_lines, airings_change, airings_changes, view_at}
 use Rattle.rds_script.specs.declared.airing.Airings.{Airings}
 use Rattle.rds_script.proofs.OneOutcome.{same_view_of_input}
 
@@ -22,10 +17,7 @@ pub airings_alike : (slot n : ℕ) (f g h k : ℕ → Airings) → ((i : ℕ) �
     → airings_changes slot n f h ≡ airings_changes slot n g k
 unfolding airings_changes
 airings_alike slot zero f g h k p q = refl
-airings_alike slot (suc n) f g h k p q =
-    ap₂ (λ (x y : List ℕ). x ++ y) (airings_alike slot n f g h k (λ i l. p i (omega (arith, l)))
-    (λ i l. q i (omega (arith, l))))
-    (ap₂ (λ (x y : Airings). airings_change (receiver_prefix slot n) x y) (p n (omega arith)) (q n (omega arith)))
+airings_alike slot (suc n) f g h k p q = grind (arith, airings_alike slot n f g h k)
 
 -- before the first receiver there are no lines
 pub no_airings : (slot : ℕ) (start : List ℕ) (f g : ℕ → Airings) → start ≡ start ++ airings_changes slot 0 f g
@@ -44,34 +36,21 @@ pub next_airings : (slot n : ℕ) (start lines after : List ℕ) (f g h : ℕ �
     → after ≡ lines ++ airings_change (receiver_prefix slot n) (f n) (h n)
     → after ≡ start ++ airings_changes slot (n + 1) f h
 next_airings slot n start lines after f g h same had gave =
-    gave ∙ ap (λ (l : List ℕ). l ++ airings_change (receiver_prefix slot n) (f n) (h n))
-    (had ∙ ap (λ (l : List ℕ). start ++ l) (airings_alike slot n f f g h (λ i l. refl) same))
-    ∙ append_assoc start (airings_changes slot n f h) (airings_change (receiver_prefix slot n) (f n) (h n))
-    ∙ ap (λ (l : List ℕ). start ++ l) (one_airings slot n f h)
+    let alike = airings_alike slot n f f g h (λ i l. refl) same in
+    grind (arith, append_assoc, one_airings)
 
 -- the lines that compare with what is on air, by the views before
 pub compared_alike : (config : Config) (slot other n : ℕ) (e : Event) (before : List Event)
     (kept older shown : List ShownView) → slot ≡ other → AreKept kept older
     → compared_lines config slot n e before kept shown ≡ compared_lines config other n e before older shown
-compared_alike config slot other n e before kept older shown at same =
-    ap (λ (s : ℕ). compared_lines config s n e before kept shown) at
-    ∙ ap (λ (l : List ℕ). if_alone (is_flag_alone config.kind) (change (air_prefix other) None (air_of config before)
-    (air_of config (e ∷ before)) ++ l))
-    (airings_alike other n (λ i. airings config before (view_at kept i)) (λ i. airings config before (view_at older i))
-    (λ i. airings config (e ∷ before) (view_at shown i)) (λ i. airings config (e ∷ before) (view_at shown i))
-    (λ i l. ap (λ (v : ShownView). airings config before v) (same i)) (λ i l. refl))
+compared_alike config slot other n e before kept older shown at same = grind arith
 
 -- what the parts of a view were before, if that is not known, and if the view stays
 pub none_before : (config : Config) (events : List Event) (view : ShownView) → WereBefore config events view None
-none_before config [] view = tt
-none_before config (e ∷ before) view = tt
+none_before config events view = cc
 
 -- what a receiver shows still is what it was before
 pub still_before : (config : Config) (n i : ℕ) (events : List Event) (shown : List ShownView) (kept : List Airings)
     → ShowsStill config i events → WereKept config n events kept shown → i < n
     → WereBefore config events (view_at shown i) (Some (airings_at kept i))
-still_before config n i [] shown kept still were within = absurd were
-still_before config n i (e ∷ before) shown kept still (views, had, have, are) within =
-    let input = input_of (distance config) i (e ∷ before) in
-    are i within ∙ ap (airings config before) (same_view_of_input config input (view_at views i) (view_at shown i)
-    (still (view_at views i) (had i within)) (have i within))
+still_before config n i events shown kept still were within = grind (arith, same_view_of_input)

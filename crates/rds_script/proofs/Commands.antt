@@ -1,6 +1,6 @@
 -- A word and an argument say no command where the word is no verb, or the argument says nothing.
-use Rattle.std.proofs.Common.{◌≡◌, ◌≢◌, ◌<◌, ◌∙◌, ℕ, zero, suc, Bor, List, [], ◌∷◌, Option, Some, None, ap, arith}
-use Rattle.std.proofs.Common.{get_or, length, sym}
+use Rattle.std.proofs.Common.{◌≡◌, ◌<◌, ◌∙◌, ℕ, Bor, List, [], ◌∷◌, Option, Some, None, ap, arith}
+use Rattle.std.proofs.Common.{length, sym}
 use Rattle.std.specs.Prelude.{option_map}
 use Rattle.csv.specs.Records.{field_at}
 use Rattle.rds_world.specs.declared.event.Command.{Command}
@@ -19,17 +19,11 @@ no_verb word argument none (SetText x) says = none verb.Text says.0
 no_verb word argument none (SetName x) says = none verb.Name says.0
 no_verb word argument none (SetTags pair) says = none verb.Tags says.0
 
-other_head : (v : Verb) → verb_word verb.Name ≡ verb_word v → 110 ≢ get_or (verb_word v) 0 0 → ⊥
-other_head v e other = other (ap (λ (x : List ℕ). get_or x 0 0) e)
-
 -- an argument that is no name says no command
 pub no_name : (word argument : List ℕ) → word ≡ verb_word verb.Name → ((x : List ℕ) → IsNameArgument argument x → ⊥)
     → (command : Command) → SaysCommand word argument command → ⊥
-no_name word argument is none Quiet says = other_head verb.Nothing (sym is ∙ says.0) (λ e. omega arith)
-no_name word argument is none Restart says = other_head verb.Restart (sym is ∙ says.0) (λ e. omega arith)
-no_name word argument is none (SetText x) says = other_head verb.Text (sym is ∙ says.0) (λ e. omega arith)
 no_name word argument is none (SetName x) says = none x says.1
-no_name word argument is none (SetTags pair) says = other_head verb.Tags (sym is ∙ says.0) (λ e. omega arith)
+no_name word argument is none _ says = grind arith
 
 -- a field that is there is found
 pub no_field : (fields : List (List ℕ)) (i : ℕ) (found : Option (Bor (List ℕ)))
@@ -39,17 +33,12 @@ no_field fields i found e within none = missing fields i (sym e ∙ ap (option_m
   where
     missing : (fields : List (List ℕ)) (i : ℕ) → field_at fields i ≡ None → i < length fields → ⊥
     missing [] i e within = omega arith
-    missing (f ∷ fields) zero e within = (cc)
-    missing (f ∷ fields) (suc i) e within = missing fields i e (omega arith)
+    missing (f ∷ fields) i e within = grind (arith, missing fields)
 
 -- a record of four fields is these four
 pub four : (fields : List (List ℕ)) (a b c d : List ℕ) → length fields ≡ 4 → Some a ≡ field_at fields 0
     → Some b ≡ field_at fields 1 → Some c ≡ field_at fields 2 → Some d ≡ field_at fields 3
     → fields ≡ a ∷ b ∷ c ∷ d ∷ []
 unfolding field_at
-four [] a b c d size p q r s = absurd (omega arith)
-four (f ∷ []) a b c d size p q r s = absurd (omega arith)
-four (f ∷ g ∷ []) a b c d size p q r s = absurd (omega arith)
-four (f ∷ g ∷ h ∷ []) a b c d size p q r s = absurd (omega arith)
 four (f ∷ g ∷ h ∷ k ∷ []) a b c d size p q r s = (cc)
-four (f ∷ g ∷ h ∷ k ∷ l ∷ rest) a b c d size p q r s = absurd (omega arith)
+four _ a b c d size p q r s = absurd (omega arith)

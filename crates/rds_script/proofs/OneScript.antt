@@ -1,9 +1,10 @@
 -- The bytes of a script have one list of records, and write one output.
-use Rattle.std.proofs.Common.{◌≡◌, ◌∷◌, [], ◌∙◌, ℕ, List, Some, None, ap, refl, subst, sym}
+use Rattle.std.proofs.Common.{arith}
+use Rattle.std.proofs.Common.{◌≡◌, ◌∷◌, [], ℕ, List, Some, None, refl}
 use Rattle.std.specs.Prelude.{reverse}
 use Rattle.std.specs.Io.KnownBytes.{Appends}
 use Rattle.std.proofs.lemmas.List.{reverse-reverse}
-use Rattle.csv.specs.Machine.{Read, next_record}
+use Rattle.csv.specs.Machine.{next_record}
 use Rattle.csv.specs.Reading.{AreRecords, Reached, default_config, strip_bom}
 use Rattle.csv.specs.declared.parser.State.{State}
 use Rattle.csv.specs.declared.parser.State.TheVariants.{StartRecord}
@@ -12,49 +13,33 @@ use Rattle.rds_io.specs.Told.{Traffic}
 use Rattle.rds_io.specs.Alike.{WriteAlike}
 use Rattle.rds_script.specs.Rows.{Record}
 use Rattle.rds_script.specs.declared.play.Playing.{Playing}
-use Rattle.rds_script.specs.Play.{PlaysAll, RowsWrite, ScriptWrites}
+use Rattle.rds_script.specs.Play.{PlaysAll, ScriptWrites}
 use Rattle.rds_script.proofs.OneOutcome.{OneGroup, same_written}
 
 -- no record, and a record
-ends_or_goes_on : (s s' : State) (xs ys : List ℕ) (read : Read) → s ≡ s' → xs ≡ ys
-    → next_record default_config s' [] [] ys ≡ None → next_record default_config s [] [] xs ≡ Some read → ⊥
-ends_or_goes_on s s' xs ys read p q end more =
-    let none : next_record default_config s [] [] xs ≡ None = rw (p, q) end in
-    (cc)
-
 -- these records are all, by what is read after them
 same_reached : (s a b : State) (xs ys zs : List ℕ) (rows other : List Record) → Reached default_config s xs rows a ys
     → next_record default_config a [] [] ys ≡ None
     → Reached default_config s xs other b zs → next_record default_config b [] [] zs ≡ None → rows ≡ other
 unfolding Reached
 same_reached s a b xs ys zs [] [] p end q end' = refl
-same_reached s a b xs ys zs [] (r ∷ other) (same, left) end (read, is, row, q) end' = absurd
-    (ends_or_goes_on s a xs ys read same left end is)
-same_reached s a b xs ys zs (r ∷ rows) [] (read, is, row, p) end (same, left) end' = absurd
-    (ends_or_goes_on s b xs zs read same left end' is)
 same_reached s a b xs ys zs (r ∷ rows) (r' ∷ other) (read, is, row, p) end (read', is', row', q) end' =
-    let one : read ≡ read' = (cc) in
-    let first : r ≡ r' = row ∙ ap (λ (x : Read). x.0) one ∙ sym row' in
-    let there : Reached default_config read.1 read.2 other b zs = subst (λ (x : Read). Reached default_config x.1 x.2
-    other b zs) (sym one) q in
-    let rest : rows ≡ other = same_reached read.1 a b read.2 ys zs rows other p end there end' in
-    (cc)
+    grind (arith, same_reached read.1 a b read.2 ys zs rows other p end)
+same_reached s a b xs ys zs _ _ p end q end' = grind arith
 
 same_records : (script : List ℕ) (records other : List Record)
     → AreRecords default_config StartRecord (strip_bom script) (reverse records)
     → AreRecords default_config StartRecord (strip_bom script) (reverse other) → records ≡ other
 same_records script records other (a, ys, p, end) (b, zs, q, end') =
-    let turned : reverse records ≡ reverse other = same_reached StartRecord a b (strip_bom script) ys zs
-    (reverse records) (reverse other) p end q end' in
-    sym (reverse-reverse records) ∙ ap reverse turned ∙ reverse-reverse other
+    let turned = same_reached StartRecord a b (strip_bom script) ys zs (reverse records) (reverse other) p end q end' in
+    cc (reverse-reverse records, reverse-reverse other)
 
 -- the bytes of a script write one output
 pub same_script : TextIsReadOneWay → OneGroup → (how : Playing) (script written other : List ℕ)
     → ScriptWrites how script written → ScriptWrites how script other → written ≡ other
 same_script text one how script written other p q =
-    let records : p.records ≡ q.records = same_records script p.records q.records p.are q.are in
-    same_written text one how q.records written other (subst (λ (l : List Record). RowsWrite how l written) records
-    p.write) q.write
+    let records = same_records script p.records q.records p.are q.are in
+    same_written text one how q.records written other (rw records at p.write) q.write
 
 -- a script that was played to its end: the output of its bytes was written
 pub plays_bytes : (how : Playing) (most : ℕ) (script : List ℕ) (w : Traffic) → PlaysAll how most (Some script) w

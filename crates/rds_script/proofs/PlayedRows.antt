@@ -1,6 +1,6 @@
 -- How a station goes on by a row, and why a record is no row.
-use Rattle.std.proofs.Common.{◌≡◌, ◌⊎◌, ◌<◌, ◌≤◌, ◌+◌, ◌∙◌, ◌∷◌, ◌++◌, [], ℕ, suc, add-one, List, None, Option, Some}
-use Rattle.std.proofs.Common.{ap, ap₂, arith, inl, inr, length, refl, subst, sym}
+use Rattle.std.proofs.Common.{◌≡◌, ◌⊎◌, ◌<◌, ◌≤◌, ◌+◌, ◌∷◌, ◌++◌, [], ℕ, suc, List, None, Option, Some}
+use Rattle.std.proofs.Common.{ap, arith, inl, length, refl, subst, sym}
 use Rattle.std.specs.Prelude.{Err, Ok, OnOk, Result}
 use Rattle.rds_world.specs.Event.{Event}
 use Rattle.rds_world.specs.State.{distance}
@@ -10,8 +10,8 @@ use Rattle.rds_script.proofs.AiringLines.{compared_alike}
 use Rattle.rds_view_lines.specs.NoChange.{view_of_none}
 use Rattle.rds_world.specs.Slots.{input_of}
 use Rattle.rds_world.specs.WorldAt.{IsViewOfInput, ShowsStill, tuned_to}
-use Rattle.rds_script.specs.Outcomes.{AreOutcomes, IsOutcome, Outcome, answer_lines, compared_lines, lines_of}
-use Rattle.rds_script.specs.Outcomes.{newest_views, receiver_changes, slot_lines, view_at, whys_at}
+use Rattle.rds_script.specs.Outcomes.{AreOutcomes, IsOutcome, Outcome, compared_lines, lines_of}
+use Rattle.rds_script.specs.Outcomes.{newest_views, slot_lines, view_at}
 use Rattle.rds_script.specs.Inside.Compared.{HasRoom}
 use Rattle.rds_script.specs.Inside.Player.{AppendsRow, HasWatched, IsBegun, Played, PlayerStandsAt}
 use Rattle.rds_script.specs.Inside.Watched.{AreKept, WatchedStandsAt, WereShown, views_kept}
@@ -20,13 +20,10 @@ use Rattle.rds_script.specs.declared.watched.Watched.{Watched}
 use Rattle.rds_charset.specs.Laws.{TextIsReadOneWay}
 use Rattle.rds_world.specs.Replies.{CanBeTaken, IsStepRefused}
 use Rattle.rds_world.specs.declared.reply.StepRefused.{StepRefused}
-use Rattle.rds_world.specs.declared.reply.StepRefused.TheVariants as step
-use Rattle.rds_script.specs.Receptions.{AreReceptions}
 use Rattle.rds_script.specs.Rows.{AreNoRows, AreRows, IsAllowed, Record, SaysEvent}
 use Rattle.rds_script.proofs.OneEvent.{same_event, same_events}
 use Rattle.rds_script.proofs.Receptions.{same_receptions}
 use Rattle.rds_script.specs.declared.form.Form.{Form}
-use Rattle.rds_script.specs.declared.form.Form.TheVariants.{Log, Simulation}
 use Rattle.rds_world.specs.declared.event.TheConstants.{MOST_RECEIVERS}
 use Rattle.rds_world.specs.declared.world.Config.{Config}
 
@@ -34,48 +31,30 @@ use Rattle.rds_world.specs.declared.world.Config.{Config}
 pub as_many_rows : (k : Config) (receivers : ℕ) (records : List Record) (events : List Event)
     → AreRows k receivers records events → length records ≡ length events
 as_many_rows k receivers [] [] are = refl
-as_many_rows k receivers [] (e ∷ older) are = absurd are
-as_many_rows k receivers (row ∷ before) [] are = absurd are
 as_many_rows k receivers (row ∷ before) (e ∷ older) are = ap suc (as_many_rows k receivers before older are.2)
+as_many_rows k receivers _ _ are = absurd are
 
 -- a row has one number of receptions
 pub same_count : (row : Record) (e f : Event) → SaysEvent row e → SaysEvent row f
     → length e.receptions ≡ length f.receptions
-same_count row e f p q =
-    let text : p.receptions ≡ q.receptions = fourth (sym p.fields ∙ q.fields) in
-    ap length (same_receptions q.receptions e.receptions f.receptions
-    (subst (λ (x : List ℕ). AreReceptions x e.receptions) text p.spelled) q.spelled)
-  where
-    fourth : {a b c d a' b' c' d' : List ℕ} → a ∷ b ∷ c ∷ d ∷ [] ≡ a' ∷ b' ∷ c' ∷ d' ∷ [] → d ≡ d'
-    fourth e = (cc)
+same_count row e f p q = grind (arith, same_receptions)
 
 -- a row with more receivers than its script may name
 pub names_receivers : (k : Config) (form : Form) (row : Record) (records : List Record) (e : Event) → SaysEvent row e
     → (IsAllowed form (length e.receptions) → ⊥) → AreNoRows k form (row ∷ records)
 names_receivers k form row records e says none [] say = say.rows
-names_receivers k form row records e says none (f ∷ older) say = none
-    (subst (IsAllowed form) (sym (same_count row e f says say.rows.0 ∙ say.rows.1.count)) say.allowed)
-
--- a record that says no event
-few_allowed : (form : Form) (n : ℕ) → IsAllowed form n → n ≤ MOST_RECEIVERS
-few_allowed (Simulation why rtplus) n allowed = allowed
-few_allowed (Log rtplus) n allowed = omega (arith, allowed)
+names_receivers k form row records e says none (f ∷ older) say = grind (arith, same_count row e f)
 
 -- a row that says no event ends the rows of a script
 pub says_none : (k : Config) (form : Form) (row : Record) (records : List Record)
     → ((e : Event) → length e.receptions ≤ MOST_RECEIVERS → SaysEvent row e → ⊥) → AreNoRows k form (row ∷ records)
-says_none k form row records none [] say = say.rows
-says_none k form row records none (e ∷ older) say = none e (let few = few_allowed form say.receivers say.allowed
-    in omega (arith, few, say.rows.1.count)) say.rows.0
+says_none k form row records none p5 say = grind arith
 
 -- rows of one script have one number of receivers
 same_receivers : (k : Config) (n other : ℕ) (records : List Record) (events older : List Event)
     → AreRows k n records events → AreRows k other records older → 0 < length records → n ≡ other
-same_receivers k n other [] events older p q some = absurd (omega (arith, some))
-same_receivers k n other (row ∷ records) [] older p q some = absurd p
-same_receivers k n other (row ∷ records) (e ∷ events) [] p q some = absurd q
-same_receivers k n other (row ∷ records) (e ∷ events) (f ∷ older) p q some = sym p.1.count ∙ same_count row e f p.0 q.0
-    ∙ q.1.count
+same_receivers k n other (row ∷ records) (e ∷ events) (f ∷ older) p q some = grind (arith, same_count row e f)
+same_receivers k n other _ _ _ p q some = grind arith
 
 -- the lines of a slot come after those of the slots before
 pub slot_written : (form : Form) (config : Config) (slot : ℕ) (kept : List ShownView) (e : Event) (events : List Event)
@@ -85,31 +64,17 @@ pub slot_written : (form : Form) (config : Config) (slot : ℕ) (kept : List Sho
     o.views
     → written ++ lines ≡ lines_of form config (e ∷ events) (o ∷ older)
 slot_written form config slot kept e events o older written lines had now same gave =
-    let whys = whys_at form config e.receptions (e ∷ events) in
-    let changes : receiver_changes slot (length o.views) whys kept o.views ≡ receiver_changes (length older)
-    (length o.views) whys (newest_views older) o.views =
-    changes_same slot (length o.views) whys kept (newest_views older) o.views o.views (λ i l. same i) (λ i l. refl)
-    ∙ ap (λ (s : ℕ). receiver_changes s (length o.views) whys (newest_views older) o.views) now in
-    let answer : answer_lines form slot o.command o.reply o.sent ≡ answer_lines form (length older) o.command o.reply
-    o.sent = ap (λ (s : ℕ). answer_lines form s o.command o.reply o.sent) now in
-    let compared = compared_alike config slot (length older) (length o.views) e events kept (newest_views older) o.views
-    now same in
-    ap₂ (λ (x y : List ℕ). x ++ y) had (gave ∙ ap₂ (λ (x y : List ℕ). x ++ y) (ap₂ (λ (x y : List ℕ). x ++ y) answer
-    changes) compared)
+    grind (arith, changes_same, compared_alike)
 
 -- before the first slot any number of receivers will do, and no outcome shows a thing
 pub none_played : (k : Config) (receivers other : ℕ) (records : List Record) (events : List Event)
     → AreRows k receivers records events → events ≡ [] → AreRows k other records events
 none_played k receivers other [] [] rows none = tt
-none_played k receivers other [] (e ∷ older) rows none = absurd rows
-none_played k receivers other (row ∷ records) [] rows none = absurd rows
-none_played k receivers other (row ∷ records) (e ∷ older) rows none = absurd (omega (arith, ap length none))
+none_played k receivers other _ _ rows none = grind arith
 
 pub none_shown : (config : Config) (events : List Event) (outcomes : List Outcome) → AreOutcomes config events outcomes
     → events ≡ [] → newest_views outcomes ≡ []
-none_shown config [] [] are none = refl
-none_shown config [] (o ∷ older) are none = absurd are
-none_shown config (e ∷ before) outcomes are none = absurd (omega (arith, ap length none))
+none_shown config events outcomes are none = grind arith
 
 -- the world that a row begins with: with as many receivers as the rows before have, or the first row asks for, and with
 -- memory for its slot
@@ -129,24 +94,15 @@ pub is_ready : (before : Option Watched) (w : Watched) (played : Played) (asked 
     → AreRows played.config played.receivers played.records events → AreOutcomes played.config events outcomes
     → HasWatched played.config played.receivers before events outcomes
     → IsBegun played.config asked before w → IsReady played events outcomes asked w
-is_ready None w played asked events outcomes had allowed rows are none begun = record {
-  receivers = asked;
-  allowed = allowed;
-  rows = none_played played.config played.receivers asked played.records events rows none;
-  stands = rw none begun.0;
-  same = rw (none_shown played.config events outcomes are none) begun.1;
-  room = begun.2;
-  how = inr refl;
-}
+is_ready None w played asked events outcomes had allowed rows are none begun = grind (arith, none_played, none_shown)
 is_ready (Some before) w played asked events outcomes had allowed rows are has begun = record {
   receivers = played.receivers;
   allowed = had;
   rows = rows;
   stands = begun.0 played.config played.receivers events has.1;
-  same = λ i. ap (λ (views : List ShownView). view_at views i) begun.1 ∙ has.2 i;
+  same = λ i. rw begun.1 (has.2 i);
   room = begun.2;
-  how = inl (let counted = as_many_rows played.config played.receivers played.records events rows
-      in omega (arith, has.0, counted));
+  how = inl (omega (arith, as_many_rows played.config played.receivers played.records events rows));
 }
 
 -- a slot more is played in a world whose receivers are watched
@@ -173,19 +129,17 @@ plays_on (Ok done) before now played s receivers kept w row e old new form confi
       (
         receivers,
         record {
-          form_is = form ∙ s.form_is;
-          config_is = config ∙ s.config_is;
+          form_is = cc;
+          config_is = cc;
           allowed = allowed;
           events = e ∷ s.events;
           rows = (says, taken, rows);
           outcomes = o ∷ s.outcomes;
           are = (is, s.are);
-          slot = slot ∙ ap (λ (n : ℕ). n + 1) s.slot ∙ add-one (length s.outcomes);
+          slot = omega arith;
           lines = slot_written played.form played.config before.slot kept e s.events o s.outcomes played.written _
-              s.lines
-              s.slot same refl;
-          watched = subst (λ (x : Option Watched). HasWatched played.config receivers x (e ∷ s.events) (o ∷ s.outcomes))
-              (sym watched) (omega arith, stands, λ i. ap (λ (views : List ShownView). view_at views i) (sym views));
+              s.lines s.slot same refl;
+          watched = rw watched (omega arith, stands, λ i. rw views refl);
         },
       ),
     )
@@ -197,31 +151,19 @@ pub refused_row : TextIsReadOneWay → (form : Form) (k : Config) (receivers : �
     → AreNoRows k form (row ∷ records)
 refused_row one form k receivers row records e events rows says how none [] say = say.rows
 refused_row one form k receivers row records e events rows says how none (g ∷ older) say =
-    let same : g ≡ e = same_event one row g e say.rows.0 says in
-    let before : older ≡ events = same_events one k say.receivers receivers records older events say.rows.2 rows in
-    let count : say.receivers ≡ receivers = elim how [
-      | inl some ↦ same_receivers k say.receivers receivers records older events say.rows.2 rows some
-      | inr began ↦ sym say.rows.1.count ∙ same_count row g e say.rows.0 says ∙ sym began
-    ] in
-    none (subst (λ (n : ℕ). CanBeTaken k n e events) count (subst (λ (x : Event). CanBeTaken k say.receivers x events)
-    same (subst (λ (l : List Event). CanBeTaken k say.receivers g l) before say.rows.1)))
+    grind (arith, same_event one row g e, same_events one k say.receivers receivers records older events,
+    same_receivers k say.receivers receivers records older events, same_count row g e)
 
 -- a slot that is refused can't be taken
 pub not_taken : (k : Config) (receivers : ℕ) (e : Event) (before : List Event) (why : StepRefused)
     → IsStepRefused k receivers e before why → CanBeTaken k receivers e before → ⊥
-not_taken k receivers e before step.ReceiverCount refused taken = refused taken.count
-not_taken k receivers e before (step.Late r) refused taken = refused.late.late (taken.due r)
-not_taken k receivers e before (step.Wrong r) refused taken = refused.unfit.1.breaks (taken.fit r)
-not_taken k receivers e before (step.WrongConfirmed r) refused taken = refused.unfit.1.breaks (taken.fit r)
+not_taken k receivers e before why refused taken = grind arith
 
 -- what a receiver shows that shows what it showed
 pub still_shown : (config : Config) (n i : ℕ) (events : List Event) (kept now : List ShownView)
     → ShowsStill config i events → WereShown config n events kept → i < n
     → view_at now i ≡ view_at kept i → IsViewOfInput config (input_of (distance config) i events) (view_at now i)
-still_shown config n i [] kept now still were within same = absurd were
-still_shown config n i (e ∷ before) kept now still were within same = subst
-    (IsViewOfInput config (input_of (distance config) i (e ∷ before))) (sym same)
-    (still (view_at kept i) (were i within))
+still_shown config n i events kept now still were within same = grind arith
 
 -- where nothing is kept yet, before the first slot
 pub nothing_yet : (config : Config) (i : ℕ) (kept : List ShownView) → view_at kept i ≡ view_at [] i

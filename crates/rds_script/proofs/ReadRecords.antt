@@ -1,9 +1,10 @@
 -- How the reader of a script goes on by a record.
-use Rattle.std.proofs.Common.{◌≡◌, ◌∙◌, ◌∷◌, [], ℕ, List, Bool, true, false, Option, inl}
+use Rattle.std.proofs.Common.{arith}
+use Rattle.std.proofs.Common.{◌≡◌, ◌∷◌, [], ℕ, List, Bool, true, false, Option, inl}
 use Rattle.std.specs.Prelude.{MatchBool, reverse}
 use Rattle.std.proofs.lemmas.Grind.{reverse_onto}
-use Rattle.csv.proofs.ReadFacts.{rows-end, rows-more}
-use Rattle.csv.specs.Reading.{ReadRecord, default_config, is_flexible, reader_state, strip_bom, took_first}
+use Rattle.csv.proofs.ReadFacts.{rows-more}
+use Rattle.csv.specs.Reading.{ReadRecord, default_config, is_flexible, strip_bom, took_first}
 use Rattle.csv.specs.declared.parser.State.TheVariants.{StartRecord}
 use Rattle.csv.specs.declared.reader.Reader.{Reader}
 use Rattle.rds_script.specs.Inside.FailureFlag.{asked_bytes}
@@ -21,21 +22,14 @@ pub next_stands : {R : Type 0} {g h : _} (remaining : R → Option (List ℕ)) (
     → MatchBool found (ScriptStandsAt remaining known record { reader = new } (fields ∷ records))
     (HasAllRecords known records)
 next_stands remaining old new true fields known records s read first flexible = record {
-  plain = read.3 ∙ s.plain;
-  flexible = flexible ∙ s.flexible;
+  plain = cc;
+  flexible = cc;
   ready = inl first;
-  config = read.2 ∙ s.config;
+  config = cc;
   gave = λ script k.
       let (rest, source, upto) = s.gave script k in
       let more = rows-more (asked_bytes remaining) old new fields default_config StartRecord (strip_bom script) rest
       (reverse records) s.config source upto.reached read in
       (more.0, more.1, record { reached = rw (reverse_onto records fields []) more.2 });
 }
-next_stands remaining old new false fields known records s read first flexible = λ script k.
-    let (rest, source, upto) = s.gave script k in (
-      reader_state old,
-      rest,
-      upto,
-      rows-end (asked_bytes remaining) old new fields default_config rest s.config source
-          read,
-    )
+next_stands remaining old new false fields known records s read first flexible = grind arith

@@ -97,6 +97,7 @@ impl Airs {
     }
 
     /// Returns what was on air last.
+    #[tactic(auto, using(crate::proofs::Periods::newest_is))]
     fn newest(&self) -> View<'_>
         ensures { view_of result ≡ newest_of (airs_in self.now.periods.items) }
     {
@@ -107,6 +108,7 @@ impl Airs {
     }
 
     /// Adds a slot with this on air.
+    #[tactic(auto, using(crate::proofs::Periods::longer, crate::proofs::Periods::airs_of_more))]
     fn push(&mut self, now: View<'_>)
         requires { AirsHaveRoom self.old }
         ensures spacing { self.new.spacing ≡ self.old.spacing }

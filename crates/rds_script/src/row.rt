@@ -82,6 +82,7 @@ struct Fields<'a> {
 }
 
 /// Returns the fields of a record. `None` if they are not four.
+#[tactic(auto, using(crate::proofs::Commands::no_field, crate::proofs::Commands::four))]
 fn four_fields(row: &ByteRecord) -> Option<Fields<'_>>
     ensures some { IfSome result (λ fields. fields_of row.now ≡ fields.word.now
         ∷ fields.argument.now ∷ fields.free.now ∷ fields.receptions.now ∷ []) }
@@ -204,6 +205,7 @@ fn name_of(argument: &str) -> Result<Name, RowCause>
 }
 
 /// Reads a pair of tags from eight numbers.
+#[tactic(auto, using(crate::proofs::Numbers::no_other_length, crate::proofs::Numbers::same_numbers))]
 fn pair_of(argument: &str) -> Result<TagPair, RowCause>
     ensures ok { IfOk result
         (λ pair. AreNumbers argument.now (numbers_of_pair pair) × IsPair pair) }
@@ -254,6 +256,7 @@ fn bit_of(number: u8) -> Option<bool>
 }
 
 /// Reads the numbers of a text, at most eight.
+#[tactic(auto, using(crate::proofs::Numbers::reading_numbers))]
 fn numbers_of(text: &str) -> Result<ArrayVec<u8, 8>, RowCause>
     ensures ok { IfOk result (λ numbers. AreNumbers text.now numbers.items) }
     ensures none { OnErr result ((numbers : List ℕ) → length numbers ≤ 8
@@ -429,6 +432,7 @@ fn wrong_message(digits: &[u8]) -> Option<Message>
 
 /// Reads a number of slots of up to four decimal digits. Returns 0 if there are none.
 #[inline(never)]
+#[tactic(auto, using(crate::proofs::Receptions::no_lateness, crate::proofs::Receptions::three_digits))]
 fn lateness_of(digits: &[u8]) -> Option<u16>
     ensures some { IfSome result (IsLateness digits.now) }
     ensures none { IfNone result ((late : ℕ) → IsLateness digits.now late → ⊥) }

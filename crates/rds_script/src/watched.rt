@@ -54,6 +54,7 @@ impl Watched {
     ghost use Rattle.rds_script.specs.Inside.Watched.{WatchedStandsAt, WhereWatchedStands, views_kept};
 
     /// Makes a world with this many receivers, before its first slot.
+    #[tactic(auto, using(crate::proofs::PlayedRows::nothing_yet))]
     pub(crate) fn new(
         alloc: Global,
         config: Config,

@@ -19,13 +19,7 @@ use Rattle.rds_script.proofs.compared.push_airings.Goals as goal
 use Rattle.rds_script.proofs.compared.push_airings.Goals.{else-stays, then-stays}
 
 pub loop-i-init : goal.loop-i-init
-loop-i-init c = record {
-  count = refl;
-  room = omega arith;
-  lines = no_airings c.args.slot c.args.lines.now _ _;
-  each = λ config events st stand were i below. absurd (omega (arith, below));
-  later = λ i l. refl;
-}
+loop-i-init c = grind (arith, no_airings)
 
 pub loop-i-preserved : goal.loop-i-preserved
 loop-i-preserved c =
@@ -34,24 +28,22 @@ loop-i-preserved c =
     let old = c.loop-i.kept in
     let new = set old i now in
     let within : i < length old = omega (arith, c.if-i-kept.false) in
-    let other : (j : ℕ) → j ≢ i → airings_at new j ≡ airings_at old j = λ j ne. get_or-set_other old i j now all_on_air
-    ne in
+    let other = λ (j : ℕ) (ne : j ≢ i). get_or-set_other old i j now all_on_air ne in
     let here : airings_at new i ≡ now = get_or-set_at old i i now all_on_air refl within in
     let view = c.view.ensures ∙ ap view_kept c.index-shown-i.is
     ∙ sym (get_or-map view_kept c.args.shown.now i c.index-shown-i.result nothing_shown
     (omega (arith, c.loop-i-test.true))) in
-    let was : airings_at old i ≡ airings_at c.args.kept.now i = c.loop-i.invariant.later i (omega arith) in
+    let at = get_or_default old i _ all_on_air within ∙ c.loop-i.invariant.later i (omega arith) in
     let kept_before : (config : Config) (events : List Event) → WorldAt config c.args.world.now events
     → WereKept config (length c.args.shown.now) events c.args.kept.now (map view_kept c.args.shown.now)
     → WereBefore config events (view_of c.view.result) c.if-stays.before =
     λ config events st were. elim c.if-stays.branch [
       | then-stays w ↦ (
-          let at = get_or_default old i _ all_on_air within ∙ was in
-          subst (λ (o : Option Airings). WereBefore config events (view_of c.view.result) o)
-          (sym (w.before-is ∙ ap Some at))
-          (subst (λ (v : ShownView). WereBefore config events v (Some (airings_at c.args.kept.now i))) (sym view)
-          (still_before config (length c.args.shown.now) i events (map view_kept c.args.shown.now) c.args.kept.now
-          (c.stays.ensures w.if-stays.true config events st) were (omega (arith, c.loop-i-test.true))))
+          let before = w.before-is ∙ ap Some at in
+          let still = still_before config (length c.args.shown.now) i events (map view_kept c.args.shown.now)
+          c.args.kept.now (c.stays.ensures w.if-stays.true config events st) were (omega (arith, c.loop-i-test.true)) in
+          subst (λ (o : Option Airings). WereBefore config events (view_of c.view.result) o) (sym before)
+          (subst (λ (v : ShownView). WereBefore config events v (Some (airings_at c.args.kept.now i))) (sym view) still)
           )
       | else-stays w ↦ subst (λ (o : Option Airings). WereBefore config events (view_of c.view.result) o)
           (sym w.before-is) (none_before config events (view_of c.view.result))
@@ -70,7 +62,7 @@ loop-i-preserved c =
           (λ j l. sym (other j (λ e. omega (arith, e, l)))) c.loop-i.invariant.lines
           (c.push_changed.ensures.lines
           ∙ ap₂ (λ (p q : Airings). c.loop-i.lines ++ airings_change (receiver_prefix c.args.slot i) p q)
-          (get_or_default old i _ all_on_air within ∙ was) (sym here));
+          at (sym here));
       each = λ config events st stand were j below. elim (at_last j i below) [
         | inl less ↦ other j (λ e. omega (arith, e, less)) ∙ c.loop-i.invariant.each config events st stand were j less
         | inr same ↦ subst (λ (n : ℕ). airings_at new n ≡ airings config events

@@ -6,5 +6,4 @@ pub returns-clause-one_event : goal.returns-clause-one_event
 returns-clause-one_event c row e f p q = same_event c.text_is_read_one_way.ensures row e f p q
 
 pub returns-clause-one_output : goal.returns-clause-one_output
-returns-clause-one_output c how records written other p q = same_written c.text_is_read_one_way.ensures
-    c.one_group.ensures how records written other p q
+returns-clause-one_output c how records written other p q = search same_written

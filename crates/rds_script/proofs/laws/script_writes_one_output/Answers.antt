@@ -2,12 +2,10 @@ use Rattle.rds_script.proofs.OneScript.{alike, plays_bytes, same_script}
 use Rattle.rds_script.proofs.laws.script_writes_one_output.Goals as goal
 
 pub returns-clause-one_output : goal.returns-clause-one_output
-returns-clause-one_output c how script written other p q = same_script c.text_is_read_one_way.ensures
-    c.one_group.ensures how script written other p q
+returns-clause-one_output c how script written other p q = search same_script
 
 pub returns-clause-written : goal.returns-clause-written
 returns-clause-written c how most script w p = plays_bytes how most script w p
 
 pub returns-clause-alike : goal.returns-clause-alike
-returns-clause-alike c how most others script w v p q = alike c.text_is_read_one_way.ensures c.one_group.ensures how
-    most others script w v p q
+returns-clause-alike c how most others script w v p q = search alike

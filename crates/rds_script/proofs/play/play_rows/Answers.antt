@@ -1,8 +1,6 @@
-use Rattle.std.proofs.Common.{◌≡◌, ◌≢◌, ◌∙◌, ◌∷◌, ◌+◌, Ok, ap, arith, length, refl, rules, true}
-use Rattle.std.specs.Prelude.{Err}
+use Rattle.std.proofs.Common.{◌∙◌, ◌∷◌, ◌+◌, Ok, ap, arith, refl, rules}
 use Rattle.std.proofs.lemmas.Result.{err_from_is_err_and}
 use Rattle.csv.specs.Records.{fields_of}
-use Rattle.rds_io.specs.Told.{traffic}
 use Rattle.rds_io.specs.ReadFailed.{SomeReadFailed}
 use Rattle.rds_script.proofs.Plays.{ends_all, ends_by_fault, ends_by_write, ends_too_long, not_more, played_on}
 use Rattle.rds_script.proofs.Plays.{waits_now, where_next}
@@ -12,112 +10,79 @@ use Rattle.rds_script.proofs.play.play_rows.Goals.{then-not-has_next+in_ok-write
 pub returns-in_err-write-in-Ok-false : goal.returns-in_err-write-in-Ok-false
 returns-in_err-write-in-Ok-false g c how known begun fresh =
     let (records, stands, count, played) = c.loop-turn.invariant.played how known begun fresh in
-    let other : Ok c.in-Ok-false.field-0 ≢ Ok true =
-    not_more c.in-Ok-false.field-0 (Ok c.in-Ok-false.field-0) refl c.in-Ok-false.field-0-test in
+    let none = c.in-Ok-false.ensures.no_lines (not_more _ _ refl c.in-Ok-false.field-0-test) in
     let p = err_from_is_err_and c.from_residual.result c.from_residual.ensures.1 in
-    rw (p.1, p.2) (ends_by_write g.R.Read.remaining how c.args.records
-    (record { known = known; Failed = SomeReadFailed g.R.TellingRead.failures })
-    (traffic g.W.Write.contents g.W.TellingWrite.failures c.args.writer.now c.loop-turn.writer)
-    (traffic g.W.Write.contents g.W.TellingWrite.failures c.args.writer.now c.write.new.writer) c.loop-turn.lines
-    c.loop-turn.script c.loop-turn.player records stands (omega (arith, count, c.loop-turn-test.true)) played
-    (c.in_err-write-in-Ok-false.ensures.waits c.args.writer.now played.total
-    (rw (c.in-Ok-false.ensures.no_lines other) played.waits)))
+    rw (p.1, p.2) (ends_by_write _ how c.args.records
+    (record { known = known; Failed = SomeReadFailed g.R.TellingRead.failures }) _ _ _ _ _ records stands
+    (omega arith) played
+    (c.in_err-write-in-Ok-false.ensures.waits c.args.writer.now played.total (rw none played.waits)))
 
 pub returns-in-Ok-false : goal.returns-in-Ok-false
 returns-in-Ok-false g c how known begun fresh =
     let (records, stands, count, played) = c.loop-turn.invariant.played how known begun fresh in
-    let w = traffic g.W.Write.contents g.W.TellingWrite.failures c.args.writer.now c.loop-turn.writer in
-    let v = traffic g.W.Write.contents g.W.TellingWrite.failures c.args.writer.now c.write.new.writer in
-    let other : Ok c.in-Ok-false.field-0 ≢ Ok true =
-    not_more c.in-Ok-false.field-0 (Ok c.in-Ok-false.field-0) refl c.in-Ok-false.field-0-test in
-    let wrote = waits_now how c.loop-turn.player records w v c.loop-turn.lines c.write.new.self played
-    (c.in_ok-write-in-Ok-false.ensures.waits c.args.writer.now played.total
-    (rw (c.in-Ok-false.ensures.no_lines other) played.waits)) in
-    ends_all g.R.Read.remaining how c.args.records
-    (record { known = known; Failed = SomeReadFailed g.R.TellingRead.failures }) v c.write.new.self c.loop-turn.script
-    c.loop-turn.player records stands wrote c.in_ok-write-in-Ok-false.ensures.empty
-    (omega (arith, count, c.loop-turn-test.true))
-    (rw c.in-Ok-false.field-0-test at (c.in-Ok-false.ensures.plays known
-    (where_next how c.loop-turn.player records w c.loop-turn.lines played) stands played.player))
+    let none = c.in-Ok-false.ensures.no_lines (not_more _ _ refl c.in-Ok-false.field-0-test) in
+    let wrote = waits_now how _ records _ _ _ c.write.new.self played
+    (c.in_ok-write-in-Ok-false.ensures.waits c.args.writer.now played.total (rw none played.waits)) in
+    ends_all _ how c.args.records (record { known = known; Failed = SomeReadFailed g.R.TellingRead.failures }) _ _ _ _
+    records stands wrote c.in_ok-write-in-Ok-false.ensures.empty (omega arith)
+    (rw c.in-Ok-false.field-0-test at (c.in-Ok-false.ensures.plays known (where_next how _ records _ _ played) stands
+    played.player))
 
 pub returns-in_err-write-in-Err : goal.returns-in_err-write-in-Err
 returns-in_err-write-in-Err g c how known begun fresh =
     let (records, stands, count, played) = c.loop-turn.invariant.played how known begun fresh in
-    let other : Err c.in-Err.fault ≢ Ok true = λ e. (cc) in
+    let none = c.in-Err.ensures.no_lines (λ e. (cc)) in
     let p = err_from_is_err_and c.from_residual-in_err-write-in-Err.result c.from_residual-in_err-write-in-Err.ensures.1
     in
-    rw (p.1, p.2) (ends_by_write g.R.Read.remaining how c.args.records
-    (record { known = known; Failed = SomeReadFailed g.R.TellingRead.failures })
-    (traffic g.W.Write.contents g.W.TellingWrite.failures c.args.writer.now c.loop-turn.writer)
-    (traffic g.W.Write.contents g.W.TellingWrite.failures c.args.writer.now c.write-in-Err.new.writer) c.loop-turn.lines
-    c.loop-turn.script c.loop-turn.player records stands (omega (arith, count, c.loop-turn-test.true)) played
-    (c.in_err-write-in-Err.ensures.waits c.args.writer.now played.total
-    (rw (c.in-Err.ensures.no_lines other) played.waits)))
+    rw (p.1, p.2) (ends_by_write _ how c.args.records
+    (record { known = known; Failed = SomeReadFailed g.R.TellingRead.failures }) _ _ _ _ _ records stands
+    (omega arith) played
+    (c.in_err-write-in-Err.ensures.waits c.args.writer.now played.total (rw none played.waits)))
 
 pub returns-in-Err : goal.returns-in-Err
 returns-in-Err g c how known begun fresh =
     let (records, stands, count, played) = c.loop-turn.invariant.played how known begun fresh in
-    let w = traffic g.W.Write.contents g.W.TellingWrite.failures c.args.writer.now c.loop-turn.writer in
-    let v = traffic g.W.Write.contents g.W.TellingWrite.failures c.args.writer.now c.write-in-Err.new.writer in
-    let other : Err c.in-Err.fault ≢ Ok true = λ e. (cc) in
-    let wrote = waits_now how c.loop-turn.player records w v c.loop-turn.lines c.write-in-Err.new.self played
-    (c.in_ok-write-in-Err.ensures.waits c.args.writer.now played.total
-    (rw (c.in-Err.ensures.no_lines other) played.waits)) in
+    let none = c.in-Err.ensures.no_lines (λ e. (cc)) in
+    let wrote = waits_now how _ records _ _ _ c.write-in-Err.new.self played
+    (c.in_ok-write-in-Err.ensures.waits c.args.writer.now played.total (rw none played.waits)) in
     ends_by_fault g.R.Read.remaining how c.args.records
-    (record { known = known; Failed = SomeReadFailed g.R.TellingRead.failures }) v w c.write-in-Err.new.self
-    c.loop-turn.script c.play_next.new.script c.loop-turn.player c.play_next.new.player (fields_of c.play_next.new.row)
+    (record { known = known; Failed = SomeReadFailed g.R.TellingRead.failures }) _ _ _ _
+    c.play_next.new.script _ c.play_next.new.player (fields_of c.play_next.new.row)
     records c.loop-turn.lines c.play_next.new.lines c.loop-turn.turn c.in-Err.fault stands wrote
     c.in_ok-write-in-Err.ensures.empty count c.loop-turn-test.true played
-    (c.in-Err.ensures.plays known (where_next how c.loop-turn.player records w c.loop-turn.lines played) stands
-    played.player)
+    (c.in-Err.ensures.plays known (where_next how _ records _ _ played) stands played.player)
 
 pub returns-in_err-write : goal.returns-in_err-write
 returns-in_err-write g c how known begun fresh =
     let (records, stands, count, played) = c.loop-turn.invariant.played how known begun fresh in
-    let w = traffic g.W.Write.contents g.W.TellingWrite.failures c.args.writer.now c.loop-turn.writer in
-    let is : c.play_next.result ≡ Ok true = c.in-Ok-true.is ∙ ap Ok c.in-Ok-true.field-0-test in
     let (further, now) = played_on g.R.Read.remaining (SomeReadFailed g.R.TellingRead.failures) how known
-    c.play_next.new.script c.loop-turn.player c.play_next.new.player (fields_of c.play_next.new.row)
-    (c.loop-turn.turn + 1) records w c.loop-turn.lines c.play_next.new.lines c.play_next.result played
-    (c.play_next.ensures.plays known (where_next how c.loop-turn.player records w c.loop-turn.lines played) stands
-    played.player) is in
+    c.play_next.new.script _ c.play_next.new.player (fields_of c.play_next.new.row)
+    (c.loop-turn.turn + 1) records _ _ c.play_next.new.lines c.play_next.result played
+    (c.play_next.ensures.plays known (where_next how _ records _ _ played) stands played.player)
+    (c.in-Ok-true.is ∙ ap Ok c.in-Ok-true.field-0-test) in
     let p = err_from_is_err_and c.from_residual-in_err-write.result c.from_residual-in_err-write.ensures.1 in
-    rw (p.1, p.2) (ends_by_write g.R.Read.remaining how c.args.records
-    (record { known = known; Failed = SomeReadFailed g.R.TellingRead.failures }) w
-    (traffic g.W.Write.contents g.W.TellingWrite.failures c.args.writer.now c.write-then-not-has_next.new.writer)
-    c.play_next.new.lines c.play_next.new.script c.play_next.new.player (fields_of c.play_next.new.row ∷ records)
-    further
-    (omega (arith, count, c.loop-turn-test.true)) now
-    (c.in_err-write.ensures.waits c.args.writer.now now.total now.waits))
+    rw (p.1, p.2) (ends_by_write _ how c.args.records
+    (record { known = known; Failed = SomeReadFailed g.R.TellingRead.failures }) _ _ _ _ _ _ further
+    (omega arith) now (c.in_err-write.ensures.waits c.args.writer.now now.total now.waits))
 
 pub loop-turn-preserved : goal.loop-turn-preserved
 loop-turn-preserved g c = record {
   room = elim c.if-not-has_next.branch [
-    | then-not-has_next+in_ok-write w ↦
-        let none : length w.write-then-not-has_next.new.self ≡ 0 = rw w.in_ok-write.ensures.empty refl in
-        rw w.lines-is (omega (arith, none))
+    | then-not-has_next+in_ok-write w ↦ rw (w.lines-is, w.in_ok-write.ensures.empty) (omega arith)
     | else-not-has_next+else-not-has_room w ↦ rw w.lines-is (search rules)
   ];
-  slot = c.in-Ok-true.ensures.slot (ap Ok c.in-Ok-true.field-0-test) ∙ ap (λ n. n + 1) c.loop-turn.invariant.slot;
+  slot = omega (arith, c.in-Ok-true.ensures.slot (ap Ok c.in-Ok-true.field-0-test));
   played = λ how known begun fresh.
       let (records, stands, count, played) = c.loop-turn.invariant.played how known begun fresh in
-      let w = traffic g.W.Write.contents g.W.TellingWrite.failures c.args.writer.now c.loop-turn.writer in
-      let is : c.play_next.result ≡ Ok true = c.in-Ok-true.is ∙ ap Ok c.in-Ok-true.field-0-test in
-      let (further, now) = played_on g.R.Read.remaining (SomeReadFailed g.R.TellingRead.failures) how known
-      c.play_next.new.script c.loop-turn.player c.play_next.new.player (fields_of c.play_next.new.row)
-      (c.loop-turn.turn + 1) records w c.loop-turn.lines c.play_next.new.lines c.play_next.result played
-      (c.play_next.ensures.plays known (where_next how c.loop-turn.player records w c.loop-turn.lines played) stands
-      played.player) is in (
+      let (further, now) = played_on _ _ how known _ _ _ _ _ records _ _ _ _ played
+      (c.play_next.ensures.plays known (where_next how _ records _ _ played) stands played.player)
+      (c.in-Ok-true.is ∙ ap Ok c.in-Ok-true.field-0-test) in (
         fields_of c.play_next.new.row ∷ records,
         further,
-        omega (arith, count),
+        omega arith,
         elim c.if-not-has_next.branch [
           | then-not-has_next+in_ok-write v ↦
-              rw (v.writer-is, v.lines-is) (waits_now how c.play_next.new.player (fields_of c.play_next.new.row
-              ∷ records)
-              w (traffic g.W.Write.contents g.W.TellingWrite.failures c.args.writer.now
-              v.write-then-not-has_next.new.writer)
-              c.play_next.new.lines v.write-then-not-has_next.new.self now
+              rw (v.writer-is, v.lines-is) (waits_now how _ _ _ _ _ _ now
               (v.in_ok-write.ensures.waits c.args.writer.now now.total now.waits))
           | else-not-has_next+else-not-has_room v ↦ rw (v.writer-is, v.lines-is) now
         ],
@@ -128,21 +93,15 @@ pub returns-in_err-write-2 : goal.returns-in_err-write-2
 returns-in_err-write-2 g c how known begun fresh =
     let (records, stands, count, played) = c.loop-turn.invariant.played how known begun fresh in
     let p = err_from_is_err_and c.from_residual-in_err-write-2.result c.from_residual-in_err-write-2.ensures.1 in
-    rw (p.1, p.2) (ends_by_write g.R.Read.remaining how c.args.records
-    (record { known = known; Failed = SomeReadFailed g.R.TellingRead.failures })
-    (traffic g.W.Write.contents g.W.TellingWrite.failures c.args.writer.now c.loop-turn.writer)
-    (traffic g.W.Write.contents g.W.TellingWrite.failures c.args.writer.now c.write-2.new.writer) c.loop-turn.lines
-    c.loop-turn.script c.loop-turn.player records stands (omega (arith, count, c.loop-turn.auto)) played
+    rw (p.1, p.2) (ends_by_write _ how c.args.records
+    (record { known = known; Failed = SomeReadFailed g.R.TellingRead.failures }) _ _ _ _ _ records stands
+    (omega arith) played
     (c.in_err-write-2.ensures.waits c.args.writer.now played.total played.waits))
 
 pub returns : goal.returns
 returns g c how known begun fresh =
     let (records, stands, count, played) = c.loop-turn.invariant.played how known begun fresh in
-    let v = traffic g.W.Write.contents g.W.TellingWrite.failures c.args.writer.now c.write-2.new.writer in
-    let wrote = waits_now how c.loop-turn.player records
-    (traffic g.W.Write.contents g.W.TellingWrite.failures c.args.writer.now c.loop-turn.writer) v c.loop-turn.lines
-    c.write-2.new.self played (c.in_ok-write-2.ensures.waits c.args.writer.now played.total played.waits) in
-    ends_too_long g.R.Read.remaining how c.args.records
-    (record { known = known; Failed = SomeReadFailed g.R.TellingRead.failures }) v c.write-2.new.self c.loop-turn.script
-    c.loop-turn.player records stands wrote c.in_ok-write-2.ensures.empty
-    (omega (arith, count, c.loop-turn-test.false, c.loop-turn.auto))
+    let wrote = waits_now how _ records _ _ _ c.write-2.new.self played
+    (c.in_ok-write-2.ensures.waits c.args.writer.now played.total played.waits) in
+    ends_too_long _ how c.args.records (record { known = known; Failed = SomeReadFailed g.R.TellingRead.failures })
+    _ _ _ _ records stands wrote c.in_ok-write-2.ensures.empty (omega arith)

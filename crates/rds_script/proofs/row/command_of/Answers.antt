@@ -1,3 +1,4 @@
+use Rattle.std.proofs.Common.{arith}
 use Rattle.std.proofs.Common.{rules, ◌≡◌, ℕ, List, sym, subst}
 use Rattle.std.proofs.lemmas.Result.{err_from_is_err_and}
 use Rattle.rds_script.specs.Rows.{SaysCommand}
@@ -5,8 +6,7 @@ use Rattle.rds_script.proofs.Commands.{no_name, no_verb}
 use Rattle.rds_script.proofs.row.command_of.Goals as goal
 
 pub returns-in_default-clause-none : goal.returns-in_default-clause-none
-returns-in_default-clause-none c command text says = no_verb c.args.word.now c.args.argument.now
-    c.in_default.ensures.none command says
+returns-in_default-clause-none c command text says = grind (arith, no_verb)
 
 pub returns-in_err-name_of-in-Name-clause-none : goal.returns-in_err-name_of-in-Name-clause-none
 returns-in_err-name_of-in-Name-clause-none c =

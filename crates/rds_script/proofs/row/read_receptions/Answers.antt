@@ -1,3 +1,4 @@
+use Rattle.std.proofs.Common.{arith}
 use Rattle.std.proofs.Common.{rules, ◌≡◌, ◌++◌, ◌∷◌, []}
 use Rattle.rds_script.proofs.Receptions.{all_read, no_reception, one_more, some_cut, too_many}
 use Rattle.rds_script.proofs.row.read_receptions.Goals as goal
@@ -10,9 +11,7 @@ returns-in_default-next_reception-clause-none c receptions few are =
     c.in-Some.ensures.cases.0 cut (c.in_default-next_reception.ensures.none digits rest cut) receptions are
 
 pub returns-then-len-eq-MOST_RECEIVERS-clause-none : goal.returns-then-len-eq-MOST_RECEIVERS-clause-none
-returns-then-len-eq-MOST_RECEIVERS-clause-none c =
-    too_many c.args.field.now c.loop-letter.rest.now c.in-Some.after.now c.loop-letter.receptions.items
-    c.in-Some.letter.now c.loop-letter.invariant c.in-Some.ensures.cases.0 (search rules)
+returns-then-len-eq-MOST_RECEIVERS-clause-none c = grind (arith, too_many)
 
 pub loop-letter-preserved : goal.loop-letter-preserved
 loop-letter-preserved c =
@@ -34,5 +33,4 @@ loop-letter-preserved-in-Some-plain_reception c =
     c.loop-letter.invariant c.in-Some.ensures.cases.0 cut byte has)
 
 pub returns-clause-are : goal.returns-clause-are
-returns-clause-are c = all_read c.args.field.now c.loop-letter.rest.now c.loop-letter.receptions.items
-    c.loop-letter.invariant c.in_default.ensures.cases
+returns-clause-are c = grind (arith, all_read)

@@ -1,5 +1,5 @@
 use Rattle.std.proofs.Common.{◌≡◌, ◌<◌, ◌∙◌, ◌∷◌, ◌++◌, [], ℕ, List, None, ap, ap₂, append_assoc, arith, drop, length}
-use Rattle.std.proofs.Common.{map, sym}
+use Rattle.std.proofs.Common.{map}
 use Rattle.std.proofs.lemmas.List.{length-map, take_at}
 use Rattle.arrayvec.specs.ArrayVec.{with_items}
 use Rattle.rds_receiver.specs.Shown.{ShownView}
@@ -12,7 +12,6 @@ use Rattle.rds_world.specs.declared.world.Config.{Config}
 use Rattle.rds_script.specs.Inside.Compared.{AirsStand, GoesOnCompared, airings_at, newest_of}
 use Rattle.rds_script.specs.OnAir.{airings}
 use Rattle.rds_script.specs.Outcomes.{airings_changes, view_at}
-use Rattle.rds_script.specs.declared.airing.Airings.{Airings}
 use Rattle.rds_script.proofs.Periods.{newest_air}
 use Rattle.rds_script.proofs.AiringLines.{airings_alike}
 use Rattle.rds_script.proofs.compared.Compared.push.Goals as goal
@@ -38,11 +37,11 @@ returns c = record { goes_on = by }
           airs = c.step.ensures.airs config (e ∷ before) st ∙ ap (λ (l : List ShownView). air_of config (e ∷ before)
               ∷ l) old.airs.airs;
           spacing = c.step.ensures.spacing ∙ old.airs.spacing;
-          some = let same = c.step.ensures.spacing in let some = old.airs.some in omega (arith, same, some);
+          some = omega (arith, c.step.ensures.spacing, old.airs.some);
         } in
         let was : (i : ℕ) → i < length shown
         → airings_at c.as_mut_slice.result.now i ≡ airings config before (view_at views i) =
-        λ i below. ap (λ (l : List Airings). airings_at l i) value ∙ old.each i below in
+        λ i below. rw value (old.each i below) in
         let each : (i : ℕ) → i < length shown → airings_at new i ≡ airings config (e ∷ before) (view_at shown i) =
         λ i below. c.push_airings.ensures.each as_many config (e ∷ before) st airs (
           views,
@@ -61,12 +60,11 @@ returns c = record { goes_on = by }
         (airings_at new)
         ≡ airings_changes slot (length shown) (λ i. airings config before (view_at views i))
         (λ i. airings config (e ∷ before) (view_at shown i)) =
-        ap (λ (n : ℕ). airings_changes slot n (airings_at c.as_mut_slice.result.now) (airings_at new)) (sym long)
-        ∙ airings_alike slot (length shown) _ _ _ _ was each in (
+        rw (← long) (airings_alike slot (length shown) _ _ _ _ was each) in (
           record {
             airs = airs;
             count = ap length back ∙ count ∙ old.count;
-            each = λ i below. ap (λ (l : List Airings). airings_at l i) back ∙ each i below;
+            each = λ i below. rw back (each i below);
           },
           c.push_airings.ensures.lines as_many ∙ ap₂ (λ (x y : List ℕ). x ++ y) air parts
               ∙ append_assoc c.args.lines.now _ _,

@@ -1,4 +1,4 @@
-use Rattle.std.proofs.Common.{◌≡◌, ◌⊎◌, ◌<◌, ◌∙◌, ◌+◌, ℕ, List, None, Option, Some, ap, arith, inl, inr, length, refl}
+use Rattle.std.proofs.Common.{◌≡◌, ◌⊎◌, ◌<◌, ◌∙◌, ◌+◌, ℕ, List, Option, Some, ap, arith, length, refl}
 use Rattle.std.proofs.Common.{rules, subst, sym, true}
 use Rattle.std.proofs.lemmas.Result.{err_from_is_err_and}
 use Rattle.csv.specs.Records.{fields_of}
@@ -11,40 +11,27 @@ use Rattle.rds_script.specs.Rows.{IsAllowed}
 use Rattle.rds_script.specs.declared.player.Player.{Player}
 use Rattle.rds_script.specs.declared.watched.Watched.{Watched}
 use Rattle.rds_script.proofs.PlayedRows.{IsReady, as_many_rows, is_ready, names_receivers, not_taken, plays_on}
-use Rattle.rds_script.proofs.PlayedRows.{refused_row, says_none}
+use Rattle.rds_script.proofs.PlayedRows.{refused_row}
 use Rattle.rds_script.proofs.player.Player.row.Goals as goal
-
-pub returns-in-Err-clause-refused : goal.returns-in-Err-clause-refused
-returns-in-Err-clause-refused c played s =
-    says_none played.config played.form (fields_of c.args.row.now) played.records c.in-Err.ensures.none
 
 pub returns-then-not-allows-clause-refused : goal.returns-then-not-allows-clause-refused
 returns-then-not-allows-clause-refused c played s =
-    let asked : c.len-receivers.result ≡ length c.read_event.new.event.receptions = search rules in
-    let says = c.in_default.ensures.says in
-    let none : IsAllowed played.form (length c.read_event.new.event.receptions) → ⊥ = λ allowed.
-    let here : IsAllowed c.args.self.now.form c.len-receivers.result = rw (s.form_is, asked) allowed in
-    let yes_allowed = c.allows.ensures.1 here in
-    let no = c.if-not-allows.true in
-    cc in
     names_receivers played.config played.form (fields_of c.args.row.now) played.records c.read_event.new.event
-    says none
+    c.in_default.ensures.says (λ allowed.
+    let no = c.if-not-allows.true in
+    let asked : c.len-receivers.result ≡ length c.read_event.new.event.receptions = search rules in
+    let yes_allowed = c.allows.ensures.1 (rw (s.form_is, asked) allowed) in
+    cc)
 
 -- there is no memory: for a world, or for what was on air
 no_memory : (played : Played) (events : List Event) (outcomes : List Outcome) (watched : Option Watched)
     → length played.records ≡ length events
     → HasWatched played.config played.receivers watched events outcomes → IsFirstOrAlone watched
     → (length played.records ≡ 0) ⊎ (is_flag_alone played.config.kind ≡ true)
-no_memory played events outcomes None counted none first = inl (omega (arith, counted, ap length none))
-no_memory played events outcomes (Some w) counted has alone = inr (alone played.config played.receivers events has.1)
+no_memory played events outcomes watched counted none first = grind arith
 
 pub returns-in_err-begin-clause-refused : goal.returns-in_err-begin-clause-refused
-returns-in_err-begin-clause-refused c played s =
-    let memory = c.in_err-begin.ensures.memory in
-    let counted : length played.records ≡ length s.events = as_many_rows played.config played.receivers
-    played.records s.events s.rows in
-    let p = err_from_is_err_and c.from_residual.result c.from_residual.ensures.1 in
-    rw (p.1, p.2, memory.0) (no_memory played s.events s.outcomes c.args.self.now.watched counted s.watched memory.1)
+returns-in_err-begin-clause-refused c played s = grind (arith, as_many_rows, err_from_is_err_and, no_memory)
 
 pub returns-in-Ok-clause-stands : goal.returns-in-Ok-clause-stands
 returns-in-Ok-clause-stands c played s =
@@ -82,9 +69,3 @@ returns-in-Err-play-clause-refused c played s =
     (subst (λ (n : ℕ). (0 < length played.records) ⊎ (r.receivers ≡ n)) asked r.how)
     (not_taken played.config r.receivers c.read_event.new.event s.events c.in-Err-play.why
     (c.in-Err-play.ensures.refused played.config r.receivers s.events r.stands))
-
-pub returns-then-not-allows-clause-slot : goal.returns-then-not-allows-clause-slot
-returns-then-not-allows-clause-slot c = tt
-
-pub returns-then-not-allows-clause-stands : goal.returns-then-not-allows-clause-stands
-returns-then-not-allows-clause-stands c played s = tt

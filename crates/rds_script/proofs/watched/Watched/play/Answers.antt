@@ -31,20 +31,10 @@ comparing c config receivers events s are =
     kept in
     let many : length (map view_kept c.as_slice.result.now) ≡ receivers = length-map c.as_slice.result.now view_kept
     ∙ ap length told ∙ kept ∙ s.kept in
-    let had = subst (λ (n : ℕ). IsCompared config n events (views_kept c.args.self.now) c.args.self.now.compared)
-    (sym many) s.compared in
-    let now = subst (λ (l : List KeptView). AreShown config receivers (c.args.event.now ∷ events) (map view_kept l))
-    (sym told) are in
+    let now = rw (← told) at are in
     let (is, lines) = c.compare.ensures config (c.args.event.now ∷ events) world (views_kept c.args.self.now)
-    (λ i l. s.shown i (omega (arith, l, many))) (λ i l. now i (omega (arith, l, many))) had in (
-      subst (λ (l : List KeptView). IsCompared config receivers (c.args.event.now ∷ events) (map view_kept l)
-          c.compare.new.compared) told
-          (subst (λ (n : ℕ). IsCompared config n (c.args.event.now ∷ events) (map view_kept c.as_slice.result.now)
-          c.compare.new.compared) many is),
-      subst (λ (l : List KeptView). c.compare.new.lines ≡ c.push_views.new.lines
-          ++ compared_lines config c.args.slot (length (map view_kept l)) c.args.event.now events
-          (views_kept c.args.self.now) (map view_kept l)) told lines,
-    )
+    (λ i l. s.shown i (omega (arith, l, many))) (λ i l. now i (omega (arith, l, many))) (rw (← many) at s.compared) in
+    (rw told at (rw many at is), (let here = lines in cc))
 
 pub returns-in-Ok-clause-stands : goal.returns-in-Ok-clause-stands
 returns-in-Ok-clause-stands c config receivers events s =
