@@ -1,3 +1,2 @@
 pub mod ErrorKinds
 pub mod Numbers
-pub mod Taken

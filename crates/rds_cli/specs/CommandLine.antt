@@ -10,7 +10,7 @@ use Rattle.std.specs.Str.Parse.{digits_value, without_leading_plus}
 use Rattle.clap.specs.Simple.{on_top}
 use Rattle.clap.specs.ValueTests.{is_numeral}
 use Rattle.clap.specs.Words.{App, Row, Rule, Text, fault_of, first_of, new_app, new_rule}
-use Rattle.clap.specs.Words.{one_of, subcommand_of, takes, with_rule, with_subcommand}
+use Rattle.clap.specs.Words.{one_of, subcommand_of, with_rule, with_subcommand}
 use Rattle.clap.specs.declared.builder.action.ArgAction.TheVariants.{SetTrue}
 use Rattle.clap.specs.declared.builder.value_parser.ValueParser.{ValueParser}
 use Rattle.clap.specs.declared.builder.value_parser.ValueParser.TheVariants.{Signed}
@@ -198,9 +198,9 @@ without_sim_app = with_subcommand log_readers_app (station_app (codes "encode"))
 abbrev pub whole_app : App
 whole_app = with_subcommand without_sim_app (sim_app (codes "sim")).top
 
--- `clap`'s definition takes the arguments, the program's own name first
+-- `clap`'s definition answers the arguments, the program's own name first, by no kind of error: they are taken
 abbrev pub TakesWords : List Text → Type 0
-TakesWords words = takes whole_app words ≡ true
+TakesWords words = fault_of whole_app words ≡ []
 
 -- ---- the request of the arguments
 

@@ -1,6 +1,6 @@
 -- Written-out arguments, and what they ask for.
 use Rattle.std.specs.Prelude.{◌≡◌, ◌==◌, ◌∷◌, ℕ, Bool, List, [], None, Some, codes, false, true, if◌then◌else◌}
-use Rattle.clap.specs.Words.{Text, fault_of, takes}
+use Rattle.clap.specs.Words.{Text, fault_of}
 use Rattle.clap.specs.declared.error.kind.ErrorKind.TheVariants.{DisplayHelp, InvalidSubcommand}
 use Rattle.rds_cli.specs.CommandLine.{AreRefused, Requested, whole_app}
 use Rattle.rds_cli.specs.declared.request.Task.TheVariants.{Audit, Decode, Encode, Lose, Simulate, Slots, Witness}
@@ -14,15 +14,13 @@ abbrev pub typed : List ℕ → List Text
 typed [] = [] ∷ []
 typed (c ∷ rest) = if c == 32 then [] ∷ typed rest else in_front c (typed rest)
 
--- the arguments are not taken, and refused
-pub record AreNotTaken (words : List Text) : Type 0 where
-  pub taken : takes whole_app words ≡ false
-  pub refused : AreRefused words
+-- the arguments are refused, so they are not taken
+abbrev pub AreNotTaken : List Text → Type 0
+AreNotTaken words = AreRefused words
 
--- the arguments are not taken, and answered by help or by the refusal of the command that they name
-pub record CallForHelp (words : List Text) : Type 0 where
-  pub taken : takes whole_app words ≡ false
-  pub kinds : fault_of whole_app words ≡ DisplayHelp ∷ InvalidSubcommand ∷ []
+-- the arguments are answered by help or by the refusal of the command that they name, so they are not taken
+abbrev pub CallForHelp : List Text → Type 0
+CallForHelp words = fault_of whole_app words ≡ DisplayHelp ∷ InvalidSubcommand ∷ []
 
 abbrev pub decoding : Text → ℕ → Requested
 decoding pi dwell = record { task = Decode None false; pi = pi; rtplus = 11; lose = []; dwell = dwell; file = None }

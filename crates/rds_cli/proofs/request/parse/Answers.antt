@@ -3,17 +3,12 @@ use Rattle.std.specs.Prelude.{option_and_then, option_map}
 use Rattle.std.specs.Box.{box_value}
 use Rattle.std.proofs.lemmas.Bool.{not-true}
 use Rattle.clap.specs.Words.{App, HasKind, fault_of, found_of, is_simple, is_simple_and_free, kind_of, rows_of}
-use Rattle.clap.specs.Words.{subcommand_of, takes}
+use Rattle.clap.specs.Words.{Kinds, subcommand_of}
 use Rattle.clap.specs.declared.parser.matches.ArgMatches.TheViews.{out-ArgMatches, out-SubCommand}
 use Rattle.rds_cli.specs.CommandLine.{audit_app, asked_of, decode_app, is_shown, judging_app, late_app, log_app}
 use Rattle.rds_cli.specs.CommandLine.{log_readers_app, sim_app, slots_app, station_app, timed_app, witness_app}
 use Rattle.rds_cli.proofs.ErrorKinds.{answered_by}
-use Rattle.rds_cli.proofs.Taken.{taken}
 use Rattle.rds_cli.proofs.request.parse.Goals as goal
-
-pub returns-in-Err-clause-err : goal.returns-in-Err-clause-err
-returns-in-Err-clause-err c = λ h. c.in-Err.ensures.passes
-    (ap (λ (a : App). takes a (map (λ w. w.now) c.args.words.now)) c.in_ok-whole.ensures.app ∙ h)
 
 pub returns-clause-kinds : goal.returns-clause-kinds
 unfolding log_app decode_app late_app station_app sim_app slots_app timed_app judging_app audit_app log_readers_app
@@ -28,6 +23,14 @@ unfolding log_app decode_app late_app station_app sim_app slots_app timed_app ju
 returns-in-Err-clause-kinds c =
     subst (λ (a : App). HasKind (fault_of a (map (λ w. w.now) c.args.words.now)) c.in-Err.error)
     c.in_ok-whole.ensures.app (c.in-Err.ensures.kinds (ap is_simple_and_free c.in_ok-whole.ensures.app))
+
+-- an error without a kind means that memory ran out
+pub returns-in-Err-clause-err : goal.returns-in-Err-clause-err
+returns-in-Err-clause-err c none =
+    elim (subst (λ (kinds : Kinds). HasKind kinds c.in-Err.error) none (returns-in-Err-clause-kinds c)) [
+      | inl memory ↦ memory
+      | inr kind ↦ absurd kind
+    ]
 
 -- two parts of what is there
 both_parts : {A B C : Type 0} (f : A → B) (g : A → C) (o : Option A) (x : B) (y : C) → Some x ≡ option_map f o
@@ -70,7 +73,7 @@ returns-in_default-clause-kinds c =
     ∙ c.in-Ok.ensures.kinds (ap is_simple_and_free c.in_ok-whole.ensures.app)
 
 pub returns-in_default-clause-taken : goal.returns-in_default-clause-taken
-returns-in_default-clause-taken c = taken (map (λ w. w.now) c.args.words.now) (returns-in_default-clause-kinds c)
+returns-in_default-clause-taken c = returns-in_default-clause-kinds c
 
 pub returns-clause-ok : goal.returns-clause-ok
 unfolding log_app decode_app late_app station_app sim_app slots_app timed_app judging_app audit_app log_readers_app
@@ -85,7 +88,7 @@ returns-clause-ok c =
     ∙ ap (λ (a : App). subcommand_of a (map (λ w. w.now) c.args.words.now)) c.in_ok-whole.ensures.app)
 
 pub returns-clause-taken : goal.returns-clause-taken
-returns-clause-taken c = taken (map (λ w. w.now) c.args.words.now) (returns-clause-kinds c)
+returns-clause-taken c = returns-clause-kinds c
 
 pub returns-in-Err-clause-help : goal.returns-in-Err-clause-help
 returns-in-Err-clause-help c asks = elim (returns-in-Err-clause-kinds c) [
