@@ -28,5 +28,4 @@ settled_drop (suc j) (x ∷ before) = settled_drop j before
 -- the first slots without the tags before the first text segment
 pub settled_first : (n : ℕ) (log : List (Option Message))
     → first_entries n (from_first_text log) ≡ from_first_text (first_entries n log)
-settled_first n log =
-    ap (λ (l : ℕ). drop (l - n) (from_first_text log)) (settled_long log) ∙ settled_drop (length log - n) log
+settled_first n log = grind (arith, settled_long, settled_drop)

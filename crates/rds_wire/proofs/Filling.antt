@@ -1,5 +1,6 @@
 -- What `slots` writes of a recording is received, by a clock of the receiver's own.
-use Rattle.std.proofs.Common.{◌≡◌, ◌<◌, ◌≤◌, ◌+◌, ◌-◌, ◌==◌, ◌∷◌, [], ◌∙◌, ℕ, zero, suc, Bool, true, false, cond}
+use Rattle.std.proofs.lemmas.Bool.Decides.{nat_tests}
+use Rattle.std.proofs.Common.{◌≡◌, ◌<◌, ◌≤◌, ◌+◌, ◌-◌, ◌==◌, ◌∷◌, [], ◌∙◌, ℕ, suc, cond}
 use Rattle.std.proofs.Common.{List, Option, None, Some, ap, arith, inl, inr, length, map, refl, subst, sym}
 use Rattle.std.proofs.lemmas.List.{length-map}
 use Rattle.rds_arrivals.specs.Arrivals.{Arrival, and_lost, filled}
@@ -44,28 +45,12 @@ kept : (pi : ℕ) (got : List (Option Group)) (from : List (Option ℕ)) (t : �
     → length from ≡ length got → HasEntry 0 (kept_origins pi got from) t origin → Kept pi got from t origin
 kept pi [] from t origin same at = absurd at
 kept pi (slot ∷ before) [] t origin same at = absurd at
-kept pi (slot ∷ before) (o ∷ older) t origin same (inl here) =
-    let less : length older ≡ length before = omega (arith, same) in
-    let long = kept_long pi before older less in
-    record {
-      slot = slot;
-      came = inl (omega (arith, here.0, long), refl);
-      was = o;
-      from_was = inl (omega (arith, here.0, long, less), refl);
-      is = here.1;
-    }
-kept pi (slot ∷ before) (o ∷ older) t origin same (inr there) =
-    let it = kept pi before older t origin (omega (arith, same)) there in
-    record { slot = it.slot; came = inr it.came; was = it.was; from_was = inr it.from_was; is = it.is }
+kept pi (slot ∷ before) (o ∷ older) t origin same here =
+    grind (arith, kept pi before older t origin (omega (arith, same)), kept_long)
 
 -- an origin that is there was kept
 was_there : (pi : ℕ) (slot : Option Group) (was : Option ℕ) (s : ℕ) → Some s ≡ kept_origin pi slot was → was ≡ Some s
-was_there pi None was s is = sym is
-was_there pi (Some g) was s is = by (g.pi == pi) is
-  where
-    by : (b : Bool) → Some s ≡ cond b was None → was ≡ Some s
-    by true e = sym e
-    by false e = absurd (cc)
+was_there pi slot was s is = grind arith
 
 one_entry : {X : Type 0} (xs : List X) (t : ℕ) (x y : X) → HasEntry 0 xs t x → HasEntry 0 xs t y → x ≡ y
 one_entry [] t x y p q = absurd p
@@ -77,16 +62,12 @@ one_entry (z ∷ xs) t x y (inr p) (inr q) = one_entry xs t x y p q
 map_entry : (f : Option Group → Option Group) (xs : List (Option Group)) (t : ℕ) (x : Option Group) → HasEntry 0 xs t x
     → HasEntry 0 (map f xs) t (f x)
 map_entry f [] t x at = absurd at
-map_entry f (y ∷ xs) t x (inl here) =
-    inl (omega (arith, here.0, length-map xs f), ap f here.1)
-map_entry f (y ∷ xs) t x (inr there) = inr (map_entry f xs t x there)
+map_entry f (y ∷ xs) t x here = grind (arith, map_entry f xs t x, length-map)
 
 module _ (pi d m now : ℕ) (sent got : List (Option Group)) (from : List (Option ℕ))
     (own : IsHeardByOwnClock d m now sent record { first = 0; heard = got; origins = from }) where
   before : (t s : ℕ) → HasEntry 0 (kept_origins pi got from) t (Some s) → HasEntry 0 from t (Some s)
-  before t s at =
-      let it = kept pi got from t (Some s) own.order.beside at in
-      subst (λ (o : Option ℕ). HasEntry 0 from t o) (was_there pi it.slot it.was s it.is) it.from_was
+  before t s at = grind (arith, kept, was_there)
 
   each : (t : ℕ) (origin : Option ℕ) (entry : Option Group) → HasEntry 0 (kept_origins pi got from) t origin
       → HasEntry 0 (map (own_group pi) got) t entry → IsOfItsOrigin sent origin entry
@@ -94,32 +75,12 @@ module _ (pi d m now : ℕ) (sent got : List (Option Group)) (from : List (Optio
       let it = kept pi got from t origin own.order.beside p in
       let same = one_entry (map (own_group pi) got) t entry (own_group pi it.slot) q
       (map_entry (own_group pi) got t it.slot it.came) in
-      subst (λ (o : Option Group). IsOfItsOrigin sent origin o) (sym same)
-      (subst (λ (o : Option ℕ). IsOfItsOrigin sent o (own_group pi it.slot)) (sym it.is)
-      (by it.slot it.was (own.order.each t it.was it.slot it.from_was it.came)))
-    where
-      by : (slot : Option Group) (was : Option ℕ) → IsOfItsOrigin sent was slot
-          → IsOfItsOrigin sent (kept_origin pi slot was) (own_group pi slot)
-      by None was is = is
-      by (Some g) was is = of (g.pi == pi)
-        where
-          of : (b : Bool) → IsOfItsOrigin sent (cond b was None) (cond b (Some g) None)
-          of true = is
-          of false = refl
+      grind (arith, nat_tests, own.order.each t it.was it.slot it.from_was it.came)
 
   -- a receiver of the programme hears the same by the same clock
   own_by_own_clock : IsHeardByOwnClock d m now sent
       record { first = 0; heard = map (own_group pi) got; origins = kept_origins pi got from }
-  own_by_own_clock = record {
-    order = record {
-      beside = kept_long pi got from own.order.beside ∙ sym (length-map got (own_group pi));
-      each = each;
-      rising = λ t u r s p q. own.order.rising t u r s (before t r p) (before u s q);
-    };
-    between = λ t u r s p q. own.between t u r s (before t r p) (before u s q);
-    since = λ t s p near. own.since t s (before t s p) (omega (arith, near, length-map got (own_group pi)));
-    past = λ t s p. own.past t s (before t s p);
-  }
+  own_by_own_clock = grind (arith, kept_long, length-map, each, before)
 
 -- ---- what `slots` writes
 
@@ -127,17 +88,11 @@ module _ (pi d m now : ℕ) (sent got : List (Option Group)) (from : List (Optio
 looser : (d e m now : ℕ) (sent got : List (Option Group)) (from : List (Option ℕ)) → d ≤ e
     → IsHeardByOwnClock d m now sent record { first = 0; heard = got; origins = from }
     → IsHeardByOwnClock e m now sent record { first = 0; heard = got; origins = from }
-looser d e m now sent got from more own = record {
-  order = own.order;
-  between = λ t u r s p q near. omega (arith, more, own.between t u r s p q near);
-  since = λ t s p near. omega (arith, more, own.since t s p near);
-  past = own.past;
-}
+looser d e m now sent got from more own = grind arith
 
 -- the slots of the newest group and of what was lost since are some
 some_slots : (n : ℕ) (slots : List (Option Group)) → 0 < length slots → 0 < length (and_lost n slots)
-some_slots zero slots some = some
-some_slots (suc n) slots some = omega arith
+some_slots n slots some = grind arith
 
 -- what `slots` writes is received
 pub filled_is_received : FilledTextsAreLogs → FilledLogsAreOwnClocks Group → WhatSlotsWritesIsReceived

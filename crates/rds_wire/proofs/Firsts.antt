@@ -32,12 +32,7 @@ entry_below first (y ∷ ys) t x (inr has) = omega (arith, entry_below first ys 
 pub entry_in_first : {X : Type 0} (n : ℕ) (xs : List X) (t : ℕ) (x : X) → HasEntry 0 (first_entries n xs) t x
     → HasEntry 0 xs t x × (t < n)
 entry_in_first n [] t x has = absurd (subst (λ l. HasEntry 0 l t x) (first_all n [] (omega arith)) has)
-entry_in_first n (y ∷ ys) t x has = elim (cases_lt (length ys) n) [
-  | inl all ↦ (let whole : HasEntry 0 (y ∷ ys) t x = subst (λ l. HasEntry 0 l t x)
-      (first_all n (y ∷ ys) (omega (arith, all))) has in (whole, omega (arith, all, entry_below 0 (y ∷ ys) t x whole)))
-  | inr more ↦ (let it = entry_in_first n ys t x (subst (λ l. HasEntry 0 l t x) (first_more n y ys more) has) in
-      (inr it.0, it.1))
-]
+entry_in_first n (y ∷ ys) t x has = grind (arith, entry_in_first n ys t x, first_all, entry_below, first_more)
 
 -- an entry of an early slot is one of the first ones
 pub entry_of_first : {X : Type 0} (n : ℕ) (xs : List X) (t : ℕ) (x : X) → HasEntry 0 xs t x → t < n

@@ -1,49 +1,39 @@
 -- The output of `encode` is a log, and its slots are the groups that were sent.
-use Rattle.std.proofs.Common.{◌≡◌, ◌≢◌, ◌<◌, ◌+◌, ◌/◌, ◌%◌, ◌==◌, ◌++◌, ◌∷◌, [], ◌∙◌, ℕ, zero, suc, Bool, true, false}
-use Rattle.std.proofs.Common.{cond, List, Option, None, Some, append_assoc, append-nil, ap, arith, codes, decimal, inl}
+use Rattle.std.proofs.Common.{◌≡◌, ◌≢◌, ◌<◌, ◌+◌, ◌/◌, ◌%◌, ◌==◌, ◌++◌, ◌∷◌, [], ◌∙◌, ℕ, Bool, false}
+use Rattle.std.proofs.Common.{List, Option, None, Some, append_assoc, append-nil, ap, arith, codes, inl}
 use Rattle.std.proofs.Common.{inr, length, refl, subst, sym, slice_index}
 use Rattle.std.specs.Char.{digit_value}
 use Rattle.std.specs.List.{AllByRecursion}
-use Rattle.std.specs.Prelude.{All, nat_le}
+use Rattle.std.specs.Prelude.{All}
 use Rattle.std.proofs.lemmas.Bool.Decides.{nat_tests}
 use Rattle.std.proofs.lemmas.List.Elements.{All-cons, All-nil}
 use Rattle.rds_assembly.specs.Whole.{carriage_return}
 use Rattle.rds_block.specs.declared.group.Group.{Group}
 use Rattle.rds_block.specs.SecondWord.{from_bool-lt}
 use Rattle.rds_block.specs.Words.{second_word_of}
-use Rattle.rds_fields.specs.Canonical.{IsWritten}
-use Rattle.rds_fields.specs.Spells.{Spells}
 use Rattle.rds_fields.specs.declared.head.Head.{Head}
 use Rattle.rds_fields.specs.declared.message.Message.{Message}
 use Rattle.rds_fields.specs.declared.message.Message.TheVariants.{Text, Name, Announce, Tags, Other}
-use Rattle.rds_fields.specs.Tag.{PairFields}
 use Rattle.rds_io.specs.Digits.{HasWord, upper_digit, word_digits}
-use Rattle.rds_encoder.specs.Entries.{Entry, Move, name_moves, slot_of, text_moves}
-use Rattle.rds_encoder.specs.Plan.{OnAir, on_air}
+use Rattle.rds_encoder.specs.Entries.{Entry}
 use Rattle.rds_encoder.specs.Round.{turn_in}
-use Rattle.rds_encoder.specs.Sent.{IsSent, is_turn, name_segment, sent_at_turn, sent_in, tags_due, text_segment}
-use Rattle.rds_encoder.specs.Sent.{turn_of}
-use Rattle.rds_encoder.specs.Tags.{pair_on_air}
+use Rattle.rds_encoder.specs.Sent.{IsSent, sent_at_turn, sent_in}
 use Rattle.rds_encoder.specs.declared.reply.Refusal.{Refusal}
-use Rattle.rds_encoder.specs.declared.reply.Refusal.TheVariants.{Silent, Held, NoText, OutOfText}
-use Rattle.rds_fields.specs.declared.pair.Which.TheVariants.{One, Two}
 use Rattle.rds_log.specs.FilledLog.{IsLogOf}
 use Rattle.rds_log.specs.LineSays.{IsLaidOut, IsSkipped, SaysSlot}
-use Rattle.rds_log.specs.OneLog.{says_group, says_none}
+use Rattle.rds_log.specs.OneLog.{says_group}
 use Rattle.rds_log.specs.LogLines.{IsLine, Line, content_length, line_feed, text_of}
 use Rattle.rds_fields.specs.TagGroup.{MayCarryTags, exchanged, exchanged_in}
-use Rattle.rds_fields.proofs.Exchange.{exchanged_in_twice, low_below, other_below}
+use Rattle.rds_fields.proofs.Exchange.{exchanged_in_twice}
 use Rattle.rds_log.specs.LogWrites.{AreSlots}
 use Rattle.rds_receiver.specs.Shown.{ShownView}
 use Rattle.rds_receiver.specs.declared.why.Whys.{Whys}
 use Rattle.rds_script.specs.Outcomes.{AreOutcomes, Outcome, block_digits, lines_of, log_line, receiver_changes}
-use Rattle.rds_script.specs.Outcomes.{refusal_content, reply_line, spaced_digits, newest_views, thing_set, whys_at}
+use Rattle.rds_script.specs.Outcomes.{refusal_content, reply_line, spaced_digits, thing_set}
 use Rattle.rds_script.specs.declared.form.Form.TheVariants.{Log}
-use Rattle.rds_view_lines.specs.Output.{line_of, slot_prefix}
+use Rattle.rds_view_lines.specs.Output.{line_of}
 use Rattle.rds_world.specs.Event.{Event}
-use Rattle.rds_world.specs.Slots.{commanded, entries}
 use Rattle.rds_world.specs.declared.event.Command.{Command}
-use Rattle.rds_world.specs.declared.event.Command.TheVariants.{Quiet, Restart, SetText, SetName, SetTags}
 use Rattle.rds_world.specs.declared.reply.Reply.{Reply}
 use Rattle.rds_world.specs.declared.reply.Reply.TheVariants.{Restarted, Done, Refused}
 use Rattle.rds_world.specs.declared.reply.Reply.TheVariants as reply
@@ -72,18 +62,12 @@ text_more (line ∷ before) begun bytes = append_assoc (text_of before line) (li
 
 -- such a text is a log
 pub is_log_of : (n : ℕ) (text : List ℕ) (slots : List (Option Group)) → HasCut n text slots → IsLogOf n text slots
-is_log_of n text slots had = record {
-  lines = had.cut;
-  are = (had.cut, [], had.text_is, had.lines, All-nil _, inl (refl, refl));
-  say = had.say;
-}
+is_log_of n text slots had = grind arith
 
 -- a line more after a text
 pub more_text : (text line : List ℕ) (cut : List Line) → text ≡ text_of cut []
     → text ++ (line ++ codes "\n") ≡ text_of (line ∷ cut) []
-more_text text line cut is =
-    ap (λ (l : List ℕ). l ++ (line ++ codes "\n")) is ∙ sym (append_assoc (text_of cut []) line (codes "\n"))
-    ∙ ap (λ (l : List ℕ). l ++ codes "\n") (text_more cut [] line)
+more_text text line cut is = grind (arith, text_more)
 
 with_slot : (n : ℕ) (text line : List ℕ) (slot : Option Group) (slots : List (Option Group)) → HasCut n text slots
     → IsLine line
@@ -114,18 +98,10 @@ same_text n text other slots same had = subst (λ (l : List ℕ). HasCut n l slo
 -- ---- replies
 
 things : (c : Command) → IsLine (thing_set c)
-things Quiet = feedless [] refl
-things Restart = feedless [] refl
-things (SetText x) = feedless (codes "text") refl
-things (SetName x) = feedless (codes "name") refl
-things (SetTags pair) = feedless (codes "tags") refl
+things c = grind arith
 
 refusals : (r : Refusal) → IsLine (refusal_content r)
-refusals (Silent k) = join (codes " silent ") (decimal k) (feedless (codes " silent ") refl) (decimal_line k)
-refusals (Held k) = join (codes " held ") (decimal k) (feedless (codes " held ") refl) (decimal_line k)
-refusals NoText = feedless (codes " notext") refl
-refusals (OutOfText One) = feedless (codes " outoftext 1") refl
-refusals (OutOfText Two) = feedless (codes " outoftext 2") refl
+refusals r = grind (arith, join, feedless, decimal_line)
 
 with_mark : (n : ℕ) (text prefix thing content : List ℕ) (slots : List (Option Group)) → IsLine prefix → IsLine thing
     → IsLine content → HasCut n text slots
@@ -143,12 +119,9 @@ with_mark n text prefix thing content slots s t c had =
 with_reply : (n : ℕ) (text : List ℕ) (slot : ℕ) (c : Command) (r : Reply) (slots : List (Option Group))
     → HasCut n text slots → HasCut n (text ++ reply_line (codes "# ") slot c r) slots
 with_reply n text slot c reply.Quiet slots had = same_text n text (text ++ []) slots (sym (append-nil text)) had
-with_reply n text slot c Restarted slots had = with_mark n text (slot_prefix slot) (codes "restart") [] slots
-    (prefixes slot) (feedless (codes "restart") refl) (feedless [] refl) had
-with_reply n text slot c Done slots had = with_mark n text (slot_prefix slot) (thing_set c) (codes " ok") slots
-    (prefixes slot) (things c) (feedless (codes " ok") refl) had
-with_reply n text slot c (Refused refusal) slots had = with_mark n text (slot_prefix slot) (thing_set c)
-    (refusal_content refusal) slots (prefixes slot) (things c) (refusals refusal) had
+with_reply n text slot c Restarted slots had = grind (arith, with_mark, prefixes, feedless)
+with_reply n text slot c Done slots had = grind (arith, with_mark, prefixes, things, feedless)
+with_reply n text slot c (Refused refusal) slots had = grind (arith, with_mark, prefixes, things, refusals)
 
 -- ---- groups
 
@@ -165,18 +138,7 @@ word_at : (line : List ℕ) (at w : ℕ) → w < 65536 → slice_index line at �
     → slice_index line (at + 1) ≡ upper_digit (w / 256 % 16)
     → slice_index line (at + 2) ≡ upper_digit (w / 16 % 16) → slice_index line (at + 3) ≡ upper_digit (w % 16)
     → HasWord line at w
-word_at line at w fits a b c d =
-    let first = value (w / 4096) (omega (arith, fits)) in
-    let second = value (w / 256 % 16) (omega arith) in
-    let third = value (w / 16 % 16) (omega arith) in
-    let fourth = value (w % 16) (omega arith) in
-    record {
-      first = rw (a, first) (omega (arith, fits));
-      second = rw (b, second) (omega arith);
-      third = rw (c, third) (omega arith);
-      fourth = rw (d, fourth) (omega arith);
-      word = rw (a, b, c, d, first, second, third, fourth) (omega (arith, fits));
-    }
+word_at line at w fits a b c d = grind (arith, value)
 
 -- the words and the fields of a group fit into their bits
 pub record Fits (g : Group) : Type 0 where
@@ -191,26 +153,14 @@ second_fits : (g : Group) → Fits g → second_word_of g < 65536
 second_fits g f = omega (arith, f.number, f.pty, f.low, from_bool-lt g.version, from_bool-lt g.tp)
 
 word_line : (w : ℕ) → w < 65536 → IsLine (word_digits w)
-word_line w fits =
-    more_line (upper_digit (w / 4096))
-    (upper_digit (w / 256 % 16) ∷ upper_digit (w / 16 % 16) ∷ upper_digit (w % 16) ∷ [])
-    (digit (w / 4096) (omega (arith, fits)))
-    (more_line (upper_digit (w / 256 % 16)) (upper_digit (w / 16 % 16) ∷ upper_digit (w % 16) ∷ [])
-    (digit (w / 256 % 16) (omega arith))
-    (more_line (upper_digit (w / 16 % 16)) (upper_digit (w % 16) ∷ []) (digit (w / 16 % 16) (omega arith))
-    (more_line (upper_digit (w % 16)) [] (digit (w % 16) (omega arith)) empty_line)))
+word_line w fits = grind (arith, more_line, digit, empty_line)
 
 spaced_line : (w : ℕ) → w < 65536 → IsLine (spaced_digits w)
 spaced_line w fits = join (codes " ") (word_digits w) (feedless (codes " ") refl) (word_line w fits)
 
 -- a group has no line feed
 pub group_line : (g : Group) → Fits g → IsLine (block_digits g)
-group_line g f =
-    let b = second_word_of g in
-    join (word_digits g.pi ++ spaced_digits b ++ spaced_digits g.c) (spaced_digits g.d)
-    (join (word_digits g.pi ++ spaced_digits b) (spaced_digits g.c)
-    (join (word_digits g.pi) (spaced_digits b) (word_line g.pi f.pi) (spaced_line b (second_fits g f)))
-    (spaced_line g.c f.c)) (spaced_line g.d f.d)
+group_line g f = search (arith, join, word_line, spaced_line, second_fits)
 
 -- the digits of a group say its slot
 pub group_says : (g : Group) → Fits g → IsLaidOut (block_digits g) × SaysSlot (block_digits g) (Some g)
@@ -233,13 +183,7 @@ group_says g f = (
 
 -- dashes say a lost slot
 pub dashes : IsLaidOut (codes "---- ---- ---- ----") × SaysSlot (codes "---- ---- ---- ----") None
-dashes = (
-  record { at_least = omega arith; spaces = record { first = refl; second = refl; third = refl }; ends = inl refl },
-  says_none (codes "---- ---- ---- ----") (record { first = refl; second = refl; third = refl; fourth = refl })
-      (record { first = refl; second = refl; third = refl; fourth = refl })
-      (record { first = refl; second = refl; third = refl; fourth = refl })
-      (record { first = refl; second = refl; third = refl; fourth = refl }),
-)
+dashes = grind arith
 
 -- ---- what an encoder sends fits
 
@@ -255,119 +199,20 @@ abbrev AreSendable : Option Message → Type 0
 AreSendable None = Unit {0}
 AreSendable (Some message) = IsSendable message
 
-sendable_if : (b : Bool) (o : Option Message) → AreSendable o → AreSendable (cond b o None)
-sendable_if true o is = is
-sendable_if false o is = tt
-
-text_sendable : (d : ℕ) (moves : List Move) (o : Option OnAir) → AreSendable (text_segment d moves o)
-text_sendable d moves None = tt
-text_sendable d moves (Some air) = tt
-
-name_sendable : (a : ℕ) (o : Option OnAir) → AreSendable (name_segment a o)
-name_sendable a None = tt
-name_sendable a (Some air) = tt
-
-tags_sendable : (d now : ℕ) (o : Option OnAir) (p : Option PairFields) → AreSendable (tags_due d now o p)
-tags_sendable d now None p = tt
-tags_sendable d now (Some air) None = tt
-tags_sendable d now (Some air) (Some pair) = sendable_if (nat_le (air.start + d) now) (Some (Tags pair)) tt
-
 sends : (d place : ℕ) (before : List Entry) → AreSendable (sent_at_turn d (turn_in place) before)
-sends d zero before = text_sendable d (text_moves before) (on_air d (text_moves before))
-sends d (suc zero) before = name_sendable 0 (on_air d (name_moves before))
-sends d (suc (suc zero)) before = text_sendable d (text_moves before) (on_air d (text_moves before))
-sends d (suc (suc (suc zero))) before = name_sendable 1 (on_air d (name_moves before))
-sends d (suc (suc (suc (suc zero)))) before = text_sendable d (text_moves before) (on_air d (text_moves before))
-sends d (suc (suc (suc (suc (suc zero))))) before = (omega arith, omega arith)
-sends d (suc (suc (suc (suc (suc (suc zero)))))) before =
-    text_sendable d (text_moves before) (on_air d (text_moves before))
-sends d (suc (suc (suc (suc (suc (suc (suc zero))))))) before =
-    tags_sendable d (slot_of (text_moves before)) (on_air d (text_moves before)) (pair_on_air d before)
-sends d (suc (suc (suc (suc (suc (suc (suc (suc n)))))))) before =
-    text_sendable d (text_moves before) (on_air d (text_moves before))
+sends d place before = grind arith
 
 -- an encoder sends only such messages
 pub sent_is_sendable : (d : ℕ) (free : Bool) (before : List Entry) → AreSendable (sent_in d free before)
-sent_is_sendable d free before = sendable_if (is_turn d free (text_moves before))
-    (sent_at_turn d (turn_in (turn_of d (text_moves before) % 8)) before)
-    (sends d (turn_of d (text_moves before) % 8) before)
-
-spelled_fits : (m : Message) (h : Head) (g : Group) → IsHead h → IsSendable m → IsWritten m h g → Fits g
-spelled_fits m h g head is w =
-    let pi = w.head.pi in
-    let pty = w.head.pty in
-    let at : g.pi < 65536 = omega (arith, pi, head.pi) in
-    let to : g.pty < 32 = omega (arith, pty, head.pty) in
-    by m is w.spelled at to
-  where
-    by : (m : Message) → IsSendable m → Spells m g → g.pi < 65536 → g.pty < 32 → Fits g
-    by (Text f a b) is s at to = record {
-      pi = at;
-      number = omega (arith, s.of.number);
-      pty = to;
-      low = omega (arith, s.low, s.address, from_bool-lt f);
-      c = omega (arith, s.bytes.first, s.bytes.fits 0, s.bytes.fits 1);
-      d = omega (arith, s.bytes.second, s.bytes.fits 2, s.bytes.fits 3);
-    }
-    by (Name f a b) is (rest, s) at to = record {
-      pi = at;
-      number = omega (arith, s.of.number);
-      pty = to;
-      low = omega (arith, s.low, s.address, s.between, from_bool-lt f);
-      c = omega (arith, s.bytes.first, s.bytes.fits 0, s.bytes.fits 1);
-      d = omega (arith, s.bytes.second, s.bytes.fits 2, s.bytes.fits 3);
-    }
-    by (Announce code bits aid) is s at to = record {
-      pi = at;
-      number = omega (arith, s.of.number);
-      pty = to;
-      low = omega (arith, s.low, s.code);
-      c = omega (arith, s.third, is.0);
-      d = omega (arith, s.fourth, is.1);
-    }
-    by (Tags pair) is (sent, s) at to = record {
-      pi = at;
-      number = omega (arith, s.of.number);
-      pty = to;
-      low = omega (
-        arith,
-        s.pair.bits,
-        s.pair.fits.toggle,
-        s.pair.fits.running,
-        s.pair.fits.class_one,
-        s.pair.fits.start_one,
-        s.pair.fits.extra_one,
-        s.pair.fits.class_two,
-        s.pair.fits.start_two,
-        s.pair.fits.extra_two,
-      );
-      c = s.third;
-      d = s.fourth;
-    }
-    by Other is s at to = absurd is
+sent_is_sendable d free before = grind arith
 
 -- a group with exchanged types still fits
 exchanged_fits : (n : ℕ) (g : Group) → MayCarryTags n → Fits g → Fits (exchanged n g)
-exchanged_fits n g may f = by g.version refl
-  where
-    most : n < 16
-    most = (let upto = may.most in omega (arith, upto))
-
-    by : (version : Bool) → g.version ≡ version → Fits (exchanged n g)
-    by true is = rw is record { pi = f.pi; number = f.number; pty = f.pty; low = f.low; c = f.c; d = f.d }
-    by false is = rw is record {
-      pi = f.pi;
-      number = other_below 11 n g.number 16 (omega arith) most f.number;
-      pty = f.pty;
-      low = low_below n g.number g.low may f.low;
-      c = f.c;
-      d = f.d;
-    }
+exchanged_fits n g may f = grind arith
 
 sent_fits : (h : Head) (message : Option Message) (g : Group) → IsHead h → AreSendable message
     → IsSent h message (Some g) → Fits g
-sent_fits h None g head is sent = absurd sent
-sent_fits h (Some m) g head is sent = spelled_fits m h g head is sent
+sent_fits h message g head is sent = grind arith
 
 -- ---- the whole output
 
@@ -394,8 +239,7 @@ with_log_line n h text message (Some g) slots may head is of had =
 no_changes : (n slot : ℕ) (whys : ℕ → Option Whys) (before now : List ShownView) → n ≡ 0
     → receiver_changes slot n whys before now ≡ []
 unfolding receiver_changes
-no_changes zero slot whys before now none = refl
-no_changes (suc n) slot whys before now none = absurd (omega (arith, none))
+no_changes n slot whys before now none = grind arith
 
 -- no event has a receiver
 abbrev pub HasNoReceivers : List Event → Type 0
@@ -413,30 +257,14 @@ cut_of : (n : ℕ) (h : Head) (m k : ℕ) (events : List Event) (outcomes : List
     → HasNoReceivers events → AreOutcomes (station_of h m k) events outcomes
     → HasCut n (lines_of (Log n) (station_of h m k) events outcomes) (groups_sent outcomes)
 cut_of n h m k [] [] may head none are = record { cut = []; text_is = refl; lines = All-nil IsLine; say = refl }
-cut_of n h m k [] (o ∷ older) may head none are = absurd are
-cut_of n h m k (e ∷ before) [] may head none are = absurd are
 cut_of n h m k (e ∷ before) (o ∷ older) may head none are =
-    let had = cut_of n h m k before older may head none.1 are.1 in
-    let text = lines_of (Log n) (station_of h m k) before older in
-    let reply = reply_line (codes "# ") (length older) o.command o.reply in
-    let replied = with_reply n text (length older) o.command o.reply (groups_sent older) had in
-    let said = with_log_line n h (text ++ reply) (sent_in (m + k) e.free (commanded e.command (entries before))) o.sent
-    (groups_sent older) may head
-    (sent_is_sendable (m + k) e.free (commanded e.command (entries before))) are.0.sent replied in
-    let whys = whys_at (Log n) (station_of h m k) e.receptions (e ∷ before) in
-    let alone = no_changes (length o.views) (length older) whys (newest_views older) o.views
-    (are.0.receivers ∙ none.0) in
-    same_text n ((text ++ reply) ++ log_line (exchanged_in n o.sent))
-    (lines_of (Log n) (station_of h m k) (e ∷ before) (o ∷ older))
-    (o.sent ∷ groups_sent older)
-    (joined text reply (log_line (exchanged_in n o.sent))
-    (receiver_changes (length older) (length o.views) whys (newest_views older) o.views) alone) said
+    let rest = cut_of n h m k before older may head none.1 are.1 in
+    grind (arith, with_reply, with_log_line, sent_is_sendable, no_changes, same_text, joined)
+cut_of n h m k _ _ may head none are = absurd are
 
 -- the output of `encode` is a log, and its slots are the groups that were sent
 pub encoded_cut : (n : ℕ) (h : Head) (m k : ℕ) (events : List Event) (outcomes : List Outcome) (log : List ℕ)
     → MayCarryTags n → IsHead h
     → HasNoReceivers events → AreOutcomes (station_of h m k) events outcomes
     → log ≡ lines_of (Log n) (station_of h m k) events outcomes → HasCut n log (groups_sent outcomes)
-encoded_cut n h m k events outcomes log may head none are is =
-    same_text n (lines_of (Log n) (station_of h m k) events outcomes) log (groups_sent outcomes) (sym is)
-    (cut_of n h m k events outcomes may head none are)
+encoded_cut n h m k events outcomes log may head none are is = grind (arith, same_text, cut_of)

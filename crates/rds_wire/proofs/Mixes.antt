@@ -1,15 +1,14 @@
 -- A mix of `witness` is a line of `decode`, so the output shows it.
-use Rattle.std.proofs.Common.{◌≡◌, ◌<◌, ◌+◌, ◌∷◌, [], ◌∙◌, ℕ, zero, suc, Bool, true, false, List, Option, add-one, ap}
+use Rattle.std.proofs.Common.{◌≡◌, ◌<◌, ◌+◌, ◌∷◌, [], ◌∙◌, ℕ, zero, suc, Bool, false, List, Option, add-one}
 use Rattle.std.proofs.Common.{arith, inl, inr, length, refl, subst, sym}
 use Rattle.std.proofs.lemmas.Bool.{cases_lt}
 use Rattle.rds_block.specs.declared.group.Group.{Group}
-use Rattle.rds_fields.specs.declared.pair.Which.TheVariants.{One, Two}
 use Rattle.rds_receiver.specs.OneView.{same_view}
 use Rattle.rds_receiver.specs.Receipts.{Tuning}
 use Rattle.rds_receiver.specs.Shown.{IsView, ShownView}
 use Rattle.rds_receiver.specs.declared.why.Whys.{Whys}
 use Rattle.rds_view_lines.specs.NoChange.{view_of_none}
-use Rattle.rds_view_lines.specs.Output.{Display, newest, tag_content, text_content, why_name, why_text}
+use Rattle.rds_view_lines.specs.Output.{Display, newest}
 use Rattle.rds_view_lines.specs.ViewParts.{line_in, part_content}
 use Rattle.rds_log.specs.LogWrites.{AreDisplays}
 use Rattle.rds_wire.specs.Mixes.{AMixIsShown}
@@ -19,38 +18,24 @@ use Rattle.rds_wire.proofs.Reading.{text_stays}
 use Rattle.rds_wire.proofs.Views.{displays_long}
 use Rattle.rds_witness.specs.Lines.{content_of, part_of}
 use Rattle.rds_witness.specs.Lost.{got}
-use Rattle.rds_witness.specs.Mix.{Has, IsNew, Name, ViewHas, Tag, Text, Thing}
+use Rattle.rds_witness.specs.Mix.{Has, IsNew, ViewHas, Thing}
 use Rattle.rds_witness.specs.declared.burst.Burst.{Burst}
 
 -- the part of a view that has the thing has its content
 content_is : (thing : Thing) (whys : Option Whys) (view : ShownView) → Has view thing
     → part_content (part_of thing) whys view ≡ content_of thing
-content_is (Text x) whys view has = ap (text_content (why_text whys)) has
-content_is (Name x) whys view has = ap (text_content (why_name whys)) has
-content_is (Tag One class piece) whys view has = ap tag_content has
-content_is (Tag Two class piece) whys view has = ap tag_content has
+content_is thing whys view has = grind arith
 
 -- it is not the part of a view that does not show the thing
 is_new : (thing : Thing) (before now : ShownView) → (ViewHas before thing → ⊥) → Has now thing
     → is_same_part (part_of thing) before now ≡ false
-is_new thing before now isnt has = by (is_same_part (part_of thing) before now) refl
-  where
-    was : (thing : Thing) → Has now thing → is_same_part (part_of thing) before now ≡ true → ViewHas before thing
-    was (Text x) has e = text_stays before.text now.text e ∙ has
-    was (Name x) has e = text_stays before.name now.name e ∙ has
-    was (Tag One class piece) has e = inl (tag_stays before.one now.one e ∙ has)
-    was (Tag Two class piece) has e = inr (tag_stays before.two now.two e ∙ has)
-
-    by : (b : Bool) → is_same_part (part_of thing) before now ≡ b → is_same_part (part_of thing) before now ≡ false
-    by true e = absurd (isnt (was thing has e))
-    by false e = e
+is_new thing before now isnt has = grind (arith, is_same_part, text_stays, tag_stays)
 
 newest_view : (why : Bool) (t : Tuning) (slots : List (Option Group)) (displays : List Display)
     → AreDisplays why t slots displays → IsView t slots (newest displays)
 newest_view why t [] [] are = view_of_none t
-newest_view why t [] (display ∷ older) are = absurd are
-newest_view why t (slot ∷ before) [] are = absurd are
 newest_view why t (slot ∷ before) (display ∷ older) are = are.0.view
+newest_view why t _ _ are = absurd are
 
 got_long : (lost : List Burst) (log : List (Option Group)) (n : ℕ) → length (got lost log n) ≡ n
 unfolding got

@@ -1,18 +1,16 @@
 -- The printed form of a text has no line feed, and neither has a decimal number.
 use Rattle.std.proofs.Common.{◌≡◌, ◌≢◌, ◌<◌, ◌-◌, ◌/◌, ◌%◌, ◌==◌, ◌++◌, ◌∷◌, [], ◌∙◌, ℕ, zero, suc, decimal, Bool, true}
-use Rattle.std.proofs.Common.{false, not, cond, List, Option, None, Some, ap, arith, codes, length, refl, subst, sym}
-use Rattle.std.proofs.Common.{get_or, inl, inr}
+use Rattle.std.proofs.Common.{false, not, cond, List, None, Some, ap, arith, codes, length, refl, subst, sym}
+use Rattle.std.proofs.Common.{get_or}
 use Rattle.std.specs.Char.{encode_utf8}
 use Rattle.std.specs.Fmt.{digits, digits_onto, digit_glyph}
 use Rattle.std.specs.List.{list_all, slice_get}
-use Rattle.std.specs.Option.{option_map_or, option_or}
 use Rattle.std.specs.Prelude.{All, nat_le}
-use Rattle.std.proofs.lemmas.Bool.{and_parts}
-use Rattle.std.proofs.lemmas.Bool.Decides.{eqb_tells, nat_tests}
+use Rattle.std.proofs.lemmas.Bool.Decides.{nat_tests}
 use Rattle.std.proofs.lemmas.List.Elements.{All-append, All-cons, All-nil}
 use Rattle.std.proofs.lemmas.List.Folds.{list_all_at}
 use Rattle.std.proofs.lemmas.Option.{get_or_from_slice_get, slice_get_within}
-use Rattle.rds_charset.specs.Printed.{escaped, printed, printed_byte, shown_character}
+use Rattle.rds_charset.specs.Printed.{escaped, printed, printed_byte}
 use Rattle.rds_charset.specs.Table.{CodeRange, character_at, character_in, character_of, table}
 use Rattle.rds_io.specs.Digits.{upper_digit}
 use Rattle.rds_view_lines.specs.Output.{slot_prefix}
@@ -36,15 +34,7 @@ join_lines one other p q = All-append (λ (x : ℕ). x ≢ 10) one other p q
 -- bytes that a test finds without a line feed
 pub feedless : (bytes : List ℕ) → list_all (λ b. not (b == 10)) bytes ≡ true → IsFeedless bytes
 feedless [] e = All-nil (λ (x : ℕ). x ≢ 10)
-feedless (b ∷ rest) e =
-    let both = and_parts (not (b == 10)) (list_all (λ b. not (b == 10)) rest) e in
-    All-cons (λ (x : ℕ). x ≢ 10) b rest (other both.0) (feedless rest both.1)
-  where
-    other : not (b == 10) ≡ true → b ≢ 10
-    other test = elim (eqb_tells b 10) [
-      | inl same ↦ absurd (let bad : false ≡ true = rw same.0 at test in cc)
-      | inr apart ↦ apart.1
-    ]
+feedless (b ∷ rest) e = grind (arith, feedless rest)
 
 -- whether the bytes of a character have no line feed
 abbrev clean : ℕ → Bool
@@ -67,11 +57,7 @@ of_each test xs i x all is = by (test x) refl
         ∙ all in cc)
 
 of_all : (xs : List ℕ) (i : ℕ) → i < length xs → list_all clean xs ≡ true → clean (get_or xs i 0) ≡ true
-of_all xs i within all = by (clean (get_or xs i 0)) refl
-  where
-    by : (b : Bool) → clean (get_or xs i 0) ≡ b → clean (get_or xs i 0) ≡ true
-    by true e = e
-    by false e = absurd (let bad : false ≡ true = sym (list_all_at clean xs i 0 within e) ∙ all in cc)
+of_all xs i within all = grind (arith, list_all_at)
 
 clean_at : (s : CodeRange) (byte c : ℕ) → list_all clean s.1 ≡ true → character_at s byte ≡ Some c → clean c ≡ true
 clean_at s byte c all is = by (nat_le s.0 byte) is
@@ -84,14 +70,7 @@ clean_at s byte c all is = by (nat_le s.0 byte) is
 clean_in : (all : List CodeRange) (byte c : ℕ) → list_all (λ (s : CodeRange). list_all clean s.1) all ≡ true
     → character_in all byte ≡ Some c → clean c ≡ true
 clean_in [] byte c all is = absurd (cc)
-clean_in (s ∷ more) byte c all is =
-    let both = and_parts (list_all clean s.1) (list_all (λ (s : CodeRange). list_all clean s.1) more) all in
-    by (character_at s byte) refl is both.0 (clean_in more byte c both.1)
-  where
-    by : (o : Option ℕ) → character_at s byte ≡ o → option_or o (character_in more byte) ≡ Some c
-        → list_all clean s.1 ≡ true → (character_in more byte ≡ Some c → clean c ≡ true) → clean c ≡ true
-    by (Some x) e f one rest = (let same : x ≡ c = cc in clean_at s byte c one (e ∙ ap Some same))
-    by None e f one rest = rest f
+clean_in (s ∷ more) byte c all is = grind (arith, clean_in more byte c, clean_at)
 
 clean_of : (byte c : ℕ) → character_of byte ≡ Some c → clean c ≡ true
 unfolding character_of
@@ -101,24 +80,11 @@ digit : (n : ℕ) → upper_digit n ≢ 10
 digit n = grind (arith, nat_tests)
 
 escaped_line : (byte : ℕ) → IsFeedless (escaped byte)
-escaped_line byte =
-    let low : List ℕ = upper_digit (byte % 16) ∷ [] in
-    join_lines (codes "\\x") (upper_digit (byte / 16) ∷ low) (feedless (codes "\\x") refl)
-    (more_line (upper_digit (byte / 16)) low (digit (byte / 16))
-    (more_line (upper_digit (byte % 16)) [] (digit (byte % 16)) empty_line))
+escaped_line byte = grind arith
 
 byte_line : (byte : ℕ) → IsFeedless (printed_byte byte)
 unfolding printed_byte
-byte_line byte = by (shown_character byte) (λ c is. shown byte c (byte == 0x22) is)
-  where
-    shown : (byte c : ℕ) (b : Bool) → cond b None (character_of byte) ≡ Some c → clean c ≡ true
-    shown byte c true is = absurd (cc)
-    shown byte c false is = clean_of byte c is
-
-    by : (o : Option ℕ) → ((c : ℕ) → o ≡ Some c → clean c ≡ true)
-        → IsFeedless (option_map_or encode_utf8 o (escaped byte))
-    by None own = escaped_line byte
-    by (Some c) own = feedless (encode_utf8 c) (own c refl)
+byte_line byte = grind (arith, clean_of, escaped_line, feedless)
 
 -- the printed form of any bytes has no line feed
 pub printed_line : (bytes : List ℕ) → IsFeedless (printed bytes)
@@ -135,19 +101,10 @@ Lacks b bytes = All (λ (x : ℕ). x ≢ b) bytes
 abbrev pub IsNoDigit : ℕ → Type 0
 IsNoDigit b = (n : ℕ) → n < 10 → digit_glyph false n ≢ b
 
-either_lacks : (b : ℕ) (t : Bool) (one other : List ℕ) → Lacks b one → Lacks b other → Lacks b (cond t one other)
-either_lacks b true one other p q = p
-either_lacks b false one other p q = q
-
 digits_lack : (b : ℕ) → IsNoDigit b → (k n : ℕ) (acc : List ℕ) → Lacks b acc
     → Lacks b (digits_onto k 10 false n acc)
 digits_lack b none zero n acc is = is
-digits_lack b none (suc k) n acc is =
-    let more : Lacks b (digit_glyph false (n % 10) ∷ acc) =
-    All-cons (λ (x : ℕ). x ≢ b) (digit_glyph false (n % 10)) acc (none (n % 10) (omega arith)) is in
-    either_lacks b (n / 10 == 0) (digit_glyph false (n % 10) ∷ acc)
-    (digits_onto k 10 false (n / 10) (digit_glyph false (n % 10) ∷ acc)) more
-    (digits_lack b none k (n / 10) (digit_glyph false (n % 10) ∷ acc) more)
+digits_lack b none (suc k) n acc is = grind (arith, digits_lack b none k (n / 10) (digit_glyph false (n % 10) ∷ acc))
 
 -- a number has no byte that is no digit
 pub decimal_lacks : (b : ℕ) → IsNoDigit b → (n : ℕ) → Lacks b (decimal n)

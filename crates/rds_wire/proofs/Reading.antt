@@ -1,24 +1,21 @@
 -- The lines of the output of `decode`, read back: what they show in a slot is what the display shows there.
-use Rattle.std.proofs.Common.{◌≡◌, ◌≢◌, ◌⊎◌, ◌<◌, ◌≤◌, ◌-◌, ◌^◌, ◌==◌, ◌++◌, ◌∷◌, [], ◌∙◌, ℕ, zero, suc, Bool}
-use Rattle.std.proofs.Common.{true, false, not, cond, List, Option, None, Some, append_assoc, append-nil, ap, arith}
+use Rattle.std.proofs.Common.{◌≡◌, ◌≢◌, ◌⊎◌, ◌<◌, ◌≤◌, ◌^◌, ◌++◌, ◌∷◌, [], ◌∙◌, ℕ, zero, suc, Bool}
+use Rattle.std.proofs.Common.{true, false, List, Option, None, Some, append_assoc, ap, arith}
 use Rattle.std.proofs.Common.{codes, decimal, inl, inr, length, refl, subst, sym, get_or}
-use Rattle.std.specs.List.{Contains, list_all, slice_get}
+use Rattle.std.specs.List.{Contains}
 use Rattle.std.specs.Str.{bytes_eq}
 use Rattle.std.specs.Prelude.{All}
-use Rattle.std.proofs.lemmas.Bool.{and_parts}
-use Rattle.std.proofs.lemmas.Bool.Decides.{eqb_tells, nat_tests}
+use Rattle.std.proofs.lemmas.Bool.Decides.{nat_tests}
 use Rattle.std.proofs.lemmas.Fmt.{decimal_injective}
-use Rattle.std.proofs.lemmas.List.Elements.{All-cons, All-nil, All-head, All-tail}
+use Rattle.std.proofs.lemmas.List.Elements.{All-nil, All-head, All-tail}
 use Rattle.std.proofs.lemmas.Slice.Eq.{bytes_eq-Decides}
 use Rattle.rds_log.specs.LogLines.{AreLines, IsLine, Line, text_of}
-use Rattle.rds_receiver.specs.Run.{is_same}
 use Rattle.rds_receiver.specs.Shown.{ShownView}
 use Rattle.rds_safety.specs.Late.{HasEntry}
 use Rattle.rds_receiver.specs.declared.why.WhyNone.{WhyNone}
-use Rattle.rds_receiver.specs.declared.why.WhyNone.TheVariants.{Dropped, Incomplete, Restarted}
 use Rattle.rds_receiver.specs.declared.why.Whys.{Whys}
 use Rattle.rds_charset.specs.Printed.{printed}
-use Rattle.rds_view_lines.specs.Output.{Display, bit_content, change, changes_of, class_name, class_names, is_same_item}
+use Rattle.rds_view_lines.specs.Output.{Display, change, changes_of, class_name, is_same_item}
 use Rattle.rds_view_lines.specs.Output.{is_same_tag, is_same_text, item_content, line_of, name_or_number, newest}
 use Rattle.rds_view_lines.specs.Output.{none_content, nothing_shown, quoted, slot_prefix, tag_content, text_content}
 use Rattle.rds_view_lines.specs.Output.{unless_same, why_content, why_name, why_text}
@@ -26,7 +23,7 @@ use Rattle.rds_view_lines.specs.ViewParts.{Item, Name, Part, Tag1, Tag2, Text, l
 use Rattle.rds_wire.proofs.Firsts.{entry_below}
 use Rattle.rds_wire.proofs.Logs.{text_more}
 use Rattle.rds_wire.proofs.Printed.{IsNoDigit, Lacks, decimal_lacks, decimal_line, empty_line, feedless, join_lines}
-use Rattle.rds_wire.proofs.Printed.{of_each, printed_line, prefixes}
+use Rattle.rds_wire.proofs.Printed.{printed_line, prefixes}
 
 -- ---- the prefix of a line
 
@@ -68,110 +65,48 @@ same_prefix s n x y small less e =
 
 -- the names of two parts differ
 same_part : (p q : Part) (x y : List ℕ) → part_name p ++ x ≡ part_name q ++ y → (p ≡ q) × (x ≡ y)
-same_part Text Text x y e = (refl, (cc))
-same_part Text Name x y e = absurd (let at : 116 ≡ 110 = ap (λ (l : List ℕ). get_or l 0 0) e in omega (arith, at))
-same_part Text Item x y e = absurd (let at : 116 ≡ 105 = ap (λ (l : List ℕ). get_or l 0 0) e in omega (arith, at))
-same_part Text Tag1 x y e = absurd (let at : 101 ≡ 97 = ap (λ (l : List ℕ). get_or l 1 0) e in omega (arith, at))
-same_part Text Tag2 x y e = absurd (let at : 101 ≡ 97 = ap (λ (l : List ℕ). get_or l 1 0) e in omega (arith, at))
-same_part Name Text x y e = absurd (let at : 110 ≡ 116 = ap (λ (l : List ℕ). get_or l 0 0) e in omega (arith, at))
-same_part Name Name x y e = (refl, (cc))
-same_part Name Item x y e = absurd (let at : 110 ≡ 105 = ap (λ (l : List ℕ). get_or l 0 0) e in omega (arith, at))
-same_part Name Tag1 x y e = absurd (let at : 110 ≡ 116 = ap (λ (l : List ℕ). get_or l 0 0) e in omega (arith, at))
-same_part Name Tag2 x y e = absurd (let at : 110 ≡ 116 = ap (λ (l : List ℕ). get_or l 0 0) e in omega (arith, at))
-same_part Item Text x y e = absurd (let at : 105 ≡ 116 = ap (λ (l : List ℕ). get_or l 0 0) e in omega (arith, at))
-same_part Item Name x y e = absurd (let at : 105 ≡ 110 = ap (λ (l : List ℕ). get_or l 0 0) e in omega (arith, at))
-same_part Item Item x y e = (refl, (cc))
-same_part Item Tag1 x y e = absurd (let at : 105 ≡ 116 = ap (λ (l : List ℕ). get_or l 0 0) e in omega (arith, at))
-same_part Item Tag2 x y e = absurd (let at : 105 ≡ 116 = ap (λ (l : List ℕ). get_or l 0 0) e in omega (arith, at))
-same_part Tag1 Text x y e = absurd (let at : 97 ≡ 101 = ap (λ (l : List ℕ). get_or l 1 0) e in omega (arith, at))
-same_part Tag1 Name x y e = absurd (let at : 116 ≡ 110 = ap (λ (l : List ℕ). get_or l 0 0) e in omega (arith, at))
-same_part Tag1 Item x y e = absurd (let at : 116 ≡ 105 = ap (λ (l : List ℕ). get_or l 0 0) e in omega (arith, at))
-same_part Tag1 Tag1 x y e = (refl, (cc))
-same_part Tag1 Tag2 x y e =
-    absurd (let at : 49 ≡ 50 = ap (λ (l : List ℕ). get_or l 3 0) e in omega (arith, at))
-same_part Tag2 Text x y e = absurd (let at : 97 ≡ 101 = ap (λ (l : List ℕ). get_or l 1 0) e in omega (arith, at))
-same_part Tag2 Name x y e = absurd (let at : 116 ≡ 110 = ap (λ (l : List ℕ). get_or l 0 0) e in omega (arith, at))
-same_part Tag2 Item x y e = absurd (let at : 116 ≡ 105 = ap (λ (l : List ℕ). get_or l 0 0) e in omega (arith, at))
-same_part Tag2 Tag1 x y e =
-    absurd (let at : 50 ≡ 49 = ap (λ (l : List ℕ). get_or l 3 0) e in omega (arith, at))
-same_part Tag2 Tag2 x y e = (refl, (cc))
+same_part p q x y e = grind arith
 
 same_line : (s n : ℕ) (p q : Part) (x y : List ℕ) → s < 2 ^ 64 → n < 2 ^ 64 → line_in s p x ≡ line_in n q y
     → (s ≡ n) × (p ≡ q) × (x ≡ y)
-same_line s n p q x y small less e =
-    let prefix = same_prefix s n (part_name p ++ x) (part_name q ++ y) small less e in
-    let part = same_part p q x y prefix.1 in
-    (prefix.0, part.0, part.1)
+same_line s n p q x y small less e = grind (arith, same_prefix, same_part)
 
 -- ---- the contents of parts are lines
 
 quoted_line : (x : List ℕ) → IsLine (quoted x)
-quoted_line x = join_lines (codes " \"") (printed x ++ codes "\"") (feedless (codes " \"") refl)
-    (join_lines (printed x) (codes "\"") (printed_line x) (feedless (codes "\"") refl))
+quoted_line x = grind (arith, join_lines, feedless, printed_line)
 
 why_line : (why : WhyNone) → IsLine (why_content why)
-why_line Incomplete = feedless (codes " incomplete") refl
-why_line Dropped = feedless (codes " dropped") refl
-why_line Restarted = feedless (codes " restarted") refl
+why_line why = grind arith
 
 none_line : (why : Option WhyNone) → IsLine (none_content why)
-none_line None = feedless (codes " none") refl
-none_line (Some why) = join_lines (codes " none") (why_content why) (feedless (codes " none") refl) (why_line why)
+none_line why = grind (arith, feedless, join_lines, why_line)
 
 text_line : (why : Option WhyNone) (text : Option (List ℕ)) → IsLine (text_content why text)
-text_line why None = none_line why
-text_line why (Some x) = quoted_line x
-
-bit_line : (b : Bool) → IsLine (bit_content b)
-bit_line false = feedless (codes " 0") refl
-bit_line true = feedless (codes " 1") refl
+text_line why text = grind (arith, none_line, quoted_line)
 
 item_line : (item : Option (Bool × Bool)) → IsLine (item_content item)
-item_line None = feedless (codes " none") refl
-item_line (Some (a, b)) = join_lines (bit_content a) (bit_content b) (bit_line a) (bit_line b)
+item_line item = grind arith
 
 class_line : (class : ℕ) → IsLine (name_or_number (class_name class) class)
-class_line class = by (class == 0)
-  where
-    in_names : (i : ℕ) (name : List ℕ) → slice_get class_names i ≡ Some name → IsLine name
-    in_names i name is =
-        feedless name (of_each (λ (l : List ℕ). list_all (λ b. not (b == 10)) l) class_names i name refl is)
-
-    found : (o : Option (List ℕ)) (i : ℕ) → slice_get class_names i ≡ o → IsLine (name_or_number o class)
-    found None i is = decimal_line class
-    found (Some name) i is = in_names i name is
-
-    by : (b : Bool) → IsLine (name_or_number (cond b None (slice_get class_names (class - 1))) class)
-    by true = decimal_line class
-    by false = found (slice_get class_names (class - 1)) (class - 1) refl
+class_line class = grind (arith, feedless, decimal_line)
 
 tag_line : (tag : Option (ℕ × List ℕ)) → IsLine (tag_content tag)
 tag_line None = feedless (codes " none") refl
-tag_line (Some (class, piece)) =
-    join_lines (codes " ") (name_or_number (class_name class) class ++ quoted piece) (feedless (codes " ") refl)
-    (join_lines (name_or_number (class_name class) class) (quoted piece) (class_line class) (quoted_line piece))
+tag_line (Some (class, piece)) = search (arith, join_lines, feedless, class_line, quoted_line)
 
 content_line : (part : Part) (whys : Option Whys) (v : ShownView) → IsLine (part_content part whys v)
-content_line Text whys v = text_line (why_text whys) v.text
-content_line Name whys v = text_line (why_name whys) v.name
-content_line Item whys v = item_line v.item
-content_line Tag1 whys v = tag_line v.one
-content_line Tag2 whys v = tag_line v.two
+content_line part whys v = grind (arith, text_line, item_line, tag_line)
 
 name_line : (part : Part) → IsLine (part_name part)
-name_line Text = feedless (codes "text") refl
-name_line Name = feedless (codes "name") refl
-name_line Item = feedless (codes "item") refl
-name_line Tag1 = feedless (codes "tag1") refl
-name_line Tag2 = feedless (codes "tag2") refl
+name_line part = grind arith
 
 -- the line of a part of a display
 abbrev pub line_of_part : ℕ → Display → Part → Line
 line_of_part n d part = line_in n part (part_content part d.whys d.view)
 
 in_line : (n : ℕ) (part : Part) (d : Display) → IsLine (line_of_part n d part)
-in_line n part d = join_lines (slot_prefix n) (part_name part ++ part_content part d.whys d.view) (prefixes n)
-    (join_lines (part_name part) (part_content part d.whys d.view) (name_line part) (content_line part d.whys d.view))
+in_line n part d = grind (arith, join_lines, prefixes, name_line, content_line)
 
 -- ---- the lines of displays
 
@@ -205,64 +140,31 @@ lines_of (d ∷ older) = with_slot (length older) (newest older) d (lines_of old
 
 body_text : (b : Bool) (body : Line) (rest : List Line) → text_of (body_unless b body rest) [] ≡ text_of rest []
     ++ unless_same b (body ++ codes "\n")
-body_text true body rest = sym (append-nil (text_of rest []))
-body_text false body rest =
-    sym (sym (append_assoc (text_of rest []) body (codes "\n")) ∙ ap (λ (l : List ℕ). l ++ codes "\n")
-    (text_more rest [] body))
+body_text b body rest = grind (arith, text_more)
 
 line_ends : (prefix part content : List ℕ) → (prefix ++ (part ++ content)) ++ codes "\n" ≡ line_of prefix part content
-line_ends prefix part content = ap (λ (l : List ℕ). l ++ codes "\n") (sym (append_assoc prefix part content))
+line_ends prefix part content = simp append_assoc
 
 part_text : (n : ℕ) (before : ShownView) (now : Display) (part : Part) (rest : List Line)
     → text_of (with_body n before now part rest) [] ≡ text_of rest [] ++ unless_same (is_same_part part before now.view)
     (line_of (slot_prefix n) (part_name part) (part_content part now.whys now.view))
-part_text n before now part rest =
-    body_text (is_same_part part before now.view) (line_of_part n now part) rest
-    ∙ ap (λ (l : List ℕ). text_of rest [] ++ unless_same (is_same_part part before now.view) l)
-    (line_ends (slot_prefix n) (part_name part) (part_content part now.whys now.view))
+part_text n before now part rest = grind (arith, body_text, line_ends)
 
 five : (t a b c d e : List ℕ) → ((((t ++ a) ++ b) ++ c) ++ d) ++ e ≡ t ++ ((((a ++ b) ++ c) ++ d) ++ e)
-five t a b c d e =
-    ap (λ (l : List ℕ). l ++ e)
-    (ap (λ (l : List ℕ). l ++ d) (ap (λ (l : List ℕ). l ++ c) (append_assoc t a b) ∙ append_assoc t (a ++ b) c)
-    ∙ append_assoc t ((a ++ b) ++ c) d)
-    ∙ append_assoc t (((a ++ b) ++ c) ++ d) e
+five t a b c d e = simp append_assoc
 
 slot_text : (n : ℕ) (before : ShownView) (now : Display) (rest : List Line)
     → text_of (with_slot n before now rest) [] ≡ text_of rest [] ++ change (slot_prefix n) now.whys before now.view
-slot_text n before now rest =
-    let r1 = with_body n before now Text rest in
-    let r2 = with_body n before now Name r1 in
-    let r3 = with_body n before now Item r2 in
-    let r4 = with_body n before now Tag1 r3 in
-    let l1 = line_unless Text in
-    let l2 = line_unless Name in
-    let l3 = line_unless Item in
-    let l4 = line_unless Tag1 in
-    let l5 = line_unless Tag2 in
-    part_text n before now Tag2 r4
-    ∙ ap (λ (l : List ℕ). l ++ l5) (part_text n before now Tag1 r3
-    ∙ ap (λ (l : List ℕ). l ++ l4) (part_text n before now Item r2
-    ∙ ap (λ (l : List ℕ). l ++ l3) (part_text n before now Name r1
-    ∙ ap (λ (l : List ℕ). l ++ l2) (part_text n before now Text rest))))
-    ∙ five (text_of rest []) l1 l2 l3 l4 l5
-  where
-    line_unless : Part → List ℕ
-    line_unless part =
-        unless_same (is_same_part part before now.view)
-        (line_of (slot_prefix n) (part_name part) (part_content part now.whys now.view))
+slot_text n before now rest = search (arith, part_text, five)
 
 -- the output is the text of these lines
 pub changes_text : (displays : List Display) → changes_of displays ≡ text_of (lines_of displays) []
 changes_text [] = refl
-changes_text (d ∷ older) =
-    ap (λ (l : List ℕ). l ++ change (slot_prefix (length older)) d.whys (newest older) d.view) (changes_text older)
-    ∙ sym (slot_text (length older) (newest older) d (lines_of older))
+changes_text (d ∷ older) = grind (arith, changes_text older, slot_text)
 
 body_lines : (b : Bool) (body : Line) (rest : List Line) → IsLine body → All IsLine rest
     → All IsLine (body_unless b body rest)
-body_lines true body rest is all = all
-body_lines false body rest is all = All-cons IsLine body rest is all
+body_lines b body rest is all = grind arith
 
 slot_lines : (n : ℕ) (before : ShownView) (now : Display) (rest : List Line) → All IsLine rest
     → All IsLine (with_slot n before now rest)
@@ -279,8 +181,7 @@ all_lines (d ∷ older) = slot_lines (length older) (newest older) d (lines_of o
 -- the lines of the output
 pub are_lines : (displays : List Display) (printed : List ℕ) → printed ≡ changes_of displays
     → AreLines printed (lines_of displays)
-are_lines displays printed is =
-    (lines_of displays, [], is ∙ changes_text displays, all_lines displays, empty_line, inl (refl, refl))
+are_lines displays printed is = grind (arith, changes_text, all_lines, empty_line)
 
 -- ---- the line of a part
 
@@ -304,13 +205,11 @@ contains_from_in line (l ∷ rest) (inr is) =
 
 in_body : (line : Line) (b : Bool) (body : Line) (rest : List Line) → In line (body_unless b body rest)
     → (body ≡ line) ⊎ In line rest
-in_body line true body rest is = inr is
-in_body line false body rest is = is
+in_body line b body rest is = grind arith
 
 after_body : (line : Line) (b : Bool) (body : Line) (rest : List Line) → In line rest
     → In line (body_unless b body rest)
-after_body line true body rest is = is
-after_body line false body rest is = inr is
+after_body line b body rest is = grind arith
 
 -- a line of a slot is that of a part of its display
 record IsOf (n s : ℕ) (p : Part) (content : List ℕ) (now : Display) : Type 0 where
@@ -320,17 +219,10 @@ record IsOf (n s : ℕ) (p : Part) (content : List ℕ) (now : Display) : Type 0
 one_of : (n s : ℕ) (before : ShownView) (now : Display) (p q : Part) (content : List ℕ) (rest : List Line) → s < 2 ^ 64
     → n < 2 ^ 64 → In (line_in s p content) (with_body n before now q rest)
     → IsOf n s p content now ⊎ In (line_in s p content) rest
-one_of n s before now p q content rest small less is =
-    elim (in_body (line_in s p content) (is_same_part q before now.view) (line_of_part n now q) rest is) [
-      | inl same ↦
-          let it = same_line s n p q content (part_content q now.whys now.view) small less (sym same) in
-          inl (record { slot = it.0; is = it.2 ∙ ap (λ (r : Part). part_content r now.whys now.view) (sym it.1) })
-      | inr more ↦ inr more
-    ]
+one_of n s before now p q content rest small less is = grind (arith, in_body, same_line)
 
 or_else : {A B C : Type 0} → A ⊎ B → (B → A ⊎ C) → A ⊎ C
-or_else (inl a) next = inl a
-or_else (inr b) next = next b
+or_else a next = grind arith
 
 of_slot : (n s : ℕ) (before : ShownView) (now : Display) (p : Part) (content : List ℕ) (rest : List Line) → s < 2 ^ 64
     → n < 2 ^ 64 → In (line_in s p content) (with_slot n before now rest)
@@ -356,81 +248,37 @@ line_shows (d ∷ older) s p content small less is =
 -- lines of earlier slots are lines of all
 pub in_older : (line : Line) (n : ℕ) (before : ShownView) (now : Display) (rest : List Line) → In line rest
     → In line (with_slot n before now rest)
-in_older line n before now rest is =
-    let more : (part : Part) (l : List Line) → In line l → In line (with_body n before now part l) =
-    λ part l a. after_body line (is_same_part part before now.view) (line_of_part n now part) l a in
-    more Tag2 _ (more Tag1 _ (more Item _ (more Name _ (more Text rest is))))
+in_older line n before now rest is = grind (arith, after_body)
+
+changed_body : (b : Bool) (body : Line) (rest : List Line) → b ≡ false → In body (body_unless b body rest)
+changed_body b body rest changed = grind arith
 
 -- a part that changed has its line
 pub in_slot : (p : Part) (n : ℕ) (before : ShownView) (now : Display) (rest : List Line)
     → is_same_part p before now.view ≡ false → In (line_of_part n now p) (with_slot n before now rest)
-in_slot p n before now rest changed = by p changed
-  where
-    line : Part → Line
-    line p = line_of_part n now p
-
-    here : (b : Bool) (body : Line) (l : List Line) → b ≡ false → In body (body_unless b body l)
-    here true body l e = absurd (cc)
-    here false body l e = inl refl
-
-    more : (p part : Part) (l : List Line) → In (line p) l → In (line p) (with_body n before now part l)
-    more p part l a = after_body (line p) (is_same_part part before now.view) (line part) l a
-
-    first : (p : Part) (l : List Line) → is_same_part p before now.view ≡ false
-        → In (line p) (with_body n before now p l)
-    first p l e = here (is_same_part p before now.view) (line p) l e
-
-    by : (p : Part) → is_same_part p before now.view ≡ false → In (line p) (with_slot n before now rest)
-    by Text e = more Text Tag2 _ (more Text Tag1 _ (more Text Item _ (more Text Name _ (first Text rest e))))
-    by Name e = more Name Tag2 _ (more Name Tag1 _ (more Name Item _ (first Name _ e)))
-    by Item e = more Item Tag2 _ (more Item Tag1 _ (first Item _ e))
-    by Tag1 e = more Tag1 Tag2 _ (first Tag1 _ e)
-    by Tag2 e = first Tag2 _ e
+in_slot Text n before now rest changed = search (arith, after_body, changed_body)
+in_slot Name n before now rest changed = search (arith, after_body, changed_body)
+in_slot Item n before now rest changed = search (arith, after_body, changed_body)
+in_slot Tag1 n before now rest changed = search (arith, after_body, changed_body)
+in_slot Tag2 n before now rest changed = search (arith, after_body, changed_body)
 
 -- ---- a part that did not change
 
 same_bytes : (x y : List ℕ) → bytes_eq x y ≡ true → x ≡ y
 same_bytes x y e = (bytes_eq-Decides x y).0 e
 
-same_number : (a b : ℕ) → (a == b) ≡ true → a ≡ b
-same_number a b e = elim (eqb_tells a b) [
-  | inl same ↦ same.1
-  | inr apart ↦ absurd (let bad : false ≡ true = sym apart.0 ∙ e in cc)
-]
-
 -- texts that are the same
 pub text_stays : (o w : Option (List ℕ)) → is_same_text o w ≡ true → o ≡ w
-text_stays None None e = refl
-text_stays None (Some y) e = absurd (cc)
-text_stays (Some x) None e = absurd (cc)
 text_stays (Some x) (Some y) e = ap Some (same_bytes x y e)
-
-bit_stays : (a b : Bool) → is_same a b ≡ true → a ≡ b
-bit_stays true true e = refl
-bit_stays false false e = refl
-bit_stays true false e = absurd (cc)
-bit_stays false true e = absurd (cc)
+text_stays o w e = grind arith
 
 item_stays : (o w : Option (Bool × Bool)) → is_same_item o w ≡ true → o ≡ w
-item_stays None None e = refl
-item_stays None (Some y) e = absurd (cc)
-item_stays (Some x) None e = absurd (cc)
-item_stays (Some (a, b)) (Some (c, d)) e =
-    let both = and_parts (is_same a c) (is_same b d) e in
-    let one = bit_stays a c both.0 in
-    let other = bit_stays b d both.1 in
-    (cc)
+item_stays o w e = grind arith
 
 -- tags that are the same
 pub tag_stays : (o w : Option (ℕ × List ℕ)) → is_same_tag o w ≡ true → o ≡ w
-tag_stays None None e = refl
-tag_stays None (Some y) e = absurd (cc)
-tag_stays (Some x) None e = absurd (cc)
-tag_stays (Some (a, b)) (Some (c, d)) e =
-    let both = and_parts (a == c) (bytes_eq b d) e in
-    let one : a ≡ c = same_number a c both.0 in
-    let other = same_bytes b d both.1 in
-    (cc)
+tag_stays (Some (a, b)) (Some (c, d)) e = grind (arith, nat_tests, same_bytes b d)
+tag_stays o w e = grind arith
 
 part_stays : (p : Part) (whys : Option Whys) (v w : ShownView) → is_same_part p v w ≡ true
     → part_content p whys v ≡ part_content p whys w
@@ -439,6 +287,12 @@ part_stays Name whys v w e = ap (text_content (why_name whys)) (text_stays v.nam
 part_stays Item whys v w e = ap item_content (item_stays v.item w.item e)
 part_stays Tag1 whys v w e = ap tag_content (tag_stays v.one w.one e)
 part_stays Tag2 whys v w e = ap tag_content (tag_stays v.two w.two e)
+
+-- a part without a line shows what it showed before
+kept_part : (p : Part) (whys : Option Whys) (n : ℕ) (before : ShownView) (x : Display) (rest : List Line)
+    → (In (line_of_part n x p) (with_slot n before x rest) → ⊥)
+    → part_content p whys x.view ≡ part_content p whys before
+kept_part p whys n before x rest none = grind (arith, part_stays p whys before x.view, in_slot p n before x rest)
 
 -- no line of the part has a slot after s and up to t
 abbrev pub NoneSince : List Display → Part → ℕ → ℕ → Type 0
@@ -449,8 +303,7 @@ pub stays : (displays : List Display) (p : Part) (whys : Option Whys) (s t : ℕ
     → HasEntry 0 displays s e → HasEntry 0 displays t d → NoneSince displays p s t
     → part_content p whys d.view ≡ part_content p whys e.view
 stays [] p whys s t e d order from to none = absurd to
-stays (x ∷ older) p whys s t e d order (inl from) (inl to) none =
-    ap (λ (y : Display). part_content p whys y.view) (to.1 ∙ sym from.1)
+stays (x ∷ older) p whys s t e d order (inl from) (inl to) none = grind arith
 stays (x ∷ older) p whys s t e d order (inl from) (inr to) none =
     absurd (omega (arith, from.0, order, entry_below 0 older t d to))
 stays (x ∷ older) p whys s t e d order (inr from) (inr to) none =
@@ -463,25 +316,16 @@ stays (x ∷ y ∷ more) p whys s t e d order (inr from) (inl to) none =
     let rest = stays (y ∷ more) p whys s (length more) e y (omega (arith, below)) from (inl (omega arith, refl))
     (λ u content after upto is. none u content after (omega (arith, upto, to.0))
     (in_older (line_in u p content) (length (y ∷ more)) y.view x (lines_of (y ∷ more)) is)) in
-    ap (λ (z : Display). part_content p whys z.view) to.1 ∙ by (is_same_part p y.view x.view) refl ∙ rest
-  where
-    by : (b : Bool) → is_same_part p y.view x.view ≡ b → part_content p whys x.view ≡ part_content p whys y.view
-    by true same = sym (part_stays p whys y.view x.view same)
-    by false changed =
-        let below = entry_below 0 (y ∷ more) s e from in
-        let at : t ≡ length (y ∷ more) = omega (arith, to.0) in
-        absurd (none t (part_content p x.whys x.view) (omega (arith, below, at)) (omega arith)
-        (subst (λ (n : ℕ). In (line_of_part n x p) (lines_of (x ∷ y ∷ more))) (sym at)
-        (in_slot p (length (y ∷ more)) y.view x (lines_of (y ∷ more)) changed)))
+    let at : t ≡ length (y ∷ more) = omega (arith, to.0) in
+    let same = kept_part p whys (length (y ∷ more)) y.view x (lines_of (y ∷ more))
+    (λ is. none t (part_content p x.whys x.view) (omega arith) (omega arith)
+    (subst (λ (n : ℕ). In (line_of_part n x p) (lines_of (x ∷ y ∷ more))) (sym at) is)) in
+    ap (λ (z : Display). part_content p whys z.view) to.1 ∙ same ∙ rest
 
 -- ---- a part without a line
 
 before_all : (p : Part) → part_content p None nothing_shown ≡ none_content None
-before_all Text = refl
-before_all Name = refl
-before_all Item = refl
-before_all Tag1 = refl
-before_all Tag2 = refl
+before_all p = grind arith
 
 -- no line of the part has a slot up to t
 abbrev pub NoneUpTo : List Display → Part → ℕ → Type 0
@@ -496,24 +340,14 @@ unshown (x ∷ older) p t d (inr at) none =
     (λ u content upto is. none u content upto
     (in_older (line_in u p content) (length older) (newest older) x (lines_of older) is))
 unshown (x ∷ []) p t d (inl at) none =
-    ap (λ (z : Display). part_content p None z.view) at.1
-    ∙ sym (by (is_same_part p nothing_shown x.view) refl) ∙ before_all p
-  where
-    by : (b : Bool) → is_same_part p nothing_shown x.view ≡ b
-        → part_content p None nothing_shown ≡ part_content p None x.view
-    by true same = part_stays p None nothing_shown x.view same
-    by false changed =
-        absurd (none 0 (part_content p x.whys x.view) (omega arith) (in_slot p 0 nothing_shown x [] changed))
+    let same = kept_part p None 0 nothing_shown x [] (none 0 (part_content p x.whys x.view) (omega arith)) in
+    ap (λ (z : Display). part_content p None z.view) at.1 ∙ same ∙ before_all p
 unshown (x ∷ y ∷ more) p t d (inl at) none =
     let rest = unshown (y ∷ more) p (length more) y (inl (omega arith, refl))
     (λ u content upto is. none u content (omega (arith, upto, at.0))
     (in_older (line_in u p content) (length (y ∷ more)) y.view x (lines_of (y ∷ more)) is)) in
-    ap (λ (z : Display). part_content p None z.view) at.1 ∙ by (is_same_part p y.view x.view) refl ∙ rest
-  where
-    by : (b : Bool) → is_same_part p y.view x.view ≡ b → part_content p None x.view ≡ part_content p None y.view
-    by true same = sym (part_stays p None y.view x.view same)
-    by false changed =
-        let here : t ≡ length (y ∷ more) = omega (arith, at.0) in
-        absurd (none t (part_content p x.whys x.view) (omega arith)
-        (subst (λ (n : ℕ). In (line_of_part n x p) (lines_of (x ∷ y ∷ more))) (sym here)
-        (in_slot p (length (y ∷ more)) y.view x (lines_of (y ∷ more)) changed)))
+    let here : t ≡ length (y ∷ more) = omega (arith, at.0) in
+    let same = kept_part p None (length (y ∷ more)) y.view x (lines_of (y ∷ more))
+    (λ is. none t (part_content p x.whys x.view) (omega arith)
+    (subst (λ (n : ℕ). In (line_of_part n x p) (lines_of (x ∷ y ∷ more))) (sym here) is)) in
+    ap (λ (z : Display). part_content p None z.view) at.1 ∙ same ∙ rest

@@ -1,13 +1,13 @@
 -- From the groups that reached a receiver to the messages that it heard: as late as the groups, or by the same clock.
-use Rattle.std.proofs.Common.{◌≡◌, ◌≤◌, ◌+◌, ◌==◌, ◌∷◌, [], ◌∙◌, ℕ, suc, Bool, true, false, cond, List, Option}
-use Rattle.std.proofs.Common.{None, Some, ap, arith, inl, inr, length, map, refl, subst, sym}
+use Rattle.std.proofs.lemmas.Bool.Decides.{nat_tests}
+use Rattle.std.proofs.Common.{◌≡◌, ◌≤◌, ◌+◌, ◌∷◌, [], ◌∙◌, ℕ, suc, List, Option}
+use Rattle.std.proofs.Common.{None, Some, ap, arith, inl, inr, length, map, refl, sym}
 use Rattle.std.specs.List.{AllZip}
 use lib.ListN.{length-map}
 use Rattle.rds_block.specs.declared.group.Group.{Group}
 use Rattle.rds_fields.specs.declared.message.Message.{Message}
 use Rattle.rds_log.specs.Audit.{spacing}
 use Rattle.rds_log.specs.declared.audit_log.Auditing.{Auditing}
-use Rattle.rds_receiver.specs.OneView.{heard_next}
 use Rattle.rds_receiver.specs.Receipts.{AreHeard, heard_in, heard_of}
 use Rattle.rds_safety.specs.Late.{CameFrom, HasEntry, Input, InputOf, IsHeardInOrder, IsHeardLate, IsOfItsOrigin}
 use Rattle.rds_safety.specs.Laws.{ASlowClockIsAnOwnClock, LateIsBySlowClock}
@@ -23,31 +23,20 @@ use Rattle.rds_wire.proofs.Firsts.{entry_below, entry_of_first}
 -- lists side by side have one length
 pub zip_long : {A B : Type 0} (R : A → B → Type 0) (xs : List A) (ys : List B) → AllZip R xs ys → length xs ≡ length ys
 zip_long R [] [] all = refl
-zip_long R [] (y ∷ ys) all = absurd all
-zip_long R (x ∷ xs) [] all = absurd all
 zip_long R (x ∷ xs) (y ∷ ys) all = ap suc (zip_long R xs ys all.1)
+zip_long R _ _ all = absurd all
 
 -- beside each entry of the second list is one of the first
 pub entry_left : {A B : Type 0} (R : A → B → Type 0) (first : ℕ) (xs : List A) (ys : List B) (t : ℕ) (y : B)
     → AllZip R xs ys → HasEntry first ys t y → (x : A) × HasEntry first xs t x × R x y
 entry_left R first [] [] t y all at = absurd at
-entry_left R first [] (b ∷ ys) t y all at = absurd all
-entry_left R first (a ∷ xs) [] t y all at = absurd all
-entry_left R first (a ∷ xs) (b ∷ ys) t y all (inl here) =
-    let long = zip_long R xs ys all.1 in
-    (a, inl (omega (arith, here.0, long), refl), subst (λ z. R a z) (sym here.1) all.0)
-entry_left R first (a ∷ xs) (b ∷ ys) t y all (inr there) =
-    (let it = entry_left R first xs ys t y all.1 there in (it.0, inr it.1, it.2))
+entry_left R first (a ∷ xs) (b ∷ ys) t y all here = grind (arith, entry_left R first xs ys t y all.1, zip_long)
+entry_left R first _ _ t y all at = absurd all
 
 -- ---- groups of the programme
 
 own_heard_in : (pi : ℕ) (slot : Option Group) → heard_in pi (own_group pi slot) ≡ heard_in pi slot
-own_heard_in pi None = refl
-own_heard_in pi (Some g) = by (g.pi == pi) refl
-  where
-    by : (b : Bool) → (g.pi == pi) ≡ b → heard_in pi (cond b (Some g) None) ≡ heard_in pi (Some g)
-    by true e = refl
-    by false e = rw e refl
+own_heard_in pi slot = grind (arith, nat_tests)
 
 own_heard_of : (pi : ℕ) (slots : List (Option Group)) → heard_of pi (map (own_group pi) slots) ≡ heard_of pi slots
 own_heard_of pi [] = refl
@@ -62,10 +51,8 @@ own_heard pi slots messages are = are ∙ sym (own_heard_of pi slots)
 -- receivers of the programme hear the messages that are sent
 pub sent_heard : WhatIsSentIsHeard
 sent_heard head [] [] are = refl
-sent_heard head [] (g ∷ sent) are = absurd are
-sent_heard head (m ∷ messages) [] are = absurd are
-sent_heard head (m ∷ messages) (g ∷ sent) are =
-    heard_next head.pi g sent m messages (hears_sent head m g are.0) (sent_heard head messages sent are.1)
+sent_heard head (m ∷ messages) (g ∷ sent) are = grind (arith, sent_heard head messages sent are.1, hears_sent)
+sent_heard head _ _ are = absurd are
 
 -- what was heard in a slot is what its group says
 entry_heard : (pi first : ℕ) (slots : List (Option Group)) (t : ℕ) (entry : Option Message)
@@ -74,8 +61,7 @@ entry_heard : (pi first : ℕ) (slots : List (Option Group)) (t : ℕ) (entry : 
 entry_heard pi first [] t entry at = absurd at
 entry_heard pi first (slot ∷ before) t entry (inl here) =
     (slot, inl (here.0 ∙ ap (λ n. first + n) (length-map before (heard_in pi)), refl), here.1)
-entry_heard pi first (slot ∷ before) t entry (inr there) =
-    (let it = entry_heard pi first before t entry there in (it.0, inr it.1, it.2))
+entry_heard pi first (slot ∷ before) t entry (inr there) = grind (arith, entry_heard pi first before t entry there)
 
 -- and what the group of a slot says was heard in it
 group_heard : (pi first : ℕ) (slots : List (Option Group)) (t : ℕ) (slot : Option Group) → HasEntry first slots t slot
@@ -112,32 +98,19 @@ module _ (pi : ℕ) (sent : List (Option Group)) (messages heard : List (Option 
           rw (are, x.2) (group_heard pi 0 sent s x.0 (order.each t (Some s) x.0 p x.1))
 
   late_in : (k l : ℕ) → k ≤ l → IsHeardLate k sent input → IsHeardLate l messages (with_messages input heard)
-  late_in k l more late = record {
-    order = in_order late.order;
-    past = late.past;
-    late = λ t s p. omega (arith, more, late.late t s p);
-  }
+  late_in k l more late = grind (arith, in_order)
 
   own_in : (d e m now : ℕ) → d ≤ e → IsHeardByOwnClock d m now sent input
       → IsHeardByOwnClock e m now messages (with_messages input heard)
-  own_in d e m now more own =
-      let long = heard_long pi input.heard heard hear in
-      record {
-        order = in_order own.order;
-        between = λ t u r s p q near. omega (arith, more, own.between t u r s p q near);
-        since = λ t s p near. omega (arith, more, own.since t s p (omega (arith, near, long)));
-        past = own.past;
-      }
+  own_in d e m now more own = grind (arith, heard_long, in_order)
 
 -- groups that come late are messages that come so
 pub late_groups : LateGroupsAreLateMessages
-late_groups pi k l sent messages heard input are hear more late =
-    late_in pi sent messages heard input are hear k l more late
+late_groups pi k l sent messages heard input are hear more late = search (arith, late_in)
 
 -- and those that come by a clock of the receiver's own
 pub own_groups : GroupsByOwnClockAreMessagesByIt
-own_groups pi d e m now sent messages heard input are hear more own =
-    own_in pi sent messages heard input are hear d e m now more own
+own_groups pi d e m now sent messages heard input are hear more own = search (arith, own_in)
 
 -- ---- up to a slot
 
@@ -182,9 +155,5 @@ by_own_clock laws a t now sent got messages heard origins are hear reached (inr 
     let groups : InputOf Group = record { first = 0; heard = got; origins = origins } in
     let all = own_groups a.pi (spacing a) (spacing a) a.dwell now sent messages heard groups are hear (omega arith)
     own in
-    record {
-      order = order_up_to now messages (with_messages groups heard) all.order all.past;
-      between = all.between;
-      since = all.since;
-      past = all.past;
-    }
+    let order = order_up_to now messages (with_messages groups heard) all.order all.past in
+    grind arith

@@ -1,5 +1,5 @@
 -- The wire laws for runs of the program.
-use Rattle.std.proofs.Common.{◌≡◌, ◌⊎◌, ◌∙◌, ◌++◌, ◌∷◌, ◌^◌, [], ℕ, List, None, Option, Some}
+use Rattle.std.proofs.Common.{◌≡◌, ◌⊎◌, ◌∙◌, ◌++◌, ◌∷◌, ◌^◌, [], ℕ, List, Option, Some}
 use Rattle.std.proofs.Common.{ap, append_assoc}
 use Rattle.std.proofs.Common.{append-nil, arith, codes, decimal, get_or, inl, inr, refl, subst, sym}
 use Rattle.std.specs.Io.KnownBytes.{Appends, Consumes, IsAtEnd}
@@ -9,11 +9,9 @@ use Rattle.std.proofs.lemmas.List.Elements.{All-cons}
 use Rattle.rds_block.specs.declared.group.Group.{Group}
 use Rattle.rds_cli.specs.declared.request.Programme.{Programme}
 use Rattle.rds_cli.specs.declared.request.Task.TheVariants.{Audit, Decode, Encode}
-use Rattle.rds_io.specs.Puts.{Puts}
 use Rattle.rds_io.specs.Told.{Failed, Traffic}
 use Rattle.rds_io.specs.declared.fault.LogFault.{LogFault}
 use Rattle.rds_io.specs.declared.fault.LogFault.TheVariants.{BadLine, BadRow, Memory, Read, TooLong, Write}
-use Rattle.rds_io.specs.declared.told.WriteFault.{WriteFault}
 use Rattle.rds_log.specs.Audit.{WholePasses}
 use Rattle.rds_fields.specs.declared.head.Head.{Head}
 use Rattle.rds_log.specs.Decode.{Decodes}
@@ -28,12 +26,12 @@ use Rattle.rds_log.specs.declared.audit_log.Auditing.{Auditing}
 use Rattle.rds_log.specs.declared.decode_log.Decoding.{Decoding}
 use Rattle.rds_program.specs.Run.{EndsWith, PutsLine, auditing_of, decoding_of}
 use Rattle.rds_program.specs.Run.{done, listening, script_in, verdict_status}
-use Rattle.rds_script.specs.Play.{HasRecords, Plays, WroteRows, with_form}
+use Rattle.rds_script.specs.Play.{Plays, WroteRows, with_form}
 use Rattle.rds_script.specs.Rows.{Record}
 use Rattle.rds_script.specs.declared.form.Form.TheVariants.{Log}
 use Rattle.rds_script.specs.declared.play.Playing.{Playing}
 use Rattle.rds_view_lines.specs.Output.{Display, changes_of}
-use Rattle.rds_view_lines.specs.ViewParts.{Part, line_in, part_name}
+use Rattle.rds_view_lines.specs.ViewParts.{Part, line_in}
 use Rattle.rds_wire.specs.Printed.{Prints, Shows}
 use Rattle.rds_wire.specs.Program.{Ran, WhatTheProgramDecodesIsPrinted, WhatTheProgramEncodesIsSafe}
 use Rattle.rds_wire.specs.Program.{WhatTheProgramPassesIsSafe, over}
@@ -42,7 +40,7 @@ use Rattle.rds_wire.specs.Wire.{Encodes, HasSafePlans, IsHead, WhatIsEncodedIsSa
 use Rattle.rds_wire.specs.Wire.{WhatPassesIsSafeOnTheWire, complete_in, station_of}
 use Rattle.rds_wire.proofs.Logs.{HasCut, is_log_of, more_text, with_comment}
 use Rattle.rds_wire.proofs.Printed.{decimal_line, empty_line, feedless, join_lines}
-use Rattle.rds_wire.proofs.Reading.{In, all_lines, are_lines, changes_text, contains_from_in, in_from_contains}
+use Rattle.rds_wire.proofs.Reading.{all_lines, are_lines, changes_text, contains_from_in, in_from_contains}
 use Rattle.rds_wire.proofs.Reading.{lines_of}
 use Rattle.rds_wire.proofs.Reading.{prefix_lacks}
 use Rattle.rds_wire.proofs.Wired.{EncoderLaws, log_of_script}
@@ -52,38 +50,23 @@ use Rattle.rds_wire.proofs.Wired.{EncoderLaws, log_of_script}
 -- a call that ended calmly wrote its bytes to a fresh writer
 fresh_has : (before after : Option (List ℕ)) (written : List ℕ) → before ≡ Some [] → Appends before after written
     → after ≡ Some written
-fresh_has None after written fresh is = absurd (cc)
-fresh_has (Some xs) None written fresh is = absurd is
-fresh_has (Some xs) (Some ys) written fresh is =
-    let empty : xs ≡ [] = cc in
-    ap Some (is ∙ ap (λ (l : List ℕ). l ++ written) empty)
+fresh_has before after written fresh is = grind arith
 
 -- and then a line
 has_more : (before after : Option (List ℕ)) (written line output : List ℕ) → before ≡ Some written
     → after ≡ Some output → Appends before after line → output ≡ written ++ line
-has_more None after written line output had has is = absurd (cc)
-has_more (Some xs) None written line output had has is = absurd is
-has_more (Some xs) (Some ys) written line output had has is =
-    let was : xs ≡ written = cc in
-    let all : ys ≡ output = cc in
-    sym all ∙ is ∙ ap (λ (l : List ℕ). l ++ line) was
+has_more before after written line output had has is = grind arith
 
 same_known : (a : Option (List ℕ)) (x y : List ℕ) → a ≡ Some x → a ≡ Some y → x ≡ y
-same_known None x y p q = absurd (cc)
-same_known (Some z) x y p q = cc
+same_known a x y p q = grind arith
 
 -- a count of 0 failures has no failure before it
 no_failure : (f g : ℕ) → g ≡ 0 → Failed f g → ⊥
-no_failure f g none (inl up) = omega (arith, none, up)
-no_failure f g none (inr most) = omega (arith, none, most.0, most.1)
+no_failure f g none up = grind arith
 
 -- without a failure the whole line was written
 puts_whole : (w : Traffic) (line : List ℕ) → w.failures_after ≡ 0 → PutsLine line w → Appends w.before w.after line
-puts_whole w line none (r, puts) = by r puts
-  where
-    by : (r : Result (Unit {0}) WriteFault) → Puts w line r → Appends w.before w.after line
-    by (Ok done) p = p.0
-    by (Err fault) p = absurd (no_failure w.failures_before w.failures_after none p.1)
+puts_whole w line none (r, puts) = grind arith
 
 -- ---- `encode`
 
@@ -104,15 +87,7 @@ module _ (how : Playing) (script output : List ℕ) (known : Option (List ℕ)) 
     (none : mid.failures_after ≡ 0) where
   wrote_rows : (records : List Record) (rows : WroteRows how known w records) → EndsAs rows.written output
       → Wrote how script output
-  wrote_rows records rows ends = record {
-    log = rows.written;
-    encoded = record {
-      records = records;
-      begins = subst (λ (o : Option (List ℕ)). HasRecords o records) given rows.begins;
-      write = rows.write;
-    };
-    ends = ends;
-  }
+  wrote_rows records rows ends = grind arith
 
   with_fault : (records : List Record) (rows : WroteRows how known w records) (text : List ℕ) → IsLine text
       → PutsLine ((codes "# " ++ text) ++ codes "\n") mid → Wrote how script output
@@ -168,9 +143,7 @@ wrote programme n pi m k script output ran = by ran.ran.outcome ran.ran.ran ran.
 -- a receiver of the output is one of the log
 of_log : (n : ℕ) (log output : List ℕ) (sent : List (Option Group)) → HasCut n log sent → EndsAs log output
     → HasCut n output sent
-of_log n log output sent had (inl same) = subst (λ (l : List ℕ). HasCut n l sent) (sym same) had
-of_log n log output sent had (inr (line, is, skipped, same)) =
-    subst (λ (l : List ℕ). HasCut n l sent) (sym same) (with_comment n log line sent had is skipped)
+of_log n log output sent had same = grind (arith, with_comment)
 
 received_of : (a : Auditing) (log output : List ℕ) (sent got : List (Option Group)) (t now : ℕ)
     → HasCut a.rtplus log sent
@@ -208,36 +181,23 @@ encoded_by_the_program law encoder programme n pi m k script output may fits typ
 -- the bytes begin with what was read
 all_bytes : (before after : Option (List ℕ)) (received text : List ℕ) → before ≡ Some received
     → Consumes before after text → (left : List ℕ) × (after ≡ Some left) × (received ≡ text ++ left)
-all_bytes None after received text given read = absurd (cc)
-all_bytes (Some xs) None received text given read = absurd read
-all_bytes (Some xs) (Some left) received text given read =
-    (let all : xs ≡ received = cc in (left, refl, sym all ∙ read))
+all_bytes before after received text given read = grind arith
 
 -- all bytes were read
 consumed : (before after : Option (List ℕ)) (received text : List ℕ) → before ≡ Some received
     → Consumes before after text → IsAtEnd after → text ≡ received
-consumed None after received text given read end = absurd (cc)
-consumed (Some xs) None received text given read end = absurd read
-consumed (Some xs) (Some left) received text given read end =
-    let all : xs ≡ received = cc in
-    sym (append-nil text) ∙ sym (ap (λ (l : List ℕ). text ++ l) end) ∙ sym read ∙ all
+consumed before after received text given read end = grind (arith, append-nil {A = ℕ})
 
 -- ---- lines of faults
 
 -- a line of the output is one of the lines before the fault
 not_fault : (line : Line) (u : ℕ) (part : Part) (content : List ℕ) (lines : List Line) → get_or line 0 0 ≡ 102
     → Contains (line ∷ lines) (line_in u part content) → Contains lines (line_in u part content)
-not_fault line u part content lines f is = by (in_from_contains (line_in u part content) (line ∷ lines) is)
-  where
-    by : In (line_in u part content) (line ∷ lines) → Contains lines (line_in u part content)
-    by (inl same) =
-        absurd (prefix_lacks u (part_name part ++ content) (sym (ap (λ (l : List ℕ). get_or l 0 0) same) ∙ f))
-    by (inr more) = contains_from_in (line_in u part content) lines more
+not_fault line u part content lines f is = grind (arith, in_from_contains, prefix_lacks, contains_from_in)
 
 or_later : (line : Line) (u : ℕ) (part : Part) (content : List ℕ) (lines : List Line)
     → Contains lines (line_in u part content) → Contains (line ∷ lines) (line_in u part content)
-or_later line u part content lines is =
-    contains_from_in (line_in u part content) (line ∷ lines) (inr (in_from_contains (line_in u part content) lines is))
+or_later line u part content lines is = search (contains_from_in, in_from_contains, inl, inr)
 
 -- the line of a fault changes nothing that is shown
 shows_before : (displays : List Display) (printed output : List ℕ) (line : Line) (t : ℕ) (part : Part)

@@ -1,11 +1,11 @@
 -- From the views of two receivers to what their output shows.
-use Rattle.std.proofs.Common.{◌≡◌, ◌≢◌, ◌⊎◌, ◌≤◌, ◌∷◌, [], ◌∙◌, ℕ, List, Option, None, Some, ap, ap₂, arith, inl, inr}
-use Rattle.std.proofs.Common.{length, refl, subst, sym, lt-ltb, le-leb, ne_eqb}
+use Rattle.std.proofs.Common.{◌≡◌, ◌⊎◌, ◌≤◌, ◌∷◌, [], ◌∙◌, ℕ, List, Option, None, Some, ap, arith, inl, inr}
+use Rattle.std.proofs.Common.{refl, subst, sym}
 use Rattle.std.specs.Prelude.{All, IfSome}
 use Rattle.std.proofs.lemmas.List.Elements.{All-head, All-tail}
 use Rattle.rds_fields.specs.declared.message.Message.{Message}
 use Rattle.rds_fields.specs.declared.pair.Which.TheVariants.{One, Two}
-use Rattle.rds_fields.specs.Tag.{PairFields, TagFields, end_of}
+use Rattle.rds_fields.specs.Tag.{PairFields, TagFields}
 use Rattle.rds_encoder.specs.Plan.{Broadcast, Covers}
 use Rattle.rds_encoder.specs.Spaced.{IsSpaced}
 use Rattle.rds_receiver.specs.Receipts.{Segment}
@@ -20,26 +20,13 @@ use Rattle.rds_safety.specs.Safe.{AreNeighbours, HaveNearSources, Listener, Name
 use Rattle.rds_safety.specs.Safe.{ShowsTagsOf, ShowsTagsOfItsText, ShowsTextOnAir}
 use Rattle.rds_safety.specs.Safe.{AreSafeViews, RunWasOnAir}
 use Rattle.rds_safety.specs.Source.{name_run, text_run}
-use Rattle.rds_view_lines.specs.Output.{item_content, none_content, quoted, tag_content, text_content, why_name}
+use Rattle.rds_view_lines.specs.Output.{none_content, text_content, why_name}
 use Rattle.rds_view_lines.specs.Output.{why_text}
-use Rattle.rds_view_lines.specs.ViewParts.{IsNothing, Item, Name, Part, Tag1, Tag2, Text, part_content}
+use Rattle.rds_view_lines.specs.ViewParts.{IsNothing, Name, Part, Text, part_content}
 use Rattle.rds_wire.specs.Safe.{AreSafe, IsOfPair, ShowNeighbours, ShowsBroadcast, ShowsText, StationPlans}
 use Rattle.rds_wire.specs.Safe.{WasOnAir, WentWith}
 
 -- ---- texts and names
-
--- the content of a run that was on air was on air
-on_air_so : (d t : ℕ) (plan : List Broadcast) (i : Input) (r : List Segment) (a x : List ℕ) → x ≡ quoted a
-    → (run : RunWasOnAir d t plan i r a) → WasOnAir d t plan x run.number
-on_air_so d t plan i r a x is run = record {
-  broadcast = run.broadcast;
-  planned = run.source.planned;
-  says = is ∙ ap quoted (sym run.bytes);
-  slot = run.slot;
-  covers = run.covers;
-  past = run.past;
-  recent = run.recent;
-}
 
 -- the number of the broadcast that is shown; any number if nothing is shown
 abbrev IsNumberOf : (d t : ℕ) (plan : List Broadcast) (i : Input) (r : List Segment) (o : Option (List ℕ))
@@ -51,9 +38,7 @@ IsNumberOf d t plan i r (Some a) was k = k ≡ was.number
 nothing_or_on_air : (d t : ℕ) (plan : List Broadcast) (i : Input) (r : List Segment) (o : Option (List ℕ))
     (was : IfSome o (RunWasOnAir d t plan i r)) (k : ℕ) → IsNumberOf d t plan i r o was k
     → (x : List ℕ) (why : Option WhyNone) → x ≡ text_content why o → IsNothing x ⊎ WasOnAir d t plan x k
-nothing_or_on_air d t plan i r None was k number x why is = inl (why, is)
-nothing_or_on_air d t plan i r (Some a) was k number x why is =
-    inr (subst (λ (n : ℕ). WasOnAir d t plan x n) (sym number) (on_air_so d t plan i r a x is was))
+nothing_or_on_air d t plan i r o was k number x why is = grind arith
 
 -- two receivers of what was on air show neighbours
 neighbours : (d t : ℕ) (plan : List Broadcast) (i j : Input) (r q : List Segment) (o w : Option (List ℕ))
@@ -62,20 +47,8 @@ neighbours : (d t : ℕ) (plan : List Broadcast) (i j : Input) (r q : List Segme
     → ((l : ℕ) → IsNumberOf d t plan j q w other l → Other l) → ShowNeighbours One Other
 neighbours d t plan i j r q None None P Q one other near first second =
     record { k = 0; l = 0; first = first 0 tt; second = second 0 tt; near = (omega arith, omega arith) }
-neighbours d t plan i j r q None (Some b) P Q one other near first second = record {
-  k = other.number;
-  l = other.number;
-  first = first other.number tt;
-  second = second other.number refl;
-  near = (omega arith, omega arith);
-}
-neighbours d t plan i j r q (Some a) None P Q one other near first second = record {
-  k = one.number;
-  l = one.number;
-  first = first one.number refl;
-  second = second one.number tt;
-  near = (omega arith, omega arith);
-}
+neighbours d t plan i j r q None (Some b) P Q one other near first second = grind arith
+neighbours d t plan i j r q (Some a) None P Q one other near first second = grind arith
 neighbours d t plan i j r q (Some a) (Some b) P Q one other near first second = record {
   k = one.number;
   l = other.number;
@@ -86,57 +59,21 @@ neighbours d t plan i j r q (Some a) (Some b) P Q one other near first second = 
 
 -- ---- tags
 
-abbrev shown_as : ℕ → List ℕ → Option (ℕ × List ℕ)
-shown_as class piece = Some (class, piece)
-
 cuts : (tag : TagFields) (text : List ℕ) (shown : ℕ × List ℕ) → NamesPiece tag text shown → cut_by tag text ≡ Some shown
-cuts tag text (class, piece) n =
-    let real = n.real in
-    let some : tag.class ≢ 0 = λ e. omega (arith, e, real) in
-    rw (lt-ltb 0 tag.class n.real, ne_eqb tag.class 0 some, le-leb (end_of tag) (length text) n.ends)
-    (ap₂ shown_as (sym n.class) (sym n.piece))
+cuts tag text (class, piece) n = grind arith
 
 -- no text, no part of a pair
 none_without : (part : Part) → IsOfPair part → (whys : Option Whys) (view : ShownView) (pair : Option PairFields)
     → view.text ≡ None → view.item ≡ item_of view.text pair → view.one ≡ tag_of One view.text pair
     → view.two ≡ tag_of Two view.text pair → part_content part whys view ≡ none_content None
-none_without Text of whys view pair none item one two = absurd of
-none_without Name of whys view pair none item one two = absurd of
-none_without Item of whys view pair none item one two =
-    ap item_content (item ∙ ap (λ (o : Option (List ℕ)). item_of o pair) none)
-none_without Tag1 of whys view pair none item one two =
-    ap tag_content (one ∙ ap (λ (o : Option (List ℕ)). tag_of One o pair) none)
-none_without Tag2 of whys view pair none item one two =
-    ap tag_content (two ∙ ap (λ (o : Option (List ℕ)). tag_of Two o pair) none)
-
-none_of_none : (part : Part) → IsOfPair part → (whys : Option Whys) (view : ShownView) → ShowsNoTags view
-    → part_content part whys view ≡ none_content None
-none_of_none Text of whys view none = absurd of
-none_of_none Name of whys view none = absurd of
-none_of_none Item of whys view none = ap item_content none.item
-none_of_none Tag1 of whys view none = ap tag_content none.one
-none_of_none Tag2 of whys view none = ap tag_content none.two
+none_without part of whys view pair none item one two = grind arith
 
 -- a part of a pair is nothing, or what the pair cuts
 of_pair : (part : Part) → IsOfPair part → (whys : Option Whys) (view : ShownView) (bytes : List ℕ) (pair : PairFields)
     → view.item ≡ Some (pair.toggle, pair.running) → IfSome view.one (NamesPiece pair.one bytes)
     → IfSome view.two (NamesPiece pair.two bytes) → (part_content part whys view ≡ none_content None)
     ⊎ (part_content part whys view ≡ part_content part None (view_with (Some bytes) None (Some pair)))
-of_pair Text of whys view bytes pair item one two = absurd of
-of_pair Name of whys view bytes pair item one two = absurd of
-of_pair Item of whys view bytes pair item one two = inr (ap item_content item)
-of_pair Tag1 of whys view bytes pair item one two = by view.one one
-  where
-    by : (o : Option (ℕ × List ℕ)) → IfSome o (NamesPiece pair.one bytes)
-        → (tag_content o ≡ none_content None) ⊎ (tag_content o ≡ tag_content (cut_by pair.one bytes))
-    by None n = inl refl
-    by (Some tag) n = inr (ap tag_content (sym (cuts pair.one bytes tag n)))
-of_pair Tag2 of whys view bytes pair item one two = by view.two two
-  where
-    by : (o : Option (ℕ × List ℕ)) → IfSome o (NamesPiece pair.two bytes)
-        → (tag_content o ≡ none_content None) ⊎ (tag_content o ≡ tag_content (cut_by pair.two bytes))
-    by None n = inl refl
-    by (Some tag) n = inr (ap tag_content (sym (cuts pair.two bytes tag n)))
+of_pair part of whys view bytes pair item one two = search (arith, cuts)
 
 -- the content is that of the part of the view, with some reason or none
 abbrev pub IsContentOf : Part → ShownView → List ℕ → Type 0
@@ -156,8 +93,7 @@ module _ (law : ARunHasOneSource) (d now : ℕ) (air : StationPlans) (sent : Lis
       → (was : IfSome view.text (RunWasOnAir d now air.plans.text i r)) (k : ℕ)
       → IsNumberOf d now air.plans.text i r view.text was k
       → ((part : Part) → IsOfPair part → IsNothing (contents part)) ⊎ WentWith d now air x contents k
-  was_with x contents ex ey (inl none) was k number =
-      inl (λ part of. (None, (ey part of).1 ∙ none_of_none part of (ey part of).0 view none))
+  was_with x contents ex ey (inl none) was k number = grind arith
   was_with x contents ex ey (inr tags) was k number = by view.text refl was number
     where
       by : (o : Option (List ℕ)) → view.text ≡ o → (was : IfSome o (RunWasOnAir d now air.plans.text i r))
@@ -204,12 +140,7 @@ module _ (law : ARunHasOneSource) (d now : ℕ) (air : StationPlans) (sent : Lis
       → ShowsNoTags view ⊎ ShowsTagsOf d air.plans.text sent i r view
       → (was : IfSome view.text (RunWasOnAir d now air.plans.text i r)) (k : ℕ)
       → IsNumberOf d now air.plans.text i r view.text was k → ShowsText d now air Shown k
-  shows_text Shown is tags was k number = record {
-    text = λ x sh. nothing_or_on_air d now air.plans.text i r view.text was k number x (why_text (is Text x sh).0)
-        (is Text x sh).1;
-    tags = λ x contents sh all. was_with x contents (is Text x sh) (λ part of. is part (contents part) (all part of))
-        tags was k number;
-  }
+  shows_text Shown is tags was k number = search (arith, nothing_or_on_air, was_with)
 
 -- two receivers whose views are safe show what is safe
 pub shown_safely : ARunHasOneSource

@@ -4,7 +4,7 @@ use Rattle.std.proofs.lemmas.List.{length-map}
 use Rattle.std.proofs.lemmas.List.Elements.{All-cons, All-nil}
 use Rattle.rds_fields.specs.declared.message.Message.{Message}
 use Rattle.rds_fields.specs.Tag.{PairFields}
-use Rattle.rds_receiver.specs.Receipts.{Tuning, heard_in, heard_of}
+use Rattle.rds_receiver.specs.Receipts.{Tuning, heard_of}
 use Rattle.rds_safety.specs.Confirmed.{IsHeardWithWrong, ListensConfirmed, confirmed_input, lateness_of_two}
 use Rattle.rds_safety.specs.ConfirmedLaws.{LawfulPlansAreSafeConfirmed}
 use Rattle.rds_safety.specs.Late.{HasEntry, Input}
@@ -66,10 +66,7 @@ module _ (n pi m w k : ℕ) (log : List ℕ) (sent : List (Option Message)) (is 
   listener = record { input = confirmed_input w m raw; view = display.0.view }
 
   long : length heard ≡ t + 1
-  long =
-      let reached = r.reached in
-      length-map (first_entries (t + 1) p.write.slots) (heard_in pi)
-      ∙ first_length (t + 1) p.write.slots (omega (arith, reached))
+  long = grind (arith, length-map, first_length)
 
   heard_first : IsHeardWithWrong k (first_entries (t + 1) sent) raw
   heard_first =

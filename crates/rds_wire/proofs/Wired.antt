@@ -233,19 +233,7 @@ pub log_of_script : EncoderLaws → (n : ℕ) (head : Head) (m k : ℕ) (script 
     → (encoded : Encodes (with_form (Log n) (station_of head m k)) script log)
     → HasLog n head m k log encoded.write.events
 log_of_script encoder n head m k script log may is_head some encoded =
-    let events = encoded.write.events in
-    let outcomes = encoded.write.write.outcomes in
-    let are = encoded.write.write.are in
-    let say = encoded.write.say in
-    let config = station_of head m k in
-    let none = rows_name_none config say.receivers encoded.records events say.allowed say.rows in
-    record {
-      sent = groups_sent outcomes;
-      cut = encoded_cut n head m k events outcomes log may is_head none are encoded.write.write.lines;
-      heard = groups_are_heard (station_of head m k) events outcomes are;
-      lawful = log_is_lawful encoder.lawful encoder.slots (m + k) events (omega (arith, some))
-          (rows_set config say.receivers encoded.records events say.rows);
-    }
+    grind (arith, rows_name_none, groups_sent, encoded_cut, groups_are_heard, log_is_lawful, rows_set)
 
 -- the law of scripts
 pub encoded_is_safe : LogLaws → EncoderLaws → WhatIsEncodedIsSafeOnTheWire
