@@ -259,8 +259,13 @@ view k n = record {
 -- a receiver that heard both messages shows the mix
 pub shows : (k n : ℕ) → ShowsView (n + 2) k (heard n) (view k n)
 shows k n =
-    let text = rw (mixed k n) mix_is_whole in
-    record { text = text; name = rw (no_name k n) no_name_of_none; item = refl; one = refl; two = refl }
+    record {
+      text = rw (mixed k n) mix_is_whole;
+      name = rw (no_name k n) no_name_of_none;
+      item = refl;
+      one = refl;
+      two = refl;
+    }
 
 abbrev receiver : ℕ → ℕ → ℕ → Listener
 receiver k n j = record { input = input k n j; view = view k n }
