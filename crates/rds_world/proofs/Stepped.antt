@@ -43,7 +43,10 @@ pub stepped : (config : Config) (old new : WorldState) (events : List Event) (e 
     → AreLastSent old.config (log (distance old.config) (e ∷ events)) new.sent
     → ((i : ℕ) → slice_index_or new.stays i false ≡ true → ShowsStill old.config i (e ∷ events))
     → WorldAt config new (e ∷ events)
-stepped config old new events e st same value due fit told heard reaches pasts sent stay = search (arith, by_own)
+stepped config old new events e st same value due fit told heard reaches pasts sent stay =
+    let own = by_own config old events st in
+    let now : WorldAt old.config new (e ∷ events) = search arith in
+    subst (λ (c : Config). WorldAt c new (e ∷ events)) st.is_set now
 
 -- the view of a borrowed receiver is that of its input
 pub shows_what_it_heard : (config : Config) (w : WorldState) (i : ℕ) (events : List Event) → WorldAt config w events

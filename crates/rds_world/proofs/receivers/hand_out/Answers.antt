@@ -1,8 +1,8 @@
 use Rattle.circular_buffer.proofs.Places.{slice_get-set_other}
 use Rattle.std.proofs.lemmas.List.{get_or-set_other}
 use Rattle.std.proofs.lemmas.Bool.Decides.{nat_tests}
-use Rattle.std.proofs.Common.{◌≡◌, Some, false, length, sym, ◌∙◌, arith}
-use Rattle.std.proofs.Common.{refl}
+use Rattle.std.proofs.Common.{◌≡◌, ◌∙◌, Some, arith, false, inl, inr, length, refl, sym}
+use Rattle.std.proofs.lemmas.Bool.{cases_lt}
 use Rattle.std.specs.Prelude.{slice_get, slice_index_or}
 use Rattle.std.proofs.lemmas.List.{get_or-set_same, get_or_default, length-set}
 use Rattle.std.proofs.lemmas.Option.{slice_get-get_or, slice_get_within}
@@ -31,31 +31,29 @@ loop-i-preserved c =
       count = length-set _ _ _ ∙ c.loop-i.invariant.count;
       rest = λ k h. grind (arith, slice_get-set_other rs i k new, c.loop-i.invariant.rest k);
       done = λ slot sent inputs last kept due all k r h e.
-          grind (
-            arith,
-            at,
-            slice_get-set_other rs i k new,
-            written rs i new r,
-            c.loop-i.invariant.rest i,
-            all.each i,
-            c.receive-same.ensures.heard slot sent (inputs i) (last i) kept,
-            due i,
-            c.loop-i.invariant.done slot sent inputs last kept due all k r,
-          );
+          let old = all.each i _ (sym (c.loop-i.invariant.rest i (omega arith)) ∙ at _) in
+          let has = c.receive-same.ensures.heard slot sent (inputs i) (last i) kept (rw told at (due i)) old in
+          elim (cases_lt k i) [
+            | inl less ↦ c.loop-i.invariant.done slot sent inputs last kept due all k r less
+                (sym (slice_get-set_other rs i k new (λ e. omega arith)) ∙ e)
+            | inr more ↦ (
+                let here : k ≡ i = omega (arith, h, more) in
+                let same : new ≡ r = written rs i new r (rw here at e) in
+                rw (here, ← same, told) has)
+          ];
       later = λ k h.
           grind (arith, get_or-set_other c.loop-i.stays i k c.receive-same.result false, c.loop-i.invariant.later k);
       stays = λ slot sent inputs last kept due all k h is.
-          grind (
-            arith,
-            at,
-            get_or-set_other c.loop-i.stays i k c.receive-same.result false,
-            marked c.loop-i.stays i c.receive-same.result,
-            c.loop-i.invariant.rest i,
-            all.each i,
-            c.receive-same.ensures.stays slot sent (inputs i) (last i) kept,
-            due i,
-            c.loop-i.invariant.stays slot sent inputs last kept due all k,
-          );
+          let old = all.each i _ (sym (c.loop-i.invariant.rest i (omega arith)) ∙ at _) in
+          let stay = c.receive-same.ensures.stays slot sent (inputs i) (last i) kept (rw told at (due i)) old in
+          elim (cases_lt k i) [
+            | inl less ↦ c.loop-i.invariant.stays slot sent inputs last kept due all k less
+                (sym (get_or-set_other c.loop-i.stays i k c.receive-same.result false (λ e. omega arith)) ∙ is)
+            | inr more ↦ (
+                let here : k ≡ i = omega (arith, h, more) in
+                let yes = marked c.loop-i.stays i c.receive-same.result (rw here at is) in
+                rw (here, told) (stay yes))
+          ];
       eight = length-set _ _ _ ∙ c.loop-i.invariant.eight;
       all = λ every k below.
           grind (
