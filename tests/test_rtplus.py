@@ -84,6 +84,19 @@ class Rtplus(ProgramCase):
         self.check("nothing to read", noted("audit --pi C201 --rtplus 13A", b"C201 B14F 2002 0000\n")[2],
                    note("no 2A, 10A or 13A group of C201: the yes says nothing"))
 
+    def test_unequal_options_show_tags_of_another_text(self):
+        """The headline asks for one `--rtplus`. A log has HI, then YO and its tags, too early. Without the option of its
+        tags `audit` judges none of them and says yes. A receiver that loses YO, with the option, shows them of HI."""
+        sent = b"C201 3018 0000 4BD7\nC201 2140 4849 0D20\nC201 2150 594F 0D20\nC201 C148 2002 0000\n"
+        for tags, other in ((12, 11), (11, 12)):
+            log = sent if tags == 12 else with_exchanged(sent, 12)
+            heard = b"".join(it if b"594F" not in it else b"---- ---- ---- ----\n" for it in log.splitlines(True))
+            judged = [ran([*AUDIT, "--m", "4", "--rtplus", f"{it}A"], log) for it in (other, tags)]
+            self.check(f"tags in {tags}A: audit", judged, [(0, b"yes 4\n"), (1, b"no 3 EarlyTag\n")], log)
+            shown = [ran([*DECODE, "--m", "4", "--rtplus", f"{it}A"], heard)[1] for it in (tags, other)]
+            self.check(f"tags in {tags}A: decode", shown,
+                       [b'1 text "HI"\n3 item 0 1\n3 tag1 ITEM.TITLE "HI"\n', b'1 text "HI"\n'], heard)
+
     def test_other_groups_are_refused(self):
         for group in ("10A", "11B", "12", "12a", "4A", "14A", "", "+12A"):
             self.check(group, noted(f"decode --pi C201 --rtplus={group}", b""),

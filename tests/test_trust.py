@@ -25,7 +25,21 @@ def listed():
     return found
 
 
+def headlines():
+    """Gives the headline as each page says it, up to what is safe."""
+    yield "README", re.search(r"^\*\*Headline\*\*\.(.*?)\n\n", text_of("README.md"), re.M | re.S)[1]
+    yield "TRUST", text_of("docs/TRUST.md").split("## The headline in words\n")[1].split("\n\n- ")[0]
+
+
 class Trust(Case):
+    def test_the_headline_names_the_options_that_it_needs(self):
+        """Without the same --rtplus it is false: test_rtplus plays that."""
+        for page, headline in headlines():
+            self.check(f"{page}: options of decode", "`decode` has the same `--pi`, `--m` and `--rtplus`, and no `--confirm`"
+                       in " ".join(headline.split()), True)
+        audit, = re.findall(r"^\| \*\*Audit\*\*.*$", text_of("docs/TRUST.md"), re.M)
+        self.check("what a yes does not say", "`--rtplus`" in audit.split("|")[3], True)
+
     def test_the_line_to_break_is_in_the_source(self):
         """The page names the function by its line, and the clause that is refused."""
         text = text_of("docs/TRUST.md").split("### Break it yourself\n")[1].split("\n### ")[0]
