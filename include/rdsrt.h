@@ -246,8 +246,8 @@ void rdsrt_receiver_held(const struct rdsrt_receiver *receiver, struct rdsrt_hel
 
 /* All calls read and write RT+ tags in group 11A. A station may have them in another type of version A: its groups 3A say
  * which, with the application 4BD7. This call exchanges 11A and that type in the blocks of a group, in its own type and
- * in a 3A. Make it for each group before rdsrt_receiver_slot and rdsrt_audit_slot, and after rdsrt_encoder_tick. The same
- * call again exchanges them back. number: 5 to 9 or 11 to 13; with 11 nothing changes.
+ * in a 3A. Make it for each group before rdsrt_receiver_slot, rdsrt_audit_slot and rdsrt_audit_all_faults, and after
+ * rdsrt_encoder_tick. The same call again exchanges them back. number: 5 to 9 or 11 to 13; with 11 nothing changes.
  * Returns RDSRT_OK, or RDSRT_BAD_ARGUMENT for another number. */
 uint32_t rdsrt_exchange_tag_group(uint8_t number, uint16_t blocks[4]);
 
@@ -347,8 +347,8 @@ uint32_t rdsrt_audit_all_faults(struct rdsrt_audit *audit, const uint16_t *block
 uint32_t rdsrt_audit_passed(const struct rdsrt_audit *audit);
 
 /* Returns 1 if no rule is broken so far and the A/B flag turned with each new text, and else 0; the second call says it
- * of names. If 1: a receiver without a dwell, which keeps its segments until the flag turns, shows no mix of these texts
- * if it received a segment of each of them. */
+ * of names. If 1, and if the audit has no RDSRT_AUDIT_PADDED: a receiver without a dwell, which keeps its segments until
+ * the flag turns, shows no mix of these texts if it received a segment of each of them. */
 uint32_t rdsrt_audit_texts_turn_the_flag(const struct rdsrt_audit *audit);
 uint32_t rdsrt_audit_names_turn_the_flag(const struct rdsrt_audit *audit);
 

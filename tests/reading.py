@@ -10,6 +10,8 @@ import re
 
 ROOT = os.path.dirname(os.path.dirname(os.path.abspath(__file__)))
 USE = re.compile(r"^use Rattle\.(rds_\w+)\.specs\.([\w.]+?)(?:\.\{([^}]*)\}| as (\w+))$", re.M)
+# the kit's definitions of the records of a script
+CSV = re.compile(r"^use Rattle\.csv\.specs\.[\w.]+\.\{([^}]*)\}$", re.M)
 HEAD = re.compile(r"^(?:(?:abbrev|unfoldable|record|data) )*(?:pub )?(?:(?:abbrev|unfoldable|record|data) )?(\S+)")
 # the laws from bytes to bytes, of scripts and of audits
 WIRE = (("rds_wire/specs/Wire", "WhatIsEncodedIsSafeOnTheWire"),)
@@ -35,6 +37,7 @@ class Module:
         with open(os.path.join(ROOT, f"crates/{at}.antt"), encoding="utf-8") as file:
             text = re.sub(r"--.*", "", file.read())
         self.names, self.modules, self.texts, self.parts = {}, {}, {}, {}
+        self.csv = {it.strip() for names in CSV.findall(text) for it in names.split(",")}
         for named, module, names, alias in USE.findall(text):
             to = f"{named}/specs/{module.replace('.', '/')}"
             if alias:
@@ -104,6 +107,12 @@ def by_file(found):
         rows.setdefault(at, []).append(f"`{name}`")
     lines = sum(len(module(at).texts.get(name, "").splitlines()) for at, name in names if (at, name) not in PROMISED)
     return [f"|{at.replace('/specs/', ' `specs/')}`|{', '.join(it)}|" for at, it in rows.items()], len(names), lines
+
+
+def of_csv(found):
+    """Returns the names of the kit's `csv` in these definitions."""
+    texts = ((module(at), name) for at, name in found if "/declared/" not in at and (at, name) not in PROMISED)
+    return {it for of, name in texts for it in re.findall(r"\w+", of.texts.get(name, "")) if it in of.csv}
 
 
 def added_by_audits():

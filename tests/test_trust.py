@@ -54,13 +54,16 @@ class Trust(Case):
         self.check("it is in that function", [it for it in source[int(number):body] if " fn " in it], [])
 
     def test_the_first_list_has_the_definitions_of_the_headline(self):
-        rows, definitions, lines = reading.by_file(reading.closure(reading.WIRE, reading.PROMISED))
+        found = reading.closure(reading.WIRE, reading.PROMISED)
+        rows, definitions, lines = reading.by_file(found)
         text = section()
         self.check("the table", re.findall(r"^\|rds_.*$", text, re.M), rows)
         self.check("its size", re.findall(r"these (\d+) definitions, which have (\d+)\nlines", text),
                    [(f"{definitions}", f"{lines}")])
         self.check("what the law of audits adds", re.findall(r"adds (\d+) definitions", text),
                    [f"{reading.added_by_audits()}"])
+        named, = re.findall(r"of its `csv`, (.*?)\. ", text, re.S)
+        self.check("names of the kit's csv", set(re.findall(r"`(\w+)`", named)), reading.of_csv(found))
         promised = {f"`{name}`" for _, name in reading.PROMISED}
         said = set(re.findall(r"`\w+`", text.split("|File|")[0]))
         self.check("promises that the page does not explain", promised - said, set())
