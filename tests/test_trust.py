@@ -1,10 +1,16 @@
-"""docs/TRUST.md: its reading lists have each definition and each file that the headlines reach, and no other one."""
+"""docs/TRUST.md: its reading lists have each definition and each file that the headlines reach, and no other one. What
+other pages prove has a law."""
+import glob
 import re
 
 from tests import reading
-from tests.support import Case, text_of
+from tests.support import Case, path, text_of
 
 STEP = "rds_world/src/world.rt"
+# pages that say "we prove". Behind that, in the same paragraph, they name the law or call: in HTML comments, and the
+# header in its own comment
+PROVING = ("README.md", "docs/GUIDE.md", "docs/AIR.md", "include/rdsrt.h")
+LAW = re.compile(r"\blaw: (rds_\w+) (\w+(?:::\w+)?)(?:, clauses? (\w+(?:, \w+)*))?")
 
 
 def section():
@@ -25,6 +31,27 @@ def listed():
     return found
 
 
+def proved_in(text):
+    """Returns each "we prove" of a page, with the words from there to the next one, or to the end of the paragraph."""
+    parts = re.findall(r"\bwe prove\b(?:(?!\bwe prove\b|\n(?: \*)?\n| \*/).)*", text, re.I | re.S)
+    return [" ".join(it.split()) for it in parts]
+
+
+def contracts(crate, name):
+    """Returns the contract of each public function of this name in a crate, and the head of such a definition."""
+    at = path(f"crates/{crate}")
+    files = glob.glob(f"{at}/src/**/*.rt", recursive=True) + glob.glob(f"{at}/specs/**/*.antt", recursive=True)
+    function = rf'^( *)pub (?:extern "C" )?fn {name}\b.*?^\1\{{'
+    definition = rf"^(?:(?:pub|abbrev|unfoldable|record|data) )+{name}\b"
+    return [it[0] for it in re.finditer(f"{function}|{definition}", "\n".join(map(text_of, files)), re.M | re.S)]
+
+
+def lacking(crate, name, clauses):
+    """Returns the name if a crate has no such law, and the clauses that the law lacks."""
+    found = contracts(crate, name.rpartition("::")[2])
+    return [it for it in re.findall(r"\w+", clauses) if f"ensures {it} " not in "".join(found)] if found else [name]
+
+
 def headlines():
     """Gives the headline as each page says it, up to what is safe."""
     yield "README", re.search(r"^\*\*Headline\*\*\.(.*?)\n\n", text_of("README.md"), re.M | re.S)[1]
@@ -32,11 +59,22 @@ def headlines():
 
 
 class Trust(Case):
+    def test_what_a_page_proves_has_a_law(self):
+        for page in PROVING:
+            self.check(f"{page} proves something", proved_in(text_of(page)) != [], True)
+            for words in proved_in(text_of(page)):
+                laws = LAW.findall(words)
+                self.check(f"{page}: '{words}' names a law", laws != [], True)
+                self.check(f"{page}: '{words}': what is not there", [it for law in laws for it in lacking(*law)], [])
+        self.check("not the law of another paragraph", proved_in("We prove it.\n\nlaw: rds_wire x"), ["We prove it."])
+        for law in (("rds_safety", "no_such_law", ""), ("rds_safety", "safe_by_plans", "no_such_clause")):
+            self.check(f"{law} is not there", lacking(*law), [it for it in law if it.startswith("no_")])
+
     def test_the_headline_names_the_options_that_it_needs(self):
         """Without the same --rtplus it is false: test_rtplus plays that."""
         for page, headline in headlines():
-            self.check(f"{page}: options of decode", "`decode` has the same `--pi`, `--m` and `--rtplus`, and no `--confirm`"
-                       in " ".join(headline.split()), True)
+            options = "`decode` has the same `--pi`, `--m` and `--rtplus`, and no `--confirm`"
+            self.check(f"{page}: options of decode", options in " ".join(headline.split()), True)
         audit, = re.findall(r"^\| \*\*Audit\*\*.*$", text_of("docs/TRUST.md"), re.M)
         self.check("what a yes does not say", "`--rtplus`" in audit.split("|")[3], True)
 
