@@ -242,16 +242,17 @@ class AllFaults(ProgramCase):
                        (KINDS, True, True, True))
 
 
-def station(period=30, flips=lambda n: True, tags=None, tail=False, period_of=None, slots=41000):
+def station(period=30, flips=lambda n: True, tags=None, tail=False, period_of=None, slots=41000,
+            song=lambda n: b"ABBA - Song number %04d" % n):
     """Returns an hour of a station with a new text every so many seconds, and the number of its texts. `flips` says of a
-    text whether the flag turns to it; `tags` after how many seconds its tags come; `tail` fills it with spaces."""
+    text whether the flag turns to it; `tags` after how many seconds its tags come; `tail` fills it with spaces; `song` is
+    the text."""
     log, number, flag, text, first, due = [], -1, 0, [], 0, 0.0
     place = 0
     for slot in range(slots):
         if slot * SLOT >= due:
             number += 1
-            body = b"ABBA - Song number %04d\r" % number
-            body = body.ljust(64 if tail else 0)
+            body = (song(number) + b"\r").ljust(64 if tail else 0)
             body += b" " * (-len(body) % 4)
             text = [body[at:at + 4].hex().upper() for at in range(0, len(body), 4)]
             place, first, flag = 0, slot, flag ^ bool(flips(number))

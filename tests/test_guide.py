@@ -28,6 +28,9 @@ FAULTS = [
     ("a tag that is too long", [HI, *[LOST] * 3, THREE], "no 4 TagOutside", [HI, *[LOST] * 3, TWO]),
 ]
 
+# the texts of a station, in their order
+SONGS = [b"ABBA - Dancing Queen", b"Queen - Bohemian Rhapsody", b"Beatles - Hey Jude", b"Bob Dylan - Hurricane",
+         b"Madonna - Like a Prayer", b"The Clash - London Calling", b"Nena - 99 Luftballons"]
 # names of logs, and the answers of the audit
 LOGS = {"a": f"{HI}\n", "b c": f"{HI}\n" * 2, "bad": f"{HI}\nx\n", "changed": f"{HI}\n{HA}\n"}
 ANSWERS = {"a": ["yes 1"], "b c": ["yes 2"], "bad": ["fault line 2"], "changed": ["no 1 Changed"]}
@@ -59,6 +62,12 @@ def with_times(log):
     for slot, line in enumerate(log):
         time = begin + datetime.timedelta(seconds=slot * SLOT)
         yield f"{line} @{time:%Y/%m/%d %H:%M:%S}.{time.microsecond // 10_000:02}\n"
+
+
+def hour_of_short_texts():
+    """Returns the log of the station in the guide: a new text every 8 s, and the tags with it."""
+    log, _ = station(period=8, tags=0, song=lambda number: SONGS[number % len(SONGS)])
+    return "".join(with_times(log)).encode()
 
 
 def careless(roll, slots):
@@ -125,11 +134,24 @@ class Guide(Case):
             self.check(name, got, [f"{answer}\n", f"yes {len(changed)}\n"])
 
     def test_the_counts_of_a_station_with_short_texts(self):
-        log, _ = station(period=8, tags=0)
-        notes = listed(["--running"], "".join(with_times(log)).encode())[2].splitlines()
+        notes = listed(["--running"], hour_of_short_texts())[2].splitlines()
         page = text_of("docs/GUIDE.md").replace(",\n        last in", ", last in")
         self.check("notes of audit --all", [line for line in notes if f"    {line}\n" not in page], [])
         self.check("number of notes", len(notes), 3)
+
+    def test_the_letter_has_the_counts_and_the_text_of_a_station(self):
+        given, letter = hour_of_short_texts(), " ".join(re.findall(r"^> (.*)$", self.text, re.M))
+        place = r"\(line \d+, \S+ (\S+)\.\d+\)"
+        counts = re.findall(rf"(\d+) of (\d+) texts: (\w+), first in slot \d+ {place}, last in slot \d+ {place}",
+                            listed(["--running"], given)[2])
+        self.check("faults", [it[2] for it in counts], ["EarlyFlag", "EarlyTag"])
+        for count, texts, fault, first, last in counts:
+            self.check(f"{fault}: texts", f"Of its {texts} texts," in letter, True)
+            says = rf"{count} break item \d \(`{fault}`, from {first} to {last}\)"
+            self.check(fault, re.search(says, letter) is None, False)
+        found = ran("./rdsrt witness --pi C201", given)
+        first, last, text = re.match(r'lose (\d+)-(\d+): \d+ text "(.*)"\n', found).groups()
+        self.check("a text", f'loses the groups in the slots {first} to {last} shows "{text}"' in letter, True)
 
     def test_each_fault_has_the_time_of_its_line(self):
         """In a log with comments, empty lines and two programmes, whose lines end in a line feed or in CR LF."""

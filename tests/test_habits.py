@@ -53,6 +53,10 @@ HABITS = {
     "fills its texts with spaces up to 64 characters, or ends each with a carriage return": [
         Play([*sent(b"NEWS AT TEN".ljust(64)), *sent(b"ABBA SOS".ljust(64), 1), *sent(b"ROCK SONG".ljust(64))], ["yes 48"]),
         Play([*OLD * 3, *BETWEEN * 3, *NEW * 3], ["yes 27"])],
+    "ends a short text with spaces in its last segment, without a carriage return and without all 16 segments": [
+        Play(sent(b"NEWS AT TEN ") * 3, ["yes 9"], radio=[]),
+        Play(OLD * 3, ["yes 9"], radio=["NEWS AT TEN"]),
+        Play(sent(b"NEWS AT TEN".ljust(64)), ["yes 16"], radio=["NEWS AT TEN".ljust(64)])],
     "sends spaces, zeros or old characters behind the carriage return": [
         Play(sent(b"NEWS\r".ljust(64)), ["no 2 NotOneText"], "in 1 of them it may be harmless"),
         Play(sent(b"NEWS\r".ljust(64, b"\0")), ["no 1 NotOneText"], "in 1 of them it may be harmless"),
