@@ -15,7 +15,7 @@ import time
 import unittest
 
 from tests import radio
-from tests.support import Case, temporary_folder, text_of
+from tests.support import Case, needs, path, temporary_folder, text_of
 from tests.test_commands import ran
 
 BUFFER = 16_384                                              # samples
@@ -213,6 +213,29 @@ class Pages(Case):
         text = text_of("docs/AIR.md").split("## Without hardware\n")[1].split("\n## ")[0]
         call, shown = re.search(r"^    (\./rdsrt .*?)\n\nIt prints:\n\n```text\n(.*?)```", text, re.M | re.S).groups()
         self.check("the trial", ran(call), shown)
+
+    @needs("sox", package="sox")
+    def test_the_lines_for_a_sound_card(self):
+        """With a computed station in place of the card, whose samples come at once: without --live. sox makes them."""
+        section = text_of("docs/AIR.md").split("## At the encoder's output\n")[1].split("\n## ")[0]
+        card, file = re.findall(r"^    (arecord .*\n.*|sox .*)$", section, re.M)
+        case = radio.Case("a sound card", 300, 32, 0, 4, [], False)
+        log, texts = radio.encoded("C201", case.seed, case.slots, case.dwell)
+        folder, raw = temporary_folder(self), "-t raw -e signed -b 16 -c 1"
+        os.symlink(path("examples"), os.path.join(folder, "examples"))
+        with open(os.path.join(folder, "samples"), "wb") as samples:
+            samples.write(transmitted(log))
+        ran(f"sox -q {raw} -r 171k samples mpx.wav rate 192k", folder)
+        sounds, _, rest = card.partition("|")
+        self.check("the card", sounds.split()[-2:], ["-r", "192000"])
+        sent = [line for line in log.decode().splitlines() if line[0] != "#"]
+        for line in (f"sox mpx.wav {raw} - | {rest.replace(' --live', '')}", file):
+            ran(line, folder)
+            with open(os.path.join(folder, "station.log"), encoding="ascii") as got:
+                lines = got.read().splitlines()
+            self.check(f"{line}: groups in a wrong slot", radio.wrong_places(lines, sent), 0)
+            shown = radio.shown(lines, *radio.once(case))
+            self.check(f"{line}: texts", (len(shown) > 2, radio.never_set(shown, texts)), (True, []))
 
     def test_the_pi_that_is_heard_is_passed_on(self):
         """With a computed station in place of the dongle, whose samples come at once: without --live."""
