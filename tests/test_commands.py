@@ -82,6 +82,7 @@ RUN_BY = [
     (r"\./install(?: PREFIX| ~/rdsrt|)$", "test_c_library.Install"),
     (r"python/wheel ", "test_python_package.PythonPackage.test_a_wheel_made_twice_has_the_same_bytes_and_works_alone"),
     (r"experiments/microcontrollers/narrow.py", "test_microcontrollers.Microcontrollers.test_cortex_m4"),
+    (r"arm-none-eabi-gcc ", "test_microcontrollers.Microcontrollers.test_the_line_that_compiles_a_program"),
     (r"bench/(?:guide|corrected)$", "test_guide.Guide.test_its_tables_are_those_that_the_scripts_print"),
     (r"bench/fades$", "test_fades"),
     (r"page/build$", "test_page_build"),

@@ -28,6 +28,14 @@ void entry(void) {
     rdsrt_receiver_view(&receiver, &view);
 }
 """
+# a startup code and a linker script, which lay out all that a program needs
+STARTUP = b"extern int main(void);\nvoid entry(void) { main(); for (;;) {} }\n"
+BOARD = b"""ENTRY(entry)
+SECTIONS {
+    .text 0 : { *(.text*) *(.rodata*) } .ARM.exidx : { *(.ARM.exidx*) }
+    .data 0x20000000 : { *(.data*) } .bss : { *(.bss*) *(COMMON) }
+}
+"""
 # forms that differ on 32 bits, and one that LLVM does not have
 UNKNOWN = ["@other = global i32 0, align 4", "@static.9 = private constant [1 x ptr] [ptr @static.0], align 8",
            "  %x = alloca [2 x ptr], align 8", "  %x = load { i16, ptr }, ptr %y, align 8",
@@ -93,6 +101,20 @@ class Microcontrollers(Case):
 
     def test_cortex_m0plus(self):
         self.on_a_board("cortex-m0plus")
+
+    def test_the_line_that_compiles_a_program(self):
+        """With a startup code and a linker script for no board. The program is not run."""
+        self.built("cortex-m4")
+        line, = re.findall(r"^arm-none-eabi-gcc .*\n.*$", text_of("experiments/microcontrollers/README.md"), re.M)
+        folder = temporary_folder(self)
+        for name in ("include", "experiments"):
+            os.symlink(path(name), os.path.join(folder, name))
+        files = {"main.c": RECEIVER.replace(b"void entry", b"int main"), "startup.c": STARTUP, "board.ld": BOARD}
+        for name, text in files.items():
+            with open(os.path.join(folder, name), "wb") as file:
+                file.write(text)
+        self.check(line, output(["sh", "-c", line], cwd=folder), (0, b""))
+        self.check("what it makes", os.path.exists(os.path.join(folder, "main.elf")), True)
 
     def test_armv7(self):
         (compiler, *language), library = self.built("armv7")
