@@ -4,15 +4,16 @@
 The bars are the output of the program: `encode` gives the log, and `decode` gives the texts of a receiver that loses the
 slots marked L. With --m 65535 the receiver never drops a text, so it has the flag bit alone.
 
-usage: docs/mix.py > docs/mix.svg     needs crates/rdsrt/out/rdsrt
+usage: docs/mix.py [PROGRAM] > docs/mix.svg     runs that program in place of crates/rdsrt/out/rdsrt
 """
 import csv
 import os
 import subprocess
+import sys
 from xml.sax.saxutils import escape
 
 ROOT = os.path.dirname(os.path.dirname(os.path.abspath(__file__)))
-PROGRAM = os.path.join(ROOT, "crates/rdsrt/out/rdsrt")
+PROGRAM = os.path.abspath(sys.argv[1]) if sys.argv[1:] else os.path.join(ROOT, "crates/rdsrt/out/rdsrt")
 RECEIVER, DWELL, ENDLESS, LOST = 1, 8, 65535, "---- ---- ---- ----"
 WIDTH, HEIGHT, GUTTER, TOP, LANE, BAR = 960, 276, 150, 44, 44, 30
 STYLE = """

@@ -1,10 +1,13 @@
 """Runs the tests side by side. The last line is `N passed, M failed, K skipped`: methods of tests, not their checks.
 
-usage: python3 -m tests [--target aarch64] [NAME..]
+usage: python3 -m tests [--target aarch64 | --unproved] [NAME..]
 
 A NAME is a module, a class or a method: test_slots, test_slots.Live, test_slots.Live.test_full_output_is_noted. Each
 class runs in a process of its own. If that ends in the middle of a test, this test has failed, and the next process
 runs the others.
+
+The tests stop if a source is newer than the program. With --unproved they take an unproved build of the sources then,
+which takes 1 to 2 minutes.
 
 --target runs the tests of the program alone, with the program for 64-bit Arm under an emulator. All of them take about
 half an hour on 4 cores.
@@ -31,13 +34,17 @@ running, printing = set(), threading.Lock()
 
 
 def asked():
-    """Returns the arguments. A target goes to the environment, which tests.support reads."""
+    """Returns the arguments. Which program it is goes to the environment, which tests.support reads."""
     words = argparse.ArgumentParser(prog="python3 -m tests", allow_abbrev=False)
-    words.add_argument("--target", choices=["aarch64"])
+    which = words.add_mutually_exclusive_group()
+    which.add_argument("--target", choices=["aarch64"])
+    which.add_argument("--unproved", action="store_true")
     words.add_argument("names", nargs="*", metavar="NAME")
     found = words.parse_args()
     if found.target:
         os.environ["RDSRT_TARGET"] = found.target
+    if found.unproved:
+        os.environ["RDSRT_UNPROVED"] = "1"
     return found
 
 
@@ -179,10 +186,9 @@ def main():
     signal.signal(signal.SIGTERM, lambda *_: sys.exit(1))
     try:
         from tests import support
+        support.found_program()
     except SystemExit as why:
         return no_tests(why)
-    if not os.path.exists(support.PROGRAM):
-        return no_tests(f"there is no {support.PROGRAM}: `rt ci` or tools/build makes it")
     tests = tests_of(words.names)
     if words.target:
         tests = [it for it in tests if isinstance(it, (support.ProgramCase, unittest.loader._FailedTest))]

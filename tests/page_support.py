@@ -1,9 +1,11 @@
 """The tests of the page in real browsers: how they ask the page, and a base class for each browser.
 
-The page is page/out, or the folder that RDSRT_PAGE in the environment names. Each test loads it anew. After a test the
-console of the browser must be empty, and nothing may have been fetched but files of the page.
+The page is page/out, and no older than its sources, or the folder that RDSRT_PAGE in the environment names. Each test
+loads it anew. After a test the console of the browser must be empty, and nothing may have been fetched but files of the
+page.
 """
 import base64
+import glob
 import json
 import os
 import re
@@ -13,6 +15,8 @@ import zlib
 
 from tests import browser, firefox
 from tests.support import PROGRAM, SECONDS, Case, bytes_of, path
+
+from crates import is_stale, listed
 
 FOLDER = os.path.abspath(os.environ.get("RDSRT_PAGE") or path("page/out"))
 URL = f"file://{FOLDER}/index.html"
@@ -200,6 +204,18 @@ def packed(script):
     return base64.urlsafe_b64encode(deflate.compress(script) + deflate.flush()).decode().rstrip("=")
 
 
+def why_no_page():
+    """Returns why there is no page to test, or None: it is missing, or page/out is older than what page/build puts into it."""
+    page = os.path.join(FOLDER, "index.html")
+    if not os.path.isfile(page):
+        return f"no page in {FOLDER}: page/build makes it"
+    if "RDSRT_PAGE" in os.environ:
+        return None
+    parts = [it for at in ("page/*", "page/*/*", "examples/*.*") for it in glob.glob(path(at)) if os.path.isfile(it)]
+    return f"the page in {FOLDER} is older than its sources: page/build makes it anew" if is_stale(
+        page, "rds_wasm", listed(), *parts) else None
+
+
 # ---- the browsers
 
 
@@ -221,8 +237,8 @@ class PageCase(Case):
     def setUpClass(cls):
         if not cls.driver.program():
             raise unittest.SkipTest(f"{cls.name} cannot be driven here (apt-get install {cls.packages})")
-        if not os.path.isfile(os.path.join(FOLDER, "index.html")):
-            raise RuntimeError(f"no page in {FOLDER}: page/build makes it")
+        if why_no_page():
+            raise RuntimeError(why_no_page())
         cls.b = cls.driver.Browser()
         cls.addClassCleanup(cls.b.close)
         if not cls.b.run(IS_NEW):

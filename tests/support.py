@@ -1,6 +1,8 @@
 """What all tests share: paths, the program, time limits, calls of programs, and the base classes.
 
-RDSRT_TARGET=aarch64 in the environment gives the tests the program for 64-bit Arm, which runs under an emulator.
+The program is the one that tools/build or `rt ci` made. The tests stop if a source is newer. RDSRT_UNPROVED=1 in the
+environment gives them the program that ./rdsrt runs: if none of these sources is proved, an unproved build of them.
+RDSRT_TARGET=aarch64 gives them the program for 64-bit Arm, which runs under an emulator.
 RDSRT_CASE=12 makes the tests with cases by chance try case 12 alone.
 """
 import atexit
@@ -20,9 +22,11 @@ import traceback
 import unittest
 
 ROOT = os.path.dirname(os.path.dirname(os.path.abspath(__file__)))
-# the tests import crates and targets from there
+# the tests import targets from there too
 sys.path.insert(1, os.path.join(ROOT, "tools"))
-TARGET = os.environ.get("RDSRT_TARGET")
+from crates import is_stale, listed
+
+TARGET, UNPROVED = os.environ.get("RDSRT_TARGET"), os.environ.get("RDSRT_UNPROVED")
 # the number of the one case that is tried of those by chance
 ONLY = os.environ.get("RDSRT_CASE")
 # seconds after which a call has failed: much longer than it takes on a busy machine or an emulator, since each wait ends as
@@ -82,19 +86,42 @@ def target_program():
     return emulated.wrapped(emulated.ARM.built("rdsrt", "rdsrt"), folder)
 
 
+def proved_program():
+    """Returns the path of the proved program. Ends the tests if it is missing, or older than a source."""
+    made = "crates/rdsrt/out/rdsrt"
+    if is_stale(path(made), "rdsrt", listed()):
+        why = "is older than its sources" if os.path.exists(path(made)) else "is missing"
+        sys.exit(f"{made} {why}: tools/build proves and builds it. To test an unproved build of the sources, in 1 to 2 minutes: "
+                 "python3 -m tests --unproved, or RDSRT_UNPROVED=1 python3 -m unittest")
+    return path(made)
+
+
+def unproved_program():
+    """Returns the path of the program that ./rdsrt runs. It is built first if that is needed."""
+    done = subprocess.run([path("tools/unproved")], stdin=subprocess.DEVNULL, stdout=subprocess.PIPE, text=True)
+    if done.returncode:
+        sys.exit("tools/unproved did not build the program")
+    return done.stdout.strip()
+
+
 def found_program():
     """Returns the path of the program. The processes that this one starts take the same program."""
-    if TARGET and "RDSRT_ON_TARGET" not in os.environ:
-        os.environ["RDSRT_ON_TARGET"] = target_program()
-    return os.environ["RDSRT_ON_TARGET"] if TARGET else path("crates/rdsrt/out/rdsrt")
+    if "RDSRT_TESTED" not in os.environ:
+        find = target_program if TARGET else unproved_program if UNPROVED else proved_program
+        os.environ["RDSRT_TESTED"] = find()
+    return os.environ["RDSRT_TESTED"]
 
 
-PROGRAM = found_program()
+def __getattr__(name):
+    """Gives PROGRAM, the path of the program, to a module that imports it. Other modules load without a program."""
+    if name != "PROGRAM":
+        raise AttributeError(name)
+    return found_program()
 
 
 def ran(words, given=b"", program=None, **more):
     """Returns the status and the output of the program for these arguments and this input, without standard error."""
-    done = subprocess.run([program or PROGRAM, *words], input=given, stdout=subprocess.PIPE, stderr=subprocess.DEVNULL,
+    done = subprocess.run([program or found_program(), *words], input=given, stdout=subprocess.PIPE, stderr=subprocess.DEVNULL,
                           timeout=SECONDS, **more)
     return done.returncode, done.stdout
 

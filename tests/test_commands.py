@@ -9,7 +9,7 @@ import shutil
 import stat
 import subprocess
 
-from tests.support import PROGRAM, ROOT, SECONDS, Case, temporary_folder, text_of
+from tests.support import ROOT, SECONDS, Case, found_program, temporary_folder, text_of
 
 MANUAL = "docs/man/rdsrt.1"
 HELP = ["tests/shown/help.txt",
@@ -180,7 +180,7 @@ def is_there(name):
 def ran(call, folder=ROOT, errors=subprocess.STDOUT):
     """Returns the output of lines of a page, with the built program as ./rdsrt and as rdsrt."""
     # the proved program comes before the script of the same name, which may run one that is not proved
-    paths = [os.path.dirname(PROGRAM), folder, os.path.join(ROOT, "examples"), os.environ["PATH"]]
+    paths = [os.path.dirname(found_program()), folder, os.path.join(ROOT, "examples"), os.environ["PATH"]]
     environment = {**os.environ, "LC_ALL": "C.UTF-8", "PATH": os.pathsep.join(paths)}
     done = subprocess.run(["bash", "-c", call.replace("./rdsrt", "rdsrt")], cwd=folder, stdin=subprocess.DEVNULL,
                           stdout=subprocess.PIPE, stderr=errors, timeout=SECONDS, env=environment)

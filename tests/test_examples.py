@@ -4,7 +4,7 @@ import os
 import re
 import subprocess
 
-from tests.support import PROGRAM, ROOT, SECONDS, Case, text_of
+from tests.support import ROOT, SECONDS, Case, found_program, text_of
 
 # file, its point, command, line of the output
 ROW = re.compile(r"^\| `([^`]+)` \| [^|]+ \| `([^`|]+)` \| `([^`|]+)` \|$", re.M)
@@ -28,7 +28,7 @@ def status_of(line):
 
 def ran(command):
     """Returns the status and the output of the command, with the built program in place of ./rdsrt."""
-    environment = {**os.environ, "RDSRT": PROGRAM}
+    environment = {**os.environ, "RDSRT": found_program()}
     call = command.replace("./rdsrt ", '"$RDSRT" ')
     done = subprocess.run(["bash", "-c", call], cwd=ROOT, stdout=subprocess.PIPE, stderr=subprocess.DEVNULL,
                           timeout=SECONDS,

@@ -4,7 +4,7 @@
 the flag bit alone then shows no text that nobody set, also after restarts if the empty text comes first. Without the
 empty text it shows some.
 """
-from tests.support import Case, script
+from tests.support import PROGRAM, Case, script
 
 LONGEST, RUNS = 240, 1
 
@@ -13,6 +13,7 @@ class Fades(Case):
     def play(self, place, is_right):
         """Plays a station of bench/fades with each fade. The rule says how many of its texts may be mixed."""
         fades = script("bench/fades")
+        fades.PROGRAM = PROGRAM
         name, station = fades.STATIONS[place]
         for fade in (it for it in fades.FADES if it <= LONGEST):
             wrong, count = fades.played(station, fade, RUNS)

@@ -97,7 +97,7 @@ class Guide(Case):
 
     def test_its_tables_are_those_that_the_scripts_print(self):
         rows = {line.strip() for line in self.text.splitlines() if line.strip().startswith("|")}
-        for script in ("bench/guide", "bench/corrected"):
+        for script in ("bench/guide ./rdsrt", "bench/corrected"):
             printed = {line for line in ran(script).splitlines() if line}
             self.check(f"{script} prints a table", len(printed) > 5, True)
             self.check(f"the tables of {script}", printed - rows, set())

@@ -4,7 +4,7 @@ import os
 import re
 import subprocess
 
-from tests.support import PROGRAM, ROOT, SECONDS, Case, script, text_of
+from tests.support import ROOT, SECONDS, Case, found_program, ran, script, text_of
 from tests.test_commands import MANUAL, manual
 import crates
 from shipped import anchors
@@ -95,8 +95,7 @@ class Pages(Case):
 
     def test_each_version_is_that_of_the_program(self):
         """tools/release asks the same. tests/c/calls.c compares the library with the header."""
-        version = subprocess.run([PROGRAM, "--version"], capture_output=True, text=True,
-                                 timeout=SECONDS).stdout.split()[1]
+        version = ran(["--version"])[1].decode().split()[1]
         release = script("tools/release")
         self.check("version in ABOUT", re.findall(r"^version: (.*)$", text_of("ABOUT"), re.M), [version])
         for path in release.PLACES:
@@ -117,5 +116,5 @@ class Pages(Case):
         self.check("the lines are in the sources", missing, [])
 
     def test_the_picture_is_what_its_script_draws(self):
-        done = subprocess.run([os.path.join(ROOT, "docs/mix.py")], stdout=subprocess.PIPE, timeout=SECONDS)
+        done = subprocess.run([os.path.join(ROOT, "docs/mix.py"), found_program()], stdout=subprocess.PIPE, timeout=SECONDS)
         self.check("docs/mix.svg is what docs/mix.py draws", done.stdout.decode(), text_of("docs/mix.svg"))
