@@ -115,7 +115,9 @@ pub fn read_words<'a>(alloc: Global, words: &'a [&'a str]) -> Result<Option<Requ
 }
 
 /// Returns the request that was read, if there is one.
-pub fn request_in<'a>(read: &Result<Option<Request<'a>>, Error>) -> Option<Request<'a>> {
+pub fn request_in<'a>(read: &Result<Option<Request<'a>>, Error>) -> Option<Request<'a>>
+    ensures as_read { IfOk read.now (λ o. option_map asked_by o ≡ option_map asked_by result) }
+{
     match read {
         // Prover: a value with a lifetime is not copied from behind a reference (docs/PROVER.md, "Workarounds").
         Ok(Some(request)) => Some(Request {
