@@ -156,6 +156,11 @@ def needs(*programs, package=None):
     return unittest.skipIf(missing(*programs), missing(*programs, package=package))
 
 
+def needs_proved(test):
+    """Skips a test of the program's memory or instructions if the program may be one that is not proved."""
+    return unittest.skipIf(UNPROVED, "an unproved program takes other memory and more instructions")(test)
+
+
 def temporary_folder(test):
     """Makes a folder that goes with the test, or with the class of tests."""
     folder = tempfile.TemporaryDirectory()

@@ -4,7 +4,7 @@ import subprocess
 
 from tests import preload
 from tests.calls import AUDIT, DECODE, ENCODE, FLAGS, LOSE, SHOWS_HI, SIM, SLOTS, TIMED, WITNESS
-from tests.support import PROGRAM, SECONDS, Case, ProgramCase, path, ran, temporary_folder
+from tests.support import PROGRAM, SECONDS, Case, ProgramCase, needs_proved, path, ran, temporary_folder
 from tests.worked_rows import ENCODED_SCRIPT, HI, TAGS_ON_AIR, radios_and_what_is_on_air
 
 RADIOS = radios_and_what_is_on_air()[3]
@@ -37,6 +37,7 @@ def library_for(test):
     return preload.made("refuse_memory.c", temporary_folder(test))
 
 
+@needs_proved
 class Program(ProgramCase):
     def test_each_refused_request_ends_in_a_memory_fault(self):
         """At most one refusal changes nothing: a list that cannot move to a smaller block stays in its block."""

@@ -5,7 +5,7 @@ import sys
 import tempfile
 import unittest
 
-from tests.support import PROGRAM, TARGET, ProgramCase, path, text_of
+from tests.support import PROGRAM, TARGET, ProgramCase, needs_proved, path, text_of
 
 sys.path.insert(1, path("bench"))
 import tasks
@@ -28,6 +28,7 @@ def stated():
     return dict(zip(re.findall("`(.*?)`", head), (int(it.replace(",", "")) for it in row.split("|"))))
 
 
+@needs_proved
 @unittest.skipIf(TARGET or not shutil.which("valgrind"), "needs valgrind (apt-get install valgrind)")
 class Speed(ProgramCase):
     def test_no_number_is_above_that_of_the_page(self):
