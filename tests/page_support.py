@@ -14,9 +14,7 @@ import unittest
 import zlib
 
 from tests import browser, firefox
-from tests.support import PROGRAM, SECONDS, Case, bytes_of, path
-
-from crates import is_stale, listed
+from tests.support import PROGRAM, SECONDS, Case, bytes_of, path, why_not_tested
 
 FOLDER = os.path.abspath(os.environ.get("RDSRT_PAGE") or path("page/out"))
 URL = f"file://{FOLDER}/index.html"
@@ -206,14 +204,11 @@ def packed(script):
 
 def why_no_page():
     """Returns why there is no page to test, or None: it is missing, or page/out is older than what page/build puts into it."""
-    page = os.path.join(FOLDER, "index.html")
-    if not os.path.isfile(page):
-        return f"no page in {FOLDER}: page/build makes it"
     if "RDSRT_PAGE" in os.environ:
-        return None
+        return None if os.path.isfile(os.path.join(FOLDER, "index.html")) else f"no page in {FOLDER}"
     parts = [it for at in ("page/*", "page/*/*", "examples/*.*") for it in glob.glob(path(at)) if os.path.isfile(it)]
-    return f"the page in {FOLDER} is older than its sources: page/build makes it anew" if is_stale(
-        page, "rds_wasm", listed(), *parts) else None
+    why = why_not_tested("page/out/index.html", "rds_wasm", *parts)
+    return f"{why}: page/build makes it" if why else None
 
 
 # ---- the browsers

@@ -86,12 +86,20 @@ def target_program():
     return emulated.wrapped(emulated.ARM.built("rdsrt", "rdsrt"), folder)
 
 
+def why_not_tested(made, crate, *more):
+    """Returns why no test may take this built file of a crate, or None: it is missing, or older than a source of the crate or
+    one of these files more."""
+    if not is_stale(path(made), crate, listed(), *more):
+        return None
+    return f"{made} is {'older than its sources' if os.path.exists(path(made)) else 'missing'}"
+
+
 def proved_program():
     """Returns the path of the proved program. Ends the tests if it is missing, or older than a source."""
     made = "crates/rdsrt/out/rdsrt"
-    if is_stale(path(made), "rdsrt", listed()):
-        why = "is older than its sources" if os.path.exists(path(made)) else "is missing"
-        sys.exit(f"{made} {why}: tools/build proves and builds it. To test an unproved build of the sources, in 1 to 2 minutes: "
+    why = why_not_tested(made, "rdsrt")
+    if why:
+        sys.exit(f"{why}: tools/build proves and builds it. To test an unproved build of the sources, in 1 to 2 minutes: "
                  "python3 -m tests --unproved, or RDSRT_UNPROVED=1 python3 -m unittest")
     return path(made)
 

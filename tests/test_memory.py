@@ -1,10 +1,9 @@
 """Requests for memory that are refused, each in turn: refuse_memory.c is loaded with the program."""
-import os
 import subprocess
 
 from tests import preload
 from tests.calls import AUDIT, DECODE, ENCODE, FLAGS, LOSE, SHOWS_HI, SIM, SLOTS, TIMED, WITNESS
-from tests.support import PROGRAM, SECONDS, Case, ProgramCase, needs_proved, path, ran, temporary_folder
+from tests.support import PROGRAM, SECONDS, Case, ProgramCase, needs_proved, path, ran, temporary_folder, why_not_tested
 from tests.worked_rows import ENCODED_SCRIPT, HI, TAGS_ON_AIR, radios_and_what_is_on_air
 
 RADIOS = radios_and_what_is_on_air()[3]
@@ -82,9 +81,10 @@ class TestsOfCrates(Case):
     def test_the_tests_pass_whichever_request_is_refused(self):
         library, passed = library_for(self), (0, b"\ntest result: ok\n")
         for crate, test in TESTS_OF_CRATES:
-            program = os.path.join(path("crates"), crate, "out", f"{crate}_tests")
+            made = f"crates/{crate}/out/{crate}_tests"
+            self.check("`rt test` in the crate builds it", why_not_tested(made, crate), None)
             for number in range(1, 1000):
-                got, refused = preload.refusing(library, [test], b"", number, program)
+                got, refused = preload.refusing(library, [test], b"", number, path(made))
                 self.check(f"{test}: request {number} refused", got, passed)
                 if not refused:
                     break
