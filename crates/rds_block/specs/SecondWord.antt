@@ -1,7 +1,6 @@
 -- Lemmas about block 2: its fields are joined to it, and no other fields have the same sum.
-use Rattle.std.proofs.Common.{[], ◌∷◌, ◌≡◌, ◌+◌, ◌*◌, ◌<◌, ◌%◌, ◌^◌, ◌∙◌}
-use Rattle.std.proofs.Common.{List, length, get_or, ℕ, Bool, true}
-use Rattle.std.proofs.Common.{false, bit_or, refl, sym, arith}
+use Rattle.std.proofs.Common.{[], ◌∷◌, ◌≡◌, ◌+◌, ◌*◌, ◌<◌, ◌%◌, ◌^◌, ◌∙◌, List, length, get_or, ℕ, Bool, true, false}
+use Rattle.std.proofs.Common.{bit_or, refl, sym, arith}
 use Rattle.std.proofs.lemmas.Nat.{or_shifted}
 use Rattle.std.specs.Int.{from_bool}
 use Rattle.rds_block.specs.declared.group.Group.{Group}

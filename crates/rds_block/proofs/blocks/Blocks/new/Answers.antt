@@ -1,42 +1,23 @@
-use Rattle.std.proofs.Common.{rules, ◌≡◌, ◌+◌, ◌*◌, ◌^◌, ◌<◌, ◌/◌, ◌%◌, ◌∙◌, ℕ, [], ◌∷◌, length, get_or, arith}
+use Rattle.std.proofs.lemmas.Bool.Decides.{nat_tests}
+use Rattle.std.proofs.Common.{rules, ◌≡◌, ◌+◌, ◌*◌, ◌^◌, ◌<◌, ◌%◌, ◌∙◌, ℕ, [], ◌∷◌, length, get_or, arith}
 use lib.Lanes.{digits_l, number_l}
-use Rattle.rds_block.specs.Bits.{bit_at_is, group_in}
+use Rattle.rds_block.specs.Bits.{group_in}
 use Rattle.rds_block.specs.SecondWord.{four}
-use Rattle.rds_block.specs.Words.{second_word_of, words_of}
+use Rattle.rds_block.specs.Words.{words_of}
 use Rattle.rds_block.proofs.blocks.Blocks.new.Goals as goal
 
 -- the number of four words
 abbrev number : ℕ → ℕ → ℕ → ℕ → ℕ
 number a b c d = 2 ^ 48 * a + 2 ^ 32 * b + 2 ^ 16 * c + d
 
--- the eight bytes of a number make that number
-bytes_again : (n : ℕ) → n < 2 ^ 64 → number_l 256 (digits_l 256 8 n) ≡ n
-bytes_again n h = omega arith
-
 -- four lanes of 16 bits, the lowest first, hold their number
 joined : (a b c d : ℕ) → a < 65536 → b < 65536 → c < 65536 → d < 65536
     → number_l 256 (digits_l 256 8 (d + 65536 * (c + 65536 * (b + 65536 * (a + 0))))) % 2 ^ 64 ≡ number a b c d
-joined a b c d ha hb hc hd =
-    let n = d + 65536 * (c + 65536 * (b + 65536 * (a + 0))) in
-    let small : n < 2 ^ 64 = omega arith in
-    rw (bytes_again n small) (omega arith)
-
-second : (a b c d : ℕ) → b < 65536 → c < 65536 → d < 65536 → b ≡ second_word_of (group_in (number a b c d))
-second a b c d hb hc hd =
-    let n = number a b c d in
-    let version = bit_at_is 43 n in
-    let tp = bit_at_is 42 n in
-    omega arith
+joined a b c d ha hb hc hd = grind (arith, nat_tests)
 
 words : (a b c d : ℕ) → b < 65536 → c < 65536 → d < 65536
     → a ∷ b ∷ c ∷ d ∷ [] ≡ words_of (group_in (number a b c d))
-words a b c d hb hc hd =
-    let n = number a b c d in
-    let first : a ≡ n / 2 ^ 48 = omega arith in
-    let e = second a b c d hb hc hd in
-    let third : c ≡ n / 2 ^ 16 % 65536 = omega arith in
-    let fourth : d ≡ n % 65536 = omega arith in
-    λ i. first i ∷ e i ∷ third i ∷ fourth i ∷ []
+words a b c d hb hc hd = grind (arith, nat_tests)
 
 pub returns : goal.returns
 returns c =
