@@ -46,8 +46,7 @@ bytes_agree : agree_below 256 ≡ true
 bytes_agree = refl
 
 both : (a b : Bool) → (a && b) ≡ true → (a ≡ true) × (b ≡ true)
-both true b e = (refl, e)
-both false b e = absurd (cc)
+both a b e = grind (arith, nat_tests)
 
 agrees_at : (n b : ℕ) → agree_below n ≡ true → b < n → agrees b ≡ true
 agrees_at zero b t h = absurd (omega arith)
@@ -91,18 +90,7 @@ Passes text at = (slice_index text at < 256) × (passes (slice_index text at) �
 
 pub has_word : (text : List ℕ) (at : ℕ) → Passes text at → Passes text (at + 1) → Passes text (at + 2)
     → Passes text (at + 3) → HasWord text at (word_of text at)
-has_word text at a b c d =
-    let p = is_digit _ a.0 a.1 in
-    let q = is_digit _ b.0 b.1 in
-    let r = is_digit _ c.0 c.1 in
-    let s = is_digit _ d.0 d.1 in
-    record {
-      first = p.0;
-      second = q.0;
-      third = r.0;
-      fourth = s.0;
-      word = rw (p.1, q.1, r.1, s.1) (weighed_is _ _ _ _ p.0 q.0 r.0 s.0);
-    }
+has_word text at a b c d = grind (arith, nat_tests, is_digit, weighed_is)
 
 -- a word that is read fits sixteen bits
 pub word_fits : (text : List ℕ) (at : ℕ) → HasWord text at (word_of text at) → word_of text at < 65536

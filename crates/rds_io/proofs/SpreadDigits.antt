@@ -1,7 +1,6 @@
 -- Lemmas: the digits of words that are spread out, with a number below 16 in each byte of a lane.
-use Rattle.std.proofs.Common.{◌≡◌, ◌+◌, ◌*◌, ◌/◌, ◌%◌, ◌<◌, ◌∙◌, ◌&&◌, Bool, ℕ, ap, arith, bit_and, cond, false, inl}
-use Rattle.std.proofs.Common.{inr, nat_eq, refl, suc, true, zero}
-use Rattle.std.proofs.lemmas.Bool.{cases_lt}
+use Rattle.std.proofs.Common.{◌≡◌, ◌+◌, ◌*◌, ◌/◌, ◌%◌, ◌<◌, ◌∙◌, ◌&&◌, Bool, ℕ, ap, arith, bit_and, cond}
+use Rattle.std.proofs.Common.{nat_eq, refl, suc, true, zero}
 use Rattle.std.proofs.lemmas.Bool.Decides.{nat_tests}
 use Rattle.std.proofs.lemmas.Nat.{and_mask}
 use lib.Dec.{ltb}
@@ -17,21 +16,9 @@ abbrev same_below : ℕ → Bool
 same_below zero = true
 same_below (suc n) = nat_eq (digit n) (upper_digit n) && same_below n
 
-both : (a b : Bool) → (a && b) ≡ true → (a ≡ true) × (b ≡ true)
-both true b e = (refl, e)
-both false b e = absurd (cc)
-
 same_at : (k n : ℕ) → same_below k ≡ true → n < k → digit n ≡ upper_digit n
 same_at zero n t h = absurd (omega arith)
-same_at (suc k) n t h =
-    let tests = both (nat_eq (digit k) (upper_digit k)) (same_below k) t in
-    elim (cases_lt n k) [
-      | inl less ↦ same_at k n tests.1 less
-      | inr last ↦ (let at : n ≡ k = omega arith in rw at (same _ _ tests.0))
-    ]
-  where
-    same : (a c : ℕ) → nat_eq a c ≡ true → a ≡ c
-    same a c e = grind (arith, nat_tests)
+same_at (suc k) n t h = grind (arith, nat_tests, same_at k n)
 
 shown : (b n : ℕ) → b ≡ n → n < 16 → digit b ≡ upper_digit n
 shown b n e h = ap digit e ∙ same_at 16 n refl h
@@ -63,14 +50,4 @@ bytes n a b c d above ha hb hc hd e = (omega arith, omega arith, omega arith, om
 
 -- the spread digits of a word show it
 pub shows : (n w above : ℕ) → w < 65536 → n ≡ spread w + 4294967296 * above → Shows n w above
-shows n w above h e =
-    let is = spread_is w h in
-    let (first, second, third, fourth, rest) = bytes n (w / 4096) (w / 256 % 16) (w / 16 % 16) (w % 16) above
-    (omega arith) (omega arith) (omega arith) (omega arith) (omega (arith, e, is)) in
-    record {
-      first = shown _ _ first (omega arith);
-      second = shown _ _ second (omega arith);
-      third = shown _ _ third (omega arith);
-      fourth = shown _ _ fourth (omega arith);
-      rest = rest;
-    }
+shows n w above h e = search (arith, spread_is, bytes, shown)

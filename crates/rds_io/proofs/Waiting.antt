@@ -1,5 +1,6 @@
 -- How waiting output goes on: more waits, it is written, or the writer fails at it.
-use Rattle.std.proofs.Common.{◌≡◌, ◌++◌, ◌∙◌, ℕ, List, [], Option, ap, append_assoc, refl, subst, sym}
+use Rattle.std.proofs.Common.{arith, ◌≡◌, ◌++◌, ◌∙◌, ℕ, List, [], Option, ap, append_assoc, refl, subst, sym}
+use Rattle.std.proofs.lemmas.Bool.Decides.{nat_tests}
 use Rattle.std.specs.Prelude.{Ok}
 use Rattle.std.proofs.lemmas.List.{append-nil}
 use Rattle.std.proofs.KnownBytes.{Appends-nil, Appends-trans}
@@ -62,7 +63,4 @@ lost_longer w total more lost = record {
 -- nothing waits: all output was written
 pub wrote_all : (w : Traffic) (waiting total : List ℕ) → Waits w waiting total → waiting ≡ []
     → Appends w.before w.after total
-wrote_all w waiting total has none =
-    let all : has.written ≡ total = sym (ap (λ (l : List ℕ). has.written ++ l) none ∙ append-nil has.written)
-    ∙ has.all in
-    rw all at has.wrote
+wrote_all w waiting total has none = grind (arith, nat_tests, append-nil)

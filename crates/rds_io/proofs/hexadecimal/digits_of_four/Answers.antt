@@ -1,4 +1,5 @@
-use Rattle.std.proofs.Common.{◌+◌, ◌*◌, ◌/◌, [], ◌∷◌, arith, get_or, refl}
+use Rattle.std.proofs.lemmas.Bool.Decides.{nat_tests}
+use Rattle.std.proofs.Common.{◌+◌, ◌*◌, ◌/◌, arith, get_or, refl}
 use Rattle.rds_io.proofs.SpreadDigits.{shows, spread}
 use Rattle.rds_io.proofs.hexadecimal.digits_of_four.Goals as goal
 
@@ -18,6 +19,4 @@ returns c =
     t.rest in
     let v = shows (n / 256 / 256 / 256 / 256 / 256 / 256 / 256 / 256 / 256 / 256 / 256 / 256) d 0
     (omega (arith, c.element_fits4.fits)) (rw u.rest refl) in
-    rw (c.from.ensures, c.from-2.ensures, c.from-3.ensures, c.from-4.ensures)
-    (λ i. s.first i ∷ s.second i ∷ s.third i ∷ s.fourth i ∷ t.first i ∷ t.second i ∷ t.third i ∷ t.fourth i ∷ u.first i
-    ∷ u.second i ∷ u.third i ∷ u.fourth i ∷ v.first i ∷ v.second i ∷ v.third i ∷ v.fourth i ∷ [])
+    grind (arith, nat_tests)

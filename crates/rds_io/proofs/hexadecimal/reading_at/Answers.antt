@@ -1,5 +1,5 @@
-use Rattle.std.proofs.Common.{◌≡◌, ◌+◌, ◌*◌, ℕ, arith, subst, sym}
-use Rattle.rds_io.specs.Digits.{HasWord}
+use Rattle.std.proofs.lemmas.Bool.Decides.{nat_tests}
+use Rattle.std.proofs.Common.{◌≡◌, ◌+◌, ◌*◌, ℕ, arith}
 use Rattle.rds_io.proofs.Digits.{has_no_word, has_word}
 use Rattle.rds_io.proofs.hexadecimal.reading_at.Goals as goal
 
@@ -11,28 +11,13 @@ pub overflow_add-result : goal.overflow_add-result
 overflow_add-result c = omega (arith, c.value_of-first.ensures.small, c.value_of-second.ensures.small)
 
 pub overflow_add-result-2 : goal.overflow_add-result-2
-overflow_add-result-2 c = omega (
-  arith,
-  c.value_of-first.ensures.small,
-  c.value_of-second.ensures.small,
-  c.value_of-third.ensures.small,
-)
+overflow_add-result-2 c = grind (arith, nat_tests)
 
 pub overflow_add-result-3 : goal.overflow_add-result-3
-overflow_add-result-3 c = omega (
-  arith,
-  c.value_of-first.ensures.small,
-  c.value_of-second.ensures.small,
-  c.value_of-third.ensures.small,
-  c.value_of-fourth.ensures.small,
-)
+overflow_add-result-3 c = grind (arith, nat_tests)
 
 pub returns-clause-word : goal.returns-clause-word
-returns-clause-word c small =
-    let e = sum_of _ _ _ _ _ _ _ _ c.value_of-first.ensures.value c.value_of-second.ensures.value
-    c.value_of-third.ensures.value c.value_of-fourth.ensures.value in
-    subst (λ (n : ℕ). HasWord c.args.text.now c.args.place n) (sym e) (has_word c.args.text.now c.args.place
-    (omega (arith, e, small)))
+returns-clause-word c small = search (arith, sum_of, has_word)
 
 pub returns-clause-none : goal.returns-clause-none
 returns-clause-none c large w has =

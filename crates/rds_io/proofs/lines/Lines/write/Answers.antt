@@ -1,7 +1,6 @@
-use Rattle.std.proofs.Common.{◌≡◌, [], rules}
-use Rattle.std.specs.Prelude.{Ok}
+use Rattle.std.proofs.Common.{arith, rules}
+use Rattle.std.proofs.lemmas.Bool.Decides.{nat_tests}
 use Rattle.std.proofs.lemmas.Result.{err_from_is_err_and}
-use Rattle.rds_io.specs.Puts.{Puts}
 use Rattle.rds_io.specs.Told.{AppendsPrefix, HasFailed, traffic}
 use Rattle.rds_io.proofs.Waiting.{loses, writes}
 use Rattle.rds_io.proofs.lines.Lines.write.Goals as goal
@@ -16,9 +15,4 @@ returns-in_err-put-clause-waits g c start total has =
     t.failures_before t.failures_after has part failed)
 
 pub returns-clause-waits : goal.returns-clause-waits
-returns-clause-waits g c start total has =
-    let t = traffic g.W.Write.contents g.W.TellingWrite.failures c.args.writer.now c.put.new.writer in
-    let none : c.clear.new.self.items ≡ [] = search rules in
-    let all : Puts t c.args.self.now (Ok tt) = search rules in
-    writes c.args.self.now c.clear.new.self.items total (g.W.Write.contents start) t.before t.after
-    (g.W.TellingWrite.failures start) t.failures_before t.failures_after has none all
+returns-clause-waits g c start total has = grind (arith, nat_tests, writes)
