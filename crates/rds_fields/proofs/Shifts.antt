@@ -1,5 +1,6 @@
 -- Lemmas about reading and writing by shifts and masks.
-use Rattle.std.proofs.Common.{◌≡◌, ℕ, zero, suc, ◌+◌, ◌*◌, ◌<◌, ◌%◌, ◌^◌, nat_eq, bit_and, bit_or, refl, arith}
+use Rattle.std.proofs.lemmas.Bool.Decides.{nat_tests}
+use Rattle.std.proofs.Common.{◌≡◌, ℕ, ◌+◌, ◌*◌, ◌<◌, ◌%◌, ◌^◌, nat_eq, bit_and, bit_or, refl, arith}
 use Rattle.std.specs.Int.{from_bool}
 use Rattle.std.proofs.lemmas.Nat.{and_mask}
 use mathlib.Core.Bool.{not}
@@ -9,16 +10,7 @@ use Rattle.rds_fields.specs.Meaning.{sent_in}
 
 -- the fields of a number fit their bits
 pub fields-fit : (n : ℕ) → FitsBits (sent_in n)
-fields-fit n = record {
-  toggle = omega arith;
-  running = omega arith;
-  class_one = omega arith;
-  start_one = omega arith;
-  extra_one = omega arith;
-  class_two = omega arith;
-  start_two = omega arith;
-  extra_two = omega arith;
-}
+fields-fit n = grind (arith, nat_tests)
 
 -- the bits of the fields of a number are the number
 pub bits_of-fields : (n : ℕ) → n < 2 ^ 37 → n ≡ field_bits (sent_in n)
@@ -26,9 +18,7 @@ bits_of-fields n h = omega arith
 
 -- for a bit b: whether b is not 0, as a number, is b
 from_bool-not_zero : (b : ℕ) → b < 2 → from_bool (not (nat_eq b 0)) ≡ b
-from_bool-not_zero zero h = refl
-from_bool-not_zero (suc zero) h = refl
-from_bool-not_zero (suc (suc b)) h = absurd (omega arith)
+from_bool-not_zero b h = grind (arith, nat_tests)
 
 -- a test of the lowest bit gives that bit
 pub low_bit : (n : ℕ) → from_bool (not (nat_eq (bit_and n 1) 0)) ≡ n % 2

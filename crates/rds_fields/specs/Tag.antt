@@ -1,8 +1,7 @@
 -- A tag marks a piece of the text. It has a class, a start (the place of the first character, from 0) and a length
 -- marker (the number of characters less one) (IEC 62106-6, RadioText Plus).
-use Rattle.std.specs.Prelude.{◌≡◌, ◌+◌, ◌<◌, ◌==◌, ◌||◌, ◌&&◌}
-use Rattle.std.specs.Prelude.{ℕ, List, Bool, true, Option, Some, None, length}
-use Rattle.std.specs.Prelude.{take, drop, nat_le, nat_lt, if◌then◌else◌}
+use Rattle.std.specs.Prelude.{◌≡◌, ◌+◌, ◌<◌, ◌==◌, ◌||◌, ◌&&◌, ℕ, List, Bool, true, Option, Some, None, length, take}
+use Rattle.std.specs.Prelude.{drop, nat_le, nat_lt, if◌then◌else◌}
 use Rattle.rds_fields.specs.declared.pair.Which.{Which}
 use Rattle.rds_fields.specs.declared.pair.Which.TheVariants.{One, Two}
 
