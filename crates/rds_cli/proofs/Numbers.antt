@@ -1,11 +1,12 @@
 -- Numbers that the words give.
-use Rattle.std.proofs.Common.{◌≡◌, ◌≤◌, ◌<◌, ◌-◌, ◌^◌, ◌&&◌, ℕ, Bool, true, false, List, [], ◌∷◌, Option, Some, None}
-use Rattle.std.proofs.Common.{Result, Ok, Err, inl, inr, refl, sym, ◌∙◌, ap, arith, nat_lt}
-use Rattle.std.specs.Prelude.{◌↔◌, IfSome, IsSome, if◌then◌else◌, length, nat_le, option_and_then}
+use Rattle.std.proofs.lemmas.Bool.Decides.{nat_tests}
+use Rattle.std.proofs.Common.{◌≡◌, ◌<◌, ◌-◌, ◌^◌, ◌&&◌, ℕ, Bool, true, false, List, [], ◌∷◌, Option, Some, None}
+use Rattle.std.proofs.Common.{Result, refl, sym, ◌∙◌, ap, arith, nat_lt}
+use Rattle.std.specs.Prelude.{if◌then◌else◌, length, nat_le, option_and_then}
 use Rattle.std.specs.Char.{digit_value}
 use Rattle.std.specs.List.{list_all}
 use Rattle.std.specs.Str.Parse.{AllDigits, IsNumeral, ParsesUnsigned, digits_value, without_leading_plus}
-use Rattle.std.proofs.lemmas.Bool.{and_parts, cases_lt, leb-true, le-leb, lt-ltb, ltb-true}
+use Rattle.std.proofs.lemmas.Bool.{lt-ltb}
 use Rattle.clap.specs.Matches.{ReadsOne, one_text}
 use Rattle.clap.specs.ValueTests.{is_numeral}
 use Rattle.clap.specs.Words.{Text, one_of, rows_of}
@@ -23,32 +24,16 @@ all_digits (d ∷ ds) h = rw (lt-ltb (digit_value d) 10 h.0) (all_digits ds h.1)
 
 digits_all : (ds : List ℕ) → list_all (λ d. nat_lt (digit_value d) 10) ds ≡ true → AllDigits 10 ds
 digits_all [] e = tt
-digits_all (d ∷ ds) e =
-    let parts = and_parts _ _ e in
-    (ltb-true _ _ parts.0, digits_all ds parts.1)
+digits_all (d ∷ ds) e = grind (arith, nat_tests, digits_all ds)
 
 numeral : (ds : List ℕ) → IsNumeral 10 ds → is_numeral ds ≡ true
 numeral ds h = rw (lt-ltb 0 (length ds) h.0) (all_digits ds h.1)
 
 is_one : (ds : List ℕ) → is_numeral ds ≡ true → IsNumeral 10 ds
-is_one ds e =
-    let parts = and_parts _ _ e in
-    (ltb-true _ _ parts.0, digits_all ds parts.1)
+is_one ds e = grind (arith, nat_tests, digits_all)
 
 above : (least most n : ℕ) → most < n → between least most n ≡ None
-above least most n h = go (nat_le least n) (nat_le n most) refl
-  where
-    go : (a b : Bool) → nat_le n most ≡ b → (if a && b then Some n else None) ≡ None
-    go false b e = refl
-    go true false e = refl
-    go true true e = let low = leb-true n most e in absurd (omega arith)
-
-below : (least most n : ℕ) → n < least → between least most n ≡ None
-below least most n h = go (nat_le least n) (nat_le n most) refl
-  where
-    go : (a b : Bool) → nat_le least n ≡ a → (if a && b then Some n else None) ≡ None
-    go false b e = refl
-    go true b e = let low = leb-true least n e in absurd (omega arith)
+above least most n h = grind (arith, nat_tests)
 
 read_number : (k least most : ℕ) {E : Type 0} (G : Text → Result ℕ E → Type 0) (o : Option Text) (r : Option ℕ)
     → (o ≡ None → r ≡ None)
@@ -62,19 +47,12 @@ read_number k least most {E} G (Some t) r none value only fits = go r (value t r
     digits = without_leading_plus t
 
     large : (digits_value 10 digits < 2 ^ k → ⊥) → most < digits_value 10 digits
-    large over = elim (cases_lt most (digits_value 10 digits)) [
-      | inl h ↦ h
-      | inr h ↦ absurd (over (omega (arith, fits)))
-    ]
+    large over = search (arith, digits)
 
     go : (r : Option ℕ) → ReadsOne G t r → (b : Bool) → is_numeral digits ≡ b
         → number_from_to least most t ≡ option_and_then (between least most) r
-    go (Some v) h b e =
-        let parsed = only t (Ok v) h in
-        rw (numeral digits parsed.0.0, parsed.1) refl
-    go None h true e =
-        let number = is_one digits e in
-        rw e (above least most (digits_value 10 digits) (large (λ small. only t (Err h.0) h.1 (number, small))))
+    go (Some v) h b e = search (arith, numeral, digits)
+    go None h true e = search (arith, is_one, above, digits, large)
     go None h false e = rw e refl
 
 -- what `get_one` reads of an option, at an unsigned type of k bits
@@ -86,27 +64,3 @@ pub read_option : (k least most : ℕ) {E : Type 0} (G : Text → Result ℕ E �
 read_option k least most G f option r none value only fits =
     ap (option_and_then (number_from_to least most)) (sym (one_text-rows f option)) ∙ read_number k least most G
     (one_text f option) r none value only fits
-
--- a number of slots has its bounds
-pub slots_between : (least most n : ℕ) (o : Option ℕ) → IsSome o ↔ ((least ≤ n) × (n ≤ most)) → IfSome o (λ s. s ≡ n)
-    → o ≡ between least most n
-slots_between least most n None some value = elim (cases_lt n least) [
-  | inl small ↦ sym (below least most n small)
-  | inr large ↦ elim (cases_lt most n) [
-    | inl h ↦ sym (above least most n h)
-    | inr h ↦
-        let here : IsSome {T = ℕ} None = some.1 (large, h) in
-        cc
-  ]
-]
-slots_between least most n (Some s) some value =
-    let (low, high) = some.0 refl in
-    rw (le-leb least n low, le-leb n most high) (ap Some value)
-
--- a place is a number below a bound
-pub place_between : (bound : ℕ) → 0 < bound → (n : ℕ) (o : Option ℕ) → IsSome o ↔ (n < bound) → IfSome o (λ p. p ≡ n)
-    → o ≡ between 0 (bound - 1) n
-place_between bound some n o is value = slots_between 0 (bound - 1) n o (
-  (λ there. (omega arith, (let small = is.0 there in omega (arith, some, small)))),
-  (λ within. is.1 (omega (arith, some, within.1))),
-) value

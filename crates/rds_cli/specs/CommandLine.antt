@@ -1,8 +1,7 @@
 -- The arguments of the program, as a simple command of `clap`, and what they ask for. This is the project's own command
 -- line.
-use Rattle.std.specs.Prelude.{◌≡◌, ◌&&◌, ◌||◌, ◌∷◌, []}
-use Rattle.std.specs.Prelude.{ℕ, Bool, List, Option, Some, None, false, true, codes, if◌then◌else◌}
-use Rattle.std.specs.Prelude.{is_some, length, nat_le, nat_lt, not, option_and_then, option_map, pos}
+use Rattle.std.specs.Prelude.{◌≡◌, ◌&&◌, ◌||◌, ◌∷◌, [], ℕ, Bool, List, Option, Some, None, false, true, codes}
+use Rattle.std.specs.Prelude.{if◌then◌else◌, is_some, length, nat_le, nat_lt, not, option_and_then, option_map, pos}
 use Rattle.std.specs.List.{list_all}
 use Rattle.std.specs.Option.{option_map_or, option_or}
 use Rattle.std.specs.Str.{bytes_eq}

@@ -1,20 +1,10 @@
-use Rattle.std.proofs.Common.{[], ◌∙◌, Option, ap, sym}
-use Rattle.std.specs.Prelude.{option_map}
-use Rattle.std.specs.Option.{option_map_or}
-use Rattle.std.proofs.Common.{codes}
-use Rattle.clap.specs.Words.{Text, found_of}
+use Rattle.std.proofs.Common.{arith}
+use Rattle.std.proofs.lemmas.Bool.Decides.{nat_tests}
 use Rattle.clap.proofs.WalkLemmas.{first_value-rows}
 use Rattle.rds_cli.proofs.request.lose_of.Goals as goal
 
-abbrev given : Option Text → Text
-given o = option_map_or (λ text. text) o []
-
 pub returns-in-Some : goal.returns-in-Some
-returns-in-Some c =
-    sym (ap given (sym (c.get_str.ensures ∙ first_value-rows (found_of c.args.inner.now) (codes "lose"))
-    ∙ ap (option_map (λ s. s.now)) c.in-Some.is))
+returns-in-Some c = grind (arith, nat_tests, first_value-rows)
 
 pub returns-in-None : goal.returns-in-None
-returns-in-None c =
-    sym (ap given (sym (c.get_str.ensures ∙ first_value-rows (found_of c.args.inner.now) (codes "lose"))
-    ∙ ap (option_map (λ s. s.now)) c.in-None.is))
+returns-in-None c = grind (arith, nat_tests, first_value-rows)

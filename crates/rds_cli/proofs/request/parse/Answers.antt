@@ -1,4 +1,5 @@
-use Rattle.std.proofs.Common.{◌≡◌, ◌∙◌, Option, None, Some, ap, inl, inr, map, not, refl, subst, sym}
+use Rattle.std.proofs.Common.{arith, ◌≡◌, ◌∙◌, Option, None, Some, ap, inl, inr, map, not, subst, sym}
+use Rattle.std.proofs.lemmas.Bool.Decides.{nat_tests}
 use Rattle.std.specs.Prelude.{option_and_then, option_map}
 use Rattle.std.specs.Box.{box_value}
 use Rattle.std.proofs.lemmas.Bool.{not-true}
@@ -36,22 +37,11 @@ returns-in-Err-clause-err c none =
 both_parts : {A B C : Type 0} (f : A → B) (g : A → C) (o : Option A) (x : B) (y : C) → Some x ≡ option_map f o
     → Some y ≡ option_map (λ (p : B × C). p.1) (option_map {U = B × C} (λ a. (f a, g a)) o)
     → option_map {U = B × C} (λ a. (f a, g a)) o ≡ Some (x, y)
-both_parts f g None x y p q = absurd (no p)
-  where
-    no : {X : Type 0} {z : X} → Some z ≡ None → ⊥
-    no e = cc
-both_parts f g (Some a) x y p q =
-    let first : x ≡ f a = cc in
-    let second : y ≡ g a = cc in
-    λ i. Some (sym first i, sym second i)
+both_parts f g o x y p q = grind (arith, nat_tests)
 
 -- no part of what is not there
 no_part : {A B C : Type 0} (f : A → B) (g : A → C) (o : Option A) → None ≡ option_map f o → option_map g o ≡ None
-no_part f g None p = refl
-no_part f g (Some a) p = absurd (no p)
-  where
-    no : {X : Type 0} {z : X} → None ≡ Some z → ⊥
-    no e = cc
+no_part f g o p = grind (arith, nat_tests)
 
 pub returns-in_default-clause-ok : goal.returns-in_default-clause-ok
 unfolding log_app decode_app late_app station_app sim_app slots_app timed_app judging_app audit_app log_readers_app

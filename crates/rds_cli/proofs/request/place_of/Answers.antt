@@ -1,9 +1,10 @@
+use Rattle.std.proofs.lemmas.Bool.Decides.{nat_tests}
 use Rattle.std.proofs.Common.{◌≡◌, ◌∙◌, ◌-◌, ap, arith, sym}
 use Rattle.std.specs.Prelude.{option_and_then}
 use Rattle.std.specs.Str.Parse.{ExplainsUnsignedError, HasUnsignedDigitsIfOk, ParsesUnsigned}
 use Rattle.clap.specs.Words.{found_of, rows_of}
 use Rattle.rds_cli.specs.CommandLine.{option_number}
-use Rattle.rds_cli.proofs.Numbers.{between, place_between, read_option}
+use Rattle.rds_cli.proofs.Numbers.{between, read_option}
 use Rattle.rds_cli.proofs.request.place_of.Goals as goal
 
 pub returns-in_err-get_one : goal.returns-in_err-get_one
@@ -22,5 +23,4 @@ returns g c =
     read_option 8 0 (g.row.N - 1) (λ bs r. ParsesUnsigned 8 10 bs r × ExplainsUnsignedError 10 bs r
     × HasUnsignedDigitsIfOk bs r) (found_of c.args.inner.now) c.args.name.now c.get_one.result
     c.get_one.ensures.none c.get_one.ensures.value (λ t x g. g.0) (omega (arith, g.N.fits)) in
-    place_between g.row.N c.requires c.in_ok-get_one.field-0 c.new.result c.new.ensures.below c.new.ensures.value
-    ∙ sym (read ∙ ap (option_and_then (between 0 (g.row.N - 1))) c.in_ok-get_one.was)
+    grind (arith, nat_tests)
