@@ -98,8 +98,8 @@ pub holds_at_byte : (test : ℕ → ℕ → Bool) (ranges : List CodeRange) (byt
     → test byte character ≡ true
 holds_at_byte test [] byte character all here = absurd (cc)
 holds_at_byte test (range ∷ ranges) byte character all here =
-    let later = holds_at_byte test ranges byte character (holds_at_rest test range ranges all) in
-    grind (arith, nat_tests, found_at)
+    let rest = holds_at_rest test range ranges all in
+    grind (arith, nat_tests, holds_at_byte test ranges byte character rest, found_at)
 
 placed_at : (test : ℕ → ℕ → Bool) (range : CodeRange) (ranges : List CodeRange) (character byte : ℕ)
     → list_all (λ e. test e.0 e.1) (entries_in (range ∷ ranges)) ≡ true → byte_at range character ≡ Some byte
@@ -111,16 +111,15 @@ placed_at test range ranges character byte all here = by (position (λ known. kn
     by None none here = absurd (cc)
     by (Some place) some here =
         let at_place = position-Some (λ known. known == character) range.1 place 0 some in
-        let known = slice_get-get_or range.1 place 0 at_place.0 in
-        grind (arith, nat_tests, holds_at_range test range ranges place character all)
+        search (arith, slice_get-get_or, holds_at_range)
 
 holds_at_character : (test : ℕ → ℕ → Bool) (ranges : List CodeRange) (character byte : ℕ)
     → list_all (λ e. test e.0 e.1) (entries_in ranges) ≡ true → byte_in ranges character ≡ Some byte
     → test byte character ≡ true
 holds_at_character test [] character byte all here = absurd (cc)
 holds_at_character test (range ∷ ranges) character byte all here =
-    let later = holds_at_character test ranges character byte (holds_at_rest test range ranges all) in
-    grind (arith, nat_tests, placed_at)
+    let rest = holds_at_rest test range ranges all in
+    grind (arith, nat_tests, holds_at_character test ranges character byte rest, placed_at)
 
 abbrev is_number : Option ℕ → ℕ → Bool
 is_number None n = false

@@ -1,7 +1,6 @@
 -- Lemmas: how many characters come before the place at which reading a text stops.
 use Rattle.std.proofs.lemmas.Bool.Decides.{nat_tests}
-use Rattle.std.proofs.Common.{◌≡◌, ◌<◌, ◌+◌, ◌-◌, ◌∙◌, ◌++◌, ℕ, List, ap, arith, drop, length, length-append}
-use Rattle.std.proofs.Common.{take}
+use Rattle.std.proofs.Common.{◌≡◌, ◌<◌, ◌+◌, ◌-◌, ◌∙◌, ◌++◌, ℕ, List, ap, arith, drop, length, length-append, take}
 use Rattle.std.proofs.lemmas.List.{take-append-drop}
 use Rattle.std.proofs.lemmas.Str.{IsCharBoundary-from_drop, IsUtf8-take, chars-append, chars_past_char, encodes-chars}
 use Rattle.std.proofs.lemmas.Str.{length-le-encodes}

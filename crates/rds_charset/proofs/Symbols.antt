@@ -46,8 +46,7 @@ escapes_same p q a b r s one two same = grind (arith, nat_tests)
 
 -- one of each
 character_and_escape : (p q : List ℕ) (a b : ℕ) (r s : List ℕ) → IsCharacter p a → IsEscape q b → p ++ r ≡ q ++ s → ⊥
-character_and_escape p q a b r s one two same =
-    character_no_escape a one.character r (0x78 ∷ two.high ∷ two.low ∷ s) one.in_table (cc)
+character_and_escape p q a b r s one two same = grind (arith, nat_tests, character_no_escape)
 
 symbols_same : (p q : List ℕ) (a b : ℕ) (r s : List ℕ) → IsSymbol p a → IsSymbol q b → p ++ r ≡ q ++ s
     → SameStart a b r s
@@ -89,8 +88,7 @@ IsReadUpTo-same text (b ∷ bs) [] r s (after, begins, one) two end_one end_two 
     absurd (end_two b after (rw two at begins))
 IsReadUpTo-same text (b ∷ bs) (c ∷ cs) r s (first, begins, one) (second, also, two) end_one end_two =
     let start = Begins-same text b c first second begins also in
-    let later = IsReadUpTo-same second bs cs r s (rw start.rest at one) two end_one end_two in
-    record { bytes = cc; rest = later.rest }
+    search (arith, IsReadUpTo-same second bs cs r s (rw start.rest at one) two end_one end_two)
 
 -- a text is read as at most one list of bytes
 pub IsReadAs-same : (text bs cs : List ℕ) → IsReadAs text bs → IsReadAs text cs → bs ≡ cs
@@ -126,8 +124,7 @@ pub IsReadUpTo-drop : (text bs rest : List ℕ) → IsReadUpTo text bs rest → 
 IsReadUpTo-drop text bs rest one =
     let cut = IsReadUpTo-cut text bs rest one in
     let sum : length text ≡ length cut.0 + length rest = ap length cut.1 ∙ length-append cut.0 rest in
-    let place : length cut.0 ≡ length text - length rest = omega arith in
-    ap (drop (length text - length rest)) cut.1 ∙ drop_at cut.0 rest (length text - length rest) place
+    search (arith, drop_at)
 
 -- if the rest is not empty and begins with no symbol, the text stops there
 pub StopsAt-rest : (text bs rest : List ℕ) → IsReadUpTo text bs rest → BeginsNoSymbol rest → 0 < length rest
@@ -215,8 +212,7 @@ pub Begins-character : (text : List ℕ) (first : ℕ) (after : List ℕ) (byte 
     → Some byte ≡ byte_of first → Begins text byte after
 Begins-character text first after byte is known =
     let in_table = (IsLawful-from_character byte first (sym known)).of_byte in
-    let symbol = inl (record { character = first; in_table = in_table; spelled = refl }) in
-    record { symbol = encode_utf8 first; cut = is; is_symbol = symbol }
+    search arith
 
 -- the rest after a symbol of a text is a text
 pub Begins-IsUtf8 : (text : List ℕ) (byte : ℕ) (rest : List ℕ) → IsUtf8 text → Begins text byte rest → IsUtf8 rest

@@ -1,5 +1,4 @@
-use Rattle.std.proofs.Common.{ℕ}
-use Rattle.std.proofs.Common.{arith, length-append, length, take, ap}
+use Rattle.std.proofs.Common.{ℕ, arith, length-append, length, take, ap}
 use Rattle.std.proofs.lemmas.List.{length-take}
 use Rattle.rds_charset.proofs.DisplayedText.{length-displayed}
 use Rattle.rds_charset.proofs.display.push_displayed.Goals as goal

@@ -1,5 +1,4 @@
-use Rattle.std.proofs.Common.{ℕ}
-use Rattle.std.proofs.Common.{◌≡◌, ◌++◌, arith, length-append, length, take, ap}
+use Rattle.std.proofs.Common.{ℕ, ◌≡◌, ◌++◌, arith, length-append, length, take, ap}
 use Rattle.std.proofs.lemmas.List.{length-take, take_all}
 use Rattle.rds_charset.proofs.PrintedText.{length-printed}
 use Rattle.rds_charset.specs.Printed.{printed}
@@ -13,6 +12,5 @@ push_byte-requires g c =
 pub returns-clause-room : goal.returns-clause-room
 returns-clause-room g c =
     let all : take c.loop-byte.byte-index c.args.text.now ≡ c.args.text.now = take_all _ _ (omega arith) in
-    let pushed : length c.loop-byte.line ≡ length (c.args.line.now ++ printed c.args.text.now) = rw all
-    at (ap length c.loop-byte.invariant) in
+    let pushed : length c.loop-byte.line ≡ length (c.args.line.now ++ printed c.args.text.now) = search arith in
     omega (arith, pushed, length-append c.args.line.now (printed c.args.text.now), length-printed c.args.text.now)

@@ -1,4 +1,4 @@
-use Rattle.std.proofs.Common.{sym, ap, ◌∙◌, ◌∷◌, ◌≡◌, ◌+◌, ◌*◌}
+use Rattle.std.proofs.Common.{arith, sym, ap, ◌∙◌, ◌∷◌, ◌≡◌, ◌+◌, ◌*◌}
 use Rattle.std.specs.Char.{digit_value}
 use Rattle.rds_charset.proofs.Symbols.{BeginsNoSymbol-escape, Begins-escape, first-x, text-x}
 use Rattle.rds_charset.proofs.reading.escaped_byte.Goals as goal
@@ -36,8 +36,7 @@ returns-clause-some c =
     c.if-marker-ne120.false in
     let high = c.in_ok-high.ensures.some in
     let low = c.in_ok-low.ensures.some in
-    let whole : c.args.text.now ≡ 0x78 ∷ high.0 ∷ low.0 ∷ c.in_ok-low.rest.now = text ∙ ap (λ t. 0x78 ∷ t)
-    (high.1 ∙ ap (λ t. high.0 ∷ t) low.1) in
+    let whole : c.args.text.now ≡ 0x78 ∷ high.0 ∷ low.0 ∷ c.in_ok-low.rest.now = search arith in
     let value : 16 * digit_value high.0 + digit_value low.0 ≡ 16 * c.in_ok-high.high + c.in_ok-low.low = ap (λ d. 16 * d
     + digit_value low.0) (sym high.3) ∙ ap (λ d. 16 * c.in_ok-high.high + d) (sym low.3) in
     rw value at (Begins-escape c.args.text.now c.in_ok-low.rest.now high.0 low.0 whole high.2 low.2)

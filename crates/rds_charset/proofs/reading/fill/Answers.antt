@@ -1,5 +1,5 @@
 use Rattle.std.proofs.lemmas.Bool.Decides.{nat_tests}
-use Rattle.std.proofs.Common.{◌+◌, ◌<◌, ℕ, length, take, arith, ◌∙◌}
+use Rattle.std.proofs.Common.{◌<◌, ℕ, length, take, arith}
 use Rattle.std.proofs.Math.ListN.{length-set}
 use Rattle.std.proofs.lemmas.Grind.{drop_more_same}
 use Rattle.std.proofs.lemmas.List.{drop-set-lt, take_more_set}
@@ -27,8 +27,7 @@ loop-byte-preserved c =
           (IsReadUpTo-push c.args.text.now (take c.loop-byte.count c.loop-byte.into) c.loop-byte.rest.now c.in-Some.byte
           c.in-Some.after.now c.loop-byte.invariant.read one);
       unread = (step.0, step.1, omega (arith, length-set {A = ℕ}));
-      kept = drop-set-lt (c.loop-byte.count + 1) c.loop-byte.into c.loop-byte.count c.in-Some.byte (omega arith)
-          ∙ drop_more_same c.loop-byte.into c.args.into.now c.loop-byte.count c.loop-byte.invariant.kept;
+      kept = search (arith, drop-set-lt, drop_more_same);
     }
 
 pub returns-clause-bytes : goal.returns-clause-bytes

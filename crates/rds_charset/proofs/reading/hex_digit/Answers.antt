@@ -1,6 +1,5 @@
-use Rattle.std.proofs.Common.{arith}
+use Rattle.std.proofs.Common.{arith, ℕ, List, ◌≡◌, ◌∷◌, ◌<◌}
 use Rattle.std.proofs.lemmas.Bool.Decides.{nat_tests}
-use Rattle.std.proofs.Common.{ℕ, List, ◌≡◌, ◌∷◌, ◌<◌}
 use Rattle.std.specs.Char.{digit_value}
 use Rattle.rds_charset.proofs.Symbols.{first-digit}
 use Rattle.rds_charset.proofs.reading.hex_digit.Goals as goal

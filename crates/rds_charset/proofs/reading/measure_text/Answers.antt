@@ -21,8 +21,7 @@ returns-in_default-first_symbol-clause-err c =
     let rest = c.loop-character.rest.now in
     let (bytes, read, count) = c.loop-character.invariant.read in
     let parts = before_and_after text bytes rest c.utf8.text c.loop-character.invariant.is_text read in
-    let some : 0 < length (chars rest) = some_character rest c.in-Some.field-0-1.now c.in-Some.character
-    c.loop-character.invariant.is_text c.in-Some.ensures.some in
+    let some : 0 < length (chars rest) = search (arith, some_character) in
     let left : 0 < length rest = some_bytes rest c.loop-character.invariant.is_text some in
     record {
       at = length text - length rest;

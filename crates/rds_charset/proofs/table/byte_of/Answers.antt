@@ -1,6 +1,5 @@
-use Rattle.std.proofs.Common.{arith}
+use Rattle.std.proofs.Common.{arith, ap, sym, ◌∙◌, map}
 use Rattle.std.proofs.lemmas.Bool.Decides.{nat_tests}
-use Rattle.std.proofs.Common.{ap, sym, ◌∙◌, map}
 use Rattle.std.proofs.lemmas.List.{at_drop_all}
 use Rattle.rds_charset.proofs.Characters.{byte_in-found, byte_in-passed, held-FitsInBytes}
 use Rattle.rds_charset.specs.Ranges.{range_of}

@@ -1,6 +1,5 @@
-use Rattle.std.proofs.Common.{arith}
+use Rattle.std.proofs.Common.{arith, sym, ◌∙◌, map}
 use Rattle.std.proofs.lemmas.Bool.Decides.{nat_tests}
-use Rattle.std.proofs.Common.{sym, ◌∙◌, map}
 use Rattle.std.proofs.lemmas.List.{at_drop_all}
 use Rattle.rds_charset.proofs.Characters.{character_in-found, character_in-passed}
 use Rattle.rds_charset.specs.Ranges.{range_of}
