@@ -121,8 +121,7 @@ put_held mask after a bytes written segment h set kept here others =
 
     by : (q : ℕ) (b : Bool) → nat_eq q a ≡ b
         → get (held_cells after written) q ≡ cond (nat_eq q a) (Some segment) (get (held_cells mask bytes) q)
-    by q true e = (let same : q ≡ a = grind (arith, nat_tests) in
-        rw (e, same) (get-set after written a h set ∙ ap Some here))
+    by q true e = search (arith, get-set)
     by q false e = rw e (other q (grind (arith, nat_tests)) (cases_lt q 16))
 
 -- writing four bytes keeps the other segments and puts this one
@@ -136,8 +135,7 @@ others_stay a k bytes segment e long room q apart =
         | inl less ↦ sym (drop-take (4 * q) 4 (put_mid (4 * a) k bytes segment))
             ∙ ap (drop (4 * q)) (take-put_mid_below (4 * a) k bytes segment (4 * q + 4) (omega arith) (omega arith))
             ∙ drop-take (4 * q) 4 bytes
-        | inr more ↦ ap (take 4) (drop-put_mid (4 * a) k bytes segment (4 * q) (omega arith) (omega arith)
-            (omega arith))
+        | inr more ↦ search (arith, drop-put_mid)
       ]
     ]
 

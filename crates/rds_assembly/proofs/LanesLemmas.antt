@@ -1,7 +1,6 @@
 -- Lemmas about one bit of a mask of lanes, and of one that is spread over four places each.
-use Rattle.std.proofs.Common.{◌≡◌, ℕ, zero, suc, ◌+◌, ◌-◌, ◌*◌, ◌/◌, ◌%◌, ◌^◌, ◌<◌, ◌≤◌, List, Bool, true, cond}
-use Rattle.std.proofs.Common.{map, eqb, nat_eq, nat_lt, ◌&&◌, get_or, refl, sym, ap, ◌∙◌, inl, inr, bit_and, bit_or}
-use Rattle.std.proofs.Common.{arith}
+use Rattle.std.proofs.Common.{◌≡◌, ℕ, zero, suc, ◌+◌, ◌-◌, ◌*◌, ◌/◌, ◌%◌, ◌^◌, ◌<◌, ◌≤◌, List, Bool, true, cond, map}
+use Rattle.std.proofs.Common.{eqb, nat_eq, nat_lt, ◌&&◌, get_or, refl, sym, ap, ◌∙◌, inl, inr, bit_and, bit_or, arith}
 use Rattle.std.specs.Int.{bit_at, from_bool}
 use Rattle.std.proofs.Math.ListN.{get_or-map}
 use Rattle.std.proofs.Math.Nat.{pow-suc}
@@ -59,10 +58,8 @@ shift_high x s i h = (let z : x * 2 ^ s ≡ x * 2 ^ s + 0 = omega arith in ap (�
 shift-or : (a b s : ℕ) → bit_or a b * 2 ^ s ≡ bit_or (a * 2 ^ s) (b * 2 ^ s)
 shift-or a b s =
     same_from_bits _ _ (λ i. elim (cases_lt i s) [
-      | inl l ↦ shift_low (bit_or a b) s i l ∙ sym (bit_at_or (a * 2 ^ s) (b * 2 ^ s) i
-          ∙ rw (shift_low a s i l, shift_low b s i l) refl)
-      | inr h ↦ shift_high (bit_or a b) s i h ∙ bit_at_or a b (i - s) ∙ sym (bit_at_or (a * 2 ^ s) (b * 2 ^ s) i
-          ∙ rw (shift_high a s i h, shift_high b s i h) refl)
+      | inl l ↦ search (arith, shift_low, bit_at_or)
+      | inr h ↦ search (arith, shift_high, bit_at_or)
     ])
 
 or_crossed : (a b c d : ℕ) → bit_or (bit_or a b) (bit_or c d) ≡ bit_or (bit_or a c) (bit_or b d)
@@ -148,8 +145,7 @@ wide_below (suc n) mask h l =
           let rest : mask - 2 ^ n < 2 ^ n = omega arith in
           let sum : mask ≡ 1 * 2 ^ n + (mask - 2 ^ n) = omega arith in
           let one : 1 * 2 ^ n ≡ 2 ^ n = omega arith in
-          let split : mask ≡ bit_or (2 ^ n) (mask - 2 ^ n) = sum ∙ sym (or_shifted 1 n (mask - 2 ^ n) rest)
-          ∙ ap (λ b. bit_or b (mask - 2 ^ n)) one in
+          let split : mask ≡ bit_or (2 ^ n) (mask - 2 ^ n) = search (arith, or_shifted) in
           rw split (wide_both (2 ^ n) (mask - 2 ^ n) (wide_alone n 16 sixteen_are_wide (omega arith))
           (wide_below n (mask - 2 ^ n) (omega arith) rest)))
     ]

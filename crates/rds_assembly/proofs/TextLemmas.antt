@@ -26,10 +26,7 @@ not_both m i b h n = grind (arith, nat_tests)
 
 missing : (m : Cells) (n : ℕ) → Passed m n → n < 64 → get m (n / 4) ≡ None → (x : List ℕ) → IsWholeText m x → ⊥
 missing m n p h none x w = elim (cases_order (length x) n) [
-  | inl e ↦ elim w.ends [
-    | inl f ↦ omega arith
-    | inr f ↦ not_both m n 13 (rw e at f.1) none
-  ]
+  | inl e ↦ grind (arith, nat_tests)
   | inr (inl less) ↦ elim w.ends [
     | inl f ↦ omega arith
     | inr f ↦ (p (length x) less).2 (one_byte m (length x) _ _ (p (length x) less).1 f.1)
@@ -93,8 +90,7 @@ upto mask bytes held returns p t lanes a g h =
         | inl e ↦ inl (cut ∙ e)
         | inr e ↦ (
             let r = return_byte mask bytes held returns p lanes e.1 in
-            let byte = byte_in mask bytes p e.0 (sym (lanes.bits p) ∙ r.0) in
-            inr (rw cut (e.0, rw r.1 at byte)))
+            search (arith, byte_in))
       ];
     }
 

@@ -1,7 +1,6 @@
 -- Lemmas: cells from a value's segments make it whole or nothing, and all of its segments make it whole.
-use Rattle.std.proofs.Common.{◌≡◌, ◌≢◌, ◌+◌, ◌-◌, ◌*◌, ◌/◌, ◌%◌, ◌<◌, ◌≤◌, ◌∷◌, ◌++◌, ◌∙◌, ◌⊎◌}
-use Rattle.std.proofs.Common.{ℕ, List, Bool, true, false, nat_eq, length, get_or}
-use Rattle.std.proofs.Common.{slice_index, refl, sym, ap, inl, inr, arith, length-append}
+use Rattle.std.proofs.Common.{◌≡◌, ◌≢◌, ◌+◌, ◌-◌, ◌*◌, ◌/◌, ◌%◌, ◌<◌, ◌≤◌, ◌∷◌, ◌++◌, ◌∙◌, ◌⊎◌, ℕ, List, Bool, true}
+use Rattle.std.proofs.Common.{false, nat_eq, length, get_or, slice_index, refl, sym, ap, inl, inr, arith, length-append}
 use Rattle.std.specs.Prelude.{replicate}
 use Rattle.std.proofs.lemmas.Bool.{cases_order}
 use Rattle.std.proofs.lemmas.Bool.Decides.{nat_tests}

@@ -1,3 +1,4 @@
+use Rattle.std.proofs.lemmas.Bool.Decides.{nat_tests}
 use Rattle.std.proofs.Common.{arith}
 use Rattle.rds_assembly.proofs.TextLemmas.{found_none, found_whole}
 use Rattle.rds_assembly.proofs.radio_text.RadioTextService.length.Goals as goal
@@ -8,6 +9,4 @@ returns-then-place-trailing_ones-clause-whole c =
     (rw (← c.trailing_ones.ensures) c.if-place-trailing_ones.true)
 
 pub returns-else-place-trailing_ones-clause-none : goal.returns-else-place-trailing_ones-clause-none
-returns-else-place-trailing_ones-clause-none c =
-    found_none c.args.mask c.args.bytes.now c.spread-held.result c.returns_in.result (grind arith)
-    (rw (← c.trailing_ones.ensures) c.if-place-trailing_ones.false)
+returns-else-place-trailing_ones-clause-none c = grind (arith, nat_tests, found_none)

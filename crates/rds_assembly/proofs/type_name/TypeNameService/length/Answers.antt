@@ -1,5 +1,5 @@
+use Rattle.std.proofs.lemmas.Bool.Decides.{nat_tests}
 use Rattle.std.proofs.Common.{◌≡◌, ℕ, ◌/◌, ◌%◌, inl, inr, List, sym, ◌∙◌, arith}
-use Rattle.std.specs.Int.{bit_at}
 use Rattle.std.proofs.lemmas.Bool.{cases_lt}
 use Rattle.std.proofs.lemmas.List.{length-take-le}
 use Rattle.std.proofs.lemmas.Nat.{and_mask}
@@ -16,11 +16,7 @@ both_set mask e i h = elim (cases_lt i 4) [
 ]
 
 both_there : (mask : ℕ) (bytes x : List ℕ) → IsWholeName (held_cells mask bytes) x → mask % 4 ≡ 3
-both_there mask bytes x w =
-    let eight = w.eight in
-    let first : bit_at mask 0 ≡ 1 = byte_set mask bytes 0 _ (omega arith) (w.spelled.bytes 0 (omega arith)) in
-    let second : bit_at mask 1 ≡ 1 = byte_set mask bytes 4 _ (omega arith) (w.spelled.bytes 4 (omega arith)) in
-    omega arith
+both_there mask bytes x w = grind (arith, nat_tests, byte_set)
 
 pub returns-then-mask-eq3-clause-whole : goal.returns-then-mask-eq3-clause-whole
 returns-then-mask-eq3-clause-whole c =
