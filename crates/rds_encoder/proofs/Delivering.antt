@@ -11,8 +11,7 @@ use Rattle.rds_assembly.specs.Body.{name_body, segment_count, segment_of, text_b
 use Rattle.rds_encoder.specs.declared.round.Turn.{Turn}
 use Rattle.rds_encoder.specs.declared.round.Turn.TheVariants as turn
 use Rattle.rds_encoder.specs.Delivery.{IsOnThroughout, IsSentAmong, free_in}
-use Rattle.rds_encoder.specs.Entries.{Entry, Tick, Move, name_moves, restart_before}
-use Rattle.rds_encoder.specs.Entries.{slot_of, text_moves}
+use Rattle.rds_encoder.specs.Entries.{Entry, Tick, Move, name_moves, restart_before, slot_of, text_moves}
 use Rattle.rds_encoder.specs.Plan.{OnAir, on_air}
 use Rattle.rds_encoder.specs.Round.{turn_in}
 use Rattle.rds_encoder.specs.Sent.{count_from, is_text_turn, is_turn, one_if, sent_at_turn, sent_in}

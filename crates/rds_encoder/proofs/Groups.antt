@@ -1,7 +1,6 @@
 -- Lemmas: the message that is due, and its group.
-use Rattle.std.proofs.Common.{arith}
+use Rattle.std.proofs.Common.{arith, ◌≡◌, ℕ, Bool, Option, Some}
 use Rattle.std.proofs.lemmas.Bool.Decides.{nat_tests}
-use Rattle.std.proofs.Common.{◌≡◌, ℕ, Bool, Option, Some}
 use Rattle.std.specs.Int.{from_bool}
 use Rattle.std.specs.Prelude.{◌≢◌, ◌↔◌, IfSome, IsNone}
 use Rattle.rds_block.specs.declared.group.Group.{Group}

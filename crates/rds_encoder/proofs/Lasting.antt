@@ -1,7 +1,6 @@
 -- Lemmas: a text or name that was on air stays planned, and was on air before.
 use Rattle.std.proofs.lemmas.Bool.Decides.{nat_tests}
-use Rattle.std.proofs.Common.{◌≡◌, ℕ, ◌-◌, ◌<◌, ◌≤◌, List, [], ◌∷◌, ◌++◌, Bool, Some}
-use Rattle.std.proofs.Common.{arith}
+use Rattle.std.proofs.Common.{◌≡◌, ℕ, ◌-◌, ◌<◌, ◌≤◌, List, [], ◌∷◌, ◌++◌, Bool, Some, arith}
 use Rattle.rds_encoder.specs.Entries.{Move, End, slot_of}
 use Rattle.rds_encoder.specs.Plan.{Broadcast, HasNumber, OnAir, on_air, plan_of}
 use Rattle.rds_encoder.specs.Laws.{HasOnAir, WasAccepted}

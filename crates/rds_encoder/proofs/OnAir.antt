@@ -1,6 +1,5 @@
 -- Lemmas: the text or name on air, beside the last accepted set and the flag of the next one.
-use Rattle.std.proofs.Common.{◌≡◌, ℕ, ◌+◌, ◌-◌, ◌*◌, ◌<◌, ◌≤◌, List, [], ◌∷◌}
-use Rattle.std.proofs.Common.{nat_le, Some, None, refl, arith, option_map}
+use Rattle.std.proofs.Common.{◌≡◌, ℕ, ◌+◌, ◌<◌, ◌≤◌, List, [], ◌∷◌, Some, None, refl, arith, option_map}
 use mathlib.Core.Bool.{not}
 use Rattle.std.specs.Prelude.{IfSome}
 use Rattle.std.proofs.lemmas.Bool.Decides.{nat_tests}
@@ -32,10 +31,6 @@ since_silence m (x ∷ before) = grind (arith, nat_tests, since_silence m before
 pub not_held_in_silence : (m : ℕ) (moves : List Move) → slot_of moves < restart_before moves + m
     → last_accepted m moves ≡ None
 not_held_in_silence m moves h = grind (arith, since_silence m moves)
-
--- a hold of 2m slots has at most m slots left exactly if m slots have passed
-pub lasts_alike : (left m start now : ℕ) → left ≡ start + 2 * m - now → nat_le left m ≡ nat_le (start + m) now
-lasts_alike left m start now e = grind (arith, nat_tests)
 
 -- the text or name on air began after the silence
 pub air_since : (m : ℕ) (moves : List Move) (air : OnAir) → on_air m moves ≡ Some air

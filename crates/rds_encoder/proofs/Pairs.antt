@@ -1,12 +1,9 @@
 -- Lemmas: a pair is on air only with a text.
-use Rattle.std.proofs.Common.{arith}
+use Rattle.std.proofs.Common.{arith, ◌≡◌, ◌+◌, ℕ, List, [], ◌∷◌, Bool, true, nat_le, Option, Some, None, refl, sym}
 use Rattle.std.proofs.lemmas.Bool.Decides.{nat_tests}
-use Rattle.std.proofs.Common.{◌≡◌, ◌+◌, ℕ, List, [], ◌∷◌, Bool, true, nat_le, Option, Some, None}
-use Rattle.std.proofs.Common.{refl, sym}
 use Rattle.rds_fields.specs.declared.message.Message.TheVariants.{Tags}
 use Rattle.rds_fields.specs.Tag.{PairFields}
-use Rattle.rds_encoder.specs.Entries.{Entry}
-use Rattle.rds_encoder.specs.Entries.{text_moves}
+use Rattle.rds_encoder.specs.Entries.{Entry, text_moves}
 use Rattle.rds_encoder.specs.Plan.{OnAir, on_air}
 use Rattle.rds_encoder.specs.Tags.{pair_on_air}
 use Rattle.rds_encoder.specs.Sent.{tags_due}

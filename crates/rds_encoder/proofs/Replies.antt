@@ -1,10 +1,8 @@
 -- Lemmas: replies, part by part.
-use Rattle.std.proofs.Common.{◌≡◌, ℕ, List, [], ◌∷◌}
-use Rattle.std.proofs.Common.{Ok, Err, refl, arith}
+use Rattle.std.proofs.Common.{◌≡◌, ℕ, List, [], ◌∷◌, Ok, Err, refl, arith}
 use Rattle.std.proofs.lemmas.Bool.Decides.{nat_tests}
 use Rattle.rds_encoder.specs.declared.reply.Refusal.{Refusal}
-use Rattle.rds_encoder.specs.Entries.{Entry, Move, name_moves, restart_before}
-use Rattle.rds_encoder.specs.Entries.{slot_of, text_moves}
+use Rattle.rds_encoder.specs.Entries.{Entry, Move, name_moves, restart_before, slot_of, text_moves}
 use Rattle.rds_encoder.specs.Reply.{Reply, held_for, held_reply, last_accepted, reply_to, unless_silent}
 use Rattle.rds_encoder.specs.EncoderAt.{hold_left}
 use Rattle.std.specs.Result.{IsErrAnd}

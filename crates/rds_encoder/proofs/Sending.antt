@@ -8,14 +8,12 @@ use Rattle.rds_fields.specs.declared.message.Message.{Message}
 use Rattle.rds_fields.specs.declared.message.Message.TheVariants.{Text, Name, Tags}
 use Rattle.rds_fields.specs.Tag.{BothEndIn, PairFields}
 use Rattle.rds_assembly.specs.Body.{name_body, segment_count, text_body}
-use Rattle.rds_encoder.specs.Entries.{Entry, SetTags, Move, name_moves}
-use Rattle.rds_encoder.specs.Entries.{slot_of, text_moves}
+use Rattle.rds_encoder.specs.Entries.{Entry, SetTags, Move, name_moves, slot_of, text_moves}
 use Rattle.rds_encoder.specs.Laws.{IsSegmentOf}
 use Rattle.rds_encoder.specs.Plan.{OnAir, on_air}
 use Rattle.rds_encoder.specs.Reply.{Reply, unless_silent}
 use Rattle.rds_encoder.specs.Round.{IsTurn, turn_in}
-use Rattle.rds_encoder.specs.Sent.{name_segment, sent_at_turn, sent_in}
-use Rattle.rds_encoder.specs.Sent.{text_segment, turn_of}
+use Rattle.rds_encoder.specs.Sent.{name_segment, sent_at_turn, sent_in, text_segment, turn_of}
 use Rattle.rds_encoder.specs.Tags.{fitting_reply, pair_on_air}
 
 -- the message of a slot with a turn

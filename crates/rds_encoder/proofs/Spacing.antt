@@ -58,11 +58,7 @@ on_or_over m (Set x ∷ before) lasts end k b n =
         → IsOn m end (Set x ∷ before) k b ⊎ IsOver m (Set x ∷ before) b
     by true r n closed lasting = elim (rw r at n) [
       | inl newest ↦ inl (grind arith)
-      | inr older ↦ (let over = ended m before k b lasts (closed older) in inr (inr (
-        record { start = slot_of before; flag = next_flag m before; bytes = x },
-        grind arith,
-        over,
-      )))
+      | inr older ↦ (let over = ended m before k b lasts (closed older) in search arith)
     ]
     by false r n closed lasting = rw r (lasting (rw r at n))
 
@@ -107,7 +103,4 @@ spaced m end (End free ∷ before) lasts first by = spaced m end before lasts fi
 spaced m end (Set x ∷ before) lasts first by =
     let closed = spaced m (slot_of before - 1) before lasts first in
     let lasting = spaced m end before lasts first in
-    let apart = λ (ok : is_ok (reply_to m before) ≡ true). on_top m
-    record { start = slot_of before; end = end; flag = next_flag m before; bytes = x }
-    (plan_of m (slot_of before - 1) before) (closed (began_earlier m before lasts ok)) in
-    grind (arith, nat_tests, before_next m before)
+    grind (arith, nat_tests, on_top, began_earlier, before_next)

@@ -8,8 +8,7 @@ use Rattle.std.proofs.lemmas.Bool.Decides.{nat_tests}
 use Rattle.rds_fields.specs.declared.head.Head.{Head}
 use Rattle.rds_assembly.specs.Body.{segment_count, text_body}
 use Rattle.rds_encoder.specs.declared.round.Turn.TheVariants.{Text}
-use Rattle.rds_encoder.specs.Entries.{Entry, Tick, Move, End, name_moves, slot_of}
-use Rattle.rds_encoder.specs.Entries.{text_moves}
+use Rattle.rds_encoder.specs.Entries.{Entry, Tick, Move, End, name_moves, slot_of, text_moves}
 use Rattle.rds_encoder.specs.Plan.{OnAir, bytes_of, on_air}
 use Rattle.rds_encoder.specs.Round.{turn_in}
 use Rattle.rds_encoder.specs.Sent.{count_from, is_text_turn, is_turn, next_address, turn_of}

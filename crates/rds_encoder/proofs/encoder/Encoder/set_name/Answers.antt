@@ -1,6 +1,5 @@
-use Rattle.std.proofs.Common.{arith}
+use Rattle.std.proofs.Common.{arith, ◌∙◌, sym}
 use Rattle.std.proofs.lemmas.Bool.Decides.{nat_tests}
-use Rattle.std.proofs.Common.{◌∙◌, sym}
 use Rattle.rds_encoder.specs.Entries.{name_moves}
 use Rattle.rds_encoder.proofs.Replies.{names_after_silence, names_in_silence, passed_on}
 use Rattle.rds_encoder.proofs.Sets.{name_accepted}
@@ -15,9 +14,6 @@ returns-in_err-check_silence-clause-stands c station m entries stands = grind (a
 
 pub returns-in_err-set-clause-reply : goal.returns-in_err-set-clause-reply
 returns-in_err-set-clause-reply c station m entries stands = grind (arith, nat_tests, passed_on, names_after_silence)
-
-pub returns-in_err-set-clause-stands : goal.returns-in_err-set-clause-stands
-returns-in_err-set-clause-stands c station m entries stands = grind (arith, nat_tests)
 
 pub returns-clause-reply : goal.returns-clause-reply
 returns-clause-reply c station m entries stands = grind (arith, nat_tests, names_after_silence)

@@ -1,5 +1,4 @@
-use Rattle.std.proofs.Common.{arith}
-use Rattle.std.proofs.Common.{◌≡◌, ◌∙◌, Ok}
+use Rattle.std.proofs.Common.{arith, ◌≡◌, ◌∙◌, Ok}
 use Rattle.rds_encoder.specs.Entries.{text_moves}
 use Rattle.rds_encoder.specs.Reply.{reply_to}
 use Rattle.rds_encoder.proofs.Replies.{silence_over}

@@ -1,10 +1,6 @@
 use Rattle.std.proofs.Common.{arith}
-use Rattle.std.proofs.lemmas.Bool.Decides.{nat_tests}
 use Rattle.rds_encoder.specs.Entries.{text_moves}
 use Rattle.rds_encoder.proofs.stored.StoredEncoder.check_tags.Goals as goal
-
-pub returns-in_default-clause-reply : goal.returns-in_default-clause-reply
-returns-in_default-clause-reply c station m entries st = grind (arith, nat_tests)
 
 pub returns-then-not-ends_in-clause-reply : goal.returns-then-not-ends_in-clause-reply
 returns-then-not-ends_in-clause-reply c station m entries st =

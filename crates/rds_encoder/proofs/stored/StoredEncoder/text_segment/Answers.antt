@@ -3,9 +3,6 @@ use Rattle.std.proofs.lemmas.Bool.Decides.{nat_tests}
 use Rattle.rds_encoder.specs.Entries.{text_moves}
 use Rattle.rds_encoder.proofs.stored.StoredEncoder.text_segment.Goals as goal
 
-pub returns-in_err-text-clause-sent : goal.returns-in_err-text-clause-sent
-returns-in_err-text-clause-sent c stored station m entries st = grind (arith, nat_tests)
-
 pub returns-clause-sent : goal.returns-clause-sent
 returns-clause-sent c stored station m entries st =
     grind (arith, nat_tests, c.in_ok-text.ensures.on_air m (text_moves entries), c.flag.ensures m (text_moves entries))

@@ -1,9 +1,9 @@
+use Rattle.std.proofs.lemmas.Bool.Decides.{nat_tests}
 use Rattle.std.proofs.Common.{arith}
-use Rattle.rds_encoder.proofs.OnAir.{lasts_alike, start_on_air}
+use Rattle.rds_encoder.proofs.OnAir.{start_on_air}
 use Rattle.rds_encoder.proofs.stored.StoredHold.has_lasted.Goals as goal
 
 pub returns : goal.returns
 returns c moves air h on =
     let last = start_on_air c.args.distance moves in
-    let left = h.left in
-    grind (arith, lasts_alike)
+    grind (arith, nat_tests)

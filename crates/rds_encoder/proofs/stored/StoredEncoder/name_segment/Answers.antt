@@ -1,6 +1,0 @@
-use Rattle.std.proofs.Common.{arith}
-use Rattle.std.proofs.lemmas.Bool.Decides.{nat_tests}
-use Rattle.rds_encoder.proofs.stored.StoredEncoder.name_segment.Goals as goal
-
-pub returns-clause-sent : goal.returns-clause-sent
-returns-clause-sent c stored station m entries st = grind (arith, nat_tests)
