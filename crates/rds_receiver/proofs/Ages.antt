@@ -1,12 +1,12 @@
 -- Lemmas: the ages that the plain numbers of a receiver stand for.
-use Rattle.std.proofs.Common.{◌≡◌, ◌≢◌, ◌⊎◌, ◌+◌, ◌-◌, ◌<◌, ◌≤◌, ℕ, List, [], ◌∷◌, Option, Some, None}
-use Rattle.std.proofs.Common.{length, refl, sym, ap, ◌∙◌, inl, inr, arith}
+use Rattle.std.proofs.Common.{◌≡◌, ◌≢◌, ◌⊎◌, ◌+◌, ◌-◌, ◌<◌, ◌≤◌, ℕ, List, ◌∷◌, Option, Some, None}
+use Rattle.std.proofs.Common.{length, ap, ◌∙◌, inl, inr, arith}
 use Rattle.std.specs.FinMap.{empty, get-empty, get-insert, insert}
 use Rattle.std.specs.Ordering.{nat_cmp}
 use Rattle.std.specs.Cmp.{unsigned_tied}
 use mathlib.Core.Bool.{not}
 use Rattle.std.proofs.lemmas.Cmp.{nat_cmp_total}
-use Rattle.std.proofs.lemmas.Bool.{cases_eq, cases_lt, cond-false, eq-eqb}
+use Rattle.std.proofs.lemmas.Bool.{cases_lt, cond-false, eq-eqb}
 use Rattle.std.proofs.lemmas.Bool.Decides.{nat_tests}
 use Rattle.rds_fields.specs.declared.message.Message.{Message}
 use Rattle.rds_fields.specs.Stored.{fields_stored, is_set, pair_stored}
@@ -14,20 +14,15 @@ use Rattle.rds_assembly.specs.Cells.{Cells}
 use Rattle.rds_assembly.specs.Held.{held_cells}
 use Rattle.rds_assembly.proofs.HeldLemmas.{nothing_held}
 use Rattle.rds_receiver.specs.Older.{AreOlder, IsOlder}
-use Rattle.rds_receiver.specs.Receipts.{Segment, name_fragment, name_of, segments, text_fragment}
+use Rattle.rds_receiver.specs.Receipts.{name_fragment, name_of, segments, text_fragment}
 use Rattle.rds_receiver.specs.declared.fragment.Fragment.{Fragment}
 use Rattle.rds_receiver.specs.Run.{begins_in, run}
 use Rattle.rds_receiver.specs.Holds.{HoldsAt, HoldsRun, newest_slot}
 use Rattle.rds_receiver.specs.State.{HeldSegments, DisplayState}
 use Rattle.rds_receiver.specs.Stored.{AreWithin, IsStoredDisplay, age_stored, display_stored, segments_stored}
 use Rattle.rds_receiver.specs.Tags.{pair_from}
-use Rattle.rds_receiver.specs.NotShown.{why_of}
-use Rattle.rds_receiver.specs.declared.why.WhyNone.{WhyNone}
-use Rattle.rds_receiver.specs.declared.why.WhyNone.TheVariants.{Dropped, Incomplete}
-use Rattle.rds_receiver.proofs.NotShown.{why_held}
-use Rattle.rds_receiver.proofs.Runs.{equal_or_not, run_older, run_over, run_recent}
+use Rattle.rds_receiver.proofs.Runs.{equal_or_not}
 use Rattle.rds_receiver.proofs.Steps.{name_heard}
-use Rattle.rds_receiver.proofs.ConfirmingSteps.{is_not_held}
 use Rattle.rds_receiver.specs.declared.display.StoredDisplay.{StoredDisplay}
 use Rattle.rds_receiver.specs.declared.display.StoredSegments.{StoredSegments}
 use Rattle.rds_fields.specs.declared.stored.StoredPair.{StoredPair}
@@ -70,65 +65,13 @@ pub looked : (m rest : ℕ) (s one after : StoredSegments) → 0 < m → AreWith
     → (s.later ≡ 0 → one ≡ record s { mask = 0 })
     → (one.mask ≢ 0 → rest ≤ one.later) → after ≡ record one { later = one.later - rest }
     → AreOlder m (segments_stored m 1 s) (segments_stored m rest after)
-looked m rest s one after lasts within later due soon is = rw is (by (cases_eq s.mask 0) (cases_eq s.later 0))
-  where
-    by : (s.mask ≡ 0) ⊎ (s.mask ≢ 0) → (s.later ≡ 0) ⊎ (s.later ≢ 0)
-        → AreOlder m (segments_stored m 1 s) (segments_stored m rest (record one { later = one.later - rest }))
-    by (inl none) (inl now) =
-        let old = age_none m 1 s none in
-        rw (due now) record {
-          gone = λ _ i. record { cells = held_cells (sym none i) s.bytes; flag = is_set s.flag; age = sym old i };
-          older = λ l. absurd (omega arith);
-          over = λ e. absurd (omega arith);
-        }
-    by (inl none) (inr then_) =
-        let old = age_none m 1 s none in
-        let new = age_none m rest (record s { later = s.later - rest }) none in
-        rw (later (omega arith)) record {
-          gone = λ _ i. record { cells = held_cells s.mask s.bytes; flag = is_set s.flag; age = (new ∙ sym old) i };
-          older = λ l. absurd (omega arith);
-          over = λ e. absurd (omega arith);
-        }
-    by (inr some) (inl now) =
-        let old = age_held m 1 s some in
-        rw (due now) record {
-          gone = λ l. absurd (omega arith);
-          older = λ l. absurd (omega arith);
-          over = λ _ i. record { cells = nothing_held s.bytes i; flag = is_set s.flag; age = m };
-        }
-    by (inr some) (inr then_) =
-        let e = later (omega arith) in
-        let old = age_held m 1 s some in
-        let new = age_held m rest (record s { later = s.later - rest }) some in
-        let rests = (rw e at soon) some in
-        let left = within some in
-        let more : age_stored m rest (record s { later = s.later - rest }) ≡ age_stored m 1 s + 1 = omega arith in
-        rw e record {
-          gone = λ l. absurd (omega arith);
-          older = λ _ i. record { cells = held_cells s.mask s.bytes; flag = is_set s.flag; age = more i };
-          over = λ q. absurd (omega arith);
-        }
+looked m rest s one after lasts within later due soon is = search (arith, age_none, age_held, nothing_held)
 
 run_older_at : (m first : ℕ) (pick : Message → Option Fragment) (heard : List (Option Message)) (h now : HeldSegments)
     → AreOlder m h now
     → HoldsRun m (newest_slot first heard) (run m (newest_slot first heard) (segments pick first heard)) h
     → HoldsRun m (first + length heard) (run m (first + length heard) (segments pick first heard)) now
-run_older_at m first pick [] h now older st = grind (arith, older.gone)
-run_older_at m first pick (x ∷ before) h now older st = run_older m (first + length before)
-    (first + length (x ∷ before)) (segments pick first (x ∷ before)) h now (omega arith) older st
-
--- a run that is not over is that of the slot before
-goes_on : (m t n : ℕ) (segs : List Segment) (h : HeldSegments) → t ≤ n → HoldsRun m n (run m n segs) h → h.age < m
-    → run m t segs ≡ run m n segs
-goes_on m t n [] h later st young = refl
-goes_on m t n (g ∷ older) h later st young = elim (cases_lt n (g.slot + m)) [
-  | inl l ↦ run_recent m t g older (omega arith) ∙ sym (run_recent m n g older l)
-  | inr over ↦ absurd (let none = rw (run_over m n g older over) at st in omega (arith, none.age))
-]
-
-not_later : (first : ℕ) (heard : List (Option Message)) → newest_slot first heard ≤ first + length heard
-not_later first [] = omega arith
-not_later first (x ∷ before) = omega arith
+run_older_at m first pick heard h now older st = grind (arith, nat_tests)
 
 -- a receiver one slot later
 pub receiver_older : (m first : ℕ) (r after : DisplayState) (heard : List (Option Message)) → IsOlder r after
@@ -153,24 +96,13 @@ receiver_older m first r after heard older st = record {
     text = run_older_at m first text_fragment heard r.text after.text (rw st.dwell at older.text) st.text
 
     none : m ≤ after.text.age → (r.text.age < m) ⊎ (m ≤ r.text.age) → after.pair ≡ None
-    none over (inl l) =
-        let ages = rw st.dwell at older.text in
-        let now = λ (young : r.text.age + 1 < m). ap (λ (h : HeldSegments). h.age) (ages.older young) in
-        let dwell = st.dwell in
-        older.dropped (grind (arith, now))
-    none over (inr old) =
-        let before = is_not_held m t (segments text_fragment first heard) r.text st.text (λ l. omega arith) in
-        let was = st.pair in
-        elim older.pair [ inl same ↦ same ∙ was ∙ rw before | inr gone ↦ gone ]
+    none over (inl l) = search arith
+    none over (inr old) = grind (arith, nat_tests)
 
     by_age : (after.text.age < m) ⊎ (m ≤ after.text.age)
         → after.pair ≡ pair_from first (begins_in (run m n (segments text_fragment first heard))) heard
-    by_age (inl l) =
-        let same = goes_on m t n (segments text_fragment first heard) after.text (not_later first heard) text l in
-        older.held (rw st.dwell l) ∙ st.pair ∙ rw same
-    by_age (inr over) =
-        rw (is_not_held m n (segments text_fragment first heard) after.text text (λ l. omega arith))
-        (none over (cases_lt r.text.age m))
+    by_age (inl l) = grind (arith, nat_tests)
+    by_age (inr over) = grind (arith, nat_tests)
 
 -- what a look does to the segments of one service
 pub record Looks (m rest : ℕ) (s one : StoredSegments) (later : ℕ) : Type 0 where
@@ -203,39 +135,8 @@ pub receiver_looked : (r : StoredDisplay) (rest : ℕ) (text name : StoredSegmen
           { later = later_name };
       pair = pair;
     }))
-receiver_looked r rest text name later later_name pair stored texts names stays gone = record {
-  dwell = refl;
-  text = look_older r.dwell rest r.text text later stored.soon texts;
-  name = look_older r.dwell rest r.name name later_name stored.soon names;
-  pair = by (cases_eq text.mask 0);
-  held = λ l. stays (some_held r.dwell rest (record text { later = later }) l);
-  dropped = λ last. gone (none last (cases_eq r.text.later 0));
-  known = refl;
-}
-  where
-    by : (text.mask ≡ 0) ⊎ (text.mask ≢ 0) → (pair_stored pair ≡ pair_stored r.pair) ⊎ (pair_stored pair ≡ None)
-    by (inl none) = inr (gone none)
-    by (inr some) = inl (stays some)
-
-    by_mask : r.text.later ≢ 0 → age_stored r.dwell 1 r.text + 1 ≡ r.dwell → (r.text.mask ≡ 0) ⊎ (r.text.mask ≢ 0)
-        → r.text.mask ≡ 0
-    by_mask then_ last (inl none) = none
-    by_mask then_ last (inr some) = (let age = age_held r.dwell 1 r.text some in let left = stored.text some
-        in absurd (omega (arith, age, left, last, then_)))
-
-    none : age_stored r.dwell 1 r.text + 1 ≡ r.dwell → (r.text.later ≡ 0) ⊎ (r.text.later ≢ 0) → text.mask ≡ 0
-    none last (inl now) = ap (λ (x : StoredSegments). x.mask) (texts.due now)
-    none last (inr then_) = ap (λ (x : StoredSegments). x.mask) (texts.stays (omega (arith, then_)))
-        ∙ by_mask then_ last (cases_eq r.text.mask 0)
-
--- why the segments of a run show nothing
-pub why_stored : (m t d rest : ℕ) (segs : List Segment) (s : StoredSegments) (why : WhyNone) → 0 < rest → rest ≤ d
-    → d ≡ m → HoldsRun m t (run m t segs) (segments_stored d rest s)
-    → (s.mask ≢ 0 → why ≡ Incomplete) → (s.mask ≡ 0 → why ≡ Dropped) → why ≡ why_of (run m t segs)
-why_stored m t d rest segs s why rests soon dwell holds held none =
-    why_held m t segs (segments_stored d rest s) why (omega (arith, rests, soon, dwell)) holds
-    (λ l. held (some_held d rest s (omega (arith, l, dwell))))
-    (λ old. none (none_held d rest s rests soon (λ l. old (omega (arith, l, dwell)))))
+receiver_looked r rest text name later later_name pair stored texts names stays gone =
+    search (arith, look_older, some_held, age_held)
 
 -- a slot with a name segment
 pub name_taken : (m first : ℕ) (r : StoredDisplay) (name : StoredSegments) (heard : List (Option Message))
@@ -247,9 +148,7 @@ pub name_taken : (m first : ℕ) (r : StoredDisplay) (name : StoredSegments) (he
     → name.later ≡ r.dwell - r.rest
     → HoldsAt m (first + length heard) first (display_stored r) heard
     → HoldsAt m (first + length heard) first (display_stored (record r { name = name })) (Some (name_of p) ∷ heard)
-name_taken m first r name heard p same other flag later st =
-    name_heard m first (display_stored r) (display_stored (record r { name = name })) heard p refl refl refl refl
-    record { same = same; other = other; flag = flag; age = age (equal_or_not p.flag (is_set r.name.flag)) } st
+name_taken m first r name heard p same other flag later st = search (arith, name_heard, equal_or_not, age)
   where
     age : (p.flag ≡ is_set r.name.flag) ⊎ (p.flag ≢ is_set r.name.flag) → age_stored r.dwell r.rest name ≡ 0
     age (inl e) = age_taken r.dwell r.rest name (held_cells r.name.mask r.name.bytes) p.address p.bytes (same e) later

@@ -20,12 +20,12 @@ use Rattle.rds_receiver.specs.Stored.{IsStoredReceiver, receiver_stored}
 use Rattle.rds_receiver.specs.declared.receiver.Receiver.{Receiver}
 use Rattle.rds_receiver.specs.Confirmed.{confirmed, counted_in, last_at, last_pair, pair_again, same_pair}
 use Rattle.rds_receiver.specs.Confirmed.{same_tag, segment_again}
-use Rattle.rds_receiver.specs.ConfirmedLemmas.{confirmed_long, counted_long, newest_counted, one_flag, one_pair}
+use Rattle.rds_receiver.specs.ConfirmedLemmas.{confirmed_long, counted_long, newest_counted, one_pair}
 use Rattle.rds_receiver.specs.Confirming.{Counts, HasAged, HoldsBy, HoldsLast, HoldsLastPair, HoldsLasts, HoldsLastsIn}
 use Rattle.rds_receiver.specs.Confirming.{LastSegment, RepeatsSegment, cell_in, one_slot_older}
 use Rattle.rds_receiver.specs.Confirming.{pair_left_of, text_begins}
 use Rattle.rds_receiver.proofs.Pairs.{AllBelow, run_below, segments_below}
-use Rattle.rds_receiver.proofs.Runs.{before_other, before_same, equal_or_not, run_recent, same_is}
+use Rattle.rds_receiver.proofs.Runs.{equal_or_not, same_is}
 use Rattle.rds_receiver.proofs.Steps.{nothing_heard}
 
 -- a test that is not true
@@ -33,20 +33,6 @@ pub not_true : (b : Bool) → b ≡ false → b ≡ true → ⊥
 not_true b f t = cc
 
 -- ---- the last segment at an address
-
-abbrev pub segment_in : ℕ → Fragment → Segment
-segment_in n p = record { slot = n; fragment = p }
-
--- slot n is the next one after slot t, or there is no last segment
-last_older : (w t n : ℕ) (last : Option Segment) (old new : LastSegment) → (n ≡ t + 1) ⊎ (last ≡ None)
-    → new ≡ one_slot_older old → HoldsLast w t last old → HoldsLast w n last new
-last_older w t n last old new next is st = grind arith
-
--- the last segment at address i after one at address a was taken
-last_taken : (w n : ℕ) (segs : List Segment) (p : Fragment) (i : ℕ) (old new : LastSegment)
-    → (i ≡ p.address → new ≡ record { flag = p.flag; bytes = p.bytes; left = w }) → (i ≢ p.address → new ≡ old)
-    → HoldsLast w n (last_at i segs) old → HoldsLast w n (last_at i (segment_in n p ∷ segs)) new
-last_taken w n segs p i old new here others st = grind (arith, nat_tests)
 
 -- a segment is confirmed exactly if the last one at its address confirms it
 again : (w n : ℕ) (p : Fragment) (last : Option Segment) (s : LastSegment) → HoldsLast w n last s
@@ -59,10 +45,7 @@ again w n p (Some g) s st is =
 
 not_again : (w n : ℕ) (p : Fragment) (last : Option Segment) (s : LastSegment) → HoldsLast w n last s
     → (RepeatsSegment p s → ⊥) → segment_again w n p.flag p.bytes last ≡ None
-not_again w n p None s st is = refl
-not_again w n p (Some g) s st is =
-    let bytes = (bytes_eq-Decides p.bytes g.fragment.bytes).0 in
-    grind (arith, nat_tests, one_flag p.flag g.fragment.flag)
+not_again w n p last s st is = grind (arith, nat_tests, bytes_eq-Decides)
 
 -- ---- the last pair of tags
 
@@ -71,13 +54,7 @@ pub pair_below : (first : ℕ) (heard : List (Option Message)) (u : ℕ) (pair :
     → last_pair first heard ≡ Some (u, pair) → u < first + length heard
 pair_below first [] u pair e = absurd (cc)
 pair_below first (Some (Tags q) ∷ before) u pair e = grind arith
-pair_below first (None ∷ before) u pair e = (let h = pair_below first before u pair e in omega arith)
-pair_below first (Some _ ∷ before) u pair e = (let h = pair_below first before u pair e in omega arith)
-
--- one slot later
-pair_older : (w t n since : ℕ) (last : Option (ℕ × PairFields)) → n ≡ t + 1
-    → pair_left_of w n (Some since) last ≡ pair_left_of w t (Some since) last - 1
-pair_older w t n since last next = grind (arith, nat_tests)
+pair_below first (x ∷ before) u pair e = (let h = pair_below first before u pair e in omega arith)
 
 -- a pair that came no later than the first slot of the run confirms nothing
 no_pair_left : (w n since : ℕ) (last : Option (ℕ × PairFields))
@@ -115,29 +92,9 @@ pair_not_again w n pair (Some since) (Some (u, q)) held left st other = by (same
 
 -- ---- runs
 
--- a run that is held is not empty, and one that is not held is empty
-recent_head : (m n : ℕ) (segs : List Segment) (g : Segment) (older : List Segment) → run m n segs ≡ g ∷ older
-    → n < g.slot + m
-recent_head m n [] g older e = absurd (cc)
-recent_head m n (h ∷ rest) g older e = grind (arith, nat_tests)
-
 pub is_held : (m n : ℕ) (segs : List Segment) (held : HeldSegments) → HoldsRun m n (run m n segs) held → held.age < m
     → (g : Segment) × (older : List Segment) × (run m n segs ≡ g ∷ older)
-is_held m n segs held st young = by (run m n segs) refl st
-  where
-    by : (the_run : List Segment) → run m n segs ≡ the_run → HoldsRun m n the_run held
-        → (g : Segment) × (older : List Segment) × (run m n segs ≡ g ∷ older)
-    by [] e st = absurd (omega (arith, st.age, young))
-    by (g ∷ older) e st = (g, older, e)
-
--- after the dwell nothing is held
-pub is_not_held : (m n : ℕ) (segs : List Segment) (held : HeldSegments) → HoldsRun m n (run m n segs) held
-    → (held.age < m → ⊥) → run m n segs ≡ []
-is_not_held m n segs held st old = by (run m n segs) refl st
-  where
-    by : (the_run : List Segment) → run m n segs ≡ the_run → HoldsRun m n the_run held → run m n segs ≡ []
-    by [] e st = e
-    by (g ∷ older) e st = absurd (old (omega (arith, st.age, recent_head m n segs g older e)))
+is_held m n segs held st young = grind (arith, nat_tests)
 
 -- a run that is not empty begins somewhere before
 pub some_begin : (n : ℕ) (g : Segment) (older : List Segment) → AllBelow n (g ∷ older)
@@ -148,25 +105,18 @@ some_begin n g (h ∷ older) all = some_begin n h older all.1
 -- a run that is not empty is that of the slot before, too
 run_earlier : (m t n : ℕ) (segs : List Segment) (g : Segment) (older : List Segment) → t ≤ n → run m n segs ≡ g ∷ older
     → run m t segs ≡ g ∷ older
-run_earlier m t n [] g older before e = absurd (cc)
-run_earlier m t n (h ∷ rest) g older before e = grind (arith, nat_tests)
+run_earlier m t n segs g older before e = grind (arith, nat_tests)
 
 -- the run of texts after a segment with the same flag, or the other one
 after_same : (m n k : ℕ) (p : Fragment) (segs : List Segment) (held : HeldSegments) → k ≡ n → 0 < m
     → HoldsRun m n (run m n segs) held → p.flag ≡ held.flag
     → run m n (record { slot = k; fragment = p } ∷ segs) ≡ record { slot = k; fragment = p } ∷ run m n segs
-after_same m n k p segs held here lasts st same =
-    let before = before_same m n p.flag segs (rw (← same) at st.flag) in
-    let recent = run_recent m n record { slot = k; fragment = p } segs (omega arith) in
-    cc
+after_same m n k p segs held here lasts st same = grind (arith, nat_tests)
 
 after_other : (m n k : ℕ) (p : Fragment) (segs : List Segment) (held : HeldSegments) → k ≡ n → 0 < m
     → HoldsRun m n (run m n segs) held → p.flag ≢ held.flag
     → run m n (record { slot = k; fragment = p } ∷ segs) ≡ record { slot = k; fragment = p } ∷ []
-after_other m n k p segs held here lasts st other =
-    let before = before_other m n p.flag held.flag segs st.flag other in
-    let recent = run_recent m n record { slot = k; fragment = p } segs (omega arith) in
-    cc
+after_other m n k p segs held here lasts st other = grind (arith, nat_tests)
 
 -- ---- the whole state
 
@@ -191,10 +141,8 @@ pub grown : (w m first : ℕ) (old new : ReceiverState) (heard : List (Option Me
 grown w m first old new heard window pair cells held over received st = record {
   window = window ∙ st.window;
   two = st.two;
-  texts = λ a h. last_older w t n (last_at a (segments text_fragment first heard)) (cell_in old.segments a)
-      (cell_in new.segments a) (next text_fragment a heard) (cells a (omega arith)) (st.texts a h);
-  names = λ a h. last_older w t n (last_at a (segments name_fragment first heard)) (cell_in old.segments (16 + a))
-      (cell_in new.segments (16 + a)) (next name_fragment a heard) (cells (16 + a) (omega arith)) (st.names a h);
+  texts = λ a h. grind (arith, nat_tests);
+  names = λ a h. grind (arith, nat_tests);
   pair = record { left_is = by_age (cases_lt new.display.text.age m); same = rw pair st.pair.same };
 }
   where
@@ -223,21 +171,12 @@ grown w m first old new heard window pair cells held over received st = record {
         let next : n ≡ t + 1 = rw e (omega arith) in
         let begin = some_begin n g rest (rw r at (run_below m n n segs below)) in
         let earlier = run_earlier m t n segs g rest (omega (arith, next)) r in
-        let was = st.pair.left_is in
-        let left = pair_older w t n begin.0 (last_pair first heard) next in
-        let begins = begin.1 in
-        cc
+        grind (arith, nat_tests)
 
     by_age : (new.display.text.age < m) ⊎ (m ≤ new.display.text.age)
         → new.pair_left ≡ pair_left_of w n (begins_in (run m n segs)) (last_pair first heard)
-    by_age (inl young) =
-        let held_run = is_held m n segs new.display.text received.text young in
-        rw held_run.2 (of_run heard refl held_run.0 held_run.1 held_run.2 (held (omega (arith, received.dwell))))
-    by_age (inr old_run) =
-        rw (is_not_held m n segs new.display.text received.text (λ y. omega arith)) (over (λ y. omega (
-          arith,
-          received.dwell,
-        )))
+    by_age (inl young) = grind (arith, nat_tests)
+    by_age (inr old_run) = grind (arith, nat_tests)
 
 -- a text segment was taken
 pub text_confirmed : (w m first : ℕ) (heard : List (Option Message)) (old new : ReceiverState) (p : Fragment)
@@ -257,8 +196,7 @@ text_confirmed w m first heard old new p is within window receiver pair taken ot
       lasts = record {
         window = window ∙ st.lasts.window;
         two = st.lasts.two;
-        texts = λ i h. last_taken w n (segments text_fragment first heard) p i (cell_in old.segments i)
-            (cell_in new.segments i) (here_at i) (others i (omega arith)) (st.lasts.texts i h);
+        texts = λ i h. grind (arith, nat_tests);
         names = λ i h. rw (others (16 + i) (omega arith) (λ e. omega arith)) (st.lasts.names i h);
         pair = record {
           left_is = (let k = kept is refl in let left = by is refl in cc);
@@ -285,12 +223,10 @@ text_confirmed w m first heard old new p is within window receiver pair taken ot
         ∷ confirmed w m first heard
     kept true e = rw (again w n p (last_at p.address (segments text_fragment first heard))
         (cell_in old.segments p.address) (st.lasts.texts p.address within) (if_again e)).1
-    kept false e = rw (not_again w n p (last_at p.address (segments text_fragment first heard))
-        (cell_in old.segments p.address) (st.lasts.texts p.address within) (λ r. not_true is e (then_again r)))
+    kept false e = search (arith, not_again, not_true, n)
 
     none_new : pair_left_of w n (Some (first + length (confirmed w m first heard))) (last_pair first heard) ≡ 0
-    none_new = no_pair_left w n (first + length (confirmed w m first heard)) (last_pair first heard)
-        (λ u pair e. omega (arith, pair_below first heard u pair e, here))
+    none_new = search (arith, no_pair_left, pair_below, n, here)
 
     joined : (the_run : List Segment) → run m n segs ≡ the_run
         → old.pair_left ≡ pair_left_of w n (begins_in
@@ -301,10 +237,8 @@ text_confirmed w m first heard old new p is within window receiver pair taken ot
     by_flag : (p.flag ≡ old.display.text.flag) ⊎ (p.flag ≢ old.display.text.flag) → is ≡ true
         → new.pair_left ≡ pair_left_of w n (text_begins m n first (Some (text_of p) ∷ confirmed w m first heard))
         (last_pair first heard)
-    by_flag (inl e) y = rw (after_same m n (first + length (confirmed w m first heard)) p segs old.display.text here
-        st.display.lasts st.display.text e) (same y e ∙ joined (run m n segs) refl)
-    by_flag (inr ne) y = rw (after_other m n (first + length (confirmed w m first heard)) p segs old.display.text here
-        st.display.lasts st.display.text ne) (other y ne ∙ sym none_new)
+    by_flag (inl e) y = grind (arith, nat_tests, after_same, n, segs, here, joined)
+    by_flag (inr ne) y = grind (arith, nat_tests, after_other, n, segs, here, none_new)
 
     by : (x : Bool) → is ≡ x
         → new.pair_left ≡ pair_left_of w n (text_begins m n first ((if x then Some (text_of p) else None)
@@ -327,13 +261,8 @@ name_confirmed w m first heard old new p is within rest taken others if_again th
     window = rw rest st.lasts.window;
     two = st.lasts.two;
     texts = λ i h. rw (others i (omega arith) (λ e. omega arith)) (st.lasts.texts i h);
-    names = λ i h. last_taken w n (segments name_fragment first heard) p i (cell_in old.segments (16 + i))
-        (cell_in new.segments (16 + i)) (here_at i) (λ ne. others (16 + i) (omega arith) (λ e. ne (omega arith)))
-        (st.lasts.names i h);
-    pair = record {
-      left_is = rw rest (let k = kept is refl in let b = by is in let left = st.lasts.pair.left_is in cc);
-      same = rw rest st.lasts.pair.same;
-    };
+    names = λ i h. grind (arith, nat_tests);
+    pair = grind (arith, nat_tests);
   };
   kept = kept is refl;
 }
@@ -350,9 +279,7 @@ name_confirmed w m first heard old new p is within rest taken others if_again th
         ∷ confirmed w m first heard
     kept true e = rw (again w n p (last_at p.address (segments name_fragment first heard))
         (cell_in old.segments (16 + p.address)) (st.lasts.names p.address within) (if_again e)).1
-    kept false e = rw (not_again w n p (last_at p.address (segments name_fragment first heard))
-        (cell_in old.segments (16 + p.address)) (st.lasts.names p.address within)
-        (λ r. not_true is e (then_again r)))
+    kept false e = search (arith, not_again, not_true, n)
 
     by : (x : Bool) → pair_left_of w n (text_begins m n first (confirmed w m first heard)) (last_pair first heard)
         ≡ pair_left_of w n (text_begins m n first ((if x then Some (name_of p) else None) ∷ confirmed w m first heard))
@@ -411,26 +338,14 @@ tags_confirmed w m first heard old new pair is rest now held over if_again if_no
     taken (inl young) =
         let held_run = is_held m n segs old.display.text st.display.text young in
         let begin = some_begin n held_run.0 held_run.1 (rw held_run.2 at (run_below m n n segs below)) in
-        let left = held (omega (arith, st.display.dwell)) in
-        let window = st.lasts.window in
-        rw (held_run.2, begin.1) (grind (arith, nat_tests))
-    taken (inr old_run) =
-        rw (is_not_held m n segs old.display.text st.display.text (λ y. omega arith)) (over (λ y. omega (
-          arith,
-          st.display.dwell,
-        )))
-
--- without a window each message counts
-pub each_counts : (m first : ℕ) (heard : List (Option Message)) (s : ReceiverState) (message : Message)
-    → HoldsBy None m (first + length heard) first s heard → Counts None m first s heard message true
-each_counts m first heard s message st = record { display = st.display; lasts = st.lasts; kept = refl }
+        search arith
+    taken (inr old_run) = grind (arith, nat_tests)
 
 -- the last segments and tags do not depend on the display
 pub with_display : (window : Option ℕ) (m t first : ℕ) (s : ReceiverState) (heard : List (Option Message))
     (d : DisplayState) → HoldsLastsIn window m t first s heard
     → HoldsLastsIn window m t first (record s { display = d }) heard
-with_display None m t first s heard d st = st
-with_display (Some w) m t first s heard d st = grind arith
+with_display window m t first s heard d st = grind (arith, nat_tests)
 
 -- the last segments and tags aged after the display
 pub lasts_aged : (w m first : ℕ) (heard : List (Option Message)) (old between : ReceiverState)
@@ -439,8 +354,7 @@ pub lasts_aged : (w m first : ℕ) (heard : List (Option Message)) (old between 
     → HoldsLastsIn (Some w) m (newest_slot first heard) first old heard
     → HoldsLastsIn (Some w) m (first + length heard) first between heard)
     → HasAged (Some w) m first old heard → HoldsBy (Some w) m (first + length heard) first between heard
-lasts_aged w m first heard old between same ages aged =
-    record { display = rw same aged.display; lasts = ages aged.display aged.lasts }
+lasts_aged w m first heard old between same ages aged = grind (arith, nat_tests)
 
 -- what a display takes from what counts, it takes from what was heard
 taken_in : (window : Option ℕ) (m first : ℕ) (heard : List (Option Message)) (r after : DisplayState)
@@ -461,31 +375,21 @@ pub message_counted : (window : Option ℕ) (m first : ℕ) (heard : List (Optio
 message_counted window m first heard between new message rest hears st = record {
   display = rw st.kept (taken_in window m first heard between.display new.display (Some message) (hears m first)
       st.display);
-  lasts = rw rest (with_display window m (first + length heard) first between (Some message ∷ heard) new.display
-      st.lasts);
+  lasts = grind (arith, nat_tests);
 }
 
 -- a message that does not count changes nothing
 pub message_not_counted : (window : Option ℕ) (m first : ℕ) (heard : List (Option Message)) (s : ReceiverState)
     (message : Message) → Counts window m first s heard message false
     → HoldsBy window m (first + length heard) first s (Some message ∷ heard)
-message_not_counted window m first heard s message st = record {
-  display = rw st.kept (taken_in window m first heard s.display s.display None (nothing_heard m first s.display)
-      st.display);
-  lasts = st.lasts;
-}
+message_not_counted window m first heard s message st = grind (arith, nat_tests, taken_in, nothing_heard)
 
 -- a slot in which nothing is heard
 pub nothing_taken : (window : Option ℕ) (m first : ℕ) (heard : List (Option Message)) (s : ReceiverState)
     → HoldsBy window m (first + length heard) first s heard
     → HoldsBy window m (first + length heard) first s (None ∷ heard)
-nothing_taken None m first heard s st = record
-    { display = nothing_heard m first s.display heard st.display; lasts = st.lasts }
-nothing_taken (Some w) m first heard s st =
-    let display = taken_in (Some w) m first heard s.display s.display None (nothing_heard m first s.display) st.display
-    in
-    let lasts = st.lasts in
-    record { display = display; lasts = search }
+nothing_taken None m first heard s st = grind (arith, nat_tests, nothing_heard)
+nothing_taken (Some w) m first heard s st = search (arith, taken_in, nothing_heard)
 
 -- a whole slot
 pub slot_stands : (t : Tuning) (s after : Receiver) (input : List (Option Group)) (slot : Option Group)
@@ -493,8 +397,4 @@ pub slot_stands : (t : Tuning) (s after : Receiver) (input : List (Option Group)
     → HoldsBy t.window t.dwell (t.first + length (heard_of t.programme input)) t.first (receiver_stored after)
     (heard_of t.programme (slot ∷ input))
     → ReceiverAt t after (slot ∷ input)
-slot_stands t s after input slot st good programme holds = record {
-  good = good;
-  tuned = programme ∙ st.tuned;
-  holds = holds;
-}
+slot_stands t s after input slot st good programme holds = grind (arith, nat_tests)

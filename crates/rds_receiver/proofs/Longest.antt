@@ -1,15 +1,13 @@
 -- Lemmas: the run is the longest last part that is chained.
-use Rattle.std.proofs.Common.{◌≡◌, ◌+◌, ◌<◌, ◌≤◌, ◌&&◌, ◌++◌, ℕ, Bool, true, false, nat_lt, List, [], ◌∷◌, length}
-use Rattle.std.proofs.Common.{refl, sym, ap, subst, inl, inr, arith}
+use Rattle.std.proofs.Common.{◌≡◌, ◌+◌, ◌<◌, ◌≤◌, ◌++◌, ℕ, Bool, true, false, List, [], ◌∷◌, length, refl, ap, arith}
 use Rattle.std.specs.Prelude.{if◌then◌else◌}
 use Rattle.std.specs.List.{All}
 use Rattle.std.proofs.lemmas.List.Elements.{All-cons, All-head, All-nil, All-tail}
-use Rattle.std.proofs.lemmas.Bool.{cases_lt}
 use Rattle.std.proofs.lemmas.Bool.Decides.{nat_tests}
 use Rattle.rds_receiver.specs.Receipts.{Segment}
-use Rattle.rds_receiver.specs.Run.{is_same, run, run_before}
+use Rattle.rds_receiver.specs.Run.{run, run_before}
 use Rattle.rds_receiver.specs.Chained.{IsChained}
-use Rattle.rds_receiver.proofs.Runs.{run_over, run_recent, same_is}
+use Rattle.rds_receiver.proofs.Runs.{run_over, run_recent}
 
 -- these segments, from the newest on, belong to the run of a segment with flag f that came in slot s
 abbrev GoOn : ℕ → Bool → ℕ → List Segment → Type 0
@@ -45,23 +43,15 @@ goes_on_chained : (m t : ℕ) (g : Segment) (older : List Segment) → t < g.slo
     → IsChained m t (g ∷ older)
 goes_on_chained m t g older h go = record {
   flag = g.fragment.flag;
-  one_flag = All-cons (λ x. x.fragment.flag ≡ g.fragment.flag) g older refl (flags_of m g.slot g.fragment.flag older
-      go);
+  one_flag = search (arith, flags_of);
   near = λ newer rest a b e. near_of m t g.fragment.flag (g ∷ older) newer rest a b (refl, h, go) e;
   recent = λ a rest e.
-      let same : g ≡ a = (cc) in
-      let slot : g.slot ≡ a.slot = ap (λ (x : Segment). x.slot) same in
-      omega arith;
+      search arith;
 }
 
 -- the run is chained
 pub run_chained : (m t : ℕ) (segs : List Segment) → IsChained m t (run m t segs)
-run_chained m t [] = none_chained m t
-run_chained m t (g ∷ older) = elim (cases_lt t (g.slot + m)) [
-  | inl h ↦ rw (run_recent m t g older h) (goes_on_chained m t g (run_before m g.fragment.flag g.slot older) h
-      (before_goes_on m g.slot g.fragment.flag older))
-  | inr h ↦ rw (run_over m t g older h) (none_chained m t)
-]
+run_chained m t segs = grind (arith, nat_tests, none_chained, run_recent, goes_on_chained, before_goes_on, run_over)
 
 part_if : (b : Bool) (g : Segment) (rest front : List Segment) → ((older : List Segment) × (rest ≡ front ++ older))
     → (older : List Segment) × (g ∷ rest ≡ (if b then g ∷ front else []) ++ older)
@@ -71,14 +61,12 @@ part_if false g rest front (older, e) = (g ∷ rest, refl)
 before_last : (m s : ℕ) (f : Bool) (segs : List Segment)
     → (older : List Segment) × (segs ≡ run_before m f s segs ++ older)
 before_last m s f [] = ([], refl)
-before_last m s f (g ∷ rest) = part_if (is_same f g.fragment.flag && nat_lt s (g.slot + m)) g rest
-    (run_before m f g.slot rest) (before_last m g.slot f rest)
+before_last m s f (g ∷ rest) = grind (arith, nat_tests, before_last m g.slot f rest, part_if)
 
 -- the run is a last part of the segments
 pub run_last : (m t : ℕ) (segs : List Segment) → (older : List Segment) × (segs ≡ run m t segs ++ older)
 run_last m t [] = ([], refl)
-run_last m t (g ∷ rest) = part_if (nat_lt t (g.slot + m)) g rest (run_before m g.fragment.flag g.slot rest)
-    (before_last m g.slot g.fragment.flag rest)
+run_last m t (g ∷ rest) = search (arith, part_if, before_last)
 
 -- the segments before the newest one of a chain belong to its run
 go_of : (m : ℕ) (f : Bool) (g : Segment) (rest : List Segment) → All (λ x. x.fragment.flag ≡ f) rest
@@ -95,10 +83,7 @@ go_of m f g (h ∷ rest) flags near = (
 before_longest : (m s : ℕ) (f : Bool) (front older : List Segment) → GoOn m f s front
     → length front ≤ length (run_before m f s (front ++ older))
 before_longest m s f [] older go = omega arith
-before_longest m s f (g ∷ front) older go =
-    let rest = before_longest m g.slot f front older go.2 in
-    let same = same_is f in
-    grind (arith, nat_tests)
+before_longest m s f (g ∷ front) older go = grind (arith, nat_tests, before_longest m g.slot f front older go.2)
 
 -- no chained last part is longer than the run
 pub run_longest : (m t : ℕ) (front older : List Segment) → IsChained m t front
@@ -108,7 +93,4 @@ run_longest m t (g ∷ front) older chain =
     let flag : g.fragment.flag ≡ chain.flag = All-head (λ x. x.fragment.flag ≡ chain.flag) g front chain.one_flag in
     let go = go_of m chain.flag g front (All-tail (λ x. x.fragment.flag ≡ chain.flag) g front chain.one_flag) chain.near
     in
-    let rest = before_longest m g.slot g.fragment.flag front older (subst (λ (f : Bool). GoOn m f g.slot front)
-    (sym flag) go) in
-    let longer : length (g ∷ front) ≤ length (g ∷ run_before m g.fragment.flag g.slot (front ++ older)) = omega arith in
-    rw (run_recent m t g (front ++ older) (chain.recent g front refl)) longer
+    search (arith, before_longest, run_recent)

@@ -1,5 +1,5 @@
 -- Lemmas: what is shown follows from what is held.
-use Rattle.std.proofs.Common.{◌≡◌, ℕ, List, Option}
+use Rattle.std.proofs.Common.{arith, ◌≡◌, ℕ, List, Option}
 use Rattle.rds_block.specs.declared.group.Group.{Group}
 use Rattle.rds_fields.specs.declared.message.Message.{Message}
 use Rattle.rds_assembly.specs.Whole.{IsWholeName, IsWholeText}
@@ -51,5 +51,4 @@ shows_counted t r input s =
 pub what_it_heard : (r : Receiver) (Holds : ℕ → ℕ → List (Option Message) → Type 0)
     → WhatItShows (display_stored r.display) Holds
     → WhatItHeard r Holds
-what_it_heard r Holds holds t input s =
-    holds t.dwell t.first (counted t (heard_of t.programme input)) (shows_counted t r input s)
+what_it_heard r Holds holds t input s = search (arith, shows_counted)

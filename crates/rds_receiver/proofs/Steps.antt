@@ -1,13 +1,14 @@
 -- Lemmas: the state of a receiver follows from its input after each slot.
-use Rattle.std.proofs.Common.{◌≡◌, ◌≢◌, ◌⊎◌, ◌+◌, ◌<◌, ℕ, true, List, ◌∷◌, Option, Some, None, length, refl, sym}
+use Rattle.std.proofs.lemmas.Bool.Decides.{nat_tests}
+use Rattle.std.proofs.Common.{◌≡◌, ◌≢◌, ◌⊎◌, ◌+◌, ◌<◌, ℕ, true, List, ◌∷◌, Option, Some, None, length, refl}
 use Rattle.std.proofs.Common.{◌∙◌, inl, inr, arith}
 use Rattle.std.specs.FinMap.{empty, insert}
 use Rattle.rds_fields.specs.declared.message.Message.{Message}
 use Rattle.rds_fields.specs.declared.message.Message.TheVariants.{Tags}
 use Rattle.rds_fields.specs.Tag.{PairFields}
-use Rattle.rds_receiver.specs.Receipts.{Segment, name_fragment, name_of, segments, text_fragment, text_of}
+use Rattle.rds_receiver.specs.Receipts.{Segment, name_of, segments, text_fragment, text_of}
 use Rattle.rds_receiver.specs.declared.fragment.Fragment.{Fragment}
-use Rattle.rds_receiver.specs.Run.{begins_in, run, run_before}
+use Rattle.rds_receiver.specs.Run.{begins_in, run_before}
 use Rattle.rds_receiver.specs.Holds.{HoldsAt}
 use Rattle.rds_receiver.specs.State.{HeldSegments, DisplayState}
 use Rattle.rds_receiver.specs.Tags.{pair_from}
@@ -17,15 +18,7 @@ use Rattle.rds_receiver.proofs.Pairs.{none_since, pair_goes_on, pair_of_name, pa
 -- a slot in which nothing is heard
 pub nothing_heard : (m first : ℕ) (r : DisplayState) (heard : List (Option Message))
     → HoldsAt m (first + length heard) first r heard → HoldsAt m (first + length heard) first r (None ∷ heard)
-nothing_heard m first r heard st = record {
-  dwell = st.dwell;
-  lasts = st.lasts;
-  text = st.text;
-  name = st.name;
-  pair = st.pair ∙ pair_of_none first (begins_in (run m (first + length heard) (segments text_fragment first heard)))
-      heard;
-  known = st.known;
-}
+nothing_heard m first r heard st = grind (arith, nat_tests, pair_of_none)
 
 -- the held segments after one was taken
 pub record Takes (p : Fragment) (h after : HeldSegments) : Type 0 where
@@ -61,12 +54,8 @@ text_heard m first r after heard p dwell known name takes stays gone st = record
 
     by_flag : (p.flag ≡ r.text.flag) ⊎ (p.flag ≢ r.text.flag)
         → after.pair ≡ pair_from first (begins_in (g ∷ run_before m p.flag n segs)) (Some (text_of p) ∷ heard)
-    by_flag (inl e) =
-        rw (before_same m n p.flag segs (rw (← e) at st.text.flag)) (stays e ∙ st.pair
-        ∙ pair_goes_on first n heard p.flag p.address p.bytes g (run m n segs) refl refl)
-    by_flag (inr ne) =
-        rw (before_other m n p.flag r.text.flag segs st.text.flag ne) (gone ne
-        ∙ sym (none_since first n heard (omega arith)))
+    by_flag (inl e) = search (arith, before_same, pair_goes_on, n, segs, g)
+    by_flag (inr ne) = search (arith, before_other, none_since, n, segs)
 
 -- a slot with a name segment
 pub name_heard : (m first : ℕ) (r after : DisplayState) (heard : List (Option Message)) (p : Fragment)
@@ -74,31 +63,14 @@ pub name_heard : (m first : ℕ) (r after : DisplayState) (heard : List (Option 
     → Takes p r.name after.name
     → HoldsAt m (first + length heard) first r heard
     → HoldsAt m (first + length heard) first after (Some (name_of p) ∷ heard)
-name_heard m first r after heard p dwell known text pair takes st = record {
-  dwell = dwell ∙ st.dwell;
-  lasts = st.lasts;
-  text = rw text st.text;
-  name = held_taken m (first + length heard)
-      (segments name_fragment first heard) p r.name after.name st.lasts takes.same takes.other takes.flag takes.age
-      st.name;
-  pair = pair ∙ st.pair ∙ pair_of_name first (begins_in
-      (run m (first + length heard) (segments text_fragment first heard))) heard p.flag p.address p.bytes;
-  known = known ∙ st.known;
-}
+name_heard m first r after heard p dwell known text pair takes st = grind (arith, nat_tests, held_taken, pair_of_name)
 
 -- a slot with tags that are held
 pub tags_heard : (m first : ℕ) (r : DisplayState) (heard : List (Option Message)) (pair : PairFields)
     → r.is_known ≡ true → r.text.age < m
     → HoldsAt m (first + length heard) first r heard
     → HoldsAt m (first + length heard) first record r { pair = Some pair } (Some (Tags pair) ∷ heard)
-tags_heard m first r heard pair known young st = record {
-  dwell = st.dwell;
-  lasts = st.lasts;
-  text = st.text;
-  name = st.name;
-  pair = tags_taken m (first + length heard) first text_fragment heard pair r.text st.text young (sym st.known ∙ known);
-  known = st.known;
-}
+tags_heard m first r heard pair known young st = grind (arith, nat_tests, tags_taken)
 
 -- a slot with a text segment, after the tags of the other flag were dropped
 pub text_heard_by : (m first : ℕ) (r between after : DisplayState) (heard : List (Option Message)) (p : Fragment)

@@ -1,4 +1,4 @@
-use Rattle.std.proofs.Common.{◌≡◌, ◌<◌, ◌+◌, ◌∷◌, Option, Some, true, ◌∙◌, length, sym, subst, arith}
+use Rattle.std.proofs.Common.{◌≡◌, ◌<◌, ◌+◌, ◌∷◌, Option, Some, true, length, sym, subst, arith}
 use Rattle.rds_fields.specs.declared.message.Message.TheVariants.{Tags}
 use Rattle.rds_fields.specs.Tag.{PairFields}
 use Rattle.std.proofs.lemmas.Bool.Decides.{nat_tests}
@@ -16,8 +16,7 @@ returns-then-eq-clause-holds c stored m first heard st =
     let held = young r.dwell c.args.self.now.rest c.args.self.now.text stored.rests stored.soon
     (c.is_held.ensures.0 c.if-is_held.true) in
     let is_young : r.text.age < m = omega (arith, held, st.dwell) in
-    let e : r.pair ≡ Some c.args.pair = sym (c.pair.ensures.value stored.pair) ∙ is_held_pair c.pair.result c.args.pair
-    (sym c.eq.ensures ∙ c.if-eq.true) in
+    let e : r.pair ≡ Some c.args.pair = search (arith, is_held_pair) in
     subst (λ (p : Option PairFields). HoldsAt m (first + length heard) first (record r { pair = p })
     (Some (Tags c.args.pair) ∷ heard)) (sym e)
     (tags_heard m first r heard c.args.pair known is_young st)

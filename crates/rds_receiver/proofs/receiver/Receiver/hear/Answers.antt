@@ -1,8 +1,9 @@
-use Rattle.std.proofs.Common.{◌+◌, ◌∙◌, ◌∷◌, ℕ, List, None, Option, Some, arith, length, refl, sym}
+use Rattle.std.proofs.lemmas.Bool.Decides.{nat_tests}
+use Rattle.std.proofs.Common.{◌+◌, ◌∙◌, ◌∷◌, ℕ, List, None, Option, Some, arith, length, sym}
 use Rattle.rds_fields.specs.declared.message.Message.{Message}
 use Rattle.rds_receiver.specs.Confirming.{HasAged, HoldsBy}
 use Rattle.rds_receiver.specs.Stored.{receiver_stored}
-use Rattle.rds_receiver.proofs.ConfirmingSteps.{each_counts, message_counted, nothing_taken}
+use Rattle.rds_receiver.proofs.ConfirmingSteps.{nothing_taken}
 use Rattle.rds_receiver.proofs.receiver.Receiver.hear.Goals as goal
 
 pub returns-in_default-clause-holds : goal.returns-in_default-clause-holds
@@ -11,8 +12,7 @@ returns-in_default-clause-holds c stored = rw (sym c.heard_blocks.ensures ∙ c.
     by : (window : Option ℕ) (m first : ℕ) (heard : List (Option Message))
         → HasAged window m first (receiver_stored c.args.self.now) heard
         → HoldsBy window m (first + length heard) first (receiver_stored c.args.self.now) (None ∷ heard)
-    by None m first heard aged = nothing_taken None m first heard (receiver_stored c.args.self.now) record
-        { display = aged.display; lasts = aged.lasts }
+    by None m first heard aged = search (arith, nothing_taken)
     by (Some w) m first heard aged = absurd (omega (arith, c.if-self-gt0.false, aged.lasts.window, aged.lasts.two))
 
 pub returns-clause-holds : goal.returns-clause-holds
@@ -22,7 +22,5 @@ returns-clause-holds c stored = rw (sym c.heard_blocks.ensures ∙ c.in-Some.is)
         → HasAged window m first (receiver_stored c.args.self.now) heard
         → HoldsBy window m (first + length heard) first (receiver_stored record c.args.self.now
         { display = c.hear.new.self }) (Some c.in-Some.message ∷ heard)
-    by None m first heard aged = message_counted None m first heard _ _ c.in-Some.message refl
-        (c.hear.ensures.holds stored.display)
-        (each_counts m first heard _ c.in-Some.message record { display = aged.display; lasts = aged.lasts })
+    by None m first heard aged = grind (arith, nat_tests)
     by (Some w) m first heard aged = absurd (omega (arith, c.if-self-gt0.false, aged.lasts.window, aged.lasts.two))

@@ -1,17 +1,14 @@
-use Rattle.std.proofs.Common.{◌+◌, ◌∷◌, ◌∙◌, ℕ, Bool, List, None, Option, Some, ap, arith, length, refl, subst, sym}
+use Rattle.std.proofs.lemmas.Bool.Decides.{nat_tests}
+use Rattle.std.proofs.Common.{◌+◌, ◌∷◌, ℕ, Bool, List, None, Option, Some, ap, arith, length, refl, subst}
 use Rattle.rds_fields.specs.declared.message.Message.{Message}
 use Rattle.rds_receiver.specs.Confirming.{Counts, HasAged, HoldsBy}
-use Rattle.rds_receiver.specs.Holds.{ShowsAlike}
-use Rattle.rds_receiver.specs.Receipts.{heard_in}
 use Rattle.rds_receiver.specs.Stored.{display_stored, receiver_stored}
 use Rattle.rds_receiver.proofs.Alike.{alike_itself}
 use Rattle.rds_receiver.proofs.ConfirmingSteps.{lasts_aged, message_counted, message_not_counted, nothing_taken}
 use Rattle.rds_receiver.proofs.receiver.Receiver.hear_if_confirmed.Goals as goal
 
 pub returns-in_default-clause-holds : goal.returns-in_default-clause-holds
-returns-in_default-clause-holds c stored =
-    rw (ap (λ d. heard_in d.pi c.args.group) (sym c.age_lasts.ensures.display) ∙ sym c.heard_blocks.ensures
-    ∙ c.in_default.is) by
+returns-in_default-clause-holds c stored = search (arith, by)
   where
     by : (window : Option ℕ) (m first : ℕ) (heard : List (Option Message))
         → HasAged window m first (receiver_stored c.args.self.now) heard
@@ -21,9 +18,7 @@ returns-in_default-clause-holds c stored =
         (ap display_stored c.age_lasts.ensures.display) (c.age_lasts.ensures.lasts stored w m first heard) aged)
 
 pub returns-then-not-confirm-clause-holds : goal.returns-then-not-confirm-clause-holds
-returns-then-not-confirm-clause-holds c stored =
-    rw (ap (λ d. heard_in d.pi c.args.group) (sym c.age_lasts.ensures.display) ∙ sym c.heard_blocks.ensures
-    ∙ c.in-Some.is) by
+returns-then-not-confirm-clause-holds c stored = grind (arith, nat_tests, by)
   where
     by : (window : Option ℕ) (m first : ℕ) (heard : List (Option Message))
         → HasAged window m first (receiver_stored c.args.self.now) heard
@@ -40,13 +35,10 @@ returns-then-not-confirm-clause-holds c stored =
 
 pub returns-then-not-confirm-clause-same : goal.returns-then-not-confirm-clause-same
 returns-then-not-confirm-clause-same c calm =
-    subst (λ d. ShowsAlike (display_stored c.args.self.now.display) (display_stored d))
-    (sym (c.confirm.ensures.display ∙ c.age_lasts.ensures.display)) (alike_itself _)
+    grind (arith, nat_tests, alike_itself, c.confirm.ensures.display, c.age_lasts.ensures.display)
 
 pub returns-clause-holds : goal.returns-clause-holds
-returns-clause-holds c stored =
-    rw (ap (λ d. heard_in d.pi c.args.group) (sym c.age_lasts.ensures.display) ∙ sym c.heard_blocks.ensures
-    ∙ c.in-Some.is) by
+returns-clause-holds c stored = grind (arith, nat_tests, by)
   where
     by : (window : Option ℕ) (m first : ℕ) (heard : List (Option Message))
         → HasAged window m first (receiver_stored c.args.self.now) heard

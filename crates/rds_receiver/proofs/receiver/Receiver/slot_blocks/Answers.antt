@@ -1,9 +1,7 @@
-use Rattle.std.proofs.Common.{◌≡◌, ◌∙◌, ◌+◌, ◌∷◌, ℕ, length, subst}
+use Rattle.std.proofs.Common.{arith, ◌≡◌, ◌∙◌}
 use Rattle.std.proofs.lemmas.Bool.{or_parts}
-use Rattle.rds_receiver.specs.Holds.{newest_slot}
-use Rattle.rds_receiver.specs.Confirming.{HoldsBy}
-use Rattle.rds_receiver.specs.Receipts.{heard_in, heard_of}
-use Rattle.rds_receiver.specs.Stored.{IsStoredReceiver, display_stored, receiver_stored}
+use Rattle.rds_receiver.specs.Receipts.{heard_of}
+use Rattle.rds_receiver.specs.Stored.{IsStoredReceiver}
 use Rattle.rds_receiver.proofs.Alike.{alike_by, stays_shown}
 use Rattle.rds_receiver.proofs.ConfirmingSteps.{display_grown, slot_stands, with_display}
 use Rattle.rds_receiver.proofs.receiver.Receiver.slot_blocks.Goals as goal
@@ -20,8 +18,7 @@ returns-clause-stands c t input st =
     (rw here at (c.hear-is_new.ensures.holds good t.window t.dwell t.first heard record {
       display = display_grown t.window t.dwell t.first _ _ heard (grown.ensures.holds st.good.display)
           st.holds.display;
-      lasts = with_display t.window t.dwell (newest_slot t.first heard) t.first (receiver_stored c.args.self.now)
-          heard (display_stored grown.new.self) st.holds.lasts;
+      lasts = search (arith, with_display);
     }))
 
 pub returns-clause-same : goal.returns-clause-same
