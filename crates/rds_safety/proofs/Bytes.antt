@@ -30,9 +30,7 @@ pub cell_has : (P : ℕ → List ℕ → Type 0) (gs : List Segment)
     → AllByRecursion (λ (g : Segment). P g.fragment.address g.fragment.bytes) gs
     → (a : ℕ) (cell : List ℕ) → get (cells_of gs) a ≡ Some cell → P a cell
 cell_has P [] all a cell e = (let none = get-empty {X = List ℕ} nat_cmp a in absurd (cc))
-cell_has P (g ∷ older) all a cell e =
-    let put = get-put (cells_of older) g.fragment.address g.fragment.bytes a in
-    grind (arith, nat_tests, cell_has P older all.1 a cell)
+cell_has P (g ∷ older) all a cell e = grind (arith, nat_tests, cell_has P older all.1 a cell, get-put)
 
 -- the segments are of a value
 abbrev pub AreParts : Kind → List ℕ → List Segment → Type 0

@@ -11,7 +11,7 @@ use Rattle.rds_fields.specs.declared.message.Message.TheVariants.{Text, Name, Ta
 use Rattle.rds_fields.specs.Tag.{PairFields}
 use Rattle.rds_receiver.specs.Receipts.{Segment, name_fragment, picked, segments, text_fragment, with_segment}
 use Rattle.rds_receiver.specs.declared.fragment.Fragment.{Fragment}
-use Rattle.rds_receiver.specs.Run.{begins_in, run, run_at, run_before}
+use Rattle.rds_receiver.specs.Run.{begins_in, run, run_at}
 use Rattle.rds_receiver.specs.Confirmed.{confirmed, if_confirmed, last_at, last_pair, needs_two, pair_again}
 use Rattle.rds_receiver.specs.Confirmed.{receipt_before, same_pair, segment_again}
 use Rattle.rds_receiver.specs.ConfirmedLemmas.{confirmed_long, one_pair}
@@ -56,8 +56,7 @@ last_pair_came : (first : ℕ) (heard : List (Option Message)) (u : ℕ) (pair :
     → last_pair first heard ≡ Some (u, pair) → HasEntry first heard u (Some (Tags pair))
 last_pair_came first [] u pair e = absurd (cc)
 last_pair_came first (Some (Tags q) ∷ before) u pair e = grind arith
-last_pair_came first (None ∷ before) u pair e = inr (last_pair_came first before u pair e)
-last_pair_came first (Some _ ∷ before) u pair e = inr (last_pair_came first before u pair e)
+last_pair_came first (x ∷ before) u pair e = inr (last_pair_came first before u pair e)
 
 -- the message of slot n was heard before in slot u, less than w slots ago
 pub record IsRepeated (w n first : ℕ) (before : List (Option Message)) (message : Message) (u : ℕ) : Type 0 where
@@ -133,8 +132,7 @@ no_origin_in first (n ∷ before) u h = grind (arith, nat_tests, no_origin_in fi
 -- an entry has the origin of its slot
 origin_beside : (first : ℕ) (before : List (Option Message)) (origins : List (Option ℕ)) (u : ℕ) (x : Option Message)
     → length origins ≡ length before → HasEntry first before u x → HasEntry first origins u (origin_in first origins u)
-origin_beside first before origins u x e came = (let w = entry_beside first before origins u x e came
-    in grind (arith, origin_in_is first origins u w.0 w.1))
+origin_beside first before origins u x e came = grind (arith, nat_tests, entry_beside, origin_in_is)
 
 -- the message was heard in slot v, where it was sent in slot s; v is slot t or less than w slots before
 pub record IsOneOfTwo (w first t s : ℕ) (heard : List (Option Message)) (origins : List (Option ℕ)) (message : Message)
@@ -163,15 +161,10 @@ one_of_two w m first before origins t s message None u beside here is o = by (ne
   where
     by : (needs : Bool) → needs_two message ≡ needs
         → IsOneOfTwo w first t s (Some message ∷ before) (None ∷ origins) message
-    by false needs =
-        let at = own_receipt w m first before message u is needs in
-        let none = no_origin_in first origins u (omega arith) in
-        absurd (cc)
+    by false needs = search (arith, own_receipt, no_origin_in)
     by true needs =
         let again = repeated w m first before message u is needs in
-        let from = origin_beside first before origins u (Some message) beside again.came in
-        let past = before_end first before u (Some message) again.came in
-        record { slot = u; came = inr again.came; from = inr (rw o at from); past = omega arith; soon = omega arith }
+        search (arith, origin_beside, before_end)
 
 -- what counts as heard twice comes from one of the two times
 pub from_one_of_two : (w m first : ℕ) (heard : List (Option Message)) (origins : List (Option ℕ)) (t s : ℕ)
@@ -226,8 +219,7 @@ wrong_confirmed w m first (x ∷ before) (own ∷ origins) t message e needs (in
 wrong_confirmed w m first (x ∷ before) (own ∷ origins) t message e needs (inr o) (inr a) =
     (let v = wrong_confirmed w m first before origins t message (omega arith) needs o a in grind arith)
 wrong_confirmed w m first (None ∷ before) (own ∷ origins) t message e needs (inl o) (inl a) = absurd (cc)
-wrong_confirmed w m first (Some n ∷ before) (own ∷ origins) t message e needs (inl o) (inl a) = by own
-    (receipt_before w m first before (confirmed w m first before) (Some n)) refl o.1 a.1
+wrong_confirmed w m first (Some n ∷ before) (own ∷ origins) t message e needs (inl o) (inl a) = search (arith, by)
   where
     by : (own r : Option ℕ) → receipt_before w m first before (confirmed w m first before) (Some n) ≡ r
         → None ≡ origin_of_two first origins own r → Some message ≡ if_confirmed r (Some n)
@@ -269,24 +261,11 @@ confirmed_is_heard w m k log raw heard once =
     by t None (Some message) o a = if_needed t message (needs_two message) refl o a
     by t (Some s) entry o a =
         let f = from_one_of_two w m raw.first raw.heard raw.origins t s heard.beside o in
-        rw (one_entry raw.first (confirmed w m raw.first raw.heard) t (Some f.message) entry f.confirms a)
-        at (heard.each f.one.slot s (Some f.message) f.one.from f.one.came)
-
--- the run of an earlier slot begins in the same slot, if nothing came in between
-begins_earlier : (m n now since : ℕ) (gs : List Segment) → n ≤ now → begins_in (run m now gs) ≡ Some since
-    → begins_in (run m n gs) ≡ Some since
-begins_earlier m n now since gs h e = grind (arith, nat_tests)
-
--- the same if a segment came later
-begins_before_one : (m n now since : ℕ) (f : Bool) (gs : List Segment) → n ≤ now
-    → begins_in (run_before m f now gs) ≡ Some since → begins_in (run m n gs) ≡ Some since
-begins_before_one m n now since f [] h e = e
-begins_before_one m n now since f (g ∷ older) h e = grind (arith, nat_tests, same_flag)
+        search (arith, one_entry)
 
 begins_before_last : (m n now since : ℕ) (p : Option Fragment) (gs : List Segment) → n ≤ now → since < now
     → begins_in (run m now (with_segment now p gs)) ≡ Some since → begins_in (run m n gs) ≡ Some since
-begins_before_last m n now since None gs h l e = begins_earlier m n now since gs h e
-begins_before_last m n now since (Some p) gs h l e = grind (arith, nat_tests, begins_before_one m n now since p.flag gs)
+begins_before_last m n now since p gs h l e = grind (arith, nat_tests)
 
 -- so a run that began before the newest slot is that of the slot before
 begins_before : (m first : ℕ) (x : Option Message) (before : List (Option Message)) (since t : ℕ) (y : Option Message)
@@ -321,8 +300,7 @@ tags_from w m first (x ∷ before) (own ∷ origins) t s since pair e begins lat
 tags_from w m first (x ∷ before) (own ∷ origins) t s since pair e begins later (inr a) (inr o) =
     let earlier = begins_before m first (if_confirmed (receipt_before w m first before (confirmed w m first before) x)
     x) (confirmed w m first before) since t (Some (Tags pair)) a later begins in
-    let f = tags_from w m first before origins t s since pair (omega arith) earlier later a o in
-    grind arith
+    search (arith, tags_from w m first before origins t s since pair (omega arith) earlier later a o)
 tags_from w m first (x ∷ before) (own ∷ origins) t s since pair e begins later (inl a) (inl o) =
     by x own (receipt_before w m first before (confirmed w m first before) x) refl o.1 a.1 (rw (← a.1) at begins)
   where
@@ -348,14 +326,10 @@ pub confirmed_is_near : (w m k now : ℕ) (log : List (Option Message)) (raw : I
 confirmed_is_near w m k now log raw heard once next = record {
   heard = confirmed_is_heard w m k log raw heard once;
   between = λ t u r s p q near.
-      let one = (from t r p).one in
-      let two = (from u s q).one in
-      omega (arith, heard.late one.slot r one.from, heard.past two.slot s two.from);
+      search (arith, from);
   since = λ t s p near. (let one = (from t s p).one in omega (arith, long, heard.late one.slot s one.from));
   past = λ t s p.
-      let one = (from t s p).one in
-      let past = before_end raw.first raw.origins one.slot (Some s) one.from in
-      omega (arith, heard.past one.slot s one.from);
+      search (arith, before_end, from);
   tags = λ t u r s pair begins later came p q.
       let one = (from t r p).one in
       let two = tags_from w m raw.first raw.heard raw.origins u s t pair heard.beside begins later came q in
@@ -390,11 +364,7 @@ own_kept w m first (x ∷ before) (own ∷ origins) u v r e (inr p) (inl q) =
     absurd (omega (arith, origins_long w m first before origins (omega arith)))
 own_kept w m first (x ∷ before) (own ∷ origins) u v r e (inr p) (inr q) = own_kept w m first before origins u v r
     (omega arith) p q
-own_kept w m first (x ∷ before) (own ∷ origins) u v r e (inl p) (inl q) = by own
-    (receipt_before w m first before (confirmed w m first before) x) p.1 q.1
-  where
-    by : (own o : Option ℕ) → Some v ≡ own → Some r ≡ origin_of_two first origins own o → r ≡ v
-    by own o p q = grind arith
+own_kept w m first (x ∷ before) (own ∷ origins) u v r e (inl p) (inl q) = grind (arith, nat_tests)
 
 -- the receipt of a segment is that of the last one at its address
 abbrev pub HasReceipts : (Message → Option Fragment) → Type 0
@@ -422,8 +392,7 @@ pub segment_is_confirmed : (pick : Message → Option Fragment) → HasReceipts 
     → HasEntry first (confirmed w m first heard) t (Some message)
 segment_is_confirmed pick receipts w m first [] message p t picks came again = absurd came
 segment_is_confirmed pick receipts w m first (x ∷ before) message p t picks (inr came) again =
-    inr (segment_is_confirmed pick receipts w m first before message p t picks came (λ older still back. again older
-    (λ u y has. inr (still u y has)) (λ u y less has. back u y less (earlier u y less has))))
+    search (arith, segment_is_confirmed pick receipts w m first before message p t picks came, earlier)
   where
     earlier : (u : ℕ) (y : Option Message) → u < t → HasEntry first (x ∷ before) u y → HasEntry first before u y
     earlier u y less has = grind (arith, before_end first before t (Some message) came)

@@ -1,6 +1,6 @@
 -- Lemmas: a receiver that shows only what it heard twice shows a text or a name of which each segment came twice.
 use Rattle.std.proofs.Common.{◌≡◌, ◌+◌, ◌<◌, ◌≤◌, ◌==◌, ℕ, Bool, true, false, List, [], ◌∷◌, length, Option, Some, refl}
-use Rattle.std.proofs.Common.{sym, ◌∙◌, inl, arith}
+use Rattle.std.proofs.Common.{sym, ◌∙◌, arith}
 use Rattle.std.proofs.lemmas.Bool.Decides.{nat_tests}
 use Rattle.std.proofs.lemmas.Slice.Eq.{bytes_eq-Decides}
 use Rattle.rds_fields.specs.declared.message.Message.{Message}
@@ -8,7 +8,7 @@ use Rattle.rds_assembly.specs.Body.{AreAllHeld, segment_count, segment_of}
 use Rattle.rds_assembly.specs.Cells.{Cells}
 use Rattle.rds_assembly.specs.OwnSegments.{all_name, all_text}
 use Rattle.rds_assembly.specs.Whole.{IsWholeName, IsWholeText}
-use Rattle.rds_encoder.specs.Plan.{Broadcast, Covers}
+use Rattle.rds_encoder.specs.Plan.{Broadcast}
 use Rattle.rds_receiver.specs.Receipts.{Segment, name_fragment, segments, text_fragment}
 use Rattle.rds_receiver.specs.declared.fragment.Fragment.{Fragment}
 use Rattle.rds_receiver.specs.Run.{cells_of, run_at}
@@ -50,13 +50,7 @@ last_since n a (h ∷ older) g falls is_in at = by (h.fragment.address == a) ref
   where
     by : (same : Bool) → (h.fragment.address == a) ≡ same → (IsIn older g → IsLastSince a g.slot older)
         → IsLastSince a g.slot (h ∷ older)
-    by true e before = record {
-      segment = h;
-      last = grind arith;
-      later = grind (arith, in_below h.slot older g falls.1);
-      is_in = inl refl;
-      address = grind (arith, nat_tests);
-    }
+    by true e before = search (arith, in_below)
     by false e before = (let l = before (grind (arith, nat_tests)) in grind arith)
 
 module _ (laws : PlanLaws) (w k m t s : ℕ) (kind : Kind) (sends : SendsItsBody kind) (pick : Message
@@ -73,18 +67,12 @@ module _ (laws : PlanLaws) (w k m t s : ℕ) (kind : Kind) (sends : SendsItsBody
   own u message p picks since came =
       let sent = heard.each u u (Some message) (hears.right u message since came) came in
       let lies = law.fragments u p (rw (alike.picked message p picks) at (mark_sent of log u (Some message) sent)) in
-      let past = before_end raw.first raw.heard u (Some message) came in
-      let mine : Covers b u = (let from = hears.from in let to = hears.to in omega arith) in
-      let same = one_covers laws (m + lateness_of_two w k) plan lies.number hears.number lies.broadcast b u law.spaced
-      lies.planned hears.planned lies.is.covers mine in
-      let part = sends.parts lies.broadcast.bytes p lies.is.fragment in
-      (rw same at lies.is.flag, rw same at part.bytes)
+      search (arith, before_end, one_covers)
 
   -- so the second receipt of each is confirmed
   second_confirmed : (a : ℕ) → (c : CameTwice pick w s a raw)
       → HasEntry raw.first (confirmed w m raw.first raw.heard) c.two (Some c.second.message)
-  second_confirmed a c = segment_is_confirmed pick receipts w m raw.first raw.heard c.second.message q c.two
-      c.second.picks c.second.heard again
+  second_confirmed a c = search (arith, segment_is_confirmed, q, again)
     where
       q : Fragment
       q = c.second.fragment
@@ -127,13 +115,7 @@ module _ (laws : PlanLaws) (w k m t s : ℕ) (kind : Kind) (sends : SendsItsBody
       IsWhole service all some each shown is
     where
       fresh : (u r : ℕ) → s ≤ u → CameFrom (confirmed_input w m raw) u r → s ≤ r
-      fresh u r since p =
-          let f = from_one_of_two w m raw.first raw.heard raw.origins u r heard.beside p in
-          omega (
-            arith,
-            own_kept w m raw.first raw.heard raw.origins u u r heard.beside (hears.right u f.message since
-                f.came) p,
-          )
+      fresh u r since p = search (arith, from_one_of_two, own_kept)
 
       each : (a : ℕ) → a < segment_count (kind.body b.bytes)
           → CameSince (segments pick raw.first (confirmed w m raw.first raw.heard)) s a
@@ -143,8 +125,7 @@ module _ (laws : PlanLaws) (w k m t s : ℕ) (kind : Kind) (sends : SendsItsBody
             segment = came_in c.two c.second.fragment;
             since = omega arith;
             at = c.second.at;
-            is_in = in_segments pick raw.first (confirmed w m raw.first raw.heard) c.two c.second.message
-                c.second.fragment (second_confirmed a c) c.second.picks;
+            is_in = search (arith, in_segments, second_confirmed);
           }
 
 pub text_shown_twice : PlanLaws → WhoHearsEachSegmentTwiceShowsTheText

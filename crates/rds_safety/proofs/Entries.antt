@@ -48,8 +48,7 @@ pub record Arrival (log : List (Option Message)) (input : Input) (t : ℕ) (mess
 -- a message with a mark that was heard arrived from a slot of the log
 pub arrival : (log : List (Option Message)) (input : Input) (t : ℕ) (message : Message) → IsHeard log input
     → (IsUnmarked (Some message) → ⊥) → HasEntry input.first input.heard t (Some message) → Arrival log input t message
-arrival log input t message hears marked a = by (entry_beside input.first input.heard input.origins t (Some message)
-    hears.beside a)
+arrival log input t message hears marked a = search (arith, entry_beside, by)
   where
     by : (origin : Option ℕ) × HasEntry input.first input.origins t origin → Arrival log input t message
     by (None, o) = absurd (marked (hears.each t None (Some message) o a))
@@ -57,11 +56,7 @@ arrival log input t message hears marked a = by (entry_beside input.first input.
 
 -- in order, each entry is that of its origin
 pub in_order_is_heard : (log : List (Option Message)) (input : Input) → IsHeardInOrder log input → IsHeard log input
-in_order_is_heard log input order = record {
-  beside = order.beside;
-  each = λ t origin entry o a. by origin entry
-      (order.each t origin entry o a);
-}
+in_order_is_heard log input order = search (arith, by)
   where
     by : (origin : Option ℕ) (entry : Option Message) → IsOfItsOrigin log origin entry
         → IsOfItsOriginIfMarked log origin entry

@@ -1,5 +1,6 @@
 -- Lemmas about the runs of a receiver with the flag bit alone that heard a segment of each broadcast before news: all
 -- segments of a run are of its source's value, or this value is empty.
+use Rattle.std.proofs.lemmas.Bool.Decides.{nat_tests}
 use Rattle.std.proofs.Common.{◌≡◌, ◌≢◌, ◌⊎◌, ◌+◌, ◌-◌, ◌<◌, ◌≤◌, ℕ, zero, suc, Bool, List, [], ◌∷◌, length}
 use Rattle.std.proofs.Common.{Option, refl, sym, ◌∙◌, inl, inr, arith}
 use Rattle.std.specs.Prelude.{bytes_eq}
@@ -70,10 +71,7 @@ like_or_not a b = elim (same_or_other a.flag b.flag) [
 is_news : PlanLaws → (plan : List Broadcast) (l : ℕ) (c e b : Broadcast) → HasNumber plan (l - 1) c
     → HasNumber plan (l - 2) e → 1 < l → b.bytes ≢ [] → (IsLike c b → ⊥) → (IsLike e b → ⊥)
     → IsNews plan l b
-is_news laws plan l c e b p q two filled one other = record { filled = filled; new = new }
-  where
-    new : (j : ℕ) (a : Broadcast) → HasNumber plan j a → j < l → l ≤ j + 2 → a.flag ≡ b.flag → a.bytes ≡ b.bytes → ⊥
-    new j a r less near flag bytes = grind (arith, laws.one plan (l - 2) a e, laws.one plan (l - 1) a c, one, other)
+is_news laws plan l c e b p q two filled one other = grind (arith, nat_tests)
 
 module _ (laws : PlanLaws) (names_one : EachNumberNamesOne) (d now : ℕ) (pick : Message → Option Fragment)
     (plan : List Broadcast) (log : List (Option Message)) (input : Input)
@@ -206,10 +204,7 @@ pub run_is_of_one_value : PlanLaws → EachNumberNamesOne
     → ((t s : ℕ) → CameFrom input t s → s ≤ now) → HearsEach IsNews pick plan now input
     → RunIsOfOneValue kind plan input (run_by_flag pick input)
 run_is_of_one_value laws names_one d now kind pick of plan log input alike law turns order past each =
-    by (segments pick input.first input.heard) (segments_fall pick input.first input.heard)
-    (all_picked pick input.first input.heard)
-    (all_of_any d kind pick of plan log input (segments pick input.first input.heard) alike law
-    (in_order_is_heard log input order) (all_picked pick input.first input.heard)) (λ x is_in. is_in)
+    search (arith, segments_fall, all_picked, all_of_any, in_order_is_heard, by)
   where
     by : (gs : List Segment) → AreFalling (input.first + length input.heard) gs
         → AllByRecursion (IsPicked pick input.first input.heard) gs → AllByRecursion (IsOfAny kind plan input) gs
@@ -223,10 +218,4 @@ run_is_of_one_value laws names_one d now kind pick of plan log input alike law t
         (joined_before laws names_one d now pick plan log input law.spaced order past each turns g.fragment.flag g older
         refl falls.1 picks.1 (λ x is_in before. grind (arith, holds x is_in)))
         (all_before (IsOfAny kind plan input) g.fragment.flag older all.1) in
-        record {
-          number = its.number;
-          broadcast = its.broadcast;
-          planned = its.planned;
-          newest = its.is;
-          all = (grind arith, rest);
-        }
+        search arith

@@ -1,5 +1,6 @@
 -- Lemmas: a receiver with the flag bit alone that heard a segment of each broadcast before news shows the value of its
 -- run's source, and tags of that text; and two such receivers show neighbours.
+use Rattle.std.proofs.lemmas.Bool.Decides.{nat_tests}
 use Rattle.std.proofs.Common.{◌≡◌, ◌≢◌, ◌⊎◌, ◌+◌, ◌<◌, ◌≤◌, ℕ, Bool, List, [], ◌∷◌, length}
 use Rattle.std.proofs.Common.{Option, Some, None, refl, sym, ◌∙◌, subst, inl, inr, arith}
 use Rattle.std.specs.Prelude.{IfSome}
@@ -22,9 +23,8 @@ use Rattle.rds_receiver.specs.declared.fragment.Fragment.{Fragment}
 use Rattle.rds_receiver.specs.Run.{begins_in, cells_of, run_at}
 use Rattle.rds_receiver.specs.Shown.{IsShown, ShownView}
 use Rattle.rds_receiver.specs.Tags.{item_of, pair_from, tag_of}
-use Rattle.rds_safety.specs.FlagAlone.{HearsEach, HearsTextBeforeTags, IsFilled, IsHarmless, IsNews}
-use Rattle.rds_safety.specs.FlagAlone.{ListensByFlag, ShowsByFlag, TurnsTheFlag, flag_run, flag_run_before}
-use Rattle.rds_safety.specs.FlagAlone.{pair_by_flag, run_by_flag}
+use Rattle.rds_safety.specs.FlagAlone.{HearsEach, HearsTextBeforeTags, IsFilled, IsHarmless, IsNews, ListensByFlag}
+use Rattle.rds_safety.specs.FlagAlone.{ShowsByFlag, TurnsTheFlag, flag_run, flag_run_before, pair_by_flag, run_by_flag}
 use Rattle.rds_safety.specs.FlagLaws.{HasNewSource, HoldsItsSource, IsOfItsSource, NamesByFlagAreNew}
 use Rattle.rds_safety.specs.FlagLaws.{NamesByFlagAreOfTheirSource, NamesWithADwellAreNew, NewSourcesAreNear}
 use Rattle.rds_safety.specs.FlagLaws.{ShowsEmptyText, ShowsTagsOfText, TagsByFlagAreOfTheirText}
@@ -43,8 +43,7 @@ use Rattle.rds_safety.proofs.FlagRuns.{IsOfOneValue, RunIsOfOneValue, all_before
 use Rattle.rds_safety.proofs.FlagRuns.{run_is_of_one_value}
 use Rattle.rds_safety.proofs.Hearing.{AreFalling, IsPicked, all_picked, segments_fall}
 use Rattle.rds_safety.proofs.HeldWhole.{IsIn, all_in, came_in, first_in, in_below, in_segments, one_covers}
-use Rattle.rds_safety.proofs.OneBroadcast.{PicksWhatIsMarked, RunLiesInOne, heard_run_lies}
-use Rattle.rds_safety.proofs.OwnClocks.{own_is_near}
+use Rattle.rds_safety.proofs.OneBroadcast.{PicksWhatIsMarked}
 use Rattle.rds_safety.proofs.Pairs.{names_piece, tags_are_marked, was_heard}
 use Rattle.rds_safety.proofs.Safety.{name_fragments_marked, text_fragments_marked}
 use Rattle.rds_safety.proofs.Told.{IsSegmentLike}
@@ -81,8 +80,7 @@ fragments_of_value : (kind : Kind) (plan : List Broadcast) (input : Input) (b : 
     → AreParts kind b.bytes gs
 fragments_of_value kind plan input b [] some all = tt
 fragments_of_value kind plan input b (g ∷ older) some all =
-    let rest = fragments_of_value kind plan input b older some all.1 in
-    grind arith
+    grind (arith, nat_tests, fragments_of_value kind plan input b older some all.1)
 
 -- there are some bytes, or none
 pub some_or_none : (bytes : List ℕ) → (bytes ≡ []) ⊎ (bytes ≢ [])
@@ -96,17 +94,11 @@ pub value_of_run : (kind : Kind) (IsWhole : Cells → List ℕ → Type 0) (plan
     → (v : IsOfOneValue kind plan input g older) → IsWhole (cells_of (g ∷ older)) x → x ≡ v.broadcast.bytes
 value_of_run kind IsWhole plan input g older x service empty values v whole = elim (some_or_none v.broadcast.bytes) [
   | inl none ↦
-      empty.empty (cells_of older) g.fragment x (rw none at (values v.number v.broadcast v.planned))
-      (rw none at v.newest.has.fragment) whole ∙ sym none
+      search arith
   | inr some ↦
       service.own (g ∷ older) v.broadcast.bytes x (values v.number v.broadcast v.planned)
       (fragments_of_value kind plan input v.broadcast (g ∷ older) some v.all) whole
 ]
-
--- the source of the run
-source_is : (kind : Kind) (plan : List Broadcast) (input : Input) (g : Segment) (older : List Segment)
-    → (v : IsOfOneValue kind plan input g older) → IsSource plan input (g ∷ older) v.number v.broadcast
-source_is kind plan input g older v = grind arith
 
 pub shown_is_of_source : (kind : Kind) (IsWhole : Cells → List ℕ → Type 0) (plan : List Broadcast) (input : Input)
     (the_run : List Segment) (shown : Option (List ℕ))
@@ -118,8 +110,7 @@ shown_is_of_source kind IsWhole plan input the_run None service empty values v i
 shown_is_of_source kind IsWhole plan input [] (Some x) service empty values v is = absurd (service.none x is)
 shown_is_of_source kind IsWhole plan input (g ∷ older) (Some x) service empty values v is =
     let bytes = value_of_run kind IsWhole plan input g older x service empty values v is in
-    let source = source_is kind plan input g older v in
-    grind arith
+    grind (arith, nat_tests)
 
 pub holds_its_source : PlanLaws → (d : ℕ) (kind : Kind) (plan : List Broadcast) (input : Input) (the_run : List Segment)
     → IsSpaced d plan → RunIsOfOneValue kind plan input the_run → HoldsItsSource kind plan input the_run
@@ -179,11 +170,9 @@ module _ (laws : PlanLaws) (d : ℕ) (plan : List Broadcast) (log : List (Option
             let like = all_in (IsSegmentLike IsHarmless texts plan input v.broadcast) (flag_run (g ∷ older)) x v.all
             (kept g older x h.slot falls begins (omega arith) is_in) in
             let origin = one_origin input w.slot like.is.slot w.origin like.is.from its.from in
-            rw (one_covers laws d plan like.number n like.broadcast c like.is.slot law.spaced like.planned planned
-            like.is.has.covers (omega arith)) at like.alike
+            search (arith, one_covers)
         | inr started ↦
-            rw (one_covers laws d plan first.number n first.broadcast c first.is.slot law.spaced first.planned planned
-            first.is.has.covers (omega arith)) at first.alike
+            search (arith, one_covers)
       ]
 
   sent_for_text : (gs : List Segment) (n : ℕ) (x : List ℕ) (pair : PairFields) → AreFalling n gs
@@ -223,8 +212,7 @@ pub tags_by_flag : PlanLaws
     → IsLawful d texts plan (marks text_mark log) → IsHeardInOrder log input → HearsTextBeforeTags plan input
     → RunIsOfOneValue texts plan input (run_by_flag text_fragment input) → ShowsByFlag input view
     → ShowsNoTags view ⊎ ShowsEmptyText view ⊎ ShowsTagsOfText d plan (marks text_mark log) view
-tags_by_flag laws d plan log input view law order first_text v shows = by view.text (pair_by_flag input) refl refl
-    shows.item shows.one shows.two
+tags_by_flag laws d plan log input view law order first_text v shows = search (arith, by)
   where
     by : (text : Option (List ℕ)) (pair : Option PairFields) → view.text ≡ text → pair_by_flag input ≡ pair
         → view.item ≡ item_of text pair → view.one ≡ tag_of One text pair → view.two ≡ tag_of Two text pair
@@ -244,10 +232,7 @@ tags_by_flag laws d plan log input view law order first_text v shows = by view.t
             two = no_piece pair.two view.two (piece_two [] none);
           }
           | inr (slot, tagged, its, bytes) ↦
-              let one_is = piece_one its.broadcast.bytes (sym bytes) in
-              let two_is = piece_two its.broadcast.bytes (sym bytes) in
-              let text = rw (← bytes) at et in
-              inr (grind arith)
+              search arith
         ])
 
 -- ---- how new a source is
@@ -261,8 +246,7 @@ pub new_source : PlanLaws → EachNumberNamesOne
     → (Is : List Broadcast → ℕ → Broadcast → Type 0) → HearsEach Is pick plan now input
     → HasNewSource Is plan now input (run_by_flag pick input)
 new_source laws names_one d now pick plan log input spaced order past Is each k l a b source planned begun so =
-    by (segments pick input.first input.heard) (segments_fall pick input.first input.heard)
-    (all_picked pick input.first input.heard) (λ g is_in. is_in) source
+    search (arith, segments_fall, all_picked, by)
   where
     by : (gs : List Segment) → AreFalling (input.first + length input.heard) gs
         → AllByRecursion (IsPicked pick input.first input.heard) gs
@@ -283,26 +267,15 @@ dwell_is_new : PlanLaws → (d m now : ℕ) (kind : Kind) (pick : Message → Op
     → PicksWhatIsMarked pick of → IsLawful d kind plan (marks of log) → IsHeardByOwnClock d m now log input
     → HasNewSource IsFilled plan now input (run_at pick m input.first input.heard)
 dwell_is_new laws d m now kind pick of plan log input alike law hears k l a b source planned begun filled =
-    by (run_at pick m input.first input.heard) (heard_run_lies laws d m now kind pick of plan log input alike law
-    (own_is_near d m now log input hears)) source
-  where
-    by : (gs : List Segment) → RunLiesInOne d now kind plan input gs → IsSource plan input gs k a → l ≤ k + 1
-    by [] lies is = absurd is.sent
-    by (g ∷ older) lies is =
-        let origin = one_origin input g.slot is.slot lies.all.0.slot is.sent lies.all.0.from in
-        grind (arith, laws.far d plan k l a b law.spaced is.planned planned)
+    grind (arith, nat_tests)
 
 -- a source began by slot `now`
 source_began : (now : ℕ) (plan : List Broadcast) (input : Input) (the_run : List Segment) (k : ℕ) (b : Broadcast)
     → ((t s : ℕ) → CameFrom input t s → s ≤ now) → IsSource plan input the_run k b → b.start ≤ now
-source_began now plan input [] k b past source = absurd source.sent
-source_began now plan input (g ∷ older) k b past source = omega (arith, past g.slot source.slot source.sent)
+source_began now plan input the_run k b past source = grind (arith, nat_tests)
 
 pub near_sources : NewSourcesAreNear
-near_sources now plan x y x_run y_run x_past y_past x_new y_new k l a b p q = (
-  or_empty (l ≤ k + 1) b.bytes (x_new k l a b p q.planned (source_began now plan y y_run l b y_past q)),
-  or_empty (k ≤ l + 1) a.bytes (y_new l k b a q p.planned (source_began now plan x x_run k a x_past p)),
-)
+near_sources now plan x y x_run y_run x_past y_past x_new y_new k l a b p q = search (arith, source_began, or_empty)
   where
     or_empty : (Near : Type 0) (bytes : List ℕ) → (bytes ≢ [] → Near) → Near ⊎ (bytes ≡ [])
     or_empty Near [] near = inr refl
@@ -315,37 +288,27 @@ module _ (laws : PlanLaws) (names_one : EachNumberNamesOne) where
       → IsLawful d texts plan (marks text_mark log) → TurnsTheFlag plan → ListensByFlag now log r
       → HearsEach IsNews text_fragment plan now r.input
       → RunIsOfOneValue texts plan r.input (run_by_flag text_fragment r.input)
-  text_run_is d now plan log r law turns listens each =
-      run_is_of_one_value laws names_one d now texts text_fragment text_mark plan log r.input text_fragments_marked law
-      turns listens.order listens.past each
+  text_run_is d now plan log r law turns listens each = search (arith, run_is_of_one_value, text_fragments_marked)
 
   name_run_is : (d now : ℕ) (plan : List Broadcast) (log : List (Option Message)) (r : Listener)
       → IsLawful d names plan (marks name_mark log) → TurnsTheFlag plan → ListensByFlag now log r
       → HearsEach IsNews name_fragment plan now r.input
       → RunIsOfOneValue names plan r.input (run_by_flag name_fragment r.input)
-  name_run_is d now plan log r law turns listens each =
-      run_is_of_one_value laws names_one d now names name_fragment name_mark plan log r.input name_fragments_marked law
-      turns listens.order listens.past each
+  name_run_is d now plan log r law turns listens each = search (arith, run_is_of_one_value, name_fragments_marked)
 
   pub texts_by_flag : TextsByFlagAreOfTheirSource
   texts_by_flag d now plan log r law turns listens each =
-      shown_is_of_source texts IsWholeText plan r.input (run_by_flag text_fragment r.input) r.view.text text_service
-      texts_of_no_bytes law.values (text_run_is d now plan log r law turns listens each) listens.shows.text
+      search (arith, shown_is_of_source, text_service, texts_of_no_bytes, text_run_is)
 
   pub names_by_flag : NamesByFlagAreOfTheirSource
   names_by_flag d now plan log r law turns listens each =
-      shown_is_of_source names IsWholeName plan r.input (run_by_flag name_fragment r.input) r.view.name name_service
-      names_of_no_bytes law.values (name_run_is d now plan log r law turns listens each) listens.shows.name
+      search (arith, shown_is_of_source, name_service, names_of_no_bytes, name_run_is)
 
   pub held_by_flag : TextsByFlagAreHeldAlone
-  held_by_flag d now plan log r law turns listens each =
-      holds_its_source laws d texts plan r.input (run_by_flag text_fragment r.input) law.spaced
-      (text_run_is d now plan log r law turns listens each)
+  held_by_flag d now plan log r law turns listens each = search (arith, holds_its_source, text_run_is)
 
   pub tags_of_text : TagsByFlagAreOfTheirText
-  tags_of_text d now plan log r law turns listens each first_text =
-      tags_by_flag laws d plan log r.input r.view law listens.order first_text (text_run_is d now plan log r law turns
-      listens each) listens.shows
+  tags_of_text d now plan log r law turns listens each first_text = search (arith, tags_by_flag, text_run_is)
 
   pub texts_new : TextsByFlagAreNew
   texts_new d now plan log r law listens =

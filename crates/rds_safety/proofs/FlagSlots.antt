@@ -2,20 +2,19 @@
 -- n slots. And a receiver with the flag bit alone shows the same as one with a dwell within which each segment followed
 -- the one before.
 use Rattle.std.proofs.Common.{◌≡◌, ◌+◌, ◌<◌, ◌≤◌, ℕ, Bool, true, false, List, [], ◌∷◌, length, Option, Some}
-use Rattle.std.proofs.Common.{refl, sym, ◌∙◌, arith, ◌⊎◌, ◌-◌, zero, suc, inl, inr}
+use Rattle.std.proofs.Common.{refl, sym, arith, ◌⊎◌, ◌-◌, zero, suc, inl, inr}
 use Rattle.std.proofs.lemmas.Bool.Decides.{nat_tests}
 use Rattle.rds_fields.specs.declared.message.Message.{Message}
 use Rattle.rds_fields.specs.declared.message.Message.TheVariants.{Tags}
 use Rattle.rds_encoder.specs.Plan.{Broadcast}
 use Rattle.rds_encoder.specs.Spaced.{IsSpaced}
-use Rattle.rds_receiver.specs.Receipts.{Segment, name_fragment, segments, text_fragment}
+use Rattle.rds_receiver.specs.Receipts.{Segment, segments, text_fragment}
 use Rattle.rds_receiver.specs.declared.fragment.Fragment.{Fragment}
 use Rattle.rds_receiver.specs.Run.{run, run_at, run_before}
 use Rattle.rds_receiver.specs.Holds.{newest_slot}
 use Rattle.rds_receiver.proofs.Runs.{run_at_newest}
-use Rattle.rds_safety.specs.FlagAlone.{EachLasts, GetsInARow, HearsEach, HearsOneIn, HearsTextBeforeTags, IsFilled}
-use Rattle.rds_safety.specs.FlagAlone.{IsNews, ListensByFlag, flag_run, flag_run_before}
-use Rattle.rds_safety.specs.FlagAlone.{run_by_flag}
+use Rattle.rds_safety.specs.FlagAlone.{EachLasts, GetsInARow, HearsEach, HearsOneIn, HearsTextBeforeTags, ListensByFlag}
+use Rattle.rds_safety.specs.FlagAlone.{flag_run, flag_run_before, run_by_flag}
 use Rattle.rds_safety.specs.FlagLaws.{CameWithin, HearsWithin, TheFlagAloneIsADwellWhileHeard, TheFlagAloneIsALongDwell}
 use Rattle.rds_safety.specs.FlagLaws.{WhoGetsSomeHearsOneIn, WhoHearsOneInHearsEach, WhoLosesFewGetsSome}
 use Rattle.rds_safety.specs.Late.{CameFrom, HasEntry, Input, IsHeardInOrder, SentIn}
@@ -39,11 +38,7 @@ hears_each_so Is d n now pick plan input spaced often lasts k b next t r p q so 
     grind arith
 
 pub hears_each : WhoHearsOneInHearsEach
-hears_each d n now pick plan input spaced often = (
-  hears_each_so IsFilled d n now pick plan input spaced often,
-  hears_each_so IsNews d n now pick plan input spaced
-      often,
-)
+hears_each d n now pick plan input spaced often = search (arith, hears_each_so)
 
 -- who hears a segment in every d slots hears one of a text before its tags
 pub hears_text_before_tags : PlanLaws → (d now : ℕ) (plan : List Broadcast) (log : List (Option Message)) (r : Listener)
@@ -75,8 +70,7 @@ hears_one_in r n now pick plan log input order sends gets k s t q b planned from
     let got = gets k s t q b planned from to by_now heard before in
     let w = sends k got.first b planned (omega arith) (omega arith) in
     let came = got.each w.slot w.since w.until in
-    let heard_it = came_as_sent log input came.0 w.slot w.message order came.1 w.is_sent in
-    grind arith
+    search (arith, came_as_sent)
 
 -- all of k slots in a row came, or one was lost
 all_or_lost : (got : ℕ → Bool) (s k : ℕ)
@@ -95,13 +89,7 @@ all_or_lost got s (suc k) = by (all_or_lost got s k) (got (s + k)) refl
 edge : (got : ℕ → Bool) (j x : ℕ) → got x ≡ false → got (x + 1 + j) ≡ true
     → (y : ℕ) × (x ≤ y) × (y ≤ x + j) × (got y ≡ false) × (got (y + 1) ≡ true)
 edge got zero x lost came = (x, omega arith, omega arith, lost, grind arith)
-edge got (suc j) x lost came = by (got (x + 1)) refl (λ next. edge got j (x + 1) next (grind arith))
-  where
-    by : (b : Bool) → got (x + 1) ≡ b → (got (x + 1) ≡ false
-        → (y : ℕ) × (x + 1 ≤ y) × (y ≤ x + 1 + j) × (got y ≡ false) × (got (y + 1) ≡ true))
-        → (y : ℕ) × (x ≤ y) × (y ≤ x + suc j) × (got y ≡ false) × (got (y + 1) ≡ true)
-    by true is rest = (x, omega arith, omega arith, lost, is)
-    by false is rest = (let w = rest is in (w.0, omega arith, omega arith, w.3, w.4))
+edge got (suc j) x lost came = grind (arith, nat_tests, edge got j (x + 1))
 
 pub gets_some : WhoLosesFewGetsSome
 gets_some most r n now pick plan input got few loses k s t q b planned from to by_now heard before =
@@ -135,24 +123,18 @@ within_before m f s [] came = refl
 within_before m f s (g ∷ older) came = grind (arith, nat_tests, within_before m f g.slot older came.1)
 
 within_run : (m t : ℕ) (gs : List Segment) → CameWithin m t gs → run m t gs ≡ flag_run gs
-within_run m t [] came = refl
-within_run m t (g ∷ older) came = grind (arith, nat_tests, within_before m g.fragment.flag g.slot older came.1)
+within_run m t gs came = grind (arith, nat_tests, within_before)
 
 run_while_heard : (pick : Message → Option Fragment) (m : ℕ) (input : Input) → HearsWithin m pick input
     → run_at pick m input.first input.heard ≡ run_by_flag pick input
-run_while_heard pick m input came =
-    sym (run_at_newest pick m input.first input.heard) ∙ within_run m (newest_slot input.first input.heard)
-    (segments pick input.first input.heard) came
+run_while_heard pick m input came = grind (arith, nat_tests, run_at_newest, within_run)
 
 -- segments that came in fewer than m slots came within m slots
 falls_within : (m t : ℕ) (gs : List Segment) → t < m → AreFalling (t + 1) gs → CameWithin m t gs
 falls_within m t [] long falls = tt
 falls_within m t (g ∷ older) long falls =
-    let before = falls.0 in (
-      omega arith,
-      falls_within m g.slot older (omega arith)
-          (fall_below g.slot (g.slot + 1) older (omega arith) falls.1),
-    )
+    let below = fall_below g.slot (g.slot + 1) older (omega arith) falls.1 in
+    grind (arith, nat_tests, falls_within m g.slot older (omega arith) below)
 
 long_within : (pick : Message → Option Fragment) (m : ℕ) (input : Input) → next_slot input ≤ m
     → HearsWithin m pick input
@@ -167,11 +149,7 @@ long_within pick m input long = by input.heard long
         (rw next at (segments_fall pick input.first (x ∷ before)))
 
 pub while_heard : TheFlagAloneIsADwellWhileHeard
-while_heard m input view texts_came names_came =
-    let text = run_while_heard text_fragment m input texts_came in
-    let name = run_while_heard name_fragment m input names_came in
-    (λ shows. search (text, name), λ shows. search (← text, ← name))
+while_heard m input view texts_came names_came = grind (arith, nat_tests, run_while_heard)
 
 pub long_dwell : TheFlagAloneIsALongDwell
-long_dwell m input view long = while_heard m input view (long_within text_fragment m input long)
-    (long_within name_fragment m input long)
+long_dwell m input view long = search (arith, while_heard, long_within)

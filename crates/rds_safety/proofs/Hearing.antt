@@ -1,4 +1,5 @@
 -- Lemmas about the segments among what was heard: each came in its slot, and the slots fall.
+use Rattle.std.proofs.lemmas.Bool.Decides.{nat_tests}
 use Rattle.std.proofs.Common.{◌≡◌, ◌+◌, ◌<◌, ◌≤◌, ℕ, List, [], ◌∷◌, length, Option, Some, arith}
 use Rattle.std.specs.List.{AllByRecursion}
 use Rattle.rds_fields.specs.declared.message.Message.{Message}
@@ -24,9 +25,7 @@ still_picked pick first newest heard (g ∷ gs) all = grind (arith, still_picked
 pub all_picked : (pick : Message → Option Fragment) (first : ℕ) (heard : List (Option Message))
     → AllByRecursion (IsPicked pick first heard) (segments pick first heard)
 all_picked pick first [] = tt
-all_picked pick first (x ∷ before) =
-    let rest = still_picked pick first x before (segments pick first before) (all_picked pick first before) in
-    grind arith
+all_picked pick first (x ∷ before) = grind (arith, nat_tests, all_picked pick first before, still_picked)
 
 -- the slots of the segments fall, from below slot n on
 abbrev pub AreFalling : ℕ → List Segment → Type 0
@@ -41,6 +40,4 @@ fall_below n u (g ∷ older) h f = (omega arith, f.1)
 pub segments_fall : (pick : Message → Option Fragment) (first : ℕ) (heard : List (Option Message))
     → AreFalling (first + length heard) (segments pick first heard)
 segments_fall pick first [] = tt
-segments_fall pick first (newest ∷ before) =
-    let rest = segments_fall pick first before in
-    grind (arith, fall_below (first + length before) (first + length (newest ∷ before)) (segments pick first before))
+segments_fall pick first (newest ∷ before) = grind (arith, nat_tests, segments_fall pick first before, fall_below)

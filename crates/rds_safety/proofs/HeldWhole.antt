@@ -1,6 +1,6 @@
 -- Lemmas: a run holds each recent segment, so a broadcast is shown if all its segments came recently.
 use Rattle.std.proofs.Common.{◌≡◌, ◌+◌, ◌<◌, ◌≤◌, ◌⊎◌, ℕ, Bool, List, [], ◌∷◌, Option, Some, None}
-use Rattle.std.proofs.Common.{length, refl, sym, ap, ◌∙◌, subst, inl, inr, arith}
+use Rattle.std.proofs.Common.{length, refl, subst, inl, inr, arith}
 use Rattle.std.specs.FinMap.{get}
 use Rattle.std.specs.List.{AllByRecursion}
 use Rattle.std.proofs.lemmas.Bool.Decides.{nat_tests}
@@ -24,7 +24,7 @@ use Rattle.rds_safety.proofs.Hearing.{AreFalling, IsPicked, all_picked, segments
 use Rattle.rds_safety.specs.Laws.{PlanLaws}
 use Rattle.rds_safety.proofs.OwnClocks.{late_hears, own_is_near}
 use Rattle.rds_safety.proofs.OneBroadcast.{PicksWhatIsMarked, RunLiesInOne, heard_run_lies, is_marked}
-use Rattle.rds_safety.proofs.Told.{AreOf, IsSegmentOf}
+use Rattle.rds_safety.proofs.Told.{AreOf}
 
 -- one of the segments
 abbrev pub IsIn : List Segment → Segment → Type 0
@@ -52,8 +52,7 @@ pub in_segments : (pick : Message → Option Fragment) (first : ℕ) (heard : Li
 in_segments pick first [] u message p has is = absurd has
 in_segments pick first (x ∷ before) u message p (inl now) is = grind arith
 in_segments pick first (x ∷ before) u message p (inr earlier) is =
-    let rest = in_segments pick first before u message p earlier is in
-    grind arith
+    grind (arith, nat_tests, in_segments pick first before u message p earlier is)
 
 -- a segment among those that fall below n came before n
 pub in_below : (n : ℕ) (gs : List Segment) (g : Segment) → AreFalling n gs → IsIn gs g → g.slot < n
@@ -75,18 +74,12 @@ module _ (m t s : ℕ) (f : Bool) (soon : t < s + m) where
       → IsIn gs g → IsIn (run_before m f n gs) g
   kept_before n [] g past falls flags since is_in = absurd is_in
   kept_before n (h ∷ older) g past falls flags since is_in =
-      let new = newest_since s h older g falls.1 since is_in in
-      let joins = is_same_flag f h.fragment.flag (sym (flags.0 new)) in
-      let rest = kept_before h.slot older g (omega arith) falls.1 flags.1 since in
-      grind (arith, nat_tests, rest)
+      let before = kept_before h.slot older g (omega arith) falls.1 flags.1 since in
+      grind (arith, nat_tests, newest_since, is_same_flag)
 
   kept : (gs : List Segment) (g : Segment) → AreFalling (t + 1) gs → HaveFlag f s gs → s ≤ g.slot → IsIn gs g
       → IsIn (run m t gs) g
-  kept [] g falls flags since is_in = absurd is_in
-  kept (h ∷ older) g falls flags since is_in =
-      let new = newest_since s h older g falls.1 since is_in in
-      let flag = flags.0 new in
-      grind (arith, nat_tests, kept_before h.slot older g (omega arith) falls.1 flags.1 since)
+  kept gs g falls flags since is_in = grind (arith, nat_tests, newest_since, kept_before)
 
 -- for each segment of a run in one broadcast, that broadcast's segment is held at its address
 held_own : (kind : Kind) → SendsItsBody kind → (input : Input) (b : Broadcast) (gs : List Segment) (g : Segment)
@@ -95,10 +88,7 @@ held_own : (kind : Kind) → SendsItsBody kind → (input : Input) (b : Broadcas
     → get (cells_of gs) g.fragment.address ≡ Some (segment_of (kind.body b.bytes) g.fragment.address)
 held_own kind sends input b [] g all is_in = absurd is_in
 held_own kind sends input b (h ∷ older) g all is_in =
-    let put = get-put (cells_of older) h.fragment.address h.fragment.bytes g.fragment.address in
-    let own = sends.parts b.bytes h.fragment all.0.has.fragment in
-    let bytes = own.bytes in
-    grind (arith, nat_tests, held_own kind sends input b older g all.1)
+    grind (arith, nat_tests, held_own kind sends input b older g all.1, get-put)
 
 -- one broadcast covers a slot
 pub one_covers : PlanLaws → (d : ℕ) (plan : List Broadcast) (k l : ℕ) (a b : Broadcast) (u : ℕ) → IsSpaced d plan
@@ -133,16 +123,11 @@ module _ (laws : PlanLaws) (d m t s : ℕ) (kind : Kind) (sends : SendsItsBody k
           alike all.0.fragment) all.0.came in
           let sent = rw (alike.picked all.0.message g.fragment all.0.fragment)
           at (mark_sent of log came.slot (Some all.0.message) came.sent) in
-          let lies = law.fragments came.slot g.fragment sent in
-          let past = hears.past g.slot came.slot came.from in
-          let mine : Covers b came.slot = omega (arith, fresh g.slot came.slot since came.from) in
-          lies.is.flag ∙ ap (λ (x : Broadcast). x.flag) (one_covers laws d plan lies.number number lies.broadcast b
-          came.slot law.spaced lies.planned planned lies.is.covers mine)
+          grind (arith, nat_tests)
 
   run_is : (heard : List (Option Message)) → input.first + length heard ≡ t + 1
       → run_at pick m input.first heard ≡ run m t (segments pick input.first heard)
-  run_is [] e = refl
-  run_is (x ∷ before) e = (let slot : input.first + length before ≡ t = omega arith in rw slot)
+  run_is heard e = grind (arith, nat_tests)
 
   in_run : (g : Segment) → s ≤ g.slot → IsIn its_segments g → IsIn (run m t its_segments) g
   in_run g since is_in =
@@ -162,13 +147,7 @@ module _ (laws : PlanLaws) (d m t s : ℕ) (kind : Kind) (sends : SendsItsBody k
   shown_of IsWhole service (h ∷ older) lies holds all some each shown is = by shown is
     where
       same : lies.broadcast ≡ b
-      same =
-          let w = each 0 some in
-          let own = all_in (λ (x : Segment). IsSegmentOf kind input x lies.broadcast) (h ∷ older) w.segment lies.all
-          (holds w.segment w.since w.is_in) in
-          let past = hears.past w.segment.slot own.slot own.from in
-          one_covers laws d plan lies.number number lies.broadcast b own.slot law.spaced lies.planned planned
-          own.has.covers (omega (arith, fresh w.segment.slot own.slot w.since own.from))
+      same = search (arith, all_in, one_covers)
 
       held : (a : ℕ) → a < segment_count (kind.body b.bytes)
           → get (cells_of (h ∷ older)) a ≡ Some (segment_of (kind.body b.bytes) a)

@@ -4,7 +4,7 @@
 -- `AAAADDD`, which nobody set. If j is n + k, the first came k slots late and the second on time. By a clock of its own
 -- any j will do.
 use Rattle.std.proofs.Common.{◌≡◌, ◌⊎◌, ◌+◌, ◌-◌, ◌<◌, ℕ, zero, suc, true, false, List, [], ◌∷◌, length}
-use Rattle.std.proofs.Common.{slice_index, Option, Some, None, refl, ap, ◌∙◌, inl, inr, arith}
+use Rattle.std.proofs.Common.{slice_index, Option, Some, None, refl, ap, inl, inr, arith}
 use Rattle.std.specs.FinMap.{empty, get, insert}
 use Rattle.std.proofs.lemmas.Bool.Decides.{nat_tests}
 use Rattle.rds_fields.specs.declared.message.Message.{Message}
@@ -31,7 +31,7 @@ use Rattle.rds_safety.specs.Marks.{IsMarkIn, Mark, Nothing, Sends, Tagged, marks
 use Rattle.rds_safety.specs.Plans.{AreLawful}
 use Rattle.rds_safety.specs.Safe.{AreSafeViews, Listener, ListensTo}
 use Rattle.rds_safety.proofs.Bytes.{get-put}
-use Rattle.rds_safety.proofs.OnTime.{input_of, nothing_heard, one_more}
+use Rattle.rds_safety.proofs.OnTime.{input_of, one_more}
 
 -- a segment of one character, and one of three and a carriage return
 abbrev pub four : ℕ → List ℕ
@@ -71,11 +71,7 @@ of_seven P a b p q i h = grind arith
 
 -- the text of two such bytes is a text
 pub is_text : (a b : ℕ) → a < 256 → b < 256 → is_text_byte a ≡ true → is_text_byte b ≡ true → IsText (text_of_two a b)
-is_text a b p q x y = record {
-  at_most = omega arith;
-  bytes = of_seven (λ n. n < 256) a b p q;
-  allowed = of_seven (λ n. is_text_byte n ≡ true) a b x y;
-}
+is_text a b p q x y = search (arith, of_seven)
 
 -- the plan
 abbrev pub older : Broadcast
@@ -92,12 +88,7 @@ pub which : (c k : ℕ) (b : Broadcast) → HasNumber (plan c) k b → ((k ≡ 1
 which c k b p = grind arith
 
 spaced : (c : ℕ) → 0 < c → IsSpaced c (plan c)
-spaced c later = record {
-  lasts = λ k b p. grind (arith, which c k b p);
-  order = λ k a b p q. grind (arith, which c k a p, which c (k + 1) b q);
-  apart = λ k a b p q. grind (arith, which c k a p, which c (k + 1) b q);
-  far = λ k a b p q. grind (arith, which c k a p, which c (k + 2) b q);
-}
+spaced c later = grind (arith, nat_tests)
 
 -- the first segment, then nothing in j slots
 abbrev pub quiet : ℕ → List (Option Message)
@@ -132,15 +123,7 @@ log j = last_message ∷ quiet j
 
 -- the plan is lawful for the log with a spacing of j + 1 slots
 pub texts_lawful : (j : ℕ) → IsLawful (j + 1) texts (plan (j + 1)) (marks text_mark (log j))
-texts_lawful j = record {
-  spaced = spaced (j + 1) (omega arith);
-  values = λ k b p. elim (which (j + 1) k b p) [
-    | inl q ↦ rw q.1 (is_text 66 68 (omega arith) (omega arith) refl refl)
-    | inr q ↦ rw q.1 (is_text 65 67 (omega arith) (omega arith) refl refl)
-  ];
-  fragments = fragments;
-  tags = tags;
-}
+texts_lawful j = search (arith, spaced, which, is_text, fragments, tags)
   where
     fragments : (t : ℕ) (p : Fragment) → IsMarkIn (marks text_mark (log j)) t (Sends p)
         → HasOne (plan (j + 1)) (HasFragment texts t p)
@@ -170,12 +153,7 @@ texts_lawful j = record {
     tags t pair s = absurd (grind (arith, quiet_texts j t (Tagged pair)))
 
 names_lawful : (d j : ℕ) → IsLawful d names [] (marks name_mark (log j))
-names_lawful d j = record {
-  spaced = grind arith;
-  values = λ k b p. absurd p;
-  fragments = λ t p s. absurd (grind (arith, quiet_names j t (Sends p)));
-  tags = λ t pair s. absurd (grind (arith, quiet_names j t (Tagged pair)));
-}
+names_lawful d j = grind (arith, nat_tests, spaced, quiet_names)
 
 -- what the receiver got, from slot k on
 abbrev pub heard : ℕ → List (Option Message)
@@ -196,8 +174,7 @@ all_from_first k (suc n) u s p = grind (arith, all_from_first k n u s)
 
 quiet_late : (k n : ℕ) (sent : List (Option Message)) → SentIn sent 0 first_message
     → IsHeardLate k sent (input_of k (quiet n) (quiet_origins n))
-quiet_late k zero sent s = one_more k sent k [] [] (Some 0) first_message (nothing_heard k sent k) s
-    (omega arith, omega arith) (λ r u s e a. absurd a)
+quiet_late k zero sent s = grind (arith, nat_tests)
 quiet_late k (suc n) sent s = one_more k sent k (quiet n) (quiet_origins n) None None (quiet_late k n sent s) refl tt
     (λ r u s e a. absurd (cc))
 
@@ -239,9 +216,7 @@ abbrev pub both_cells : Cells
 both_cells = insert (insert empty 0 (four 65)) 1 (three_and_end 68)
 
 both_held : (a : ℕ) → a < 2 → get both_cells a ≡ Some (segment_of (text_body mix) a)
-both_held zero h = get-put (insert empty 0 (four 65)) 1 (three_and_end 68) 0 ∙ get-put empty 0 (four 65) 0
-both_held (suc zero) h = get-put (insert empty 0 (four 65)) 1 (three_and_end 68) 1
-both_held (suc (suc a)) h = absurd (omega arith)
+both_held a h = grind (arith, nat_tests, get-put)
 
 -- the cells of both broadcasts hold a whole text, the mix
 pub mix_is_whole : IsWholeText both_cells mix
@@ -277,18 +252,13 @@ listens k n = record { late = is_late k n; now = omega (arith, quiet_long n); sh
 pub one_byte : (a b : ℕ) (xs ys : List ℕ) → ◌≡◌ {A = List ℕ} (a ∷ xs) (b ∷ ys) → a ≡ b
 one_byte a b xs ys e = cc
 
--- texts of two such bytes that are equal have the same second byte
-pub fifth_byte : (a b a' b' : ℕ) → text_of_two a b ≡ text_of_two a' b' → b ≡ b'
-fifth_byte a b a' b' e = cc
-
 -- no broadcast of the plan is the mix
 pub of_none : (c k : ℕ) (b : Broadcast) → HasNumber (plan c) k b → b.bytes ≡ mix → ⊥
 of_none c k b p same = grind (arith, which c k b p)
 
 not_safe : (c d m t : ℕ) (sent : List (Option Message)) (r : Listener) → r.view.text ≡ Some mix
     → AreSafeViews d m t record { text = plan c; name = [] } sent (r ∷ []) → ⊥
-not_safe c d m t sent r shown safe =
-    (let w = rw shown at (safe.texts 0 r (omega arith)) in of_none c w.number w.broadcast w.source.planned w.bytes)
+not_safe c d m t sent r shown safe = grind (arith, nat_tests)
 
 pub lawful : (j : ℕ) → AreLawful (j + 1) record { text = plan (j + 1); name = [] } (log j)
 lawful j = record { text = texts_lawful j; name = names_lawful (j + 1) j }

@@ -1,5 +1,6 @@
 -- Lemmas about one more entry of an input in order, or of a late one, and about inputs that are on time.
-use Rattle.std.proofs.Common.{◌≡◌, ◌⊎◌, ◌+◌, ◌<◌, ◌≤◌, ℕ, suc, List, [], ◌∷◌, length, Option, Some, None, refl, ap}
+use Rattle.std.proofs.lemmas.Bool.Decides.{nat_tests}
+use Rattle.std.proofs.Common.{◌≡◌, ◌⊎◌, ◌+◌, ◌<◌, ◌≤◌, ℕ, List, [], ◌∷◌, length, Option, Some, None, refl}
 use Rattle.std.proofs.Common.{inl, inr, arith}
 use Rattle.rds_safety.specs.Late.{HasEntry, InputOf, IsHeardInOrder, IsHeardLate, IsHeardOnTime, IsOfItsOrigin, SentIn}
 use Rattle.rds_safety.specs.Late.{own_origins}
@@ -18,19 +19,7 @@ pub one_more_in_order : {X : Type 0} (log : List (Option X)) (first : ℕ) (hear
     → IsHeardInOrder log (input_of first heard origins) → IsOfItsOrigin log o x
     → ((r u s : ℕ) → o ≡ Some r → HasEntry first origins u (Some s) → s < r)
     → IsHeardInOrder log (input_of first (x ∷ heard) (o ∷ origins))
-one_more_in_order {X} log first heard origins o x order says after =
-    let beside = order.beside in record { beside = omega arith; each = each; rising = rising }
-  where
-    each : (t : ℕ) (origin : Option ℕ) (entry : Option X) → HasEntry first (o ∷ origins) t origin
-        → HasEntry first (x ∷ heard) t entry → IsOfItsOrigin log origin entry
-    each t origin entry (inl p) (inl q) = rw (p.1, q.1) says
-    each t origin entry (inl p) (inr q) = absurd (omega (arith, before_end first heard t entry q, order.beside))
-    each t origin entry (inr p) (inl q) = absurd (omega (arith, before_end first origins t origin p, order.beside))
-    each t origin entry (inr p) (inr q) = order.each t origin entry p q
-
-    rising : (t u r s : ℕ) → HasEntry first (o ∷ origins) t (Some r) → HasEntry first (o ∷ origins) u (Some s) → t < u
-        → r < s
-    rising t u r s p q l = grind (arith, before_end first origins u (Some s), after s t r, order.rising t u r s)
+one_more_in_order {X} log first heard origins o x order says after = grind (arith, nat_tests, before_end)
 
 -- the origin of an entry that came in slot t, if it has one, is one of the slots t - k to t
 abbrev pub IsSoon : ℕ → ℕ → Option ℕ → Type 0
@@ -47,11 +36,7 @@ pub one_more : {X : Type 0} (k : ℕ) (log : List (Option X)) (first : ℕ) (hea
     → IsHeardLate k log (input_of first heard origins) → IsOfItsOrigin log o x → IsSoon k (first + length heard) o
     → ((r u s : ℕ) → o ≡ Some r → HasEntry first origins u (Some s) → s < r)
     → IsHeardLate k log (input_of first (x ∷ heard) (o ∷ origins))
-one_more {X} k log first heard origins o x late says soon after = record {
-  order = one_more_in_order log first heard origins o x late.order says after;
-  past = λ t s p. (all_soon t s p).0;
-  late = λ t s p. (all_soon t s p).1;
-}
+one_more {X} k log first heard origins o x late says soon after = search (arith, one_more_in_order, all_soon)
   where
     all_soon : (t s : ℕ) → HasEntry first (o ∷ origins) t (Some s) → (s ≤ t) × (t ≤ s + k)
     all_soon t s (inl p) = (let beside = late.order.beside in grind arith)
@@ -60,8 +45,7 @@ one_more {X} k log first heard origins o x late says soon after = record {
 -- zero slots late, each entry is that of its slot
 pub each_on_time : {X : Type 0} (log : List (Option X)) (first : ℕ) (heard : List (Option X))
     (origins : List (Option ℕ)) → IsHeardLate 0 log (input_of first heard origins) → IsHeardOnTime log first heard
-each_on_time {X} log first heard origins late t entry a = by (entry_beside first heard origins t entry late.order.beside
-    a)
+each_on_time {X} log first heard origins late t entry a = search (arith, entry_beside, by)
   where
     by : (origin : Option ℕ) × HasEntry first origins t origin → (entry ≡ None) ⊎ SentIn log t entry
     by (None, o) = inl (late.order.each t None entry o a)
@@ -71,15 +55,13 @@ each_on_time {X} log first heard origins late t entry a = by (entry_beside first
 
 own_long : {X : Type 0} (first : ℕ) (heard : List (Option X)) → length (own_origins first heard) ≡ length heard
 own_long first [] = refl
-own_long first (None ∷ before) = ap suc (own_long first before)
-own_long first (Some x ∷ before) = ap suc (own_long first before)
+own_long first (x ∷ before) = grind (arith, nat_tests, own_long first before)
 
 -- each of its own origins is the slot itself
 origin_is_slot : {X : Type 0} (first : ℕ) (heard : List (Option X)) (t s : ℕ)
     → HasEntry first (own_origins first heard) t (Some s) → (s ≡ t) × (t < first + length heard)
 origin_is_slot first [] t s a = absurd a
-origin_is_slot first (None ∷ before) t s a = grind (arith, origin_is_slot first before t s)
-origin_is_slot first (Some x ∷ before) t s a = grind (arith, own_long first before, origin_is_slot first before t s)
+origin_is_slot first (x ∷ before) t s a = grind (arith, nat_tests, origin_is_slot first before t s, own_long)
 
 -- an input that is on time is zero slots late
 pub no_slot_late : {X : Type 0} (log : List (Option X)) (first : ℕ) (heard : List (Option X))

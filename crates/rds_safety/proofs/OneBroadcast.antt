@@ -1,33 +1,24 @@
 -- Lemmas: a run lies in one broadcast. A receiver knows only one bit of a broadcast, but any two neighbours of a run
 -- have one flag and were sent less than d slots apart, in whatever order and by whatever clock they came.
-use Rattle.std.proofs.Common.{◌≡◌, ◌+◌, ◌<◌, ◌≤◌, ℕ, Bool, List, [], ◌∷◌, length, Option, Some, ◌&&◌, refl, sym}
-use Rattle.std.proofs.Common.{◌∙◌, subst, arith}
+use Rattle.std.proofs.Common.{◌≡◌, ◌+◌, ◌<◌, ◌≤◌, ℕ, Bool, List, [], ◌∷◌, length, Option, Some, refl, subst, arith}
 use Rattle.std.specs.Prelude.{nat_lt}
 use Rattle.std.specs.List.{AllByRecursion}
 use Rattle.std.proofs.lemmas.Bool.{cond_both}
 use Rattle.std.proofs.lemmas.Bool.Decides.{nat_tests}
 use Rattle.rds_fields.specs.declared.message.Message.{Message}
-use Rattle.rds_encoder.specs.Plan.{Broadcast, Covers, HasNumber}
+use Rattle.rds_encoder.specs.Plan.{Broadcast, HasNumber}
 use Rattle.rds_encoder.specs.Spaced.{IsSpaced}
 use Rattle.rds_receiver.specs.Receipts.{Segment, segments}
 use Rattle.rds_receiver.specs.declared.fragment.Fragment.{Fragment}
-use Rattle.rds_receiver.specs.Run.{is_same, run, run_at, run_before}
-use Rattle.rds_safety.specs.Late.{CameFrom, Input}
+use Rattle.rds_receiver.specs.Run.{run, run_at, run_before}
+use Rattle.rds_safety.specs.Late.{Input}
 use Rattle.rds_safety.specs.Lawful.{IsLawful, Kind}
 use Rattle.rds_safety.specs.Laws.{PlanLaws}
 use Rattle.rds_safety.specs.Marks.{Mark, Nothing, Sends, marks}
 use Rattle.rds_safety.specs.Near.{IsHeard, IsHeardNear, IsUnmarked}
 use Rattle.rds_safety.proofs.Entries.{arrival, mark_sent}
-use Rattle.rds_safety.specs.Flags.{same_flag}
 use Rattle.rds_safety.proofs.Hearing.{AreFalling, IsPicked, all_picked, segments_fall}
-use Rattle.rds_safety.proofs.Told.{AreJoined, AreOf, IsOfAny, IsSegmentOf, IsTold, all_of_one}
-
--- broadcasts of one flag that cover slots less than d apart are one
-one_number : PlanLaws → (d : ℕ) (plan : List Broadcast) (k l : ℕ) (a b : Broadcast) (s r : ℕ) → IsSpaced d plan
-    → HasNumber plan k a → HasNumber plan l b
-    → Covers a s → Covers b r → r < s + d → s < r + d → a.flag ≡ b.flag → k ≡ l
-one_number laws d plan k l a b s r spaced p q u v after before e =
-    grind (arith, laws.one_flag d plan k l a b spaced p q, laws.one_flag d plan l k b a spaced q p)
+use Rattle.rds_safety.proofs.Told.{AreJoined, AreOf, IsOfAny, all_of_one}
 
 -- the fragment picked from a message is that of its mark, and an entry that is neither a segment nor tags has no mark
 pub record PicksWhatIsMarked (pick : Message → Option Fragment) (of : Option Message → Mark) : Type 0 where
@@ -52,9 +43,7 @@ all_of_any d kind pick of plan log input (g ∷ gs) alike law hears all =
     all.0.came in
     let sent = rw (alike.picked message g.fragment all.0.fragment)
     at (mark_sent of log came.slot (Some message) came.sent) in
-    let lies = law.fragments came.slot g.fragment sent in
-    let its : IsSegmentOf kind input g lies.broadcast = grind arith in
-    (grind arith, all_of_any d kind pick of plan log input gs alike law hears all.1)
+    search (arith, all_of_any d kind pick of plan log input gs alike law hears all.1)
 
 -- the run lies in one broadcast, and its last segment was sent in the d slots up to slot t
 pub record LiesInOne (d t : ℕ) (kind : Kind) (plan : List Broadcast) (input : Input) (g : Segment)
@@ -79,27 +68,12 @@ all_before P m f s (g ∷ older) all = grind (arith, all_before P m f g.slot old
 
 module _ (laws : PlanLaws) (d m t : ℕ) (kind : Kind) (plan : List Broadcast) (log : List (Option Message))
     (input : Input) (spaced : IsSpaced d plan) (hears : IsHeardNear d m t log input) where
-  -- the flag separates broadcasts less than d slots apart
-  told : (g h : Segment) → h.slot < g.slot → g.slot < h.slot + m → (r s : ℕ) → CameFrom input h.slot r
-      → CameFrom input g.slot s → IsTold (λ x y. x ≡ y) plan r s
-  told g h falls near r s from to k l a b p q u v flag =
-      let after = hears.between h.slot g.slot r s from to near in
-      let before = hears.between g.slot h.slot s r to from (omega arith) in
-      grind (arith, one_number laws d plan k l a b r s spaced p q u v after before flag, laws.one plan k a b p)
 
   -- so a run is joined
   joined_before : (f : Bool) (g : Segment) (gs : List Segment) → g.fragment.flag ≡ f → AreFalling g.slot gs
       → AreJoined (λ x y. x ≡ y) plan input (g ∷ run_before m f g.slot gs)
   joined_before f g [] e falls = tt
-  joined_before f g (h ∷ older) e falls =
-      cond_both (is_same f h.fragment.flag && nat_lt g.slot (h.slot + m)) (h ∷ run_before m f h.slot older) []
-      (λ (gs : List Segment). AreJoined (λ x y. x ≡ y) plan input (g ∷ gs))
-      (λ joins.
-      let flag : f ≡ h.fragment.flag = grind (arith, same_flag) in (
-        record { flag = e ∙ flag; told = told g h falls.0 (grind (arith, nat_tests)) },
-        joined_before f h older (sym flag) falls.1,
-      ))
-      (λ _. tt)
+  joined_before f g (h ∷ older) e falls = grind (arith, nat_tests, joined_before f h older)
 
   run_lies : (n : ℕ) (gs : List Segment) → input.first + length input.heard ≡ n + 1 → AreFalling (n + 1) gs
       → AllByRecursion (IsOfAny kind plan input) gs → RunLiesInOne d t kind plan input (run m n gs)

@@ -1,5 +1,6 @@
 -- Lemmas: own clocks are a slow clock, that of a receiver that hears late, and that of the station.
-use Rattle.std.proofs.Common.{◌≡◌, ◌↔◌, ◌+◌, ℕ, List, Option, Some, arith}
+use Rattle.std.proofs.lemmas.Bool.Decides.{nat_tests}
+use Rattle.std.proofs.Common.{◌≡◌, ◌↔◌, ◌+◌, ℕ, List, Option, arith}
 use Rattle.rds_fields.specs.declared.message.Message.{Message}
 use Rattle.rds_safety.specs.Late.{Input, InputOf, IsHeardInOrder, IsHeardLate}
 use Rattle.rds_safety.specs.Near.{IsHeardNear, ListensNear}
@@ -11,20 +12,7 @@ use Rattle.rds_safety.proofs.Entries.{before_end, in_order_is_heard, one_origin}
 -- a receiver that gets groups at most k slots late counts at most k slots too few
 pub late_is_slow : {X : Type 0} (k m now : ℕ) (log : List (Option X)) (input : InputOf X) → IsHeardLate k log input
     → next_slot input ≡ now + 1 → IsHeardInOrder log input × LosesAtMost k m now input
-late_is_slow k m now log input late next = (
-  late.order,
-  record {
-    between = λ t u r s p q l near. omega (arith, late.late t r p, late.past u s q, l);
-    since = λ t s p near. omega (arith, next, late.late t s p);
-    past = λ t s p. omega (
-      arith,
-      next,
-      late.past t s p,
-      before_end input.first input.origins t (Some s) p,
-      late.order.beside,
-    );
-  },
-)
+late_is_slow k m now log input late next = grind (arith, nat_tests, before_end)
 
 -- by a clock that counts at most k slots too few, fewer than m own slots are fewer than m + k of the station
 pub slow_is_own : {X : Type 0} (k m now : ℕ) (log : List (Option X)) (input : InputOf X) → IsHeardInOrder log input
@@ -62,8 +50,7 @@ own_listens d m now log r listens = (let near = own_is_near d m now log r.input 
 -- who listens by a slow clock listens by a clock of its own
 pub slow_listens : (k m now : ℕ) (log : List (Option Message)) (r : Listener) → ListensBySlowClock k m now log r
     → ListensByOwnClock (m + k) m now log r
-slow_listens k m now log r listens =
-    (let heard = slow_is_own k m now log r.input listens.order listens.clock in grind arith)
+slow_listens k m now log r listens = search (arith, slow_is_own)
 
 -- who listens at most k slots late listens by a slow clock
 pub late_listens : (k m now : ℕ) (log : List (Option Message)) (r : Listener) → ListensTo k m now log r
@@ -74,7 +61,4 @@ late_listens k m now log r listens =
 -- a receiver that counts the station's slots hears zero slots late, and the other way round
 pub true_clock : {X : Type 0} (log : List (Option X)) (input : InputOf X)
     → (IsHeardInOrder log input × IsTrueClock input) ↔ IsHeardLate 0 log input
-true_clock log input = (
-  λ c. record { order = c.0; past = λ t s p. omega (arith, c.1 t s p); late = λ t s p. omega (arith, c.1 t s p) },
-  λ late. (late.order, λ t s p. omega (arith, late.past t s p, late.late t s p)),
-)
+true_clock log input = grind (arith, nat_tests)

@@ -1,5 +1,6 @@
 -- Lemmas: segments of a text with padding make this text whole, or nothing. Only places up to its carriage return
 -- count.
+use Rattle.std.proofs.lemmas.Bool.Decides.{nat_tests}
 use Rattle.std.proofs.Common.{◌≡◌, ◌≢◌, ◌+◌, ◌*◌, ◌/◌, ◌%◌, ◌<◌, ◌≤◌, ◌∙◌, ℕ, List, [], ◌∷◌, length, Option}
 use Rattle.std.proofs.Common.{slice_index, sym, ap, inl, inr, arith}
 use Rattle.std.specs.List.{AllByRecursion}
@@ -14,8 +15,7 @@ use Rattle.rds_assembly.specs.Whole.{IsWholeText}
 use Rattle.rds_encoder.specs.Plan.{Broadcast}
 use Rattle.rds_receiver.specs.Receipts.{Segment}
 use Rattle.rds_receiver.specs.Run.{cells_of}
-use Rattle.rds_safety.specs.Lawful.{IsLawful, padded_texts}
-use Rattle.rds_safety.specs.Lawful.{texts}
+use Rattle.rds_safety.specs.Lawful.{IsLawful, padded_texts, texts}
 use Rattle.rds_safety.specs.Laws.{ASegmentIsPadded, LawfulIsLawfulPadded}
 use Rattle.rds_safety.specs.Marks.{marks, text_mark}
 use Rattle.rds_safety.proofs.Bodies.{segment_byte, segment_fits, segment_long, text_below, text_end, text_few}
@@ -84,15 +84,7 @@ segment_is_padded x p t is = record {
 wider_texts : (d : ℕ) (plan : List Broadcast) (log : List (Option Message))
     → IsLawful d texts plan (marks text_mark log)
     → IsLawful d padded_texts plan (marks text_mark log)
-wider_texts d plan log law = record {
-  spaced = law.spaced;
-  values = law.values;
-  fragments = λ slot p sent.
-      let w = law.fragments slot p sent in
-      let padded = segment_is_padded w.broadcast.bytes p (law.values w.number w.broadcast w.planned) w.is.fragment in
-      grind arith;
-  tags = law.tags;
-}
+wider_texts d plan log law = grind (arith, nat_tests, segment_is_padded)
 
 pub wider : LawfulIsLawfulPadded
 wider d plans log law = record { text = wider_texts d plans.text log law.text; name = law.name }

@@ -1,14 +1,14 @@
 -- Lemmas: the pair of tags that is held was sent in the source of the text, after the first segment of its run and
 -- before any later text had lasted for d slots.
-use Rattle.std.proofs.Common.{◌≡◌, ◌⊎◌, ◌+◌, ◌<◌, ◌≤◌, ◌&&◌, ℕ, Bool, true, List, [], ◌∷◌, length}
-use Rattle.std.proofs.Common.{Option, Some, None, refl, sym, ap, ◌∙◌, inl, inr, arith}
-use Rattle.std.specs.Prelude.{IfSome, nat_lt, option_map, take, drop}
-use Rattle.std.proofs.lemmas.Bool.{and_parts, cond_both}
+use Rattle.std.proofs.Common.{◌≡◌, ◌⊎◌, ◌+◌, ◌<◌, ◌&&◌, ℕ, Bool, List, [], ◌∷◌, length}
+use Rattle.std.proofs.Common.{Option, Some, None, sym, ap, ◌∙◌, inl, arith}
+use Rattle.std.specs.Prelude.{IfSome, nat_lt}
+use Rattle.std.proofs.lemmas.Bool.{cond_both}
 use Rattle.std.proofs.lemmas.Bool.Decides.{nat_tests}
 use Rattle.rds_fields.specs.declared.message.Message.{Message}
 use Rattle.rds_fields.specs.declared.message.Message.TheVariants.{Announce, Tags}
 use Rattle.rds_fields.specs.declared.pair.Which.TheVariants.{One, Two}
-use Rattle.rds_fields.specs.Tag.{PairFields, TagFields, end_of, ends_in}
+use Rattle.rds_fields.specs.Tag.{PairFields, TagFields}
 use Rattle.rds_assembly.specs.ServiceLaws.{no_text_of_none}
 use Rattle.rds_assembly.specs.Whole.{IsWholeText}
 use Rattle.rds_encoder.specs.Plan.{Broadcast}
@@ -55,8 +55,8 @@ was_heard first since (Some (Tags q) ∷ before) pair e =
     (λ t h. record { slot = first + length before; later = grind (arith, nat_tests); came = grind arith })
     (λ _ h. still_heard first since (Some (Tags q)) before pair (was_heard first since before pair h)) e
 was_heard first since (Some (Announce code bits aid) ∷ before) pair e =
-    still_heard first since (Some (Announce code bits aid)) before pair (was_heard first since before pair
-    (not_taken_away (says_of_rtplus code aid) (pair_since first since before) pair e))
+    let held = not_taken_away (says_of_rtplus code aid) (pair_since first since before) pair e in
+    grind (arith, nat_tests, was_heard first since before pair held)
 was_heard first since (x ∷ before) pair e = still_heard first since x before pair (was_heard first since before pair e)
 
 -- tags are marked
@@ -80,28 +80,12 @@ sent_for laws kind d m t plan log input g older pair law hears l is_run e =
     let sent_later =
         hears.tags b.0.slot f.slot own.slot came.slot pair (ap begins_in (sym is_run) ∙ b.1) f.later f.came own.from
     came.from in
-    let by_now = hears.past f.slot came.slot came.from in
-    let before = laws.order d plan lies.number l.number lies.broadcast l.broadcast law.spaced lies.planned l.planned in
-    let after = laws.order d plan l.number lies.number l.broadcast lies.broadcast law.spaced l.planned lies.planned in
-    let same : lies.broadcast ≡ l.broadcast =
-    grind (arith, before, after, laws.one plan lies.number lies.broadcast l.broadcast lies.planned) in
-    (came.slot, tagged, rw same at lies.is)
-
--- a tag with a class that ends in a text of n characters has its end at most at n
-real_ends : (tag : TagFields) (n : ℕ) → 0 < tag.class → ends_in n tag ≡ true → end_of tag ≤ n
-real_ends tag n real t = grind (arith, nat_tests)
+    search arith
 
 -- the bytes shown of a tag are its piece
 pub names_piece : (tag : TagFields) (x bytes : List ℕ) (shown : Option (ℕ × List ℕ)) → x ≡ bytes → shown ≡ cut_by tag x
     → IfSome shown (NamesPiece tag bytes)
-names_piece tag x bytes shown same e =
-    rw e (cond_both (nat_lt 0 tag.class && ends_in (length x) tag) (Some (take (tag.extra + 1) (drop tag.start x))) None
-    (λ (piece : Option (List ℕ)). IfSome (option_map (λ p. (tag.class, p)) piece) (NamesPiece tag bytes))
-    (λ t.
-    let real : 0 < tag.class = grind (arith, nat_tests) in
-    let ends = real_ends tag (length x) real (and_parts (nat_lt 0 tag.class) (ends_in (length x) tag) t).1 in
-    record { class = refl; real = real; ends = rw same at ends; piece = rw same })
-    (λ _. tt))
+names_piece tag x bytes shown same e = grind (arith, nat_tests)
 
 -- the tags shown were sent in the source of the text
 pub shows_tags : PlanLaws → (kind : Kind) → IsService kind IsWholeText → (d m t : ℕ) (plan : List Broadcast)
@@ -109,9 +93,7 @@ pub shows_tags : PlanLaws → (kind : Kind) → IsService kind IsWholeText → (
     → IsLawful d kind plan (marks text_mark log) → IsHeardNear d m t log input
     → RunLiesInOne d t kind plan input (text_run m input) → ShowsView m input.first input.heard view
     → ShowsNoTags view ⊎ ShowsTagsOf d plan (marks text_mark log) input (text_run m input) view
-shows_tags laws kind service d m t plan log input view law hears lies shows = by view.text
-    (pair_held m input.first input.heard) refl
-    refl shows.item shows.one shows.two
+shows_tags laws kind service d m t plan log input view law hears lies shows = search (arith, by)
   where
     of : (the_run : List Segment) (x : List ℕ) (pair : PairFields) → IsWholeText (cells_of the_run) x
         → RunLiesInOne d t kind plan input the_run → the_run ≡ text_run m input
@@ -122,10 +104,7 @@ shows_tags laws kind service d m t plan log input view law hears lies shows = by
     of (g ∷ older) x pair whole l is_run e item one two =
         let same = bytes_of_run d t kind IsWholeText plan input g older x service law.values l whole in
         let sent = sent_for laws kind d m t plan log input g older pair law hears l is_run e in
-        let source = source_of d t kind plan input g older l in
-        let one_is = names_piece pair.one x l.broadcast.bytes view.one same one in
-        let two_is = names_piece pair.two x l.broadcast.bytes view.two same two in
-        grind arith
+        search (arith, source_of, names_piece)
 
     by : (text : Option (List ℕ)) (pair : Option PairFields) → view.text ≡ text
         → pair_held m input.first input.heard ≡ pair
@@ -133,5 +112,4 @@ shows_tags laws kind service d m t plan log input view law hears lies shows = by
         → ShowsNoTags view ⊎ ShowsTagsOf d plan (marks text_mark log) input (text_run m input) view
     by None pair et ep item one two = inl record { item = item; one = one; two = two }
     by (Some x) None et ep item one two = inl record { item = item; one = one; two = two }
-    by (Some x) (Some pair) et ep item one two = inr (of (text_run m input) x pair (rw et at shows.text) lies refl ep
-        item one two)
+    by (Some x) (Some pair) et ep item one two = search (arith, of)

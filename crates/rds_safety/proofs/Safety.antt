@@ -2,7 +2,7 @@
 use Rattle.std.proofs.Common.{◌+◌, ℕ, List, Option, slice_index_or, arith}
 use Rattle.std.specs.List.{All}
 use Rattle.rds_fields.specs.declared.message.Message.{Message}
-use Rattle.rds_assembly.specs.Whole.{IsWholeName, IsWholeText}
+use Rattle.rds_assembly.specs.Whole.{IsWholeText}
 use Rattle.rds_receiver.specs.Receipts.{name_fragment, text_fragment}
 use Rattle.rds_safety.specs.Lawful.{Kind, names}
 use Rattle.rds_safety.specs.Laws.{PlanLaws}
@@ -31,40 +31,28 @@ name_fragments_marked = record { picked = λ message p e. grind arith; unmarked 
 module _ (laws : PlanLaws) (kind : Kind) (service : IsService kind IsWholeText) (d m t : ℕ) (plans : Plans)
     (log : List (Option Message)) (law : AreLawfulAs kind d plans log) where
   text_lies : (r : Listener) → ListensNear d m t log r → RunLiesInOne d t kind plans.text r.input (text_run m r.input)
-  text_lies r h = heard_run_lies laws d m t kind text_fragment text_mark plans.text log r.input text_fragments_marked
-      law.text h.near
+  text_lies r h = search (arith, heard_run_lies, text_fragments_marked)
 
   name_lies : (r : Listener) → ListensNear d m t log r → RunLiesInOne d t names plans.name r.input (name_run m r.input)
-  name_lies r h = heard_run_lies laws d m t names name_fragment name_mark plans.name log r.input name_fragments_marked
-      law.name h.near
+  name_lies r h = search (arith, heard_run_lies, name_fragments_marked)
 
   neighbours : (x y : Listener) → ListensNear d m t log x → ListensNear d m t log y → AreNeighbours m plans x y
-  neighbours x y h i = record {
-    texts = near_sources laws d t kind plans.text x.input (text_run m x.input) y.input (text_run m y.input)
-        law.text.spaced (text_lies x h) (text_lies y i);
-    names = near_sources laws d t names plans.name x.input (name_run m x.input) y.input (name_run m y.input)
-        law.name.spaced (name_lies x h) (name_lies y i);
-  }
+  neighbours x y h i = search (arith, near_sources, text_lies, name_lies)
 
   -- receivers that listen near their log show safe views
   pub are_safe : (receivers : List Listener) → All (ListensNear d m t log) receivers
       → AreSafeViews d m t plans log receivers
   are_safe receivers all = record {
     texts = λ i o h.
-        let r = slice_index_or receivers i o in
-        shown_on_air d t kind IsWholeText plans.text r.input (text_run m r.input) r.view.text service
-        law.text.values (text_lies r (all i o h)) (all i o h).shows.text;
+        search (arith, shown_on_air, text_lies);
     names = λ i o h.
-        let r = slice_index_or receivers i o in
-        shown_on_air d t names IsWholeName plans.name r.input (name_run m r.input) r.view.name name_service
-        law.name.values (name_lies r (all i o h)) (all i o h).shows.name;
+        search (arith, shown_on_air, name_service, name_lies);
     tags = λ i o h.
         let r = slice_index_or receivers i o in
         shows_tags laws kind service d m t plans.text log r.input r.view law.text (all i o h).near (text_lies r
         (all i o h))
         (all i o h).shows;
-    neighbours = λ i o h j e g. neighbours (slice_index_or receivers i o) (slice_index_or receivers j e) (all i o h)
-        (all j e g);
+    neighbours = λ i o h j e g. search (arith, neighbours);
   }
 
 -- if fewer than m slots of each receiver's clock are fewer than d of the station
@@ -72,20 +60,14 @@ pub are_safe_by_own_clocks : PlanLaws → (kind : Kind) → IsService kind IsWho
     → (d m t : ℕ) (plans : Plans) (log : List (Option Message)) (receivers : List Listener)
     → AreLawfulAs kind d plans log → All (ListensByOwnClock d m t log) receivers
     → AreSafeViews d m t plans log receivers
-are_safe_by_own_clocks laws kind service d m t plans log receivers law all =
-    are_safe laws kind service d m t plans log law receivers (λ i o h. own_listens d m t log
-    (slice_index_or receivers i o)
-    (all i o h))
+are_safe_by_own_clocks laws kind service d m t plans log receivers law all = search (arith, are_safe, own_listens)
 
 -- if all receivers show only what they heard twice, plans that are lawful for the lateness of two receipts are enough
 pub are_safe_confirmed : PlanLaws → (kind : Kind) → IsService kind IsWholeText
     → (w k m t : ℕ) (plans : Plans) (log : List (Option Message)) (receivers : List Listener)
     → AreLawfulAs kind (m + lateness_of_two w k) plans log → All (ListensConfirmed w k m t log) receivers
     → AreSafeViews (m + lateness_of_two w k) m t plans log receivers
-are_safe_confirmed laws kind service w k m t plans log receivers law all =
-    are_safe laws kind service (m + lateness_of_two w k) m t plans log law receivers
-    (λ i o h. confirmed_listens w k m t log
-    (slice_index_or receivers i o) (all i o h))
+are_safe_confirmed laws kind service w k m t plans log receivers law all = search (arith, are_safe, confirmed_listens)
 
 -- if all clocks count at most k slots too few within m, plans that are lawful for m + k are enough
 pub are_safe_by_slow_clocks : PlanLaws → (kind : Kind) → IsService kind IsWholeText
@@ -93,8 +75,7 @@ pub are_safe_by_slow_clocks : PlanLaws → (kind : Kind) → IsService kind IsWh
     → AreLawfulAs kind (m + k) plans log → All (ListensBySlowClock k m t log) receivers
     → AreSafeViews (m + k) m t plans log receivers
 are_safe_by_slow_clocks laws kind service m k t plans log receivers law all =
-    are_safe_by_own_clocks laws kind service (m + k) m t plans log receivers law (λ i o h. slow_listens k m t log
-    (slice_index_or receivers i o) (all i o h))
+    search (arith, are_safe_by_own_clocks, slow_listens)
 
 -- the same if all inputs are at most k slots late
 pub are_safe_late : PlanLaws → (kind : Kind) → IsService kind IsWholeText
@@ -102,5 +83,4 @@ pub are_safe_late : PlanLaws → (kind : Kind) → IsService kind IsWholeText
     → AreLawfulAs kind (m + k) plans log → All (ListensTo k m t log) receivers
     → AreSafeViews (m + k) m t plans log receivers
 are_safe_late laws kind service m k t plans log receivers law all =
-    are_safe_by_slow_clocks laws kind service m k t plans log receivers law (λ i o h. late_listens k m t log
-    (slice_index_or receivers i o) (all i o h))
+    search (arith, are_safe_by_slow_clocks, late_listens)

@@ -1,5 +1,6 @@
 -- Lemmas: what is shown was on air, a run has one source, and the sources of two runs are near each other.
-use Rattle.std.proofs.Common.{◌≡◌, ◌+◌, ◌≤◌, ℕ, List, [], ◌∷◌, Option, Some, None, arith}
+use Rattle.std.proofs.lemmas.Bool.Decides.{nat_tests}
+use Rattle.std.proofs.Common.{◌≡◌, ◌+◌, ◌≤◌, ℕ, List, [], ◌∷◌, Option, arith}
 use Rattle.std.specs.Prelude.{IfSome}
 use Rattle.rds_assembly.specs.Cells.{Cells}
 use Rattle.rds_encoder.specs.Plan.{Broadcast, Covers, HasNumber}
@@ -38,9 +39,7 @@ pub shown_on_air : (d t : ℕ) (kind : Kind) (IsWhole : Cells → List ℕ → T
     → IsService kind IsWhole → HasValues kind plan → RunLiesInOne d t kind plan input the_run
     → IsShown IsWhole (cells_of the_run) shown
     → IfSome shown (RunWasOnAir d t plan input the_run)
-shown_on_air d t kind IsWhole plan input the_run None service values l is = tt
-shown_on_air d t kind IsWhole plan input the_run (Some x) service values l is = was_on_air d t kind IsWhole plan input
-    the_run x service values l is
+shown_on_air d t kind IsWhole plan input the_run shown service values l is = grind (arith, nat_tests, was_on_air)
 
 -- one broadcast covers a slot
 one_covers : PlanLaws → (d : ℕ) (plan : List Broadcast) (k l : ℕ) (a b : Broadcast) (s : ℕ) → IsSpaced d plan
@@ -50,17 +49,13 @@ one_covers laws d plan k l a b s spaced p q u v =
 
 one_last : (input : Input) (the_run : List Segment) (r s : ℕ) → LastWasSentIn input the_run r
     → LastWasSentIn input the_run s → r ≡ s
-one_last input [] r s p q = absurd p
-one_last input (g ∷ older) r s p q = one_origin input g.slot r s p q
+one_last input the_run r s p q = grind (arith, nat_tests, one_origin)
 
 -- a run has one source
 pub one_source : PlanLaws → (d : ℕ) (plan : List Broadcast) (input : Input) (the_run : List Segment) (k l : ℕ)
     (a b : Broadcast) → IsSpaced d plan
     → IsSource plan input the_run k a → IsSource plan input the_run l b → (k ≡ l) × (a ≡ b)
-one_source laws d plan input the_run k l a b spaced p q =
-    let slot = one_last input the_run q.slot p.slot q.sent p.sent in
-    let same = one_covers laws d plan k l a b p.slot spaced p.planned q.planned p.covers (grind arith) in
-    (same, laws.one plan l a b (rw same at p.planned) q.planned)
+one_source laws d plan input the_run k l a b spaced p q = grind (arith, nat_tests, one_last, one_covers)
 
 -- in one slot, the source of a run is at most the next one after that of another run
 not_far : PlanLaws → (d t : ℕ) (kind : Kind) (plan : List Broadcast) (x : Input) (x_run : List Segment) (y : Input)
@@ -69,18 +64,11 @@ not_far : PlanLaws → (d t : ℕ) (kind : Kind) (plan : List Broadcast) (x : In
     → IsSource plan x x_run n a → IsSource plan y y_run l b → l ≤ n + 1
 not_far laws d t kind plan x [] y y_run n l a b spaced u v p q = absurd p.sent
 not_far laws d t kind plan x (g ∷ older) y [] n l a b spaced u v p q = absurd q.sent
-not_far laws d t kind plan x (g ∷ g_older) y (h ∷ h_older) n l a b spaced u v p q =
-    let one = one_origin x g.slot p.slot u.all.0.slot p.sent u.all.0.from in
-    let two = one_origin y h.slot q.slot v.all.0.slot q.sent v.all.0.from in
-    grind (arith, laws.far d plan n l a b spaced p.planned q.planned)
+not_far laws d t kind plan x (g ∷ g_older) y (h ∷ h_older) n l a b spaced u v p q = grind (arith, nat_tests, one_origin)
 
 -- two runs that lie in one broadcast each lie in the same one or in neighbours
 pub near_sources : PlanLaws → (d t : ℕ) (kind : Kind) (plan : List Broadcast) (x : Input) (x_run : List Segment)
     (y : Input) (y_run : List Segment)
     → IsSpaced d plan → RunLiesInOne d t kind plan x x_run → RunLiesInOne d t kind plan y y_run
     → HaveNearSources plan x x_run y y_run
-near_sources laws d t kind plan x x_run y y_run spaced u v n l a b p q = (
-  not_far laws d t kind plan y y_run x x_run l n b a spaced v u q p,
-  not_far laws d t kind plan x x_run y y_run n l a
-      b spaced u v p q,
-)
+near_sources laws d t kind plan x x_run y y_run spaced u v n l a b p q = search (arith, not_far)

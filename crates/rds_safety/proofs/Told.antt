@@ -1,6 +1,7 @@
 -- Lemmas: if the flag separates each two neighbours of a run, the run is of one broadcast, or of some that are alike,
 -- whatever makes the receiver drop segments. This serves receivers with a dwell and receivers with the flag bit alone.
-use Rattle.std.proofs.Common.{◌≡◌, ℕ, List, [], ◌∷◌, refl, sym, ◌∙◌}
+use Rattle.std.proofs.Common.{arith, ◌≡◌, ℕ, List, [], ◌∷◌, sym, ◌∙◌}
+use Rattle.std.proofs.lemmas.Bool.Decides.{nat_tests}
 use Rattle.std.specs.List.{AllByRecursion}
 use Rattle.rds_encoder.specs.Plan.{Broadcast, Covers, HasNumber}
 use Rattle.rds_receiver.specs.Receipts.{Segment}
@@ -61,18 +62,15 @@ all_like Alike on kind plan input b g (h ∷ older) l c p own near joined all =
     let like = joined.0.told its.is.slot own.slot its.is.from own.from its.number l its.broadcast c its.planned p
     its.is.has.covers own.has.covers
     (sym its.is.has.flag ∙ sym joined.0.flag ∙ own.has.flag) in
-    let near_too = on its.broadcast c b like near in (
-      record { number = its.number; broadcast = its.broadcast; planned = its.planned; is = its.is; alike = near_too },
-      all_like Alike on kind plan input b h older its.number its.broadcast its.planned its.is near_too joined.1 all.1,
-    )
+    let near_too = on its.broadcast c b like near in
+    grind (arith, nat_tests, all_like Alike on kind plan input b h older)
 
 -- if only the same is alike, they are of one broadcast
 pub all_of_one : (kind : Kind) (plan : List Broadcast) (input : Input) (l : ℕ) (b : Broadcast) (g : Segment)
     (older : List Segment) → HasNumber plan l b → IsSegmentOf kind input g b
     → AreJoined (λ x y. x ≡ y) plan input (g ∷ older) → AllByRecursion (IsOfAny kind plan input) older
     → AreOf kind input b older
-all_of_one kind plan input l b g older p own joined all = by older (all_like (λ x y. x ≡ y) (λ x y z u v. u ∙ v) kind
-    plan input b g older l b p own refl joined all)
+all_of_one kind plan input l b g older p own joined all = search (arith, all_like, by)
   where
     by : (gs : List Segment) → AllByRecursion (IsSegmentLike (λ x y. x ≡ y) kind plan input b) gs
         → AreOf kind input b gs

@@ -10,8 +10,7 @@ use Rattle.rds_safety.specs.Late.{CameFrom, HasEntry, Input}
 use Rattle.rds_safety.specs.Near.{ListensNear}
 use Rattle.rds_safety.specs.Plans.{AreLawful, Plans}
 use Rattle.rds_safety.specs.Safe.{AreSafeViews, Listener}
-use Rattle.rds_safety.specs.Confirmed.{ListensConfirmed}
-use Rattle.rds_safety.specs.Confirmed.{lateness_of_two}
+use Rattle.rds_safety.specs.Confirmed.{ListensConfirmed, lateness_of_two}
 
 -- the confirmed messages are near the log, for the lateness of two receipts
 abbrev pub WhoConfirmsListensNear : Type 0
