@@ -1,7 +1,6 @@
 -- Lemmas about digits at the beginning of a text, and about their number.
 use Rattle.std.proofs.lemmas.Bool.Decides.{nat_tests}
-use Rattle.std.proofs.Common.{◌<◌, ◌≤◌, ◌^◌, ℕ, List, [], ◌∷◌, IsTrue, slice_index}
-use Rattle.std.proofs.Common.{arith}
+use Rattle.std.proofs.Common.{◌<◌, ◌≤◌, ◌^◌, ℕ, List, [], ◌∷◌, IsTrue, slice_index, arith}
 use Rattle.std.proofs.Math.Nat.{pow-le-pow_right}
 use Rattle.rds_arrivals.specs.Stamps.{is_digit, leading_digits}
 

@@ -1,15 +1,14 @@
 -- Lemmas: a filled log is heard by an own clock that counts no slot too few.
 use Rattle.std.proofs.lemmas.Bool.Decides.{nat_tests}
 use Rattle.std.proofs.Common.{◌≡◌, ◌⊎◌, ◌+◌, ◌<◌, ◌≤◌, ℕ, zero, suc, List, [], ◌∷◌, length}
-use Rattle.std.proofs.Common.{Option, Some, None, max, refl, sym, ap, arith}
+use Rattle.std.proofs.Common.{Option, Some, None, max, refl, ap, arith}
 use Rattle.std.specs.List.{All}
 use Rattle.std.proofs.lemmas.List.Elements.{All-head, All-tail}
 use Rattle.rds_safety.specs.Late.{CameFrom, HasEntry, IsHeardInOrder}
 use Rattle.rds_safety.specs.OwnClock.{IsHeardByOwnClock}
 use Rattle.rds_safety.proofs.Entries.{before_end}
 use Rattle.rds_safety.proofs.OnTime.{nothing_in_order, one_more_in_order}
-use Rattle.rds_arrivals.specs.Arrivals.{and_lost, filled, lost_before}
-use Rattle.rds_arrivals.specs.Arrivals.{lost_until}
+use Rattle.rds_arrivals.specs.Arrivals.{and_lost, filled, lost_before, lost_until}
 use Rattle.rds_arrivals.specs.Delivered.{AreBelowASlot, AreOf, Delivery, EachTwo, IsLater, IsOnItsWay}
 use Rattle.rds_arrivals.specs.Delivered.{KeepsPace, arrivals, delivered_input, origins}
 use Rattle.rds_arrivals.specs.Laws.{AreDelivered}
@@ -119,14 +118,7 @@ in_order {X} grain m first log (d ∷ before) of later =
     after : (given : List (Delivery X)) → EachTwo IsLater (d ∷ given) → (r u s : ℕ) → Some d.slot ≡ Some r
         → HasEntry first (and_lost (lost_at grain m given d) (from_of grain m given)) u (Some s) → s < r
     after [] l r u s o a = absurd (lost_came first (lost_at grain m [] d) (from_of {X = X} grain m []) u s a)
-    after (e ∷ given) l r u s o a =
-        omega (
-          arith,
-          l.0,
-          some_is d.slot r (sym o),
-          no_later grain m first e given l.1 u s
-              (lost_came first (lost_at grain m (e ∷ given) d) (from_of grain m (e ∷ given)) u s a),
-        )
+    after (e ∷ given) l r u s o a = search (arith, some_is, no_later, lost_came)
 
 -- fewer than m own slots between two entries are fewer than m on air
 between : {X : Type 0} (grain spread m first : ℕ) (given : List (Delivery X)) → AreBelowASlot grain spread → 0 < m
@@ -135,10 +127,7 @@ between : {X : Type 0} (grain spread m first : ℕ) (given : List (Delivery X)) 
     → CameFrom (delivered_input grain m first 0 given) u s → u < t + m → s < r + m
 between grain spread m first [] wide some later pace t u r s p q near = absurd p
 between {X} grain spread m first (d ∷ before) wide some later pace t u r s p q near =
-    let later_before = shorter IsLater d before later in
-    let pace_before = shorter (KeepsPace spread) d before pace in
-    let older = between grain spread m first before wide some later_before pace_before t u r s in
-    grind (arith, nat_tests, came_cases, no_later, recent)
+    grind (arith, nat_tests, between grain spread m first before wide some, shorter, came_cases, no_later, recent)
 
 -- a receiver of a filled log hears by a clock of its own that counts no slot too few
 pub own_clock : {X : Type 0} (grain spread m first lost : ℕ) (log : List (Option X)) (d : Delivery X)
@@ -148,10 +137,7 @@ pub own_clock : {X : Type 0} (grain spread m first lost : ℕ) (log : List (Opti
 own_clock grain spread m first lost log d before wide some are =
     let order = in_order grain m first log (d ∷ before) are.of are.later in
     let all = lost_in_order log first lost (heard_of grain m (d ∷ before)) (from_of grain m (d ∷ before)) order in
-    let long = lost_long lost (from_of grain m (d ∷ before)) in
-    let came = λ (t s : ℕ) (p : CameFrom (delivered_input grain m first lost (d ∷ before)) t s). lost_came first lost
-    (from_of grain m (d ∷ before)) t s p in
-    grind (arith, nat_tests, in_order, lost_in_order, lost_long, lost_came, between, recent, no_later)
+    search (arith, lost_long, lost_came, in_order, lost_in_order, between, recent, no_later)
 
 -- ---- exact: the delays vary by no more than the grain, and no break is among them
 

@@ -1,31 +1,21 @@
 use Rattle.std.proofs.lemmas.Bool.Decides.{nat_tests}
-use Rattle.std.proofs.Common.{◌≡◌, ◌+◌, ◌/◌, ◌∙◌, ℕ, Some, ap, arith, inl, inr, refl, suc}
-use Rattle.std.proofs.Common.{sym}
+use Rattle.std.proofs.Common.{◌≡◌, ◌+◌, ◌/◌, ◌∙◌, ℕ, Some, ap, arith, inr, suc, sym}
 use Rattle.rds_arrivals.specs.Stamps.{digit_at}
 use Rattle.rds_arrivals.proofs.Fractions.{below_a_second, digit_leads, light, more_fraction, next_weight, no_fraction}
 use Rattle.rds_arrivals.proofs.Fractions.{none_leads}
 use Rattle.rds_arrivals.proofs.stamp.fraction_at.Goals as goal
 
 pub loop-digit-init : goal.loop-digit-init
-loop-digit-init c = record {
-  next = (0, omega arith, refl);
-  time = sym (no_fraction c.args.text.now (c.args.place + 1));
-  within = inl (omega arith);
-  digits = refl;
-}
+loop-digit-init c = grind (arith, nat_tests, no_fraction)
 
 pub overflow_mul-time : goal.overflow_mul-time
-overflow_mul-time c =
-    let (i, at, heavy) = c.loop-digit.invariant.next in
-    let small = light i c.in-Some.digit c.in-Some.ensures.small in
-    rw heavy record { fits = omega arith }
+overflow_mul-time c = grind (arith, nat_tests, light)
 
 pub overflow_add-time : goal.overflow_add-time
 overflow_add-time c =
     let (i, at, heavy) = c.loop-digit.invariant.next in
     let small = light i c.in-Some.digit c.in-Some.ensures.small in
-    let before = below_a_second c.args.text.now (c.args.place + 1) c.loop-digit.end in
-    rw heavy record { fits = omega arith }
+    grind (arith, nat_tests, below_a_second)
 
 pub loop-digit-smaller : goal.loop-digit-smaller
 loop-digit-smaller c = omega (arith, c.in-Some.ensures.within)

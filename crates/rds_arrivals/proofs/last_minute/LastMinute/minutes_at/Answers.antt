@@ -1,14 +1,10 @@
-use Rattle.std.proofs.Common.{◌∙◌, sym}
+use Rattle.std.proofs.Common.{arith}
+use Rattle.std.proofs.lemmas.Bool.Decides.{nat_tests}
 use Rattle.rds_arrivals.proofs.Minutes.{minute_of_same, minute_same}
 use Rattle.rds_arrivals.proofs.last_minute.LastMinute.minutes_at.Goals as goal
 
 pub returns-then-bytes-self-eq65535-clause-value : goal.returns-then-bytes-self-eq65535-clause-value
-returns-then-bytes-self-eq65535-clause-value c =
-    sym (minute_of_same c.args.text.now c.args.place c.args.self.now.bytes c.requires.within
-    c.if-bytes-self-eq65535.true ∙ c.args.self.now.same)
+returns-then-bytes-self-eq65535-clause-value c = grind (arith, nat_tests, minute_of_same)
 
 pub invariant_of-self : goal.invariant_of-self
-invariant_of-self c = record {
-  same = sym (minute_same c.args.text.now c.args.place c.requires.within) ∙ sym c.in_ok-minutes.ensures.value;
-  small = c.in_ok-minutes.ensures.small;
-}
+invariant_of-self c = grind (arith, nat_tests, minute_same)
