@@ -1,5 +1,6 @@
 -- Lemmas: a receiver of a world that got on time each free one of enough slots of a broadcast shows it, as each
 -- receiver of a station does.
+use Rattle.std.proofs.lemmas.Bool.Decides.{nat_tests}
 use Rattle.std.proofs.Common.{◌≡◌, ◌+◌, ◌-◌, ◌≤◌, ℕ, Bool, true, List, [], ◌∷◌, ◌++◌, length-append}
 use Rattle.std.proofs.Common.{Option, Some, refl, sym, ap, subst, arith, length}
 use Rattle.rds_fields.specs.declared.head.Head.{Head}
@@ -83,7 +84,7 @@ came_in_own : (d i : ℕ) (recent before : List Event) → GetsEachFree i recent
 came_in_own d i [] before gets s since free = grind (arith, free_before, slots_are)
 came_in_own d i (e ∷ recent) before gets s since earlier =
     let before_it = came_in_own d i recent before gets.1 s since in
-    grind (arith, came_still, free_by_command, text_service, slots_are, own_origin, origins)
+    grind (arith, nat_tests, came_still, free_by_command, text_service, slots_are, own_origin, origins)
 
 -- ---- a receiver of a world
 

@@ -1,6 +1,5 @@
 -- Lemmas: how far back a receiver may get a message, slot by slot, and which groups are kept.
-use Rattle.std.proofs.Common.{◌≡◌, ◌+◌, ◌<◌, ◌≤◌, ℕ, zero, suc, List, [], ◌∷◌, Option, None, refl}
-use Rattle.std.proofs.Common.{arith, length, take}
+use Rattle.std.proofs.Common.{◌≡◌, ◌+◌, ◌<◌, ◌≤◌, ℕ, zero, suc, List, [], ◌∷◌, Option, None, refl, arith, length, take}
 use Rattle.std.specs.Prelude.{IfSome, slice_get, slice_index_or}
 use Rattle.std.proofs.lemmas.List.{get_or_default, get_or_past, get_or-take}
 use Rattle.rds_block.specs.declared.group.Group.{Group}
@@ -34,11 +33,6 @@ same_reception e receptions i r same there is = grind (arith, get_or_default)
 -- a reception past the end of the list is due
 pub due_past : (k : ℕ) (e : Event) (before : List Event) (i : ℕ) → length e.receptions ≤ i → IsDueTo k e before i
 due_past k e before i past = grind (arith, get_or_past)
-
--- the slot after an event is one more than those before
-pub reached_next : (k : ℕ) (e : Event) (before : List Event) (last : Option ℕ)
-    → reach_of k (length before + 1) last ≡ reach_of k (length (e ∷ before)) last
-reached_next k e before last = grind arith
 
 -- if nothing is kept so far back, nothing is read
 pub nothing_there : (groups : List (Option Group)) (back : ℕ) → slice_get groups back ≡ None

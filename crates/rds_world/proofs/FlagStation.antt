@@ -1,5 +1,6 @@
 -- Lemmas: the flag of a station turns with each text or name that it accepts without a restart between, and each that
 -- another one follows lasts for 2d slots. Across a restart comes the empty text, or the newest one with flag 0 again.
+use Rattle.std.proofs.lemmas.Bool.Decides.{nat_tests}
 use Rattle.std.proofs.Common.{◌≡◌, ◌≢◌, ◌⊎◌, ◌+◌, ◌-◌, ◌*◌, ◌≤◌, ℕ, true, false, List, [], ◌∷◌, length, Option}
 use Rattle.std.proofs.Common.{Some, None, refl, sym, ap, ◌∙◌, subst, inl, inr, arith, is_ok, option_map, ◌<◌}
 use Rattle.std.specs.Prelude.{IfSome}
@@ -31,8 +32,7 @@ IsNewest (newest ∷ older) b = b ≡ newest
 -- the broadcast with the last number is the newest
 newest_by_number : (plan : List Broadcast) (k : ℕ) (a : Broadcast) → HasNumber plan k a → k + 1 ≡ length plan
     → IsNewest plan a
-newest_by_number [] k a p last = absurd p
-newest_by_number (n ∷ older) k a p last = grind (arith, below)
+newest_by_number plan k a p last = grind (arith, nat_tests, below)
 
 -- the broadcast on air is the newest
 newest_on_air : (d end : ℕ) (moves : List Move) (air : OnAir) → on_air d moves ≡ Some air
@@ -70,12 +70,11 @@ followed P IsAfter d holds (End free ∷ before) end first = followed P IsAfter 
 followed P IsAfter d holds (Set x ∷ before) end first =
     let closed = followed P IsAfter d holds before (slot_of before - 1) first.1 in
     let lasting = followed P IsAfter d holds before end first.1 in
-    grind arith
+    grind (arith, nat_tests)
 
 -- a plan has one newest broadcast
 one_newest : (plan : List Broadcast) (a b : Broadcast) → IsNewest plan a → IsNewest plan b → a ≡ b
-one_newest [] a b p q = absurd p
-one_newest (n ∷ older) a b p q = p ∙ sym q
+one_newest plan a b p q = grind (arith, nat_tests)
 
 -- the newest broadcast is the one on air, if there is one
 is_on_air : (d : ℕ) (moves : List Move) (air : OnAir) (a : Broadcast) → on_air d moves ≡ Some air
@@ -94,8 +93,7 @@ flag_0_first d moves on = rw (none_accepted d moves on) refl
 
 harmless_first : (plan : List Broadcast) (a b : Broadcast) → b.flag ≡ false → IsNewest plan a
     → IsHarmlessAfter plan b.bytes → (a.flag ≢ b.flag) ⊎ IsHarmless a b
-harmless_first [] a b flag is after = absurd is
-harmless_first (n ∷ older) a b flag is one = grind arith
+harmless_first plan a b flag is after = grind (arith, nat_tests)
 
 turns_the_flag : (d end : ℕ) (moves : List Move) → IsFirstAfterRestart IsHarmlessAfter d moves
     → TurnsTheFlag (plan_of d end moves)
@@ -111,8 +109,7 @@ on_air_lasted d h air a ok on is = grind (arith, is_on_air, long_on_air)
 
 empty_first : (d : ℕ) (plan : List Broadcast) (a b : Broadcast) → IsNewest plan a → IsEmptyAfter plan b.bytes
     → b.bytes ≢ [] → a.start + 2 * d ≤ a.end + 1
-empty_first d [] a b is after some = absurd is
-empty_first d (n ∷ older) a b is none some = absurd (some none)
+empty_first d plan a b is after some = grind (arith, nat_tests)
 
 keeps_each_filled : (d end : ℕ) (moves : List Move) → IsFirstAfterRestart IsEmptyAfter d moves
     → EachLasts IsFilled (2 * d) (plan_of d end moves)
@@ -164,14 +161,12 @@ IsAgainOrLater n older b = IsAgainOf older b ⊎ ((a : Broadcast) → IsNewest o
 
 safe_first : (d : ℕ) (plan : List Broadcast) (b : Broadcast) → b.flag ≡ false → AreAfter IsTurned plan
     → IsSafeAfter d plan b.bytes → IsAgainOrLater (2 * d) plan b
-safe_first d [] b flag turned safe = inr (λ a is some. absurd is)
-safe_first d (x ∷ older) b flag turned safe = grind arith
+safe_first d plan b flag turned safe = grind (arith, nat_tests)
 
 -- the newest broadcast has the last number
 last_number : (plan : List Broadcast) (a : Broadcast) → IsNewest plan a
     → (0 < length plan) × HasNumber plan (length plan - 1) a
-last_number [] a is = absurd is
-last_number (n ∷ older) a is = (omega arith, inl (omega arith, is))
+last_number plan a is = grind (arith, nat_tests)
 
 -- news is not again one of the two before it
 not_again : (older plan : List Broadcast) (l : ℕ) (b : Broadcast) → l ≡ length older
@@ -206,17 +201,14 @@ keeps_each d end moves = (keeps_each_filled d end moves, keeps_each_before_news 
 firsts_too : (P Q : List Broadcast → List ℕ → Type 0) → ((plan : List Broadcast) (x : List ℕ) → P plan x → Q plan x)
     → (d : ℕ) (moves : List Move) → IsFirstAfterRestart P d moves → IsFirstAfterRestart Q d moves
 firsts_too P Q so d [] first = tt
-firsts_too P Q so d (Begin ∷ before) first = firsts_too P Q so d before first
 firsts_too P Q so d (Set x ∷ before) first = grind (arith, firsts_too P Q so d before first.1)
-firsts_too P Q so d (End free ∷ before) first = firsts_too P Q so d before first
+firsts_too P Q so d (x ∷ before) first = firsts_too P Q so d before first
 
 safe_is_harmless : (d : ℕ) (plan : List Broadcast) (x : List ℕ) → IsSafeAfter d plan x → IsHarmlessAfter plan x
-safe_is_harmless d [] x safe = tt
-safe_is_harmless d (n ∷ older) x safe = grind arith
+safe_is_harmless d plan x safe = grind (arith, nat_tests)
 
 empty_is_safe : (d : ℕ) (plan : List Broadcast) (x : List ℕ) → IsEmptyAfter plan x → IsSafeAfter d plan x
-empty_is_safe d [] x after = inl tt
-empty_is_safe d (n ∷ older) x none = grind arith
+empty_is_safe d plan x after = grind (arith, nat_tests)
 
 pub empty_is_enough : TheEmptyTextIsEnough
 empty_is_enough d moves first = firsts_too IsEmptyAfter (IsSafeAfter d) (empty_is_safe d) d moves first

@@ -1,5 +1,6 @@
 -- Lemmas: the messages of an encoder are lawful for its plans. For each mark of its log there is the broadcast that was
 -- on air in that slot, and it stays planned whatever comes later.
+use Rattle.std.proofs.lemmas.Bool.Decides.{nat_tests}
 use Rattle.std.proofs.Common.{◌≡◌, ◌+◌, ◌-◌, ◌<◌, ◌≤◌, ℕ, List, [], ◌∷◌, ◌++◌, Bool, append_assoc, Option, Some}
 use Rattle.std.proofs.Common.{refl, sym, ap, ◌∙◌, subst, inl, inr, arith, length}
 use Rattle.std.specs.Prelude.{IfSome}
@@ -64,17 +65,10 @@ logged_texts d (x ∷ before) = grind (arith, logged_texts d before)
 -- a free slot ended
 pub free_before : (told : List Entry) (s : ℕ) → IsFreeIn told s → s < slots_in told
 free_before [] s f = absurd f
-free_before (Tick free ∷ before) s f = grind (arith, free_before before s)
-free_before (_ ∷ before) s f = free_before before s f
+free_before (x ∷ before) s f = grind (arith, nat_tests, free_before before s)
 
 text_service : IsService IsText text_moves
-text_service = record {
-  none = refl;
-  tick = λ free before. refl;
-  longer = longer;
-  values = λ x before value all. grind arith;
-  logged = logged_texts;
-}
+text_service = search (arith, logged_texts, longer)
   where
     longer : (x : Entry) (before : List Entry)
         → (told : List Move) × (text_moves (x ∷ before) ≡ told ++ text_moves before)
@@ -89,13 +83,7 @@ logged_names d [] = refl
 logged_names d (x ∷ before) = grind (arith, logged_names d before)
 
 name_service : IsService IsName name_moves
-name_service = record {
-  none = refl;
-  tick = λ free before. refl;
-  longer = longer;
-  values = λ x before value all. grind arith;
-  logged = logged_names;
-}
+name_service = search (arith, logged_names, longer)
   where
     longer : (x : Entry) (before : List Entry)
         → (told : List Move) × (name_moves (x ∷ before) ≡ told ++ name_moves before)
@@ -127,8 +115,7 @@ module _ (IsValue : List ℕ → Type 0) (of : Option Message → Mark) (moves :
 
   began_by : (laws : EncoderLaws) (d : ℕ) (entries : List Entry) → EndsASlot entries
       → IfSome (on_air d (moves entries)) (λ (air : OnAir). air.start ≤ slot_of (moves entries) - 1)
-  began_by laws d [] ended = grind arith
-  began_by laws d (x ∷ before) ended = grind arith
+  began_by laws d entries ended = grind (arith, nat_tests)
 
   marked : (d : ℕ) (entries : List Entry) → length (marks of (sent_log d entries)) ≡ slot_of (moves entries)
   marked d entries = grind (arith, marks_long of (sent_log d entries))
@@ -225,9 +212,7 @@ texts_lawful laws d told some slots = record {
         let w = sent_in_slot IsText text_mark text_moves text_service d told slot (Tagged pair) sent in
         let air = laws.tags d w.free w.before pair (tags_of_mark (sent_in d w.free w.before) pair w.is) in
         let own = laws.ends d w.before pair air.2 in
-        let planned =
-        planned_then IsText text_mark text_moves text_service laws d told slot (Tagged pair) w air.0 air.1 in
-        grind (arith, has_tags d slot pair (station_plans d told).text air.0)
+        search (arith, planned_then, text_service, has_tags)
 
 names_lawful : EncoderLaws → (d : ℕ) (told : List Entry) → 0 < d → AreEndedSlots told
     → IsLawful d names (station_plans d told).name (marks name_mark (sent_log d told))

@@ -1,8 +1,7 @@
 -- Lemmas: a restart mixes if another text than the empty one comes first after it, for d = 1. `AAAACCC` is set in slot
 -- 1, the encoder restarts in slot 4, and `BBBBDDD` is set in slot 5, with flag 0 again. A receiver with the flag bit
 -- alone that gets each slot joins, in slot 5, the second segment of `AAAACCC` with the first of `BBBBDDD`.
-use Rattle.std.proofs.Common.{◌≡◌, ◌<◌, ◌≤◌, ℕ, true, false, List, [], ◌∷◌, Option, Some, None, refl}
-use Rattle.std.proofs.Common.{inr, arith}
+use Rattle.std.proofs.Common.{◌≡◌, ◌<◌, ◌≤◌, ℕ, true, false, List, [], ◌∷◌, Option, Some, None, refl, inr, arith}
 use Rattle.std.specs.FinMap.{empty, get, insert}
 use Rattle.rds_fields.specs.declared.message.Message.{Message}
 use Rattle.rds_fields.specs.declared.message.Message.TheVariants.{Text}
@@ -16,8 +15,7 @@ use Rattle.rds_safety.specs.FlagAlone.{ShowsByFlag}
 use Rattle.rds_safety.specs.Late.{CameFrom, Input, IsHeardLate, own_origins}
 use Rattle.rds_safety.proofs.Bytes.{get-put}
 use Rattle.rds_safety.proofs.Entries.{before_end}
-use Rattle.rds_safety.proofs.Least.{four, is_text, newer_text, older_text, text_of_two}
-use Rattle.rds_safety.proofs.Least.{three_and_end}
+use Rattle.rds_safety.proofs.Least.{four, is_text, newer_text, older_text, text_of_two, three_and_end}
 use Rattle.rds_safety.proofs.OnTime.{input_of, no_slot_late}
 use Rattle.rds_world.specs.declared.event.Command.{Command}
 use Rattle.rds_world.specs.declared.event.Command.TheVariants.{Quiet, Restart, SetText}
@@ -87,10 +85,7 @@ of_none k b last same = grind arith
 pub a_restart_mixes : MixesAStation 1
 a_restart_mixes = record {
   events = events;
-  values = (
-    is_text 66 68 (omega arith) (omega arith) refl refl,
-    (tt, (tt, (tt, (is_text 65 67 (omega arith) (omega arith) refl refl, (tt, tt))))),
-  );
+  values = search (arith, is_text);
   now = 5;
   receiver = record { input = input; view = view };
   listens = record { order = late.order; past = by_now; shows = shows };

@@ -1,5 +1,5 @@
 -- Lemmas: the receivers of a world listen to its encoder, so their views are safe.
-use Rattle.std.proofs.Common.{◌≡◌, ◌+◌, ℕ, suc, false, List, [], ◌∷◌, Option, Some, None, refl, ◌∙◌, subst, arith, sym}
+use Rattle.std.proofs.Common.{◌≡◌, ◌+◌, ℕ, suc, false, List, [], ◌∷◌, Option, Some, None, refl, ◌∙◌, subst, arith}
 use Rattle.std.proofs.Common.{length}
 use Rattle.std.specs.List.{All, AllByRecursion, AllZip}
 use Rattle.std.specs.Prelude.{slice_get}
@@ -47,9 +47,7 @@ pub shows_view : (config : Config) (input : Input) (r : Receiver) (view : ShownV
 shows_view config input r view kind has shows =
     let v = subst (λ (t : Tuning). IsView t has.groups view) (tuned_alike config input kind)
     (shows (tuned_to config input) has.groups has.stands) in
-    subst (λ (heard : List (Option Message)). ShowsView config.dwell input.first (counted_in (window_of config.kind)
-    config.dwell input.first heard) view)
-    (sym has.spelled) v
+    search arith
 
 -- the receiver listens to the log, with or without a window
 abbrev pub ListensIn : Option ℕ → ℕ → ℕ → ℕ → List (Option Message) → Listener → Type 0

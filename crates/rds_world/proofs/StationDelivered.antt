@@ -79,9 +79,7 @@ throughout was moves service m air [] free earlier from on = grind arith
 throughout was moves service m air (entry ∷ later) free earlier from on =
     let rest = (later ++ Tick free ∷ []) ++ earlier in
     let more = service.longer entry rest in
-    let past : air.start < slot_of (moves rest) = omega (arith, rises later) in
-    let before = was m more.0 (moves rest) air (rw more.1 at on) past in
-    (on, throughout was moves service m air later free earlier from before)
+    search (arith, throughout was moves service m air later free earlier from, rises)
   where
     rises : (xs : List Entry) → slot_of (moves earlier) + 1 ≤ slot_of (moves ((xs ++ Tick free ∷ []) ++ earlier))
     rises [] = grind (arith, service.ticks free earlier)
@@ -223,8 +221,7 @@ module _ (laws : DeliveryLaws) (k m : ℕ) (some : 0 < m) (newer rest : List Ent
         segment = came_in w.slot p;
         since = w.since;
         at = refl;
-        is_in = in_segments pick r.input.first
-            r.input.heard w.slot message p heard is;
+        is_in = search (arith, in_segments);
       }
 
   text_shown : (number : ℕ) → HasNumber (station_plans (m + k) told).text number b

@@ -1,9 +1,8 @@
 -- Lemmas: a world after one more slot.
 use Rattle.std.proofs.Common.{◌≡◌, ◌≤◌, ◌++◌, take, drop, ℕ, List, ◌∷◌, Option, Some, None, sym, subst, arith}
-use Rattle.std.proofs.Common.{length, refl, is_some, nat_lt, true, false}
+use Rattle.std.proofs.Common.{length, is_some, nat_lt, true, false}
 use Rattle.std.specs.Borrow.{Bor}
 use Rattle.std.specs.Prelude.{IfSome, slice_get, slice_index_or}
-use Rattle.std.proofs.lemmas.Bool.{ltb-true}
 use Rattle.std.proofs.lemmas.List.{length-take-le}
 use Rattle.std.proofs.Math.Seq.{take-append_seam}
 use Rattle.std.proofs.lemmas.Option.{slice_get_read}
@@ -16,7 +15,7 @@ use Rattle.rds_world.specs.Event.{Event}
 use Rattle.rds_world.specs.Slots.{SetsAValue, entries, input_of, log, received}
 use Rattle.rds_world.specs.WorldAt.{AllHaveHeard, AreLastSent, HavePasts, HaveReaches, IsViewOfInput, ReceiverShows}
 use Rattle.rds_world.specs.ReceiverKind.{window_of}
-use Rattle.rds_world.specs.WorldAt.{ShowsStill, WorldAt, tuned_to}
+use Rattle.rds_world.specs.WorldAt.{ShowsStill, WorldAt}
 use Rattle.rds_world.specs.State.{WorldState, distance}
 use Rattle.rds_world.specs.Wrong.{IsFitToAll}
 use Rattle.rds_world.specs.declared.world.Config.{Config}
@@ -56,12 +55,6 @@ pub shows_what_it_heard : (config : Config) (w : WorldState) (i : ℕ) (events :
     → IsViewOfInput config (input_of (distance config) i events) view)
 shows_what_it_heard config w i events st None there is = tt
 shows_what_it_heard config w i events st (Some r) there is = λ view shows.
-    let at : slice_get w.receivers i ≡ Some r.now = slice_get_read w.receivers (length w.receivers) i r.now refl
-    (ltb-true i (length w.receivers) (sym there)) is in
+    let at : slice_get w.receivers i ≡ Some r.now = search (arith, slice_get_read) in
     let has = st.receivers.each i r.now at in
-    record {
-      groups = has.groups;
-      spelled = has.spelled;
-      is = shows
-          (tuned_to config (input_of (distance config) i events)) has.groups has.stands;
-    }
+    search arith

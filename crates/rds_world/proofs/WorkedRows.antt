@@ -1,7 +1,6 @@
 -- Worked examples of due receptions, of wrong groups, of inputs, of what may come first after a restart and of the sets
 -- of a slot, calculated by hand. Lists have the newest first.
-use Rattle.std.proofs.Common.{◌≡◌, ◌<◌, ℕ, List, [], ◌∷◌, Option, Some, None, true, false, refl}
-use Rattle.std.proofs.Common.{inl, inr, arith}
+use Rattle.std.proofs.Common.{◌≡◌, ◌<◌, ℕ, List, [], ◌∷◌, Option, Some, None, true, false, refl, inl, inr, arith}
 use Rattle.rds_encoder.specs.Entries.{Move, Begin, Set, End}
 use Rattle.rds_encoder.specs.Plan.{plan_of}
 use Rattle.rds_encoder.specs.Spaced.{RestartsComeFirst}

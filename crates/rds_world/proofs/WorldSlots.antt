@@ -1,7 +1,7 @@
 -- Lemmas: the slots of a world are slots of a station, and their moves as texts alone, or names alone, see them.
-use Rattle.std.proofs.Common.{◌≡◌, ◌-◌, ◌<◌, ℕ, List, [], ◌∷◌, ◌++◌, length, refl, sym, ap, subst, arith, Option}
+use Rattle.std.proofs.lemmas.Bool.Decides.{nat_tests}
+use Rattle.std.proofs.Common.{◌≡◌, ◌-◌, ◌<◌, ℕ, List, [], ◌∷◌, ◌++◌, length, refl, sym, ap, subst, arith}
 use Rattle.std.specs.List.{AllByRecursion}
-use Rattle.rds_fields.specs.declared.message.Message.{Message}
 use Rattle.rds_encoder.specs.Entries.{Entry, Move, Begin, Set, End, name_moves, slot_of, text_moves}
 use Rattle.rds_encoder.specs.Plan.{plan_of}
 use Rattle.rds_encoder.specs.Spaced.{IsUnset, RestartsComeFirst}
@@ -26,13 +26,7 @@ pub record IsService (moves : List Entry → List Move) : Type 0 where
 
 -- the moves of texts are a service
 pub text_service : IsService text_moves
-text_service = record {
-  none = refl;
-  slot = λ e before. refl;
-  longer = longer;
-  same_slot = λ c before. grind arith;
-  first = λ c before unset restarts. grind arith;
-}
+text_service = search (arith, longer)
   where
     longer : (c : Command) (before : List Entry)
         → (told : List Move) × (text_moves (commanded c before) ≡ told ++ text_moves before)
@@ -41,13 +35,7 @@ text_service = record {
     longer _ before = ([], refl)
 
 pub name_service : IsService name_moves
-name_service = record {
-  none = refl;
-  slot = λ e before. refl;
-  longer = longer;
-  same_slot = λ c before. grind arith;
-  first = λ c before unset restarts. grind arith;
-}
+name_service = search (arith, longer)
   where
     longer : (c : Command) (before : List Entry)
         → (told : List Move) × (name_moves (commanded c before) ≡ told ++ name_moves before)
@@ -114,6 +102,4 @@ pub events_are_lawful : TheEncoderIsLawful → (d : ℕ) (events : List Event) �
     → AreLawful d (plans_of d events) (log d events)
 events_are_lawful lawful d events some set =
     let same = slots_of_a_world d events set in
-    subst (λ (sent : List (Option Message)). AreLawful d (plans_of d events) sent) same.log
-    (subst (λ (plans : Plans). AreLawful d plans (sent_log d (entries events))) same.plans
-    (lawful d (entries events) some same.slots))
+    grind (arith, nat_tests)

@@ -1,4 +1,5 @@
-use Rattle.std.proofs.Common.{◌≡◌, Some, true, false, refl, arith, length, ◌∙◌, ap, sym}
+use Rattle.std.proofs.lemmas.Bool.Decides.{nat_tests}
+use Rattle.std.proofs.Common.{◌≡◌, Some, true, arith, ◌∙◌, ap, sym}
 use Rattle.std.specs.Option.{option_copied}
 use Rattle.std.specs.Prelude.{slice_get}
 use Rattle.std.proofs.lemmas.Option.{get_or_from_slice_get, slice_get_read}
@@ -13,23 +14,8 @@ returns-in-Some-Some c =
     let test : eq-value.it c.in-Some-Some.before message ≡ true = sym c.eq.ensures ∙ c.if-eq.true in
     let at : slice_get c.args.wrong.now.items c.loop-i.i ≡ Some (Some message) =
     sym c.get.ensures ∙ ap option_copied c.in-Some-Some.is ∙ ap Some c.in-Some-Some.field-0-is
-    ∙ ap (λ (x : Message). Some (Some x)) (same_by_test c.in-Some-Some.before message test) in (
-      λ yes. (
-        c.loop-i.i,
-        omega (arith, c.loop-i-test.true, c.len-i-end.ensures.len),
-        get_or_from_slice_get
-            c.args.wrong.now.items c.loop-i.i (Some message) (Some message) at,
-      ),
-      λ among. refl,
-    )
+    ∙ ap (λ (x : Message). Some (Some x)) (same_by_test c.in-Some-Some.before message test) in
+    grind (arith, nat_tests, same_by_test, get_or_from_slice_get)
 
 pub returns : goal.returns
-returns c = (
-  λ untrue. absurd (let e : false ≡ true = untrue in cc),
-  λ among. (
-      let items = c.args.wrong.now.items in
-      let (k, below, is) = among in
-      absurd (c.loop-i.invariant k (omega (arith, below, c.loop-i-test.false, c.len-i-end.ensures.len))
-      (slice_get_read items (length items) k (Some c.args.message.now) refl below (sym is)))
-      ),
-)
+returns c = grind (arith, nat_tests, slice_get_read)

@@ -1,10 +1,9 @@
 use Rattle.circular_buffer.proofs.Places.{slice_get-set_other}
-use Rattle.std.proofs.lemmas.List.{get_or-set_other}
+use Rattle.std.proofs.lemmas.List.{get_or-set_other, get_or-set_same, get_or_default, length-set}
 use Rattle.std.proofs.lemmas.Bool.Decides.{nat_tests}
-use Rattle.std.proofs.Common.{◌≡◌, ◌∙◌, Some, arith, false, inl, inr, length, refl, sym}
+use Rattle.std.proofs.Common.{◌≡◌, ◌∙◌, Some, arith, false, inl, inr, length, sym}
 use Rattle.std.proofs.lemmas.Bool.{cases_lt}
 use Rattle.std.specs.Prelude.{slice_get, slice_index_or}
-use Rattle.std.proofs.lemmas.List.{get_or-set_same, get_or_default, length-set}
 use Rattle.std.proofs.lemmas.Option.{slice_get-get_or, slice_get_within}
 use Rattle.rds_receiver.specs.declared.receiver.Receiver.{Receiver}
 use Rattle.rds_world.specs.declared.event.Reception.TheVariants.{Lost}
@@ -24,9 +23,8 @@ loop-i-preserved c =
     let given : length c.args.receptions.now ≡ length c.args.receivers.now = c.requires.same in
     let at : (d : Receiver) → slice_get rs i ≡ Some (slice_index_or rs i d) =
     λ d. slice_get-get_or rs i d (omega (arith, long, c.loop-i-test.true)) in
-    let told : slice_index_or c.args.receptions.now i Lost ≡ c.index-receptions-i.result = get_or_default
-    c.args.receptions.now i Lost c.index-receptions-i.result (omega (arith, long, given))
-    ∙ sym c.index-receptions-i.is in
+    let told : slice_index_or c.args.receptions.now i Lost ≡ c.index-receptions-i.result =
+        search (arith, get_or_default) in
     record {
       count = length-set _ _ _ ∙ c.loop-i.invariant.count;
       rest = λ k h. grind (arith, slice_get-set_other rs i k new, c.loop-i.invariant.rest k);
@@ -49,21 +47,11 @@ loop-i-preserved c =
           elim (cases_lt k i) [
             | inl less ↦ c.loop-i.invariant.stays slot sent inputs last kept due all k less
                 (sym (get_or-set_other c.loop-i.stays i k c.receive-same.result false (λ e. omega arith)) ∙ is)
-            | inr more ↦ (
-                let here : k ≡ i = omega (arith, h, more) in
-                let yes = marked c.loop-i.stays i c.receive-same.result (rw here at is) in
-                rw (here, told) (stay yes))
+            | inr more ↦ grind (arith, nat_tests, marked)
           ];
       eight = length-set _ _ _ ∙ c.loop-i.invariant.eight;
       all = λ every k below.
-          grind (
-            arith,
-            nat_tests,
-            get_or-set_same c.loop-i.stays i c.receive-same.result false,
-            get_or-set_other c.loop-i.stays i k c.receive-same.result false,
-            both_hold c.loop-i.all c.receive-same.result every,
-            c.loop-i.invariant.all,
-          );
+          search (arith, get_or-set_same, get_or-set_other, both_hold);
     }
 
 pub returns-clause-stays : goal.returns-clause-stays

@@ -1,5 +1,5 @@
-use Rattle.std.proofs.Common.{arith}
-use Rattle.std.proofs.Common.{◌≡◌, ◌-◌, None, Some, false, refl, rules, subst}
+use Rattle.std.proofs.lemmas.Bool.Decides.{nat_tests}
+use Rattle.std.proofs.Common.{arith, ◌≡◌, ◌-◌, None, Some, false, refl, rules, subst}
 use Rattle.rds_receiver.specs.Receipts.{Hears}
 use Rattle.rds_world.specs.Due.{IsDue}
 use Rattle.rds_world.specs.declared.event.Reception.{Reception}
@@ -14,8 +14,7 @@ returns-in-Got-clause-heard c slot sent input last kept due has =
     let is_due = subst (λ (r : Reception). IsDue config.late slot last r) c.in-Got.is due in
     let hears : Hears config.head.pi c.back_from.result (sent_back back sent) = rw c.back_from.ensures
     (kept back is_due.soon) in
-    rw c.in-Got.is (hears_more config input _ _ c.back_from.result (sent_back back sent) (Some (slot - back)) hears
-    c.slot_blocks.ensures.stands has)
+    grind (arith, nat_tests, hears_more)
 
 pub returns-in-Lost-clause-heard : goal.returns-in-Lost-clause-heard
 returns-in-Lost-clause-heard c slot sent input last kept due has = rw c.in-Lost.is (hears_more c.args.config.now input _
@@ -29,8 +28,7 @@ returns-in-Got-clause-stays c slot sent input last kept due has stays =
     let config = c.args.config.now in
     let back = c.in-Got.back in
     let is_due = subst (λ (r : Reception). IsDue config.late slot last r) c.in-Got.is due in
-    let hears : Hears config.head.pi c.back_from.result (sent_back back sent) = rw c.back_from.ensures
-    (kept back is_due.soon) in
+    let hears : Hears config.head.pi c.back_from.result (sent_back back sent) = search arith in
     let calm : c.slot_blocks.result ≡ false = search rules in
     rw c.in-Got.is (stays_shown config input _ c.back_from.result (sent_back back sent) (Some (slot - back)) hears
     (c.slot_blocks.ensures.same calm) has)

@@ -1,5 +1,4 @@
-use Rattle.std.proofs.Common.{arith}
-use Rattle.std.proofs.Common.{rules}
+use Rattle.std.proofs.Common.{arith, rules}
 use Rattle.rds_world.proofs.station.obey.Goals as goal
 
 pub returns-in-SetTags-clause-stands : goal.returns-in-SetTags-clause-stands

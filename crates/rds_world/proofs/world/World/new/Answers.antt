@@ -1,7 +1,5 @@
-use Rattle.std.proofs.Common.{rules, ◌≡◌, ◌∙◌, ℕ, [], Option, refl, subst, sym}
-use Rattle.circular_buffer.specs.Buffer.{Buffer}
-use Rattle.rds_block.specs.declared.group.Group.{Group}
-use Rattle.rds_world.specs.WorldAt.{AreLastSent, HavePasts, HeardNothing}
+use Rattle.std.proofs.Common.{arith, rules, ◌≡◌, ◌∙◌, refl}
+use Rattle.rds_world.specs.WorldAt.{HeardNothing}
 use Rattle.rds_world.proofs.DueSteps.{at_first}
 use Rattle.rds_world.proofs.Received.{heard_nothing, one_of_first}
 use Rattle.rds_world.proofs.world.World.new.Goals as goal
@@ -17,8 +15,7 @@ returns-clause-stands c =
       values = tt;
       due = tt;
       fit = tt;
-      pasts = subst (λ (w : Option ℕ). HavePasts w [] c.in-Ok-new_pasts.pasts.items) c.window.ensures
-          c.in-Ok-new_pasts.ensures.empty;
+      pasts = search arith;
       encoder = c.new_encoder.ensures.first;
       receivers = record {
         each = λ i r e. heard_nothing config 0 r
@@ -28,8 +25,7 @@ returns-clause-stands c =
         each = λ i reach e. one_of_first (λ n. n ≡ 1) c.args.receivers _ i reach
             (one, (one, (one, (one, (one, (one, (one, (one, tt)))))))) e ∙ at_first config.late;
       };
-      sent = subst (λ (b : Buffer (Option Group)). AreLastSent config [] b.items) (sym c.in-Ok.ensures)
-          (λ back within. refl);
+      sent = search arith;
       stay = λ i is. tt;
     }
 
