@@ -2,12 +2,12 @@
 use Rattle.std.proofs.lemmas.Bool.Decides.{nat_tests}
 use Rattle.std.proofs.Common.{◌≡◌, ◌⊎◌, ◌+◌, ◌<◌, ◌≤◌, ℕ, zero, suc, Bool, true, false, nat_eq, List, [], ◌∷◌, length}
 use Rattle.std.proofs.Common.{slice_index, Option, Some, None, cond, refl, ap, ◌∙◌, subst, inl, inr, arith}
-use Rattle.std.proofs.lemmas.Bool.{and_parts, cases_lt, eqb-true}
+use Rattle.std.proofs.lemmas.Bool.{cases_lt}
 use Rattle.rds_assembly.specs.Body.{text_body}
 use Rattle.rds_assembly.specs.Value.{IsText, is_text_byte}
 use Rattle.rds_audit.specs.declared.audited.Lengths.{Lengths}
 use Rattle.rds_audit.specs.Lengths.{are_spaces, lengths_from}
-use Rattle.rds_safety.proofs.Bodies.{text_below, text_end, text_full, text_past}
+use Rattle.rds_safety.proofs.Bodies.{text_below, text_end, text_past}
 
 -- the body has these bytes from place i on
 pub record Stands (body : List ℕ) (i : ℕ) (bs : List ℕ) : Type 0 where
@@ -28,11 +28,7 @@ body_spaces : (x : List ℕ) (i : ℕ) (bs : List ℕ) → length x < 64 → len
 body_spaces x i [] h past s = refl
 body_spaces x i (b ∷ bs) h past s =
     let e : b ≡ 32 = first (text_body x) i b bs s ∙ text_past x i h past (let w = s.within in omega arith) in
-    let rest = body_spaces x (i + 1) bs h (omega arith) (later (text_body x) i b bs s) in
-    rw (e, rest) refl
-
-not_return : (b : ℕ) → is_text_byte b ≡ true → nat_eq b 13 ≡ false
-not_return b t = grind (arith, nat_tests)
+    search (arith, body_spaces x (i + 1) bs h (omega arith) (later (text_body x) i b bs s), later)
 
 -- the fragment of a text allows its length
 abbrev pub Allows : ℕ → Option Lengths → Type 0
@@ -50,15 +46,9 @@ body_allows x i (b ∷ bs) t h s = by (cases_lt i (length x)) (λ less. body_all
         → Allows (length x) (lengths_from i (b ∷ bs))
     by (inl less) rest =
         let e : b ≡ slice_index x i = first (text_body x) i b bs s ∙ text_below x i less in
-        let good : is_text_byte b ≡ true = ap is_text_byte e ∙ t.allowed i less in
-        rw (not_return b good, good) (rest (omega arith))
+        grind (arith, nat_tests)
     by (inr at) rest =
-        let short : length x < 64 = elim (cases_lt (length x) 64) [
-          | inl l ↦ l
-          | inr m ↦ (let long = t.at_most
-              in let full : length x ≡ 64 = omega arith
-              in absurd (omega (arith, s.within, ap length (text_full x full))))
-        ] in
+        let short : length x < 64 = grind (arith, nat_tests) in
         let here : i ≡ length x = omega arith in
         let e : b ≡ 13 = first (text_body x) i b bs s ∙ ap (λ k. slice_index (text_body x) k) here ∙ text_end x short in
         let is : nat_eq b 13 ≡ true = rw e refl in
@@ -74,9 +64,7 @@ spaces_agree : (n i : ℕ) (bs : List ℕ) → n < i → are_spaces bs ≡ true 
     → Agrees n (i + j) (slice_index bs j)
 spaces_agree n i [] h t j l = absurd (omega arith)
 spaces_agree n i (b ∷ bs) h t zero l = grind (arith, nat_tests)
-spaces_agree n i (b ∷ bs) h t (suc j) l =
-    let rest = (and_parts (nat_eq b 32) (are_spaces bs) t).1 in
-    grind (arith, nat_tests, spaces_agree n (i + 1) bs (omega arith) rest j (omega arith))
+spaces_agree n i (b ∷ bs) h t (suc j) l = grind (arith, nat_tests, spaces_agree n (i + 1) bs (omega arith))
 
 -- if a length is allowed, each byte agrees with it
 pub allowed_agree : (n i : ℕ) (bs : List ℕ) → Allows n (lengths_from i bs)
@@ -89,19 +77,7 @@ allowed_agree n i (b ∷ bs) a = by_return (nat_eq b 13) refl a (allowed_agree n
         → (i + 1 ≤ n) × ((j : ℕ) → j < length bs → Agrees n (i + 1 + j) (slice_index bs j)))
         → (i ≤ n) × ((j : ℕ) → j < length (b ∷ bs) → Agrees n (i + j) (slice_index (b ∷ bs) j))
     by_byte false t a ih = absurd a
-    by_byte true t a ih =
-        let rest = ih a in
-        (omega (arith, rest.0), agree rest.0 rest.1)
-      where
-        agree : i + 1 ≤ n → ((j : ℕ) → j < length bs → Agrees n (i + 1 + j) (slice_index bs j)) → (j : ℕ)
-            → j < length (b ∷ bs) → Agrees n (i + j) (slice_index (b ∷ bs) j)
-        agree le rest zero l = record {
-          below = λ _. t;
-          end = λ e. absurd (omega arith);
-          past = λ lt. absurd
-              (omega arith);
-        }
-        agree le rest (suc j) l = subst (λ k. Agrees n k (slice_index bs j)) (omega arith) (rest j (omega arith))
+    by_byte true t a ih = search arith
 
     by_spaces : nat_eq b 13 ≡ true → (v : Bool) → are_spaces bs ≡ v
         → Allows n (cond v (Some record { least = i; most = i }) None)
@@ -110,11 +86,7 @@ allowed_agree n i (b ∷ bs) a = by_return (nat_eq b 13) refl a (allowed_agree n
     by_spaces r true t a = (a.0, agree)
       where
         agree : (j : ℕ) → j < length (b ∷ bs) → Agrees n (i + j) (slice_index (b ∷ bs) j)
-        agree zero l = (let le = a.1 in record {
-          below = λ lt. absurd (omega arith);
-          end = λ _. eqb-true b 13 r;
-          past = λ lt. absurd (omega (arith, a.0));
-        })
+        agree zero l = search arith
         agree (suc j) l = subst (λ k. Agrees n k (slice_index bs j)) (omega arith)
             (spaces_agree n (i + 1) bs (omega (arith, a.1)) t j (omega arith))
 

@@ -1,11 +1,9 @@
 -- Lemmas: the fault of a log has the name of the rule that its first failing slot breaks first.
-use Rattle.std.proofs.Common.{◌≡◌, ◌⊎◌, ◌≤◌, ◌+◌, ◌∷◌, ◌∙◌, [], ℕ, true, false, not, List, Option}
-use Rattle.std.proofs.Common.{None, Some, ap, arith, inl, inr, length, nat_lt, refl, subst, sym}
+use Rattle.std.proofs.Common.{◌≡◌, ◌⊎◌, ◌≤◌, ◌∷◌, ◌∙◌, [], ℕ, true, false, List, Option}
+use Rattle.std.proofs.Common.{None, Some, ap, arith, inl, inr, length, refl, sym}
 use Rattle.std.specs.List.{AllByRecursion}
-use Rattle.std.proofs.lemmas.Bool.{and_parts, ltb-false, ltb-true, not-false, or_parts}
 use Rattle.std.proofs.lemmas.Bool.Decides.{nat_tests}
 use Rattle.rds_fields.specs.declared.message.Message.{Message}
-use Rattle.rds_fields.specs.declared.message.Message.TheVariants.{Name}
 use Rattle.rds_fields.specs.Tag.{PairFields}
 use Rattle.rds_receiver.specs.declared.fragment.Fragment.{Fragment}
 use Rattle.rds_safety.specs.Lawful.{names}
@@ -16,17 +14,16 @@ use Rattle.rds_audit.specs.declared.fault_set.FaultSet.{FaultSet}
 use Rattle.rds_audit.specs.Broken.{BreaksByFragment, BreaksByTags, BreaksRule, FailsBy}
 use Rattle.rds_audit.specs.Forms.{text_kind}
 use Rattle.rds_audit.specs.declared.text_form.TextForm.{TextForm}
-use Rattle.rds_audit.specs.Lengths.{AllJoin, Gauge, IsExact, IsFormed, all_fit, changes, gauge_of, is_other}
-use Rattle.rds_audit.specs.Lengths.{lengths_of, name_gauge, sent_last, tags_end}
+use Rattle.rds_audit.specs.Lengths.{Gauge, IsExact, IsFormed, changes, gauge_of, name_gauge}
 use Rattle.rds_audit.specs.Listing.{IsFaultOf, Span, added, broken_by, broken_newest, first_fault, first_of}
-use Rattle.rds_audit.specs.Listing.{first_of_span, fits, none_broken, or_else, reigns_of, slot_adds, span_with, spans}
+use Rattle.rds_audit.specs.Listing.{first_of_span, none_broken, or_else, reigns_of, slot_adds, span_with, spans}
 use Rattle.rds_audit.specs.Listing.{spans_after, spans_tagged}
 use Rattle.rds_audit.specs.ListingLaws.{IsFormedMark, IsFormedMessage}
-use Rattle.rds_audit.specs.Reigns.{Reign, after_fragment, after_tags, opened_from, with_fragment, with_tags}
-use Rattle.rds_audit.specs.Rules.{CanBeBroadcast, HaveOneValue, LogPasses, Passes}
+use Rattle.rds_audit.specs.Reigns.{Reign, after_fragment, after_tags, opened_from, with_fragment}
+use Rattle.rds_audit.specs.Rules.{CanBeBroadcast, LogPasses, Passes}
 use Rattle.rds_audit.proofs.Gauges.{gauge_is_exact, name_gauge_is_exact}
-use Rattle.rds_audit.proofs.ListingSteps.{names_add, nothing_adds, passes_without, texts_add}
-use Rattle.rds_audit.proofs.SpanReigns.{adds_all, are_reigns, by_fragment, can_be_joined, fits_one, one_fits}
+use Rattle.rds_audit.proofs.ListingSteps.{names_add, passes_without, texts_add}
+use Rattle.rds_audit.proofs.SpanReigns.{adds_all, are_reigns, by_fragment}
 
 -- what these faults say if this is the first of them
 abbrev IsFirst : FaultSet → AuditFault → Type 0
@@ -37,36 +34,10 @@ IsFirst f EarlyTag = f.early_tag ≡ true
 IsFirst f TagOutside = (f.not_one_text ≡ false) × (f.early_tag ≡ false) × (f.tag_outside ≡ true)
 
 first_is : (f : FaultSet) (fault : AuditFault) → first_of f ≡ Some fault → IsFirst f fault
-first_is f Changed e = grind arith
-first_is f EarlyFlag e = grind arith
-first_is f NotOneText e = grind arith
-first_is f EarlyTag e = grind arith
-first_is f TagOutside e = (grind arith, grind arith, grind arith)
+first_is f fault e = grind (arith, nat_tests)
 
 module _ (g : Gauge) (exact : IsExact g) (d : ℕ) where
   -- ---- what the marks of a span say of its reign
-
-  -- a span without its tags
-  abbrev untagged : Span → Span
-  untagged r = record r { reign = record r.reign { tags = [] } }
-
-  no_value : (r : Span) → not (fits g r) ≡ true → HaveOneValue g.kind r.reign.fragments [] → ⊥
-  no_value r none one = cc (one_fits g exact d (untagged r) one)
-
-  some_value : (r : Span) → AllByRecursion (IsFormed g.segments) r.reign.fragments → AllJoin g r.reign.fragments
-      → not (fits g r) ≡ false → HaveOneValue g.kind r.reign.fragments []
-  some_value r formed joins some = fits_one g exact d (untagged r) formed joins (not-false _ some) (omega arith)
-
-  -- a fragment that joins and does not fit has the bytes that its address was sent with last
-  no_other : (p : Fragment) (older : List Fragment) → changes g older p ≡ false → all_fit g older ≡ true
-      → not (all_fit g (p ∷ older)) ≡ true → is_other (sent_last p.address older) p.bytes ≡ false
-  no_other p older joins fit none = grind arith
-
-  outside : (r : Span)
-      → nat_lt (lengths_of g r.reign.fragments).most (tags_end r.reign.tags) ≡ true
-      → HaveOneValue g.kind r.reign.fragments r.reign.tags → ⊥
-  outside r past one =
-      omega (arith, ltb-true _ _ past, (exact.measured r.reign.fragments r.reign.tags one).ends)
 
   -- ---- by the newest mark
 
@@ -74,51 +45,27 @@ module _ (g : Gauge) (exact : IsExact g) (d : ℕ) where
   opened_breaks : (slot start : ℕ) (p : Fragment) (older : List Reign) (fault : AuditFault) → IsFormed g.segments p
       → start ≤ slot → IsFirst (broken_by g d (first_of_span slot p start false false)) fault
       → BreaksByFragment g.kind (opened_from start slot p ∷ older) fault
-  opened_breaks slot start p older Changed formed late is = (cc)
-  opened_breaks slot start p older EarlyFlag formed late is = (cc)
-  opened_breaks slot start p older NotOneText formed late is =
-      (late, refl, no_value (first_of_span slot p start false false) is)
-  opened_breaks slot start p older EarlyTag formed late is = (cc)
-  opened_breaks slot start p older TagOutside formed late is = absurd (omega (arith, ltb-true _ _ is.2))
+  opened_breaks slot start p older fault formed late is = grind (arith, nat_tests)
 
   -- a fragment joins a reign
   joined_breaks : (slot : ℕ) (p : Fragment) (r : Span) (older : List Reign) (fault : AuditFault)
       → IsFormed g.segments p → CanBeBroadcast d g.kind r.reign → broken_by g d r ≡ none_broken
       → changes g r.reign.fragments p ≡ false → IsFirst (broken_by g d (span_with slot p r)) fault
       → BreaksByFragment g.kind (with_fragment slot p r.reign ∷ older) fault
-  joined_breaks slot p r older Changed formed was none joins is = cc (ap (λ (f : FaultSet). f.changed) none)
-  joined_breaks slot p r older EarlyFlag formed was none joins is = cc (ap (λ (f : FaultSet). f.early_flag) none)
-  joined_breaks slot p r older NotOneText formed was none joins is = (
-    was.begun,
-    no_other p r.reign.fragments joins (exact.measured r.reign.fragments r.reign.tags was.one).fit is,
-    no_value (span_with slot p r) is,
-  )
-  joined_breaks slot p r older EarlyTag formed was none joins is = cc (ap (λ (f : FaultSet). f.early_tag) none)
-  joined_breaks slot p r older TagOutside formed was none joins is = (
-    was.begun,
-    some_value (span_with slot p r) (formed, exact.formed r.reign.fragments r.reign.tags was.one)
-        (joins, can_be_joined g exact d r.reign was) is.0,
-    outside (span_with slot p r) is.2,
-  )
+  joined_breaks slot p r older fault formed was none joins is = grind (arith, nat_tests)
 
   -- a fragment changes a reign
   changed_breaks : (slot : ℕ) (p : Fragment) (r : Reign) (older : List Reign) (fault : AuditFault)
       → CanBeBroadcast d g.kind r → changes g r.fragments p ≡ true → Changed ≡ fault
       → BreaksByFragment g.kind (with_fragment slot p r ∷ older) fault
-  changed_breaks slot p r older fault was changed is =
-      subst (BreaksByFragment g.kind (with_fragment slot p r ∷ older)) is (
-        was.begun,
-        (and_parts (is_other (sent_last p.address r.fragments) p.bytes) _ changed).0,
-        λ one. cc ((exact.measured (p ∷ r.fragments) [] one).joins.0),
-      )
+  changed_breaks slot p r older fault was changed is = grind (arith, nat_tests)
 
   fragment_breaks : (p : Fragment) (before : List Mark) (rs : List Span) (fault : AuditFault)
       → IsFormed g.segments p → AllByRecursion (CanBeBroadcast d g.kind) (reigns_of rs)
       → broken_newest g d before rs ≡ none_broken
       → first_of (broken_newest g d (Sends p ∷ before) (spans_after g d (length before) p rs)) ≡ Some fault
       → BreaksByFragment g.kind (after_fragment d (length before) p (reigns_of rs)) fault
-  fragment_breaks p before [] fault formed was none is =
-      opened_breaks (length before) 0 p [] fault formed (omega arith) (first_is _ fault is)
+  fragment_breaks p before [] fault formed was none is = grind (arith, nat_tests)
   fragment_breaks p before (r ∷ older) fault formed was none is =
       by_fragment g (λ (rs : List Span) (regs : List Reign).
       first_of (broken_newest g d (Sends p ∷ before) rs) ≡ Some fault → BreaksByFragment g.kind regs fault)
@@ -131,35 +78,17 @@ module _ (g : Gauge) (exact : IsExact g) (d : ℕ) where
       (λ start late less is. let same : fault ≡ EarlyFlag = cc in rw same less)
       is
 
-  -- tags break a rule
-  tagged_breaks : (slot : ℕ) (pair : PairFields) (r : Span) (older : List Reign) (fault : AuditFault)
-      → broken_by g d r ≡ none_broken
-      → IsFirst (broken_by g d (record r { reign = with_tags slot pair r.reign })) fault
-      → BreaksByTags d g.kind slot (with_tags slot pair r.reign ∷ older) fault
-  tagged_breaks slot pair r older Changed none is = cc (ap (λ (f : FaultSet). f.changed) none)
-  tagged_breaks slot pair r older EarlyFlag none is = cc (ap (λ (f : FaultSet). f.early_flag) none)
-  tagged_breaks slot pair r older NotOneText none is = cc (ap (λ (f : FaultSet). f.not_one_text) none)
-  tagged_breaks slot pair r older EarlyTag none is =
-      grind (arith, nat_tests, ap (λ (f : FaultSet). f.early_tag) none)
-  tagged_breaks slot pair r older TagOutside none is = (
-    ltb-false _ _ (or_parts (nat_lt slot (r.reign.start + d)) _ is.1).0,
-    outside (record r { reign = with_tags slot pair r.reign }) is.2,
-  )
-
   tags_break : (pair : PairFields) (before : List Mark) (rs : List Span) (fault : AuditFault)
       → broken_newest g d before rs ≡ none_broken
       → first_of (broken_newest g d (Tagged pair ∷ before) (spans_tagged (length before) pair rs)) ≡ Some fault
       → BreaksByTags d g.kind (length before) (after_tags (length before) pair (reigns_of rs)) fault
-  tags_break pair before [] fault none is = (cc)
-  tags_break pair before (r ∷ older) fault none is =
-      tagged_breaks (length before) pair r (reigns_of older) fault none (first_is _ fault is)
+  tags_break pair before rs fault none is = grind (arith, nat_tests)
 
   -- the newest mark breaks the rule of its first fault, after marks that pass
   service_breaks : (mark : Mark) (before : List Mark) (fault : AuditFault) → IsFormedMark g.segments mark
       → Passes d g.kind before → first_of (added g d mark before) ≡ Some fault
       → BreaksRule d g.kind mark before fault
-  service_breaks Nothing before fault formed passes is =
-      cc (ap first_of (nothing_adds g d before))
+  service_breaks Nothing before fault formed passes is = grind (arith, nat_tests)
   service_breaks (Sends p) before fault formed passes is =
       let h = are_reigns g exact d before passes in
       rw (← h.same) (fragment_breaks p before (spans g d before) fault formed (rw h.same passes.reigns) h.none
@@ -173,9 +102,7 @@ module _ (g : Gauge) (exact : IsExact g) (d : ℕ) where
 
 -- a message is silent for names or for texts
 one_silent : (m : Option Message) → (name_mark m ≡ Nothing) ⊎ (text_mark m ≡ Nothing)
-one_silent None = inl refl
-one_silent (Some (Name f a b)) = inr refl
-one_silent (Some m) = inl refl
+one_silent m = grind (arith, nat_tests)
 
 slot_breaks : (form : TextForm) (d : ℕ) (newest : Option Message) (before : List (Option Message)) (fault : AuditFault)
     → IsFormedMessage newest → LogPasses form d before → first_of (slot_adds form d newest before) ≡ Some fault

@@ -1,9 +1,9 @@
 -- Lemmas: a recording from its first text segment on, with slots in front in which nothing was sent.
 use Rattle.std.proofs.lemmas.Bool.Decides.{nat_tests}
 use Rattle.std.proofs.Common.{◌≡◌, ◌+◌, ◌<◌, ◌≤◌, ◌&&◌, ◌||◌, ℕ, suc, Bool, true, false, List, [], ◌∷◌, Option, Some}
-use Rattle.std.proofs.Common.{None, length, refl, sym, ap, ◌∙◌, subst, inl, inr, arith}
+use Rattle.std.proofs.Common.{None, length, refl, ap, ◌∙◌, inl, inr, arith}
 use Rattle.std.specs.Prelude.{nat_lt, if◌then◌else◌}
-use Rattle.std.proofs.lemmas.Bool.{and_right, cond_both, le-ltb, lt-ltb, or_right}
+use Rattle.std.proofs.lemmas.Bool.{and_right, le-ltb, lt-ltb, or_right}
 use Rattle.std.proofs.lemmas.List.{length-append, length-replicate}
 use Rattle.rds_fields.specs.declared.message.Message.{Message}
 use Rattle.rds_fields.specs.declared.message.Message.TheVariants.{Text, Tags}
@@ -57,9 +57,7 @@ after_text (newest ∷ before) s f a b v (inr h) later =
 -- at the end of a log
 all_before : (log : List (Option Message)) (s : ℕ) → length log ≤ s → text_before log s ≡ has_text (from_first_text log)
 all_before [] s h = refl
-all_before (Some (Text f a b) ∷ before) s h = rw (lt-ltb (length before) s (omega arith))
-all_before (Some (Tags pair) ∷ before) s h = grind (arith, nat_tests, all_before before s (omega arith))
-all_before (_ ∷ before) s h = all_before before s (omega arith)
+all_before (x ∷ before) s h = grind (arith, nat_tests, all_before before s (omega arith))
 
 same_length : (log : List (Option Message)) → length (from_first_text log) ≡ length log
 same_length [] = refl
@@ -67,8 +65,7 @@ same_length (newest ∷ before) = ap suc (same_length before)
 
 settled_is_counted : (judged : List (Option Message)) (message : Option Message)
     → settled (has_text judged) message ≡ counted_after judged message
-settled_is_counted judged (Some (Tags pair)) = refl
-settled_is_counted judged _ = refl
+settled_is_counted judged message = grind (arith, nat_tests)
 
 -- what was sent is still sent from the first text segment on, except tags before it
 pub sent_from_first_text : (log : List (Option Message)) (s : ℕ) (entry : Option Message) → SentIn log s entry
@@ -79,8 +76,7 @@ sent_from_first_text (newest ∷ before) s entry (inl h) =
 sent_from_first_text (newest ∷ before) s entry (inr h) =
     let counts : text_before (newest ∷ before) s ≡ text_before before s = newest_not newest before s
     (omega (arith, before_end 0 before s entry h)) in
-    inr (subst (λ (is : Bool). SentIn (from_first_text before) s (settled is entry)) (sym counts)
-    (sent_from_first_text before s entry h))
+    grind (arith, nat_tests, sent_from_first_text before s entry h)
 
 -- ---- marks
 
@@ -98,7 +94,5 @@ tags_are_of_the_log (newest ∷ before) s pair (inl h) = inl (h.0 ∙ marked_len
 
     by : (message : Option Message) → Tagged pair ≡ text_mark (counted_after (from_first_text before) message)
         → Tagged pair ≡ text_mark message
-    by (Some (Tags q)) e = cond_both (has_text (from_first_text before)) (Some (Tags q)) None
-        (λ (x : Option Message). Tagged pair ≡ text_mark x → Tagged pair ≡ Tagged q) (λ _ same. same)
-        (λ _ none. absurd (cc)) e
+    by (Some (Tags q)) e = search arith
     by _ e = e

@@ -1,8 +1,7 @@
 -- Lemmas: a log that passes, and whose flag turns from each reign to the next one, is safe for receivers with the flag
 -- bit alone that hear a segment of each reign.
 use Rattle.std.proofs.lemmas.Bool.Decides.{nat_tests}
-use Rattle.std.proofs.Common.{◌≡◌, ◌≢◌, ◌⊎◌, ◌+◌, ◌<◌, ◌≤◌, ◌&&◌, ℕ, Bool, true, false, List, [], ◌∷◌}
-use Rattle.std.proofs.Common.{Option, refl, sym, ◌∙◌, subst, inl, inr, arith}
+use Rattle.std.proofs.Common.{◌≡◌, ◌≢◌, ◌⊎◌, ◌+◌, ◌<◌, ◌≤◌, ℕ, List, [], ◌∷◌, Option, sym, subst, inl, inr, arith}
 use Rattle.std.specs.List.{AllByRecursion}
 use Rattle.rds_fields.specs.declared.message.Message.{Message}
 use Rattle.rds_fields.specs.Tag.{PairFields}
@@ -13,7 +12,6 @@ use Rattle.rds_receiver.specs.declared.fragment.Fragment.{Fragment}
 use Rattle.rds_safety.specs.FlagAlone.{HearsEach, HearsOneBetween, IsHeardFrom, IsNews, TurnsTheFlag}
 use Rattle.rds_safety.specs.FlagLaws.{NamesByFlagAreOfTheirSource, TagsByFlagAreOfTheirText}
 use Rattle.rds_safety.specs.FlagLaws.{TextsByFlagAreOfTheirSource}
-use Rattle.rds_safety.specs.Flags.{other_flag}
 use Rattle.rds_safety.specs.Late.{Input}
 use Rattle.rds_safety.specs.Lawful.{Kind, names, texts}
 use Rattle.rds_safety.specs.Laws.{PlanLaws}
@@ -81,11 +79,9 @@ safe_by_flag laws safe_texts safe_names safe_tags d log some passes =
     let text = has_plan_of_reigns laws.below d texts (marks text_mark log) some passes.text in
     let name = has_plan_of_reigns laws.below d names (marks name_mark log) some passes.name in
     let text_turns : AlternateFlags (reigns d (marks text_mark log)) → TurnsTheFlag text.0.plan =
-    λ alternate. subst (λ (plan : List Broadcast). TurnsTheFlag plan) (sym text.1)
-    (turns laws.below d texts (reigns d (marks text_mark log)) passes.text.reigns alternate) in
+    λ alternate. search (arith, turns) in
     let name_turns : AlternateFlags (reigns d (marks name_mark log)) → TurnsTheFlag name.0.plan =
-    λ alternate. subst (λ (plan : List Broadcast). TurnsTheFlag plan) (sym name.1)
-    (turns laws.below d names (reigns d (marks name_mark log)) passes.name.reigns alternate) in
+    λ alternate. search (arith, turns) in
     let text_each : (now : ℕ) (input : Input) → HearsEachReign text_fragment now input (reigns d (marks text_mark log))
     → HearsEach IsNews text_fragment text.0.plan now input =
     λ now input each. subst (λ (plan : List Broadcast). HearsEach IsNews text_fragment plan now input) (sym text.1)
@@ -98,36 +94,20 @@ safe_by_flag laws safe_texts safe_names safe_tags d log some passes =
       plans = record { text = text.0.plan; name = name.0.plan };
       lawful = record { text = text.0.lawful; name = name.0.lawful };
       dense = record { text = text.0.dense; name = name.0.dense };
-      texts = λ alternate now r listens each. safe_texts d now text.0.plan log r text.0.lawful (text_turns alternate)
-          listens (text_each now r.input each);
-      names = λ alternate now r listens each. safe_names d now name.0.plan log r name.0.lawful (name_turns alternate)
-          listens (name_each now r.input each);
-      tags = λ alternate now r listens each before. safe_tags d now text.0.plan log r text.0.lawful
-          (text_turns alternate) listens (text_each now r.input each) before;
+      texts = λ alternate now r listens each. search arith;
+      names = λ alternate now r listens each. search arith;
+      tags = λ alternate now r listens each before. search arith;
     }
 
 -- ---- without a pause the flag turns from each reign to the next one
 
--- two tests: one fails and the other does not
-first_fails : (a b : Bool) → (a && b) ≡ false → b ≡ true → a ≡ false
-first_fails true b both holds = absurd (cc)
-first_fails false b both holds = refl
-
-still_alternate : (r s : Reign) (older : List Reign) → s.flag ≡ r.flag → AlternateFlags (r ∷ older)
-    → AlternateFlags (s ∷ older)
-still_alternate r s [] same all = tt
-still_alternate r s (e ∷ older) same all = (λ equal. all.0 (equal ∙ same), all.1)
-
 after_fragment_alternate : (d slot : ℕ) (p : Fragment) (rs : List Reign) → IsSoonAfter d slot rs → AlternateFlags rs
     → AlternateFlags (after_fragment d slot p rs)
-after_fragment_alternate d slot p [] soon all = tt
-after_fragment_alternate d slot p (r ∷ older) soon all = search (arith, still_alternate, other_flag, first_fails)
+after_fragment_alternate d slot p rs soon all = grind (arith, nat_tests)
 
 after_tags_alternate : (slot : ℕ) (pair : PairFields) (rs : List Reign) → AlternateFlags rs
     → AlternateFlags (after_tags slot pair rs)
-after_tags_alternate slot pair [] all = tt
-after_tags_alternate slot pair (r ∷ []) all = tt
-after_tags_alternate slot pair (r ∷ e ∷ older) all = all
+after_tags_alternate slot pair rs all = grind (arith, nat_tests)
 
 -- without a pause the flag turns from each reign to the next one
 pub alternate : (d : ℕ) (sent : List Mark) → HasNoPause d sent → AlternateFlags (reigns d sent)

@@ -7,7 +7,6 @@ use Rattle.rds_assembly.specs.Value.{IsName}
 use Rattle.rds_receiver.specs.declared.fragment.Fragment.{Fragment}
 use Rattle.rds_safety.specs.Lawful.{IsFragmentOf, names, texts}
 use Rattle.rds_audit.specs.declared.text_form.TextForm.{TextForm}
-use Rattle.rds_audit.specs.declared.text_form.TextForm.TheVariants.{Plain, Padded}
 use Rattle.rds_audit.specs.Lengths.{IsExact, IsFormed, gauge_of, name_gauge, name_lengths, padded_gauge, text_gauge}
 use Rattle.rds_audit.specs.Lengths.{text_lengths}
 use Rattle.rds_safety.proofs.Bodies.{segment_fits, segment_long, text_few, text_fits}
@@ -44,8 +43,7 @@ padded_gauge_is_exact = search (arith, padded_measured, padded_formed, padded_on
 
 -- texts of each form are measured exactly
 pub gauge_is_exact : (form : TextForm) → IsExact (gauge_of form)
-gauge_is_exact Plain = text_gauge_is_exact
-gauge_is_exact Padded = padded_gauge_is_exact
+gauge_is_exact form = grind (arith, nat_tests, text_gauge_is_exact, padded_gauge_is_exact)
 
 -- names are measured exactly
 pub name_gauge_is_exact : IsExact name_gauge

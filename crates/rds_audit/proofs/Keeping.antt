@@ -1,10 +1,9 @@
 -- Lemmas: what the reigns of a log keep from slot to slot.
 use Rattle.std.proofs.lemmas.Bool.Decides.{nat_tests}
-use Rattle.std.proofs.Common.{◌≡◌, ◌+◌, ◌<◌, ◌≤◌, ℕ, nat_lt, List, [], ◌∷◌, length, refl, inl, inr, arith}
-use Rattle.std.proofs.lemmas.Bool.{and_parts, cond_both, ltb-true}
+use Rattle.std.proofs.Common.{◌≡◌, ◌+◌, ◌<◌, ◌≤◌, ℕ, List, [], ◌∷◌, length, refl, inl, inr, arith}
+use Rattle.std.proofs.lemmas.Bool.{cond_both}
 use Rattle.rds_fields.specs.Tag.{PairFields}
 use Rattle.rds_receiver.specs.declared.fragment.Fragment.{Fragment}
-use Rattle.rds_receiver.specs.Run.{is_same}
 use Rattle.rds_audit.specs.Dense.{IsBridged, IsMarked}
 use Rattle.rds_safety.specs.Marks.{IsMarkIn, Mark, Nothing, Sends, Tagged}
 use Rattle.rds_audit.specs.Reigns.{Reign, after_fragment, after_tags, joins, opened_by, reigns}
@@ -37,8 +36,7 @@ AreKept d sent (r ∷ older) = IsKept d sent r × ((u : ℕ) → IsMarked sent u
 
 behind_later : (x : Mark) (sent : List Mark) (rs : List Reign) (u : ℕ) → u < length sent → IsBehind sent rs u
     → IsBehind (x ∷ sent) rs u
-behind_later x sent [] u h b = λ p s. b p (sent_before x sent u (Sends p) h s)
-behind_later x sent (r ∷ older) u h b = b
+behind_later x sent rs u h b = grind (arith, nat_tests)
 
 kept_later : (d : ℕ) (x : Mark) (sent : List Mark) (r : Reign) → IsKept d sent r → IsKept d (x ∷ sent) r
 kept_later d x sent r k =
@@ -139,21 +137,18 @@ fragment_keeps : (d : ℕ) (sent : List Mark) (p : Fragment) (rs : List Reign) �
 fragment_keeps d sent p [] k = search (arith, opened_kept, now_behind)
 fragment_keeps d sent p (r ∷ older) k =
     cond_both (joins d (length sent) p.flag r) _ _ (Keeps d (Sends p ∷ sent))
-    (λ t. let near : length sent < r.last + d = ltb-true _ _ (and_parts (is_same r.flag p.flag)
-    (nat_lt (length sent) (r.last + d)) t).1 in (
+    (λ t. let near : length sent < r.last + d = search arith in (
       renewed_kept d (Sends p) sent r (with_fragment (length sent) p r) older (λ e. (cc)) refl refl (λ g e. near)
           k.1 k.0,
       now_behind sent p (with_fragment (length sent) p r) older refl,
     ))
     (λ _. (
       opened_kept d sent p (r ∷ older) k.1 k.0,
-      now_behind sent p (opened_by d (length sent) p (r ∷ older))
-          (r ∷ older) refl,
+      search (arith, now_behind),
     ))
 
 -- the reigns keep each fragment and each pair of tags
 pub keeps : (d : ℕ) (sent : List Mark) → Keeps d sent (reigns d sent)
 keeps d [] = (tt, λ u m. absurd m.is_sent)
-keeps d (Nothing ∷ sent) = grind (arith, nat_tests, keeps d sent, are_kept_later, nothing_behind)
-keeps d (Sends p ∷ sent) = fragment_keeps d sent p (reigns d sent) (keeps d sent)
-keeps d (Tagged pair ∷ sent) = grind (arith, nat_tests, keeps d sent, tags_kept, tags_behind)
+keeps d (x ∷ sent) =
+    grind (arith, nat_tests, keeps d sent, are_kept_later, nothing_behind, fragment_keeps, tags_kept, tags_behind)

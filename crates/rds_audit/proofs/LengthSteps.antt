@@ -1,5 +1,5 @@
 -- Lemmas: the lengths that a fragment allows, byte by byte.
-use Rattle.std.proofs.Common.{◌≡◌, ◌+◌, ◌<◌, ◌≤◌, ◌↔◌, ℕ, zero, suc, Bool, true, false, nat_eq, List, [], ◌∷◌}
+use Rattle.std.proofs.Common.{◌≡◌, ◌+◌, ◌<◌, ◌≤◌, ◌↔◌, ℕ, zero, suc, Bool, true, nat_eq, List, [], ◌∷◌}
 use Rattle.std.proofs.Common.{length, drop, drop-cons, slice_index, Some, None, cond, refl, ap, ◌∙◌, arith}
 use Rattle.std.specs.Prelude.{EachIndex, IsTrue}
 use Rattle.std.specs.Bool.{then_some}
@@ -55,7 +55,4 @@ names_are bs answer h = grind (arith, nat_tests, names_true, true_names)
 
 -- `then_some` gives the lengths if the test holds
 pub then_some_is : (l : Lengths) (answer s : Bool) → answer ≡ s → then_some answer l ≡ cond s (Some l) None
-then_some_is l true true e = refl
-then_some_is l false false e = refl
-then_some_is l true false e = absurd (cc)
-then_some_is l false true e = absurd (cc)
+then_some_is l answer s e = grind (arith, nat_tests)

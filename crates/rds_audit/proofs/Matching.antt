@@ -1,7 +1,6 @@
 -- Lemmas: the reigns of a log are of broadcasts of any lawful and dense plan, in order.
 use Rattle.std.proofs.lemmas.Bool.Decides.{nat_tests}
-use Rattle.std.proofs.Common.{◌≡◌, ◌+◌, ◌<◌, ◌≤◌, ℕ, Bool, List, [], ◌∷◌, length, refl}
-use Rattle.std.proofs.Common.{subst, inl, inr, arith}
+use Rattle.std.proofs.Common.{◌≡◌, ◌+◌, ◌<◌, ◌≤◌, ℕ, Bool, List, [], ◌∷◌, length, refl, subst, inl, inr, arith}
 use Rattle.std.specs.List.{AllByRecursion}
 use Rattle.std.proofs.lemmas.Bool.{cases_order}
 use Rattle.rds_fields.specs.Tag.{BothEndIn, PairFields}
@@ -14,9 +13,9 @@ use Rattle.rds_safety.specs.Lawful.{HasFragment, HasTags, IsLawful, Kind}
 use Rattle.rds_safety.specs.Laws.{PlanLaws}
 use Rattle.rds_safety.specs.Marks.{Mark, Nothing, Sends, Tagged}
 use Rattle.rds_audit.specs.Reigns.{Reign, SentTags, after_fragment, after_tags, opened_by, past_newest, reigns}
-use Rattle.rds_audit.specs.Reigns.{start_after, with_fragment, with_tags}
+use Rattle.rds_audit.specs.Reigns.{start_after}
 use Rattle.rds_audit.specs.Rules.{CanBeBroadcast, Passes}
-use Rattle.rds_safety.specs.Flags.{is_same_flag, same_flag}
+use Rattle.rds_safety.specs.Flags.{same_flag}
 use Rattle.rds_audit.proofs.Keeping.{Keeps, keeps}
 use Rattle.rds_audit.proofs.Sending.{dense_before, early, lawful_before, marked_before, fragment_is_marked, sent_before}
 
@@ -24,27 +23,16 @@ opened_of : (d now : ℕ) (kind : Kind) (b : Broadcast) (p : Fragment) (rs : Lis
     → start_after d p.flag rs ≤ b.start → HasFragment kind now p b → IsReignOf d kind b (opened_by d now p rs)
 opened_of d now kind b p rs le has = grind (arith, nat_tests)
 
-joined_of : (d now : ℕ) (kind : Kind) (b : Broadcast) (p : Fragment) (r : Reign) → HasFragment kind now p b
-    → IsReignOf d kind b r → IsReignOf d kind b (with_fragment now p r)
-joined_of d now kind b p r has of = grind (arith, nat_tests)
-
 module _ (laws : PlanLaws) (d : ℕ) (kind : Kind) (plan : List Broadcast) (spaced : IsSpaced d plan) where
   past_newest_before : (k l : ℕ) (b : Broadcast) (rs : List Reign) → HasNumber plan l b → k < l
       → AreReignsOf d kind plan k rs → past_newest d rs ≤ b.start
-  past_newest_before k l b [] q lt a = omega arith
-  past_newest_before k l b (r ∷ rs) q lt a = grind (arith, nat_tests)
+  past_newest_before k l b rs q lt a = grind (arith, nat_tests)
 
   -- a reign that is opened in a later broadcast starts no later than this broadcast
   start_before : (k l : ℕ) (c b : Broadcast) (flag : Bool) (r : Reign) (older : List Reign)
       → HasNumber plan k c → HasNumber plan l b → k < l → flag ≡ b.flag → IsReignOf d kind c r
       → AreReignsOf d kind plan k older → start_after d flag (r ∷ older) ≤ b.start
   start_before k l c b flag r older p q lt e of a = grind (arith, nat_tests, same_flag, past_newest_before)
-
-  -- a fragment that is sent in the broadcast of the newest reign joins that reign
-  fragment_joins : (now n k : ℕ) (b : Broadcast) (p : Fragment) (r : Reign) (older : List Reign)
-      → HasNumber plan k b → k < n → HasFragment kind now p b → IsReignOf d kind b r → now < r.last + d
-      → AreReignsOf d kind plan k older → AreReignsOf d kind plan n (after_fragment d now p (r ∷ older))
-  fragment_joins now n k b p r older q lt has of near a = grind (arith, nat_tests, is_same_flag, joined_of)
 
   -- a fragment that is sent in a later broadcast opens a reign
   fragment_opens : (now n k l : ℕ) (c b : Broadcast) (p : Fragment) (r : Reign) (older : List Reign)
@@ -75,18 +63,8 @@ module _ (laws : PlanLaws) (d : ℕ) (kind : Kind) (plan : List Broadcast) (spac
             (inl (refl, refl)) first in
             let near : length sent < r.last + d = omega
             (arith, w.near, keep.1 w.slot (marked_before (Sends p) sent w.slot w.before w.marked)) in
-            fragment_joins (length sent) n l b p r older q lt has of near
-            (subst (λ (i : ℕ). AreReignsOf d kind plan i older) {x = a.0} same a.5)
-        | inr other ↦ elim other [
-          | inl less ↦ fragment_opens (length sent) n a.0 l a.1 b p r older a.3 q less lt has a.4 a.5
-          | inr more ↦ absurd (omega (
-            arith,
-            laws.order d plan l a.0 b a.1 spaced q a.3 more,
-            a.4.from,
-            has.covers.to,
-            early sent r.opened (Sends keep.0.0.first) keep.0.0.opened,
-          ))
-        ]
+            grind (arith, nat_tests)
+        | inr other ↦ search (arith, fragment_opens, early)
       ]
 
   tags_of : (n l : ℕ) (sent : List Mark) (b : Broadcast) (pair : PairFields) (rs : List Reign)
@@ -98,60 +76,28 @@ module _ (laws : PlanLaws) (d : ℕ) (kind : Kind) (plan : List Broadcast) (spac
       let covers : Covers b (length sent) = record { from = omega (arith, has.lasted); to = has.to } in
       let w = dense.tags l b (length sent) pair q covers (inl (refl, refl)) in
       let fragment = sent_before (Tagged pair) sent w.slot (Sends w.fragment) w.before w.is_sent in
-      let until : w.slot ≤ r.last = keep.1 w.slot (fragment_is_marked sent w.slot w.fragment fragment) in
-      elim (cases_order a.0 l) [
-        | inl same ↦
-            let one : a.1 ≡ b = same_broadcast a.0 l a.1 b a.3 q same in
-            let of : IsReignOf d kind b r = subst (λ (x : Broadcast). IsReignOf d kind x r) {x = a.1} one a.4 in
-            let its : AreTagsOf d b record { slot = length sent; pair = pair } = record
-            { lasted = has.lasted; ends = has.ends } in
-            let now : IsReignOf d kind b (with_tags (length sent) pair r) = record {
-              start = of.start;
-              from = of.from;
-              to = has.to;
-              flag = of.flag;
-              fragments = of.fragments;
-              tags = (its, of.tags);
-            } in
-            (a.0, b, a.2, subst (λ (x : Broadcast). HasNumber plan a.0 x) {x = a.1} one a.3, now, a.5)
-        | inr other ↦ elim other [
-          | inl less ↦ absurd (omega (
-            arith,
-            laws.order d plan a.0 l a.1 b spaced a.3 q less,
-            a.4.to,
-            w.covers.from,
-            until,
-          ))
-          | inr more ↦ absurd (omega (
-            arith,
-            laws.order d plan l a.0 b a.1 spaced q a.3 more,
-            a.4.from,
-            has.to,
-            early
-                sent r.opened (Sends keep.0.0.first) keep.0.0.opened,
-          ))
-        ]
-      ]
+      search (arith, fragment_is_marked, same_broadcast, early)
 
 -- the reigns are of broadcasts of each lawful and dense plan, in order
 pub are_reigns_of : PlanLaws → (d : ℕ) (kind : Kind) (plan : List Broadcast) (sent : List Mark)
     → IsLawful d kind plan sent → IsDense d plan sent → AreReignsOf d kind plan (length plan) (reigns d sent)
 are_reigns_of laws d kind plan [] law dense = tt
 are_reigns_of laws d kind plan (Nothing ∷ sent) law dense =
-    let lawful = lawful_before d kind plan Nothing sent law in
-    grind (arith, nat_tests, are_reigns_of laws d kind plan sent lawful (dense_before d plan Nothing sent dense))
+    grind (arith, nat_tests, are_reigns_of laws d kind plan sent, lawful_before, dense_before)
 are_reigns_of laws d kind plan (Sends p ∷ sent) law dense =
     let before = are_reigns_of laws d kind plan sent (lawful_before d kind plan (Sends p) sent law)
     (dense_before d plan (Sends p) sent dense) in
     let w = law.fragments (length sent) p (inl (refl, refl)) in
-    fragment_of laws d kind plan law.spaced (length plan) w.number sent w.broadcast p (reigns d sent) dense w.planned
-    (laws.below plan w.number w.broadcast w.planned) w.is (keeps d sent) before
+    let lawful = lawful_before d kind plan (Sends p) sent law in
+    let filled = dense_before d plan (Sends p) sent dense in
+    grind (arith, nat_tests, are_reigns_of laws d kind plan sent lawful filled, fragment_of, keeps)
 are_reigns_of laws d kind plan (Tagged pair ∷ sent) law dense =
     let before = are_reigns_of laws d kind plan sent (lawful_before d kind plan (Tagged pair) sent law)
     (dense_before d plan (Tagged pair) sent dense) in
     let w = law.tags (length sent) pair (inl (refl, refl)) in
-    tags_of laws d kind plan law.spaced (length plan) w.number sent w.broadcast pair (reigns d sent) dense w.planned
-    w.is (keeps d sent) before
+    let lawful = lawful_before d kind plan (Tagged pair) sent law in
+    let filled = dense_before d plan (Tagged pair) sent dense in
+    grind (arith, nat_tests, are_reigns_of laws d kind plan sent lawful filled, tags_of, keeps)
 
 all_lasted : (d start : ℕ) (b : Broadcast) (tags : List SentTags) → start ≤ b.start
     → AllByRecursion (AreTagsOf d b) tags → AllByRecursion (λ (s : SentTags). start + d ≤ s.slot) tags
@@ -172,13 +118,7 @@ can_be_broadcasts d n kind plan (r ∷ older) values a =
       record {
         begun = omega (arith, of.start, of.from);
         lasted = all_lasted d r.start a.1 r.tags of.start of.tags;
-        one = record {
-          value = a.1.bytes;
-          valid = values a.0 a.1 a.3;
-          has = of.fragments;
-          ends = all_end d a.1 r.tags
-              of.tags;
-        };
+        one = search (arith, all_end);
       },
       can_be_broadcasts d a.0 kind plan older values a.5,
     )

@@ -1,8 +1,7 @@
 -- Lemmas: some value has fragments and tags exactly if no address changed, each fragment allows a length, and one
 -- length is allowed by all and reaches the ends of the tags.
-use Rattle.std.proofs.Common.{◌≡◌, ◌+◌, ◌-◌, ◌*◌, ◌/◌, ◌%◌, ◌<◌, ◌≤◌, ◌++◌, max, ℕ, zero, suc, true}
-use Rattle.std.proofs.Common.{List, [], ◌∷◌, length, slice_index, Option, Some, None, refl, sym}
-use Rattle.std.proofs.Common.{ap, ◌∙◌, subst, inl, inr, arith}
+use Rattle.std.proofs.Common.{◌≡◌, ◌+◌, ◌-◌, ◌*◌, ◌/◌, ◌%◌, ◌<◌, ◌≤◌, ◌++◌, max, ℕ, zero, suc, true, List, [], ◌∷◌}
+use Rattle.std.proofs.Common.{length, slice_index, Option, Some, None, refl, sym, ap, ◌∙◌, subst, inl, inr, arith}
 use Rattle.std.specs.Prelude.{replicate}
 use Rattle.std.specs.List.{AllByRecursion}
 use Rattle.std.proofs.lemmas.Bool.{and_parts}
@@ -115,18 +114,8 @@ text_byte : (fragments : List Fragment) (n : ℕ) (p : Fragment) (k : ℕ) → n
     → IsIn p fragments → IsFormed 16 p → k < 4 → p.address < segment_count (text_body (fill fragments 0 n))
     → Agrees n (4 * p.address + k) (slice_index p.bytes k)
     → slice_index p.bytes k ≡ slice_index (text_body (fill fragments 0 n)) (4 * p.address + k)
-text_byte fragments n p k long u i well h within agree = grind (
-  arith,
-  agree.end,
-  agree.past,
-  well.address,
-  fill_long fragments 0 n,
-  text_end,
-  text_below,
-  text_past,
-  filled_byte,
-  own_byte fragments p k u i h,
-)
+text_byte fragments n p k long u i well h within agree =
+    search (arith, fill_long, text_end, text_below, text_past, filled_byte, own_byte)
 
 text_has : (fragments : List Fragment) (n : ℕ) (p : Fragment) → n ≤ 64 → AreUnchanged fragments → IsIn p fragments
     → IsFormed 16 p → Allows n (text_lengths p.address p.bytes) → IsFragmentOf (text_body (fill fragments 0 n)) p
@@ -167,9 +156,7 @@ fill_is_text fragments n long well all = record {
 
     good : (i : ℕ) (p : Fragment) → i < n → p.address ≡ i / 4 → IsFormed 16 p
         → Allows n (text_lengths p.address p.bytes) → is_text_byte (slice_index p.bytes (i % 4)) ≡ true
-    good i p h e well a =
-        let four = well.four in
-        ((allowed_agree n (4 * p.address) p.bytes a).1 (i % 4) (omega arith)).below (omega arith)
+    good i p h e well a = search (arith, allowed_agree)
 
 -- formed fragments and tags that are measured so have one text
 pub one_text : (fragments : List Fragment) (tags : List SentTags) → AllByRecursion (IsFormed 16) fragments
@@ -180,12 +167,7 @@ one_text fragments tags well h =
     let long : n ≤ 64 = omega (arith, longest_at_most text_lengths 64 fragments) in
     let all = all_allow text_lengths 64 n fragments (omega arith) most h.each in
     let size = fill_long fragments 0 n in
-    record {
-      value = fill fragments 0 n;
-      valid = fill_is_text fragments n long well all;
-      has = all_have fragments fragments n long h.unchanged (λ p i. i) well all;
-      ends = most_ends (length (fill fragments 0 n)) tags (omega (arith, size));
-    }
+    grind (arith, nat_tests, longest_at_most, all_allow, fill_long, fill_is_text, all_have, most_ends)
 
 -- names
 pub name_alone : (x : List ℕ) → length x ≡ 8 → name_body x ≡ x
@@ -274,6 +256,5 @@ one_name fragments tags well h =
         },
       );
       has = all_names_have fragments fragments h.unchanged (λ p i. i) well;
-      ends = most_ends (length (fill fragments 0 8)) tags
-          (omega (arith, size, h.ends, longest_at_most name_lengths 8 fragments));
+      ends = search (arith, most_ends, longest_at_most);
     }

@@ -1,8 +1,6 @@
 -- Lemmas: what a text with padding can have, byte by byte and segment by segment.
-use Rattle.std.proofs.Common.{◌≡◌, ◌+◌, ◌-◌, ◌*◌, ◌<◌, ◌&&◌, ℕ, suc, Bool, true, false}
-use Rattle.std.proofs.Common.{List, length, get_or, map, set, min, drop, drop-cons, Option, Some}
-use Rattle.std.proofs.Common.{None, not, refl}
-use Rattle.std.proofs.Common.{sym, ap, ◌∙◌, arith}
+use Rattle.std.proofs.Common.{◌≡◌, ◌+◌, ◌-◌, ◌*◌, ◌<◌, ◌&&◌, ℕ, suc, Bool, true, false, List, length, get_or, map, set}
+use Rattle.std.proofs.Common.{min, drop, drop-cons, Option, Some, None, not, refl, sym, ap, ◌∙◌, arith}
 use Rattle.std.proofs.lemmas.Bool.{false_from_ne_true, le-ltb, lt-ltb}
 use Rattle.std.proofs.lemmas.Bool.Decides.{nat_tests}
 use Rattle.std.proofs.lemmas.List.{get_or-map}
@@ -73,11 +71,6 @@ sent_other g address bytes held c bends e other b =
 pub not_held : (o : Option (List ℕ)) (bytes : List ℕ) → (o ≡ Some bytes → ⊥) → holds o bytes ≡ false
 not_held None bytes other = refl
 not_held (Some held) bytes other = false_from_ne_true _ (λ t. other (ap Some (sym (same_bytes_are bytes held t))))
-
-pub measured_held : (cells : List (Option (List ℕ))) (l : Lengths) (address : ℕ) (bytes : List ℕ)
-    → get_or cells address None ≡ Some bytes
-    → record { lengths = l; fits = true } ≡ padded_measure cells l address bytes
-measured_held cells l address bytes is = grind (arith, nat_tests, bytes_same)
 
 pub measured_is : (cells : List (Option (List ℕ))) (l : Lengths) (address : ℕ) (bytes : List ℕ) (o : Option ℕ)
     (limit : ℕ) → (get_or cells address None ≡ Some bytes → ⊥)

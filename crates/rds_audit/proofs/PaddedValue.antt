@@ -1,10 +1,9 @@
 -- Lemmas: texts with padding are measured exactly. The greatest length of a text with some segments is kept. All such
 -- lengths are those up to it that the last segment at each address allows.
 use Rattle.std.proofs.lemmas.Bool.Decides.{eqb_tells, nat_tests}
-use Rattle.std.proofs.Common.{◌≡◌, ◌+◌, ◌*◌, ◌%◌, ◌<◌, ◌≤◌, min, ℕ, zero, suc, Bool, true}
-use Rattle.std.proofs.Common.{false}
-use Rattle.std.proofs.Common.{List, [], ◌∷◌, length, get_or, set, slice_index, Option, Some, None, cond}
-use Rattle.std.proofs.Common.{refl, sym, ap, ◌∙◌, subst, inl, inr, arith}
+use Rattle.std.proofs.Common.{◌≡◌, ◌+◌, ◌*◌, ◌%◌, ◌<◌, ◌≤◌, min, ℕ, zero, suc, Bool, true, false, List, [], ◌∷◌, length}
+use Rattle.std.proofs.Common.{get_or, set, slice_index, Option, Some, None, cond, refl, sym, ap, ◌∙◌, subst, inl, inr}
+use Rattle.std.proofs.Common.{arith}
 use Rattle.std.specs.List.{AllByRecursion}
 use Rattle.std.proofs.lemmas.Bool.{and_from, and_parts}
 use Rattle.std.proofs.lemmas.List.{get_or-set_other, get_or-set_same, get_or_past}
@@ -101,12 +100,11 @@ CellsCanBe n i cells =
 
 cells_can : (n i : ℕ) (cells : List (Option (List ℕ))) → all_allow n i cells ≡ true → CellsCanBe n i cells
 cells_can n i [] e j bs is = absurd (cc)
-cells_can n i (None ∷ cells) e zero bs is = absurd (cc)
 cells_can n i (None ∷ cells) e (suc j) bs is = grind (arith, nat_tests, cells_can n (i + 4) cells e j bs is)
-cells_can n i (Some b ∷ cells) e zero bs is = grind (arith, nat_tests)
 cells_can n i (Some b ∷ cells) e (suc j) bs is =
     let parts = and_parts (allows n i b) (all_allow n (i + 4) cells) e in
     ap (λ k. allows n k bs) (omega arith) ∙ cells_can n (i + 4) cells parts.1 j bs is
+cells_can n i (x ∷ cells) e zero bs is = grind (arith, nat_tests)
 
 can_cells : (n i : ℕ) (cells : List (Option (List ℕ))) → CellsCanBe n i cells → all_allow n i cells ≡ true
 can_cells n i [] h = refl
@@ -200,14 +198,11 @@ module _ (p : Fragment) (older : List Fragment) (formed : AllByRecursion (IsForm
           ))
 
       by : (o : Option (List ℕ)) → sent_last p.address older ≡ o → Fits n (p ∷ older)
-      by None e =
-          let f = tells.cells n (omega (arith, less)) (old (λ bs is. (cc))) in
-          fits_with n p older f can (λ q i same k h up. absurd (sent_some older q i (rw same at e)))
+      by None e = search (arith, fits_with, sent_some, can, old)
       by (Some held) e =
           let w = cell_from older p.address held e in
           let four : length held ≡ 4 = ap length (sym w.3) ∙ (all_in (IsFormed 16) w.0 older formed.1 w.1).four in
-          let low : n < limit_from (4 * p.address) held p.bytes = omega
-          (arith, less, ap (λ (o : Option (List ℕ)). limit_at p.address o p.bytes) (here ∙ e)) in
+          let low : n < limit_from (4 * p.address) held p.bytes = search (arith, here) in
           let same : (k : ℕ) → k < 4 → 4 * p.address + k ≤ n → slice_index held k ≡ slice_index p.bytes k =
           λ k h up. limit_agree n (4 * p.address) held p.bytes (four ∙ sym formed.0.four) low k (omega (arith, four)) up
           in
@@ -220,12 +215,7 @@ module _ (p : Fragment) (older : List Fragment) (formed : AllByRecursion (IsForm
           like : CanHave n (4 * p.address) p.bytes → (bs : List ℕ) → length bs ≡ 4
               → ((k : ℕ) → k < 4 → 4 * p.address + k ≤ n → slice_index bs k ≡ slice_index p.bytes k)
               → CanHave n (4 * p.address) bs
-          like its bs four same = record {
-            below = λ k h l. ap is_text_byte (same k (omega (arith, four)) (omega arith))
-                ∙ its.below k (omega (arith, four, formed.0.four)) l;
-            end = λ k h l. same k (omega (arith, four)) (omega arith)
-                ∙ its.end k (omega (arith, four, formed.0.four)) l;
-          }
+          like its bs four same = search arith
 
   -- a length that fits all is below the limit, and the cells allow it
   fits_fine : (n : ℕ) → n ≤ 64 → Fits n (p ∷ older) → (n < limit) × (fine n ≡ true)
@@ -268,34 +258,18 @@ module _ (p : Fragment) (older : List Fragment) (formed : AllByRecursion (IsForm
     where
       repeated : sent_last p.address older ≡ Some p.bytes
           → (lengths_of padded_gauge (p ∷ older)).most ≡ before.most → Tells (p ∷ older)
-      repeated e same = record {
-        fits = subst (λ n. Fits n (p ∷ older)) (sym same) (fits_again before.most e tells.fits);
-        most = λ n low f. omega (arith, same, tells.most n low (fits_before n p older f));
-        cells = λ n up ok. fits_again n e (tells.cells n (omega (arith, up, same))
-            (ap (all_allow n 0) (sym (held_cells e)) ∙ ok));
-        long = omega (arith, same, tells.long);
-      }
+      repeated e same = search (arith, fits_again, fits_before, held_cells)
 
       new : (o : Option ℕ) → greatest_below fine limit ≡ o → (measured_up_to o before).fits ≡ true
           → (lengths_of padded_gauge (p ∷ older)).most ≡ (measured_up_to o before).lengths.most → Tells (p ∷ older)
       new None g fit same = absurd (cc)
       new (Some n) g fit same =
           let w = greatest_is fine limit n g in
-          record {
-            fits = subst (λ k. Fits k (p ∷ older)) (sym same) (fine_fits n w.1 w.0);
-            most = λ m low f. (let t = fits_fine m low f in omega (arith, same, w.2 m t.0 t.1));
-            cells = λ m up ok. fine_fits m (omega (arith, up, same, w.1)) ok;
-            long = omega (arith, same, w.1, tells.long);
-          }
+          search (arith, fine_fits, fits_fine)
 
       by : (v : Bool) → holds (get_or (sent_cells older) p.address None) p.bytes ≡ v → Tells (p ∷ older)
-      by true e =
-          repeated (sym here ∙ is_held (get_or (sent_cells older) p.address None) e)
-          (ap (λ b. (cond b record { lengths = before; fits = true } result).lengths.most) e)
-      by false e =
-          new (greatest_below fine limit) refl
-          (sym (ap (λ b. (cond b record { lengths = before; fits = true } result).fits) e) ∙ fit)
-          (ap (λ b. (cond b record { lengths = before; fits = true } result).lengths.most) e)
+      by true e = search (arith, here, is_held, repeated)
+      by false e = search (arith, new)
 
   -- if some length fits, the measure finds one
   finds : (n : ℕ) → n ≤ 64 → Fits n (p ∷ older) → (measured_after padded_gauge older p).fits ≡ true
@@ -311,8 +285,7 @@ module _ (p : Fragment) (older : List Fragment) (formed : AllByRecursion (IsForm
       by : (v : Bool) → holds (get_or (sent_cells older) p.address None) p.bytes ≡ v
           → (measured_after padded_gauge older p).fits ≡ true
       by true e = ap (λ b. (cond b record { lengths = before; fits = true } result).fits) e
-      by false e = ap (λ b. (cond b record { lengths = before; fits = true } result).fits) e
-          ∙ some (greatest_below fine limit) refl
+      by false e = search (arith, some)
 
 -- ---- all segments
 
@@ -348,10 +321,7 @@ value_fits x fragments t all = grind (arith, nat_tests, part_can, all_in)
 all_formed : (x : List ℕ) (fragments : List Fragment) → AllByRecursion (IsPaddedFragmentOf x) fragments
     → AllByRecursion (IsFormed 16) fragments
 all_formed x [] all = tt
-all_formed x (p ∷ older) all = (
-  record { address = all.0.within; four = all.0.four; fits = all.0.fits },
-  all_formed x older all.1,
-)
+all_formed x (p ∷ older) all = grind (arith, nat_tests, all_formed x older all.1)
 
 -- fragments and tags of one text are measured so
 pub padded_measured : (fragments : List Fragment) (tags : List SentTags) → HaveOneValue padded_texts fragments tags
@@ -408,12 +378,7 @@ padded_one fragments tags formed m =
     let t = told fragments formed m.fit in
     let n : ℕ = (lengths_of padded_gauge fragments).most in
     let size = fill_long fragments 0 n in
-    record {
-      value = fill fragments 0 n;
-      valid = fill_is_text n fragments t.long formed t.fits;
-      has = all_have n fragments fragments t.long formed t.fits (λ p i. i);
-      ends = most_ends (length (fill fragments 0 n)) tags (omega (arith, size, m.ends));
-    }
+    grind (arith, nat_tests, told, fill_long, fill, fill_is_text, all_have, most_ends)
 
 -- the greatest length never grows
 pub padded_narrower : (cells : List (Option (List ℕ))) (l : Lengths) (address : ℕ) (bytes : List ℕ)

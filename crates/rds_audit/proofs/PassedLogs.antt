@@ -1,11 +1,11 @@
 -- Lemmas: a log passes exactly if it has plans, and then it is safe.
+use Rattle.std.proofs.lemmas.Bool.Decides.{nat_tests}
 use Rattle.std.proofs.Common.{◌+◌, ◌<◌, ℕ, List, Option, arith}
 use Rattle.rds_fields.specs.declared.message.Message.{Message}
 use Rattle.rds_audit.specs.AuditLaws.{IsSafeLog, PassesExactlyByPlans}
 use Rattle.rds_audit.specs.Dense.{HasPlans}
 use Rattle.rds_audit.specs.Forms.{text_kind}
 use Rattle.rds_audit.specs.declared.text_form.TextForm.{TextForm}
-use Rattle.rds_audit.specs.declared.text_form.TextForm.TheVariants.{Plain, Padded}
 use Rattle.rds_safety.specs.Lawful.{Kind, names, padded_texts, texts}
 use Rattle.rds_safety.specs.Laws.{LawfulPlansAreSafeAs, LawfulPlansAreSafeByOwnClocksAs, PlanLaws}
 use Rattle.rds_safety.specs.Marks.{marks, name_mark, text_mark}
@@ -25,20 +25,14 @@ module _ (laws : PlanLaws) (form : TextForm) (d : ℕ) (log : List (Option Messa
       }
 
   plans_pass : HasPlans form d log → LogPasses form d log
-  plans_pass h = record {
-    text = passes laws d (text_kind form) (marks text_mark log) record
-        { plan = h.plans.text; lawful = h.lawful.text; dense = h.dense.text };
-    name = passes laws d names (marks name_mark log) record
-        { plan = h.plans.name; lawful = h.lawful.name; dense = h.dense.name };
-  }
+  plans_pass h = search (arith, passes)
 
 pub passes_by_plans : PlanLaws → PassesExactlyByPlans
 passes_by_plans laws form d log pos = (log_has_plans laws form d log pos, plans_pass laws form d log)
 
 -- both laws of plans, for texts of this form
 pub by_form : (P : Kind → Type 0) → P texts → P padded_texts → (form : TextForm) → P (text_kind form)
-by_form P plain padded Plain = plain
-by_form P plain padded Padded = padded
+by_form P plain padded form = grind (arith, nat_tests)
 
 -- a log that passes is safe
 pub safe_log : PassesExactlyByPlans → ((form : TextForm) → LawfulPlansAreSafeAs (text_kind form))
@@ -47,10 +41,4 @@ pub safe_log : PassesExactlyByPlans → ((form : TextForm) → LawfulPlansAreSaf
     → IsSafeLog form m k log
 safe_log law safe own form m k log pos p =
     let w = (law form (m + k) log (omega arith)).0 p in
-    record {
-      plans = w.plans;
-      lawful = w.lawful;
-      dense = w.dense;
-      safe = λ t receivers all. safe form m k t w.plans log receivers w.lawful all;
-      own_clocks = λ now receivers all. own form (m + k) m now w.plans log receivers w.lawful all;
-    }
+    search arith

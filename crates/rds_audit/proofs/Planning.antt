@@ -3,8 +3,8 @@ use Rattle.std.proofs.lemmas.Bool.Decides.{nat_tests}
 use Rattle.std.proofs.Common.{◌≡◌, ◌≢◌, ◌⊎◌, ◌+◌, ◌<◌, ◌≤◌, ℕ, Bool, List, [], ◌∷◌, length, refl, sym, ap}
 use Rattle.std.proofs.Common.{subst, inl, inr, arith}
 use Rattle.std.specs.List.{AllByRecursion}
-use Rattle.std.proofs.lemmas.Bool.{cases_lt, cond_both}
-use Rattle.rds_fields.specs.Tag.{BothEndIn, PairFields}
+use Rattle.std.proofs.lemmas.Bool.{cases_lt}
+use Rattle.rds_fields.specs.Tag.{PairFields}
 use Rattle.rds_receiver.specs.declared.fragment.Fragment.{Fragment}
 use Rattle.rds_encoder.specs.Plan.{Broadcast, Covers, HasNumber}
 use Rattle.rds_encoder.specs.Laws.{ANumberIsBelowTheLength}
@@ -13,7 +13,7 @@ use Rattle.rds_audit.specs.Dense.{HasFragmentBefore, HasPlan, IsBridged, IsMarke
 use Rattle.rds_safety.specs.Lawful.{HasOne, HasFragment, HasTags, Kind}
 use Rattle.rds_safety.specs.Marks.{IsMarkIn, Mark, Nothing, Sends, Tagged}
 use Rattle.rds_audit.proofs.Members.{IsIn, all_in}
-use Rattle.rds_audit.specs.Reigns.{Reign, SentTags, after_fragment, after_tags, joins, reigns, start_after}
+use Rattle.rds_audit.specs.Reigns.{Reign, after_fragment, after_tags, reigns, start_after}
 use Rattle.rds_audit.specs.Rules.{CanBeBroadcast, Passes}
 use Rattle.rds_safety.specs.Flags.{other_flag, same_flag}
 use Rattle.rds_audit.proofs.Keeping.{AreKept, IsBehind, Keeps, keeps}
@@ -24,20 +24,9 @@ abbrev pub IsChained : ℕ → List Reign → Type 0
 IsChained d [] = Unit {0}
 IsChained d (r ∷ older) = (r.start ≡ start_after d r.flag older) × IsChained d older
 
-chained_fragment : (d now : ℕ) (p : Fragment) (rs : List Reign) → IsChained d rs
-    → IsChained d (after_fragment d now p rs)
-chained_fragment d now p [] c = (refl, tt)
-chained_fragment d now p (r ∷ older) c = cond_both (joins d now p.flag r) _ _ (IsChained d) (λ _. c) (λ _. (refl, c))
-
-chained_tags : (d now : ℕ) (pair : PairFields) (rs : List Reign) → IsChained d rs → IsChained d (after_tags now pair rs)
-chained_tags d now pair [] c = c
-chained_tags d now pair (r ∷ older) c = c
-
 pub chained : (d : ℕ) (sent : List Mark) → IsChained d (reigns d sent)
 chained d [] = tt
-chained d (Nothing ∷ sent) = chained d sent
-chained d (Sends p ∷ sent) = chained_fragment d (length sent) p (reigns d sent) (chained d sent)
-chained d (Tagged pair ∷ sent) = chained_tags d (length sent) pair (reigns d sent) (chained d sent)
+chained d (x ∷ sent) = grind (arith, nat_tests, chained d sent)
 
 -- the fragment, or the tags, of slot t belong to the reign
 pub record HoldsFragment (t : ℕ) (p : Fragment) (r : Reign) : Type 0 where
@@ -53,44 +42,35 @@ pub record HoldsTags (t : ℕ) (pair : PairFields) (r : Reign) : Type 0 where
 -- one more slot keeps the marks that the reigns hold
 fragment_stays : (d now t : ℕ) (p q : Fragment) (rs : List Reign) → t ≤ now → SomeReign (HoldsFragment t p) rs
     → SomeReign (HoldsFragment t p) (after_fragment d now q rs)
-fragment_stays d now t p q [] le h = absurd h
-fragment_stays d now t p q (r ∷ older) le h = grind (arith, nat_tests)
+fragment_stays d now t p q rs le h = grind (arith, nat_tests)
 
 fragment_stays_tagged : (now t : ℕ) (p : Fragment) (pair : PairFields) (rs : List Reign) → t ≤ now
     → SomeReign (HoldsFragment t p) rs → SomeReign (HoldsFragment t p) (after_tags now pair rs)
-fragment_stays_tagged now t p pair [] le h = absurd h
-fragment_stays_tagged now t p pair (r ∷ older) le (inl i) = grind (arith, nat_tests)
-fragment_stays_tagged now t p pair (r ∷ older) le (inr i) = inr i
+fragment_stays_tagged now t p pair rs le h = grind (arith, nat_tests)
 
 tags_stay : (d now t : ℕ) (pair : PairFields) (q : Fragment) (rs : List Reign) → t ≤ now
     → SomeReign (HoldsTags t pair) rs → SomeReign (HoldsTags t pair) (after_fragment d now q rs)
-tags_stay d now t pair q [] le h = absurd h
-tags_stay d now t pair q (r ∷ older) le h = grind (arith, nat_tests)
+tags_stay d now t pair q rs le h = grind (arith, nat_tests)
 
 tags_stay_tagged : (now t : ℕ) (pair other : PairFields) (rs : List Reign) → t ≤ now → SomeReign (HoldsTags t pair) rs
     → SomeReign (HoldsTags t pair) (after_tags now other rs)
-tags_stay_tagged now t pair other [] le h = absurd h
-tags_stay_tagged now t pair other (r ∷ older) le (inl i) = inl record { to = le; listed = inr i.listed }
-tags_stay_tagged now t pair other (r ∷ older) le (inr i) = inr i
+tags_stay_tagged now t pair other rs le h = grind (arith, nat_tests)
 
 -- the newest reign holds a new fragment
 new_fragment : (d now : ℕ) (p : Fragment) (sent : List Mark) (rs : List Reign) → now ≡ length sent → Keeps d sent rs
     → SomeReign (HoldsFragment now p) (after_fragment d now p rs)
-new_fragment d now p sent [] e k = inl record { from = omega arith; to = omega arith; flag = refl; listed = inl refl }
-new_fragment d now p sent (r ∷ older) e k = grind (arith, nat_tests, early, same_flag)
+new_fragment d now p sent rs e k = grind (arith, nat_tests, early, same_flag)
 
 -- each fragment that was sent is in a reign
 pub fragment_held : (d : ℕ) (sent : List Mark) (t : ℕ) (p : Fragment) → IsMarkIn sent t (Sends p)
     → SomeReign (HoldsFragment t p) (reigns d sent)
 fragment_held d [] t p s = absurd s
-fragment_held d (Nothing ∷ sent) t p (inl s) = (let e : Sends p ≡ Nothing = s.1 in absurd (cc))
 fragment_held d (Nothing ∷ sent) t p (inr s) = fragment_held d sent t p s
-fragment_held d (Tagged pair ∷ sent) t p (inl s) = (let e : Sends p ≡ Tagged pair = s.1 in absurd (cc))
 fragment_held d (Tagged pair ∷ sent) t p (inr s) =
     grind (arith, nat_tests, fragment_held d sent t p s, early, fragment_stays_tagged)
 fragment_held d (Sends q ∷ sent) t p (inr s) =
     grind (arith, nat_tests, fragment_held d sent t p s, early, fragment_stays)
-fragment_held d (Sends q ∷ sent) t p (inl s) = grind (arith, nat_tests, new_fragment, keeps)
+fragment_held d (x ∷ sent) t p (inl s) = grind (arith, nat_tests, new_fragment, keeps)
 
 after_before : (x : Mark) (sent : List Mark) → TagsAreAfter (x ∷ sent) → TagsAreAfter sent
 after_before x sent h t pair s = grind (arith, nat_tests, early, sent_before)
@@ -105,9 +85,7 @@ new_tags d pair sent (r ∷ older) u p s lt k = inl record { to = omega arith; l
 pub tags_held : (d : ℕ) (sent : List Mark) → TagsAreAfter sent → (t : ℕ) (pair : PairFields)
     → IsMarkIn sent t (Tagged pair) → SomeReign (HoldsTags t pair) (reigns d sent)
 tags_held d [] h t pair s = absurd s
-tags_held d (Nothing ∷ sent) h t pair (inl s) = (let e : Tagged pair ≡ Nothing = s.1 in absurd (cc))
 tags_held d (Nothing ∷ sent) h t pair (inr s) = tags_held d sent (after_before Nothing sent h) t pair s
-tags_held d (Sends q ∷ sent) h t pair (inl s) = (let e : Tagged pair ≡ Sends q = s.1 in absurd (cc))
 tags_held d (Sends q ∷ sent) h t pair (inr s) =
     grind (arith, nat_tests, tags_held d sent (after_before (Sends q) sent h) t pair s, early, tags_stay, after_before)
 tags_held d (Tagged other ∷ sent) h t pair (inr s) =
@@ -120,6 +98,7 @@ tags_held d (Tagged other ∷ sent) h t pair (inl s) =
     subst (λ (g : PairFields). SomeReign (HoldsTags t g) (after_tags (length sent) other (reigns d sent))) (sym same)
     (subst (λ (n : ℕ). SomeReign (HoldsTags n other) (after_tags (length sent) other (reigns d sent))) (sym s.0)
     (new_tags d other sent (reigns d sent) w.slot w.fragment w.is_sent w.before (keeps d sent)))
+tags_held d (x ∷ sent) h t pair (inl s) = grind (arith, nat_tests)
 
 -- a broadcast for each reign
 abbrev pub plan_from : (d : ℕ) (kind : Kind) (rs : List Reign) → AllByRecursion (CanBeBroadcast d kind) rs
@@ -194,11 +173,7 @@ fragment_planned d kind t p (r ∷ older) a (inl h) = record {
   number = length (plan_from d kind older a.1);
   broadcast = record { start = r.start; end = r.last; flag = r.flag; bytes = a.0.one.value };
   planned = inl (refl, refl);
-  is = record {
-    covers = record { from = omega (arith, a.0.begun, h.from); to = h.to };
-    flag = h.flag;
-    fragment = all_in (kind.HasPart a.0.one.value) p r.fragments a.0.one.has h.listed;
-  };
+  is = search (arith, all_in);
 }
 
 tags_planned : (d : ℕ) (kind : Kind) (t : ℕ) (pair : PairFields) (rs : List Reign)
@@ -211,21 +186,14 @@ tags_planned d kind t pair (r ∷ older) a (inl h) = record {
   number = length (plan_from d kind older a.1);
   broadcast = record { start = r.start; end = r.last; flag = r.flag; bytes = a.0.one.value };
   planned = inl (refl, refl);
-  is = record {
-    lasted = all_in (λ (s : SentTags). r.start + d ≤ s.slot) record { slot = t; pair = pair } r.tags a.0.lasted
-        h.listed;
-    to = h.to;
-    ends = all_in (λ (s : SentTags). BothEndIn (length a.0.one.value) s.pair) record { slot = t; pair = pair } r.tags
-        a.0.one.ends h.listed;
-  };
+  is = search (arith, all_in);
 }
 
 -- a mark in a reign's broadcast was sent after the reign was opened
 since_opened : (d : ℕ) (sent : List Mark) (r : Reign) (older : List Reign) (u : ℕ) → 0 < d
     → r.start ≡ start_after d r.flag older → r.start ≤ u → IsBehind sent older u → (q : Fragment)
     → IsMarkIn sent u (Sends q) → ⊥
-since_opened d sent r [] u pos c from b q s = b q s
-since_opened d sent r (e ∷ older) u pos c from b q s = omega (arith, starts_after d r.flag e older pos)
+since_opened d sent r older u pos c from b q s = grind (arith, nat_tests)
 
 dense_fragments : (d : ℕ) (kind : Kind) (sent : List Mark) (rs : List Reign) (a : AllByRecursion (CanBeBroadcast d kind)
     rs) → 0 < d → IsChained d rs → AreKept d sent rs
@@ -239,8 +207,7 @@ dense_fragments d kind sent (r ∷ older) a pos c keep k b u t q p (inl n) cu ct
     let start : b.start ≡ r.start = ap (λ (x : Broadcast). x.start) n.1 in
     let end : b.end ≡ r.last = ap (λ (x : Broadcast). x.end) n.1 in
     elim (cases_lt u r.opened) [
-      | inl less ↦ absurd (since_opened d sent r older u pos c.0 (omega (arith, cu.from))
-          (keep.1 u (fragment_is_marked sent u q su) less) q su)
+      | inl less ↦ search (arith, since_opened, fragment_is_marked)
       | inr from ↦ keep.0.dense u t q p su st from lt (omega (arith, ct.to))
     ]
 
@@ -272,20 +239,12 @@ has_plan_of_reigns below d kind sent pos h = (
   record {
     plan = plan_from d kind (reigns d sent) h.reigns;
     lawful = record {
-      spaced = record {
-        lasts = lasting d kind sent (reigns d sent) h.reigns (keeps d sent).0;
-        order = λ k x y p q. (ordering below d kind (reigns d sent) h.reigns pos (chained d sent) k x y p q).0;
-        apart = λ k x y p q. (ordering below d kind (reigns d sent) h.reigns pos (chained d sent) k x y p q).1;
-        far = distance below d kind sent (reigns d sent) h.reigns pos (chained d sent) (keeps d sent).0;
-      };
+      spaced = search (arith, lasting, keeps, ordering, chained, distance);
       values = valued d kind (reigns d sent) h.reigns;
       fragments = λ t p s. fragment_planned d kind t p (reigns d sent) h.reigns (fragment_held d sent t p s);
       tags = λ t pair s. tags_planned d kind t pair (reigns d sent) h.reigns (tags_held d sent h.tagged t pair s);
     };
-    dense = record {
-      fragments = dense_fragments d kind sent (reigns d sent) h.reigns pos (chained d sent) (keeps d sent).0;
-      tags = dense_tags d kind sent (reigns d sent) h.reigns pos h.tagged (chained d sent) (keeps d sent).0;
-    };
+    dense = search (arith, dense_fragments, chained, keeps, dense_tags);
   },
   refl,
 )

@@ -1,18 +1,15 @@
 -- Lemmas: services whose segments allow ranges of lengths: texts without padding, and names. What a fragment leaves of
 -- the lengths is what all fragments allow together, and no fragment changes the value exactly if no address changed.
 use Rattle.std.proofs.lemmas.Bool.Decides.{nat_tests}
-use Rattle.std.proofs.Common.{◌≡◌, ◌⊎◌, ◌≤◌, ◌&&◌, ℕ, Bool, true, false, not, List, [], ◌∷◌}
-use Rattle.std.proofs.Common.{Option}
-use Rattle.std.proofs.Common.{Some, None, refl, sym, ap, ◌∙◌, inl, inr, arith}
+use Rattle.std.proofs.Common.{◌≡◌, ◌⊎◌, ◌≤◌, ◌&&◌, ℕ, Bool, true, false, not, List, [], ◌∷◌, Option, Some, None, refl}
+use Rattle.std.proofs.Common.{sym, ap, inl, inr, arith}
 use Rattle.std.specs.Prelude.{is_some}
 use Rattle.std.specs.List.{AllByRecursion}
-use Rattle.std.proofs.lemmas.Bool.{leb-true, le-leb}
 use Rattle.rds_receiver.specs.declared.fragment.Fragment.{Fragment}
 use Rattle.rds_safety.specs.Lawful.{Kind}
 use Rattle.rds_audit.specs.declared.audited.Lengths.{Lengths}
-use Rattle.rds_audit.specs.Lengths.{AllJoin, Gauge, IsExact, IsFormed, all_fit, common_lengths}
-use Rattle.rds_audit.specs.Lengths.{is_other, lengths_of, measured_after, measured_by, narrowed, same_bytes, sent_last}
-use Rattle.rds_audit.specs.Lengths.{tags_end}
+use Rattle.rds_audit.specs.Lengths.{AllJoin, Gauge, IsExact, IsFormed, all_fit, common_lengths, is_other, lengths_of}
+use Rattle.rds_audit.specs.Lengths.{measured_after, measured_by, narrowed, same_bytes, sent_last, tags_end}
 use Rattle.rds_audit.specs.Reigns.{SentTags}
 use Rattle.rds_audit.specs.Rules.{AreUnchanged, HaveOneValue}
 use Rattle.rds_audit.proofs.Members.{all_in}
@@ -28,13 +25,10 @@ pub record AreRanged (allowed : ℕ → List ℕ → Option Lengths) (longest : 
   pub ends : tags_end tags ≤ (common_lengths allowed longest fragments).most
 
 narrowed_twice : (o : Option Lengths) (l : Lengths) → narrowed o (narrowed o l) ≡ narrowed o l
-narrowed_twice None l = refl
-narrowed_twice (Some k) l = grind (arith, nat_tests)
+narrowed_twice o l = grind (arith, nat_tests)
 
 narrowed_swap : (o k : Option Lengths) (l : Lengths) → narrowed o (narrowed k l) ≡ narrowed k (narrowed o l)
-narrowed_swap None k l = refl
-narrowed_swap (Some o) None l = refl
-narrowed_swap (Some o) (Some k) l = grind (arith, nat_tests)
+narrowed_swap o k l = grind (arith, nat_tests)
 
 -- the last bytes that were sent at an address narrow nothing again
 narrowed_again : (allowed : ℕ → List ℕ → Option Lengths) (longest a : ℕ) (sent : List Fragment) (bytes : List ℕ)
@@ -45,27 +39,22 @@ narrowed_again allowed longest a (q ∷ older) bytes e =
     grind (arith, nat_tests, narrowed_again allowed longest a older bytes, narrowed_twice, narrowed_swap)
 
 measured_lengths : (o : Option Lengths) (l : Lengths) → (measured_by o l).lengths ≡ narrowed o l
-measured_lengths None l = refl
-measured_lengths (Some k) l = refl
+measured_lengths o l = grind (arith, nat_tests)
 
 narrower : (o : Option Lengths) (l : Lengths) → (measured_by o l).lengths.most ≤ l.most
-narrower None l = omega arith
-narrower (Some k) l = omega arith
+narrower o l = grind (arith, nat_tests)
 
 measured_fits : (o : Option Lengths) (l : Lengths) → (measured_by o l).fits ≡ true
     → (is_some o ≡ true) × ((narrowed o l).least ≤ (narrowed o l).most)
-measured_fits None l e = absurd (cc)
-measured_fits (Some k) l e = (refl, leb-true _ _ e)
+measured_fits o l e = grind (arith, nat_tests)
 
 fits_measured : (o : Option Lengths) (l : Lengths) → is_some o ≡ true → (narrowed o l).least ≤ (narrowed o l).most
     → (measured_by o l).fits ≡ true
-fits_measured None l some room = absurd (cc)
-fits_measured (Some k) l some room = le-leb _ _ room
+fits_measured o l some room = grind (arith, nat_tests)
 
 -- once no length is left, none is left later
 room_before : (o : Option Lengths) (l : Lengths) → (narrowed o l).least ≤ (narrowed o l).most → l.least ≤ l.most
-room_before None l room = room
-room_before (Some k) l room = omega (arith, room)
+room_before o l room = grind (arith, nat_tests)
 
 -- a service with ranges
 abbrev pub ranged : Kind → ℕ → ℕ → (ℕ → List ℕ → Option Lengths) → Gauge
@@ -96,13 +85,11 @@ module _ (kind : Kind) (segments longest : ℕ) (allowed : ℕ → List ℕ → 
       → all_fit its fragments ≡ true
   parts_fit [] each room = refl
   parts_fit (p ∷ older) each room =
-      let before = room_before (allowed p.address p.bytes) (common_lengths allowed longest older) room in
-      grind (arith, nat_tests, parts_fit older each.1 before, lengths_are, fits_measured)
+      grind (arith, nat_tests, parts_fit older each.1, room_before, lengths_are, fits_measured)
 
   no_change : (o : Option (List ℕ)) (bytes : List ℕ) (b : Bool) → (o ≡ None) ⊎ (o ≡ Some bytes)
       → (is_other o bytes && b) ≡ false
-  no_change o bytes b (inl e) = rw e refl
-  no_change o bytes b (inr e) = rw (e, bytes_same bytes bytes refl) refl
+  no_change o bytes b h3 = grind (arith, nat_tests, bytes_same)
 
   no_other : (o : Option (List ℕ)) (bytes : List ℕ) → (is_other o bytes && true) ≡ false
       → (o ≡ None) ⊎ (o ≡ Some bytes)
@@ -127,18 +114,10 @@ module _ (kind : Kind) (segments longest : ℕ) (allowed : ℕ → List ℕ → 
       × (all_fit its older ≡ true → (measured_after its older p).fits ≡ true)
   sent_again older p last =
       let same = narrowed_again allowed longest p.address older p.bytes last in (
-        measured_lengths (allowed p.address p.bytes) (lengths_of its older)
-            ∙ ap (narrowed (allowed p.address p.bytes)) (lengths_are older) ∙ same ∙ sym (lengths_are older),
+        search (arith, measured_lengths, lengths_are),
         λ fit.
             let parts = fit_parts older fit in
-            let w = cell_from older p.address p.bytes last in
-            let some : is_some (allowed w.0.address w.0.bytes) ≡ true = all_in
-            (λ (q : Fragment). is_some (allowed q.address q.bytes) ≡ true) w.0 older parts.0 w.1 in
-            let mine : is_some (allowed p.address p.bytes) ≡ true = ap (λ a. is_some (allowed a p.bytes)) (sym w.2)
-            ∙ ap (λ (bs : List ℕ). is_some (allowed w.0.address bs)) (sym w.3) ∙ some in
-            ap (λ (l : Lengths). (measured_by (allowed p.address p.bytes) l).fits) (lengths_are older)
-            ∙ fits_measured (allowed p.address p.bytes) (common_lengths allowed longest older) mine
-            (omega (arith, ap (λ (l : Lengths). l.least) same, ap (λ (l : Lengths). l.most) same, parts.1)),
+            search (arith, cell_from, all_in, lengths_are, fits_measured),
       )
 
   -- a service with ranges is measured exactly if its values are
@@ -152,20 +131,11 @@ module _ (kind : Kind) (segments longest : ℕ) (allowed : ℕ → List ℕ → 
   ranged_is_exact measured formed one = record {
     measured = λ fragments tags has.
         let m = measured fragments tags has in
-        record {
-          joins = unchanged_join fragments m.unchanged;
-          fit = parts_fit fragments m.each m.room;
-          ends = omega (arith, m.ends, ap (λ (l : Lengths). l.most) (lengths_are fragments));
-        };
+        search (arith, unchanged_join, parts_fit, lengths_are);
     formed = formed;
     one = λ fragments tags good m.
         let parts = fit_parts fragments m.fit in
-        one fragments tags good record {
-          unchanged = join_unchanged fragments m.joins;
-          each = parts.0;
-          room = parts.1;
-          ends = omega (arith, m.ends, ap (λ (l : Lengths). l.most) (lengths_are fragments));
-        };
+        search (arith, join_unchanged, lengths_are);
     narrower = λ cells l address bytes. narrower (allowed address bytes) l;
     again = λ older p good last. sent_again older p last;
   }

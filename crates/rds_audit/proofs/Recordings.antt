@@ -26,13 +26,11 @@ silent_names (suc n) = ap (λ (sent : List Mark). Nothing ∷ sent) (silent_name
 
 -- what is judged before the first slot is silent
 pub texts_begin : (start : LogStart) (d : ℕ) → marks text_mark (judged_as start d []) ≡ silent_as start d
-texts_begin Complete d = refl
-texts_begin Running d = silent_texts d
+texts_begin start d = grind (arith, nat_tests, silent_texts)
 
 -- before the first slot no name is judged
 pub names_begin : (start : LogStart) (d : ℕ) → marks name_mark (judged_as start d []) ≡ silent_as start d
-names_begin Complete d = refl
-names_begin Running d = silent_names d
+names_begin start d = grind (arith, nat_tests, silent_names)
 
 pub silent_reigns : (d lost : ℕ) → reigns d (replicate lost Nothing) ≡ []
 silent_reigns d zero = refl
@@ -62,8 +60,7 @@ silent_passes kind Running d = silence kind d d
 -- tags count after a text segment, and not before
 pub tags_count : (start : LogStart) (judged : List (Option Message)) (pair : PairFields) → has_text judged ≡ true
     → counted_as start judged (Some (Tags pair)) ≡ Some (Tags pair)
-tags_count Complete judged pair e = refl
-tags_count Running judged pair e = rw e refl
+tags_count start judged pair e = grind (arith, nat_tests)
 
 tags_wait : (start : LogStart) (judged : List (Option Message)) (pair : PairFields) → start ≡ Running
     → has_text judged ≡ false → counted_as start judged (Some (Tags pair)) ≡ None
@@ -77,14 +74,12 @@ tags_complete start judged pair is = rw is refl
 -- all others count as they are
 pub text_counts : (start : LogStart) (judged : List (Option Message)) (f : Bool) (a : ℕ) (b : List ℕ)
     → counted_as start judged (Some (Text f a b)) ≡ Some (Text f a b)
-text_counts Complete judged f a b = refl
-text_counts Running judged f a b = refl
+text_counts start judged f a b = grind (arith, nat_tests)
 
 -- segments of names count in each log
 pub name_counts : (start : LogStart) (judged : List (Option Message)) (f : Bool) (a : ℕ) (b : List ℕ)
     → counted_as start judged (Some (Name f a b)) ≡ Some (Name f a b)
-name_counts Complete judged f a b = refl
-name_counts Running judged f a b = refl
+name_counts start judged f a b = grind (arith, nat_tests)
 
 -- these count for neither service
 abbrev pub IsSilent : Option Message → Type 0
@@ -92,8 +87,7 @@ IsSilent message = (text_mark message ≡ Nothing) × (name_mark message ≡ Not
 
 -- an empty slot counts as silent
 pub nothing_counts : (start : LogStart) (judged : List (Option Message)) → IsSilent (counted_as start judged None)
-nothing_counts Complete judged = (refl, refl)
-nothing_counts Running judged = (refl, refl)
+nothing_counts start judged = grind (arith, nat_tests)
 
 -- in a recording tags before the first text count as silent
 pub tags_silent : (start : LogStart) (judged : List (Option Message)) (pair : PairFields) → start ≡ Running
@@ -103,10 +97,8 @@ tags_silent start judged pair is e = rw (tags_wait start judged pair is e) (refl
 -- an announcement counts as silent
 pub announcement_counts : (start : LogStart) (judged : List (Option Message)) (code bits aid : ℕ)
     → IsSilent (counted_as start judged (Some (Announce code bits aid)))
-announcement_counts Complete judged code bits aid = (refl, refl)
-announcement_counts Running judged code bits aid = (refl, refl)
+announcement_counts start judged code bits aid = grind (arith, nat_tests)
 
 -- another message counts as silent
 pub other_counts : (start : LogStart) (judged : List (Option Message)) → IsSilent (counted_as start judged (Some Other))
-other_counts Complete judged = (refl, refl)
-other_counts Running judged = (refl, refl)
+other_counts start judged = grind (arith, nat_tests)

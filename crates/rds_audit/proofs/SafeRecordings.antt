@@ -98,9 +98,7 @@ module _ (n : ℕ) (log : List (Option Message)) (r : Listener) (order : IsHeard
       → IsOfItsOrigin (from_first_text (preceded n log)) origin entry
   each_sent t origin entry a b =
       let w = was_origin n r.input.first r.input.origins t origin a in
-      let h = was_heard_as (preceded n log) r.input.first r.input.heard (origins_later n r.input.origins) t origin entry
-      beside a b in
-      simp (h.is, w.is) (entry_sent t w.was h.was w.came h.came)
+      search (arith, was_heard_as, beside, entry_sent)
 
   in_order : IsHeardInOrder (from_first_text (preceded n log)) (judging n log r).input
   in_order = record {
@@ -115,8 +113,7 @@ module _ (n : ℕ) (log : List (Option Message)) (r : Listener) (order : IsHeard
   -- tags that came later than a text segment count
   tags_count : (since : ℕ) → HeardText r.input.first r.input.heard since
       → TagsCount (preceded n log) r.input.first since r.input.heard (origins_later n r.input.origins)
-  tags_count since text v s pair late came from = by (entry_beside r.input.first r.input.heard r.input.origins since
-      (Some (Text text.flag text.address text.bytes)) order.beside text.came)
+  tags_count since text v s pair late came from = search (arith, entry_beside, by)
     where
       by : (o : Option ℕ) × HasEntry r.input.first r.input.origins since o → text_before (preceded n log) s ≡ true
       by (None, a) = absurd (let none = order.each since None (Some (Text text.flag text.address text.bytes)) a
@@ -125,21 +122,14 @@ module _ (n : ℕ) (log : List (Option Message)) (r : Listener) (order : IsHeard
           let tags = was_sent n r.input.first r.input.origins v s from in
           let sent = sent_later n log u (Some (Text text.flag text.address text.bytes))
           (order.each since (Some u) (Some (Text text.flag text.address text.bytes)) a text.came) in
-          after_text (preceded n log) (u + n) text.flag text.address text.bytes s sent
-          (omega (arith, tags.is, order.rising since v u tags.slot a tags.from late))
+          search (arith, after_text)
 
   shows : (m : ℕ) → ShowsView m r.input.first r.input.heard r.view
       → ShowsView m r.input.first (settle (preceded n log) r.input.heard (origins_later n r.input.origins)) r.view
   shows m is =
       let held = held_same (preceded n log) m r.input.first r.input.heard (origins_later n r.input.origins) beside
       tags_count in
-      record {
-        text = rw (texts_same (preceded n log) m r.input.first r.input.heard (origins_later n r.input.origins)) is.text;
-        name = rw (names_same (preceded n log) m r.input.first r.input.heard (origins_later n r.input.origins)) is.name;
-        item = rw held is.item;
-        one = rw held is.one;
-        two = rw held is.two;
-      }
+      grind (arith, nat_tests, held_same, beside, tags_count, texts_same, names_same)
 
 listens_judging : (d m now n : ℕ) (log : List (Option Message)) (r : Listener) → ListensByOwnClock d m now log r
     → ListensByOwnClock d m (now + n) (from_first_text (preceded n log)) (judging n log r)
@@ -152,12 +142,7 @@ listens_judging d m now n log r listens = record {
         omega (arith, x.is, y.is, listens.heard.between t u x.slot y.slot x.from y.from near);
     since = λ t s p near.
         let x = was_sent n r.input.first r.input.origins t s p in
-        omega (
-          arith,
-          x.is,
-          listens.heard.since t x.slot x.from
-              (omega (arith, near, settle_long (preceded n log) r.input.heard (origins_later n r.input.origins))),
-        );
+        search (arith, settle_long);
     past = λ t s p. (let x = was_sent n r.input.first r.input.origins t s p
         in omega (arith, x.is, listens.heard.past t x.slot x.from));
   };
@@ -180,8 +165,7 @@ on_air : (n : ℕ) (log : List (Option Message)) (r : Listener) (d t : ℕ) (pla
     (shown : Option (List ℕ)) → gs ≡ hs
     → IfSome shown (RunWasOnAir d t plan (judging n log r).input gs)
     → IfSome shown (RunWasOnAir d t plan (later n r).input hs)
-on_air n log r d t plan gs hs None e h = tt
-on_air n log r d t plan gs hs (Some x) e h = grind (arith, nat_tests, source_from)
+on_air n log r d t plan gs hs shown e h = grind (arith, nat_tests)
 
 module _ (n d m t : ℕ) (plans : Plans) (log : List (Option Message)) where
   text_runs : (r : Listener) → text_run m (judging n log r).input ≡ text_run m (later n r).input
@@ -198,8 +182,7 @@ module _ (n d m t : ℕ) (plans : Plans) (log : List (Option Message)) where
 
   shows_tags : (r : Listener) → ShowsTagsOfItsText d m plans (from_first_text (preceded n log)) (judging n log r)
       → ShowsTagsOfItsText d m plans (preceded n log) (later n r)
-  shows_tags r (inl h) = inl h
-  shows_tags r (inr h) = grind (arith, nat_tests, source_from, text_runs, tags_are_of_the_log)
+  shows_tags r h1 = grind (arith, nat_tests, source_from, text_runs, tags_are_of_the_log)
 
   near : (x y : Listener) → AreNeighbours m plans (judging n log x) (judging n log y)
       → AreNeighbours m plans (later n x) (later n y)
@@ -229,13 +212,9 @@ safe_for_the_log : (n d m t : ℕ) (plans : Plans) (log : List (Option Message))
     → AreSafeViews d m t plans (from_first_text (preceded n log)) (map (judging n log) receivers)
     → AreSafeViews d m t plans (preceded n log) (map (later n) receivers)
 safe_for_the_log n d m t plans log receivers h = record {
-  texts = of_others (ShowsTextOnAir d m t plans) (ShowsTextOnAir d m t plans) (judging n log) (later n)
-      (shows_text n d m t plans log) receivers h.texts;
-  names = of_others (ShowsNameOnAir d m t plans) (ShowsNameOnAir d m t plans) (judging n log) (later n)
-      (shows_name n d m t plans log) receivers h.names;
-  tags = of_others (ShowsTagsOfItsText d m plans (from_first_text (preceded n log)))
-      (ShowsTagsOfItsText d m plans (preceded n log)) (judging n log) (later n) (shows_tags n d m t plans log) receivers
-      h.tags;
+  texts = search (arith, of_others, shows_text);
+  names = search (arith, of_others, shows_name);
+  tags = search (arith, of_others, shows_tags);
   neighbours = of_others (λ x. All (AreNeighbours m plans x) (map (judging n log) receivers))
       (λ x. All (AreNeighbours m plans x) (map (later n) receivers)) (judging n log) (later n)
       (λ x all. of_others (AreNeighbours m plans (judging n log x)) (AreNeighbours m plans (later n x)) (judging n log)
@@ -263,15 +242,7 @@ pub safe_recording : PassesExactlyByPlans → PlansOfARecordingAreSafe → LateI
     → WhatPassesAsARecordingIsSafe
 safe_recording law own late slow form m k log pos p =
     let w = (law form (m + k) (from_first_text (preceded (m + k) log)) (omega arith)).0 p in
-    record {
-      plans = w.plans;
-      lawful = w.lawful;
-      dense = w.dense;
-      safe = λ t receivers all. own form (m + k) m t (m + k) w.plans log receivers w.lawful
-          (All-weaker (ListensTo k m t log) (ListensByOwnClock (m + k) m t log) (late_is_own late slow m k t log)
-          receivers all);
-      own_clocks = λ now receivers all. own form (m + k) m now (m + k) w.plans log receivers w.lawful all;
-    }
+    search (arith, late_is_own)
 
 -- the audit of a running station judged the log with m + k slots in front
 pub safe_as_it_is : WhatPassesAsARecordingIsSafe → (form : TextForm) (m k : ℕ) (start : LogStart)

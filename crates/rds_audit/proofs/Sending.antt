@@ -30,8 +30,7 @@ one_mark (x ∷ before) t m n (inr p) (inr q) = one_mark before t m n p q
 -- a mark of an earlier slot than the newest
 pub sent_before : (x : Mark) (before : List Mark) (t : ℕ) (m : Mark) → t < length before → IsMarkIn (x ∷ before) t m
     → IsMarkIn before t m
-sent_before x before t m h (inl s) = absurd (omega arith)
-sent_before x before t m h (inr s) = s
+sent_before x before t m h h5 = grind (arith, nat_tests)
 
 -- an older slot that has a mark had it before the newest slot
 pub marked_before : (x : Mark) (before : List Mark) (t : ℕ) → t < length before → IsMarked (x ∷ before) t
@@ -74,23 +73,8 @@ pub dense_before : (d : ℕ) (plan : List Broadcast) (x : Mark) (before : List M
 dense_before d plan x before h = record {
   fragments = λ k b u t q p n cu ct su st lt.
       let w = h.fragments k b u t q p n cu ct (inr su) (inr st) lt in
-      let now = early before t (Sends p) st in
-      record {
-        slot = w.slot;
-        marked = marked_before x before w.slot (omega (arith, w.before)) w.marked;
-        from = w.from;
-        before = w.before;
-        near = w.near;
-      };
+      search (arith, early, marked_before);
   tags = λ k b t pair n ct st.
       let w = h.tags k b t pair n ct (inr st) in
-      let now = early before t (Tagged pair) st in
-      record {
-        slot = w.slot;
-        fragment = w.fragment;
-        is_sent = sent_before x before w.slot (Sends w.fragment)
-            (omega (arith, w.before)) w.is_sent;
-        covers = w.covers;
-        before = w.before;
-      };
+      search (arith, early, sent_before);
 }

@@ -1,8 +1,7 @@
 -- Lemmas: the bytes that fragments have at an address, and the lengths that they allow together.
-use Rattle.std.proofs.lemmas.Bool.Decides.{nat_tests}
+use Rattle.std.proofs.lemmas.Bool.Decides.{nat_tests, eqb_tells}
 use Rattle.std.proofs.Common.{◌≡◌, ◌⊎◌, ◌≤◌, ℕ, Bool, true, false, nat_eq, List, [], ◌∷◌, Option, Some, None, cond}
 use Rattle.std.proofs.Common.{refl, sym, ap, ◌∙◌, inl, inr, arith, ◌<◌, length, get_or}
-use Rattle.std.proofs.lemmas.Bool.Decides.{eqb_tells}
 use Rattle.std.proofs.lemmas.List.{get_or-replicate, get_or-set_other, get_or-set_same, length-set}
 use Rattle.std.specs.Prelude.{is_some}
 use Rattle.std.specs.List.{AllByRecursion}
@@ -46,14 +45,8 @@ unchanged_by p older u h = (each older (λ q i. i), u)
   where
     same : (q : Fragment) → IsIn q older → q.address ≡ p.address
         → (sent_last p.address older ≡ None) ⊎ (sent_last p.address older ≡ Some p.bytes) → q.bytes ≡ p.bytes
-    same q i e (inl none) =
-        let some : sent_last p.address older ≡ Some q.bytes = ap (λ a. sent_last a older) (sym e) ∙ cell_of older q u i
-        in
-        absurd (cc)
-    same q i e (inr some) =
-        let mine : sent_last p.address older ≡ Some q.bytes = ap (λ a. sent_last a older) (sym e) ∙ cell_of older q u i
-        in
-        cc
+    same q i e (inl none) = search (arith, cell_of)
+    same q i e (inr some) = search (arith, cell_of)
 
     each : (rest : List Fragment) → ((q : Fragment) → IsIn q rest → IsIn q older)
         → AllByRecursion (λ (q : Fragment). q.address ≡ p.address → q.bytes ≡ p.bytes) rest
@@ -117,11 +110,7 @@ all_allow allowed longest n (p ∷ older) lo hi each = by (allowed p.address p.b
         → AllByRecursion (λ (p : Fragment). Allows n (allowed p.address p.bytes)) older)
         → AllByRecursion (λ (p : Fragment). Allows n (allowed p.address p.bytes)) (p ∷ older)
     by None e lo hi some rest = (let bad : false ≡ true = ap is_some (sym e) ∙ some in absurd (cc))
-    by (Some l) e lo hi some rest = rw e (
-      (omega (arith, lo), omega (arith, hi)),
-      rest (omega (arith, lo))
-          (omega (arith, hi)),
-    )
+    by (Some l) e lo hi some rest = search arith
 
 -- no fragments allow a length above the longest
 pub longest_at_most : (allowed : ℕ → List ℕ → Option Lengths) (longest : ℕ) (fragments : List Fragment)

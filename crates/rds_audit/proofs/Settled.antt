@@ -1,9 +1,9 @@
 -- Lemmas: what a receiver shows stays the same if the tags that it heard before the first text segment of a log are
 -- left out of its input.
 use Rattle.std.proofs.lemmas.Bool.Decides.{nat_tests}
-use Rattle.std.proofs.Common.{◌≡◌, ◌⊎◌, ◌+◌, ◌<◌, ◌&&◌, ℕ, suc, Bool, true, false, List, [], ◌∷◌, Option, Some, None}
-use Rattle.std.proofs.Common.{length, refl, sym, ap, ◌∙◌, inl, inr, arith}
-use Rattle.std.specs.Prelude.{nat_lt, if◌then◌else◌}
+use Rattle.std.proofs.Common.{◌≡◌, ◌⊎◌, ◌+◌, ◌<◌, ℕ, suc, Bool, true, false, List, [], ◌∷◌, Option, Some, None}
+use Rattle.std.proofs.Common.{length, refl, ap, inl, inr, arith}
+use Rattle.std.specs.Prelude.{nat_lt}
 use Rattle.std.proofs.lemmas.Bool.{ltb-true}
 use Rattle.rds_fields.specs.declared.message.Message.{Message}
 use Rattle.rds_fields.specs.declared.message.Message.TheVariants.{Text, Announce, Tags}
@@ -11,7 +11,7 @@ use Rattle.rds_fields.specs.Tag.{PairFields}
 use Rattle.rds_receiver.specs.Receipts.{Segment, name_fragment, picked, segments, text_fragment}
 use Rattle.rds_receiver.specs.declared.fragment.Fragment.{Fragment}
 use Rattle.rds_receiver.specs.Run.{begins_in, run, run_at, run_before}
-use Rattle.rds_receiver.specs.Tags.{is_known, or_before, pair_from, pair_held, pair_since, says_of_rtplus}
+use Rattle.rds_receiver.specs.Tags.{is_known, pair_from, pair_held, pair_since}
 use Rattle.rds_safety.specs.Late.{HasEntry}
 use Rattle.rds_safety.proofs.Entries.{before_end}
 use Rattle.rds_audit.proofs.FirstTexts.{settled, text_before}
@@ -61,8 +61,7 @@ was_heard_as log first (h ∷ heard) (o ∷ origins) t origin entry e (inr a) (i
 
 picked_same : (pick : Message → Option Fragment) → ((pair : PairFields) → pick (Tags pair) ≡ None)
     → (is : Bool) (h : Option Message) → picked pick (settled is h) ≡ picked pick h
-picked_same pick none is (Some (Tags pair)) = grind (arith, nat_tests)
-picked_same pick none is _ = refl
+picked_same pick none is h = grind (arith, nat_tests)
 
 module _ (pick : Message → Option Fragment) (none : (pair : PairFields) → pick (Tags pair) ≡ None)
     (log : List (Option Message)) (first : ℕ) where
@@ -75,9 +74,7 @@ module _ (pick : Message → Option Fragment) (none : (pair : PairFields) → pi
 
   run_same : (m : ℕ) (heard : List (Option Message)) (origins : List (Option ℕ))
       → run_at pick m first (settle log heard origins) ≡ run_at pick m first heard
-  run_same m [] origins = refl
-  run_same m (h ∷ heard) [] = refl
-  run_same m (h ∷ heard) (o ∷ origins) = grind (arith, nat_tests, settle_long, segments_same)
+  run_same m heard origins = grind (arith, nat_tests, settle_long, segments_same)
 
 -- the run of texts is the same as settled
 pub texts_same : (log : List (Option Message)) (m first : ℕ) (heard : List (Option Message)) (origins : List (Option ℕ))
@@ -93,9 +90,7 @@ names_same log m first heard origins = run_same name_fragment (λ _. refl) log f
 
 known_if : (is : Bool) (h : Option Message) (before after : List (Option Message)) → is_known after ≡ is_known before
     → is_known (settled is h ∷ after) ≡ is_known (h ∷ before)
-known_if is (Some (Announce code bits aid)) before after e = ap (or_before (says_of_rtplus code aid)) e
-known_if is (Some (Tags pair)) before after e = grind (arith, nat_tests)
-known_if is _ before after e = e
+known_if is h before after e = grind (arith, nat_tests)
 
 known_same : (log heard : List (Option Message)) (origins : List (Option ℕ))
     → is_known (settle log heard origins) ≡ is_known heard
@@ -114,19 +109,12 @@ module _ (log : List (Option Message)) (first since : ℕ) where
       → TagsCount log first since (h ∷ heard) (o ∷ origins) → TagsCount log first since heard origins
   older_count h heard o origins count v s pair late a b = count v s pair late (inr a) (inr b)
 
-  -- the newest tags
-  newest_pair : (pair : PairFields) (n m : ℕ) (k l : Bool) (x y : Option PairFields) → n ≡ m → k ≡ l → x ≡ y
-      → (if k && nat_lt since (first + n) then Some pair else x) ≡ (if l && nat_lt since (first + m) then Some pair
-      else y)
-  newest_pair pair n m k l x y e f g = rw (e, f, g)
-
   pair_if : (is : Bool) (pair : PairFields) (before after : List (Option Message)) → length after ≡ length before
       → is_known after ≡ is_known before → pair_since first since after ≡ pair_since first since before
       → (is ≡ false → nat_lt since (first + length before) ≡ true → ⊥)
       → pair_since first since (settled is (Some (Tags pair)) ∷ after) ≡ pair_since first since (Some (Tags pair)
       ∷ before)
-  pair_if true pair before after e f g count = grind (arith, nat_tests, newest_pair)
-  pair_if false pair before after e f g count = grind (arith, nat_tests)
+  pair_if is pair before after e f g count = grind (arith, nat_tests)
 
   pair_same : (heard : List (Option Message)) (origins : List (Option ℕ)) → length origins ≡ length heard
       → TagsCount log first since heard origins
@@ -134,8 +122,7 @@ module _ (log : List (Option Message)) (first since : ℕ) where
   pair_same [] origins e count = refl
   pair_same (h ∷ heard) [] e count = refl
   pair_same (Some (Announce code bits aid) ∷ heard) (o ∷ origins) e count =
-      let older = older_count (Some (Announce code bits aid)) heard o origins count in
-      grind (arith, nat_tests, pair_same heard origins (omega arith) older)
+      grind (arith, nat_tests, pair_same heard origins (omega arith))
   pair_same (Some (Tags pair) ∷ heard) (o ∷ origins) e count =
       pair_if (counts log o) pair heard (settle log heard origins) (settle_long log heard origins)
       (known_same log heard origins)
@@ -160,8 +147,7 @@ CameIn slot (g ∷ older) = (slot ≡ g.slot) ⊎ CameIn slot older
 
 first_or : (g : Segment) (rest : List Segment) (since : ℕ) → begins_in (g ∷ rest) ≡ Some since
     → (since ≡ g.slot) ⊎ (begins_in rest ≡ Some since)
-first_or g [] since e = inl (let same : g.slot ≡ since = cc in sym same)
-first_or g (h ∷ older) since e = inr e
+first_or g rest since e = grind (arith, nat_tests)
 
 came_before : (m : ℕ) (f : Bool) (s : ℕ) (gs : List Segment) (since : ℕ) → begins_in (run_before m f s gs) ≡ Some since
     → CameIn since gs
@@ -169,8 +155,7 @@ came_before m f s [] since e = absurd (cc)
 came_before m f s (g ∷ older) since e = grind (arith, nat_tests, came_before m f g.slot older since, first_or)
 
 came_in : (m t : ℕ) (gs : List Segment) (since : ℕ) → begins_in (run m t gs) ≡ Some since → CameIn since gs
-came_in m t [] since e = absurd (cc)
-came_in m t (g ∷ older) since e = grind (arith, nat_tests, first_or, came_before)
+came_in m t gs since e = grind (arith, nat_tests, first_or, came_before)
 
 -- a text segment was heard in this slot
 pub record HeardText (first : ℕ) (heard : List (Option Message)) (slot : ℕ) : Type 0 where
@@ -194,20 +179,16 @@ text_came first (m ∷ heard) slot h = still_text first m heard slot (text_came 
 
 begins_with_text : (m first : ℕ) (heard : List (Option Message)) (since : ℕ)
     → begins_in (run_at text_fragment m first heard) ≡ Some since → HeardText first heard since
-begins_with_text m first [] since e = absurd (cc)
-begins_with_text m first (h ∷ heard) since e = grind (arith, nat_tests, text_came, came_in)
+begins_with_text m first heard since e = grind (arith, nat_tests, text_came, came_in)
 
 -- if the tags count that came later than a text segment, the pair held is the same
 pub held_same : (log : List (Option Message)) (m first : ℕ) (heard : List (Option Message)) (origins : List (Option ℕ))
     → length origins ≡ length heard
     → ((since : ℕ) → HeardText first heard since → TagsCount log first since heard origins)
     → pair_held m first (settle log heard origins) ≡ pair_held m first heard
-held_same log m first heard origins e count = ap (λ (gs : List Segment). pair_from first (begins_in gs)
-    (settle log heard origins)) (texts_same log m first heard origins)
-    ∙ by (begins_in (run_at text_fragment m first heard)) refl
+held_same log m first heard origins e count = search (arith, texts_same, by)
   where
     by : (since : Option ℕ) → begins_in (run_at text_fragment m first heard) ≡ since
         → pair_from first since (settle log heard origins) ≡ pair_from first since heard
     by None is = refl
-    by (Some since) is = pair_same log first since heard origins e
-        (count since (begins_with_text m first heard since is))
+    by (Some since) is = search (arith, pair_same, begins_with_text)

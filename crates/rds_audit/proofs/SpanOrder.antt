@@ -1,16 +1,14 @@
 -- Lemmas: the slots of spans, and the same bytes.
 use Rattle.std.proofs.lemmas.Bool.Decides.{nat_tests}
-use Rattle.std.proofs.Common.{◌≡◌, ◌+◌, ◌<◌, ◌≤◌, ℕ, suc, Bool, true, false, nat_lt, List, [], ◌∷◌}
-use Rattle.std.proofs.Common.{length, refl, arith}
+use Rattle.std.proofs.Common.{◌≡◌, ◌+◌, ◌<◌, ◌≤◌, ℕ, suc, Bool, true, false, nat_lt, List, [], ◌∷◌, length, refl, arith}
 use Rattle.std.proofs.lemmas.Bool.{cond_both, ltb-false}
 use Rattle.rds_fields.specs.Tag.{PairFields}
 use Rattle.rds_receiver.specs.declared.fragment.Fragment.{Fragment}
 use Rattle.rds_receiver.specs.Run.{is_same}
 use Rattle.rds_audit.specs.Lengths.{Gauge, changes, same_bytes}
-use Rattle.rds_audit.specs.Listing.{Span, joined, span_with, spans, spans_after, spans_tagged}
-use Rattle.rds_audit.specs.Listing.{turned}
+use Rattle.rds_audit.specs.Listing.{Span, joined, span_with, spans, spans_after, spans_tagged, turned}
 use Rattle.rds_audit.specs.Reigns.{Reign, opened_from}
-use Rattle.rds_safety.specs.Marks.{Mark, Nothing, Sends, Tagged}
+use Rattle.rds_safety.specs.Marks.{Mark}
 use Rattle.rds_audit.proofs.SentCells.{same_number}
 
 -- ---- the slots of spans
@@ -76,15 +74,13 @@ after_in_order g d now p (r ∷ older) pos h =
 
 tagged_in_order : (now : ℕ) (pair : PairFields) (rs : List Span) → AreInOrder now rs
     → AreInOrder (suc now) (spans_tagged now pair rs)
-tagged_in_order now pair [] h = tt
-tagged_in_order now pair (r ∷ older) h = grind (arith, nat_tests, more_in_order, all_later)
+tagged_in_order now pair rs h = grind (arith, nat_tests, more_in_order, all_later)
 
 -- each span started after the one before it, and ended before now
 pub in_order : (g : Gauge) (d : ℕ) (sent : List Mark) → 0 < d → AreInOrder (length sent) (spans g d sent)
 in_order g d [] pos = tt
-in_order g d (Nothing ∷ before) pos = all_later (length before) (spans g d before) (in_order g d before pos)
-in_order g d (Sends p ∷ before) pos = grind (arith, nat_tests, in_order g d before pos, after_in_order)
-in_order g d (Tagged pair ∷ before) pos = grind (arith, nat_tests, in_order g d before pos, tagged_in_order)
+in_order g d (x ∷ before) pos =
+    grind (arith, nat_tests, in_order g d before pos, all_later, after_in_order, tagged_in_order)
 
 -- ---- the same bytes
 

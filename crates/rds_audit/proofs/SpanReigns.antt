@@ -1,12 +1,10 @@
 -- Lemmas: up to the first fault of a service, its spans have its reigns and break no rule; marks that add nothing to
 -- its list pass.
 use Rattle.std.proofs.lemmas.Bool.Decides.{nat_tests}
-use Rattle.std.proofs.Common.{◌≡◌, ◌+◌, ◌<◌, ◌≤◌, not, ℕ, true, false, nat_lt}
-use Rattle.std.proofs.Common.{List, [], ◌∷◌, length, refl, sym, ap, ◌∙◌, inl, inr}
-use Rattle.std.proofs.Common.{arith}
+use Rattle.std.proofs.Common.{◌≡◌, ◌+◌, ◌<◌, ◌≤◌, not, ℕ, true, false, nat_lt, List, [], ◌∷◌, length, refl, sym, ap}
+use Rattle.std.proofs.Common.{◌∙◌, inl, inr, arith}
 use Rattle.std.specs.List.{AllByRecursion, list_any}
-use Rattle.std.proofs.lemmas.Bool.{le-ltb}
-use Rattle.std.proofs.lemmas.Bool.{ltb-false, not-false, or_from, or_parts}
+use Rattle.std.proofs.lemmas.Bool.{le-ltb, not-false, or_from}
 use Rattle.rds_fields.specs.Tag.{PairFields}
 use Rattle.rds_receiver.specs.declared.fragment.Fragment.{Fragment}
 use Rattle.rds_safety.specs.Flags.{is_other_flag, is_same_flag, same_or_other}
@@ -14,35 +12,22 @@ use Rattle.rds_safety.specs.Lawful.{Kind}
 use Rattle.rds_safety.specs.Marks.{Mark, Nothing, Sends, Tagged}
 use Rattle.rds_audit.specs.declared.fault_set.FaultSet.{FaultSet}
 use Rattle.rds_audit.specs.Lengths.{AllJoin, Gauge, IsExact, IsFormed, changes, lengths_of, tags_end}
-use Rattle.rds_audit.specs.Listing.{Span, added, broken_by, broken_newest, first_of_span, fits, joined}
-use Rattle.rds_audit.specs.Listing.{none_broken, reigns_of, span_with, spans, spans_after}
-use Rattle.rds_audit.specs.Listing.{spans_tagged, turned}
+use Rattle.rds_audit.specs.Listing.{Span, added, broken_by, broken_newest, first_of_span, fits, joined, none_broken}
+use Rattle.rds_audit.specs.Listing.{reigns_of, span_with, spans, spans_after, spans_tagged, turned}
 use Rattle.rds_audit.specs.ListingLaws.{IsFormedMark}
 use Rattle.rds_audit.specs.Reigns.{Reign, SentTags, after_fragment, after_tags, joins, reigns}
 use Rattle.rds_audit.specs.Reigns.{opened_from, with_fragment, with_tags}
 use Rattle.rds_audit.specs.Rules.{CanBeBroadcast, HaveOneValue, IsAfterFragment, Passes}
 use Rattle.rds_audit.proofs.Keeping.{AreKept, Keeps, keeps}
-use Rattle.rds_audit.proofs.Sending.{TagsAreAfter, after_later, early, fragment_is_marked, sent_before}
+use Rattle.rds_audit.proofs.Sending.{TagsAreAfter, after_later, early, sent_before}
 use Rattle.rds_audit.proofs.SpanSteps.{sets_are}
 
 -- ---- a service that passes passed before its newest mark
 
-fragment_before : (d slot : ℕ) (kind : Kind) (p : Fragment) (rs : List Reign)
-    → AllByRecursion (CanBeBroadcast d kind) (after_fragment d slot p rs) → AllByRecursion (CanBeBroadcast d kind) rs
-fragment_before d slot kind p [] all = tt
-fragment_before d slot kind p (r ∷ older) all = grind (arith, nat_tests)
-
-tags_before : (d slot : ℕ) (kind : Kind) (pair : PairFields) (rs : List Reign)
-    → AllByRecursion (CanBeBroadcast d kind) (after_tags slot pair rs) → AllByRecursion (CanBeBroadcast d kind) rs
-tags_before d slot kind pair [] all = tt
-tags_before d slot kind pair (r ∷ older) all = search
-
 reigns_before : (d : ℕ) (kind : Kind) (mark : Mark) (before : List Mark)
     → AllByRecursion (CanBeBroadcast d kind) (reigns d (mark ∷ before))
     → AllByRecursion (CanBeBroadcast d kind) (reigns d before)
-reigns_before d kind Nothing before all = all
-reigns_before d kind (Sends p) before all = fragment_before d (length before) kind p (reigns d before) all
-reigns_before d kind (Tagged pair) before all = tags_before d (length before) kind pair (reigns d before) all
+reigns_before d kind mark before all = grind (arith, nat_tests)
 
 -- a service that passes passed before its newest mark
 pub service_passed_before : (d : ℕ) (kind : Kind) (mark : Mark) (before : List Mark) → Passes d kind (mark ∷ before)
@@ -70,8 +55,7 @@ tagged_some : (d : ℕ) (kind : Kind) (pair : PairFields) (before : List Mark) (
     → Passes d kind (Tagged pair ∷ before) → rs ≡ [] → ⊥
 tagged_some d kind pair before [] k passes e =
     let w = passes.tagged (length before) pair (inl (refl, refl)) in
-    let sent = sent_before (Tagged pair) before w.slot (Sends w.fragment) w.before w.is_sent in
-    k.1 w.slot (fragment_is_marked before w.slot w.fragment sent) w.fragment sent
+    grind (arith, nat_tests)
 tagged_some d kind pair before (r ∷ older) k passes e = (cc)
 
 -- ---- the rules that a span breaks
@@ -140,11 +124,7 @@ module _ (g : Gauge) (exact : IsExact g) (d : ℕ) where
       → AreReigns g d before rs (reigns_of rs)
       → AreReigns g d (Sends p ∷ before) (spans_after g d (length before) p rs) (after_fragment d (length before) p
       (reigns_of rs))
-  fragment_reigns p before [] was all h =
-      record {
-        same = refl;
-        none = breaks_none g exact d (first_of_span (length before) p 0 false false) all.0 refl refl;
-      }
+  fragment_reigns p before [] was all h = search (arith, breaks_none)
   fragment_reigns p before (r ∷ older) was all h =
       by_fragment g (λ (rs : List Span) (regs : List Reign). AllByRecursion (CanBeBroadcast d g.kind) regs
       → AreReigns g d (Sends p ∷ before) rs regs) d (length before) p r older
@@ -173,17 +153,10 @@ module _ (g : Gauge) (exact : IsExact g) (d : ℕ) where
         (ap (λ (f : FaultSet). f.changed) h.none) (ap (λ (f : FaultSet). f.early_flag) h.none);
   }
 
-  nothing_reigns : (before : List Mark) (rs : List Span) (regs : List Reign) → AreReigns g d before rs regs
-      → AreReigns g d (Nothing ∷ before) rs regs
-  nothing_reigns before [] regs h = assumption
-  nothing_reigns before (r ∷ older) regs h = assumption
-
   -- the spans of a service that passes have its reigns, and the newest breaks no rule
   pub are_reigns : (sent : List Mark) → Passes d g.kind sent → AreReigns g d sent (spans g d sent) (reigns d sent)
   are_reigns [] passes = record { same = refl; none = refl }
-  are_reigns (Nothing ∷ before) passes =
-      let passed = service_passed_before d g.kind Nothing before passes in
-      grind (arith, nat_tests, are_reigns before passed, nothing_reigns)
+  are_reigns (Nothing ∷ before) passes = grind (arith, nat_tests, are_reigns before)
   are_reigns (Sends p ∷ before) passes =
       let passed = service_passed_before d g.kind (Sends p) before passes in
       let h = are_reigns before passed in
@@ -254,23 +227,7 @@ module _ (g : Gauge) (exact : IsExact g) (d : ℕ) where
       → broken_newest g d (Tagged pair ∷ before) (spans_tagged (length before) pair rs) ≡ none_broken
       → (reigns_of rs ≡ [] → ⊥) × AllByRecursion (CanBeBroadcast d g.kind) (after_tags (length before) pair
       (reigns_of rs))
-  can_be_tagged pair before [] was none = cc (ap (λ (f : FaultSet). f.early_tag) none)
-  can_be_tagged pair before (r ∷ older) was none = (
-    (λ e. (cc)),
-    (
-      record {
-        begun = was.0.begun;
-        lasted = (late, was.0.lasted);
-        one = quiet_one g exact d (record r { reign = with_tags (length before) pair r.reign })
-            (exact.formed r.reign.fragments r.reign.tags was.0.one) (can_be_joined r.reign was.0) none;
-      },
-      was.1,
-    ),
-  )
-    where
-      late : r.reign.start + d ≤ length before
-      late = ltb-false _ _ (or_parts (nat_lt (length before) (r.reign.start + d)) _ (ap (λ (f : FaultSet). f.early_tag)
-          none)).0
+  can_be_tagged pair before rs was none = grind (arith, nat_tests)
 
   -- a mark that adds nothing to marks that pass: they pass with it too
   pub quiet_passes : (mark : Mark) (before : List Mark) → IsFormedMark g.segments mark → Passes d g.kind before

@@ -1,10 +1,8 @@
 -- Lemmas: the state of a service from slot to slot, as a list of faults keeps it.
-use Rattle.std.proofs.Common.{◌≡◌, ◌+◌, ◌*◌, ◌-◌, ◌^◌, ◌<◌, ◌≤◌, ◌&&◌, ◌||◌, not, min, ℕ, zero, suc}
-use Rattle.std.proofs.Common.{Bool, true, false, nat_lt, List, [], ◌∷◌, Some, None, length, cond}
-use Rattle.std.proofs.Common.{refl, sym, ◌∙◌, inl, inr, arith}
+use Rattle.std.proofs.Common.{◌≡◌, ◌+◌, ◌*◌, ◌-◌, ◌^◌, ◌<◌, ◌≤◌, ◌&&◌, ◌||◌, not, min, ℕ, zero, suc, Bool, true, false}
+use Rattle.std.proofs.Common.{nat_lt, List, [], ◌∷◌, Some, None, length, cond, refl, sym, ◌∙◌, inl, inr, arith, get_or}
 use Rattle.std.specs.Prelude.{replicate}
 use Rattle.std.specs.List.{list_any}
-use Rattle.std.proofs.lemmas.Bool.{cases_lt}
 use Rattle.std.proofs.lemmas.Bool.{le-ltb}
 use Rattle.rds_fields.specs.Tag.{PairFields}
 use Rattle.rds_receiver.specs.declared.fragment.Fragment.{Fragment}
@@ -14,20 +12,18 @@ use Rattle.rds_audit.specs.declared.log_start.LogStart.{LogStart}
 use Rattle.rds_audit.specs.declared.fault_set.FaultSet.{FaultSet}
 use Rattle.rds_audit.specs.Ages.{Ages, HoldsAges, Joins, age_of_newest, aged, ages_at}
 use Rattle.rds_audit.specs.AuditAt.{FollowsFrom, HoldsNewestSpans, HoldsSpans, content_of}
-use Rattle.std.proofs.Common.{get_or}
 use Rattle.std.proofs.lemmas.Bool.Decides.{nat_tests}
 use Rattle.rds_audit.proofs.SentCells.{cells_long, cells_sent}
 use Rattle.rds_audit.specs.ReignsState.{ContentState, cell_at, changes_in, no_content}
 use Rattle.rds_audit.specs.Lengths.{Gauge, IsExact, IsFormed, all_fit, changes, lengths_of, measured_after}
 use Rattle.rds_audit.specs.Lengths.{sent_cells, sent_last, tags_end}
-use Rattle.rds_audit.specs.Listing.{Span, added, broken_by, broken_newest, due_after, first_of_span}
-use Rattle.rds_audit.specs.Listing.{is_tagged}
-use Rattle.rds_audit.specs.Listing.{joined, none_broken, not_before, reigns_of, span_with, spans}
-use Rattle.rds_audit.specs.Listing.{spans_after, spans_tagged, turned}
+use Rattle.rds_audit.specs.Listing.{Span, added, broken_by, broken_newest, due_after, first_of_span, is_tagged, joined}
+use Rattle.rds_audit.specs.Listing.{none_broken, not_before, reigns_of, span_with, spans, spans_after, spans_tagged}
+use Rattle.rds_audit.specs.Listing.{turned}
 use Rattle.rds_audit.specs.AuditState.{SpansState, began_before, comes_early, is_turned}
 use Rattle.rds_audit.specs.AuditState.{judged_fragment, opened_in, put_in, repeated_in, tagged_in}
 use Rattle.rds_audit.specs.Recording.{silent_as}
-use Rattle.rds_audit.proofs.AgeSteps.{AreOver, ages_begun, ages_later, ages_renewed, joins_near, near_joins, none_joins}
+use Rattle.rds_audit.proofs.AgeSteps.{AreOver, ages_begun, ages_later, ages_renewed, joins_near, none_joins}
 use Rattle.rds_audit.proofs.HeldAgain.{set_held}
 use Rattle.rds_audit.proofs.Recordings.{silent_length}
 use Rattle.rds_audit.proofs.SpanOrder.{AreInOrder, bytes_same, in_order}
@@ -124,8 +120,7 @@ module _ (g : Gauge) (exact : IsExact g) (few : g.segments ≤ 16) (d : ℕ) (po
       is_joined (λ (rs : List Span). FollowsFrom g d now (Sends p ∷ sent) rs (put_in g p s)
       × (length rs ≡ suc (length older))) p r older s.reigns.ages h.ages on
       (rw (changed_by p r s.reigns.content formed h.content ∙ no_other) (
-        put_follows p r older s formed (ages_renewed d now _ _ _ r.reign (reigns_of older) s.reigns.ages h.ages)
-            h.content h.count h.broken,
+        search (arith, put_follows, ages_renewed),
         refl,
       ))
 
@@ -133,8 +128,7 @@ module _ (g : Gauge) (exact : IsExact g) (few : g.segments ≤ 16) (d : ℕ) (po
   early_same : (r : Span) (older : List Span) (since_before : ℕ) → r.reign.last < now
       → since_before ≡ age_of_newest d now (reigns_of older)
       → nat_lt since_before d ≡ nat_lt now (due_after d r older)
-  early_same r [] since_before over e = grind (arith, nat_tests)
-  early_same r (q ∷ rest) since_before over e = grind (arith, nat_tests)
+  early_same r older since_before over e = grind (arith, nat_tests)
 
   -- the start of a span that turned
   turned_start : (r : Span) (older : List Span) (since_last since_before : ℕ) → AreInOrder now (r ∷ older)
@@ -142,8 +136,7 @@ module _ (g : Gauge) (exact : IsExact g) (few : g.segments ≤ 16) (d : ℕ) (po
       → cond (nat_lt since_before d) (since_last - 1) (min (since_last - 1) (since_before - d))
       ≡ min (now - cond (nat_lt now (due_after d r older)) (r.reign.last + 1)
       (due_after d r older)) d
-  turned_start r [] since_last since_before order last before = grind (arith, nat_tests)
-  turned_start r (q ∷ rest) since_last since_before order last before = grind (arith, nat_tests)
+  turned_start r older since_last since_before order last before = grind (arith, nat_tests)
 
   -- a span is opened that started in slot `start`
   begins : (p : Fragment) (rs : List Span) (start : ℕ) (is_changed is_early : Bool) (s : SpansState)
@@ -162,12 +155,7 @@ module _ (g : Gauge) (exact : IsExact g) (few : g.segments ≤ 16) (d : ℕ) (po
       → s.count ≡ min (suc (length older)) (2 ^ 64 - 1)
       → FollowsFrom g d now (Sends p ∷ sent) (turned d now p is_changed r older)
       (put_in g p (opened_in d g.longest is_changed p.flag s))
-  turns p r older is_changed s formed order ages is count =
-      begins p (r ∷ older) (cond (nat_lt now (due_after d r older)) (r.reign.last + 1)
-      (due_after d r older)) is_changed (nat_lt now (due_after d r older)) s
-      formed ages
-      (rw is (turned_start r older s.reigns.ages.since_last s.reigns.ages.since_before order ages.newest ages.second))
-      (rw is (early_same r older s.reigns.ages.since_before order.0.over ages.second)) count
+  turns p r older is_changed s formed order ages is count = search (arith, begins, turned_start, early_same)
 
   -- so does the state after a fragment that changes the newest span
   pub changed_follows : (p : Fragment) (rs : List Span) (s : SpansState) → IsFormed g.segments p → AreInOrder now rs
@@ -192,14 +180,9 @@ module _ (g : Gauge) (exact : IsExact g) (few : g.segments ≤ 16) (d : ℕ) (po
   opened_follows p (r ∷ older) s formed order h apart = elim (same_or_other r.reign.flag p.flag) [
     | inl e ↦
         let mine = is_same_flag p.flag s.reigns.ages.flag (sym (h.ages.current.1 ∙ e)) in
-        let away : r.reign.last + d ≤ now = elim (cases_lt now (r.reign.last + d)) [
-          | inl near ↦ absurd (apart (near_joins d now p.flag r.reign (reigns_of older) s.reigns.ages pos
-              h.ages e near))
-          | inr far ↦ far
-        ] in
+        let away : r.reign.last + d ≤ now = grind (arith, nat_tests) in
         rw (is_same_flag r.reign.flag p.flag e, le-ltb now (r.reign.last + d) away) (
-          begins p (r ∷ older) (r.reign.last + d) false false s formed h.ages
-              (rw mine (omega (arith, h.ages.newest))) (rw mine) h.count,
+          search (arith, begins),
           refl,
         )
     | inr ne ↦
@@ -228,8 +211,7 @@ module _ (g : Gauge) (exact : IsExact g) (few : g.segments ≤ 16) (d : ℕ) (po
 -- so does the state after a slot without a mark
 pub nothing_follows : (g : Gauge) (d : ℕ) (sent : List Mark) (rs : List Span) (s : SpansState)
     → FollowsFrom g d (length sent) sent rs s → FollowsFrom g d (length sent) (Nothing ∷ sent) rs s
-nothing_follows g d sent [] s h = assumption
-nothing_follows g d sent (r ∷ older) s h = assumption
+nothing_follows g d sent rs s h = grind (arith, nat_tests)
 
 -- the reigns of spans are over
 reigns_over : (slot : ℕ) (rs : List Span) → AreInOrder slot rs → AreOver slot (reigns_of rs)

@@ -2,10 +2,9 @@
 -- `least` to `most`; of texts with padding only the greatest length that all fragments allow is kept. A reign has a
 -- value exactly if no fragment changed it, and some length is allowed by all of its fragments and reaches the ends of
 -- its tags. Lists have the newest first.
-use Rattle.std.specs.Prelude.{◌≡◌, ◌<◌, ◌≤◌, ◌+◌, ◌*◌, ◌==◌, ◌&&◌, ◌||◌, [], ◌∷◌}
-use Rattle.std.specs.Prelude.{ℕ, zero, suc, Bool, true, false, List, Option, Some, None}
-use Rattle.std.specs.Prelude.{length, max, min, nat_le, nat_lt, not, replicate, slice_index, slice_index_or, slice_set}
-use Rattle.std.specs.Prelude.{if◌then◌else◌}
+use Rattle.std.specs.Prelude.{◌≡◌, ◌<◌, ◌≤◌, ◌+◌, ◌*◌, ◌==◌, ◌&&◌, ◌||◌, [], ◌∷◌, ℕ, zero, suc, Bool, true, false, List}
+use Rattle.std.specs.Prelude.{Option, Some, None, length, max, min, nat_le, nat_lt, not, replicate, slice_index}
+use Rattle.std.specs.Prelude.{slice_index_or, slice_set, if◌then◌else◌}
 use Rattle.std.specs.List.{AllByRecursion}
 use Rattle.rds_fields.specs.Tag.{PairFields, TagFields, end_of}
 use Rattle.rds_assembly.specs.Body.{space}

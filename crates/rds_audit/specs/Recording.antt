@@ -1,8 +1,7 @@
 -- A log that begins in the middle (this project's own rule). A recording begins while its station is on air. So its
 -- first text may have started at any time before, and its first tags may be of a text that was sent before it. Lists
 -- have the newest first.
-use Rattle.std.specs.Prelude.{◌++◌, ℕ, Bool, true, false, List, [], ◌∷◌, Option, Some, None, replicate}
-use Rattle.std.specs.Prelude.{if◌then◌else◌}
+use Rattle.std.specs.Prelude.{◌++◌, ℕ, Bool, true, false, List, [], ◌∷◌, Option, Some, None, replicate, if◌then◌else◌}
 use Rattle.rds_fields.specs.declared.message.Message.{Message}
 use Rattle.rds_fields.specs.declared.message.Message.TheVariants.{Text, Tags}
 use Rattle.rds_audit.specs.declared.log_start.LogStart.{LogStart}

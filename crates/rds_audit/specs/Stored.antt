@@ -5,8 +5,7 @@ use Rattle.rds_audit.specs.Ages.{Ages}
 use Rattle.rds_audit.specs.ReignsState.{ContentState, ReignsState}
 use Rattle.rds_audit.specs.AuditState.{AuditState, SpansState, form_if, start_if}
 use Rattle.rds_audit.specs.declared.audit.AuditFault.{AuditFault}
-use Rattle.rds_audit.specs.declared.audit.AuditFault.TheVariants.{Changed, NotOneText, EarlyFlag}
-use Rattle.rds_audit.specs.declared.audit.AuditFault.TheVariants.{EarlyTag, TagOutside}
+use Rattle.rds_audit.specs.declared.audit.AuditFault.TheVariants.{Changed, NotOneText, EarlyFlag, EarlyTag, TagOutside}
 use Rattle.rds_audit.specs.declared.stored.StoredCell.{StoredCell}
 use Rattle.rds_audit.specs.declared.fault_set.FaultSet.{FaultSet}
 use Rattle.rds_audit.specs.declared.stored.StoredAudit.{StoredAudit}

@@ -1,3 +1,5 @@
+use Rattle.std.proofs.Common.{arith}
+use Rattle.std.proofs.lemmas.Bool.Decides.{nat_tests}
 use Rattle.rds_audit.specs.AuditLaws.{PlansOfARecordingAreSafe}
 use Rattle.rds_safety.specs.Laws.{LawfulPlansAreSafeByOwnClocksAs}
 use Rattle.rds_audit.proofs.PassedLogs.{by_form}
@@ -9,7 +11,4 @@ returns c =
     let by_plans : PlansOfARecordingAreSafe = safe_by_own_clocks
     (by_form LawfulPlansAreSafeByOwnClocksAs c.safe_by_plans.ensures.own_clocks
     c.safe_by_padded_plans.ensures.own_clocks) in
-    record {
-      by_plans = by_plans;
-      passes = safe_recording c.passes_by_plans.ensures by_plans c.own_clocks.ensures.late c.own_clocks.ensures.slow;
-    }
+    grind (arith, nat_tests, safe_by_own_clocks, by_form, safe_recording)

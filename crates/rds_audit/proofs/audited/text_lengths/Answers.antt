@@ -1,4 +1,5 @@
-use Rattle.std.proofs.Common.{◌≡◌, ◌+◌, ◌-◌, ◌*◌, length, drop, take, sym, ◌∙◌, arith, rules}
+use Rattle.std.proofs.lemmas.Bool.Decides.{nat_tests}
+use Rattle.std.proofs.Common.{◌≡◌, ◌+◌, ◌-◌, length, drop, take, arith, rules}
 use Rattle.std.proofs.lemmas.List.{length-drop, take_all}
 use Rattle.rds_audit.proofs.LengthSteps.{ended, spaces_are, then_some_is}
 use Rattle.rds_audit.proofs.audited.text_lengths.Goals as goal
@@ -11,6 +12,4 @@ returns-then-byte-eq-CARRIAGE_RETURN c =
     take_all _ _ (omega (arith, length-drop (c.loop-place.place + 1) c.args.bytes)) in
     let blank = spaces_are (drop (c.loop-place.place + 1) c.args.bytes) c.are_spaces.result
     (rw rest at c.are_spaces.ensures) in
-    c.then_some.ensures ∙ then_some_is _ c.are_spaces.result _ blank
-    ∙ sym (ended (4 * c.args.address) c.loop-place.place c.args.bytes (omega (arith, c.loop-place-test.true))
-    c.if-byte-eq-CARRIAGE_RETURN.true) ∙ sym c.loop-place.invariant
+    grind (arith, nat_tests, take_all, length-drop, spaces_are, then_some_is, ended)

@@ -1,9 +1,10 @@
-use Rattle.std.proofs.Common.{◌≡◌, ◌∙◌, Some, ap, inl, inr, refl, sym}
+use Rattle.std.proofs.Common.{arith, ◌≡◌, ◌∙◌, Some, ap, inl, inr, refl, sym}
+use Rattle.std.proofs.lemmas.Bool.Decides.{nat_tests}
 use Rattle.rds_fields.specs.declared.message.Message.TheVariants.{Tags}
 use Rattle.rds_receiver.specs.Receipts.{name_of, text_of}
 use Rattle.rds_audit.specs.Stored.{audit_stored}
 use Rattle.rds_audit.proofs.ListingSteps.{names_listed, nothing_listed, text_open, texts_listed}
-use Rattle.rds_audit.proofs.Recordings.{announcement_counts, name_counts, other_counts, tags_complete, tags_count}
+use Rattle.rds_audit.proofs.Recordings.{announcement_counts, name_counts, tags_complete, tags_count}
 use Rattle.rds_audit.proofs.Recordings.{tags_silent, text_counts}
 use Rattle.rds_audit.proofs.audit.Audit.hear.Goals as goal
 
@@ -15,8 +16,7 @@ returns-in-Text-clause-lists c =
 
 pub returns-in-Name-clause-lists : goal.returns-in-Name-clause-lists
 returns-in-Name-clause-lists c =
-    let is : c.args.message ≡ name_of c.new-in-Name.result = c.in-Name.is
-    ∙ sym (ap name_of c.new-in-Name.ensures.place) in
+    let is : c.args.message ≡ name_of c.new-in-Name.result = search arith in
     rw (← c.self.view_is, is) (names_listed (audit_stored c.self.inside.state) _ (Some (name_of c.new-in-Name.result))
     c.take.result refl refl refl (λ judged h. name_counts _ judged _ _ _) c.take.ensures)
 
@@ -38,9 +38,5 @@ returns-else-awaits_text-clause-lists c =
     ]) c.take_text_tags.ensures)
 
 pub returns-in-Announce-clause-lists : goal.returns-in-Announce-clause-lists
-returns-in-Announce-clause-lists c = elim c.in-Announce.is [
-  | inl (code, bits, aid, is) ↦ rw is (nothing_listed _ _ c.none-in-Announce.result
-      c.none-in-Announce.ensures (λ judged h. announcement_counts _ judged _ _ _))
-  | inr is ↦ rw is (nothing_listed _ _ c.none-in-Announce.result c.none-in-Announce.ensures
-      (λ judged h. other_counts _ judged))
-]
+returns-in-Announce-clause-lists c =
+    grind (arith, nat_tests, nothing_listed, announcement_counts, c.in-Announce.is, c.none-in-Announce.ensures)

@@ -1,4 +1,5 @@
-use Rattle.std.proofs.Common.{rules}
+use Rattle.std.proofs.Common.{arith, rules}
+use Rattle.std.proofs.lemmas.Bool.Decides.{nat_tests}
 use Rattle.rds_audit.proofs.ListingSteps.{passes_exactly}
 use Rattle.rds_audit.proofs.audit.Audit.passed.Goals as goal
 
@@ -6,10 +7,7 @@ pub returns-clause-fault : goal.returns-clause-fault
 returns-clause-fault c = rw (← c.self.view_is) (search rules)
 
 pub returns-clause-passes : goal.returns-clause-passes
-returns-clause-passes c pi d log s =
-    let exactly = passes_exactly d c.args.self.now _ s.holds in
-    let test = returns-clause-fault c in
-    (λ yes. exactly.0 (test.0 yes), λ passes. test.1 (exactly.1 passes))
+returns-clause-passes c pi d log s = grind (arith, nat_tests, passes_exactly, returns-clause-fault)
 
 pub returns-clause-plans : goal.returns-clause-plans
 returns-clause-plans c pi d log s =
