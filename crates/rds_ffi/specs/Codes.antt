@@ -9,8 +9,7 @@ use Rattle.rds_assembly.specs.declared.text.TextRefused.TheVariants.{TooLong, Ba
 use Rattle.rds_encoder.specs.declared.reply.Refusal.TheVariants.{Silent, Held, NoText, OutOfText}
 use Rattle.rds_encoder.specs.Reply.{Reply}
 use Rattle.rds_audit.specs.declared.audit.AuditFault.{AuditFault}
-use Rattle.rds_audit.specs.declared.audit.AuditFault.TheVariants.{Changed, NotOneText, EarlyFlag}
-use Rattle.rds_audit.specs.declared.audit.AuditFault.TheVariants.{EarlyTag, TagOutside}
+use Rattle.rds_audit.specs.declared.audit.AuditFault.TheVariants.{Changed, NotOneText, EarlyFlag, EarlyTag, TagOutside}
 use Rattle.rds_ffi.specs.declared.reply.RdsrtReply.{RdsrtReply}
 
 -- it changes with every size, offset, code or call of the header

@@ -20,9 +20,8 @@ use Rattle.rds_audit.specs.declared.audit.AuditFault.{AuditFault}
 use Rattle.rds_audit.specs.declared.audit.AuditFault.TheVariants.{Changed, NotOneText, EarlyFlag, EarlyTag, TagOutside}
 use Rattle.rds_audit.specs.declared.fault_set.FaultSet.{FaultSet}
 use Rattle.rds_log.specs.Audit.{SlotsFail, SlotsPass, judged, spacing}
-use Rattle.rds_log.specs.FaultList.{AreFaultsOf, AnswersYes, Audits, BeginsWithNo, FindsFaults, IsNo}
-use Rattle.rds_log.specs.FaultList.{LinesAnswer, LinesGoOn, SaysNo}
-use Rattle.rds_log.specs.FaultList.{fault_lines, lines_for, no_line, yes_line}
+use Rattle.rds_log.specs.FaultList.{AreFaultsOf, AnswersYes, Audits, BeginsWithNo, FindsFaults, IsNo, LinesAnswer}
+use Rattle.rds_log.specs.FaultList.{LinesGoOn, SaysNo, fault_lines, lines_for, no_line, yes_line}
 use Rattle.rds_log.specs.Inside.Auditor.{HasAudited}
 use Rattle.rds_log.specs.LineSays.{LineSays}
 use Rattle.rds_log.specs.LogLines.{Line}

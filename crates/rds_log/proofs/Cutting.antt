@@ -51,10 +51,6 @@ kept_in_room kept bytes room fits =
     by_room : (n : ℕ) → (n ≤ room) ⊎ (room < n)
     by_room n = grind arith
 
--- the line that is begun is empty exactly where nothing of it is kept
-pub begun_empty : (begun : Line) → length (take 60 begun) ≡ 0 → begun ≡ []
-begun_empty begun h = grind arith
-
 -- what is kept where nothing is said is kept in any case
 pub kept_either : (said : Option LogLine) (kept first : Line) → kept ≡ first → IfNone said (kept ≡ first)
 kept_either said kept first same = grind arith

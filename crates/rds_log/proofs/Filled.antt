@@ -18,8 +18,7 @@ use Rattle.rds_log.specs.LogLines.{Line}
 use Rattle.rds_log.specs.LineSays.{LineSays, deciding}
 use Rattle.rds_log.specs.Outputs.{HasTaken, Pushed, RunsAll, RunsUpTo, WrotePart}
 use Rattle.rds_log.specs.Fill.{AddsNothing, AreFilled, FillsAll, HasLeftOut, IsLeftOut, IsOfAnother, LinesFill, SoFar}
-use Rattle.rds_log.specs.Fill.{TimesAre}
-use Rattle.rds_log.specs.Fill.{gap_lines, lost_lines, more_lines, newest_time, shown, time_of}
+use Rattle.rds_log.specs.Fill.{TimesAre, gap_lines, lost_lines, more_lines, newest_time, shown, time_of}
 use Rattle.rds_log.specs.Inside.Filler.{HasFilled, KeepsTimes, last_time, told_after}
 use Rattle.rds_log.specs.Inside.Pace.{PaceStandsAt}
 use Rattle.rds_log.specs.declared.pace.Pace.{Pace}

@@ -1,6 +1,5 @@
 -- How the slots that are kept go on by a line.
-use Rattle.std.proofs.Common.{arith}
-use Rattle.std.proofs.Common.{◌≡◌, ℕ, List, Option, [], ◌∷◌, ◌++◌, ap, inl, reverse}
+use Rattle.std.proofs.Common.{arith, ◌≡◌, ℕ, List, Option, [], ◌∷◌, ◌++◌, ap, reverse}
 use Rattle.std.proofs.lemmas.List.{reverse-append}
 use Rattle.rds_block.specs.declared.group.Group.{Group}
 use Rattle.rds_fields.specs.TagGroup.{exchanged_in}
@@ -8,7 +7,7 @@ use Rattle.rds_log.specs.LineSays.{LineSays}
 use Rattle.rds_log.specs.LogLines.{Line}
 use Rattle.rds_log.specs.LogWrites.{AreSlots}
 use Rattle.rds_log.specs.declared.log_line.LogLine.{LogLine}
-use Rattle.rds_log.specs.declared.log_line.LogLine.TheVariants.{Skip, Slot}
+use Rattle.rds_log.specs.declared.log_line.LogLine.TheVariants.{Slot}
 
 -- of an empty log no slot is kept
 pub keeps_none : (n : ℕ) (log : List (Option Group)) → log ≡ [] → AreSlots n [] (reverse log)
@@ -26,9 +25,3 @@ pub keeps_said : (n : ℕ) (lines : List Line) (line : Line) (said : LogLine) (s
     → AreSlots n (line ∷ lines) (reverse after)
 keeps_said n lines line said slot log after says is had more = keeps_slot n lines line slot log after (rw is at says)
     had more
-
--- a line that is skipped
-pub keeps_skip : (n : ℕ) (lines : List Line) (line : Line) (said : LogLine) (log : List (Option Group))
-    → LineSays line said → said ≡ Skip → AreSlots n lines (reverse log)
-    → AreSlots n (line ∷ lines) (reverse log)
-keeps_skip n lines line said log says is had = inl (rw is at says, had)

@@ -1,6 +1,5 @@
 -- What the answer of an audit means.
-use Rattle.std.proofs.Common.{arith}
-use Rattle.std.proofs.Common.{◌+◌, ◌<◌, ℕ, Bool, true, false, List, [], Option, Ok, Err, inr, refl}
+use Rattle.std.proofs.Common.{arith, ◌+◌, ◌<◌, ℕ, Bool, true, false, List, [], Option, Ok, Err, inr, refl}
 use Rattle.std.specs.Prelude.{Result}
 use Rattle.rds_block.specs.declared.group.Group.{Group}
 use Rattle.rds_io.specs.Told.{Traffic}

@@ -227,11 +227,6 @@ made_in_vain s most start now after result m some counts other =
     let counted = count_next start.reads m.made now.reads after m.counted counts in
     grind arith
 
--- all reads were made
-pub made_all : {X : Type 0} (s : Source) (most : ℕ) (start now : ReaderState) (result : Result X LogFault)
-    → HasMade s most start now → s.left ≡ 0 → MadeReads most start.reads now.reads result
-made_all s most start now result m none = grind arith
-
 -- a read that gave nothing
 pub reads_none : (s after : Source) (most : ℕ) (start now later : ReaderState) (lines : List Line)
     → SourceStandsAt s most start now lines → s.ended ≡ false → s.line ≡ None

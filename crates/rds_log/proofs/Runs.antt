@@ -1,14 +1,12 @@
 -- How a run over the lines of a log goes on and ends: what the source gives, and what was written of it.
-use Rattle.std.proofs.Common.{arith}
-use Rattle.std.proofs.Common.{◌≡◌, ◌≢◌, ◌++◌, ◌∙◌, ◌∷◌, ℕ, List, [], Option, None, inr}
+use Rattle.std.proofs.Common.{arith, ◌≡◌, ◌≢◌, ◌++◌, ◌∙◌, ◌∷◌, ℕ, List, [], Option, None, inr}
 use Rattle.std.specs.Io.KnownBytes.{Consumes}
 use Rattle.rds_io.specs.Told.{Traffic}
 use Rattle.rds_io.specs.Waits.{IsLost, Waits}
 use Rattle.rds_io.proofs.Waiting.{wrote_all}
 use Rattle.rds_log.specs.LogLines.{Line}
 use Rattle.rds_log.specs.Reads.{BeginsWith}
-use Rattle.rds_log.specs.Inside.Source.{GivesNext, HasNoNext, IsBadLineFault}
-use Rattle.rds_log.specs.Inside.Source.{ReaderState, SourceStandsAt, since}
+use Rattle.rds_log.specs.Inside.Source.{GivesNext, HasNoNext, IsBadLineFault, ReaderState, SourceStandsAt, since}
 use Rattle.rds_log.specs.Outputs.{HasTaken, RunsAll, RunsUpTo, StopsBy, WroteLines, WrotePart}
 use Rattle.rds_io.specs.declared.fault.LogFault.{LogFault}
 use Rattle.rds_io.specs.declared.fault.LogFault.TheVariants.{Write}

@@ -8,8 +8,7 @@ use Rattle.rds_block.specs.declared.group.Group.{Group}
 use Rattle.rds_io.specs.Told.{AppendsPrefix, HasFailed, IsCalm, Traffic}
 use Rattle.rds_fields.specs.declared.message.Message.{Message}
 use Rattle.rds_audit.specs.declared.audit.AuditFault.{AuditFault}
-use Rattle.rds_audit.specs.declared.audit.AuditFault.TheVariants.{Changed, NotOneText, EarlyFlag}
-use Rattle.rds_audit.specs.declared.audit.AuditFault.TheVariants.{EarlyTag, TagOutside}
+use Rattle.rds_audit.specs.declared.audit.AuditFault.TheVariants.{Changed, NotOneText, EarlyFlag, EarlyTag, TagOutside}
 use Rattle.rds_audit.specs.declared.fault_set.FaultSet.{FaultSet}
 use Rattle.rds_audit.specs.Listing.{first_of, slot_adds}
 use Rattle.rds_audit.specs.declared.text_form.TextForm.{TextForm}

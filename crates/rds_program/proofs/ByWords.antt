@@ -8,8 +8,7 @@ use Rattle.clap.specs.declared.error.kind.ErrorKind.{ErrorKind}
 use Rattle.clap.specs.declared.error.kind.ErrorKind.TheVariants.{DisplayHelp, DisplayVersion, OutOfMemory}
 use Rattle.rds_io.specs.Told.{Traffic}
 use Rattle.rds_cli.specs.Asks.{ReadAs, asked_by}
-use Rattle.rds_cli.specs.CommandLine.{AreAnswered, Requested, IsPi}
-use Rattle.rds_cli.specs.CommandLine.{is_shown, whole_app}
+use Rattle.rds_cli.specs.CommandLine.{AreAnswered, Requested, IsPi, is_shown, whole_app}
 use Rattle.rds_cli.specs.declared.request.Request.{Request}
 use Rattle.rds_cli.specs.declared.request.Task.{Task}
 use Rattle.rds_program.specs.Run.{Listening, NoMemory, RefusesPi, RunsRead, RunsWords, TellsError, listening, status_of}

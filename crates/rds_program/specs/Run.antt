@@ -1,8 +1,7 @@
 -- What the whole program does with its arguments. This is the project's own command line. r is the traffic of a call
 -- with the reader, w its traffic with the writer.
-use Rattle.std.specs.Prelude.{◌≡◌, ◌⊎◌, ◌*◌, ◌^◌, ◌++◌, []}
-use Rattle.std.specs.Prelude.{ℕ, Bool, false, true, List, codes, decimal, None, Some, Option, Ok, Err, Result}
-use Rattle.std.specs.Prelude.{if◌then◌else◌, nat_le}
+use Rattle.std.specs.Prelude.{◌≡◌, ◌⊎◌, ◌*◌, ◌^◌, ◌++◌, [], ℕ, Bool, false, true, List, codes, decimal, None, Some}
+use Rattle.std.specs.Prelude.{Option, Ok, Err, Result, if◌then◌else◌, nat_le}
 use Rattle.clap.specs.Words.{kind_of}
 use Rattle.clap.specs.declared.error.Error.{Error}
 use Rattle.clap.specs.declared.error.kind.ErrorKind.{ErrorKind}

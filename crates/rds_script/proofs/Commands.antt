@@ -1,6 +1,5 @@
 -- A word and an argument say no command where the word is no verb, or the argument says nothing.
-use Rattle.std.proofs.Common.{◌≡◌, ◌<◌, ◌∙◌, ℕ, Bor, List, [], ◌∷◌, Option, Some, None, ap, arith}
-use Rattle.std.proofs.Common.{length, sym}
+use Rattle.std.proofs.Common.{◌≡◌, ◌<◌, ◌∙◌, ℕ, Bor, List, [], ◌∷◌, Option, Some, None, ap, arith, length, sym}
 use Rattle.std.specs.Prelude.{option_map}
 use Rattle.csv.specs.Records.{field_at}
 use Rattle.rds_world.specs.declared.event.Command.{Command}

@@ -1,6 +1,5 @@
 -- How a script is played on by a record, and what is left at each end.
-use Rattle.std.proofs.Common.{◌≡◌, ◌≢◌, ◌<◌, ◌≤◌, ◌+◌, ◌∷◌, [], ℕ, Bool, List, Option, arith, false, length}
-use Rattle.std.proofs.Common.{true}
+use Rattle.std.proofs.Common.{◌≡◌, ◌≢◌, ◌<◌, ◌≤◌, ◌+◌, ◌∷◌, [], ℕ, Bool, List, Option, arith, false, length, true}
 use Rattle.std.specs.Prelude.{Err, Ok, Result}
 use Rattle.rds_io.specs.Told.{Traffic}
 use Rattle.rds_io.specs.Waits.{IsLost, Waits}

@@ -1,6 +1,5 @@
 -- How the reader of a script goes on by a record.
-use Rattle.std.proofs.Common.{arith}
-use Rattle.std.proofs.Common.{◌≡◌, ◌∷◌, [], ℕ, List, Bool, true, false, Option, inl}
+use Rattle.std.proofs.Common.{arith, ◌≡◌, ◌∷◌, [], ℕ, List, Bool, true, false, Option, inl}
 use Rattle.std.specs.Prelude.{MatchBool, reverse}
 use Rattle.std.proofs.lemmas.Grind.{reverse_onto}
 use Rattle.csv.proofs.ReadFacts.{rows-more}

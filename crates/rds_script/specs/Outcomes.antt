@@ -3,8 +3,7 @@
 -- flag bit alone it also compares the views with what was on air. `encode` writes the reply as a comment, and the group
 -- as a line of a log. This is the project's own format. Lists have the newest first, so the slot of an outcome is the
 -- number of outcomes behind it.
-use Rattle.std.specs.Prelude.{◌≡◌, ◌<◌, ◌++◌, [], ◌∷◌}
-use Rattle.std.specs.Prelude.{ℕ, zero, suc, Bool, true, false, List, Option, Some, None}
+use Rattle.std.specs.Prelude.{◌≡◌, ◌<◌, ◌++◌, [], ◌∷◌, ℕ, zero, suc, Bool, true, false, List, Option, Some, None}
 use Rattle.std.specs.Prelude.{bytes_eq, codes, decimal, length, slice_index_or}
 use Rattle.rds_block.specs.declared.group.Group.{Group}
 use Rattle.rds_block.specs.Words.{second_word_of}

@@ -5,7 +5,7 @@ use Rattle.std.specs.Int.{from_bool}
 use Rattle.std.specs.Str.Parse.{IsNumeral, digits_value}
 use Rattle.rds_charset.specs.ReadAs.{IsReadAs}
 use Rattle.rds_fields.specs.Tag.{IsPair, PairFields, TagFields}
-use Rattle.rds_assembly.specs.Body.{name_body}
+use Rattle.rds_assembly.specs.Body.{name_body, space}
 use Rattle.rds_assembly.specs.Value.{IsGivenName, IsText}
 use Rattle.rds_world.specs.declared.event.Command.{Command}
 use Rattle.rds_world.specs.declared.event.Command.TheVariants.{Quiet, Restart, SetText, SetName, SetTags}
@@ -14,7 +14,6 @@ use Rattle.rds_world.specs.Event.{Event}
 use Rattle.rds_world.specs.declared.world.Config.{Config}
 use Rattle.rds_world.specs.Replies.{CanBeTaken}
 use Rattle.rds_script.specs.Receptions.{AreReceptions}
-use Rattle.rds_assembly.specs.Body.{space}
 use Rattle.rds_script.specs.Verbs.{verb_word}
 use Rattle.rds_script.specs.declared.row.Verb.TheVariants.{Nothing, Text, Name, Tags}
 use Rattle.rds_script.specs.declared.row.Verb.TheVariants as verb

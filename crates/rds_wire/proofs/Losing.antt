@@ -1,7 +1,6 @@
 -- A log that only lost slots is received, however late its groups might come.
 use Rattle.std.proofs.lemmas.List.{length-map}
-use Rattle.std.proofs.Common.{◌≡◌, ◌⊎◌, ◌+◌, ◌∷◌, [], ℕ, List, Option}
-use Rattle.std.proofs.Common.{None, Some, arith, inl, inr, length, map, refl}
+use Rattle.std.proofs.Common.{◌≡◌, ◌⊎◌, ◌+◌, ◌∷◌, [], ℕ, List, Option, None, Some, arith, inl, inr, length, map, refl}
 use Rattle.rds_block.specs.declared.group.Group.{Group}
 use Rattle.rds_safety.specs.Late.{HasEntry, IsHeardLate, own_origins}
 use Rattle.rds_wire.specs.Received.{WhoLosesSlotsReceives, first_entries, own_group}

@@ -13,8 +13,7 @@ use Rattle.rds_view_lines.specs.ViewParts.{line_in, part_content}
 use Rattle.rds_log.specs.LogWrites.{AreDisplays}
 use Rattle.rds_wire.specs.Mixes.{AMixIsShown}
 use Rattle.rds_wire.proofs.Reading.{In, are_lines, contains_from_in, in_older, in_slot, is_same_part, lines_of}
-use Rattle.rds_wire.proofs.Reading.{tag_stays}
-use Rattle.rds_wire.proofs.Reading.{text_stays}
+use Rattle.rds_wire.proofs.Reading.{tag_stays, text_stays}
 use Rattle.rds_wire.proofs.Views.{displays_long}
 use Rattle.rds_witness.specs.Lines.{content_of, part_of}
 use Rattle.rds_witness.specs.Lost.{got}

@@ -1,7 +1,6 @@
 -- The printed form of a text has no line feed, and neither has a decimal number.
-use Rattle.std.proofs.Common.{◌≡◌, ◌≢◌, ◌<◌, ◌-◌, ◌/◌, ◌%◌, ◌==◌, ◌++◌, ◌∷◌, [], ◌∙◌, ℕ, zero, suc, decimal, Bool, true}
-use Rattle.std.proofs.Common.{false, not, cond, List, None, Some, ap, arith, codes, length, refl, subst, sym}
-use Rattle.std.proofs.Common.{get_or}
+use Rattle.std.proofs.Common.{◌≡◌, ◌≢◌, ◌<◌, ◌-◌, ◌/◌, ◌%◌, ◌==◌, ◌++◌, ◌∷◌, [], ℕ, zero, suc, decimal, Bool, true}
+use Rattle.std.proofs.Common.{false, not, cond, List, None, Some, arith, codes, length, refl, subst, get_or}
 use Rattle.std.specs.Char.{encode_utf8}
 use Rattle.std.specs.Fmt.{digits, digits_onto, digit_glyph}
 use Rattle.std.specs.List.{list_all, slice_get}
@@ -43,18 +42,6 @@ clean character = list_all (λ b. not (b == 10)) (encode_utf8 character)
 all_clean : list_all (λ (s : CodeRange). list_all clean s.1) table ≡ true
 unfolding encode_utf8
 all_clean = refl
-
--- an element of a list of which each passes a test
-pub of_each : {X : Type 0} (test : X → Bool) (xs : List X) (i : ℕ) (x : X) → list_all test xs ≡ true
-    → slice_get xs i ≡ Some x → test x ≡ true
-of_each test xs i x all is = by (test x) refl
-  where
-    by : (b : Bool) → test x ≡ b → test x ≡ true
-    by true e = e
-    by false e = absurd
-        (let bad : false ≡ true =
-        sym (list_all_at test xs i x (slice_get_within xs i x is) (ap test (get_or_from_slice_get xs i x x is) ∙ e))
-        ∙ all in cc)
 
 of_all : (xs : List ℕ) (i : ℕ) → i < length xs → list_all clean xs ≡ true → clean (get_or xs i 0) ≡ true
 of_all xs i within all = grind (arith, list_all_at)

@@ -1,7 +1,6 @@
 -- The wire laws for runs of the program.
-use Rattle.std.proofs.Common.{◌≡◌, ◌⊎◌, ◌∙◌, ◌++◌, ◌∷◌, ◌^◌, [], ℕ, List, Option, Some}
-use Rattle.std.proofs.Common.{ap, append_assoc}
-use Rattle.std.proofs.Common.{append-nil, arith, codes, decimal, get_or, inl, inr, refl, subst, sym}
+use Rattle.std.proofs.Common.{◌≡◌, ◌⊎◌, ◌∙◌, ◌++◌, ◌∷◌, ◌^◌, [], ℕ, List, Option, Some, ap, append_assoc, append-nil}
+use Rattle.std.proofs.Common.{arith, codes, decimal, get_or, inl, inr, refl, subst, sym}
 use Rattle.std.specs.Io.KnownBytes.{Appends, Consumes, IsAtEnd}
 use Rattle.std.specs.List.{Contains}
 use Rattle.std.specs.Prelude.{All, Bool, Err, Ok, Result, false, true}
@@ -40,8 +39,7 @@ use Rattle.rds_wire.specs.Wire.{Encodes, HasSafePlans, IsHead, WhatIsEncodedIsSa
 use Rattle.rds_wire.specs.Wire.{WhatPassesIsSafeOnTheWire, complete_in, station_of}
 use Rattle.rds_wire.proofs.Logs.{HasCut, is_log_of, more_text, with_comment}
 use Rattle.rds_wire.proofs.Printed.{decimal_line, empty_line, feedless, join_lines}
-use Rattle.rds_wire.proofs.Reading.{all_lines, are_lines, changes_text, contains_from_in, in_from_contains}
-use Rattle.rds_wire.proofs.Reading.{lines_of}
+use Rattle.rds_wire.proofs.Reading.{all_lines, are_lines, changes_text, contains_from_in, in_from_contains, lines_of}
 use Rattle.rds_wire.proofs.Reading.{prefix_lacks}
 use Rattle.rds_wire.proofs.Wired.{EncoderLaws, log_of_script}
 

@@ -17,11 +17,9 @@ use Rattle.rds_safety.specs.Late.{Input}
 use Rattle.rds_safety.specs.Laws.{ARunHasOneSource}
 use Rattle.rds_safety.specs.Marks.{IsMarkIn, Mark, Tagged, marks, text_mark}
 use Rattle.rds_safety.specs.Safe.{AreNeighbours, HaveNearSources, Listener, NamesPiece, ShowsNameOnAir, ShowsNoTags}
-use Rattle.rds_safety.specs.Safe.{ShowsTagsOf, ShowsTagsOfItsText, ShowsTextOnAir}
-use Rattle.rds_safety.specs.Safe.{AreSafeViews, RunWasOnAir}
+use Rattle.rds_safety.specs.Safe.{ShowsTagsOf, ShowsTagsOfItsText, ShowsTextOnAir, AreSafeViews, RunWasOnAir}
 use Rattle.rds_safety.specs.Source.{name_run, text_run}
-use Rattle.rds_view_lines.specs.Output.{none_content, text_content, why_name}
-use Rattle.rds_view_lines.specs.Output.{why_text}
+use Rattle.rds_view_lines.specs.Output.{none_content, text_content, why_name, why_text}
 use Rattle.rds_view_lines.specs.ViewParts.{IsNothing, Name, Part, Text, part_content}
 use Rattle.rds_wire.specs.Safe.{AreSafe, IsOfPair, ShowNeighbours, ShowsBroadcast, ShowsText, StationPlans}
 use Rattle.rds_wire.specs.Safe.{WasOnAir, WentWith}

@@ -23,8 +23,7 @@ use Rattle.rds_audit.specs.declared.text_form.TextForm.{TextForm}
 use Rattle.rds_audit.specs.declared.text_form.TextForm.TheVariants.{Plain}
 use Rattle.rds_safety.specs.Safe.{Listener}
 use Rattle.rds_world.specs.Event.{Event}
-use Rattle.rds_world.specs.Slots.{plans_of}
-use Rattle.rds_world.specs.Slots.{log as log_of}
+use Rattle.rds_world.specs.Slots.{plans_of, log as log_of}
 use Rattle.rds_world.specs.Station.{SlotsOfAWorldAreSlots, TheEncoderIsLawful}
 use Rattle.rds_audit.specs.AuditLaws.{PlansOfARecordingAreSafe, WhatPassesAsARecordingIsSafe, WhatPassesIsSafe, later}
 use Rattle.rds_audit.specs.Recording.{from_first_text, preceded}

@@ -1,10 +1,9 @@
 -- What receivers get that lose different slots.
 use Rattle.std.proofs.Common.{◌≡◌, ◌∙◌, ◌∷◌, [], ◌+◌, ◌<◌, ◌≤◌, ℕ, zero, suc, false, true, List}
 use Rattle.std.proofs.Common.{Option, None, add-one, ap, arith, length, refl, sym}
-use Rattle.std.specs.Prelude.{if◌then◌else◌, slice_index_or}
+use Rattle.std.specs.Prelude.{if◌then◌else◌, slice_index_or, take}
 use Rattle.std.proofs.lemmas.List.Folds.{list_any_more}
 use Rattle.std.proofs.Math.ListN.{get_or}
-use Rattle.std.specs.Prelude.{take}
 use Rattle.std.proofs.lemmas.Bool.Decides.{nat_tests}
 use Rattle.rds_block.specs.declared.group.Group.{Group}
 use Rattle.rds_witness.specs.Lost.{got, got-more, got-none, has_slot, is_lost, group_left}
@@ -18,14 +17,6 @@ not_lost_behind burst n less = grind (arith, nat_tests)
 
 pub lost_inside : (burst : Burst) (n : ℕ) → burst.first ≤ n → n ≤ burst.last → is_lost (burst ∷ []) n ≡ true
 lost_inside burst n from to = grind (arith, nat_tests)
-
--- a slot of a log with nothing in this burst, and otherwise as before
-pub emptied : (burst : Burst) (n : ℕ) (old new : List (Option Group))
-    → (burst.first ≤ n → n ≤ burst.last → slice_index_or new n None ≡ None)
-    → (n < burst.first → slice_index_or new n None ≡ slice_index_or old n None)
-    → (burst.first ≤ n → burst.last < n → slice_index_or new n None ≡ slice_index_or old n None)
-    → slice_index_or new n None ≡ if has_slot burst n then None else slice_index_or old n None
-emptied burst n old new inside before behind = grind (arith, nat_tests)
 
 -- one burst more is lost
 pub burst_more : (lost : List Burst) (k : ℕ) (d : Burst) (log old new : List (Option Group)) (n : ℕ) → k < length lost

@@ -1,8 +1,7 @@
 -- How lines of mixes go on by the lines of a kind of things.
 use Rattle.std.proofs.lemmas.Bool.Decides.{nat_tests}
-use Rattle.std.proofs.Common.{◌≡◌, ◌⊎◌, ◌++◌, ◌∷◌, ◌+◌, ◌<◌, ◌≤◌, [], ◌∙◌, ℕ, List, None, Option, Some, ap}
-use Rattle.std.proofs.Common.{append_assoc}
-use Rattle.std.proofs.Common.{arith, inl, inr, refl, subst, suc}
+use Rattle.std.proofs.Common.{◌≡◌, ◌⊎◌, ◌++◌, ◌∷◌, ◌+◌, ◌<◌, [], ◌∙◌, ℕ, List, None, Option, Some, ap}
+use Rattle.std.proofs.Common.{append_assoc, arith, inl, inr, refl, subst, suc}
 use Rattle.std.specs.List.{Contains}
 use Rattle.std.proofs.lemmas.Bool.{cases_lt}
 use Rattle.std.proofs.lemmas.List.Elements.{All-cons, All-nil}
@@ -54,11 +53,6 @@ module _ (t : Tuning) (ahead : ℕ) (log : List (Option Group)) (lost : List Bur
   -- before the first kind
   pub no_lines : (lines : List ℕ) → lines ≡ [] → AreSomeMixLines 0 t ahead log lost words slot lines
   no_lines lines none = grind (arith, nat_tests)
-
-  -- after the last kind
-  pub all_kinds : (n : ℕ) (lines : List ℕ) → 4 ≤ n → AreSomeMixLines n t ahead log lost words slot lines
-      → AreMixLines t ahead log lost words slot lines
-  all_kinds n lines four some = grind (arith, nat_tests)
 
   -- a slot without a mix
   pub no_mixes : ((thing : Thing) → IsMix t ahead log lost slot thing → ⊥) → AreMixLines t ahead log lost words slot []

@@ -38,10 +38,6 @@ more_cells one other address bytes has a b held =
 pub part_cells : (one other : List Segment) → IsPart one other → HasCells (cells_of one) (cells_of other)
 part_cells one other part = grind (arith, nat_tests, no_cells)
 
--- segments are a part of themselves
-pub part_itself : (one : List Segment) → IsPart one one
-part_itself one = grind (arith, nat_tests)
-
 -- a part of a part is a part
 pub part_through : (one two three : List Segment) → IsPart one two → IsPart two three → IsPart one three
 part_through one two three p q = grind (arith, nat_tests)

@@ -1,19 +1,16 @@
 -- Why a slot has no mix if receivers that hold all that others hold show nothing else than one that loses nothing.
 use Rattle.std.proofs.lemmas.Bool.Decides.{nat_tests}
-use Rattle.std.proofs.Common.{[], ◌≡◌, ◌+◌, ◌<◌, ◌≤◌, ◌∷◌, ℕ, List, None, Option, Some, ap}
-use Rattle.std.proofs.Common.{arith, length}
+use Rattle.std.proofs.Common.{[], ◌≡◌, ◌+◌, ◌<◌, ◌≤◌, ◌∷◌, ℕ, List, None, Option, Some, ap, arith, length}
 use Rattle.std.proofs.lemmas.List.Elements.{All-contains}
 use Rattle.rds_block.specs.declared.group.Group.{Group}
 use Rattle.rds_fields.specs.declared.pair.Which.{Which}
-use Rattle.rds_fields.specs.Tag.{PairFields}
+use Rattle.rds_fields.specs.Tag.{PairFields, tag_in}
 use Rattle.rds_assembly.specs.Cells.{Cells}
 use Rattle.rds_assembly.specs.ServiceLaws.{one_name}
 use Rattle.rds_assembly.specs.Whole.{IsWholeName}
 use Rattle.rds_receiver.specs.OneView.{same_text_shown}
-use Rattle.rds_receiver.specs.Receipts.{Tuning}
-use Rattle.rds_receiver.specs.Receipts.{heard_of}
+use Rattle.rds_receiver.specs.Receipts.{Tuning, heard_of}
 use Rattle.rds_receiver.specs.Shown.{IsShown, IsView, ShownView}
-use Rattle.rds_fields.specs.Tag.{tag_in}
 use Rattle.rds_receiver.specs.Tags.{cut_by, pair_held, tag_of}
 use Rattle.rds_receiver.specs.Confirmed.{counted}
 use Rattle.rds_witness.specs.Covered.{CoversInput, IsCovered, IsInputPart}

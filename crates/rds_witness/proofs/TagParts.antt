@@ -7,10 +7,8 @@ use Rattle.rds_fields.specs.declared.message.Message.TheVariants.{Text, Announce
 use Rattle.rds_fields.specs.Tag.{PairFields}
 use Rattle.rds_receiver.specs.Receipts.{Segment, segments, text_fragment}
 use Rattle.rds_receiver.specs.Run.{begins_in, run, run_at, run_before}
-use Rattle.rds_receiver.specs.Tags.{is_known, pair_from, pair_held, pair_since, says_of_rtplus}
-use Rattle.rds_receiver.specs.Tags.{unless_contrary}
-use Rattle.rds_receiver.proofs.Pairs.{AllBelow, pair_goes_on, run_below}
-use Rattle.rds_receiver.proofs.Pairs.{segments_below}
+use Rattle.rds_receiver.specs.Tags.{is_known, pair_from, pair_held, pair_since, says_of_rtplus, unless_contrary}
+use Rattle.rds_receiver.proofs.Pairs.{AllBelow, pair_goes_on, run_below, segments_below}
 use Rattle.rds_receiver.proofs.Runs.{before_other, before_same, equal_or_not, run_recent, test_true}
 use Rattle.rds_witness.specs.Part.{IsPairPart, IsPart, IsTagPart}
 use Rattle.rds_witness.proofs.PartSteps.{part_aged}
@@ -137,10 +135,3 @@ tag_part_heard m x one other some long part tags =
     (same_next m one other some both tags x, known_next x one other tags.1)
 
 -- ---- when the run goes on
-
--- the run of texts begins in the same slot as before, if it did not end and the newest segment has its flag
-pub begins_on : (m : ℕ) (x : Option Message) (heard : List (Option Message)) (g : Segment) (older : List Segment)
-    → 0 < m → run m (0 + length heard) (segments text_fragment 0 heard) ≡ g ∷ older
-    → ((f : Bool) (a : ℕ) (b : List ℕ) → x ≡ Some (Text f a b) → f ≡ g.fragment.flag)
-    → begins_in (run_at text_fragment m 0 heard) ≡ begins_in (run_at text_fragment m 0 (x ∷ heard))
-begins_on m x heard g older some is flag = grind (arith, nat_tests)

@@ -2,13 +2,12 @@
 use Rattle.std.specs.Prelude.{◌≡◌, ◌⊎◌, ◌≤◌, ◌<◌, ◌+◌, ◌∷◌, [], ℕ, All, IsFalse, List, Option, Some, length}
 use Rattle.rds_block.specs.declared.group.Group.{Group}
 use Rattle.rds_fields.specs.declared.pair.Which.{Which}
-use Rattle.rds_fields.specs.Tag.{PairFields}
+use Rattle.rds_fields.specs.Tag.{PairFields, tag_in}
 use Rattle.rds_receiver.specs.Receipts.{Tuning, heard_of, text_fragment}
 use Rattle.rds_receiver.specs.Run.{begins_in, run_at}
 use Rattle.rds_receiver.specs.Shown.{IsView, ShownView}
 use Rattle.rds_receiver.specs.ReceiverAt.{ReceiverAt}
 use Rattle.rds_receiver.specs.declared.receiver.Receiver.{Receiver}
-use Rattle.rds_fields.specs.Tag.{tag_in}
 use Rattle.rds_receiver.specs.Tags.{cut_by, pair_held}
 use Rattle.rds_receiver.specs.Confirmed.{counted}
 use Rattle.rds_witness.specs.Covered.{IsAt, IsCovered}

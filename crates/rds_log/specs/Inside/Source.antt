@@ -1,7 +1,6 @@
 -- The state of a source of lines after the lines that it returned, and what it returns next. Lists of lines have the
 -- newest first. A source makes at most `most` reads. Its reader was in the state `start` before the first of them.
-use Rattle.std.specs.Prelude.{◌≡◌, ◌≤◌, ◌+◌, ◌-◌, ◌++◌, ◌∷◌}
-use Rattle.std.specs.Prelude.{ℕ, Bool, List, MatchBool, MatchOption, None, Ok, Err}
+use Rattle.std.specs.Prelude.{◌≡◌, ◌≤◌, ◌+◌, ◌-◌, ◌++◌, ◌∷◌, ℕ, Bool, List, MatchBool, MatchOption, None, Ok, Err}
 use Rattle.std.specs.Prelude.{Option, Result, Some, drop, false, if◌then◌else◌, length, nat_lt, take, true}
 use Rattle.std.specs.Io.KnownBytes.{Consumes, IsAtEnd}
 use Rattle.rds_io.specs.Told.{HasFailed, IsCalm, Traffic, count_after}

@@ -1,4 +1,4 @@
-use Rattle.std.proofs.Common.{◌∷◌, arith}
+use Rattle.std.proofs.Common.{arith}
 use Rattle.rds_ffi.proofs.receiver.rdsrt_receiver_slot.Goals as goal
 
 pub returns-then-slot_blocks-clause-stands : goal.returns-then-slot_blocks-clause-stands

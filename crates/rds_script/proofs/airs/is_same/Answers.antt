@@ -1,5 +1,4 @@
-use Rattle.std.proofs.Common.{arith}
-use Rattle.std.proofs.Common.{◌∙◌, sym}
+use Rattle.std.proofs.Common.{arith, ◌∙◌, sym}
 use Rattle.rds_receiver.specs.Borrowed.{view_of}
 use Rattle.rds_script.proofs.Periods.{one_view, parts_same, same_item}
 use Rattle.rds_script.proofs.airs.is_same.Goals as goal

@@ -1,5 +1,4 @@
-use Rattle.std.proofs.Common.{arith}
-use Rattle.std.proofs.Common.{rules, ◌≡◌, ◌++◌, ◌∷◌, []}
+use Rattle.std.proofs.Common.{arith, rules, ◌≡◌, ◌++◌, ◌∷◌, []}
 use Rattle.rds_script.proofs.Receptions.{all_read, no_reception, one_more, some_cut, too_many}
 use Rattle.rds_script.proofs.row.read_receptions.Goals as goal
 

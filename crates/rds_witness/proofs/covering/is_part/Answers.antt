@@ -2,8 +2,7 @@ use Rattle.std.proofs.lemmas.Bool.Decides.{nat_tests}
 use Rattle.std.proofs.Common.{ℕ, List, arith}
 use Rattle.std.specs.FinMap.{get-empty}
 use Rattle.std.specs.Ordering.{nat_cmp}
-use Rattle.rds_assembly.proofs.HeldLemmas.{nothing_held}
-use Rattle.rds_assembly.proofs.HeldLemmas.{past_all}
+use Rattle.rds_assembly.proofs.HeldLemmas.{nothing_held, past_all}
 use Rattle.rds_witness.proofs.covering.is_part.Goals as goal
 
 pub returns-then-one-eq0-clause-cells : goal.returns-then-one-eq0-clause-cells

@@ -1,5 +1,5 @@
 use Rattle.std.proofs.lemmas.Bool.Decides.{nat_tests}
-use Rattle.std.proofs.Common.{◌≡◌, ◌∙◌, ◌+◌, ◌∷◌, arith, get_or, inl, inr, sym}
+use Rattle.std.proofs.Common.{◌≡◌, ◌+◌, ◌∷◌, arith, get_or, inl, inr}
 use Rattle.std.proofs.lemmas.Bool.{cases_lt}
 use Rattle.rds_log.specs.LogWrites.{tuned}
 use Rattle.rds_witness.specs.declared.covering.Lossy.{Lossy}

@@ -1,6 +1,5 @@
-use Rattle.std.proofs.Common.{arith}
+use Rattle.std.proofs.Common.{arith, Bool, List, Result, ℕ}
 use Rattle.std.proofs.lemmas.Bool.Decides.{nat_tests}
-use Rattle.std.proofs.Common.{Bool, List, Result, ℕ}
 use Rattle.std.specs.Prelude.{IsErr}
 use Rattle.rds_io.specs.Told.{Traffic}
 use Rattle.rds_io.specs.declared.told.WriteFault.{WriteFault}

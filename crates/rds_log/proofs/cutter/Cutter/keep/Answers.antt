@@ -1,5 +1,4 @@
-use Rattle.std.proofs.Common.{arith}
-use Rattle.std.proofs.Common.{refl}
+use Rattle.std.proofs.Common.{arith, refl}
 use Rattle.rds_log.proofs.Cutting.{cuts_on, kept_in_room}
 use Rattle.rds_log.proofs.cutter.Cutter.keep.Goals as goal
 

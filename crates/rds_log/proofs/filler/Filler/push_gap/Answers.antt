@@ -1,5 +1,4 @@
-use Rattle.std.proofs.Common.{arith}
-use Rattle.std.proofs.Common.{◌≡◌, None, Some, Bool, cond}
+use Rattle.std.proofs.Common.{arith, ◌≡◌, None, Some, Bool, cond}
 use Rattle.std.specs.Bool.{then_some}
 use Rattle.rds_arrivals.specs.declared.lost.Break.{Break}
 use Rattle.rds_log.proofs.Filled.{gap_across, same_pushed}

@@ -1,5 +1,4 @@
-use Rattle.std.proofs.Common.{arith}
-use Rattle.std.proofs.Common.{◌∙◌, ap}
+use Rattle.std.proofs.Common.{arith, ◌∙◌, ap}
 use Rattle.rds_receiver.specs.Borrowed.{view_of}
 use Rattle.rds_view_lines.specs.Part.{same_parts}
 use Rattle.rds_script.specs.OnAir.{airings_by}
