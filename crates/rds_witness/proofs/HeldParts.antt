@@ -12,7 +12,7 @@ use Rattle.rds_block.specs.declared.group.Group.{Group}
 use Rattle.rds_fields.specs.Stored.{is_set}
 use Rattle.rds_fields.specs.declared.message.Message.{Message}
 use Rattle.rds_log.specs.LogWrites.{tuned}
-use Rattle.rds_receiver.specs.Receipts.{heard_of, Segment, segments}
+use Rattle.rds_receiver.specs.Receipts.{heard_of, name_fragment, Segment, segments, text_fragment}
 use Rattle.rds_receiver.specs.declared.fragment.Fragment.{Fragment}
 use Rattle.rds_receiver.specs.Run.{cells_of, run, run_at}
 use Rattle.rds_receiver.specs.Holds.{HoldsRun, newest_slot}
@@ -104,7 +104,17 @@ module _ (pi m : ℕ) (one other : Receiver)
   pub holds_part : IsInputPart (tuned pi m) input more
   holds_part =
       let heard_long = as_long pi input more long in
-      grind (arith, nat_tests, as_long, heard_part, same_pair)
+      record {
+        long = long;
+        texts = heard_part text_fragment m (display_stored one.display).text (display_stored other.display).text _ _
+            part.text heard_long mine.holds.display.text theirs.holds.display.text;
+        names = heard_part name_fragment m (display_stored one.display).name (display_stored other.display).name _ _
+            part.name heard_long mine.holds.display.name theirs.holds.display.name;
+        tags = (
+          same_pair part.pair,
+          λ is. sym theirs.holds.display.known ∙ part.known (mine.holds.display.known ∙ is),
+        );
+      }
 
 -- one receiver at two inputs
 pub same_part : (pi m : ℕ) (r : Receiver) (input more : List (Option Group)) → ReceiverAt (tuned pi m) r input

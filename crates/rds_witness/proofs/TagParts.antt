@@ -135,3 +135,10 @@ tag_part_heard m x one other some long part tags =
     (same_next m one other some both tags x, known_next x one other tags.1)
 
 -- ---- when the run goes on
+
+-- the run of texts begins in the same slot as before, if it did not end and the newest segment has its flag
+pub begins_on : (m : ℕ) (x : Option Message) (heard : List (Option Message)) (g : Segment) (older : List Segment)
+    → 0 < m → run m (0 + length heard) (segments text_fragment 0 heard) ≡ g ∷ older
+    → ((f : Bool) (a : ℕ) (b : List ℕ) → x ≡ Some (Text f a b) → f ≡ g.fragment.flag)
+    → begins_in (run_at text_fragment m 0 heard) ≡ begins_in (run_at text_fragment m 0 (x ∷ heard))
+begins_on m x heard g older some is flag = grind (arith, nat_tests)
