@@ -22,7 +22,7 @@ use Rattle.rds_audit.specs.ListingLaws.{IsFormedMark, IsFormedMessage}
 use Rattle.rds_audit.specs.Reigns.{Reign, after_fragment, after_tags, opened_from, with_fragment}
 use Rattle.rds_audit.specs.Rules.{CanBeBroadcast, LogPasses, Passes}
 use Rattle.rds_audit.proofs.Gauges.{gauge_is_exact, name_gauge_is_exact}
-use Rattle.rds_audit.proofs.ListingSteps.{names_add, passes_without, texts_add}
+use Rattle.rds_audit.proofs.ListingSteps.{names_add, no_fault, passes_without, passing_adds, texts_add}
 use Rattle.rds_audit.proofs.SpanReigns.{adds_all, are_reigns, by_fragment}
 
 -- what these faults say if this is the first of them
@@ -151,3 +151,8 @@ fails_by form d (newest ∷ before) fault formed is = by (fails_by form d before
           passed = passes;
           breaks = slot_breaks form d newest before fault formed.0 passes (next None e);
         }
+
+-- what a verdict means, and how up to the first fault the list judges the reigns
+pub ruleset verdicts = (no_fault, passes_without, fails_by)
+
+pub ruleset judged_reigns = (are_reigns, gauge_is_exact, name_gauge_is_exact, passing_adds)

@@ -51,11 +51,7 @@ pub fn what_passes_as_a_recording_is_safe()
 }
 
 /// States that a log passes exactly if it has no fault, and that the slot with its fault breaks the rule of that name.
-#[tactic(auto, using(
-    crate::proofs::ListingSteps::no_fault,
-    crate::proofs::ListingSteps::passes_without,
-    crate::proofs::Breaking::fails_by,
-))]
+#[tactic(auto, using(crate::proofs::Breaking::verdicts))]
 pub fn passes_without_a_fault()
     ensures fails { WhatHasAFaultDoesNotPass }
     ensures passes { WhatHasNoFaultPasses }
@@ -75,12 +71,7 @@ pub fn what_passes_is_safe_by_the_flag()
 }
 
 /// States that up to the first fault the list of a log judges the reigns of the log, and is empty.
-#[tactic(auto, using(
-    crate::proofs::SpanReigns::are_reigns,
-    crate::proofs::Gauges::gauge_is_exact,
-    crate::proofs::Gauges::name_gauge_is_exact,
-    crate::proofs::ListingSteps::passing_adds,
-))]
+#[tactic(auto, using(crate::proofs::Breaking::judged_reigns))]
 pub fn the_list_judges_the_reigns()
     ensures texts { (form : TextForm) → SpansAreReigns (gauge_of form) }
     ensures names { SpansAreReigns name_gauge }

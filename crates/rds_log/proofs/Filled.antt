@@ -209,7 +209,7 @@ fails_at_slot how s v lines total line (Some group) stamp first says is timed ow
     (shown first stamp) lose)
 fails_at_slot how s v lines total line None stamp first says is timed own has lose =
     fails_at how s (line ∷ lines) v _ has.filling (adds_time how s lines total line stamp first says is timed own has)
-        lose
+    lose
 
 -- the output of a line without a whole group was added
 pub time_done : (how : Filling) (s after : Filler) (v : Traffic) (out : List ℕ) (lines : List Line) (total : List ℕ)

@@ -55,8 +55,11 @@ cut_says line slot stamp says timed =
     same_slot_line line q slot
     (omega (arith, length-take 60 line, content_near line))
     (omega (arith, length-take (20 + stamp.end) (take 60 line), content_near q))
-    (λ i h. rw (get_or-take (20 + stamp.end) (take 60 line) i 0 (omega arith), get_or-take 60 line i 0
-    (omega arith)) refl) says
+    (λ i h. rw (
+      get_or-take (20 + stamp.end) (take 60 line) i 0 (omega arith),
+      get_or-take 60 line i 0
+          (omega arith),
+    ) refl) says
 
 -- ---- lines more
 
@@ -130,8 +133,11 @@ with_more : (why : Option Break) (told lost : ℕ) (text : List ℕ) (slots : Li
     → HasCut (text ++ more_lines why told lost) (and_lost (max told lost) slots)
 with_more why told lost text slots had =
     let sum : lost - told + told ≡ max told lost = omega arith in
-    rw (← append_assoc text (break_line why) (lost_lines (lost - told)), ← more_and_lost (lost - told) told
-    (max told lost) slots sum)
+    rw (
+      ← append_assoc text (break_line why) (lost_lines (lost - told)),
+      ← more_and_lost (lost - told) told
+          (max told lost) slots sum,
+    )
     (with_lost (lost - told) (text ++ break_line why) (and_lost told slots) (with_break why text
     (and_lost told slots) had))
 

@@ -50,7 +50,7 @@ hears_text_before_tags laws d now plan log r law listens often t s u q k pair b 
     let slot = one_origin r.input t w.slot s w.from from in
     let lies = law.tags w.slot pair (mark_sent text_mark log w.slot (Some (Tags pair)) w.sent) in
     let same =
-        one_covers laws d plan lies.number k lies.broadcast b w.slot law.spaced lies.planned planned (omega arith)
+    one_covers laws d plan lies.number k lies.broadcast b w.slot law.spaced lies.planned planned (omega arith)
     (omega arith) in
     let lasted : b.start + d ≤ s = grind arith in
     let past = listens.past t s from in

@@ -68,7 +68,6 @@ all_before P m f s (g ∷ older) all = grind (arith, all_before P m f g.slot old
 
 module _ (laws : PlanLaws) (d m t : ℕ) (kind : Kind) (plan : List Broadcast) (log : List (Option Message))
     (input : Input) (spaced : IsSpaced d plan) (hears : IsHeardNear d m t log input) where
-
   -- so a run is joined
   joined_before : (f : Bool) (g : Segment) (gs : List Segment) → g.fragment.flag ≡ f → AreFalling g.slot gs
       → AreJoined (λ x y. x ≡ y) plan input (g ∷ run_before m f g.slot gs)

@@ -78,7 +78,7 @@ sent_for laws kind d m t plan log input g older pair law hears l is_run e =
     let tagged = mark_sent text_mark log came.slot (Some (Tags pair)) came.sent in
     let lies = law.tags came.slot pair tagged in
     let sent_later =
-        hears.tags b.0.slot f.slot own.slot came.slot pair (ap begins_in (sym is_run) ∙ b.1) f.later f.came own.from
+    hears.tags b.0.slot f.slot own.slot came.slot pair (ap begins_in (sym is_run) ∙ b.1) f.later f.came own.from
     came.from in
     search arith
 

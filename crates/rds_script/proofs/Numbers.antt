@@ -22,8 +22,11 @@ same_cut : (first other rest others : List ℕ) → HasNoSpace first → HasNoSp
     → first ++ space ∷ rest ≡ other ++ space ∷ others → (first ≡ other) × (rest ≡ others)
 same_cut [] [] rest others p q e = (refl, (cc))
 same_cut (b ∷ first) (c ∷ other) rest others p q e =
-    grind (arith, same_cut first other rest others (All-tail (λ b. b ≢ space) b first p)
-    (All-tail (λ b. b ≢ space) c other q))
+    grind (
+      arith,
+      same_cut first other rest others (All-tail (λ b. b ≢ space) b first p)
+          (All-tail (λ b. b ≢ space) c other q),
+    )
 same_cut [] (b ∷ other) rest others p q e = absurd (All-head (λ b. b ≢ space) b other q (cc))
 same_cut (b ∷ first) [] rest others p q e = absurd (All-head (λ b. b ≢ space) b first p (cc))
 

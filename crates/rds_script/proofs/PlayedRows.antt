@@ -151,8 +151,13 @@ pub refused_row : TextIsReadOneWay → (form : Form) (k : Config) (receivers : �
     → AreNoRows k form (row ∷ records)
 refused_row one form k receivers row records e events rows says how none [] say = say.rows
 refused_row one form k receivers row records e events rows says how none (g ∷ older) say =
-    grind (arith, same_event one row g e, same_events one k say.receivers receivers records older events,
-    same_receivers k say.receivers receivers records older events, same_count row g e)
+    grind (
+      arith,
+      same_event one row g e,
+      same_events one k say.receivers receivers records older events,
+      same_receivers k say.receivers receivers records older events,
+      same_count row g e,
+    )
 
 -- a slot that is refused can't be taken
 pub not_taken : (k : Config) (receivers : ℕ) (e : Event) (before : List Event) (why : StepRefused)

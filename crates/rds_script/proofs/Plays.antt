@@ -72,16 +72,16 @@ pub ends_by_fault : {R : Type 0} {g h : _} (remaining : R → Option (List ℕ))
     (where_next how p records before waiting played) (Err fault) → Plays how most r w (Err fault)
 ends_by_fault remaining how most r w before left s now p after row records waiting more turn
     (BadRow n) stands wrote none number fewer played next = (
-  record {
-    records = records;
-    bad = row;
-    wrote = wrote_rows remaining how r.known w left s p records stands wrote none;
-    begins = next.begins;
-    none = next.none;
-    number = grind arith;
-  },
-  grind arith,
-)
+      record {
+        records = records;
+        bad = row;
+        wrote = wrote_rows remaining how r.known w left s p records stands wrote none;
+        begins = next.begins;
+        none = next.none;
+        number = grind arith;
+      },
+      grind arith,
+    )
 ends_by_fault remaining how most r w before left s now p after row records waiting more turn Read stands wrote none
     number fewer played next =
     (records, wrote_rows remaining how r.known w left s p records stands wrote none, omega arith, next)

@@ -24,7 +24,7 @@ loop-i-preserved c =
     let at : (d : Receiver) → slice_get rs i ≡ Some (slice_index_or rs i d) =
     λ d. slice_get-get_or rs i d (omega (arith, long, c.loop-i-test.true)) in
     let told : slice_index_or c.args.receptions.now i Lost ≡ c.index-receptions-i.result =
-        search (arith, get_or_default) in
+    search (arith, get_or_default) in
     record {
       count = length-set _ _ _ ∙ c.loop-i.invariant.count;
       rest = λ k h. grind (arith, slice_get-set_other rs i k new, c.loop-i.invariant.rest k);

@@ -21,8 +21,11 @@ next items i s within at = grind (arith, airs_to)
 pub returns-then-not-goes_on : goal.returns-then-not-goes_on
 returns-then-not-goes_on c =
     let s = c.index-period.result.now in
-    let long : length c.args.self.now.periods.items ≡ c.len.result = omega (arith, c.len.ensures,
-    c.args.self.now.periods.ok.0) in
+    let long : length c.args.self.now.periods.items ≡ c.len.result = omega (
+      arith,
+      c.len.ensures,
+      c.args.self.now.periods.ok.0,
+    ) in
     let here = next c.args.self.now.periods.items c.loop-i.i s (omega arith) (rw long c.index-period.ensures) in
     let ends = none_seen c.args.lookback (view_of c.args.view) (view_kept s.air) (option_copied c.loop-i.text) in
     grind (arith, either_none, ends)
@@ -50,6 +53,9 @@ loop-i-preserved c =
     (airs_in (take (length items - (c.loop-i.i + 1)) items)) on in
     let same : c.same_parts.result ≡ same_parts view (view_kept s.air) = c.same_parts.ensures ∙ ap (same_parts view)
     c.view-air.ensures in
-    let left : c.loop-i.left - 1 - s.more ≡ c.saturating_sub-left.result = omega (arith,
-    c.saturating_sub-left.ensures, c.saturating_sub.ensures) in
+    let left : c.loop-i.left - 1 - s.more ≡ c.saturating_sub-left.result = omega (
+      arith,
+      c.saturating_sub-left.ensures,
+      c.saturating_sub.ensures,
+    ) in
     grind (arith, either_assoc)

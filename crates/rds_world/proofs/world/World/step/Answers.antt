@@ -79,7 +79,7 @@ returns-clause-stands c config events st =
     let many : length (take world.count world.reaches) ≡ world.count = grind (arith, nat_tests) in
     let reaches : HaveReaches late (now ∷ events) new.reaches = grind (arith, nat_tests) in
     let stay =
-        rw c.as_slice-receptions.ensures.value at (c.hand_out_first-self-inside.ensures.stays (length events) all_sent
+    rw c.as_slice-receptions.ensures.value at (c.hand_out_first-self-inside.ensures.stays (length events) all_sent
     (λ i. input_of apart i events) (λ i. last_named i events) kept due_told own.receivers) in
     subst (λ (x : Event). WorldAt config new (x ∷ events)) same
     (stepped config old new events now at refl c.obey-reply.ensures.value due_now fit ticked all reaches pasts kept
