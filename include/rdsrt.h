@@ -90,7 +90,7 @@
  *  - a pointer with a number beside it points to as many elements; if that number is 0, the pointer may be NULL;
  *  - the call's output overlaps no other argument, and no other thread touches it during the call.
  *
- * WE PROVE for every call (law: rds_ffi rdsrt_receiver_slot, clauses few, kept, stands; PROMISES.md has all of them):
+ * WE PROVE for every call (law: rds_ffi rdsrt_receiver_slot, clauses few, kept, stands):
  *  - Whatever bytes a struct or an array holds, the call is memory-safe and returns, and it returns no length or place
  *    beyond its buffer. It returns only the codes that its comment lists. An error leaves every struct as it was.
  *  - If _init made the struct and only these calls wrote it since, every answer is the one of DEFINITIONS.md for
