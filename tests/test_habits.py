@@ -54,7 +54,7 @@ HABITS = {
         Play([*sent(b"NEWS AT TEN".ljust(64)), *sent(b"ABBA SOS".ljust(64), 1), *sent(b"ROCK SONG".ljust(64))], ["yes 48"]),
         Play([*OLD * 3, *BETWEEN * 3, *NEW * 3], ["yes 27"])],
     "ends a short text with spaces in its last segment, without a carriage return and without all 16 segments": [
-        Play(sent(b"NEWS AT TEN ") * 3, ["yes 9"], radio=[]),
+        Play(sent(b"NEWS AT TEN ") * 3, ["yes 9"], "receivers of rdsrt do not show 1 of 1 text", radio=[]),
         Play(OLD * 3, ["yes 9"], radio=["NEWS AT TEN"]),
         Play(sent(b"NEWS AT TEN".ljust(64)), ["yes 16"], radio=["NEWS AT TEN".ljust(64)])],
     "sends spaces, zeros or old characters behind the carriage return": [
@@ -72,6 +72,10 @@ HABITS = {
         Play(sent(b"NEWS\x02AT TEN\r"), ["no 1 NotOneText"], options=("--padded",)),
         Play(sent(b"NEWS\rAT TEN\r"), ["no 1 NotOneText"], radio=["NEWS"])],
     "never flips the flag": [Play([*OLD, *NEW], ["no 3 Changed"], radio=MIXED)],
+    "changes one segment of a text without a flip, for example a clock or a frequency": [
+        Play([*sent("98.0 MHz"), *sent("98.5 MHz")], ["no 3 Changed"],
+             "in 1 of them no receiver shows a mix: the texts with this flag agree, or differ in one segment",
+             radio=["98.0 MHz", "98.5 MHz"])],
     "flips the flag some groups after the new text begins, or before": [
         Play([*OLD * 3, NEW[0], *sent("ROCK SONG", 1) * 3], ["no 9 Changed", "no 10 EarlyFlag"],
              radio=["NEWS AT TEN", "ROCK AT TEN", "none", "ROCK SONG"]),
@@ -79,8 +83,9 @@ HABITS = {
              radio=["NEWS AT TEN", "none", "ROCK SONG"])],
     "flips the flag without a new text, for example every 10 s": [
         Play([*OLD, *sent("NEWS AT TEN", 1), *OLD], ["no 6 EarlyFlag"],
-             "in 1 of them the text before is the same as the one before it: only a new text needs a flip",
-             radio=["NEWS AT TEN", "none", "NEWS AT TEN", "none", "NEWS AT TEN"])],
+             "in 1 of them no receiver shows a mix: the texts with this flag agree, or differ in one segment",
+             radio=["NEWS AT TEN", "none", "NEWS AT TEN", "none", "NEWS AT TEN"]),
+        Play([*OLD, *sent("NEWS AT TEN", 1), *NEW], ["no 6 EarlyFlag"], lost=range(3, 6), radio=MIXED)],
     "changes its texts faster than every M + K slots": [
         Play([*OLD, *BETWEEN, *NEW], ["no 6 EarlyFlag"], lost=range(3, 6), radio=MIXED),
         Play([*OLD, *BETWEEN * 3, *NEW], ["yes 15"])],

@@ -103,7 +103,8 @@ ROWS = [
 ]
 # a log that breaks one rule at this slot and line, its M and K, and the sentence
 NOES = [
-    (HI + HI.replace(b"4849", b"594F"), 1, 2, 4, 0, "a text changed without a flip of the A/B flag"),
+    (HI + HI.replace(b"4849", b"594F"), 1, 2, 4, 0,
+     "a text changed without a flip of the A/B flag: if it changes in two segments, receivers show a mix"),
     (b"# a comment\n" + worked_rows.FLAG_AFTER_FIVE, 5, 7, 8, 0,
      "a text reused the A/B flag less than M + K = 8 slots after the last group of the text before the previous one, "
      "in slot 0"),
@@ -128,7 +129,7 @@ NOES = [
      "shows them"),
     (HI + HI.replace(b"2140", b"2150") + HI, 2, 3, 4, 0,
      "a text reused the A/B flag less than M + K = 4 slots after the last group of the text before the previous one, in "
-     "slot 0. Here the text before is the same as the one before it: only a new text needs a flip"),
+     "slot 0"),
     (b"C201 A541 5003 5020\n", 0, 1, 4, 0, "the segments fit no name (PTYN): byte 0x03 at place 5"),
 ]
 # the time of a line, and how a note shows it
@@ -147,11 +148,12 @@ def note(text):
     return f"rdsrt: {text}\n"
 
 
-def next_commands(m, k):
-    """Returns the commands that a no proposes for a log on standard input."""
-    late = f" --k {k}" if k else ""
-    return (f". To list all faults: rdsrt audit --all{late} --pi C201 --m {m}"
-            f". To look for lost slots that make a mix: rdsrt witness --pi C201 --m {m}")
+def next_commands(m, k, rule=""):
+    """Returns the commands that a no by this rule proposes for a log on standard input."""
+    late, look = f" --k {k}" if k else "", "look for lost slots that make a mix: rdsrt witness"
+    if "changed" in rule:
+        look = "see what receivers show: rdsrt decode"
+    return f". To list all faults: rdsrt audit --all{late} --pi C201 --m {m}. To {look} --pi C201 --m {m}"
 
 
 def where_of(fault, texts):
@@ -322,7 +324,7 @@ class Warnings(ProgramCase):
     def test_a_no_names_its_slot_its_line_and_the_rule(self):
         for log, slot, line, m, k, rule in NOES:
             got = noted(f"{AUDIT} --m {m} --k {k}", log)
-            told = f"slot {slot} (line {line}): {rule}{next_commands(m, k)}"
+            told = f"slot {slot} (line {line}): {rule}{next_commands(m, k, rule)}"
             may_be_old = "RT+ tags came" in rule and ("in slot 0" in rule or rule.endswith("any text"))
             self.check(f"note on a no: {rule}", (got[0], got[2]), (1, note(told + RUNNING * may_be_old)))
         running = noted(f"{AUDIT} --m 8 --running", worked_rows.FLAG_AFTER_FIVE)[2]
@@ -333,7 +335,8 @@ class Warnings(ProgramCase):
         name = b"C201 A540 504F 5020\n"
         changed = noted(f"{AUDIT} --m 4", name + name.replace(b"504F", b"4A41"))[2]
         self.check("note on a no of a name", changed,
-                   note(f"slot 1 (line 2): a name (PTYN) changed without a flip of the A/B flag{next_commands(4, 0)}"))
+                   note("slot 1 (line 2): a name (PTYN) changed without a flip of the A/B flag: if it changes in two segments, "
+                        f"receivers show a mix{next_commands(4, 0, 'changed')}"))
 
     def test_the_slots_of_a_no_are_those_of_the_plain_audit(self):
         """The earlier slot of a no, the first group of its text, and a pause before it, on logs by chance."""
@@ -463,8 +466,25 @@ OBJECTS = [
        "first_line": 2, "first_time": "12.5", "last_slot": 1, "last_line": 2, "last_time": "12.5"},
       {"kind": "judged", "slots": 2, "empty": 0, "texts": 1, "names": 0, "tags": 1, "short": 0}]),
     (AUDIT, HI.rstrip() + b" 0.1\n" + LOST,
-     [{"kind": "judged", "slots": 2, "empty": 1, "texts": 1, "names": 0, "tags": 0, "short": 0},
-      {"kind": "few", "groups": 1, "slots": 2}]),
+     [{"kind": "few", "groups": 1, "slots": 2},
+      {"kind": "judged", "slots": 2, "empty": 1, "texts": 1, "names": 0, "tags": 0, "short": 0}]),
+    (DECODE, b"C201 2140 4849 2020\nC201 2150 4849 2020\nC201 2141 594F 0D20\n",
+     [{"kind": "incomplete", "texts": 3, "complete": 0, "endless": 2}]),
+    (AUDIT, b"C201 2140 4849 2020\n",
+     [{"kind": "incomplete", "texts": 1, "complete": 0},
+      {"kind": "judged", "slots": 1, "empty": 0, "texts": 1, "names": 0, "tags": 0, "short": 0}]),
+    (f"{AUDIT} --m 1", b"".join(b"C201 21%d0 4849 %s\n" % (4 + at % 2, b"0D20" if at < 2 else b"2020") for at in range(5)),
+     [{"kind": "incomplete", "texts": 5, "complete": 2},
+      {"kind": "judged", "slots": 5, "empty": 0, "texts": 5, "names": 0, "tags": 0, "short": 0}]),
+    (f"{AUDIT} --m 1", b"".join(b"C201 21%d0 4849 %s\n" % (4 + at % 2, b"0D20" if at < 3 else b"2020") for at in range(5)),
+     [{"kind": "judged", "slots": 5, "empty": 0, "texts": 5, "names": 0, "tags": 0, "short": 0}]),
+    (AUDIT, HI + b"C201 3018 0000 4BD7\nC201 C008 2006 0000\n",
+     [{"kind": "tags_elsewhere", "group": "12A", "groups": 1},
+      {"kind": "judged", "slots": 3, "empty": 0, "texts": 1, "names": 0, "tags": 0, "short": 0}]),
+    (f"{AUDIT} --m 8 --all", HI + b"C201 2150 594F 0D20\n" + HI + b"C201 2150 4849 0D20\n",
+     [{"kind": "faults", "fault": "EarlyFlag", "of": "text", "count": 2, "harmless": 2, "judged": 4, "first_slot": 2,
+       "first_line": 3, "last_slot": 3, "last_line": 4},
+      {"kind": "judged", "slots": 4, "empty": 0, "texts": 4, "names": 0, "tags": 0, "short": 0}]),
     (AUDIT, b"C201 2940 4849 0D20\n", [{"kind": "nothing", "short": 1}]),
     (DECODE, HI + b"C201 2940 4849 0D20\n", [{"kind": "short", "groups": 1}]),
     (DECODE, HI + b"C201 3018 0000 4BD7\nC201 C008 2006 0000\n", [{"kind": "tags_elsewhere", "group": "12A", "groups": 1}]),
@@ -567,6 +587,9 @@ class WhereNotesGo(ProgramCase):
             if fine and "C201" in words and not words.startswith(("encode", "sim")):
                 told = noted(words, given)[2]
                 wanted = told if re.fullmatch("rdsrt: judged in .*\n", told) and words.startswith("audit") else ""
+                if name == "second segment alone":
+                    wanted = note("segments of 1 text came, and no text was complete: 1 lacked a segment before the carriage "
+                                  "return")
                 if name == "contrary announcement":
                     wanted = note("group 11A carries the application CD46 by the 3A groups, not RT+: these groups were read "
                                   "as tags")

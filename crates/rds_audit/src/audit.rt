@@ -9,6 +9,7 @@ ghost use Rattle.rds_audit.specs.Stored.{audit_stored};
 ghost use Rattle.rds_safety.specs.Marks.{marks, name_mark, text_mark};
 
 use crate::audited::Names;
+use crate::content::is_complete_text;
 use crate::stored::{StoredAudit, StoredSpans};
 use crate::{LogStart, TextForm};
 use rds_fields::{Distance, Dwell, Late};
@@ -123,6 +124,13 @@ impl Audit {
             ≡ min (length (spans name_gauge d (marks name_mark heard))) (2 ^ 64 - 1)) }
     {
         self.state.name.count
+    }
+
+    /// Returns how many texts were complete so far, for a person: receivers show no other text. The number stops at
+    /// 2^32. No contract speaks of it.
+    pub fn complete_texts(&self) -> u64 {
+        let text = &self.state.text;
+        u64::from(text.complete) + u64::from(is_complete_text(&text.reigns.cells))
     }
 
     /// Returns whether some text has all segments of the current text, with padding, for a person: if not, receivers

@@ -6,6 +6,7 @@ ghost use Rattle.rds_audit.specs.Stored.{ages_stored, cell_stored, content_store
 
 use crate::audited::{Audited, Lengths, Measured, greatest_below};
 use crate::stored::{StoredCell, StoredReigns};
+use rds_assembly::CARRIAGE_RETURN;
 use rds_fields::{Tag, TagPair};
 
 impl StoredCell {
@@ -108,15 +109,6 @@ impl StoredReigns {
         greatest_below(65, &self.cells).is_some()
     }
 
-    /// Returns a sum of the segments. For a person; no contract speaks of it.
-    pub(crate) fn sum(&self) -> u32 {
-        let mut sum = 0u32;
-        for cell in self.cells {
-            sum = (sum ^ u32::from_le_bytes(cell.bytes)).wrapping_mul(16_777_619);
-        }
-        sum
-    }
-
     /// Returns the bytes that were sent at the address, if any.
     pub(crate) fn sent_at(&self, address: u8) -> Option<[u8; 4]>
         requires { address < 16 }
@@ -129,6 +121,20 @@ impl StoredReigns {
             None
         }
     }
+}
+
+/// Returns whether these segments make a complete text: all of them up to a carriage return came, or all 16. A receiver
+/// shows no other text. No contract speaks of it.
+pub fn is_complete_text(cells: &[StoredCell; 16]) -> bool {
+    for cell in cells {
+        if cell.is_sent == 0 {
+            return false;
+        }
+        if cell.bytes.contains(&CARRIAGE_RETURN) {
+            return true;
+        }
+    }
+    true
 }
 
 /// Returns the greater place after the piece of a tag of the pair.

@@ -20,6 +20,7 @@ pub use audit_laws::{
     broadcasts_are_the_reigns, passes_by_plans, passes_without_a_fault, the_list_judges_the_reigns,
     what_passes_as_a_recording_is_safe, what_passes_is_safe, what_passes_is_safe_by_the_flag,
 };
+pub use content::is_complete_text;
 pub use fault_set::{FAULTS, FaultSet};
 pub use log_start::LogStart;
 pub use stored::{StoredAudit, StoredCell, StoredFaults, StoredReigns, StoredSpans};

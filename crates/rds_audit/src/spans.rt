@@ -9,6 +9,7 @@ ghost use Rattle.rds_audit.specs.Recording.{silent_as};
 ghost use Rattle.rds_safety.specs.Marks.{Mark, Sends, Tagged};
 
 use crate::audited::{Audited, PaddedTexts, Texts};
+use crate::content::is_complete_text;
 use crate::stored::{StoredFaults, StoredReigns, StoredSpans};
 use crate::{FaultSet, LogStart, TextForm};
 use rds_fields::{Distance, TagPair};
@@ -26,8 +27,7 @@ impl StoredSpans {
             apart: 0,
             reigns: StoredReigns::new::<S>(distance, start),
             broken: StoredFaults::none(),
-            repeats: 0,
-            sum: 0,
+            complete: 0,
         }
     }
 
@@ -135,9 +135,8 @@ impl StoredSpans {
             (opened_in distance S.gauge.longest is_changed fragment.flag (spans_stored self.old)) }
         ensures faults { result ≡ (spans_stored self.new).broken }
     {
-        let sum = self.reigns.sum();
-        self.repeats = u8::from(self.count > 1 && sum == self.sum);
-        self.sum = sum;
+        let complete = u32::from(is_complete_text(&self.reigns.cells));
+        self.complete = self.complete.saturating_add(complete);
         self.open::<S>(distance, fragment.flag, is_changed);
         self.put::<S>(fragment);
         self.broken.get()

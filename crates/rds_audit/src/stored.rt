@@ -57,10 +57,8 @@ pub struct StoredSpans {
     pub apart: u32,
     pub reigns: StoredReigns,
     pub broken: StoredFaults,
-    /// Whether the one before the current one had the same segments as the one before that. No contract speaks of it.
-    pub repeats: u8,
-    /// A sum of the segments of the one before the current one. No contract speaks of it.
-    pub sum: u32,
+    /// The number of complete texts before the current one. It stops at 2^32 - 1. No contract speaks of it.
+    pub complete: u32,
 }
 
 /// The plain numbers of an [`Audit`](crate::Audit). Any numbers make an audit. Contracts describe its answers only if

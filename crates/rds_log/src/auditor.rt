@@ -13,6 +13,7 @@ ghost use Rattle.rds_log.specs.declared.verdict.TheConstants.{ANSWER_ROOM};
 
 use crate::audit_log::{Auditing, Stop};
 use crate::fault_notes::{FaultNotes, FaultPlace};
+use crate::harmless::AllChanges;
 use crate::heard::Heard;
 use crate::log_line::LogLine;
 use crate::news::News;
@@ -39,6 +40,7 @@ pub(crate) struct Auditor {
     rtplus: TagGroup,
     heard: Heard,
     faults: FaultNotes,
+    changes: AllChanges,
     no: Option<NoNote>,
 }
 
@@ -76,9 +78,11 @@ impl TakesLines for Auditor {
                 let read = self.rtplus.exchange_read(group);
                 // Prover: a value is copied by a new name before its second use (docs/PROVER.md, "Workarounds").
                 let heard = read;
+                let sent = read;
                 let failed = read;
                 self.heard.slot(self.pi, heard);
                 let found = self.audit.all_faults(read);
+                self.changes.note(slot, sent, &self.audit, found);
                 self.slots += 1;
                 if found.is_empty() {
                     return Ok(true);
@@ -117,6 +121,7 @@ impl Auditor {
             rtplus: how.rtplus,
             heard: Heard::new(),
             faults: FaultNotes::new(),
+            changes: AllChanges::new(how.stop, how.pi),
             no: None,
         }
     }
@@ -164,9 +169,12 @@ impl Auditor {
         notes.heard = self.heard;
         notes.no = self.no;
         notes.texts = self.audit.texts();
+        notes.complete = self.audit.complete_texts();
         notes.names = self.audit.names();
         notes.tags = self.audit.tags();
+        let (texts, names) = self.changes.ended();
         notes.faults = self.faults;
+        notes.faults.count_harmless(texts, names);
     }
 
     /// Returns whether no slot has a fault so far.

@@ -104,6 +104,7 @@ pub fn decode_with_notes<R: TellingRead, W: TellingWrite, N: News>(
     let read = &mut notes.read;
     let result = run(reader, writer, &mut decoder, reads, read, news);
     notes.heard = decoder.heard;
+    notes.incomplete = Some(decoder.incomplete);
     notes.slots = decoder.views.slot;
     result
 }

@@ -12,6 +12,7 @@ ghost use Rattle.rds_view_lines.specs.declared.change.TheConstants.{SLOT_ROOM};
 
 use crate::decode_log::Decoding;
 use crate::heard::Heard;
+use crate::incomplete::IncompleteTexts;
 use crate::log_line::LogLine;
 use crate::news::News;
 use crate::run_log::{OUTPUT_ROOM, TakesLines};
@@ -109,6 +110,7 @@ pub(crate) struct Decoder {
     pi: u16,
     rtplus: TagGroup,
     pub(crate) heard: Heard,
+    pub(crate) incomplete: IncompleteTexts,
 }
 
 impl Decoder {
@@ -125,6 +127,7 @@ impl Decoder {
             pi: how.pi,
             rtplus: how.rtplus,
             heard: Heard::new(),
+            incomplete: IncompleteTexts::new(how.dwell),
         }
     }
 }
@@ -163,8 +166,10 @@ impl TakesLines for Decoder {
                 // Prover: a value is copied by a new name before its second use (docs/PROVER.md, "Workarounds").
                 let heard = read;
                 let lost = read;
+                let begun = read;
                 self.heard.slot(self.pi, heard);
                 self.heard.lost(self.pi, lost, source);
+                self.incomplete.note(self.pi, self.views.slot, begun);
                 self.views.slot(read, output);
                 Ok(true)
             }

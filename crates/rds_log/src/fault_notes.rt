@@ -1,5 +1,6 @@
 //! How often each fault of a log came, for a person. No contract speaks of it.
 
+use crate::harmless::Harmless;
 use crate::line_time::LineTime;
 use crate::log_line::LogLine;
 use crate::notes::{harmless_in, is_name};
@@ -22,7 +23,9 @@ pub struct FaultPlace {
 pub struct FaultCount {
     pub fault: AuditFault,
     pub count: u64,
-    /// How many of them may be harmless ([`NoNote`](crate::NoNote) says when).
+    /// How many of them are harmless: receivers show what they would show without the fault. For `Changed` and
+    /// `EarlyFlag`, no receiver can show a mix: the texts with this flag are one text, or they differ in one segment.
+    /// [`NoNote`](crate::NoNote) has the others.
     pub harmless: u64,
     pub first: FaultPlace,
     pub last: FaultPlace,
@@ -56,6 +59,12 @@ impl FaultNotes {
             texts: FaultCounts::new(),
             names: FaultCounts::new(),
         }
+    }
+
+    /// Counts the harmless ones of the faults that begin a text or a name. The log ended.
+    pub(crate) fn count_harmless(&mut self, texts: Harmless, names: Harmless) {
+        self.texts.count_harmless(texts);
+        self.names.count_harmless(names);
     }
 
     /// Counts the faults of a slot, whose line says this. The audit took the slot.
@@ -96,7 +105,16 @@ impl FaultCounts {
         FaultCounts { counts: [None; 5] }
     }
 
-    /// Counts the faults of a slot, and which of them may be harmless.
+    /// Counts the harmless ones of the faults that begin a text or a name.
+    fn count_harmless(&mut self, harmless: Harmless) {
+        for count in self.counts.iter_mut() {
+            if let Some(count) = count {
+                count.harmless = count.harmless.saturating_add(harmless.of(count.fault));
+            }
+        }
+    }
+
+    /// Counts the faults of a slot, and which of them are harmless by themselves.
     fn add(&mut self, found: FaultSet, harmless: FaultSet, place: FaultPlace) {
         for (count, fault) in self.counts.iter_mut().zip(FAULTS) {
             if found.has(fault) {
@@ -106,7 +124,7 @@ impl FaultCounts {
     }
 }
 
-/// Returns the count with one more fault, which may be harmless or not.
+/// Returns the count with one more fault, which is harmless or not.
 fn one_more(
     count: Option<FaultCount>,
     fault: AuditFault,

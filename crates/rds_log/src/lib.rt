@@ -19,7 +19,9 @@ mod decoder;
 mod fault_notes;
 mod filler;
 mod gather_log;
+mod harmless;
 mod heard;
+mod incomplete;
 mod laws;
 mod line_cause;
 mod line_time;
@@ -40,6 +42,7 @@ pub use fault_notes::{FaultCount, FaultCounts, FaultNotes, FaultPlace};
 pub use filler::{Filling, Gap, SlotCounts, Times, comment_of};
 pub use gather_log::gather;
 pub use heard::{Announced, GroupCounts, Heard};
+pub use incomplete::IncompleteTexts;
 pub use laws::{
     bytes_have_one_verdict, bytes_write_one_output, filled_texts_are_logs, what_an_answer_means,
 };

@@ -2,6 +2,7 @@
 
 use crate::fault_notes::{FaultNotes, FaultPlace};
 use crate::heard::Heard;
+use crate::incomplete::IncompleteTexts;
 use crate::line_cause::LineCause;
 use crate::log_line::{DECIDING, LogLine};
 use crate::log_times::{FIRST, LogTimes};
@@ -42,8 +43,8 @@ pub struct NoNote {
     /// For `NotOneText`, what is wrong with the segment.
     pub cause: Option<SegmentCause>,
     /// Whether the fault may be harmless. For `NotOneText`, if a text with padding has all segments of the text. For
-    /// `EarlyTag`, if both tags are empty. For `EarlyFlag`, if the text before had the same segments as the one before
-    /// it.
+    /// `EarlyTag`, if both tags are empty. `Changed` and `EarlyFlag` begin a text, so only the segments after this slot
+    /// show whether they are: [`FaultCount`](crate::FaultCount) counts these.
     pub is_harmless: bool,
 }
 
@@ -108,15 +109,11 @@ impl NoNote {
 }
 
 /// Returns which faults may be harmless in the slot of this line, which the audit took: a text with padding has all
-/// segments of the text, both tags are empty, or the text before had the same segments as the one before it.
+/// segments of the text, or both tags are empty.
 pub(crate) fn harmless_in(audit: &Audit, said: LogLine) -> FaultSet {
     let sent = said;
-    let of_name = is_name(said);
-    let stored = audit.store();
-    let current = if of_name { stored.name } else { stored.text };
     FaultSet {
-        early_flag: current.repeats != 0,
-        not_one_text: !of_name && stored.is_padded == 0 && audit.fits_padded(),
+        not_one_text: !is_name(said) && audit.store().is_padded == 0 && audit.fits_padded(),
         early_tag: has_empty_tags(sent),
         ..FaultSet::none()
     }
@@ -239,6 +236,10 @@ pub struct LogNotes {
     pub no: Option<NoNote>,
     /// The number of texts that the audit judged.
     pub texts: u64,
+    /// The number of them that were complete.
+    pub complete: u64,
+    /// The texts that came before `decode` met a complete one.
+    pub incomplete: Option<IncompleteTexts>,
     /// The number of names.
     pub names: u64,
     /// The number of groups with tags.
@@ -256,6 +257,8 @@ impl LogNotes {
             read: ReadNotes::new(),
             no: None,
             texts: 0,
+            complete: 0,
+            incomplete: None,
             names: 0,
             tags: 0,
             faults: FaultNotes::new(),

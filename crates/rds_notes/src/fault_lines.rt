@@ -72,11 +72,11 @@ fn push_harmless(fault: AuditFault, line: &mut Line) {
             "it may be harmless: receivers show nothing behind the carriage return"
         ),
         AuditFault::EarlyTag => write!(line, "both tags are empty, so no receiver shows them"),
-        AuditFault::EarlyFlag => write!(
+        AuditFault::Changed | AuditFault::EarlyFlag => write!(
             line,
-            "the text before is the same as the one before it: only a new text needs a flip"
+            "no receiver shows a mix: the texts with this flag agree, or differ in one segment"
         ),
-        AuditFault::Changed | AuditFault::TagOutside => Ok(()),
+        AuditFault::TagOutside => Ok(()),
     };
 }
 
@@ -111,10 +111,19 @@ pub(crate) fn push_no_advice(no: NoNote, request: &Request<'_>, line: &mut Line)
     let _ = write!(line, "To list all faults: rdsrt audit --all");
     push_audit_options(request.task, line);
     push_input(request, line);
-    let _ = write!(
-        line,
-        ". To look for lost slots that make a mix: rdsrt witness"
-    );
+    let _ = match no.fault {
+        // a receiver that loses nothing shows a mix too
+        AuditFault::Changed => write!(line, ". To see what receivers show: rdsrt decode"),
+        AuditFault::EarlyFlag
+        | AuditFault::NotOneText
+        | AuditFault::EarlyTag
+        | AuditFault::TagOutside => {
+            write!(
+                line,
+                ". To look for lost slots that make a mix: rdsrt witness"
+            )
+        }
+    };
     push_input(request, line);
     push_running(no, request.task, line);
 }
@@ -199,7 +208,10 @@ fn push_rule(no: NoNote, line: &mut Line) {
     let thing = if no.of_name { "name (PTYN)" } else { "text" };
     let spacing = no.spacing;
     let _ = match no.fault {
-        AuditFault::Changed => write!(line, "a {thing} changed without a flip of the A/B flag"),
+        AuditFault::Changed => write!(
+            line,
+            "a {thing} changed without a flip of the A/B flag: if it changes in two segments, receivers show a mix"
+        ),
         AuditFault::NotOneText => write!(line, "the segments fit no {thing}"),
         AuditFault::EarlyFlag => write!(
             line,

@@ -10,8 +10,11 @@ use rds_script::{EarlySet, ScriptNotes};
 use std::io::{self, ErrorKind};
 
 /// The most notes of a run: one for each kind of fault of a text, of a name and of tags before the first text, and at
-/// most thirteen others.
-const MOST_NOTES: usize = 28;
+/// most fourteen others.
+const MOST_NOTES: usize = 29;
+
+/// The texts of a recording that its start and its end may cut.
+const CUT_TEXTS: u64 = 2;
 
 /// The code of group type 2B.
 const SHORT_TEXT_CODE: u8 = 5;
@@ -62,6 +65,15 @@ pub(crate) struct Judged {
     pub(crate) tags: u64,
     /// The groups 2B, which nothing here reads.
     pub(crate) short: u64,
+}
+
+/// How many texts came, and how many of them were complete. A receiver shows no other text.
+#[derive(Clone, Copy)]
+pub(crate) struct Incomplete {
+    pub(crate) texts: u64,
+    pub(crate) complete: u64,
+    /// How many of them have no carriage return, for `decode`.
+    pub(crate) endless: Option<u64>,
 }
 
 /// Which programmes a log has, if it has none of the wanted one.
@@ -128,6 +140,8 @@ pub(crate) enum Note<'a> {
     NoGroup(OtherGroups<'a>),
     /// The programme has no group of a text, a name or tags, and so many groups 2B.
     NothingToRead(u64, &'a Request<'a>),
+    /// Texts came that were not complete.
+    Incomplete(Incomplete),
     /// What was judged.
     Judged(Judged),
     /// A log with times has a group of the programme in fewer than nine tenths of its slots: so many of so many.
@@ -161,8 +175,8 @@ pub(crate) fn notes_of<'a>(run: &'a Run<'a>) -> Notes<'a> {
         note_script(run, &mut notes);
         note_faults(run, &mut notes);
         note_slots(run, &mut notes);
-        note_groups(run, &mut notes);
         note_tags(run, &mut notes);
+        note_groups(run, &mut notes);
         note_damaged(run, &mut notes);
     }
     if let Some(note) = end_note(run) {
@@ -268,8 +282,28 @@ fn note_groups<'a>(run: &'a Run<'a>, notes: &mut Notes<'a>) {
         add(Note::NothingToRead(short, run.request), notes);
     } else if judges {
         note_judged(run, short, notes);
-    } else if short > 0 {
-        add(Note::ShortTexts(short), notes);
+    } else {
+        note_incomplete(run, notes);
+        if short > 0 {
+            add(Note::ShortTexts(short), notes);
+        }
+    }
+}
+
+/// Notes that `decode` met texts and no complete one.
+fn note_incomplete<'a>(run: &'a Run<'a>, notes: &mut Notes<'a>) {
+    if let Some(came) = run.log.incomplete
+        && !came.is_over
+        && came.texts > 0
+    {
+        add(
+            Note::Incomplete(Incomplete {
+                texts: came.texts,
+                complete: 0,
+                endless: Some(came.endless()),
+            }),
+            notes,
+        );
     }
 }
 
@@ -329,10 +363,25 @@ fn reads_log(run: &Run<'_>) -> bool {
     of_log && matches!(run.end, End::Done)
 }
 
-/// Notes what an audit judged, and whether much of the log is missing.
+/// Notes what an audit judged. First whether much of the log is missing, and whether receivers show its texts: in a
+/// recording the first text and the last one may be cut.
 fn note_judged<'a>(run: &'a Run<'a>, short: u64, notes: &mut Notes<'a>) {
     let log = &run.log;
     let groups = log.heard.counts.total();
+    if log.read.times.has_times() && groups.saturating_mul(10) < log.slots.saturating_mul(9) {
+        add(Note::Few(groups, log.slots, run.request.pi), notes);
+    }
+    let (texts, complete) = (log.texts, log.complete);
+    if texts > 0 && (complete == 0 || texts.saturating_sub(complete) > CUT_TEXTS) {
+        add(
+            Note::Incomplete(Incomplete {
+                texts,
+                complete,
+                endless: None,
+            }),
+            notes,
+        );
+    }
     add(
         Note::Judged(Judged {
             slots: log.slots,
@@ -344,9 +393,6 @@ fn note_judged<'a>(run: &'a Run<'a>, short: u64, notes: &mut Notes<'a>) {
         }),
         notes,
     );
-    if log.read.times.has_times() && groups.saturating_mul(10) < log.slots.saturating_mul(9) {
-        add(Note::Few(groups, log.slots, run.request.pi), notes);
-    }
 }
 
 /// Returns whether no group of a text, a name or tags was counted.

@@ -1,7 +1,7 @@
 //! The sentences of notes.
 
 use crate::fault_lines::{push_found, push_found_advice, push_no, push_no_advice};
-use crate::note::{CoarseTimes, Elsewhere, Judged, Note, OtherGroups, Run};
+use crate::note::{CoarseTimes, Elsewhere, Incomplete, Judged, Note, OtherGroups, Run};
 use arrayvec::ArrayVec;
 use rds_arrivals::Break;
 use rds_cli::{Request, Task};
@@ -39,6 +39,7 @@ pub(crate) fn push_note(note: Note<'_>, line: &mut Line) {
         Note::Break(why) => push_break(why, line),
         Note::NoGroup(other) => push_no_group(other, line),
         Note::NothingToRead(short, request) => push_nothing(short, request, line),
+        Note::Incomplete(incomplete) => push_incomplete(incomplete, line),
         Note::Judged(judged) => push_judged(judged, line),
         Note::Few(groups, slots, pi) => push_few(groups, slots, pi, line),
         Note::ShortTexts(short) => push_short(short, "", "read", line),
@@ -88,6 +89,40 @@ fn push_short(short: u64, join: &str, verb: &str, line: &mut Line) {
     let _ = write!(line, "{join}");
     push_count(short, "group 2B was", "groups 2B were", line);
     let _ = write!(line, " not {verb}");
+}
+
+/// Appends that texts came which were not complete, and what they lack.
+fn push_incomplete(incomplete: Incomplete, line: &mut Line) {
+    let texts = incomplete.texts;
+    let Some(endless) = incomplete.endless else {
+        let left = texts.saturating_sub(incomplete.complete);
+        let _ = write!(line, "receivers of rdsrt do not show {left} of ");
+        push_count(texts, "text", "texts", line);
+        let _ = write!(
+            line,
+            ": a text is shown when all its segments up to a carriage return came, or all 16"
+        );
+        return;
+    };
+    let _ = write!(line, "segments of ");
+    push_count(texts, "text", "texts", line);
+    let _ = write!(line, " came, and no text was complete: ");
+    if endless > 0 {
+        let _ = write!(
+            line,
+            "{endless} had no carriage return and not all 16 segments"
+        );
+    }
+    if 0 < endless && endless < texts {
+        let _ = write!(line, ", ");
+    }
+    if endless < texts {
+        let lacking = texts.saturating_sub(endless);
+        let _ = write!(
+            line,
+            "{lacking} lacked a segment before the carriage return"
+        );
+    }
 }
 
 /// Appends what an audit judged.

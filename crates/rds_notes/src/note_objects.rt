@@ -50,6 +50,12 @@ pub(crate) fn push_object(note: Note<'_>, sentence: &[u8], advice: &[u8], line: 
             push_number("others", other.others, line);
         }
         Note::NothingToRead(short, _) => push_one("nothing", "short", short, line),
+        Note::Incomplete(incomplete) => {
+            push_kind("incomplete", line);
+            push_number("texts", incomplete.texts, line);
+            push_number("complete", incomplete.complete, line);
+            push_known("endless", incomplete.endless, line);
+        }
         Note::Judged(judged) => {
             push_kind("judged", line);
             push_number("slots", judged.slots, line);
