@@ -270,9 +270,10 @@ passed_by_the_program law n pi m k running padded all log output some ran zero_i
 
 -- ---- `decode`
 
--- what a run of `decode` printed
-abbrev Shown : Option ℕ → ℕ → ℕ → ℕ → List ℕ → List ℕ → Type 0
-Shown window n pi m received output = (printed : List ℕ) × Prints n pi m window received printed
+-- what a run of `decode` with this status printed
+abbrev Shown : Option ℕ → ℕ → ℕ → ℕ → List ℕ → List ℕ → ℕ → Type 0
+Shown window n pi m received output status = (printed : List ℕ) × (prints : Prints n pi m window received printed)
+    × (status ≡ 0 → AreLines received prints.lines)
     × ((t : ℕ) (part : Part) (content : List ℕ) → Shows output t part content → Shows printed t part content)
 
 -- what a run of `decode` writes is printed for its log
@@ -290,27 +291,30 @@ decoded_by_the_program window why n pi m received output ran = by ran.ran.outcom
 
     fault : (lines : List Line) (line : Line) (more : List ℕ) (wrote : WroteLines (LinesWrite how) first lines)
         (text : List ℕ) → received ≡ text_of lines line ++ more → All IsLine lines → IsLine line → IsLine text
-        → get_or text 0 0 ≡ 102 → PutsLine (text ++ codes "\n") rest → Shown window n pi m received output
-    fault lines line more wrote text cut are is single f told =
+        → get_or text 0 0 ≡ 102 → ran.status ≡ 1 → PutsLine (text ++ codes "\n") rest
+        → Shown window n pi m received output ran.status
+    fault lines line more wrote text cut are is single f one told =
         let all = has_more ran.ran.mid ran.w.after wrote.written (text ++ codes "\n") output
         (fresh_has ran.w.before ran.ran.mid wrote.written ran.fresh wrote.wrote) ran.wrote
         (puts_whole rest (text ++ codes "\n") ran.unfailed told) in (
           wrote.written,
           record { lines = lines; begins = inl (line, more, cut, are, is); why = why; write = wrote.write },
+          λ zero. absurd (omega (arith, one, zero)),
           λ t part content sh. shows_before wrote.write.write.displays wrote.written output text t part content
               wrote.write.write.changes single f all sh,
         )
 
     between : (least : ℕ) (stops : StopsBetween (LinesWrite how) ran.r first least) (text : List ℕ) → IsLine text
-        → get_or text 0 0 ≡ 102 → PutsLine (text ++ codes "\n") rest → Shown window n pi m received output
-    between least stops text single f told =
+        → get_or text 0 0 ≡ 102 → ran.status ≡ 1 → PutsLine (text ++ codes "\n") rest
+        → Shown window n pi m received output ran.status
+    between least stops text single f one told =
         let read = all_bytes ran.r.before ran.r.after received (text_of stops.closed stops.reads.begun) ran.given
         stops.reads.read in
         fault stops.closed stops.reads.begun read.0 stops.wrote text read.2 stops.reads.lines_are stops.reads.line_is
-        single f told
+        single f one told
 
     by : (outcome : Result (Unit {0}) LogFault) → Decodes how (2 ^ 32) ran.r first outcome
-        → EndsWith done (Decode window why) outcome rest ran.status → Shown window n pi m received output
+        → EndsWith done (Decode window why) outcome rest ran.status → Shown window n pi m received output ran.status
     by (Ok done) all ended =
         let text = consumed ran.r.before ran.r.after received all.text ran.given all.read all.end in
         let same = same_known ran.w.after output all.written ran.wrote
@@ -318,6 +322,7 @@ decoded_by_the_program window why n pi m received output ran = by ran.ran.outcom
         let writes : LogWrites how received all.written = rw text at all.write in (
           all.written,
           record { lines = writes.cut; begins = inr (refl, writes.are); why = why; write = writes.write },
+          λ zero. writes.are,
           λ t part content sh. subst (λ (l : List ℕ). Shows l t part content) same sh,
         )
     by (Err (BadLine number)) (text, read, stops, calm) ended =
@@ -328,11 +333,11 @@ decoded_by_the_program window why n pi m received output ran = by ran.ran.outcom
         ∙ append_assoc (text_of stops.lines stops.next.line) stops.next.rest bytes.0) stops.next.bad.lines
         stops.next.bad.is_line
         (join_lines (codes "fault line ") (decimal number) (feedless (codes "fault line ") refl)
-        (decimal_line number)) refl ended.1
+        (decimal_line number)) refl ended.0 ended.1
     by (Err Read) (stops, failed) ended =
-        between 0 stops (codes "fault read") (feedless (codes "fault read") refl) refl ended.1
+        between 0 stops (codes "fault read") (feedless (codes "fault read") refl) refl ended.0 ended.1
     by (Err TooLong) (stops, calm) ended =
-        between (2 ^ 32) stops (codes "fault too long") (feedless (codes "fault too long") refl) refl ended.1
+        between (2 ^ 32) stops (codes "fault too long") (feedless (codes "fault too long") refl) refl ended.0 ended.1
     by (Err Write) (text, read, stops, calm) ended =
         absurd (no_failure ran.w.failures_before ran.ran.failures (sym ended.1.calm ∙ ran.unfailed) stops.wrote.failed)
     by (Err (BadRow row)) all ended = absurd all

@@ -7,8 +7,8 @@ use Rattle.rds_log.specs.Reads.{BeginsWith}
 use Rattle.rds_view_lines.specs.Output.{none_content}
 use Rattle.rds_view_lines.specs.ViewParts.{Part, line_in}
 
--- `decode` for tags in groups nA, with this window or none, with reasons or without, printed this for the first lines
--- of a received log: for all lines, or for those before a malformed one
+-- `decode` for tags in groups nA, with this window or none, with reasons or without, printed this for some first lines
+-- of a received log. A run with status 0 read all of its lines (specs/Program)
 pub record Prints (n pi m : ℕ) (window : Option ℕ) (received printed : List ℕ) : Type 0 where
   pub lines : List Line
   pub begins : BeginsWith received (Some []) lines

@@ -6,6 +6,7 @@ use Rattle.rds_cli.specs.declared.request.Task.{Task}
 use Rattle.rds_cli.specs.declared.request.Task.TheVariants.{Audit, Decode, Encode}
 use Rattle.rds_io.specs.Told.{Traffic}
 use Rattle.rds_fields.specs.TagGroup.{MayCarryTags}
+use Rattle.rds_log.specs.LogLines.{AreLines}
 use Rattle.rds_program.specs.Run.{Listening, ReaderOver, TaskRuns, auditing_of, listening}
 use Rattle.rds_script.specs.Play.{with_form}
 use Rattle.rds_script.specs.declared.form.Form.TheVariants.{Log}
@@ -49,10 +50,11 @@ WhatTheProgramPassesIsSafe =
     → (ran : Ran (Audit k running padded all) (listening n pi m) log output) → ran.status ≡ 0
     → HasSafePlans (auditing_of (listening n pi m) k running padded all) log
 
--- what the program decodes with M shows what such receivers print
+-- what the program decodes with M shows what such receivers print. With status 0 it read all lines of the received log
 abbrev pub WhatTheProgramDecodesIsPrinted : Type 0
 WhatTheProgramDecodesIsPrinted =
     (window : Option ℕ) (why : Bool) (n pi m : ℕ) (received output : List ℕ)
-    → Ran (Decode window why) (listening n pi m) received output
-    → (printed : List ℕ) × Prints n pi m window received printed
+    → (ran : Ran (Decode window why) (listening n pi m) received output)
+    → (printed : List ℕ) × (prints : Prints n pi m window received printed)
+    × (ran.status ≡ 0 → AreLines received prints.lines)
     × ((t : ℕ) (part : Part) (content : List ℕ) → Shows output t part content → Shows printed t part content)

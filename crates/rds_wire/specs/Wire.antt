@@ -44,7 +44,7 @@ IsSafeOnTheWire a log air =
 
 -- ---- the law of scripts
 
--- `encode` wrote this log for the first records of a script: for all records, or for those before a malformed one
+-- `encode` wrote this log for some first records of a script, or for all of them
 pub record Encodes (how : Playing) (script log : List ℕ) : Type 0 where
   pub records : List Record
   pub begins : HasRecords (Some script) records

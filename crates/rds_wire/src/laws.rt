@@ -89,7 +89,7 @@ pub fn groups_are_heard_as_messages()
 
 /// States both laws for runs of the program: what the command `encode` writes is safe on the wire, and so is a log to
 /// which the command `audit` says yes by status 0. What the command `decode` writes shows what the laws say of
-/// receivers. A run of `encode` or `decode` may end at a fault.
+/// receivers. A run of `encode` or `decode` may end at a fault. With status 0 `decode` read the whole log.
 pub fn what_the_program_encodes_it_decodes_safely()
     ensures encodes { WhatTheProgramEncodesIsSafe }
     ensures audits { WhatTheProgramPassesIsSafe }
