@@ -13,5 +13,6 @@ pub mod Wired
 pub mod Filling
 pub mod Twice
 pub mod Runs
+pub mod Asked
 pub mod Mixes
 pub mod WorkedRows

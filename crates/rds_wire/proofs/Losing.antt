@@ -1,11 +1,17 @@
 -- A log that only lost slots is received, however late its groups might come.
 use Rattle.std.proofs.lemmas.List.{length-map}
 use Rattle.std.proofs.Common.{◌≡◌, ◌⊎◌, ◌+◌, ◌∷◌, [], ℕ, List, Option, None, Some, arith, inl, inr, length, map, refl}
+use Rattle.std.specs.List.{AllZip}
 use Rattle.rds_block.specs.declared.group.Group.{Group}
-use Rattle.rds_safety.specs.Late.{HasEntry, IsHeardLate, own_origins}
+use Rattle.rds_fields.specs.declared.message.Message.{Message}
+use Rattle.rds_receiver.specs.Receipts.{heard_of}
+use Rattle.rds_safety.specs.Confirmed.{WasSent}
+use Rattle.rds_safety.specs.Late.{HasEntry, InputOf, IsHeardInOrder, IsHeardLate, own_origins}
 use Rattle.rds_wire.specs.Received.{WhoLosesSlotsReceives, first_entries, own_group}
+use Rattle.rds_wire.specs.Twice.{WhoLosesSlotsReceivesForTwo}
 use Rattle.rds_wire.proofs.Firsts.{entry_below, entry_in_first}
-use Rattle.rds_wire.proofs.Receiving.{entry_left}
+use Rattle.rds_wire.proofs.Receiving.{entry_left, late_groups, own_heard}
+use Rattle.rds_wire.proofs.Wired.{entry_at}
 
 -- ---- inputs on time
 
@@ -43,7 +49,25 @@ entry_of_map f (x ∷ xs) t y (inr there) = (let it = entry_of_map f xs t y ther
 own_or_none : (pi : ℕ) (slot : Option Group) → (own_group pi slot ≡ None) ⊎ (own_group pi slot ≡ slot)
 own_or_none pi slot = grind arith
 
--- a log that lost slots is received
+-- a log that lost slots was heard with any lateness
+lost_is_late : (pi k n : ℕ) (sent got : List (Option Group))
+    → AllZip (λ (group slot : Option Group). (slot ≡ None) ⊎ (slot ≡ group)) sent got
+    → IsHeardLate k sent record {
+      first = 0;
+      heard = map (own_group pi) (first_entries n got);
+      origins = own_origins 0 (map (own_group pi) (first_entries n got));
+    }
+lost_is_late pi k n sent got lost = on_time_is_late k sent (map (own_group pi) (first_entries n got)) each
+  where
+    each : (u : ℕ) (entry : Option Group) → HasEntry 0 (map (own_group pi) (first_entries n got)) u entry
+        → (entry ≡ None) ⊎ HasEntry 0 sent u entry
+    each u entry at =
+        let x = entry_of_map (own_group pi) (first_entries n got) u entry at in
+        let kept = entry_left (λ (group slot : Option Group). (slot ≡ None) ⊎ (slot ≡ group)) 0 sent got u x.0 lost
+        (entry_in_first n got u x.0 x.1).0 in
+        grind (arith, own_or_none pi x.0)
+
+-- so it is received
 pub lost_is_received : WhoLosesSlotsReceives
 lost_is_received a log got t loses reached = record {
   sent = loses.sent;
@@ -51,13 +75,49 @@ lost_is_received a log got t loses reached = record {
   reached = reached;
   few = loses.few;
   origins = own_origins 0 (map (own_group a.pi) (first_entries (t + 1) got));
-  came = inl (on_time_is_late a.late loses.sent (map (own_group a.pi) (first_entries (t + 1) got)) each, refl);
+  came = inl (lost_is_late a.pi a.late (t + 1) loses.sent got loses.lost, refl);
 }
+
+-- ---- without a wrong message
+
+-- each message that was heard in order was sent
+heard_was_sent : (log heard : List (Option Message)) (origins : List (Option ℕ)) (t : ℕ) (message : Message)
+    → IsHeardInOrder log record { first = 0; heard = heard; origins = origins } → HasEntry 0 heard t (Some message)
+    → WasSent record { first = 0; heard = heard; origins = origins } t
+heard_was_sent log heard origins t message order at =
+    let beside = order.beside in
+    let it = entry_at origins t (omega (arith, beside, entry_below 0 heard t (Some message) at)) in
+    by it.0 it.1
   where
-    each : (u : ℕ) (entry : Option Group) → HasEntry 0 (map (own_group a.pi) (first_entries (t + 1) got)) u entry
-        → (entry ≡ None) ⊎ HasEntry 0 loses.sent u entry
-    each u entry at =
-        let x = entry_of_map (own_group a.pi) (first_entries (t + 1) got) u entry at in
-        let kept = entry_left (λ (group slot : Option Group). (slot ≡ None) ⊎ (slot ≡ group)) 0 loses.sent got u x.0
-        loses.lost (entry_in_first (t + 1) got u x.0 x.1).0 in
-        grind (arith, own_or_none a.pi x.0)
+    by : (origin : Option ℕ) → HasEntry 0 origins t origin
+        → WasSent record { first = 0; heard = heard; origins = origins } t
+    by None from = (let none = order.each t None (Some message) from at in absurd (cc))
+    by (Some s) from = record { slot = s; from = from }
+
+-- so it is received as a log with wrong messages
+pub lost_is_received_for_two : WhoLosesSlotsReceivesForTwo
+lost_is_received_for_two n pi w k log got t loses reached =
+    let some = first_entries (t + 1) got in
+    let groups : InputOf Group = record {
+      first = 0;
+      heard = map (own_group pi) some;
+      origins = own_origins 0 (map (own_group pi) some);
+    } in
+    let late = late_groups pi k k loses.sent (heard_of pi loses.sent) (heard_of pi some) groups refl
+    (own_heard pi some (heard_of pi some) refl) (omega arith) (lost_is_late pi k (t + 1) loses.sent got loses.lost) in
+    record {
+      sent = heard_of pi loses.sent;
+      log_has = record { slots = loses.sent; has = loses.log_has; heard = refl };
+      reached = reached;
+      few = loses.few;
+      origins = groups.origins;
+      late = record {
+        beside = late.order.beside;
+        each = λ u s entry from at. late.order.each u (Some s) entry from at;
+        rising = late.order.rising;
+        past = late.past;
+        late = late.late;
+      };
+      once = λ u v message two before near p q. inl
+          (heard_was_sent (heard_of pi loses.sent) (heard_of pi some) groups.origins u message late.order p);
+    }

@@ -1,14 +1,16 @@
 -- Worked rows: what an output shows, how a log is received, and what is safe to show. Those that end in ⊥ say no: so a
 -- wider definition would be seen.
 use Rattle.std.proofs.Common.{◌≡◌, ◌≢◌, ◌⊎◌, ◌<◌, ◌≤◌, ◌+◌, ◌∷◌, ◌∙◌, [], ℕ, false, true, List, None, Option}
-use Rattle.std.proofs.Common.{Some, ap, arith, codes, get_or, inl, inr, map, refl, subst}
+use Rattle.std.proofs.Common.{Some, ap, arith, codes, get_or, inl, inr, map, refl, subst, sym}
 use Rattle.std.specs.Char.{encode_utf8}
 use Rattle.std.specs.Fmt.{digits}
 use Rattle.std.specs.List.{Contains}
 use Rattle.std.proofs.lemmas.List.Elements.{All-cons, All-nil}
 use Rattle.rds_block.specs.declared.group.Group.{Group}
+use Rattle.rds_fields.specs.Meaning.{message_in}
 use Rattle.rds_fields.specs.Tag.{PairFields}
-use Rattle.rds_encoder.specs.Plan.{Broadcast, HasNumber}
+use Rattle.rds_fields.specs.declared.message.Message.{Message}
+use Rattle.rds_encoder.specs.Plan.{Broadcast, Covers, HasNumber}
 use Rattle.rds_charset.specs.Printed.{printed_byte}
 use Rattle.rds_charset.specs.Table.{character_of}
 use Rattle.rds_log.specs.Audit.{complete}
@@ -16,14 +18,18 @@ use Rattle.rds_log.specs.FilledLog.{IsLogOf}
 use Rattle.rds_log.specs.LogLines.{AreLines}
 use Rattle.rds_log.specs.LogWrites.{AreSlots}
 use Rattle.rds_log.specs.OneLog.{same_log}
+use Rattle.rds_receiver.specs.Receipts.{heard_in, heard_of}
 use Rattle.rds_receiver.specs.Shown.{view_with}
+use Rattle.rds_safety.specs.Confirmed.{IsHeardWithWrong, WasSent}
 use Rattle.rds_safety.specs.Late.{HasEntry, IsHeardInOrder}
 use Rattle.rds_view_lines.specs.Output.{none_content, quoted}
 use Rattle.rds_view_lines.specs.ViewParts.{IsNothing, Item, Name, Part, Tag1, Tag2, Text, line_in, part_content}
-use Rattle.rds_wire.specs.Printed.{Shows}
+use Rattle.rds_wire.specs.Printed.{Prints, Shows}
 use Rattle.rds_wire.specs.Received.{Came, IsReceived, LosesSlots, first_entries, own_group}
 use Rattle.rds_wire.specs.Safe.{AreSafe, IsOfPair, ShowNeighbours, ShowsBroadcast, ShowsText, StationPlans, WasOnAir}
 use Rattle.rds_wire.specs.Safe.{WentWith}
+use Rattle.rds_wire.specs.Twice.{HasMessages, IsReceivedWithWrong}
+use Rattle.rds_wire.specs.Wire.{IsSafeOnTheWire}
 use Rattle.rds_wire.proofs.Firsts.{entry_below}
 use Rattle.rds_wire.proofs.Logs.{Fits, dashes, group_says}
 use Rattle.rds_wire.proofs.Printed.{empty_line, feedless}
@@ -146,6 +152,20 @@ one_late = record {
   );
 }
 
+-- a group of another programme in the slot before is as nothing
+abbrev of_another : Group
+of_another = record hi { pi = 0xC202 }
+
+after_another : IsReceived (complete 0xC201 1 1) three (Some hi ∷ Some of_another ∷ []) 1 1
+after_another = record {
+  sent = one_late.sent;
+  log_has = one_late.log_has;
+  reached = omega arith;
+  few = omega arith;
+  origins = one_late.origins;
+  came = one_late.came;
+}
+
 -- and the clock of a receiver may lose one slot within M: the receiver is in its slot 0, and the station in slot 1
 one_slow : IsReceived (complete 0xC201 1 1) three (Some hi ∷ []) 0 1
 one_slow = record {
@@ -161,6 +181,87 @@ one_slow = record {
     past = λ t s p. grind arith;
   };
 }
+
+-- so when the station is in slot 1, the first receiver is in its slot 1 and the second one in its slot 0
+two_clocks : (air : StationPlans) (received printed other_received other_printed : List ℕ)
+    → IsSafeOnTheWire (complete 0xC201 1 1) three air
+    → (one : Prints 11 0xC201 1 None received printed) (other : Prints 11 0xC201 1 None other_received other_printed)
+    → one.write.slots ≡ Some hi ∷ None ∷ [] → other.write.slots ≡ Some hi ∷ []
+    → AreSafe 2 1 air (Shows printed 1) (Shows other_printed 0)
+two_clocks air received printed other_received other_printed safe one other p q =
+    safe received printed other_received other_printed 1 0 1 one other
+    (subst (λ (slots : List (Option Group)). IsReceived (complete 0xC201 1 1) three slots 1 1) (sym p) one_late)
+    (subst (λ (slots : List (Option Group)). IsReceived (complete 0xC201 1 1) three slots 0 1) (sym q) one_slow)
+
+-- ---- a wrong group, and then HI, one slot late
+
+abbrev wrong : Group
+wrong = record hi { c = 0x4F4F }
+
+-- the first one has no origin
+one_wrong : (right other : Option Message) → IsHeardWithWrong 1 (None ∷ None ∷ right ∷ [])
+    record { first = 0; heard = right ∷ other ∷ []; origins = Some 0 ∷ None ∷ [] }
+one_wrong right other = record {
+  beside = refl;
+  each = λ t s entry p q. grind arith;
+  rising = λ t u r s p q less. grind arith;
+  past = λ t s p. grind arith;
+  late = λ t s p. grind arith;
+}
+
+second_was_sent : (t u : ℕ) (message : Message) → t < u
+    → HasEntry 0 (heard_of 0xC201 (Some hi ∷ Some wrong ∷ [])) u (Some message)
+    → WasSent record {
+      first = 0;
+      heard = heard_of 0xC201 (Some hi ∷ Some wrong ∷ []);
+      origins = Some 0 ∷ None ∷ [];
+    } u
+second_was_sent t u message before at =
+    let below : u < 2 = entry_below 0 (heard_of 0xC201 (Some hi ∷ Some wrong ∷ [])) u (Some message) at in
+    let last : u ≡ 1 = omega (arith, before, below) in
+    record { slot = 0; from = inl (last, refl) }
+
+wrong_once : IsReceivedWithWrong 11 0xC201 8 1 three (Some hi ∷ Some wrong ∷ []) 1
+wrong_once = record {
+  sent = heard_of 0xC201 hi_alone;
+  log_has = record { slots = hi_alone; has = has_three; heard = refl };
+  reached = omega arith;
+  few = omega arith;
+  origins = Some 0 ∷ None ∷ [];
+  late = one_wrong (heard_in 0xC201 (Some hi)) (heard_in 0xC201 (Some wrong));
+  once = λ t u message two before near p q. inr (second_was_sent t u message before q);
+}
+
+-- a message that the log has, in its only slot with a group
+sent_once : (sent : List (Option Message)) (s : ℕ) (message : Message) → HasMessages 11 0xC201 three sent
+    → HasEntry 0 sent s (Some message) → Some message ≡ heard_in 0xC201 (Some hi)
+sent_once sent s message has at =
+    let same = has.heard ∙ ap (heard_of 0xC201) (same_log 11 three has.slots hi_alone has.has has_three) in
+    let there : HasEntry 0 (None ∷ None ∷ heard_in 0xC201 (Some hi) ∷ []) s (Some message) = rw same at at in
+    grind arith
+
+-- the log has no such message
+never_sent : heard_in 0xC201 (Some wrong) ≡ heard_in 0xC201 (Some hi) → ⊥
+never_sent same = grind arith
+
+-- and not the same wrong group twice
+wrong_twice : IsReceivedWithWrong 11 0xC201 8 1 three (Some wrong ∷ Some wrong ∷ []) 1 → ⊥
+wrong_twice r = elim (r.once 0 1 (message_in wrong) refl (omega arith) (omega arith) first second) [
+  | inl was ↦ never_sent
+      (sent_once r.sent was.slot (message_in wrong) r.log_has (r.late.each 0 was.slot (Some (message_in wrong)) was.from
+      first))
+  | inr was ↦ never_sent
+      (sent_once r.sent was.slot (message_in wrong) r.log_has (r.late.each 1 was.slot (Some (message_in wrong)) was.from
+      second))
+]
+  where
+    first : HasEntry 0 (heard_of 0xC201 (Some wrong ∷ Some wrong ∷ [])) 0 (Some (message_in wrong))
+    first = inr (inl (refl, refl))
+
+    second : HasEntry 0 (heard_of 0xC201 (Some wrong ∷ Some wrong ∷ [])) 1 (Some (message_in wrong))
+    second = inl (refl, refl)
+
+-- ---- a log is received in order, and in time
 
 -- however HI came, it was sent in slot 0
 from_zero : (heard : List (Option Group)) (origins : List (Option ℕ)) (t : ℕ)
@@ -420,6 +521,13 @@ is_hi k b is says = grind arith
 is_yo : (k : ℕ) (b : Broadcast) → HasNumber (yo ∷ greeting ∷ []) k b → codes " \"YO\"" ≡ quoted b.bytes → b ≡ yo
 unfolding printed_byte character_of encode_utf8
 is_yo k b is says = grind arith
+
+-- a text that comes on air only in the next slot
+text_not_yet : (k : ℕ) → WasOnAir 8 20 (yo ∷ greeting ∷ []) (codes " \"YO\"") k → ⊥
+text_not_yet k was =
+    let from : yo.start ≤ was.slot = (subst (λ (b : Broadcast). Covers b was.slot)
+    (is_yo k was.broadcast was.planned was.says) was.covers).from in
+    omega (arith, from, was.past)
 
 -- the bounds of the slot of tags, and of the slot in which they are shown
 record Bounds (d now slot start end : ℕ) : Type 0 where

@@ -1,13 +1,15 @@
 -- The wire laws for runs of the program: it encodes a script, or says yes to a log, and decodes what reached the
 -- receivers of the log.
-use Rattle.std.specs.Prelude.{◌≡◌, ◌<◌, ◌+◌, ◌^◌, [], ℕ, Bool, List, Option, Some}
+use Rattle.std.specs.Prelude.{◌≡◌, ◌⊎◌, ◌<◌, ◌+◌, ◌^◌, [], ℕ, Bool, List, Option, Some}
+use Rattle.rds_cli.specs.CommandLine.{AskFor, IsPi, Requested}
 use Rattle.rds_cli.specs.declared.request.Programme.{Programme}
 use Rattle.rds_cli.specs.declared.request.Task.{Task}
 use Rattle.rds_cli.specs.declared.request.Task.TheVariants.{Audit, Decode, Encode}
 use Rattle.rds_io.specs.Told.{Traffic}
 use Rattle.rds_fields.specs.TagGroup.{MayCarryTags}
 use Rattle.rds_log.specs.LogLines.{AreLines}
-use Rattle.rds_program.specs.Run.{Listening, ReaderOver, TaskRuns, auditing_of, listening}
+use Rattle.rds_program.specs.Run.{IsUntouched, Listening, NoMemory, ReaderOver, RunsWords, TaskRuns, auditing_of}
+use Rattle.rds_program.specs.Run.{listening, reader_over}
 use Rattle.rds_script.specs.Play.{with_form}
 use Rattle.rds_script.specs.declared.form.Form.TheVariants.{Log}
 use Rattle.rds_view_lines.specs.ViewParts.{Part}
@@ -30,6 +32,19 @@ pub record Ran (task : Task) (l : Listening) (input output : List ℕ) : Type 0 
   pub wrote : w.after ≡ Some output
   pub unfailed : w.failures_after ≡ 0
   pub ran : TaskRuns task lose l (over r) w status
+
+-- what `run_read` promises of its arguments (`RunsWords`): if they ask for a task, and the writer had nothing and did
+-- not fail, a run of the task read this input and wrote this output, and gave the status. Or memory ran out before
+abbrev pub WhatIsAskedForRan : {R : Type 0} → (R → Option (List ℕ)) → (R → ℕ) → (R → ℕ) → Type 0
+WhatIsAskedForRan {R} remaining failures reads =
+    (words : List (List ℕ)) (old new : R) (w : Traffic) (status : ℕ) (asked : Requested) (pi : ℕ)
+    (input output : List ℕ)
+    → RunsWords words (λ task lose l. TaskRuns task lose l (reader_over remaining failures reads old new) w status)
+    (IsUntouched remaining failures reads old new) w status
+    → AskFor words asked → IsPi asked.pi pi → remaining old ≡ Some input → w.before ≡ Some [] → w.after ≡ Some output
+    → w.failures_after ≡ 0
+    → NoMemory w status
+    ⊎ ((ran : Ran asked.task (listening asked.rtplus pi asked.dwell) input output) × (ran.status ≡ status))
 
 -- what the program encodes with M and K is safe on the wire, by the texts that the script sets; the tags may be in any
 -- group type that may carry them

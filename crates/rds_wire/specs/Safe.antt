@@ -23,6 +23,13 @@ pub record WasOnAir (d now : ℕ) (plan : List Broadcast) (content : List ℕ) (
   pub past : slot ≤ now
   pub recent : now < slot + d
 
+-- it began by slot `now`, and it ended less than d slots before
+abbrev pub WhatWasOnAirHadBegun : Type 0
+WhatWasOnAirHadBegun =
+    (d now : ℕ) (plan : List Broadcast) (content : List ℕ) (k : ℕ) → WasOnAir d now plan content k
+    → (broadcast : Broadcast) × HasNumber plan k broadcast × (content ≡ quoted broadcast.bytes)
+    × (broadcast.start ≤ now) × (now < broadcast.end + d)
+
 -- one receiver shows broadcast number k and the other one number l: one broadcast, or two that follow each other
 pub record ShowNeighbours (One Other : ℕ → Type 0) : Type 0 where
   pub k : ℕ

@@ -15,7 +15,7 @@ use Rattle.rds_log.specs.declared.audit_log.Stop.{Stop}
 use Rattle.rds_script.specs.Play.{with_form}
 use Rattle.rds_script.specs.declared.form.Form.TheVariants.{Log}
 use Rattle.rds_wire.specs.Printed.{Prints, Shows}
-use Rattle.rds_wire.specs.Received.{first_entries}
+use Rattle.rds_wire.specs.Received.{LosesSlots, first_entries}
 use Rattle.rds_wire.specs.Safe.{AreSafe, StationPlans}
 use Rattle.rds_wire.specs.Wire.{Encodes, IsHead, aired, complete_in, station_of}
 
@@ -36,6 +36,12 @@ pub record IsReceivedWithWrong (n pi w k : ℕ) (log : List ℕ) (got : List (Op
   pub late : IsHeardWithWrong k sent record
       { first = 0; heard = heard_of pi (first_entries (t + 1) got); origins = origins }
   pub once : NoWrongConfirmed w record { first = 0; heard = heard_of pi (first_entries (t + 1) got); origins = origins }
+
+-- a receiver that got each slot of the log in its time, or lost it, received it so
+abbrev pub WhoLosesSlotsReceivesForTwo : Type 0
+WhoLosesSlotsReceivesForTwo =
+    (n pi w k : ℕ) (log : List ℕ) (got : List (Option Group)) (t : ℕ) → LosesSlots n log got → t < length got
+    → IsReceivedWithWrong n pi w k log got t
 
 -- whatever two such receivers of the log print is safe
 abbrev pub IsSafeIfHeardTwice : ℕ → ℕ → ℕ → ℕ → ℕ → List ℕ → StationPlans → Type 0

@@ -3,15 +3,18 @@ ghost use Rattle.rds_wire.specs.FromTimes.{WhatSlotsWritesIsReceived};
 ghost use Rattle.rds_wire.specs.Groups.{GroupsByOwnClockAreMessagesByIt, LateGroupsAreLateMessages};
 ghost use Rattle.rds_wire.specs.Groups.{OtherGroupsAreNothing, WhatIsSentIsHeard};
 ghost use Rattle.rds_wire.specs.Mixes.{AMixIsShown};
-ghost use Rattle.rds_wire.specs.Program.{WhatTheProgramDecodesIsPrinted, WhatTheProgramEncodesIsSafe};
-ghost use Rattle.rds_wire.specs.Program.{WhatTheProgramPassesIsSafe};
+ghost use Rattle.rds_wire.specs.Program.{WhatIsAskedForRan, WhatTheProgramDecodesIsPrinted};
+ghost use Rattle.rds_wire.specs.Program.{WhatTheProgramEncodesIsSafe, WhatTheProgramPassesIsSafe};
 ghost use Rattle.rds_wire.specs.Received.{WhoLosesSlotsReceives};
+ghost use Rattle.rds_wire.specs.Safe.{WhatWasOnAirHadBegun};
 ghost use Rattle.rds_wire.specs.Twice.{WhatIsEncodedIsSafeIfHeardTwice, WhatPassesIsSafeIfHeardTwice};
+ghost use Rattle.rds_wire.specs.Twice.{WhoLosesSlotsReceivesForTwo};
 ghost use Rattle.rds_wire.specs.Wire.{WhatIsEncodedIsSafeOnTheWire, WhatPassesIsSafeOnTheWire};
 
 use rds_arrivals::filled_logs_are_own_clocks;
 use rds_audit::{what_passes_as_a_recording_is_safe, what_passes_is_safe};
 use rds_encoder::sent_is_of_what_is_on_air;
+use rds_io::TellingRead;
 use rds_log::filled_texts_are_logs;
 use rds_safety::{one_source, own_clocks, safe_by_padded_plans, safe_by_plans, safe_if_confirmed};
 use rds_world::{a_station_is_safe, the_encoder_is_lawful};
@@ -44,11 +47,19 @@ pub fn what_passes_is_safe_on_the_wire()
     what_passes_as_a_recording_is_safe();
 }
 
-/// States two ways in which a log is received. A receiver that loses some slots of a log receives it, for any lateness.
-/// And what `slots` writes of a recording with times is received by a clock of the receiver's own, if the delays of the
-/// groups vary by less than a slot less the grain. So both laws hold for these logs.
+/// States what "on air within the last M + K slots" means for a text or a name that is shown: its broadcast had begun,
+/// and it ended less than M + K slots before.
+pub fn what_was_on_air()
+    ensures { WhatWasOnAirHadBegun }
+{}
+
+/// States two ways in which a log is received. A receiver that loses some slots of a log receives it, for any lateness,
+/// also if it shows only what it heard twice. And what `slots` writes of a recording with times is received by a clock
+/// of the receiver's own, if the delays of the groups vary by less than a slot less the grain. So the laws hold for
+/// these logs.
 pub fn what_is_received()
     ensures lost { WhoLosesSlotsReceives }
+    ensures lost_for_two { WhoLosesSlotsReceivesForTwo }
     ensures filled { WhatSlotsWritesIsReceived }
 {
     filled_logs_are_own_clocks();
@@ -85,6 +96,12 @@ pub fn groups_are_heard_as_messages()
     ensures others { OtherGroupsAreNothing }
     ensures late { LateGroupsAreLateMessages }
     ensures own_clock { GroupsByOwnClockAreMessagesByIt }
+{}
+
+/// States that the contract of `run_read` makes a run of a task: if its arguments ask for the task, and no write fails,
+/// the task ran over this input and wrote this output, unless the program is out of memory.
+pub fn what_is_asked_for_ran<R: TellingRead>()
+    ensures { WhatIsAskedForRan R.remaining R.failures R.reads }
 {}
 
 /// States both laws for runs of the program: what the command `encode` writes is safe on the wire, and so is a log to
