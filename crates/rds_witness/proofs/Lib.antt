@@ -10,5 +10,6 @@ pub mod Losses
 pub mod Rulings
 pub mod SameState
 pub mod LossSteps
+pub mod FirstSlots
 pub mod SpanSteps
 pub mod WorkedRows

@@ -11,11 +11,10 @@ use Rattle.rds_receiver.specs.Shown.{IsView, ShownView}
 use Rattle.rds_witness.specs.Lines.{AreMixLines, mix_lines, shown_line}
 use Rattle.rds_witness.specs.LossLines.{AreLinesOfSlots, AreLossLines, joined_parts}
 use Rattle.rds_witness.specs.Lost.{got}
-use Rattle.rds_witness.specs.Mix.{Has, IsMix, IsNew, ViewHas, Thing, until}
-use Rattle.rds_witness.specs.Search.{IsKnown}
+use Rattle.rds_witness.specs.Mix.{Has, IsMix, ViewHas, Thing}
 use Rattle.rds_witness.specs.declared.burst.Burst.{Burst}
 
-has_shows : (view : ShownView) (thing : Thing) → Has view thing → ViewHas view thing
+pub has_shows : (view : ShownView) (thing : Thing) → Has view thing → ViewHas view thing
 has_shows view thing has = grind (arith, nat_tests)
 
 -- ---- lines that are empty
@@ -89,17 +88,3 @@ module _ (t : Tuning) (ahead : ℕ) (log : List (Option Group)) (lost : List Bur
       let same : new.after ≡ new.before = same_view t (got lost log (slot + 1)) new.after new.before new.is
       (stays new.before new.was) in
       new.not_shown (has_shows new.before thing (rw same at new.has))
-
-  -- nor has one whose things are known
-  pub known_none : (slot : ℕ) (before after : ShownView) → IsView t (got lost log slot) before
-      → IsView t (got lost log (slot + 1)) after
-      → ((thing : Thing) → Has after thing → IsKnown t log (until ahead log slot) before thing) → (thing : Thing)
-      → IsMix t ahead log lost slot thing → ⊥
-  known_none slot before after was is known thing mix =
-      let new : IsNew t log lost slot thing = mix.new in
-      let now = same_view t (got lost log (slot + 1)) new.after after new.is is in
-      let then = same_view t (got lost log slot) before new.before was new.was in
-      elim (known thing (rw now at new.has)) [
-        | inl shown ↦ new.not_shown (rw then at shown)
-        | inr seen ↦ mix.never seen.slot seen.view seen.before seen.is seen.shows
-      ]

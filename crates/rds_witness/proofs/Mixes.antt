@@ -31,7 +31,7 @@ pub of_kind : (view : ShownView) (kind : ℕ) (thing : Thing) → kind_of thing 
 of_kind view kind thing is has = rw is at (in_place view thing has)
 
 -- a view has one thing of a kind
-one_thing : (view : ShownView) (a b : Thing) → kind_of a ≡ kind_of b → Has view a → Has view b → a ≡ b
+pub one_thing : (view : ShownView) (a b : Thing) → kind_of a ≡ kind_of b → Has view a → Has view b → a ≡ b
 one_thing view a b same p q = grind (arith, nat_tests)
 
 -- what holds of the things of the first kinds and of the thing of the next holds of those of one kind more

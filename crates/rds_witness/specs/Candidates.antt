@@ -1,10 +1,11 @@
 -- What the lines of mixes say of a candidate: a log, the tuning of its receivers, how many slots to look ahead, the
 -- lost slots, the words before each line, and a slot.
-use Rattle.std.specs.Prelude.{◌+◌, ℕ, List}
+use Rattle.std.specs.Prelude.{◌+◌, ℕ, List, length}
 use Rattle.rds_log.specs.LogWrites.{tuned}
 use Rattle.rds_receiver.specs.Shown.{ShownView}
 use Rattle.rds_receiver.specs.ReceiverAt.{ReceiverAt}
 use Rattle.rds_receiver.specs.declared.receiver.Receiver.{Receiver}
+use Rattle.rds_witness.specs.Firsts.{AreFirsts}
 use Rattle.rds_witness.specs.Lines.{AreMixLines}
 use Rattle.rds_witness.specs.LossLines.{AreLossLines}
 use Rattle.rds_witness.specs.Lost.{got}
@@ -19,6 +20,10 @@ AreAroundIt c before after = AreAround (tuned c.pi c.dwell) c.log.now c.lost.now
 -- with nothing lost, no slot up to the last one to look at shows the thing
 abbrev pub IsNeverShown : Candidate → Thing → Type 0
 IsNeverShown c thing = NeverShows (tuned c.pi c.dwell) c.log.now (until c.ahead c.log.now c.slot) thing
+
+-- it knows in which slot of its log a receiver that loses nothing shows each thing first
+abbrev pub KnowsFirsts : Candidate → Type 0
+KnowsFirsts c = AreFirsts (tuned c.pi c.dwell) c.log.now (length c.log.now) c.firsts.now
 
 -- the lines of all its mixes
 abbrev pub AreItsMixLines : Candidate → List ℕ → Type 0

@@ -6,6 +6,7 @@ pub mod Borrowed
 pub mod Part
 pub mod Covered
 pub mod Search
+pub mod Firsts
 -- The output lines, and the promise of the call.
 pub mod Lines
 pub mod LossLines

@@ -1,5 +1,5 @@
 -- A search over all bursts at once (this project's own rule).
-use Rattle.std.specs.Prelude.{◌≡◌, ◌⊎◌, ◌≤◌, ◌<◌, ◌+◌, ◌∷◌, [], ℕ, All, IsFalse, List, Option, Some, length}
+use Rattle.std.specs.Prelude.{◌≡◌, ◌≤◌, ◌<◌, ◌+◌, ◌∷◌, [], ℕ, All, IsFalse, List, Option, Some, length}
 use Rattle.rds_block.specs.declared.group.Group.{Group}
 use Rattle.rds_fields.specs.declared.pair.Which.{Which}
 use Rattle.rds_fields.specs.Tag.{PairFields, tag_in}
@@ -78,10 +78,6 @@ pub record IsShownBefore (t : Tuning) (log : List (Option Group)) (n : ℕ) (thi
   pub before : slot < n
   pub is : IsView t (got [] log (slot + 1)) view
   pub shows : ViewHas view thing
-
--- a view shows the thing, or a receiver that loses nothing shows it in one of the first n slots
-abbrev pub IsKnown : Tuning → List (Option Group) → ℕ → ShownView → Thing → Type 0
-IsKnown t log n view thing = ViewHas view thing ⊎ IsShownBefore t log n thing
 
 -- a receiver that loses nothing shows the thing in one of the first n slots; and for a tag: it shows a text of which a
 -- pair of its run makes the tag

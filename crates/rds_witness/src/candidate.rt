@@ -1,6 +1,7 @@
 //! A slot in which a receiver that lost some slots may show a mix.
 
 use crate::burst::Burst;
+use crate::firsts::Firsts;
 use rds_block::Blocks;
 use rds_fields::Dwell;
 
@@ -13,6 +14,7 @@ pub(crate) struct Candidate<'a> {
     /// A thing is no mix if a receiver that loses nothing shows it less than so many slots later.
     pub(crate) ahead: Dwell,
     pub(crate) lost: &'a [Burst],
+    pub(crate) firsts: &'a Firsts,
     /// The words before each line.
     pub(crate) words: &'a [u8],
     pub(crate) slot: usize,

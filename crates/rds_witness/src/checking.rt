@@ -1,14 +1,11 @@
-//! Checks whether a receiver shows a mix.
-ghost use Rattle.std.specs.Prelude.{◌≡◌, ◌<◌, ◌≤◌, ◌+◌, ◌↔◌, [], IsTrue, Option, Some, length};
+//! A receiver before the slot in which it may show a mix, and the slots to look at then.
+ghost use Rattle.std.specs.Prelude.{◌≡◌, ◌<◌, ◌≤◌, ◌+◌, Option, Some, length};
 ghost use Rattle.rds_log.specs.LogWrites.{tuned};
 ghost use Rattle.rds_receiver.specs.ReceiverAt.{ReceiverAt};
-ghost use Rattle.rds_receiver.specs.Borrowed.{view_of};
-ghost use Rattle.rds_witness.specs.Borrowed.{thing_of};
 ghost use Rattle.rds_witness.specs.Lost.{got};
-ghost use Rattle.rds_witness.specs.Mix.{NeverShows, until};
+ghost use Rattle.rds_witness.specs.Mix.{until};
 
 use crate::burst::{Burst, received};
-use crate::thing::{Thing, shows};
 use rds_block::Blocks;
 use rds_fields::Dwell;
 use rds_receiver::Receiver;
@@ -29,27 +26,6 @@ pub(crate) fn receiver_before(
         receiver.slot_blocks(received(log, lost, n));
     }
     receiver
-}
-
-/// Returns whether a receiver that loses nothing never shows the thing in the first slots.
-pub(crate) fn is_never_shown(
-    log: &[Option<Blocks>],
-    pi: u16,
-    dwell: Dwell,
-    slots: usize,
-    thing: Thing<'_>,
-) -> bool
-    requires { slots ≤ length log.now }
-    ensures { IsTrue result ↔ NeverShows (tuned pi dwell) log.now slots (thing_of thing.entry) }
-{
-    let mut receiver = Receiver::new(pi, dwell);
-    for n in 0..slots {
-        receiver.slot_blocks(received(log, &[], n));
-        if shows(receiver.view(), thing) {
-            return false;
-        }
-    }
-    true
 }
 
 /// Returns the number of slots up to `ahead` after the slot, or the length of the log if that is less.

@@ -5,10 +5,12 @@ ghost use Rattle.rds_io.specs.Puts.{Puts};
 ghost use Rattle.rds_io.specs.Told.{traffic};
 ghost use Rattle.rds_log.specs.LogWrites.{tuned};
 ghost use Rattle.rds_log.specs.Reads.{MadeReads};
+ghost use Rattle.rds_witness.specs.Firsts.{AreFirsts};
 ghost use Rattle.rds_witness.specs.Lines.{IsAnswer, no_witness_up_to};
 ghost use Rattle.rds_witness.specs.Search.{IsSure};
 ghost use Rattle.rds_witness.specs.Witness.{Answers, Witnesses};
 
+use crate::firsts::Firsts;
 use crate::mix_lines::{ROOM, push_mixes};
 use crate::search::{Found, find};
 use rds_block::Blocks;
@@ -64,23 +66,28 @@ pub fn witness_with_notes<R: TellingRead, W: TellingWrite, N: News>(
     let Ok(found) = find(alloc, log.as_slice(), pi, dwell) else {
         return Err(LogFault::Memory);
     };
-    let found = answer(log.as_slice(), pi, dwell, found, writer)?;
+    let Ok(firsts) = Firsts::of(alloc, log.as_slice(), pi, dwell) else {
+        return Err(LogFault::Memory);
+    };
+    let found = answer(log.as_slice(), &firsts, pi, dwell, found, writer)?;
     Ok(found)
 }
 
 /// Writes the answer to a log.
 fn answer<W: TellingWrite>(
     log: &[Option<Blocks>],
+    firsts: &Firsts,
     pi: u16,
     dwell: Dwell,
     found: Found,
     writer: &mut W,
 ) -> Result<bool, WriteFault>
+    requires { AreFirsts (tuned pi dwell) log.now (length log.now) firsts.now }
     ensures { IsSure (tuned pi dwell) log.now found
         → Answers (IsAnswer (tuned pi dwell) log.now) (traffic W.contents W.failures writer.old writer.new) result }
 {
     let mut lines = Lines::new();
-    let is_found = push_answer(log, pi, dwell, found, &mut lines);
+    let is_found = push_answer(log, firsts, pi, dwell, found, &mut lines);
     put(lines.bytes(), writer)?;
     Ok(is_found)
 }
@@ -88,17 +95,19 @@ fn answer<W: TellingWrite>(
 /// Appends the answer to a log: the mixes of the witness, or that no witness was found.
 fn push_answer(
     log: &[Option<Blocks>],
+    firsts: &Firsts,
     pi: u16,
     dwell: Dwell,
     found: Found,
     lines: &mut Lines<ROOM>,
 ) -> bool
-    requires { lines.old ≡ [] }
+    requires firsts { AreFirsts (tuned pi dwell) log.now (length log.now) firsts.now }
+    requires none { lines.old ≡ [] }
     ensures { IsSure (tuned pi dwell) log.now found → IsAnswer (tuned pi dwell) log.now result lines.new }
 {
     match found {
         Found::Doubt(burst, slot) => {
-            push_mixes(log, pi, dwell, burst, slot, lines);
+            push_mixes(log, firsts, pi, dwell, burst, slot, lines);
             if !lines.bytes().is_empty() {
                 return true;
             }

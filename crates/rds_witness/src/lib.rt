@@ -13,6 +13,8 @@ mod candidate;
 mod checking;
 mod covering;
 mod find_witness;
+mod firsts;
+mod key;
 mod laws;
 mod lose_log;
 mod mix_lines;

@@ -5,18 +5,16 @@ ghost use Rattle.rds_io.specs.Told.{traffic};
 ghost use Rattle.rds_log.specs.LogWrites.{tuned};
 ghost use Rattle.rds_log.specs.Reads.{MadeReads};
 ghost use Rattle.rds_receiver.specs.Receipts.{Tuning};
-ghost use Rattle.rds_witness.specs.Candidates.{AddsSlotOfIt, StandsBefore};
+ghost use Rattle.rds_witness.specs.Candidates.{AddsSlotOfIt, KnowsFirsts, StandsBefore};
 ghost use Rattle.rds_witness.specs.LossLines.{AreLossLines, IsLossAnswer};
 ghost use Rattle.rds_witness.specs.Lost.{group_left};
-ghost use Rattle.rds_witness.specs.Search.{AreSeen};
 ghost use Rattle.rds_witness.specs.Witness.{Answers, Loses};
 ghost use Rattle.rds_witness.specs.declared.burst.Burst.{Burst};
 
 use crate::burst::{Burst, received_of};
 use crate::candidate::Candidate;
-use crate::checking::slots_until;
+use crate::firsts::Firsts;
 use crate::mix_lines::{ROOM, push_mixes_of};
-use crate::seen::AllSeen;
 use rds_block::Blocks;
 use rds_fields::{Dwell, TagGroup};
 use rds_io::{Lines, LogFault, TellingRead, TellingWrite, WriteFault, put};
@@ -108,7 +106,7 @@ fn lines_of(
         losing.now.lost.now (length log.now) lines.items) }
 {
     let (pi, dwell) = (losing.pi, losing.dwell);
-    let all = AllSeen::of(alloc, log, pi, dwell)?;
+    let firsts = Firsts::of(alloc, log, pi, dwell)?;
     let got = received_of(alloc, log, losing.lost)?;
     let mut receiver = Receiver::new(pi, dwell);
     let mut lines = Vec::new(alloc);
@@ -119,17 +117,17 @@ fn lines_of(
             dwell,
             ahead: losing.ahead,
             lost: losing.lost,
+            firsts: &firsts,
             words: b"",
             slot,
         };
-        play_slot(&all, &candidate, got[slot], &mut receiver, &mut lines)?;
+        play_slot(&candidate, got[slot], &mut receiver, &mut lines)?;
     }
     Ok(lines)
 }
 
 /// Lets the receiver handle what it gets in the slot, and appends the lines of the mixes that it shows then.
 fn play_slot(
-    all: &AllSeen,
     candidate: &Candidate<'_>,
     group: Option<Blocks>,
     receiver: &mut Receiver,
@@ -138,7 +136,7 @@ fn play_slot(
     requires inside { candidate.now.slot < length candidate.now.log.now }
     requires words { candidate.now.words.now ≡ [] }
     requires got { group ≡ group_left candidate.now.lost.now candidate.now.log.now candidate.now.slot }
-    requires seen { AreSeen (tuned candidate.now.pi candidate.now.dwell) candidate.now.log.now all.now }
+    requires firsts { KnowsFirsts candidate.now }
     requires stands { StandsBefore candidate.now.slot candidate.now receiver.old }
     ensures stands { StandsBefore (candidate.now.slot + 1) candidate.now receiver.new }
     ensures lines { OnOk result (AddsSlotOfIt candidate.now lines.old.items lines.new.items) }
@@ -149,10 +147,6 @@ fn play_slot(
         return Ok(());
     }
     let (before, after) = (old.view(), receiver.view());
-    let until = slots_until(candidate.log, candidate.ahead, candidate.slot);
-    if all.knows_all(until, before, after) {
-        return Ok(());
-    }
     let mut here = Lines::<ROOM>::new();
     push_mixes_of(candidate, before, after, &mut here);
     lines.extend_from_slice(here.bytes())?;

@@ -3,14 +3,16 @@ ghost use Rattle.std.specs.Prelude.{◌≡◌, ◌≢◌, ◌⊎◌, ◌≤◌, 
 ghost use Rattle.rds_log.specs.LogWrites.{tuned};
 ghost use Rattle.rds_receiver.specs.Borrowed.{view_of};
 ghost use Rattle.rds_witness.specs.Borrowed.{IsShortThing, thing_of};
-ghost use Rattle.rds_witness.specs.Candidates.{AddsKindOfIt, AreAroundIt, AreItsMixLines, IsNeverShown};
+ghost use Rattle.rds_witness.specs.Candidates.{AddsKindOfIt, AreAroundIt, AreItsMixLines, IsNeverShown, KnowsFirsts};
+ghost use Rattle.rds_witness.specs.Firsts.{AreFirsts};
 ghost use Rattle.rds_witness.specs.Lines.{AreMixLines, burst_text, lose_words, shown_line, tag_name};
 ghost use Rattle.rds_witness.specs.Mix.{Has, IsPlace, ViewHas};
 ghost use Rattle.rds_witness.specs.SomeLines.{kind_of};
 
 use crate::burst::Burst;
 use crate::candidate::Candidate;
-use crate::checking::{is_never_shown, receiver_before, slots_until};
+use crate::checking::{receiver_before, slots_until};
+use crate::firsts::Firsts;
 use crate::thing::{KINDS, Thing, shows};
 use rds_block::Blocks;
 use rds_fields::{Dwell, Which};
@@ -89,7 +91,9 @@ fn tag_name(which: Which) -> &'static [u8]
 /// Returns whether a thing that is shown in a slot is a mix there: the slot before does not show it, and a receiver
 /// that loses nothing shows it in none of the slots to look at.
 fn is_mix(candidate: &Candidate<'_>, before: View<'_>, thing: Thing<'_>) -> bool
-    requires { candidate.now.slot < length candidate.now.log.now }
+    requires inside { candidate.now.slot < length candidate.now.log.now }
+    requires firsts { KnowsFirsts candidate.now }
+    requires short { IsShortThing thing }
     ensures new { IsTrue result → ViewHas (view_of before.entry) (thing_of thing.entry) → ⊥ }
     ensures never { IsTrue result → IsNeverShown candidate.now (thing_of thing.entry) }
     ensures no { result ≡ false → ViewHas (view_of before.entry) (thing_of thing.entry)
@@ -99,7 +103,7 @@ fn is_mix(candidate: &Candidate<'_>, before: View<'_>, thing: Thing<'_>) -> bool
         return false;
     }
     let until = slots_until(candidate.log, candidate.ahead, candidate.slot);
-    is_never_shown(candidate.log, candidate.pi, candidate.dwell, until, thing)
+    candidate.firsts.is_never_shown(until, thing)
 }
 
 /// Appends the line of a thing of the view after the slot, if it is a mix.
@@ -111,6 +115,7 @@ fn push_if_mix(
     lines: &mut Lines<ROOM>,
 )
     requires around { AreAroundIt candidate.now (view_of before) (view_of after) }
+    requires firsts { KnowsFirsts candidate.now }
     requires has { Has (view_of after) (thing_of thing) }
     requires words { length candidate.now.words.now ≤ 54 }
     requires short { IsShortThing thing }
@@ -128,13 +133,15 @@ fn push_if_mix(
 /// nothing if the burst is not before the slot.
 pub(crate) fn push_mixes(
     log: &[Option<Blocks>],
+    firsts: &Firsts,
     pi: u16,
     dwell: Dwell,
     burst: Burst,
     slot: usize,
     lines: &mut Lines<ROOM>,
 )
-    requires { lines.old ≡ [] }
+    requires firsts { AreFirsts (tuned pi dwell) log.now (length log.now) firsts.now }
+    requires none { lines.old ≡ [] }
     ensures { lines.new ≢ [] → IsPlace burst slot log.now
         × AreMixLines (tuned pi dwell) dwell log.now (burst ∷ []) (lose_words burst) slot lines.new }
 {
@@ -152,6 +159,7 @@ pub(crate) fn push_mixes(
         dwell,
         ahead: dwell,
         lost: &lost,
+        firsts,
         words: words.bytes(),
         slot,
     };
@@ -166,6 +174,7 @@ pub(crate) fn push_mixes_of(
     lines: &mut Lines<ROOM>,
 )
     requires around { AreAroundIt candidate.now (view_of before) (view_of after) }
+    requires firsts { KnowsFirsts candidate.now }
     requires words { length candidate.now.words.now ≤ 54 }
     requires none { lines.old ≡ [] }
     ensures { AreItsMixLines candidate.now lines.new }

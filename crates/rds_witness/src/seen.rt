@@ -1,4 +1,5 @@
-//! The parts that a receiver without a loss shows, and the first slot of each.
+//! The parts that a receiver without a loss shows, and the first slot of each. For a search, the tags of a pair that the
+//! station replaced count as shown: `firsts` has what is shown.
 ghost use Rattle.std.specs.Prelude.{◌≡◌, ◌+◌, ◌<◌, [], All, Bool, IfOk, IfSome, IsTrue, List, OnOk, Option, Some, ℕ};
 ghost use Rattle.std.specs.Prelude.{length, slice_index_or, true};
 ghost use Rattle.std.specs.List.{Contains};
@@ -17,14 +18,14 @@ ghost use Rattle.rds_fields.specs.Tag.{tag_in};
 ghost use Rattle.rds_receiver.specs.Tags.{cut_by};
 ghost use Rattle.rds_witness.specs.Borrowed.{thing_of};
 ghost use Rattle.rds_witness.specs.Lost.{got};
-ghost use Rattle.rds_witness.specs.Mix as mix;
 ghost use Rattle.rds_witness.specs.declared.seen.AllSeen.{AllSeen};
 ghost use Rattle.rds_witness.specs.declared.seen.Seen.{Seen};
-ghost use Rattle.rds_witness.specs.Search.{AreSeen, IsChecked, IsKnown, IsOfRun, IsSeen, IsSeenBefore, ShowsOnlySeen};
+ghost use Rattle.rds_witness.specs.Search.{AreSeen, IsChecked, IsOfRun, IsSeen, IsSeenBefore, ShowsOnlySeen};
 
 use crate::burst::received;
 use crate::covering::Lossy;
-use crate::thing::{KINDS, Thing, is_text, shows};
+use crate::key::{Key, key_of, name_key, tag_key, text_key};
+use crate::thing::{KINDS, Thing, is_text};
 use rds_block::Blocks;
 use rds_fields::{Dwell, Tag, TagPair, Which};
 use rds_receiver::{Receiver, View};
@@ -33,17 +34,6 @@ use std::collections::BTreeMap;
 
 /// The most pairs of tags that are kept of one run. A search takes a tag of another replaced pair for a mix.
 const MOST_PAIRS: usize = 16;
-
-/// The start of a hash and the factor of each step (FNV-1a, 64 bits).
-const BASIS: u64 = 0xCBF2_9CE4_8422_2325;
-
-const PRIME: u64 = 0x0000_0100_0000_01B3;
-
-/// The kind of a text. The kind of a tag is its content type, from 1 to 63.
-const TEXT_KIND: u8 = 0;
-
-/// The kind of a name.
-const NAME_KIND: u8 = 64;
 
 /// A receiver after a slot, and a pair of tags of its run of texts.
 #[derive(Drop)]
@@ -60,9 +50,8 @@ pub(crate) struct AllSeen {
     /// The pairs of tags that came in the run of texts. If a station replaces a pair before the text is complete, both
     /// count as shown.
     pub(crate) pairs: Vec<TagPair>,
-    /// The place in `seen` of a part, by its hash. If two parts have one hash, a search finds a mix that the check
-    /// refuses.
-    places: BTreeMap<u64, usize>,
+    /// The place in `seen` of a part.
+    places: BTreeMap<Key, usize>,
 }
 
 fn seen_at(seen: &[Seen], place: usize) -> &Seen
@@ -77,24 +66,6 @@ fn pair_at(pairs: &[TagPair], place: usize) -> TagPair
     ensures { (d : PairFields) → slice_index_or pairs.now place d ≡ result }
 {
     pairs[place]
-}
-
-/// Returns the hash of a part of this kind: `TEXT_KIND`, `NAME_KIND`, or the content type of a tag.
-fn hash_of(kind: u8, bytes: &[u8]) -> u64 {
-    let mut hash = (BASIS ^ u64::from(kind)).wrapping_mul(PRIME);
-    for byte in bytes {
-        hash = (hash ^ u64::from(*byte)).wrapping_mul(PRIME);
-    }
-    hash
-}
-
-/// Returns the hash of a thing. It is the same for a tag in either place.
-fn hash_of_thing(thing: Thing<'_>) -> u64 {
-    match thing {
-        Thing::Text(text) => hash_of(TEXT_KIND, text),
-        Thing::Name(name) => hash_of(NAME_KIND, name),
-        Thing::Tag(_, class, piece) => hash_of(class, piece),
-    }
 }
 
 /// Returns whether the tag makes this piece of the text.
@@ -119,6 +90,12 @@ fn is_of_pair(pair: Option<TagPair>, text: Option<&[u8]>, class: u8, piece: &[u8
         return false;
     };
     is_cut(pair.one(), text, class, piece) || is_cut(pair.two(), text, class, piece)
+}
+
+/// Returns the key of the tag that this one makes of a text.
+fn key_in(tag: Tag, text: &[u8]) -> Option<Key> {
+    let piece = tag.piece_in(text)?;
+    Some(tag_key(tag.class(), piece))
 }
 
 /// Returns whether the run of texts of a receiver goes on in the next slot.
@@ -264,40 +241,39 @@ impl AllSeen {
         ensures pairs { self.new.pairs ≡ self.old.pairs }
     {
         let Some(pair) = pair else {
-            let text = self.is_new_part(TEXT_KIND, view.text)?;
-            let name = self.is_new_part(NAME_KIND, view.name)?;
+            let text = self.is_new_part(view.text.map(text_key))?;
+            let name = self.is_new_part(view.name.map(name_key))?;
             return Ok(text || name);
         };
         let Some(text) = view.text else {
             return Ok(false);
         };
-        let one = self.is_new_part(pair.one().class(), pair.one().piece_in(text))?;
-        let two = self.is_new_part(pair.two().class(), pair.two().piece_in(text))?;
+        let one = self.is_new_part(key_in(pair.one(), text))?;
+        let two = self.is_new_part(key_in(pair.two(), text))?;
         Ok(one || two)
     }
 
-    fn is_new_part(&mut self, kind: u8, part: Option<&[u8]>) -> Result<bool, AllocError>
+    fn is_new_part(&mut self, key: Option<Key>) -> Result<bool, AllocError>
         ensures seen { self.new.seen ≡ self.old.seen }
         ensures pairs { self.new.pairs ≡ self.old.pairs }
     {
-        let Some(bytes) = part else {
+        let Some(key) = key else {
             return Ok(false);
         };
-        let hash = hash_of(kind, bytes);
-        if self.places.contains_key(&hash) {
+        if self.places.contains_key(&key) {
             return Ok(false);
         }
         let place = self.seen.len();
-        let _ = self.places.insert(hash, place)?;
+        let _ = self.places.insert(key, place)?;
         Ok(true)
     }
 
     /// Returns the slot in which a receiver that loses nothing shows the part first, and the receiver, if that is one
-    /// of the first slots. If two parts have one hash, the answer may be `None` for one that is shown.
+    /// of the first slots.
     fn seen_before(&self, slots: usize, thing: Thing<'_>) -> Option<&Seen>
         ensures { IfSome result (λ seen. (seen.now.slot < slots) × Contains self.now.seen.items seen.now) }
     {
-        let place = *self.places.get(&hash_of_thing(thing))?;
+        let place = *self.places.get(&key_of(thing))?;
         if place >= self.seen.len() {
             return None;
         }
@@ -336,37 +312,5 @@ impl AllSeen {
             }
         }
         true
-    }
-
-    /// Returns whether the view before shows each part of a view, or a receiver that loses nothing is known to show it
-    /// in one of the first slots.
-    pub(crate) fn knows_all(&self, slots: usize, before: View<'_>, after: View<'_>) -> bool
-        ensures { IsTrue result → (t : Tuning) (log : List (Option Group)) → AreSeen t log self.now
-            → (thing : mix.Thing) → mix.Has (view_of after.entry) thing
-            → IsKnown t log slots (view_of before.entry) thing }
-    {
-        for kind in 0..KINDS {
-            if let Some(thing) = Thing::of_kind(after, kind) {
-                if !self.knows(slots, before, thing) {
-                    return false;
-                }
-            }
-        }
-        true
-    }
-
-    /// Returns whether the view before shows the part, or a receiver that loses nothing is known to show it in one of
-    /// the first slots.
-    fn knows(&self, slots: usize, before: View<'_>, thing: Thing<'_>) -> bool
-        ensures { IsTrue result → (t : Tuning) (log : List (Option Group)) → AreSeen t log self.now
-            → IsKnown t log slots (view_of before.entry) (thing_of thing.entry) }
-    {
-        if shows(before, thing) {
-            return true;
-        }
-        match self.seen_before(slots, thing) {
-            Some(seen) => shows(seen.receiver.view(), thing),
-            None => false,
-        }
     }
 }

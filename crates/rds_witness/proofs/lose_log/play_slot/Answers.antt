@@ -1,19 +1,14 @@
 use Rattle.std.proofs.Common.{◌++◌, ◌∙◌, ℕ, [], List, ap, sym}
 use Rattle.std.proofs.lemmas.List.{append-nil}
 use Rattle.rds_log.specs.LogWrites.{tuned}
-use Rattle.rds_receiver.specs.Borrowed.{view_of}
 use Rattle.rds_witness.specs.Lost.{got-more}
-use Rattle.rds_witness.proofs.LossSteps.{adds_slot, known_none, stays_none}
+use Rattle.rds_witness.proofs.LossSteps.{adds_slot, stays_none}
 use Rattle.rds_witness.proofs.Mixes.{no_mixes}
 use Rattle.rds_witness.proofs.Slots.{stands_more}
 use Rattle.rds_witness.proofs.lose_log.play_slot.Goals as goal
 
 pub returns-then-not-changed-clause-stands : goal.returns-then-not-changed-clause-stands
 returns-then-not-changed-clause-stands c =
-    stands_more _ _ _ _ _ _ c.requires.got (c.slot_blocks-changed.ensures.stands _ _ c.requires.stands)
-
-pub returns-then-knows_all-clause-stands : goal.returns-then-knows_all-clause-stands
-returns-then-knows_all-clause-stands c =
     stands_more _ _ _ _ _ _ c.requires.got (c.slot_blocks-changed.ensures.stands _ _ c.requires.stands)
 
 pub returns-in_err-extend_from_slice-clause-stands : goal.returns-in_err-extend_from_slice-clause-stands
@@ -33,23 +28,6 @@ returns-then-not-changed-clause-lines c =
     adds_slot t candidate.ahead _ _ candidate.slot _ [] _ (no_mixes t candidate.ahead _ _ [] candidate.slot
     (stays_none t candidate.ahead _ _ candidate.slot (λ view is. rw (next, ← c.requires.got)
     (same view t _ c.requires.stands is)))) (sym (append-nil c.args.lines.now.items))
-
-pub returns-then-knows_all-clause-lines : goal.returns-then-knows_all-clause-lines
-returns-then-knows_all-clause-lines c =
-    let candidate = c.args.candidate.now in
-    let t = tuned candidate.pi candidate.dwell in
-    let log = candidate.log.now in
-    let lost = candidate.lost.now in
-    let n = candidate.slot in
-    let before = view_of c.view-before.result in
-    let stands = returns-then-knows_all-clause-stands c in
-    adds_slot t candidate.ahead log lost n c.args.lines.now.items [] c.args.lines.now.items
-    (no_mixes t candidate.ahead log lost [] n
-    (known_none t candidate.ahead log lost n before (view_of c.view-after.result)
-    (c.view-before.ensures t _ c.requires.stands) (c.view-after.ensures t _ stands)
-    (λ thing has. rw c.slots_until-until.ensures.value
-    at (c.knows_all.ensures c.if-knows_all.true t log c.requires.seen thing has))))
-    (sym (append-nil c.args.lines.now.items))
 
 pub push_mixes_of-requires-clause-around : goal.push_mixes_of-requires-clause-around
 push_mixes_of-requires-clause-around c =
