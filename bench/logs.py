@@ -59,6 +59,13 @@ def log(rng, slots):
             yield line(0, rng.randrange(32), rng.randrange(65536), rng.randrange(65536))
 
 
+def random_segments(slots):
+    """The lines of a station that sends a random segment of a text in each slot, all with one flag."""
+    rng = random.Random(SEED)
+    for _ in range(slots):
+        yield segment_line(2, 0, rng.randrange(16), bytes(rng.choices(b"ABCDEFGHIJKLMNOPQRSTUVWXYZ", k=4)))
+
+
 def write(path, slots):
     with open(path, "w", encoding="ascii") as made:
         for slot, text in enumerate(log(random.Random(SEED), slots)):

@@ -17,6 +17,11 @@ def ours(program, task, late):
     return [program, task, "--pi", "C201", *lateness, *station, "--quiet"]
 
 
+def losing(program, spans):
+    """The call for the mixes of a receiver that loses so many of the first slots, each second one."""
+    return [program, "witness", "--pi", "C201", "--quiet", "--lose", ",".join(str(2 * it) for it in range(spans))]
+
+
 def made_input(folder, program, task, receivers, late, slots):
     """The path of the task's input of so many slots, made where it isn't there yet."""
     path = os.path.join(folder, f"{task}.{receivers}.{late}.{slots}")
@@ -34,9 +39,11 @@ def made_input(folder, program, task, receivers, late, slots):
     return path
 
 
-def instructions(command, path):
-    """Instructions of the command on its input, by callgrind."""
+def instructions(command, path, statuses=(0,)):
+    """Instructions of the command on its input, by callgrind. It ends with one of these statuses."""
     with open(path, "rb") as given, tempfile.NamedTemporaryFile() as counts:
         call = ["valgrind", "--tool=callgrind", f"--callgrind-out-file={counts.name}", *command]
-        done = subprocess.run(call, stdin=given, stdout=subprocess.DEVNULL, stderr=subprocess.PIPE, check=True)
+        done = subprocess.run(call, stdin=given, stdout=subprocess.DEVNULL, stderr=subprocess.PIPE, check=False)
+    if done.returncode not in statuses:
+        raise subprocess.CalledProcessError(done.returncode, call, stderr=done.stderr)
     return int(re.search(rb"refs: +([0-9,]+)", done.stderr)[1].replace(b",", b""))

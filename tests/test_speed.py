@@ -8,6 +8,7 @@ import unittest
 from tests.support import PROGRAM, TARGET, ProgramCase, needs_proved, path, text_of
 
 sys.path.insert(1, path("bench"))
+import logs
 import tasks
 
 SLOTS = 10_000
@@ -46,6 +47,15 @@ class Speed(ProgramCase):
             one, many = (tasks.instructions([PROGRAM, "witness", "--pi", "C201", "--m", "8", "--lose", spans], log.name)
                          for spans in ("0", ",".join(str(3 * it) for it in range(count))))
         self.check(f"{many} instructions beside {one}", many <= 1.5 * one, True)
+
+    def test_twice_the_mixes_take_little_more(self):
+        """Of random segments, so that a receiver shows a mix in nearly each slot between two lost ones."""
+        slots, spans = 10_000, 1500
+        with tempfile.NamedTemporaryFile("w") as log:
+            log.writelines(f"{line}\n" for line in logs.random_segments(slots))
+            log.flush()
+            few, many = (tasks.instructions(tasks.losing(PROGRAM, count), log.name, (0, 1)) for count in (spans, 2 * spans))
+        self.check(f"{many} instructions beside {few}", many <= 1.5 * few, True)
 
     def test_all_faults_take_the_instructions_of_the_first_one(self):
         """Of a log that passes, where both judge each slot: one engine serves both."""
