@@ -267,7 +267,7 @@ uint32_t rdsrt_time_in(const uint8_t *text, size_t length, uint64_t *time);
  * grain, the number is never too small. End as many slots without a group before the slot of the later group.
  * Returns RDSRT_UNKNOWN if the later time is before the earlier one, or more than an hour after it, or if the grain is
  * 87,579 or more. Nobody knows then how many slots were lost. End as many as the dwell: the receiver drops all it
- * holds. */
+ * holds. They may hide a fault from an audit, so begin a new one there. */
 uint32_t rdsrt_lost_slots(uint64_t earlier, uint64_t later, uint32_t grain);
 
 /* ---- Encoder ---- */

@@ -495,8 +495,8 @@ OBJECTS = [
      [{"kind": "no_group", "slots": 2, "first": "C201", "groups": 1, "others": 1}]),
     (DECODE, HI.rstrip() + b" 0.0\n" + HI.rstrip() + b" 9.0\n", [{"kind": "lack", "slots": 103, "lines": 2, "start": True}]),
     ("slots --pi C201", b"F201 2140 4849 0D20 1.0\n" + HI + HI.rstrip() + b" 9.0\n" + HI.rstrip() + b" 8.0\n",
-     [{"kind": "break", "why": "back"}, {"kind": "untimed", "groups": 1}, {"kind": "others", "lines": 1},
-      {"kind": "breaks", "count": 1}]),
+     [{"kind": "break", "why": "back", "line": 4}, {"kind": "untimed", "groups": 1}, {"kind": "others", "lines": 1},
+      {"kind": "breaks", "count": 1, "line": 4}]),
     ("slots --m 1", b"".join(HI.rstrip() + b" %d.0\n" % (at // 40) for at in range(200)) + HI.rstrip() + b" 7.0\n",
      [{"kind": "coarse"}]),
 ]

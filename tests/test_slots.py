@@ -4,12 +4,13 @@ n slots are lost between two groups whose times are apart by more than n slots a
 slots and the grain (or n is 0). The grain is 20 ms.
 """
 import datetime
+import json
 import random
 import select
 import subprocess
 
 from tests.calls import DECODE
-from tests.slot import NINETEEN_SLOTS
+from tests.slot import NINETEEN_SLOTS, SLOT
 from tests.support import PROGRAM, SECONDS, ProgramCase, bytes_of, ran
 
 HI = "C201 2140 4849 0D20"
@@ -49,6 +50,8 @@ JUMPS = [
 SKIPPED = ["", "# note", '<recorder="balcony">', "% end"]
 UNTIMED = ["", " soon", " @2024/13/01 00:00:00.00", " @2024/06/01 24:00:00.00", " @2024/02/30 00:00:00.00", " -1",
            " 07:58:12", " @2024/06/01 07:58:12.00x"]
+# the note on all breaks at the end: how many there are, and where to cut the log
+END = "rdsrt: the times have {}. Do not audit this output: cut the log before {}, and audit each part with --running\n"
 MALFORMED = ["C201 2140 4849 0D2 1", "C201  2140 4849 0D20 1", "hello", HI + "5"]
 
 
@@ -60,10 +63,56 @@ def filled(lines, *words):
     return done.returncode, [row for row in rows if row[0] != "#"], [row for row in rows if row[0] == "#"], notes
 
 
+def note_at(why, line):
+    """Returns the note on a break, which comes at once."""
+    return f"rdsrt: {why} before line {line}: nobody knows how many slots were lost, so M lost slots stand for them\n"
+
+
 def lost(earlier, later, grain=20_000):
     """Returns how many slots are lost between two times in microseconds, by the rule above. M after a break."""
     apart = later - earlier
     return max(0, -(-19 * (apart - grain) // NINETEEN_SLOTS) - 1) if 0 <= apart <= HOUR else M
+
+
+def spoiled(rng, m):
+    """Returns the slots of a station that keeps its texts for M slots or somewhat more, some of them for less."""
+    slots, flag = [], 0
+    is_right = rng.random() < 0.4
+    for _ in range(rng.randrange(3, 9)):
+        stays = m + rng.randrange(4) if is_right or rng.random() < 0.7 else rng.randrange(1, m)
+        text = f"C201 21{4 + flag}0 41{rng.randrange(0x41, 0x5B):02X} 0D20"
+        slots += [text if rng.random() < 0.8 else LOST for _ in range(stays)]
+        flag ^= 1
+    return slots
+
+
+def recorded(rng, slots):
+    """Returns a recording of these slots: its lines with times, its slots from the first group to the last one, and the
+    breaks of its clock: the cause and the line of each, by the rule of `slots`. A lost group has no line, or one with a
+    time and no group. The clock is set back by more than a gap lasts, so a group is then earlier than the one before it."""
+    lines, log, breaks, last = ["# a recording"], [], [], None
+    clock, rate, is_set = 200_000, rng.choice([0, 0.02, 0.05]), False
+    for number, group in enumerate(slots):
+        if not is_set and rng.random() < rate:
+            clock += rng.choice([-rng.randrange(10, 4000), rng.randrange(3700, 9000)])
+            is_set = True
+        time = f"{clock + number * SLOT + rng.uniform(0, 0.018):.3f}"
+        if group == LOST or rng.random() < 0.05:
+            log.append(LOST)
+            lines += [f"{LOST} {time}"] if rng.random() < 0.1 else []
+            continue
+        log.append(group)
+        lines += [f"{group} {time}"] if rng.random() < 0.95 else ["", f"{group} {time} 57"]
+        if last is not None and not 0 <= float(time) - last <= 3600:
+            breaks.append(("back" if float(time) < last else "hour", len(lines)))
+        last, is_set = float(time), False
+    return lines, inner(log), breaks
+
+
+def inner(slots):
+    """Returns these slots without the lost ones before the first group and after the last one."""
+    groups = [number for number, it in enumerate(slots) if it != LOST]
+    return slots[groups[0]:groups[-1] + 1] if groups else []
 
 
 class Worked(ProgramCase):
@@ -82,9 +131,30 @@ class Worked(ProgramCase):
 
     def test_a_time_that_jumps_begins_a_new_count_after_a_dwell(self):
         self.compare(JUMPS, breaks=1)
-        _, slots, _, notes = filled([f"{HI} 2", f"{HI} 1"], "--m", "3")
+        _, slots, _, _ = filled([f"{HI} 2", f"{HI} 1"], "--m", "3")
         self.check("a dwell of 3", slots, [f"{HI} 2", LOST, LOST, LOST, f"{HI} 1"])
-        self.check("the note on a break", "time" in notes and "back" in notes, True, notes)
+
+    def test_a_log_whose_time_jumps_ends_with_status_1_and_the_line_to_cut_at(self):
+        for (name, times, _), why in zip(JUMPS, ("time went back", "time went back", "more than an hour passed")):
+            status, _, _, notes = filled([f"{HI} {time}" for time in times])
+            self.check(name, (status, notes), (1, note_at(why, 2) + END.format("1 break, before line 2", "line 2")))
+        # too coarse is said first, and each has its note
+        status, _, _, notes = filled([f"{HI} {time}" for time in (7, 7, 8, 7)], "--json-notes")
+        self.check("coarse, and a break", (status, [json.loads(it)["kind"] for it in notes.splitlines()]),
+                   (1, ["break", "coarse", "breaks"]))
+
+    def test_the_output_of_a_log_whose_clock_was_set_back_is_not_to_be_audited(self):
+        """In slot 4 the flag comes back too early. The lost slots at the break hide that."""
+        groups = ["2140 4A41 5A5A", "2141 2046 4D0D", "2150 4E45 5753", "2151 2046 4D0D", "2140 504F 5020", "2141 204D 4958"]
+        lines = [f"C201 {group} {time}" for group, time in
+                 zip(groups, ("100.000", "100.088", "100.175", "97.000", "97.088", "97.175"))]
+        status, slots, comments, notes = filled(lines, "--m", "8")
+        self.check("the status", status, 1)
+        self.check("the notes", notes, note_at("time went back", 4) + END.format("1 break, before line 4", "line 4"))
+        answers = [ran(["audit", "--running", "--m", "8", "--pi", "C201"], "".join(f"{it}\n" for it in of).encode())
+                   for of in (lines, slots)]
+        self.check("the log, and its slots", answers, [(1, b"no 4 EarlyFlag\n"), (0, b"yes 14\n")])
+        self.check("the comment", comments, ["# time went back"])
 
     def test_what_follows_the_time_is_left_out(self):
         lines = [f"{HI} {JUNE('07:58:12.00')}", f"{HI} {JUNE('07:58:13.00')}"]
@@ -142,11 +212,18 @@ class Worked(ProgramCase):
         _, slots, comments, notes = filled([f"{HI} 100", f"{LOST} 103", f"{HI} 99"], "--m", "8")
         self.check("M slots were told", (slots, comments),
                    ([f"{HI} 100", *[LOST] * 34, f"{HI} 99"], ["# time went back"]))
-        self.check("the notes on it", notes.count("went back"), 2, notes)
-        self.check("no group", filled([f"{HI} 9", f"{LOST} 1"], "--m", "2")[1:], ([f"{HI} 9", LOST, LOST], [], ""))
+        self.check("the notes on it", notes, note_at("time went back", 3) + END.format("1 break, before line 3", "line 3"))
+        self.check("no group", filled([f"{HI} 9", f"{LOST} 1"], "--m", "2"), (0, [f"{HI} 9", LOST, LOST], [], ""))
+        self.check("no group at the break", filled([f"{HI} 9", f"{LOST} 1", f"{HI} 100"], "--m", "2")[::2], (0, []))
         _, _, comments, notes = filled([f"{HI} {time}" for time in (5, 4, 3, 2)], "--m", "2")
-        self.check("three breaks have one note and a count", (len(comments), notes.count("\n")), (3, 2), notes)
-        self.check("the count", "3 times went back, or on by more than an hour" in notes, True, notes)
+        self.check("three breaks", (len(comments), notes), (3, note_at("time went back", 2) + END.format(
+            "3 breaks, the first before line 2", "line 2 and before each later break")))
+        # in the order of the log, whatever comes first
+        for times, whys in (((1, 9000, 2), ("more than an hour passed", "time went back")),
+                            ((9000, 1, 9000), ("time went back", "more than an hour passed"))):
+            _, _, _, notes = filled([f"{HI} {time}" for time in times], "--m", "1")
+            self.check(f"two kinds at {times}", notes, "".join(map(note_at, whys, (2, 3))) + END.format(
+                "2 breaks, the first before line 2", "line 2 and before each later break"))
 
     def test_a_line_without_a_whole_group_only_tells_the_time(self):
         """Slots 1 to 11 are over after 1 s, less the grain. The next group changes none of them."""
@@ -212,6 +289,30 @@ class ByChance(ProgramCase):
         date = datetime.datetime(2000, 1, 1) + datetime.timedelta(microseconds=time)
         return date.strftime(rng.choice(["@%Y/%m/%d %H:%M:%S.%f", "%Y-%m-%dT%H:%M:%S.%fZ", "%Y-%m-%d %H:%M:%S.%f"]))
 
+    def test_a_yes_to_the_output_is_a_yes_to_the_log(self):
+        """300 recordings with times, faults and lost groups. In some the clock is set back, or on by more than an hour.
+        Then `slots` has status 1 and names the line, and `audit` of its output may say yes to a log with a fault."""
+        seen = {"false yes": 0, "yes": 0, "no": 0, "several breaks": 0}
+        for number, rng in self.cases(random.Random(f"{SEED} set back {it}") for it in range(300)):
+            m = rng.randrange(4, 17)
+            lines, log, breaks = recorded(rng, spoiled(rng, m))
+            status, slots, _, notes = filled(lines, "--m", str(m), "--json-notes")
+            told = [(it["kind"], it.get("line"), it.get("count")) for it in map(json.loads, notes.splitlines())]
+            kinds = dict(reversed(breaks))
+            wanted = [("break", line, None) for line in sorted(kinds.values())]
+            wanted += [("breaks", breaks[0][1], len(breaks))] if breaks else []
+            shown = "\n".join(lines)
+            self.check(f"seed {SEED}, log {number}, M = {m}: the breaks", (status, told), (bool(breaks), wanted), shown)
+            answers = [ran(["audit", "--running", "--m", str(m), "--pi", "C201"], "".join(f"{it}\n" for it in of).encode())
+                       for of in (inner(slots), log)]
+            if not breaks:
+                self.check(f"seed {SEED}, log {number}, M = {m}: the answer", *answers, shown)
+            passes = [status == 0 for status, _ in answers]
+            seen["several breaks"] += len(breaks) > 1
+            seen["false yes"] += passes == [True, False]
+            seen["yes" if passes[0] else "no"] += not breaks
+        self.check_all(f"each kind of logs: {seen}", min(seen.values()) > 4, True)
+
     def test_a_receiver_of_the_filled_log_shows_no_mix(self):
         """A station with a text every 2 M slots; bursts of slots are lost, and their lines are left out."""
         rng = random.Random(SEED)
@@ -251,14 +352,14 @@ class Live(ProgramCase):
 
     def test_a_break_is_told_while_the_log_is_open(self):
         """Each break has a line on standard error at once, and --quiet has none."""
-        told = b"rdsrt: %s: nobody knows how many slots were lost, so M lost slots stand for them\n"
         with subprocess.Popen([PROGRAM, "slots"], stdin=subprocess.PIPE, stdout=subprocess.DEVNULL,
                               stderr=subprocess.PIPE, bufsize=0) as program:
             program.stdin.write(f"{HI} 1.0\n".encode())
-            for time, why in (("0.5", b"time went back"), ("9000", b"more than an hour passed")):
+            for line, time, why in ((2, "0.5", "time went back"), (3, "9000", "more than an hour passed")):
                 program.stdin.write(f"{HI} {time}\n".encode())
                 is_there = select.select([program.stderr], [], [], SECONDS)[0]
-                self.check(f"a break at {time}", program.stderr.readline() if is_there else None, told % why)
+                self.check(f"a break at {time}", program.stderr.readline() if is_there else None,
+                           note_at(why, line).encode())
             program.stdin.write(b"no line\n")
             program.stdin.close()
             self.check("a fault is no break", b"nobody knows" in program.stderr.read(), False)

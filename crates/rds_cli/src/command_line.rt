@@ -496,7 +496,7 @@ fn slots<'a>(alloc: Global) -> Result<Command<'a>, AllocError>
                  seconds such as 12.5. A group without a time is left out. A line with a time and a\n\
                  lost block says that no group came until then. If a group's time is earlier than\n\
                  that of the group before it, or more than an hour later, a comment and at least M lost\n\
-                 slots are added.\n\n\
+                 slots are added, and the status is 1: do not audit this output.\n\n\
                  No slot is missing if the delay of the groups varies by less than a slot (87.5 ms)\n\
                  less the grain. None is added in vain if it varies by at most the grain. If more are\n\
                  counted than a station sends in that time, the times are too coarse: status 1.\n\n\

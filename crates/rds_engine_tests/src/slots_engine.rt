@@ -53,17 +53,19 @@ fn counted_lines(rt: HostRuntime) -> Result<(), Fail> {
     let mut notes = SlotNotes::new();
     for (pi, output, others) in [(Some(0xC201), OF_ONE, 1), (None, OF_ALL, 0)] {
         let (done, written) = filled(&rt, LOG, pi, &mut notes)?;
-        same(&rt, done, Ok(Times::Fine));
+        same(&rt, done, Ok(Times::Broken));
         same(&rt, written.as_slice(), output);
         same(
             &rt,
             (
                 notes.counts.untimed,
                 notes.counts.others,
-                notes.counts.breaks(),
+                notes.breaks.count,
             ),
             (1, others, 1),
         );
+        let first = notes.breaks.first.ok_or("a break is noted")?;
+        same(&rt, first.line, 6);
     }
     Ok(())
 }

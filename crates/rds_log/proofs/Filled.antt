@@ -13,6 +13,7 @@ use Rattle.rds_io.proofs.Waiting.{lost_longer}
 use Rattle.rds_arrivals.specs.Arrivals.{Arrival, IsBreak, lost_between, lost_until, lost_within}
 use Rattle.rds_arrivals.specs.Breaks.{IsBreakOf}
 use Rattle.rds_arrivals.specs.declared.lost.Break.{Break}
+use Rattle.rds_arrivals.specs.declared.lost.Break.TheVariants.{Back, Hour}
 use Rattle.rds_arrivals.specs.declared.stamp.Stamp.{Stamp}
 use Rattle.rds_log.specs.LogLines.{Line}
 use Rattle.rds_log.specs.LineSays.{LineSays, deciding}
@@ -56,6 +57,11 @@ two_more_lost total n =
     (2 * n)) one one))
 
 -- ---- the output before a group
+
+-- each cause of a break is a break
+pub break_is : (earlier later : ℕ) (why : Break) → IsBreakOf earlier later why → IsBreak earlier later
+break_is earlier later Back before = inl before
+break_is earlier later Hour after = inr after
 
 -- no break
 pub gap_within : (f : Filling) (came : Bool) (last told time lost : ℕ) → (IsBreak last time → ⊥)

@@ -8,6 +8,7 @@ pub mod Runs
 pub mod Decodes
 pub mod Audited
 pub mod KeptSlots
+pub mod WorkedRows
 pub mod WholeBytes
 pub mod OneOutput
 pub mod Meaning

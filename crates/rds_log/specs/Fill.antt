@@ -7,7 +7,7 @@ use Rattle.std.specs.Io.KnownBytes.{Consumes, IsAtEnd}
 use Rattle.rds_block.specs.declared.group.Group.{Group}
 use Rattle.rds_io.specs.Digits.{HasWord}
 use Rattle.rds_io.specs.Told.{IsCalm, Traffic}
-use Rattle.rds_arrivals.specs.Arrivals.{Arrival, lost_between, lost_until}
+use Rattle.rds_arrivals.specs.Arrivals.{Arrival, IsBreak, lost_between, lost_until}
 use Rattle.rds_arrivals.specs.Breaks.{break_of}
 use Rattle.rds_arrivals.specs.Coarse.{AreCoarse}
 use Rattle.rds_arrivals.specs.Stamps.{stamp_in}
@@ -21,7 +21,7 @@ use Rattle.rds_io.specs.declared.fault.LogFault.{LogFault}
 use Rattle.rds_log.specs.declared.filler.Filling.{Filling}
 use Rattle.rds_log.specs.declared.log_line.LogLine.TheVariants.{Skip, Slot}
 use Rattle.rds_log.specs.declared.filler.Times.{Times}
-use Rattle.rds_log.specs.declared.filler.Times.TheVariants.{AllLeftOut, Coarse, Fine}
+use Rattle.rds_log.specs.declared.filler.Times.TheVariants.{AllLeftOut, Broken, Coarse, Fine}
 
 -- ---- a line, by its first bytes
 
@@ -70,6 +70,16 @@ gap_lines f came (Some last) told time =
 abbrev pub newest_time : List (Arrival Group) → Option ℕ
 newest_time [] = None
 newest_time (a ∷ before) = Some a.time
+
+-- the time breaks after this last time, if there is one
+abbrev pub BreaksAfter : Option ℕ → ℕ → Type 0
+BreaksAfter None time = ⊥
+BreaksAfter (Some last) time = IsBreak last time
+
+-- the time of one of these groups breaks after that of the group before it
+abbrev pub HasBreak : List (Arrival Group) → Type 0
+HasBreak [] = ⊥
+HasBreak (a ∷ before) = BreaksAfter (newest_time before) a.time ⊎ HasBreak before
 
 -- ---- lines
 
@@ -131,11 +141,13 @@ abbrev pub HasLeftOut : Option ℕ → List Line → Type 0
 HasLeftOut pi [] = ⊥
 HasLeftOut pi (line ∷ before) = IsLeftOut pi line ⊎ HasLeftOut pi before
 
--- whether the slots of the log can be counted by the times of these lines, which have these groups: all groups were
--- left out, or the times are coarse, or neither
+-- whether the slots of the log can be counted by the times of these lines, which have these groups: the times are
+-- coarse, or else they have a break, or all groups were left out, or nothing of all this
 abbrev pub TimesAre : Filling → List Line → List (Arrival Group) → Times → Type 0
-TimesAre f lines came Fine = ((came ≡ []) × HasLeftOut f.pi lines → ⊥) × (AreCoarse f.grain came → ⊥)
+TimesAre f lines came Fine =
+    ((came ≡ []) × HasLeftOut f.pi lines → ⊥) × (AreCoarse f.grain came → ⊥) × (HasBreak came → ⊥)
 TimesAre f lines came Coarse = AreCoarse f.grain came
+TimesAre f lines came Broken = (AreCoarse f.grain came → ⊥) × HasBreak came
 TimesAre f lines came AllLeftOut = (came ≡ []) × HasLeftOut f.pi lines
 
 -- the output of a whole log was written, and the answer says what its times are

@@ -55,6 +55,8 @@ pub enum Times {
     Fine,
     /// The times are too coarse: more slots were counted than a station sends in that time.
     Coarse,
+    /// The times are not too coarse, and they have a break: nobody knows how many slots were lost there.
+    Broken,
     /// The log has groups, and all of them were left out: each has no time or is of another programme.
     AllLeftOut,
 }
@@ -75,31 +77,11 @@ pub struct SlotCounts {
     pub untimed: u64,
     /// The number of lines with a time that were left out, since they are of another programme.
     pub others: u64,
-    /// How often a time went back: nobody knows how many slots were lost.
-    pub backs: u64,
-    /// How often more than an hour passed: the same.
-    pub hours: u64,
     /// The longest gap.
     pub gap: Gap,
     /// The line of the newest group that did not fit a line without a group before it: by the time of that line, more
     /// slots were lost than by the time of the group.
     pub misfit: Option<u64>,
-}
-
-impl SlotCounts {
-    /// Returns how often nobody knows how many slots were lost.
-    pub fn breaks(&self) -> u64 {
-        self.backs.saturating_add(self.hours)
-    }
-
-    /// Counts a break.
-    fn add(&mut self, why: Option<Break>) {
-        match why {
-            Some(Break::Back) => self.backs = self.backs.saturating_add(1),
-            Some(Break::Hour) => self.hours = self.hours.saturating_add(1),
-            None => {}
-        }
-    }
 }
 
 /// Takes the lines of a log with times for `slots`.
@@ -152,11 +134,11 @@ impl TakesLines for Filler {
     }
 
     fn tell<N: News>(&self, news: &mut N) {
-        if self.counts.backs > 0 {
-            news.breaks(Break::Back);
+        if let Some(first) = self.pace.breaks.first {
+            news.breaks(first);
         }
-        if self.counts.hours > 0 {
-            news.breaks(Break::Hour);
+        if let Some(other) = self.pace.breaks.other {
+            news.breaks(other);
         }
     }
 
@@ -191,6 +173,9 @@ impl Filler {
     {
         if self.pace.coarse.is_some() {
             return Times::Coarse;
+        }
+        if self.pace.breaks.first.is_some() {
+            return Times::Broken;
         }
         if self.pace.stretch.is_none() && self.has_left_out {
             return Times::AllLeftOut;
@@ -232,7 +217,7 @@ impl Filler {
             return Ok(());
         }
         self.note_gap(told, stamp.time, source.lines());
-        self.pace.add(told, stamp.time);
+        self.pace.add(told, stamp.time, source.lines());
         self.told = 0;
         push_line(&first[..TIME + stamp.end], output, writer)
     }
@@ -291,7 +276,6 @@ impl Filler {
             Ok(lost) => self.push_more(None, lost, output, writer),
             Err(why) => {
                 let told = is_group.then_some(why);
-                self.counts.add(told);
                 self.push_more(told, u32::from(self.filling.dwell.get()), output, writer)
             }
         }

@@ -13,6 +13,7 @@
 
 mod audit_log;
 mod auditor;
+mod breaks;
 mod cutter;
 mod decode_log;
 mod decoder;
@@ -37,6 +38,7 @@ mod source;
 mod verdict;
 
 pub use audit_log::{Auditing, Stop, audit, audit_with_notes, audit_within};
+pub use breaks::{BreakPlace, Breaks};
 pub use decode_log::{Decoding, MOST_READS, decode, decode_with_notes, decode_within};
 pub use fault_notes::{FaultCount, FaultCounts, FaultNotes, FaultPlace};
 pub use filler::{Filling, Gap, SlotCounts, Times, comment_of};

@@ -1,7 +1,7 @@
 //! What a person wants to know while a log is still open.
 
+use crate::breaks::BreakPlace;
 use crate::log_times::Lack;
-use rds_arrivals::Break;
 
 /// Takes facts of a log where an engine meets them. No contract speaks of them.
 pub trait News {
@@ -9,8 +9,8 @@ pub trait News {
     /// not say it again.
     fn lacks(&mut self, lack: Lack) -> bool;
 
-    /// `slots` met this break. It may come more than once.
-    fn breaks(&mut self, why: Break);
+    /// `slots` met this break, the first of its kind. It may come more than once. Breaks come in the order of the log.
+    fn breaks(&mut self, at: BreakPlace);
 }
 
 /// Nobody wants to know.
@@ -22,5 +22,5 @@ impl News for NoNews {
         false
     }
 
-    fn breaks(&mut self, _why: Break) {}
+    fn breaks(&mut self, _at: BreakPlace) {}
 }

@@ -4,6 +4,7 @@ ghost use Rattle.rds_io.specs.Told.{traffic};
 ghost use Rattle.rds_log.specs.Fill.{Fills};
 ghost use Rattle.rds_log.specs.Reads.{MadeReads};
 
+use crate::breaks::Breaks;
 use crate::decode_log::MOST_READS;
 use crate::filler::{Filler, Filling, SlotCounts, Times};
 use crate::news::News;
@@ -17,6 +18,8 @@ use rds_io::{LogFault, TellingRead, TellingWrite};
 pub struct SlotNotes {
     /// What was counted in the log.
     pub counts: SlotCounts,
+    /// The breaks in its times.
+    pub breaks: Breaks,
     /// The newest stretch whose times were too coarse to count slots by, up to its newest group at which they were.
     pub coarse: Option<Stretch>,
     /// Notes on the reading of the log.
@@ -28,6 +31,7 @@ impl SlotNotes {
     pub fn new() -> SlotNotes {
         SlotNotes {
             counts: SlotCounts::default(),
+            breaks: Breaks::none(),
             coarse: None,
             read: ReadNotes::new(),
         }
@@ -65,6 +69,7 @@ pub fn fill_with_notes<R: TellingRead, W: TellingWrite, N: News>(
         news,
     )?;
     notes.counts = filler.counts;
+    notes.breaks = filler.pace.breaks;
     notes.coarse = filler.pace.coarse;
     Ok(filler.times())
 }

@@ -1,11 +1,13 @@
 //! The notes of a run, as values.
 
 use arrayvec::ArrayVec;
-use rds_arrivals::{Break, Grain};
+use rds_arrivals::Grain;
 use rds_cli::{End, Request, Task};
 use rds_fields::{ANNOUNCEMENT_CODE, NAME_CODE, RADIOTEXT_CODE, RTPLUS_AID, RTPLUS_CODE, TagGroup};
 use rds_io::LogFault;
-use rds_log::{FaultCount, Gap, GroupCounts, Lack, LogNotes, NoNote, SlotNotes};
+use rds_log::{
+    BreakPlace, Breaks, FaultCount, Gap, GroupCounts, Lack, LogNotes, NoNote, SlotNotes,
+};
 use rds_script::{EarlySet, ScriptNotes};
 use std::io::{self, ErrorKind};
 
@@ -132,10 +134,10 @@ pub(crate) enum Note<'a> {
     OthersLeftOut(u64, &'a str),
     /// The times of a log vary by more than the grain.
     Coarse(CoarseTimes),
-    /// How often nobody knows how many slots were lost.
-    Breaks(u64),
+    /// The breaks in the times of a log: an audit of the output of `slots` says nothing.
+    Breaks(Breaks),
     /// Nobody knows how many slots were lost at this break, which `slots` just met.
-    Break(Break),
+    Break(BreakPlace),
     /// The log has no group of the programme.
     NoGroup(OtherGroups<'a>),
     /// The programme has no group of a text, a name or tags, and so many groups 2B.
@@ -234,8 +236,9 @@ fn note_slots<'a>(run: &'a Run<'a>, notes: &mut Notes<'a>) {
     if let Some(coarse) = coarse_times(run) {
         add(Note::Coarse(coarse), notes);
     }
-    if counts.breaks() > 0 {
-        add(Note::Breaks(counts.breaks()), notes);
+    let breaks = run.slots.breaks;
+    if breaks.count > 0 {
+        add(Note::Breaks(breaks), notes);
     }
 }
 

@@ -3,11 +3,10 @@
 use crate::fault_lines::{push_found, push_found_advice, push_no, push_no_advice};
 use crate::note::{CoarseTimes, Elsewhere, Incomplete, Judged, Note, OtherGroups, Run};
 use arrayvec::ArrayVec;
-use rds_arrivals::Break;
 use rds_cli::{Request, Task};
 use rds_encoder::Refusal;
 use rds_io::LogFault;
-use rds_log::{BadStart, Lack, comment_of};
+use rds_log::{BadStart, BreakPlace, Breaks, Lack, comment_of};
 use rds_script::{EarlySet, SetKind};
 use std::io::Write;
 
@@ -35,8 +34,8 @@ pub(crate) fn push_note(note: Note<'_>, line: &mut Line) {
         Note::Untimed(groups) => push_untimed(groups, line),
         Note::OthersLeftOut(lines, pi) => push_others(lines, pi, line),
         Note::Coarse(coarse) => push_coarse(coarse, line),
-        Note::Breaks(count) => push_breaks(count, line),
-        Note::Break(why) => push_break(why, line),
+        Note::Breaks(breaks) => push_breaks(breaks, line),
+        Note::Break(at) => push_break(at, line),
         Note::NoGroup(other) => push_no_group(other, line),
         Note::NothingToRead(short, request) => push_nothing(short, request, line),
         Note::Incomplete(incomplete) => push_incomplete(incomplete, line),
@@ -61,6 +60,7 @@ pub(crate) fn push_advice(note: Note<'_>, line: &mut Line) {
         Note::Lacking(_) => {
             let _ = write!(line, "Put rdsrt slots before this command");
         }
+        Note::Breaks(breaks) => push_breaks_advice(breaks, line),
         Note::TagsElsewhere(elsewhere) if elsewhere.may_be_read => {
             let _ = write!(line, "Give --rtplus ");
             push(group_name(elsewhere.code).as_slice(), line);
@@ -272,12 +272,13 @@ pub(crate) fn push_lack(lack: Lack, line: &mut Line) {
 }
 
 /// Appends that nobody knows how many slots were lost at a break of a log, and why.
-pub(crate) fn push_break(why: Break, line: &mut Line) {
-    let comment = comment_of(why);
+fn push_break(at: BreakPlace, line: &mut Line) {
+    let number = at.line;
+    let comment = comment_of(at.why);
     push(comment.strip_prefix(b"# ").unwrap_or(comment), line);
     let _ = write!(
         line,
-        ": nobody knows how many slots were lost, so M lost slots stand for them"
+        " before line {number}: nobody knows how many slots were lost, so M lost slots stand for them"
     );
 }
 
@@ -293,13 +294,35 @@ fn push_others(others: u64, pi: &str, line: &mut Line) {
     push_left_out(others, line);
 }
 
-/// Appends how often nobody knows how many slots were lost.
-fn push_breaks(breaks: u64, line: &mut Line) {
-    push_count(breaks, "time", "times", line);
+/// Appends how many breaks the times of a log have, and where the first one is.
+fn push_breaks(breaks: Breaks, line: &mut Line) {
+    let which = if breaks.count == 1 { "" } else { "the first " };
+    let _ = write!(line, "the times have ");
+    push_count(breaks.count, "break", "breaks", line);
+    let number = first_line(breaks);
+    let _ = write!(line, ", {which}before line {number}");
+}
+
+/// Appends how to audit a log with breaks.
+fn push_breaks_advice(breaks: Breaks, line: &mut Line) {
+    let more = if breaks.count == 1 {
+        ""
+    } else {
+        " and before each later break"
+    };
+    let number = first_line(breaks);
     let _ = write!(
         line,
-        " went back, or on by more than an hour: M lost slots stand for each"
+        "Do not audit this output: cut the log before line {number}{more}, and audit each part with --running"
     );
+}
+
+/// Returns the line of the group after the first break.
+pub(crate) fn first_line(breaks: Breaks) -> u64 {
+    match breaks.first {
+        Some(first) => first.line,
+        None => 0,
+    }
 }
 
 /// Appends how many groups have no time, and what a time looks like.

@@ -2,7 +2,7 @@
 //! and rows from 1.
 
 use crate::note::{FaultOf, Note};
-use crate::note_lines::{BEGUN, Line, group_name, push};
+use crate::note_lines::{BEGUN, Line, first_line, group_name, push};
 use rds_arrivals::Break;
 use rds_audit::AuditFault;
 use rds_encoder::Refusal;
@@ -35,10 +35,14 @@ pub(crate) fn push_object(note: Note<'_>, sentence: &[u8], advice: &[u8], line: 
             }
             push_known("misfit", coarse.misfit, line);
         }
-        Note::Breaks(count) => push_one("breaks", "count", count, line),
-        Note::Break(why) => {
+        Note::Breaks(breaks) => {
+            push_one("breaks", "count", breaks.count, line);
+            push_number("line", first_line(breaks), line);
+        }
+        Note::Break(at) => {
             push_kind("break", line);
-            push_text("why", break_name(why), line);
+            push_text("why", break_name(at.why), line);
+            push_number("line", at.line, line);
         }
         Note::NoGroup(other) => {
             push_kind("no_group", line);

@@ -5,7 +5,7 @@ use crate::printing::print_note;
 use rds_arrivals::Break;
 use rds_cli::{Request, Task};
 use rds_io::TellingWrite;
-use rds_log::{Lack, News};
+use rds_log::{BreakPlace, Lack, News};
 use std::mem;
 
 /// Prints news at once: each kind of break, and that a log has too few lines, once.
@@ -43,13 +43,14 @@ impl<N: TellingWrite> News for Screen<N> {
         true
     }
 
-    fn breaks(&mut self, why: Break) {
-        let was = match why {
+    fn breaks(&mut self, at: BreakPlace) {
+        let place = at;
+        let was = match at.why {
             Break::Back => mem::replace(&mut self.was_back, true),
             Break::Hour => mem::replace(&mut self.was_hour, true),
         };
         if !self.is_quiet && !was {
-            print_note(Note::Break(why), self.is_json, &mut self.writer);
+            print_note(Note::Break(place), self.is_json, &mut self.writer);
         }
     }
 }

@@ -25,7 +25,7 @@ use Rattle.rds_log.specs.declared.audit_log.Stop.TheVariants.{FirstFault, LogEnd
 use Rattle.rds_log.specs.declared.decode_log.Decoding.{Decoding}
 use Rattle.rds_log.specs.declared.filler.Filling.{Filling}
 use Rattle.rds_log.specs.declared.filler.Times.{Times}
-use Rattle.rds_log.specs.declared.filler.Times.TheVariants.{AllLeftOut, Coarse, Fine}
+use Rattle.rds_log.specs.declared.filler.Times.TheVariants.{AllLeftOut, Broken, Coarse, Fine}
 use Rattle.rds_io.specs.ReadFailed.{SomeReadFailed}
 use Rattle.rds_script.specs.Play.{Plays, Reading, with_form}
 use Rattle.rds_io.specs.declared.fault.LogFault.{LogFault}
@@ -126,6 +126,7 @@ witness_status found = if found then 1 else 0
 abbrev pub times_status : Times → ℕ
 times_status Fine = 0
 times_status Coarse = 1
+times_status Broken = 1
 times_status AllLeftOut = 1
 
 -- an engine ran, and its outcome gave the status; `mid` and `failures` are the writer's between the two

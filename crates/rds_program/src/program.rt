@@ -439,7 +439,7 @@ fn can_count(times: Times) -> bool
 {
     match times {
         Times::Fine => true,
-        Times::Coarse | Times::AllLeftOut => false,
+        Times::Coarse | Times::Broken | Times::AllLeftOut => false,
     }
 }
 

@@ -155,7 +155,7 @@ def slots(timed: Iterable[Tuple[float, Optional[Group]]], grain: float = 0.02,
     `rdsrt_lost_slots` of the C library counts the lost slots. `grain` is how far the times can be off, in seconds: a
     group may come that much earlier than a time without a group before it. If a time is earlier than that, earlier than
     the last group, or more than an hour later than it, `dwell` lost slots come: after them a receiver with this dwell
-    has dropped everything."""
+    has dropped everything. They may hide a fault from an `Audit`: give the slots after them to a new one."""
     return (group for _, group in timed_slots(timed, grain, dwell))
 
 
