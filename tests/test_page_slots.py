@@ -29,7 +29,7 @@ def recorded(dice, slots, share):
 
 
 def kind_of(notes):
-    """Returns the class of the card for these notes of `audit`."""
+    """Returns the class of the card for these notes of `audit`, if the times have no break."""
     kinds = {it["kind"] for it in notes}
     if "no" in kinds:
         return "empty" if "lack" in kinds else "no"
@@ -88,9 +88,11 @@ class Slots:
         b = self.b
         log = f"{HI} 10.0\n{HI} 10.1\n{YO} 2.0\n"
         for dwell, count in ((8, "8 lost slots"), (16, "16 lost slots")):
-            verdict_of(b, log, dwell)
+            said = verdict_of(b, log, dwell)
             self.check(f"M = {dwell}", text_of(b, "#log-filled"),
                        f"{count} added by the times, at 1 break of the times at least M each")
+            self.check(f"M = {dwell}: the card", (of(b, "#verdict", "className"), "The times have 1 break, before line 3." in said),
+                       ("verdict empty", True), said)
 
 
 class SlotsInChromium(Slots, ChromiumCase):

@@ -239,7 +239,7 @@ class LogTab extends Tab {
   async showAnswer(asked, signal) {
     const told = await latest(signal, this.judge.ask("audit", asked, { signal }));
     const audit = { ...told, notes: this.inFile(told.notes), first: this.inFile(told.first) };
-    this.answer = { ...verdict.show({ ...asked, audit }, this.actions), audit, of: JSON.stringify(asked) };
+    this.answer = { ...verdict.show({ ...asked, audit, broken: this.filled?.broken }, this.actions), audit, of: JSON.stringify(asked) };
     this.tellLines("audit", this.commandOf(audit.command), audit.output);
     faults.show({ ...audit, isSure: this.answer.isSure });
     // the faults have marks

@@ -39,19 +39,20 @@ function faulty({ line, text }) {
 
 /* The card is grey if the program notes that the log does not show enough. */
 /** @returns {any[]} */
-function answer({ audit, m, k, w }, actions) {
+function answer({ audit, broken, m, k, w }, actions) {
   const [no, lack, few, judged, fault, nothing, none, elsewhere, other] =
     "no lack few judged fault nothing no_group tags_elsewhere other_application".split(" ").map((it) => lines.noteOf(audit.first, it));
   const late = k ? ` and K ${w ? "+ W - 1 " : ""}= ${number(k)}` : "";
   const dwell = `M = ${number(m)} (${lines.time(m)})${late}`;
   const words = (note) => note && told(grouped(note.text));
-  const doubts = filled("doubts", { lack: words(lack), few: words(few), tags: words(elsewhere ?? other) });
-  const card = no && filled(lack ? "doubted" : "refused", { ...shownOf(no, actions), dwell });
-  if (no) return [lack ? "empty" : "no", ...card, ...doubts];
+  const doubts = filled("doubts", { lack: words(lack), few: words(few), broken: words(broken), tags: words(elsewhere ?? other) });
+  const isDoubted = Boolean(lack ?? broken);
+  const card = no && filled(isDoubted ? "doubted" : "refused", { ...shownOf(no, actions), dwell });
+  if (no) return [isDoubted ? "empty" : "no", ...card, ...doubts];
   if (fault) return ["fault", ...faulty(fault)];
   if (nothing ?? none) return ["empty", ...filled("nothing", { note: words(nothing ?? none) }), ...doubts];
   const covered = words(judged);
-  if (lack ?? few) return ["empty", ...filled("unsure", { dwell, covered }), ...doubts];
+  if (lack ?? few ?? broken) return ["empty", ...filled("unsure", { dwell, covered }), ...doubts];
   const keeps = judged.slots - judged.empty === 1 ? "slot keeps" : "slots keep";
   const texts = judged.empty ? "the recorded texts" : "two texts";
   return ["", ...filled("passed", { dwell, keeps, texts, covered, missing: judged.empty > 0 }), ...doubts];
