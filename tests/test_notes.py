@@ -591,6 +591,7 @@ class WhereNotesGo(ProgramCase):
                     wanted = note("segments of 1 text came, and no text was complete: 1 lacked a segment before the carriage "
                                   "return")
                 if name == "contrary announcement":
-                    wanted = note("group 11A carries the application CD46 by the 3A groups, not RT+: these groups were read "
-                                  "as tags")
+                    taken = ("these groups were read as tags" if words.startswith("audit")
+                             else "after such a 3A group receivers ignore them")
+                    wanted = note(f"group 11A carries the application CD46 by the 3A groups, not RT+: {taken}")
                 self.check(f"no warning on the row {name}: {words}", told, wanted)

@@ -80,7 +80,7 @@ class Rtplus(ProgramCase):
         self.check("other tags", noted("decode --pi C201 --rtplus 12A", log.replace(b"3018", b"3016") + b"C201 B14F 2002 0000\n")[2],
                    note("RT+ is in group 11A by the 3A groups, not in 12A: 1 group 11A was not read. Give --rtplus 11A"))
         self.check("another application", noted("decode --pi C201 --rtplus 12A", log.replace(b"4BD7", b"CD46"))[2],
-                   note("group 12A carries the application CD46 by the 3A groups, not RT+: these groups were read as tags"))
+                   note("group 12A carries the application CD46 by the 3A groups, not RT+: after such a 3A group receivers ignore them"))
         self.check("nothing to read", noted("audit --pi C201 --rtplus 13A", b"C201 B14F 2002 0000\n")[2],
                    note("no 2A, 10A or 13A group of C201: the yes says nothing"))
 

@@ -104,6 +104,16 @@ pub(crate) struct Elsewhere {
     pub(crate) judges: bool,
 }
 
+/// Another application in the groups of the tags.
+#[derive(Clone, Copy)]
+pub(crate) struct OtherInTags {
+    pub(crate) aid: u16,
+    /// The type of these groups, as five bits.
+    pub(crate) read: u8,
+    /// Whether an audit read them as tags. Receivers ignore them.
+    pub(crate) judges: bool,
+}
+
 /// Why the lost slots of a log cannot be counted by its times.
 #[derive(Clone, Copy)]
 pub(crate) struct CoarseTimes {
@@ -152,8 +162,8 @@ pub(crate) enum Note<'a> {
     ShortTexts(u64),
     /// The tags of the programme are in other groups.
     TagsElsewhere(Elsewhere),
-    /// The groups that were read as tags carry this other application. Their type is given as five bits.
-    OtherApplication(u16, u8),
+    /// The groups of the tags carry another application.
+    OtherApplication(OtherInTags),
     /// So many groups of the programme had one lost block, and so many none.
     Damaged(u64, u64, &'a str),
     /// Why this PI code was refused.
@@ -310,12 +320,13 @@ fn note_incomplete<'a>(run: &'a Run<'a>, notes: &mut Notes<'a>) {
     }
 }
 
-/// Notes where the tags of the programme are, if they are not in the groups that were read as tags.
+/// Notes where the tags of the programme are, if they are not in the groups of the tags, or what is in these.
 fn note_tags<'a>(run: &'a Run<'a>, notes: &mut Notes<'a>) {
     if !reads_log(run) {
         return;
     }
     let heard = run.log.heard;
+    let judges = matches!(run.request.task, Task::Audit { .. });
     let rtplus = run.request.rtplus;
     let read = rtplus.exchange_code(RTPLUS_CODE);
     if let Some(code) = heard.announced.rtplus
@@ -328,7 +339,7 @@ fn note_tags<'a>(run: &'a Run<'a>, notes: &mut Notes<'a>) {
                 read,
                 may_be_read: code & 1 == 0 && TagGroup::new(code >> 1).is_some(),
                 groups: heard.counts.of(code),
-                judges: matches!(run.request.task, Task::Audit { .. }),
+                judges,
             }),
             notes,
         );
@@ -337,7 +348,10 @@ fn note_tags<'a>(run: &'a Run<'a>, notes: &mut Notes<'a>) {
         && aid != RTPLUS_AID
         && heard.counts.of(RTPLUS_CODE) > 0
     {
-        add(Note::OtherApplication(aid, read), notes);
+        add(
+            Note::OtherApplication(OtherInTags { aid, read, judges }),
+            notes,
+        );
     }
 }
 

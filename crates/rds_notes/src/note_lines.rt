@@ -1,7 +1,7 @@
 //! The sentences of notes.
 
 use crate::fault_lines::{push_found, push_found_advice, push_no, push_no_advice};
-use crate::note::{CoarseTimes, Elsewhere, Incomplete, Judged, Note, OtherGroups, Run};
+use crate::note::{CoarseTimes, Elsewhere, Incomplete, Judged, Note, OtherGroups, OtherInTags, Run};
 use arrayvec::ArrayVec;
 use rds_cli::{Request, Task};
 use rds_encoder::Refusal;
@@ -43,7 +43,7 @@ pub(crate) fn push_note(note: Note<'_>, line: &mut Line) {
         Note::Few(groups, slots, pi) => push_few(groups, slots, pi, line),
         Note::ShortTexts(short) => push_short(short, "", "read", line),
         Note::TagsElsewhere(elsewhere) => push_elsewhere(elsewhere, line),
-        Note::OtherApplication(aid, read) => push_other_application(aid, read, line),
+        Note::OtherApplication(other) => push_other_application(other, line),
         Note::Damaged(damaged, whole, pi) => push_damaged(damaged, whole, pi, line),
         Note::BadPi(pi) => push_pi(pi, line),
         Note::BadWindow => push_window(line),
@@ -167,13 +167,19 @@ fn push_elsewhere(elsewhere: Elsewhere, line: &mut Line) {
     let _ = write!(line, " {be} not {verb}");
 }
 
-/// Appends that the groups that were read as tags carry another application.
-fn push_other_application(aid: u16, read: u8, line: &mut Line) {
+/// Appends that the groups of the tags carry another application, and what the command took them for.
+fn push_other_application(other: OtherInTags, line: &mut Line) {
+    let aid = other.aid;
+    let taken = if other.judges {
+        "these groups were read as tags"
+    } else {
+        "after such a 3A group receivers ignore them"
+    };
     let _ = write!(line, "group ");
-    push(group_name(read).as_slice(), line);
+    push(group_name(other.read).as_slice(), line);
     let _ = write!(
         line,
-        " carries the application {aid:04X} by the 3A groups, not RT+: these groups were read as tags"
+        " carries the application {aid:04X} by the 3A groups, not RT+: {taken}"
     );
 }
 

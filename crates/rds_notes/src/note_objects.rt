@@ -80,9 +80,10 @@ pub(crate) fn push_object(note: Note<'_>, sentence: &[u8], advice: &[u8], line: 
             push_text("group", group_name(elsewhere.code).as_slice(), line);
             push_number("groups", elsewhere.groups, line);
         }
-        Note::OtherApplication(aid, read) => {
+        Note::OtherApplication(other) => {
+            let aid = other.aid;
             push_kind("other_application", line);
-            push_text("group", group_name(read).as_slice(), line);
+            push_text("group", group_name(other.read).as_slice(), line);
             let _ = write!(line, ",\"application\":\"{aid:04X}\"");
         }
         Note::Damaged(damaged, whole, _) => {
