@@ -43,6 +43,7 @@ LINES = [
 ]
 # the first bytes of a log that is no ASCII
 MARKS = [b"\xEF\xBB\xBF" + HI, ("\uFEFF" + HI.decode()).encode("utf-16-le"), ("\uFEFF" + HI.decode()).encode("utf-16-be")]
+QUOTE = 'a quotation mark (") is still open at the end of its line, so the lines after it are in the same field'
 ROWS = [
     (ENCODE, "text,HI,1", "expected 4 fields (COMMAND,ARGUMENT,FREE,RECEPTIONS), found 3"),
     (ENCODE, "TEXT,HI,1,", "COMMAND is not one of -, restart, text, name, tags (lower case)"),
@@ -62,6 +63,12 @@ ROWS = [
     (ENCODE, "tags,0 0 1 0 0 0 0,1,", "ARGUMENT: tags takes 8 numbers with one space between them, found 7"),
     # no clause says which cause a row has: each cause, at its limits, and the first of two
     (ENCODE, "x", "expected 4 fields (COMMAND,ARGUMENT,FREE,RECEPTIONS), found 1"),
+    (ENCODE, 'text,"HI,1,\n-,,1,', QUOTE),
+    (ENCODE, 'text,"HI,1,\n-,,1,\ntext,"YO",1,', QUOTE),
+    (ENCODE, '"text,HI,1,\r-,,1,', QUOTE),
+    (SIM, 'text,HI,1,"GG\r\n-,,1,GG', QUOTE),
+    (ENCODE, 'text,"HI\nYO",1,', QUOTE),
+    (ENCODE, 'text,"HI,1,', QUOTE),
     (ENCODE, "sing,HI,2,X,", "expected 4 fields (COMMAND,ARGUMENT,FREE,RECEPTIONS), found 5"),
     (ENCODE, "sing,HI,2,X", "COMMAND is not one of -, restart, text, name, tags (lower case)"),
     (ENCODE, "restart, ,2,X", "ARGUMENT: - and restart take none"),

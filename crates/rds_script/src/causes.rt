@@ -4,6 +4,8 @@
 //! the causes (tests/test_notes.py).
 
 use crate::row_cause::{RowCause, TagNumber};
+use csv::ByteRecord;
+use memchr::memrchr2;
 use rds_assembly::{LONGEST_TEXT, NAME_LENGTH, TextRefused};
 use rds_charset::{BadCharacter, measure_text};
 use rds_fields::{Late, Which};
@@ -20,6 +22,18 @@ const TAG_NUMBERS: [(TagNumber, u8); 8] = [
     (TagNumber::StartOfTwo, 63),
     (TagNumber::LengthOfTwo, 31),
 ];
+
+/// Returns why a record is no row: an open quotation mark, if a field has a line end, or else this cause.
+// Cold path.
+#[inline(never)]
+pub(crate) fn row_cause(row: &ByteRecord, cause: RowCause) -> RowCause {
+    for field in row.iter() {
+        if memrchr2(b'\n', b'\r', field).is_some() {
+            return RowCause::OpenQuote;
+        }
+    }
+    cause
+}
 
 /// Returns why an argument is no text: `why`, or what stops its reading.
 // Cold path.

@@ -9,6 +9,7 @@ ghost use Rattle.rds_script.specs.Play.{Plays, reading, with_form};
 ghost use Rattle.rds_script.specs.declared.form.Form.TheVariants as forms;
 ghost use Rattle.rds_script.specs.declared.watched.TheConstants.{OUTPUT_ROOM, ROW_ROOM};
 
+use crate::causes::row_cause;
 use crate::form::Form;
 use crate::notes::{BadRow, ScriptNotes};
 use crate::player::Player;
@@ -236,7 +237,7 @@ fn play_next<R: TellingRead>(
         Err(RowRefused::NoRow(cause)) => {
             *bad = Some(BadRow {
                 line: script.line_of(row),
-                cause,
+                cause: row_cause(row, cause),
             });
             Err(LogFault::BadRow(number))
         }

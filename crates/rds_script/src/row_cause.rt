@@ -13,6 +13,9 @@ pub enum RowCause {
     /// The record has this many fields, not four.
     #[error("expected 4 fields (COMMAND,ARGUMENT,FREE,RECEPTIONS), found {0}")]
     Fields(usize),
+    /// A quotation mark is open at the end of a line, so a field goes on in the next one. No row has such a field.
+    #[error("a quotation mark (\") is still open at the end of its line, so the lines after it are in the same field")]
+    OpenQuote,
 
     /// The first field is not a command.
     #[error("COMMAND is not one of -, restart, text, name, tags (lower case)")]
