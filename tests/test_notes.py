@@ -1,5 +1,7 @@
 """The notes of the program on standard error: each note, and the calls without one."""
 import collections
+import gzip
+import io
 import json
 import os
 import pty
@@ -7,6 +9,7 @@ import random
 import re
 import shlex
 import subprocess
+import zipfile
 
 from tests import plain_audit, worked_rows
 from tests.support import PROGRAM, PROMPT, SECONDS, ProgramCase, bytes_of
@@ -222,6 +225,15 @@ class Faults(ProgramCase):
         for log in MARKS:
             for words in (DECODE, AUDIT, WITNESS, "slots"):
                 self.check(f"{words} of {log[:6]}", "it begins with a byte order mark" in noted(words, log)[2], True)
+        text = HI * 3
+        packed = io.BytesIO()
+        with zipfile.ZipFile(packed, "w", zipfile.ZIP_DEFLATED) as file:
+            file.writestr("station.log", text)
+        for log, why in ((gzip.compress(text, mtime=0), "it looks like a gzip file: unpack it first, with gunzip"),
+                         (packed.getvalue(), "it looks like a zip file: unpack it first, with unzip")):
+            for words in (DECODE, AUDIT, WITNESS, "slots"):
+                self.check(f"{words} of {log[:4]}", f": {why}{LOOKS}\n" in noted(words, log)[2], True)
+        self.check("two bytes of four", "it has no space" in noted(DECODE, b"PK\n")[2], True)
         self.check("two bytes of three", "block 1 has 6 characters" in noted(DECODE, MARKS[0].replace(b"\xBF", b""))[2], True)
         shown = noted(DECODE, b"C201\t2140\t4849\t0D20\r\n")[2]
         self.check("note on tabs", shown,

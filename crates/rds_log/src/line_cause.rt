@@ -10,6 +10,12 @@ const COUNT: usize = 4;
 /// The byte order marks of UTF-8 and of UTF-16.
 const MARKS: [&[u8]; 3] = [b"\xEF\xBB\xBF", b"\xFF\xFE", b"\xFE\xFF"];
 
+/// The first bytes of a gzip file.
+const GZIP: &[u8] = b"\x1F\x8B";
+
+/// The first bytes of a zip file.
+const ZIP: &[u8] = b"PK\x03\x04";
+
 /// The first mistake in a line, from its left (this project's own rule). Blocks count from 1, lengths are in bytes.
 #[derive(Clone, Copy, Debug, PartialEq, Eq, Error)]
 pub enum LineCause {
@@ -19,6 +25,12 @@ pub enum LineCause {
     /// The line begins with a byte order mark, of UTF-8 or UTF-16.
     #[error("it begins with a byte order mark: save the log as plain ASCII")]
     Mark,
+    /// The line begins as a gzip file does.
+    #[error("it looks like a gzip file: unpack it first, with gunzip")]
+    Gzip,
+    /// The line begins as a zip file does.
+    #[error("it looks like a zip file: unpack it first, with unzip")]
+    Zip,
     /// A comma comes before any space, as in a row of a script.
     #[error("it looks like a row of a script, which encode and sim read")]
     Script,
@@ -56,6 +68,12 @@ fn form_cause(line: &[u8]) -> Option<LineCause> {
     }
     if MARKS.iter().any(|mark| line.starts_with(mark)) {
         return Some(LineCause::Mark);
+    }
+    if line.starts_with(GZIP) {
+        return Some(LineCause::Gzip);
+    }
+    if line.starts_with(ZIP) {
+        return Some(LineCause::Zip);
     }
     match (memchr(b',', line), memchr(b' ', line)) {
         (Some(comma), Some(space)) if comma < space => Some(LineCause::Script),
