@@ -72,6 +72,32 @@ class Help(ProgramCase):
                        (status, bytes_of(f"tests/shown/{name}.txt")))
 
 
+    def test_a_refused_number_says_which_numbers_the_option_takes(self):
+        help_ = "\n\nFor more information, try '--help'.\n"
+        slots = "write a whole number of slots from"
+        for option, values, why in (
+                ("--m <N>", ("0", "1.5", "1,5", "65536", "", "x", "99999999999999999999"), f"{slots} 1 to 65535"),
+                ("--k <N>", ("1025", "0x8", "½"), f"{slots} 0 to 1024"),
+                ("--confirm <W>", ("1", "256", "8s"), f"{slots} 2 to 255"),
+                ("--pty <N>", ("32", "POP"), "write a whole number from 0 to 31"),
+                ("--grain <N>", ("88", "0.5"), "write a whole number of milliseconds from 0 to 87")):
+            name = option.split(" ")[0]
+            words = ["slots"] if name == "--grain" else ["sim", "--pi", "C201"]
+            for value in values:
+                done = subprocess.run([PROGRAM, *words, f"{name}={value}"], input=HI, capture_output=True, timeout=SECONDS)
+                wanted = f"error: invalid value '{value}' for '{option}': {why}{help_}".encode()
+                self.check(f"{name} {value!r}", (done.returncode, done.stdout, done.stderr), (2, wanted, wanted))
+
+    def test_a_number_below_0_is_no_word_for_a_file(self):
+        for words in (["-m", "-1"], ["-k", "-1"], ["--m", "-1"], ["--lose", "-1"]):
+            status, text = ran(["witness" if words[0] == "--lose" else "audit", "--pi", "C201", *words], HI)
+            begin = b"error: unexpected argument '-1' found: no option takes a number below 0, write for example -m 128\n\nUsage: "
+            self.check(f"{words}", (status, text[:len(begin)], b"tip:" in text, text.endswith(b"try '--help'.\n")),
+                       (2, begin, False, True), text)
+        _, text = ran(["audit", "--pi", "C201", "-x"], HI)
+        self.check("another option", (text.startswith(b"error: unexpected argument '-x' found\n"), b"number" in text), (True, False))
+
+
 class DecidedByArguments(ProgramCase):
     """The program ends although the writer of its input waits, and it leaves the input as it is."""
 

@@ -302,10 +302,21 @@ class Faults(ProgramCase):
 
 class Warnings(ProgramCase):
     def test_slots_to_lose_that_are_none(self):
-        told = note("fault lose: --lose takes slots below 4294967296 in ascending order, for example 3-7,12; "
-                    "--flag-alone needs --lose")
-        for options in ("--lose 3,2", "--flag-alone", "--quiet --lose 3,2", "--lose 4294967296", "--lose 9999999999"):
-            self.check(f"note on {options}", noted(f"witness --pi C201 {options}", HI), (2, b"fault lose\n", told))
+        no_slot = "is not a slot such as 12, and no span such as 3-7"
+        for options, why in (
+                ("--lose 5-3", '--lose "5-3" ends before it begins'), ("--lose ''", f'--lose "" {no_slot}'),
+                ("--lose 3,2", '--lose "3,2": "2" does not begin after the span before it'),
+                ("--quiet --lose 3-7,7", '--lose "3-7,7": "7" does not begin after the span before it'),
+                ("--lose 3,,7", f'--lose "3,,7": "" {no_slot}'), ("--lose 1,3-4-5", f'--lose "1,3-4-5": "3-4-5" {no_slot}'),
+                ("--lose +3", f'--lose "+3" {no_slot}'), ("--lose=-3", f'--lose "-3" {no_slot}'),
+                ("--lose 3-", f'--lose "3-" {no_slot}'), ("--lose 0x3", f'--lose "0x3" {no_slot}'),
+                ("--lose 4294967296", '--lose "4294967296" has a slot above 4294967295'),
+                ("--flag-alone --lose 1,9999999999999", '--lose "1,9999999999999": "9999999999999" has a slot above 4294967295'),
+                (f"--lose {'x' * 70}", f'--lose "{"x" * 60}" {no_slot}')):
+            self.check(f"note on {options}", noted(f"witness --pi C201 {options}", HI), (2, b"fault lose\n", note(
+                f"fault lose: {why}. Write spans in ascending order, for example 3-7,12")))
+        self.check("no slots for radios", noted("witness --pi C201 --flag-alone", HI), (2, b"fault lose\n", note(
+            "fault lose: --flag-alone needs --lose with slots, for example --lose 3-7,12")))
         flags = bytes_of("examples/flags.log")
         self.check("note on another programme", noted("witness --pi C202 --lose 2-3", flags),
                    (0, b"no mix with these slots lost\n",

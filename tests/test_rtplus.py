@@ -99,5 +99,6 @@ class Rtplus(ProgramCase):
 
     def test_other_groups_are_refused(self):
         for group in ("10A", "11B", "12", "12a", "4A", "14A", "", "+12A"):
-            self.check(group, noted(f"decode --pi C201 --rtplus={group}", b""),
-                       (2, b"", note("--rtplus is one of 5A, 6A, 7A, 8A, 9A, 11A, 12A and 13A")))
+            for words in (f"--rtplus={group}", f"--m 8 --rtplus '{group}'"):
+                self.check(words, noted(f"decode --pi C201 {words}", b""),
+                           (2, b"", note(f'--rtplus "{group}": write one of 5A, 6A, 7A, 8A, 9A, 11A, 12A and 13A')))

@@ -6,10 +6,12 @@
 mod command_line;
 mod end;
 mod laws;
+mod refusal;
 mod request;
 
 pub use end::End;
 pub use laws::words_of_the_examples;
+pub use refusal::Refusal;
 pub use request::{
     Programme, Request, Task, group_named, identification_of, read_words, request_in,
 };

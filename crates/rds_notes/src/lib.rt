@@ -10,6 +10,7 @@ mod note_lines;
 mod note_objects;
 mod printing;
 mod screen;
+mod spans;
 
 pub use note::Run;
 pub use printing::{print_no_group, print_notes, print_refusal};

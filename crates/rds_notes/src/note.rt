@@ -172,7 +172,7 @@ pub(crate) enum Note<'a> {
     #[default]
     BadWindow,
     /// Why the slots to lose were refused.
-    BadSpans,
+    BadSpans(&'a Request<'a>),
     /// The fault at which the run stopped.
     Fault(LogFault, &'a Run<'a>),
 }
@@ -443,7 +443,7 @@ fn end_note<'a>(run: &'a Run<'a>) -> Option<Note<'a>> {
         End::NotRun | End::Done => None,
         End::BadPi => Some(Note::BadPi(run.request.pi)),
         End::BadWindow => Some(Note::BadWindow),
-        End::BadSpans => Some(Note::BadSpans),
+        End::BadSpans => Some(Note::BadSpans(run.request)),
         End::Fault(_) if run.is_gone() => None,
         End::Fault(fault) => Some(Note::Fault(fault, run)),
     }

@@ -2,6 +2,7 @@
 
 use crate::fault_lines::{push_found, push_found_advice, push_no, push_no_advice};
 use crate::note::{CoarseTimes, Elsewhere, Incomplete, Judged, Note, OtherGroups, OtherInTags, Run};
+use crate::spans::push_spans;
 use arrayvec::ArrayVec;
 use rds_cli::{Request, Task};
 use rds_encoder::Refusal;
@@ -47,7 +48,7 @@ pub(crate) fn push_note(note: Note<'_>, line: &mut Line) {
         Note::Damaged(damaged, whole, pi) => push_damaged(damaged, whole, pi, line),
         Note::BadPi(pi) => push_pi(pi, line),
         Note::BadWindow => push_window(line),
-        Note::BadSpans => push_spans(line),
+        Note::BadSpans(request) => push_spans(request, line),
         Note::Fault(fault, run) => push_fault(fault, run, line),
     }
 }
@@ -394,15 +395,6 @@ fn push_window(line: &mut Line) {
     );
 }
 
-/// Appends why the slots to lose are refused.
-fn push_spans(line: &mut Line) {
-    let _ = write!(
-        line,
-        "fault lose: --lose takes slots below 4294967296 in ascending order, for example 3-7,12; --flag-alone needs \
-         --lose"
-    );
-}
-
 /// Appends a fault of the log or script, of the input or of the output.
 fn push_fault(fault: LogFault, run: &Run<'_>, line: &mut Line) {
     match fault {
@@ -485,7 +477,7 @@ fn push_bad_row(number: u64, run: &Run<'_>, line: &mut Line) {
 }
 
 /// Returns the first bytes of an argument.
-fn front(text: &str, most: usize) -> &[u8] {
+pub(crate) fn front(text: &str, most: usize) -> &[u8] {
     let bytes = text.as_bytes();
     &bytes[..bytes.len().min(most)]
 }

@@ -93,7 +93,7 @@ pub(crate) fn push_object(note: Note<'_>, sentence: &[u8], advice: &[u8], line: 
         }
         Note::BadPi(_) => push_fault("pi", line),
         Note::BadWindow => push_fault("confirm", line),
-        Note::BadSpans => push_fault("lose", line),
+        Note::BadSpans(_) => push_fault("lose", line),
         Note::Fault(fault, _) => push_log_fault(fault, line),
     }
     push_text(

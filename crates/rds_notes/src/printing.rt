@@ -2,32 +2,57 @@
 //! object.
 
 use crate::note::{Note, Run, notes_of};
-use crate::note_lines::{Line, begun, push, push_advice, push_note};
+use crate::note_lines::{Line, begun, front, push, push_advice, push_note, push_shown};
 use crate::note_objects::push_object;
 use arrayvec::ArrayVec;
 use clap::Error;
 use clap::error::ErrorKind;
+use rds_cli::Refusal;
 use rds_io::{TellingWrite, put};
 use std::io::Write;
+
+/// The most bytes of a group type that a note shows.
+const GROUP_ROOM: usize = 60;
 
 /// The most bytes that are printed of a refusal. Refusals of arguments of a usual length are shorter.
 const REFUSAL_ROOM: usize = 4096;
 
-/// Prints why the arguments were refused, as `clap` says it. Prints nothing if they ask for help.
+/// Prints why the arguments were refused. Prints nothing if they ask for help.
 pub fn print_refusal<N: TellingWrite>(error: &Error, screen: &mut N) {
     let mut text = ArrayVec::<u8, REFUSAL_ROOM>::new();
     if error.kind() == ErrorKind::OutOfMemory {
         let _ = write!(text, "rdsrt: fault memory: out of memory\n");
     } else if error.use_stderr() {
-        let _ = write!(text, "{error}");
+        let _ = write!(text, "{}", Refusal::of(error));
     }
     let _ = put(text.as_slice(), screen);
 }
 
-/// Prints which group types RadioText Plus may have: the arguments named another one.
-pub fn print_no_group<N: TellingWrite>(screen: &mut N) {
-    let line = b"rdsrt: --rtplus is one of 5A, 6A, 7A, 8A, 9A, 11A, 12A and 13A\n";
-    let _ = put(line, screen);
+/// Prints which group types RadioText Plus may have: these arguments name another one.
+pub fn print_no_group<N: TellingWrite>(words: &[&str], screen: &mut N) {
+    let mut line = begun();
+    push(b"--rtplus ", &mut line);
+    push_shown(front(group_given(words), GROUP_ROOM), &mut line);
+    push(
+        b": write one of 5A, 6A, 7A, 8A, 9A, 11A, 12A and 13A\n",
+        &mut line,
+    );
+    let _ = put(line.as_slice(), screen);
+}
+
+/// Returns the argument of `--rtplus`. Empty if there is none.
+fn group_given<'a>(words: &'a [&'a str]) -> &'a str {
+    let mut is_next = false;
+    for &word in words {
+        if is_next {
+            return word;
+        }
+        if let Some(group) = word.strip_prefix("--rtplus=") {
+            return group;
+        }
+        is_next = word == "--rtplus";
+    }
+    ""
 }
 
 /// Prints the notes of a run.

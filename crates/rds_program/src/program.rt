@@ -23,7 +23,7 @@ use clap::Error;
 use clap::error::ErrorKind;
 use rds_arrivals::Grain;
 use rds_audit::{LogStart, TextForm};
-use rds_cli::{End, Programme, Request, Task, identification_of, read_words};
+use rds_cli::{End, Programme, Refusal, Request, Task, identification_of, read_words};
 use rds_fields::{Dwell, Head, Late, TagGroup};
 use rds_io::{Lines, LogFault, TellingRead, TellingWrite, put};
 use rds_log::{
@@ -131,7 +131,7 @@ fn write_error<W: TellingWrite>(error: &Error, writer: &mut W) -> u8
         write_no_memory(writer);
         return FAULT;
     }
-    let _ = write!(writer, "{error}");
+    let _ = write!(writer, "{}", Refusal::of(error));
     if error.use_stderr() { REFUSED } else { OK }
 }
 

@@ -27,18 +27,22 @@ fn main(rt: HostRuntime) -> ExitCode {
         }
     };
     let status = match texts(rt.alloc(), words.as_slice()) {
-        Ok(words) => run(&rt, read_words(rt.alloc(), words.as_slice())),
+        Ok(words) => run(
+            &rt,
+            words.as_slice(),
+            read_words(rt.alloc(), words.as_slice()),
+        ),
         Err(_) => no_words(true, rt.stdout(), rt.stderr()),
     };
     ExitCode::from(status)
 }
 
-/// Runs the program, given the result of reading its arguments.
-fn run(rt: &HostRuntime, read: Result<Option<Request<'_>>, Error>) -> u8 {
+/// Runs the program, given its arguments and the result of reading them.
+fn run(rt: &HostRuntime, words: &[&str], read: Result<Option<Request<'_>>, Error>) -> u8 {
     let request = request_in(&read);
     match &request {
         Some(request) => run_request(rt, read, request),
-        None => refuse(rt, read),
+        None => refuse(rt, words, read),
     }
 }
 
@@ -75,9 +79,9 @@ fn run_request<'a>(
 }
 
 /// Prints help, or why the arguments are refused.
-fn refuse(rt: &HostRuntime, read: Result<Option<Request<'_>>, Error>) -> u8 {
+fn refuse(rt: &HostRuntime, words: &[&str], read: Result<Option<Request<'_>>, Error>) -> u8 {
     match &read {
-        Ok(_) => print_no_group(&mut notes(rt)),
+        Ok(_) => print_no_group(words, &mut notes(rt)),
         // A terminal shows the reason already: it is standard output.
         Err(_) if rt.stdout().is_terminal() => {}
         Err(error) => print_refusal(error, &mut notes(rt)),
