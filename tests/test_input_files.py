@@ -62,6 +62,15 @@ class InputFiles(ProgramCase):
                 wanted = 1, mark + b"fault read\n", f'rdsrt: fault read: reading "{path}" failed: {why}\n'
                 self.check(f"{words} {path}", noted([*words, path], HI), wanted)
 
+    def test_a_name_is_shown_as_it_is(self):
+        """Except characters that move the cursor or turn the text, and what is behind 256 bytes."""
+        for name, shown in (("Müller.log", "Müller.log"), ("записи.log", "записи.log"), ("a\tb\x7f", r"a\x09b\x7F"),
+                            ("\x9b2J\u202egol", r"\xC2\x9B2J\xE2\x80\xAEgol"), ("\u2066\u2028", r"\xE2\x81\xA6\xE2\x80\xA8"),
+                            ("é" * 100 + "/" + "é" * 27 + "€b", "é" * 100 + "/" + "é" * 27)):
+            wanted = f'rdsrt: fault read: reading "{shown}" failed: No such file or directory (os error 2)\n'
+            for words in (DECODE, SIM):
+                self.check(f"{words} {name!r}", noted([*words, f"{name}"], cwd=self.folder)[2], wanted)
+
     def test_a_file_without_permission(self):
         path = self.file(HI)
         os.chmod(path, 0)
