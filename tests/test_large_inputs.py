@@ -67,7 +67,13 @@ class Scripts(ProgramCase):
                 self.check(f"{name} after {rows}", (status, output),
                            (1, written * rows.count(b"\n") + mark + b"fault memory\n"))
                 self.check(f"{name} after {rows}: {count} bytes read", count < 100_000, True)
-            self.check(f"{name}: 20,000 commas", ran(words, b"," * 20_000 + b"\n"), (1, mark + b"fault row 1\n"))
+            for count, fault in ((20_000, b"row"), (65_536, b"row"), (82_000, b"memory")):
+                for rows in (b"", b"-,,1,\n"):
+                    number = rows.count(b"\n")
+                    told = b"fault memory\n" if fault == b"memory" else b"fault row %d\n" % (number + 1)
+                    for end in (b"", b"\n", b"\r"):
+                        self.check(f"{name}: {count} commas after {rows} before {end}", ran(words, rows + b"," * count + end),
+                                   (1, written * number + mark + told))
 
     def test_a_text_of_10_000_000_lines(self):
         for name, words, mark, _ in self.COMMANDS:
