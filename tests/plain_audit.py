@@ -31,14 +31,14 @@ def tag_ends_of(group):
 
 
 def lengths_of(service, address, data):
-    """Returns the least and the greatest length of a text or a name with this segment, or None if none has it."""
+    """Returns the lengths of the texts or names with this segment."""
     if service == "name":
-        return (8, 8) if all(byte >= 0x20 for byte in data) else None
+        return {8} if all(byte >= 0x20 for byte in data) else set()
     head, found, tail = data.partition(bytes([RETURN]))
     if any(byte < 0x20 and byte not in CONTROLS for byte in head) or tail.strip(b" "):
-        return None
+        return set()
     end = 4 * address + len(head)
-    return (end, end) if found else (end, 64)
+    return {end} if found else set(range(end, 65))
 
 
 class Value:
@@ -62,15 +62,15 @@ class Value:
 
     def faults(self, service, spacing):
         """Returns the rules that the value breaks."""
-        found = set(self.broken)
-        lengths = [lengths_of(service, address, data) for _, address, data in self.segments]
-        fits = [it for it in lengths if it]
-        least, most = max((it[0] for it in fits), default=0), min((it[1] for it in fits), default=64)
-        if len(fits) < len(lengths) or least > most:
-            found.add("NotOneText")
+        found, left = set(self.broken), {8} if service == "name" else set(range(65))
+        for _, address, data in self.segments:
+            fits = left & lengths_of(service, address, data)
+            left = fits or left
+            if not fits:
+                found.add("NotOneText")
         if any(slot < self.start + spacing for slot, _ in self.tags):
             found.add("EarlyTag")
-        if any(end > most for _, ends in self.tags for end in ends):
+        if any(end > max(left) for _, ends in self.tags for end in ends):
             found.add("TagOutside")
         return found
 

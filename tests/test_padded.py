@@ -37,15 +37,15 @@ class Padded(ProgramCase):
         self.check_all("answers", min(answers.values()) > 4, True)
 
     def test_all_faults_after_a_segment_that_fits_no_text(self):
-        """With the option no length narrows after it, so the tag at places 0 to 7 is not outside of the text "?ABB". And each
-        change behind the carriage return is a fault, which is none in a good text."""
+        """It leaves the lengths as they are, and later segments narrow them: the tag at places 0 to 7 is outside of the text
+        "?ABB". With the option a change behind the carriage return is no fault."""
         bad, good, end = "C201 2140 0041 4142", "C201 2140 4141 4142", "C201 2141 0D20 2020"
         tags = [TAGS[0], "C201 B148 200E 0000"]
         padding = ["C201 2142 4141 4141", "C201 2142 4242 4242"]
         for log, options, wanted in (([bad, end, *tags], [], "no 0 NotOneText\nno 3 TagOutside\n"),
-                                     ([bad, end, *tags], ["--padded"], "no 0 NotOneText\n"),
+                                     ([bad, end, *tags], ["--padded"], "no 0 NotOneText\nno 3 TagOutside\n"),
                                      ([good, end, *tags], ["--padded"], "no 3 TagOutside\n"),
-                                     ([bad, end, *padding], ["--padded"], "no 0 NotOneText\nno 3 Changed\n"),
+                                     ([bad, end, *padding], ["--padded"], "no 0 NotOneText\n"),
                                      ([good, end, *padding], ["--padded"], "yes 4\n")):
             got = ran([*AUDIT, "--all", "--running", "--m", "1", "--k", "9", *options], "".join(f"{it}\n" for it in log).encode())
             self.check(f"{options}", got[1], wanted.encode(), "\n".join(log))

@@ -21,7 +21,8 @@ use Rattle.rds_audit.specs.Listing.{spans_after, spans_tagged}
 use Rattle.rds_audit.specs.ListingLaws.{IsFormedMark, IsFormedMessage}
 use Rattle.rds_audit.specs.Reigns.{Reign, after_fragment, after_tags, opened_from, with_fragment}
 use Rattle.rds_audit.specs.Rules.{CanBeBroadcast, LogPasses, Passes}
-use Rattle.rds_audit.proofs.Gauges.{gauge_is_exact, name_gauge_is_exact}
+use Rattle.rds_audit.proofs.Measures.{none_past}
+use Rattle.rds_audit.proofs.OneValue.{gauge_is_exact, name_gauge_is_exact}
 use Rattle.rds_audit.proofs.ListingSteps.{names_add, no_fault, passes_without, passing_adds, texts_add}
 use Rattle.rds_audit.proofs.SpanReigns.{adds_all, are_reigns, by_fragment}
 
@@ -45,14 +46,16 @@ module _ (g : Gauge) (exact : IsExact g) (d : ℕ) where
   opened_breaks : (slot start : ℕ) (p : Fragment) (older : List Reign) (fault : AuditFault) → IsFormed g.segments p
       → start ≤ slot → IsFirst (broken_by g d (first_of_span slot p start false false)) fault
       → BreaksByFragment g.kind (opened_from start slot p ∷ older) fault
-  opened_breaks slot start p older fault formed late is = grind (arith, nat_tests)
+  opened_breaks slot start p older fault formed late is =
+      grind (arith, nat_tests, none_past g exact.some (p ∷ []))
 
   -- a fragment joins a reign
   joined_breaks : (slot : ℕ) (p : Fragment) (r : Span) (older : List Reign) (fault : AuditFault)
       → IsFormed g.segments p → CanBeBroadcast d g.kind r.reign → broken_by g d r ≡ none_broken
       → changes g r.reign.fragments p ≡ false → IsFirst (broken_by g d (span_with slot p r)) fault
       → BreaksByFragment g.kind (with_fragment slot p r.reign ∷ older) fault
-  joined_breaks slot p r older fault formed was none joins is = grind (arith, nat_tests)
+  joined_breaks slot p r older fault formed was none joins is =
+      grind (arith, nat_tests, none_past g exact.some (p ∷ r.reign.fragments))
 
   -- a fragment changes a reign
   changed_breaks : (slot : ℕ) (p : Fragment) (r : Reign) (older : List Reign) (fault : AuditFault)
@@ -65,7 +68,8 @@ module _ (g : Gauge) (exact : IsExact g) (d : ℕ) where
       → broken_newest g d before rs ≡ none_broken
       → first_of (broken_newest g d (Sends p ∷ before) (spans_after g d (length before) p rs)) ≡ Some fault
       → BreaksByFragment g.kind (after_fragment d (length before) p (reigns_of rs)) fault
-  fragment_breaks p before [] fault formed was none is = grind (arith, nat_tests)
+  fragment_breaks p before [] fault formed was none is =
+      grind (arith, nat_tests, none_past g exact.some (p ∷ []))
   fragment_breaks p before (r ∷ older) fault formed was none is =
       by_fragment g (λ (rs : List Span) (regs : List Reign).
       first_of (broken_newest g d (Sends p ∷ before) rs) ≡ Some fault → BreaksByFragment g.kind regs fault)

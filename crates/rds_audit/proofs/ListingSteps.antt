@@ -23,7 +23,7 @@ use Rattle.rds_audit.specs.AuditAt.{IsSpacing, KeepsLog, ListsMessage, TakesAll,
 use Rattle.rds_audit.specs.AuditState.{AuditState, aged_in}
 use Rattle.rds_audit.specs.Recording.{counted_as, has_text, judged_as, silent_as}
 use Rattle.rds_audit.specs.Rules.{LogPasses}
-use Rattle.rds_audit.proofs.Gauges.{gauge_is_exact, name_gauge_is_exact}
+use Rattle.rds_audit.proofs.OneValue.{gauge_is_exact, name_gauge_is_exact}
 use Rattle.rds_audit.proofs.Recordings.{IsSilent, names_begin, silent_passes, texts_begin}
 use Rattle.rds_audit.proofs.SpanReigns.{adds_none, quiet_passes, service_passed_before}
 use Rattle.rds_audit.proofs.SpanSteps.{nothing_follows, sets_are, spans_later}
@@ -57,7 +57,11 @@ log_passed_before form d newest before h = search (arith, service_passed_before)
 pub passing_adds : (form : TextForm) (d : ℕ) (newest : Option Message) (before : List (Option Message))
     → LogPasses form d (newest ∷ before)
     → none_broken ≡ slot_adds form d newest before
-passing_adds form d newest before passes = grind (arith, nat_tests, adds_none, gauge_is_exact, name_gauge_is_exact)
+passing_adds form d newest before passes =
+    let texts = adds_none (gauge_of form) (gauge_is_exact form) d (text_mark newest) (marks text_mark before) passes.text
+    in
+    let names = adds_none name_gauge name_gauge_is_exact d (name_mark newest) (marks name_mark before) passes.name in
+    rw (texts, names) refl
 
 formed_heard : (pi : ℕ) (slot : Option Group) → IsFormedMessage (heard_in pi slot)
 formed_heard pi slot = grind (arith, nat_tests)

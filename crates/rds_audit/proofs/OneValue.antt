@@ -1,59 +1,69 @@
--- Lemmas: some value has fragments and tags exactly if no address changed, each fragment allows a length, and one
--- length is allowed by all and reaches the ends of the tags.
-use Rattle.std.proofs.Common.{◌≡◌, ◌+◌, ◌-◌, ◌*◌, ◌/◌, ◌%◌, ◌<◌, ◌≤◌, ◌++◌, max, ℕ, zero, suc, true, List, [], ◌∷◌}
-use Rattle.std.proofs.Common.{length, slice_index, Option, Some, None, refl, sym, ap, ◌∙◌, subst, inl, inr, arith}
-use Rattle.std.specs.Prelude.{replicate}
-use Rattle.std.specs.List.{AllByRecursion}
-use Rattle.std.proofs.lemmas.Bool.{and_parts}
+-- Lemmas: the gauges of texts and of names are exact. Some value has fragments and tags exactly if each fragment fits,
+-- and a length that is left reaches the ends of the tags.
 use Rattle.std.proofs.lemmas.Bool.Decides.{nat_tests}
+use Rattle.std.proofs.Common.{◌≡◌, ◌⊎◌, ◌+◌, ◌*◌, ◌/◌, ◌%◌, ◌^◌, ◌<◌, ◌≤◌, ◌++◌, ℕ, zero, suc, Bool, true}
+use Rattle.std.proofs.Common.{◌-◌, nat_eq, false, List, [], ◌∷◌, length, slice_index, get_or, Option, Some, None, refl}
+use Rattle.std.proofs.Common.{sym, ap, ◌∙◌, subst, inl, inr, arith}
+use Rattle.std.specs.Prelude.{bit_and, replicate}
+use Rattle.std.specs.Int.{bit_at}
+use Rattle.std.specs.List.{AllByRecursion}
+use Rattle.std.proofs.lemmas.Bool.{and_from, and_parts, cases_lt, false_from_ne_true, lt-ltb, ltb-true}
 use Rattle.std.proofs.lemmas.Grind.{same_number_lists}
 use Rattle.std.proofs.lemmas.List.{append-nil}
+use Rattle.std.proofs.lemmas.Nat.Bits.{bit_at-lt, bit_at-pow_other, bit_at-pow_same, bit_at_and, bit_at_ones}
+use Rattle.std.proofs.lemmas.Nat.Bits.{bit_at_ones_above}
 use Rattle.rds_fields.specs.Tag.{BothEndIn, TagFields, ends_in}
 use Rattle.rds_assembly.specs.Body.{name_body, segment_count, segment_of, text_body}
-use Rattle.rds_assembly.specs.Value.{IsName, IsText, is_name_byte, is_text_byte}
+use Rattle.rds_assembly.specs.Value.{IsName, IsText, is_text_byte}
 use Rattle.rds_receiver.specs.declared.fragment.Fragment.{Fragment}
-use Rattle.rds_safety.specs.Lawful.{IsFragmentOf, names, texts}
-use Rattle.rds_audit.specs.Rules.{AreUnchanged, HaveOneValue}
+use Rattle.rds_safety.specs.Lawful.{IsFragmentOf, IsPaddedFragmentOf}
+use Rattle.rds_safety.proofs.Bodies.{segment_byte, segment_fits, segment_long, text_below, text_end, text_few, text_fits}
+use Rattle.rds_safety.proofs.Bodies.{text_full, text_long, text_past}
 use Rattle.rds_audit.specs.Reigns.{SentTags}
-use Rattle.rds_audit.specs.Lengths.{IsFormed, are_name_bytes, common_lengths, name_lengths, sent_last, tag_end}
-use Rattle.rds_audit.specs.Lengths.{tags_end, text_lengths}
-use Rattle.rds_safety.proofs.Bodies.{segment_byte, segment_long, text_below, text_end, text_full, text_long, text_past}
-use Rattle.rds_audit.proofs.Allowed.{Agrees, Allows, Stands, allowed_agree, body_allows}
+use Rattle.rds_audit.specs.declared.text_form.TextForm.{TextForm}
+use Rattle.rds_audit.specs.Lengths.{Gauge, IsExact, IsFormed, all_fit, allows, gauge_of, holds, in_name}
+use Rattle.rds_audit.specs.Lengths.{in_padded_text, in_text, left_or}
+use Rattle.rds_audit.specs.Lengths.{lengths_of, limit_at, limit_from, may_stand, measure, name_gauge}
+use Rattle.rds_audit.specs.Lengths.{padded_gauge, sent_cells, sent_last, tag_end, tags_end, text_gauge, those}
+use Rattle.rds_audit.proofs.LengthSets.{below_end, bit_past, bit_those, from_end, some_left}
+use Rattle.rds_audit.specs.declared.audited.Measured.{Measured}
+use Rattle.rds_audit.proofs.Measures.{measure_held, measure_other, measured_less}
 use Rattle.rds_audit.proofs.Members.{IsIn, all_in}
-use Rattle.rds_audit.proofs.Ranged.{AreRanged}
-use Rattle.rds_audit.proofs.SentCells.{EachAllows, all_allow, allowed_by_all, are_unchanged, cell_from, cell_of}
-use Rattle.rds_audit.proofs.SentCells.{longest_at_most}
+use Rattle.rds_audit.proofs.SentCells.{cell_from, cells_sent}
+use Rattle.rds_audit.proofs.SpanOrder.{bytes_same, same_bytes_are}
 
--- tags that end in n characters
+-- ---- tags
+
 ends_below : (n : ℕ) (tag : TagFields) → ends_in n tag ≡ true → tag_end tag ≤ n
 ends_below n tag e = grind (arith, nat_tests)
 
 below_ends : (n : ℕ) (tag : TagFields) → tag_end tag ≤ n → ends_in n tag ≡ true
 below_ends n tag h = grind (arith, nat_tests)
 
-pub ends_most : (n : ℕ) (tags : List SentTags) → AllByRecursion (λ (s : SentTags). BothEndIn n s.pair) tags
+ends_most : (n : ℕ) (tags : List SentTags) → AllByRecursion (λ (s : SentTags). BothEndIn n s.pair) tags
     → tags_end tags ≤ n
 ends_most n [] all = omega arith
 ends_most n (s ∷ tags) all = grind (arith, nat_tests, ends_most n tags all.1, ends_below)
 
-pub most_ends : (n : ℕ) (tags : List SentTags) → tags_end tags ≤ n
+most_ends : (n : ℕ) (tags : List SentTags) → tags_end tags ≤ n
     → AllByRecursion (λ (s : SentTags). BothEndIn n s.pair) tags
 most_ends n [] h = tt
 most_ends n (s ∷ tags) h = grind (arith, nat_tests, most_ends n tags (omega arith), below_ends)
 
--- the bytes that fragments have, with spaces between
-abbrev pub byte_in : Option (List ℕ) → ℕ → ℕ
+-- ---- the bytes that fragments have, with spaces between
+
+abbrev byte_in : Option (List ℕ) → ℕ → ℕ
 byte_in None k = 32
 byte_in (Some s) k = slice_index s k
 
-abbrev pub byte_at : List Fragment → ℕ → ℕ
+abbrev byte_at : List Fragment → ℕ → ℕ
 byte_at fragments i = byte_in (sent_last (i / 4) fragments) (i % 4)
 
-abbrev pub fill : List Fragment → ℕ → ℕ → List ℕ
+abbrev fill : List Fragment → ℕ → ℕ → List ℕ
 fill fragments i zero = []
 fill fragments i (suc n) = byte_at fragments i ∷ fill fragments (i + 1) n
 
-pub fill_long : (fragments : List Fragment) (i n : ℕ) → length (fill fragments i n) ≡ n
+fill_long : (fragments : List Fragment) (i n : ℕ) → length (fill fragments i n) ≡ n
 fill_long fragments i zero = refl
 fill_long fragments i (suc n) = ap suc (fill_long fragments (i + 1) n)
 
@@ -63,198 +73,461 @@ fill_byte fragments i zero k h = absurd (omega arith)
 fill_byte fragments i (suc n) zero h = ap (byte_at fragments) (omega arith)
 fill_byte fragments i (suc n) (suc k) h = grind (arith, nat_tests, fill_byte fragments (i + 1) n k (omega arith))
 
-pub filled_byte : (fragments : List Fragment) (n k : ℕ) → k < n
-    → slice_index (fill fragments 0 n) k ≡ byte_at fragments k
+filled_byte : (fragments : List Fragment) (n k : ℕ) → k < n → slice_index (fill fragments 0 n) k ≡ byte_at fragments k
 filled_byte fragments n k h = fill_byte fragments 0 n k h ∙ ap (byte_at fragments) (omega arith)
 
 -- a property of each fragment's byte at a place, and of a space, is one of the bytes filled in
-pub byte_is : (P : ℕ → Type 0) (fragments : List Fragment) (i : ℕ) → P 32
+byte_is : (P : ℕ → Type 0) (fragments : List Fragment) (i : ℕ) → P 32
     → ((p : Fragment) → IsIn p fragments → p.address ≡ i / 4 → P (slice_index p.bytes (i % 4)))
     → P (byte_at fragments i)
 byte_is P fragments i space each = grind (arith, nat_tests, cell_from)
 
--- a fragment's own byte is filled in
-own_byte : (fragments : List Fragment) (p : Fragment) (k : ℕ) → AreUnchanged fragments → IsIn p fragments → k < 4
-    → byte_at fragments (4 * p.address + k) ≡ slice_index p.bytes k
-own_byte fragments p k u i h = grind (arith, nat_tests, cell_of)
+-- a fragment was sent at its address
+sent_some : (fragments : List Fragment) (q : Fragment) → IsIn q fragments → sent_last q.address fragments ≡ None → ⊥
+sent_some [] q i e = i
+sent_some (p ∷ older) q i e = grind (arith, nat_tests, sent_some older q)
 
--- texts
-address_within : (x : List ℕ) (a : ℕ) → length x ≤ 64 → a < segment_count (text_body x) → 4 * a ≤ length x
-address_within x a long h = grind (arith, nat_tests, text_long, text_full)
+-- ---- two segments at one address
 
-fragment_stands : (body : List ℕ) (p : Fragment) → IsFragmentOf body p → Stands body (4 * p.address) p.bytes
-fragment_stands body p is = grind (arith, nat_tests, segment_long, segment_byte)
+-- below the limit both have the same bytes
+limit_agree : (n i : ℕ) (bs cs : List ℕ) → length bs ≡ length cs → n < limit_from i bs cs → (k : ℕ) → k < length bs
+    → i + k ≤ n → slice_index bs k ≡ slice_index cs k
+limit_agree n i [] cs long less k h up = absurd (omega arith)
+limit_agree n i (b ∷ bs) [] long less k h up = absurd (omega arith)
+limit_agree n i (b ∷ bs) (c ∷ cs) long less k h up =
+    grind (arith, nat_tests, limit_agree n (i + 1) bs cs (omega (arith, long)))
 
-each_allows : (x : List ℕ) (fragments : List Fragment) → IsText x
-    → AllByRecursion (IsFragmentOf (text_body x)) fragments
-    → AllByRecursion (λ (p : Fragment). Allows (length x) (text_lengths p.address p.bytes)) fragments
-each_allows x [] t all = tt
-each_allows x (p ∷ older) t all =
-    search (arith, each_allows x older t all.1, body_allows, address_within, fragment_stands)
+-- if they have the same bytes up to place n, the limit is above n
+agree_limit : (n i : ℕ) (bs cs : List ℕ) → n ≤ 64 → length bs ≡ length cs
+    → ((k : ℕ) → k < length bs → i + k ≤ n → slice_index bs k ≡ slice_index cs k) → n < limit_from i bs cs
+agree_limit n i [] cs low long same = omega arith
+agree_limit n i (b ∷ bs) [] low long same = omega arith
+agree_limit n i (b ∷ bs) (c ∷ cs) low long same =
+    grind (
+      arith,
+      nat_tests,
+      same 0,
+      agree_limit n (i + 1) bs cs low (omega (arith, long))
+          (λ k h up. same (suc k) (omega arith) (omega arith)),
+    )
 
--- fragments and tags of one text are measured so
-pub text_fragments : (fragments : List Fragment) (tags : List SentTags) → HaveOneValue texts fragments tags
-    → AreRanged text_lengths 64 fragments tags
-text_fragments fragments tags h =
-    let x = h.value in
-    let w = allowed_by_all text_lengths 64 (length x) fragments h.valid.at_most (each_allows x fragments h.valid h.has)
-    in
-    record {
-      unchanged = are_unchanged (text_body x) fragments h.has;
-      each = w.2;
-      room = omega (arith, w.0, w.1);
-      ends = omega (arith, w.1, ends_most (length x) tags h.ends);
-    }
+-- what is held
+is_held : (o : Option (List ℕ)) (bytes : List ℕ) → holds o bytes ≡ true → o ≡ Some bytes
+is_held None bytes e = absurd (cc)
+is_held (Some held) bytes e = ap Some (sym (same_bytes_are bytes held e))
 
-segment_there : (x : List ℕ) (a : ℕ) → length x ≤ 64 → 4 * a ≤ length x → a < 16 → a < segment_count (text_body x)
-segment_there x a long h l = grind (arith, nat_tests, text_long, text_full)
+-- ---- a service
 
--- the value that is filled in has the bytes of the fragment
-text_byte : (fragments : List Fragment) (n : ℕ) (p : Fragment) (k : ℕ) → n ≤ 64 → AreUnchanged fragments
-    → IsIn p fragments → IsFormed 16 p → k < 4 → p.address < segment_count (text_body (fill fragments 0 n))
-    → Agrees n (4 * p.address + k) (slice_index p.bytes k)
-    → slice_index p.bytes k ≡ slice_index (text_body (fill fragments 0 n)) (4 * p.address + k)
-text_byte fragments n p k long u i well h within agree =
-    search (arith, fill_long, text_end, text_below, text_past, filled_byte, own_byte)
+-- a fragment may stand in a value of so many bytes that has these bytes at each place before its end
+pub record Stands (g : Gauge) (n : ℕ) (byte : ℕ → ℕ) (p : Fragment) : Type 0 where
+  pub may : may_stand g n (4 * p.address) p.bytes ≡ true
+  pub own : (k : ℕ) → k < 4 → 4 * p.address + k < n → slice_index p.bytes k ≡ byte (4 * p.address + k)
 
-text_has : (fragments : List Fragment) (n : ℕ) (p : Fragment) → n ≤ 64 → AreUnchanged fragments → IsIn p fragments
-    → IsFormed 16 p → Allows n (text_lengths p.address p.bytes) → IsFragmentOf (text_body (fill fragments 0 n)) p
-text_has fragments n p long u i well a =
-    let size = fill_long fragments 0 n in
-    let agree = allowed_agree n (4 * p.address) p.bytes a in
-    let within = segment_there (fill fragments 0 n) p.address (omega arith) (omega (arith, agree.0)) well.address in
-    record {
-      within = within;
-      bytes = same_number_lists p.bytes (segment_of (text_body (fill fragments 0 n)) p.address)
-          (well.four ∙ sym (segment_long (text_body (fill fragments 0 n)) p.address within))
-          (λ k h. text_byte fragments n p k long u i well (omega (arith, well.four)) within (agree.1 k h)
-          ∙ sym (segment_byte (text_body (fill fragments 0 n)) p.address k (omega (arith, well.four))));
-    }
+-- what the values of a service have to do with its gauge
+pub record IsGauge (g : Gauge) : Type 0 where
+  pub few : g.segments ≤ 16
+  pub some : 0 < g.lengths
+  pub small : g.lengths < 2 ^ 65
+  pub long : (n : ℕ) → bit_at g.lengths n ≡ 1 → n ≤ 64
+  pub size : (x : List ℕ) → g.kind.IsValue x → bit_at g.lengths (length x) ≡ 1
+  pub formed : (x : List ℕ) (p : Fragment) → g.kind.IsValue x → g.kind.HasPart x p → IsFormed g.segments p
+  pub stands : (x : List ℕ) (p : Fragment) → g.kind.IsValue x → g.kind.HasPart x p
+      → Stands g (length x) (slice_index x) p
+  pub same : (x : List ℕ) (p q : Fragment) → g.bends ≡ false → g.kind.HasPart x p → g.kind.HasPart x q
+      → p.address ≡ q.address → p.bytes ≡ q.bytes
+  pub end : (n b c : ℕ) → g.may n n b ≡ true → g.may n n c ≡ true → b ≡ c
+  pub value : (x : List ℕ) → bit_at g.lengths (length x) ≡ 1
+      → ((i : ℕ) → i < length x → slice_index x i < 256)
+      → ((i : ℕ) → i < length x → (slice_index x i ≡ 32) ⊎ (g.may (length x) i (slice_index x i) ≡ true))
+      → g.kind.IsValue x
+  pub has : (x : List ℕ) (p : Fragment) → g.kind.IsValue x → IsFormed g.segments p
+      → Stands g (length x) (slice_index x) p → g.kind.HasPart x p
 
-all_have : (whole fragments : List Fragment) (n : ℕ) → n ≤ 64 → AreUnchanged whole
-    → ((p : Fragment) → IsIn p fragments → IsIn p whole) → AllByRecursion (IsFormed 16) fragments
-    → AllByRecursion (λ (p : Fragment). Allows n (text_lengths p.address p.bytes)) fragments
-    → AllByRecursion (IsFragmentOf (text_body (fill whole 0 n))) fragments
-all_have whole [] n long u sub well all = tt
-all_have whole (p ∷ older) n long u sub well all = search (arith, all_have whole older n long u, text_has, inl, inr)
+-- a byte of bytes that may stand
+may_at : (g : Gauge) (n i : ℕ) (bs : List ℕ) → may_stand g n i bs ≡ true → (k : ℕ) → k < length bs
+    → g.may n (i + k) (slice_index bs k) ≡ true
+may_at g n i [] e k h = absurd (omega arith)
+may_at g n i (b ∷ bs) e zero h = ap (λ j. g.may n j b) (omega arith) ∙ (and_parts _ _ e).0
+may_at g n i (b ∷ bs) e (suc k) h =
+    ap (λ j. g.may n j (slice_index bs k)) (omega arith) ∙ may_at g n (i + 1) bs (and_parts _ _ e).1 k (omega arith)
 
-fill_is_text : (fragments : List Fragment) (n : ℕ) → n ≤ 64 → AllByRecursion (IsFormed 16) fragments
-    → AllByRecursion (λ (p : Fragment). Allows n (text_lengths p.address p.bytes)) fragments
-    → IsText (fill fragments 0 n)
-fill_is_text fragments n long well all = record {
-  at_most = omega (arith, size);
-  bytes = λ i h. subst (λ b. b < 256) (sym (filled_byte fragments n i (omega (arith, size))))
-      (byte_is (λ b. b < 256) fragments i (omega arith) (λ p i e. (all_in (IsFormed 16) p fragments well i).fits _));
-  allowed = λ i h. subst (λ b. is_text_byte b ≡ true) (sym (filled_byte fragments n i (omega (arith, size))))
-      (byte_is (λ b. is_text_byte b ≡ true) fragments i refl (λ p j e. good i p (omega (arith, size)) e
-      (all_in (IsFormed 16) p fragments well j)
-      (all_in (λ (p : Fragment). Allows n (text_lengths p.address p.bytes)) p fragments all j)));
+at_may : (g : Gauge) (n i : ℕ) (bs : List ℕ)
+    → ((k : ℕ) → k < length bs → g.may n (i + k) (slice_index bs k) ≡ true) → may_stand g n i bs ≡ true
+at_may g n i [] each = refl
+at_may g n i (b ∷ bs) each = and_from _ _ (ap (λ j. g.may n j b) (omega arith) ∙ each 0 (omega arith))
+    (at_may g n (i + 1) bs (λ k h. ap (λ j. g.may n j (slice_index bs k)) (omega arith) ∙ each (suc k) (omega arith)))
+
+module _ (g : Gauge) (is : IsGauge g) where
+  -- each fragment may stand in a value of n bytes that has the bytes of all
+  abbrev Fits : ℕ → List Fragment → Type 0
+  Fits n fragments = (p : Fragment) → IsIn p fragments → Stands g n (byte_at fragments) p
+
+  -- the set is below 2 ^ 65
+  left_small : (fragments : List Fragment) → lengths_of g fragments < 2 ^ 65
+  left_small [] = is.small
+  left_small (p ∷ older) = omega (arith, left_small older, measured_less g older p)
+
+  -- the cell at the address of a formed fragment
+  held : (p : Fragment) (older : List Fragment) → IsFormed g.segments p
+      → get_or (sent_cells older) p.address None ≡ sent_last p.address older
+  held p older f = cells_sent older p.address (omega (arith, f.address, is.few))
+
+  -- ---- a set with one more fragment
+
+  -- a length that is left and passes the test stays, so the fragment fits
+  kept : (l n : ℕ) (ok : ℕ → Bool) → n ≤ 64 → bit_at l n ≡ 1 → ok n ≡ true
+      → ((left_or l (bit_and l (those ok 65))).fits ≡ true)
+      × (bit_at (left_or l (bit_and l (those ok 65))).lengths n ≡ 1)
+  kept l n ok low b passes =
+      grind (arith, nat_tests, bit_at_and l (those ok 65) n, bit_those ok 65 n (omega arith), some_left)
+
+  -- a length that stays was left, and passes the test
+  was_left : (l n : ℕ) (ok : ℕ → Bool) → (left_or l (bit_and l (those ok 65))).fits ≡ true
+      → bit_at (left_or l (bit_and l (those ok 65))).lengths n ≡ 1 → (bit_at l n ≡ 1) × (ok n ≡ true)
+  was_left l n ok fits b =
+      grind (arith, nat_tests, bit_at_and l (those ok 65) n, bit_those ok 65 n, bit_past ok 65 n, bit_at-lt l n)
+
+  -- ---- from a value to the set
+
+  -- two fragments of a value at one address have the same bytes up to its end
+  agree_up : (x : List ℕ) (p q : Fragment) → g.kind.IsValue x → g.kind.HasPart x p → g.kind.HasPart x q
+      → q.address ≡ p.address → (k : ℕ) → k < 4 → 4 * p.address + k ≤ length x
+      → slice_index q.bytes k ≡ slice_index p.bytes k
+  agree_up x p q v a b at k h up = grind (
+    arith,
+    nat_tests,
+    (is.stands x q v b).own k,
+    (is.stands x p v a).own k,
+    may_at g (length x) (4 * p.address) p.bytes (is.stands x p v a).may k,
+    may_at g (length x) (4 * q.address) q.bytes (is.stands x q v b).may k,
+    (is.formed x p v a).four,
+    (is.formed x q v b).four,
+    is.end (length x),
+  )
+
+  -- so its length is below the limit
+  under_limit : (x : List ℕ) (p q : Fragment) (b : Bool) → g.bends ≡ b → g.kind.IsValue x → g.kind.HasPart x p
+      → g.kind.HasPart x q → q.address ≡ p.address → holds (Some q.bytes) p.bytes ≡ false
+      → length x < limit_at b p.address (Some q.bytes) p.bytes
+  under_limit x p q false e v a c at other =
+      let same = is.same x p q e a c (sym at) in
+      absurd (let no : true ≡ false = sym (bytes_same p.bytes q.bytes same) ∙ other in cc)
+  under_limit x p q true e v a c at other =
+      let fp = is.formed x p v a in
+      let fq = is.formed x q v c in
+      agree_limit (length x) (4 * p.address) q.bytes p.bytes (is.long _ (is.size x v)) (fq.four ∙ sym fp.four)
+      (λ k h up. agree_up x p q v a c at k (omega (arith, h, fq.four)) up)
+
+  value_allows : (x : List ℕ) (p : Fragment) (older : List Fragment) → g.kind.IsValue x → g.kind.HasPart x p
+      → AllByRecursion (λ (q : Fragment). g.kind.HasPart x q) older → (o : Option (List ℕ))
+      → sent_last p.address older ≡ o → holds o p.bytes ≡ false → allows g o p.address p.bytes (length x) ≡ true
+  value_allows x p older v a all None e other =
+      and_from _ _ (is.stands x p v a).may (lt-ltb (length x) 65 (omega (arith, is.long _ (is.size x v))))
+  value_allows x p older v a all (Some h) e other =
+      grind (arith, nat_tests, cell_from older p.address h e, all_in, under_limit, is.stands x p v a)
+
+  -- the length of a value is left by its fragments, and each fits
+  value_left : (x : List ℕ) (fragments : List Fragment) → g.kind.IsValue x
+      → AllByRecursion (λ (q : Fragment). g.kind.HasPart x q) fragments
+      → (all_fit g fragments ≡ true) × (bit_at (lengths_of g fragments) (length x) ≡ 1)
+  value_left x [] v all = (refl, is.size x v)
+  value_left x (p ∷ older) v all = grind (
+    arith,
+    nat_tests,
+    value_left x older v all.1,
+    measure_held,
+    measure_other,
+    kept,
+    value_allows x p older v all.0 all.1,
+    held,
+    is.formed x p v all.0,
+    is.long,
+    is.size x v,
+  )
+
+  -- ---- from the set to a value
+
+  -- one more fragment fits if it has the bytes of its address before the end
+  fits_more : (n : ℕ) (p : Fragment) (older : List Fragment) → Fits n older
+      → may_stand g n (4 * p.address) p.bytes ≡ true
+      → ((h : List ℕ) → sent_last p.address older ≡ Some h → (k : ℕ) → k < 4 → 4 * p.address + k < n
+      → slice_index h k ≡ slice_index p.bytes k) → Fits n (p ∷ older)
+  fits_more n p older f may same r i = grind (arith, nat_tests, sent_some)
+
+  -- a held segment has the bytes of a fragment that is allowed beside it
+  allowed_same : (b : Bool) (n : ℕ) (p : Fragment) (h : List ℕ) → length h ≡ length p.bytes → length h ≡ 4
+      → n < limit_at b p.address (Some h) p.bytes → (k : ℕ) → k < 4 → 4 * p.address + k < n
+      → slice_index h k ≡ slice_index p.bytes k
+  allowed_same false n p h long four less k l up = absurd (omega arith)
+  allowed_same true n p h long four less k l up = search (arith, limit_agree)
+
+  -- a length that is left is one of values, and all fragments fit it
+  left_fits : (n : ℕ) (fragments : List Fragment) → AllByRecursion (IsFormed g.segments) fragments
+      → all_fit g fragments ≡ true → bit_at (lengths_of g fragments) n ≡ 1
+      → (bit_at g.lengths n ≡ 1) × Fits n fragments
+  left_fits n [] formed fit b = (b, λ p i. absurd i)
+  left_fits n (p ∷ older) formed fit b = grind (
+    arith,
+    nat_tests,
+    left_fits n older formed.1,
+    measure_held,
+    measure_other,
+    was_left,
+    held,
+    is_held,
+    cell_from,
+    all_in,
+    fits_more,
+    allowed_same,
+  )
+
+  -- ---- exactness
+
+  filled : (n : ℕ) (fragments : List Fragment) → AllByRecursion (IsFormed g.segments) fragments
+      → bit_at g.lengths n ≡ 1 → Fits n fragments → g.kind.IsValue (fill fragments 0 n)
+  filled n fragments formed b f = is.value (fill fragments 0 n) (rw size b)
+      (λ i h. rw (filled_byte fragments n i (omega (arith, h, size)))
+      (byte_is (λ b. b < 256) fragments i (omega arith) (λ p j e. (all_in (IsFormed g.segments) p fragments formed j).fits
+      _)))
+      (λ i h. rw (filled_byte fragments n i (omega (arith, h, size)), size)
+      (byte_is (λ b. (b ≡ 32) ⊎ (g.may n i b ≡ true)) fragments i (inl refl) (λ p j e.
+      inr (here p i e (may_at g n (4 * p.address) p.bytes (f p j).may (i % 4)
+      (omega (arith, (all_in (IsFormed g.segments) p fragments formed j).four)))))))
+    where
+      size : length (fill fragments 0 n) ≡ n
+      size = fill_long fragments 0 n
+
+      here : (p : Fragment) (i : ℕ) → p.address ≡ i / 4
+          → g.may n (4 * p.address + i % 4) (slice_index p.bytes (i % 4)) ≡ true
+          → g.may n i (slice_index p.bytes (i % 4)) ≡ true
+      here p i e m = subst (λ j. g.may n j (slice_index p.bytes (i % 4)) ≡ true) (omega arith) m
+
+  all_have : (n : ℕ) (whole fragments : List Fragment) → g.kind.IsValue (fill whole 0 n) → Fits n whole
+      → ((p : Fragment) → IsIn p fragments → IsIn p whole) → AllByRecursion (IsFormed g.segments) fragments
+      → AllByRecursion (λ (p : Fragment). g.kind.HasPart (fill whole 0 n) p) fragments
+  all_have n whole [] v f sub formed = tt
+  all_have n whole (p ∷ older) v f sub formed =
+      search (arith, all_have n whole older v f, is.has, fill_long, filled_byte, inl, inr)
+
+  all_formed : (x : List ℕ) (fragments : List Fragment) → g.kind.IsValue x
+      → AllByRecursion (λ (p : Fragment). g.kind.HasPart x p) fragments
+      → AllByRecursion (IsFormed g.segments) fragments
+  all_formed x [] v all = tt
+  all_formed x (p ∷ older) v all = search (arith, all_formed x older v, is.formed)
+
+  pub gauge_exact : IsExact g
+  gauge_exact = record {
+    some = is.some;
+    measured = λ fragments tags h.
+        let left = value_left h.value fragments h.valid h.has in
+        record {
+          fit = left.0;
+          ends = false_from_ne_true _ (λ past. omega (
+            arith,
+            below_end (lengths_of g fragments) (tags_end tags) (length h.value) past left.1,
+            ends_most (length h.value) tags h.ends,
+          ));
+        };
+    formed = λ fragments tags h. all_formed h.value fragments h.valid h.has;
+    one = λ fragments tags formed m.
+        let some = from_end 65 (lengths_of g fragments) (tags_end tags) (left_small fragments) m.ends in
+        let fits = left_fits some.0 fragments formed m.fit some.2 in
+        let valid = filled some.0 fragments formed fits.0 fits.1 in
+        record {
+          value = fill fragments 0 some.0;
+          valid = valid;
+          has = all_have some.0 fragments fragments valid fits.1 (λ p i. i) formed;
+          ends = rw (fill_long fragments 0 some.0) (most_ends some.0 tags some.1);
+        };
+  }
+
+-- ---- texts
+
+text_formed : (x : List ℕ) (p : Fragment) → IsText x → IsFragmentOf (text_body x) p → IsFormed 16 p
+text_formed x p t is = record {
+  address = omega (arith, is.within, text_few x t);
+  four = ap length is.bytes ∙ segment_long (text_body x) p.address is.within;
+  fits = λ k. rw is.bytes (segment_fits (text_body x) p.address k is.within (text_fits x t));
+}
+
+-- the byte of a fragment of a body
+part_byte : (body : List ℕ) (p : Fragment) (k : ℕ) → IsFragmentOf body p → k < 4
+    → slice_index p.bytes k ≡ slice_index body (4 * p.address + k)
+part_byte body p k is h = ap (λ (bs : List ℕ). slice_index bs k) is.bytes ∙ segment_byte body p.address k h
+
+text_stands : (x : List ℕ) (p : Fragment) → IsText x → IsFragmentOf (text_body x) p
+    → Stands text_gauge (length x) (slice_index x) p
+text_stands x p t is = record {
+  may = at_may text_gauge (length x) (4 * p.address) p.bytes (λ k h. may k (omega (arith, h, f.four)));
+  own = λ k h less. part_byte (text_body x) p k is h ∙ text_below x (4 * p.address + k) less;
 }
   where
-    size : length (fill fragments 0 n) ≡ n
-    size = fill_long fragments 0 n
+    f : IsFormed 16 p
+    f = text_formed x p t is
 
-    good : (i : ℕ) (p : Fragment) → i < n → p.address ≡ i / 4 → IsFormed 16 p
-        → Allows n (text_lengths p.address p.bytes) → is_text_byte (slice_index p.bytes (i % 4)) ≡ true
-    good i p h e well a = search (arith, allowed_agree)
+    may : (k : ℕ) → k < 4 → in_text (length x) (4 * p.address + k) (slice_index p.bytes k) ≡ true
+    may k h = rw (part_byte (text_body x) p k is h)
+        (grind (arith, nat_tests, is.within, f.address, t.at_most, t.allowed, text_below, text_end, text_past, text_long))
 
--- formed fragments and tags that are measured so have one text
-pub one_text : (fragments : List Fragment) (tags : List SentTags) → AllByRecursion (IsFormed 16) fragments
-    → AreRanged text_lengths 64 fragments tags → HaveOneValue texts fragments tags
-one_text fragments tags well h =
-    let n = max (common_lengths text_lengths 64 fragments).least (tags_end tags) in
-    let most : n ≤ (common_lengths text_lengths 64 fragments).most = omega (arith, h.room, h.ends) in
-    let long : n ≤ 64 = omega (arith, longest_at_most text_lengths 64 fragments) in
-    let all = all_allow text_lengths 64 n fragments (omega arith) most h.each in
-    let size = fill_long fragments 0 n in
-    grind (arith, nat_tests, longest_at_most, all_allow, fill_long, fill_is_text, all_have, most_ends)
+-- a fragment that may stand is one of the body
+text_has : (x : List ℕ) (p : Fragment) → IsText x → IsFormed 16 p
+    → Stands text_gauge (length x) (slice_index x) p → IsFragmentOf (text_body x) p
+text_has x p t f s = record {
+  within = within;
+  bytes = same_number_lists p.bytes (segment_of (text_body x) p.address)
+      (f.four ∙ sym (segment_long (text_body x) p.address within))
+      (λ k h. byte k (omega (arith, h, f.four))
+      ∙ sym (segment_byte (text_body x) p.address k (omega (arith, h, f.four))));
+}
+  where
+    may : (k : ℕ) → k < 4 → in_text (length x) (4 * p.address + k) (slice_index p.bytes k) ≡ true
+    may k h = may_at text_gauge (length x) (4 * p.address) p.bytes s.may k (omega (arith, f.four))
 
--- names
-pub name_alone : (x : List ℕ) → length x ≡ 8 → name_body x ≡ x
+    within : p.address < segment_count (text_body x)
+    within = grind (arith, nat_tests, may 0, text_long, text_full, f.address, t.at_most)
+
+    byte : (k : ℕ) → k < 4 → slice_index p.bytes k ≡ slice_index (text_body x) (4 * p.address + k)
+    byte k h = grind (arith, nat_tests, may k h, s.own k h, text_below, text_end, text_past, within, t.at_most)
+
+value_byte : (n b : ℕ) (i : ℕ) → i < n → (b ≡ 32) ⊎ (in_text n i b ≡ true) → is_text_byte b ≡ true
+value_byte n b i h or = grind (arith, nat_tests)
+
+some_length_is : (n : ℕ) → bit_at (2 ^ 65 - 1) n ≡ 1 → n ≤ 64
+some_length_is n b = grind (arith, nat_tests, bit_at_ones_above 65 n)
+
+is_text_gauge : IsGauge text_gauge
+is_text_gauge = record {
+  few = omega arith;
+  some = omega arith;
+  small = omega arith;
+  long = some_length_is;
+  size = λ x t. bit_at_ones 65 (length x) (omega (arith, t.at_most));
+  formed = text_formed;
+  stands = text_stands;
+  same = λ x p q e a b at. a.bytes ∙ ap (segment_of (text_body x)) at ∙ sym b.bytes;
+  end = λ n b c h k. grind (arith, nat_tests);
+  value = λ x b fits each. record {
+    at_most = some_length_is _ b;
+    bytes = fits;
+    allowed = λ i h. value_byte (length x) (slice_index x i) i h (each i h);
+  };
+  has = text_has;
+}
+
+pub text_gauge_is_exact : IsExact text_gauge
+text_gauge_is_exact = gauge_exact text_gauge is_text_gauge
+
+-- ---- texts with padding
+
+padded_stands : (x : List ℕ) (p : Fragment) → IsText x → IsPaddedFragmentOf x p
+    → Stands padded_gauge (length x) (slice_index x) p
+padded_stands x p t is = record {
+  may = at_may padded_gauge (length x) (4 * p.address) p.bytes (λ k h. may k (omega (arith, h, is.four)));
+  own = λ k h less. is.bytes k h (omega arith) ∙ text_below x (4 * p.address + k) less;
+}
+  where
+    may : (k : ℕ) → k < 4 → in_padded_text (length x) (4 * p.address + k) (slice_index p.bytes k) ≡ true
+    may k h = grind (arith, nat_tests, is.bytes k h, is.within, t.at_most, t.allowed, text_below, text_end)
+
+padded_has : (x : List ℕ) (p : Fragment) → IsText x → IsFormed 16 p
+    → Stands padded_gauge (length x) (slice_index x) p → IsPaddedFragmentOf x p
+padded_has x p t f s = record {
+  within = f.address;
+  four = f.four;
+  fits = f.fits;
+  bytes = λ k h up.
+      let may = may_at padded_gauge (length x) (4 * p.address) p.bytes s.may k (omega (arith, f.four)) in
+      grind (arith, nat_tests, may, s.own k h, text_below, text_end, f.address, t.at_most);
+}
+
+is_padded_gauge : IsGauge padded_gauge
+is_padded_gauge = record {
+  few = omega arith;
+  some = omega arith;
+  small = omega arith;
+  long = some_length_is;
+  size = λ x t. bit_at_ones 65 (length x) (omega (arith, t.at_most));
+  formed = λ x p t is. record { address = is.within; four = is.four; fits = is.fits };
+  stands = padded_stands;
+  same = λ x p q e a b at. absurd (cc e);
+  end = λ n b c h k. grind (arith, nat_tests);
+  value = λ x b fits each. record {
+    at_most = some_length_is _ b;
+    bytes = fits;
+    allowed = λ i h. grind (arith, nat_tests, each i h);
+  };
+  has = padded_has;
+}
+
+pub padded_gauge_is_exact : IsExact padded_gauge
+padded_gauge_is_exact = gauge_exact padded_gauge is_padded_gauge
+
+-- texts of each form are measured exactly
+pub gauge_is_exact : (form : TextForm) → IsExact (gauge_of form)
+gauge_is_exact form = grind (arith, nat_tests, text_gauge_is_exact, padded_gauge_is_exact)
+
+-- ---- names
+
+name_alone : (x : List ℕ) → length x ≡ 8 → name_body x ≡ x
 name_alone x e = ap (λ k. x ++ replicate (8 - k) 32) e ∙ append-nil x
 
-are_named : (bs : List ℕ) → ((k : ℕ) → k < length bs → is_name_byte (slice_index bs k) ≡ true)
-    → are_name_bytes bs ≡ true
-are_named [] h = refl
-are_named (b ∷ bs) h = rw (h 0 (omega arith), are_named bs (λ k l. h (suc k) (omega arith))) refl
+name_formed : (x : List ℕ) (p : Fragment) → IsName x → IsFragmentOf (name_body x) p → IsFormed 2 p
+name_formed x p n is = grind (arith, nat_tests, name_alone, segment_long, segment_fits)
 
-named_are : (bs : List ℕ) → are_name_bytes bs ≡ true → (k : ℕ) → k < length bs → is_name_byte (slice_index bs k) ≡ true
-named_are [] h k l = absurd (omega arith)
-named_are (b ∷ bs) h zero l = (and_parts (is_name_byte b) (are_name_bytes bs) h).0
-named_are (b ∷ bs) h (suc k) l = named_are bs (and_parts (is_name_byte b) (are_name_bytes bs) h).1 k (omega arith)
+name_stands : (x : List ℕ) (p : Fragment) → IsName x → IsFragmentOf (name_body x) p
+    → Stands name_gauge (length x) (slice_index x) p
+name_stands x p n is = record {
+  may = at_may name_gauge (length x) (4 * p.address) p.bytes (λ k h. may k (omega (arith, h, f.four)));
+  own = λ k h less. own k h;
+}
+  where
+    f : IsFormed 2 p
+    f = name_formed x p n is
 
-name_allows : (x : List ℕ) (p : Fragment) → IsName x → IsFragmentOf (name_body x) p
-    → Allows 8 (name_lengths p.address p.bytes)
-name_allows x p n is = grind (arith, nat_tests, fragment_stands, name_alone, are_named)
+    own : (k : ℕ) → k < 4 → slice_index p.bytes k ≡ slice_index x (4 * p.address + k)
+    own k h = part_byte (name_body x) p k is h
+        ∙ ap (λ (body : List ℕ). slice_index body (4 * p.address + k)) (name_alone x n.0)
 
-each_name_allows : (x : List ℕ) (fragments : List Fragment) → IsName x
-    → AllByRecursion (IsFragmentOf (name_body x)) fragments
-    → AllByRecursion (λ (p : Fragment). Allows 8 (name_lengths p.address p.bytes)) fragments
-each_name_allows x [] n all = tt
-each_name_allows x (p ∷ older) n all = (name_allows x p n all.0, each_name_allows x older n all.1)
+    may : (k : ℕ) → k < 4 → in_name (length x) (4 * p.address + k) (slice_index p.bytes k) ≡ true
+    may k h = grind (arith, nat_tests, own k h, f.address, n.0, n.1.allowed (4 * p.address + k))
 
--- fragments and tags of one name are measured so
-pub name_fragments : (fragments : List Fragment) (tags : List SentTags) → HaveOneValue names fragments tags
-    → AreRanged name_lengths 8 fragments tags
-name_fragments fragments tags h =
-    let x = h.value in
-    let size : length x ≡ 8 = h.valid.0 in
-    let w = allowed_by_all name_lengths 8 8 fragments (omega arith) (each_name_allows x fragments h.valid h.has) in
-    record {
-      unchanged = are_unchanged (name_body x) fragments h.has;
-      each = w.2;
-      room = omega (arith, w.0, w.1);
-      ends = omega (arith, w.1, ends_most (length x) tags h.ends);
-    }
-
-name_has : (fragments : List Fragment) (p : Fragment) → AreUnchanged fragments → IsIn p fragments → IsFormed 2 p
-    → IsFragmentOf (name_body (fill fragments 0 8)) p
-name_has fragments p u i well =
-    let x = fill fragments 0 8 in
-    let size : length x ≡ 8 = fill_long fragments 0 8 in
-    let body : name_body x ≡ x = name_alone x size in
-    let within : p.address < segment_count (name_body x) = (let address = well.address in omega (arith, ap length body))
-    in
-    record {
+name_has : (x : List ℕ) (p : Fragment) → IsName x → IsFormed 2 p
+    → Stands name_gauge (length x) (slice_index x) p → IsFragmentOf (name_body x) p
+name_has x p n f s =
+    let body = name_alone x n.0 in
+    let within : p.address < segment_count x = omega (arith, f.address, n.0) in
+    rw body record {
       within = within;
-      bytes = same_number_lists p.bytes (segment_of (name_body x) p.address) (well.four
-          ∙ sym (segment_long (name_body x) p.address within))
-          (λ k h. let address = well.address in sym (segment_byte (name_body x) p.address k (omega (arith, well.four))
-          ∙ ap (λ (b : List ℕ). slice_index b (4 * p.address + k)) body
-          ∙ filled_byte fragments 8 (4 * p.address + k) (omega (arith, well.four)) ∙ own_byte fragments p k u i
-          (omega (arith, well.four))));
+      bytes = same_number_lists p.bytes (segment_of x p.address) (f.four ∙ sym (segment_long x p.address within))
+          (λ k h. s.own k (omega (arith, h, f.four)) (omega (arith, h, f.four, f.address, n.0))
+          ∙ sym (segment_byte x p.address k (omega (arith, h, f.four))));
     }
 
-all_names_have : (whole fragments : List Fragment) → AreUnchanged whole
-    → ((p : Fragment) → IsIn p fragments → IsIn p whole) → AllByRecursion (IsFormed 2) fragments
-    → AllByRecursion (IsFragmentOf (name_body (fill whole 0 8))) fragments
-all_names_have whole [] u sub well = tt
-all_names_have whole (p ∷ older) u sub well = grind (arith, nat_tests, all_names_have whole older u, name_has)
+eight : (n : ℕ) → bit_at (2 ^ 8) n ≡ 1 → n ≡ 8
+eight n b = grind (arith, nat_tests, bit_at-pow_other 8 n)
 
-some_name : (n : ℕ) (fragments : List Fragment) → EachAllows name_lengths fragments → (p : Fragment) → IsIn p fragments
-    → are_name_bytes p.bytes ≡ true
-some_name n fragments each p i = grind (arith, nat_tests, all_in)
-
--- formed fragments and tags that are measured so have one name
-pub one_name : (fragments : List Fragment) (tags : List SentTags) → AllByRecursion (IsFormed 2) fragments
-    → AreRanged name_lengths 8 fragments tags → HaveOneValue names fragments tags
-one_name fragments tags well h =
-    let size : length (fill fragments 0 8) ≡ 8 = fill_long fragments 0 8 in
+is_name_gauge : IsGauge name_gauge
+is_name_gauge = record {
+  few = omega arith;
+  some = omega arith;
+  small = omega arith;
+  long = λ n b. omega (arith, eight n b);
+  size = λ x n. rw n.0 (bit_at-pow_same 8);
+  formed = name_formed;
+  stands = name_stands;
+  same = λ x p q e a b at. a.bytes ∙ ap (segment_of (name_body x)) at ∙ sym b.bytes;
+  end = λ n b c h k. grind (arith, nat_tests);
+  value = λ x b fits each. (
+    eight _ b,
     record {
-      value = fill fragments 0 8;
-      valid = (
-        size,
-        record {
-          at_most = omega (arith, size);
-          bytes = λ i l. subst (λ b. b < 256) (sym (filled_byte fragments 8 i (omega (arith, size))))
-              (byte_is (λ b. b < 256) fragments i (omega arith) (λ p i e. (all_in (IsFormed 2) p fragments well i).fits
-              _));
-          allowed = λ i l. subst (λ b. is_name_byte b ≡ true) (sym (filled_byte fragments 8 i (omega (arith, size))))
-              (byte_is (λ b. is_name_byte b ≡ true) fragments i refl
-              (λ p j e. named_are p.bytes (some_name 8 fragments h.each p j) (i % 4)
-              (let four = (all_in (IsFormed 2) p fragments well j).four in omega arith)));
-        },
-      );
-      has = all_names_have fragments fragments h.unchanged (λ p i. i) well;
-      ends = search (arith, most_ends, longest_at_most);
-    }
+      at_most = omega (arith, eight _ b);
+      bytes = fits;
+      allowed = λ i h. grind (arith, nat_tests, each i h);
+    },
+  );
+  has = name_has;
+}
+
+-- names are measured exactly
+pub name_gauge_is_exact : IsExact name_gauge
+name_gauge_is_exact = gauge_exact name_gauge is_name_gauge

@@ -11,11 +11,12 @@ use Rattle.rds_safety.specs.Flags.{is_other_flag, is_same_flag, same_or_other}
 use Rattle.rds_safety.specs.Lawful.{Kind}
 use Rattle.rds_safety.specs.Marks.{Mark, Nothing, Sends, Tagged}
 use Rattle.rds_audit.specs.declared.fault_set.FaultSet.{FaultSet}
-use Rattle.rds_audit.specs.Lengths.{AllJoin, Gauge, IsExact, IsFormed, changes, lengths_of, tags_end}
+use Rattle.rds_audit.specs.Lengths.{Gauge, IsExact, IsFormed, changes, is_past, lengths_of}
+use Rattle.rds_audit.specs.Lengths.{tags_end}
 use Rattle.rds_audit.specs.Listing.{Span, added, broken_by, broken_newest, first_of_span, fits, joined, none_broken}
 use Rattle.rds_audit.specs.Listing.{reigns_of, span_with, spans, spans_after, spans_tagged, turned}
 use Rattle.rds_audit.specs.ListingLaws.{IsFormedMark}
-use Rattle.rds_audit.specs.Reigns.{Reign, SentTags, after_fragment, after_tags, joins, reigns}
+use Rattle.rds_audit.specs.Reigns.{Reign, SentTags, after_fragment, after_tags, reigns}
 use Rattle.rds_audit.specs.Reigns.{opened_from, with_fragment, with_tags}
 use Rattle.rds_audit.specs.Rules.{CanBeBroadcast, HaveOneValue, IsAfterFragment, Passes}
 use Rattle.rds_audit.proofs.Keeping.{AreKept, Keeps, keeps}
@@ -70,22 +71,22 @@ module _ (g : Gauge) (exact : IsExact g) (d : ℕ) where
   pub one_fits : (r : Span) → HaveOneValue g.kind r.reign.fragments r.reign.tags → fits g r ≡ true
   one_fits r one = (exact.measured r.reign.fragments r.reign.tags one).fit
 
-  pub fits_one : (r : Span) → AllByRecursion (IsFormed g.segments) r.reign.fragments → AllJoin g r.reign.fragments
-      → fits g r ≡ true → tags_end r.reign.tags ≤ (lengths_of g r.reign.fragments).most
+  pub fits_one : (r : Span) → AllByRecursion (IsFormed g.segments) r.reign.fragments → fits g r ≡ true
+      → is_past (lengths_of g r.reign.fragments) (tags_end r.reign.tags) ≡ false
       → HaveOneValue g.kind r.reign.fragments r.reign.tags
-  fits_one r formed joins fit ends = grind (arith, nat_tests)
+  fits_one r formed fit ends = grind (arith, nat_tests)
 
   -- a span that can be a broadcast breaks no rule
   breaks_none : (r : Span) → CanBeBroadcast d g.kind r.reign → r.is_changed ≡ false → r.is_early ≡ false
       → broken_by g d r ≡ none_broken
   breaks_none r can changed early =
       sets_are _ _ changed early (ap not (one_fits r can.one)) (none_early d r.reign.start r.reign.tags can.lasted)
-      (le-ltb _ _ (exact.measured r.reign.fragments r.reign.tags can.one).ends)
+      (exact.measured r.reign.fragments r.reign.tags can.one).ends
 
   -- a span that breaks no rule has one value
-  quiet_one : (r : Span) → AllByRecursion (IsFormed g.segments) r.reign.fragments → AllJoin g r.reign.fragments
+  quiet_one : (r : Span) → AllByRecursion (IsFormed g.segments) r.reign.fragments
       → broken_by g d r ≡ none_broken → HaveOneValue g.kind r.reign.fragments r.reign.tags
-  quiet_one r formed joins none = grind (arith, nat_tests, fits_one, not-false)
+  quiet_one r formed none = grind (arith, nat_tests, fits_one, not-false)
 
 -- ---- spans and reigns after one more fragment
 
@@ -115,8 +116,11 @@ pub record AreReigns (g : Gauge) (d : ℕ) (sent : List Mark) (rs : List Span) (
 
 module _ (g : Gauge) (exact : IsExact g) (d : ℕ) where
   -- no fragment of a reign that can be a broadcast changes it
-  pub can_be_joined : (q : Reign) → CanBeBroadcast d g.kind q → AllJoin g q.fragments
-  can_be_joined q can = (exact.measured q.fragments q.tags can.one).joins
+  never_changes : (p : Fragment) (older : List Fragment) (tags : List SentTags)
+      → HaveOneValue g.kind (p ∷ older) tags → changes g older p ≡ false
+  never_changes p older tags one =
+      let fit = (exact.measured (p ∷ older) tags one).fit in
+      grind (arith, nat_tests)
 
   fragment_reigns : (p : Fragment) (before : List Mark) (rs : List Span)
       → AllByRecursion (CanBeBroadcast d g.kind) (reigns_of rs)
@@ -133,7 +137,7 @@ module _ (g : Gauge) (exact : IsExact g) (d : ℕ) where
         none = breaks_none g exact d (span_with (length before) p r) all.0 (ap (λ (f : FaultSet). f.changed) h.none)
             (ap (λ (f : FaultSet). f.early_flag) h.none);
       })
-      (λ changed all. cc ((can_be_joined (with_fragment (length before) p r.reign) all.0).0))
+      (λ changed all. cc (never_changes p r.reign.fragments r.reign.tags all.0.one))
       (λ start late all. record {
         same = refl;
         none = breaks_none g exact d (first_of_span (length before) p start false false) all.0 refl refl;
@@ -193,7 +197,7 @@ module _ (g : Gauge) (exact : IsExact g) (d : ℕ) where
       begun = omega arith;
       lasted = tt;
       one = quiet_one g exact d (first_of_span (length before) p 0 false false)
-          (formed, tt) (refl, tt) none;
+          (formed, tt) none;
     },
     tt,
   )
@@ -205,7 +209,7 @@ module _ (g : Gauge) (exact : IsExact g) (d : ℕ) where
           begun = was.0.begun;
           lasted = was.0.lasted;
           one = quiet_one g exact d (span_with (length before) p r)
-              (formed, exact.formed r.reign.fragments r.reign.tags was.0.one) (u, can_be_joined r.reign was.0) none;
+              (formed, exact.formed r.reign.fragments r.reign.tags was.0.one) none;
         },
         was.1,
       ))
@@ -215,7 +219,7 @@ module _ (g : Gauge) (exact : IsExact g) (d : ℕ) where
           begun = late;
           lasted = tt;
           one = quiet_one g exact d (first_of_span (length before)
-              p start false false) (formed, tt) (refl, tt) none;
+              p start false false) (formed, tt) none;
         },
         was,
       ))

@@ -1,6 +1,6 @@
 -- Lemmas: the state of a service from slot to slot, as a list of faults keeps it.
 use Rattle.std.proofs.Common.{◌≡◌, ◌+◌, ◌*◌, ◌-◌, ◌^◌, ◌<◌, ◌≤◌, ◌&&◌, ◌||◌, not, min, ℕ, zero, suc, Bool, true, false}
-use Rattle.std.proofs.Common.{nat_lt, List, [], ◌∷◌, Some, None, length, cond, refl, sym, ◌∙◌, inl, inr, arith, get_or}
+use Rattle.std.proofs.Common.{nat_lt, List, [], ◌∷◌, Some, None, length, ap, cond, refl, sym, ◌∙◌, inl, inr, arith, get_or}
 use Rattle.std.specs.Prelude.{replicate}
 use Rattle.std.specs.List.{list_any}
 use Rattle.std.proofs.lemmas.Bool.{le-ltb}
@@ -15,8 +15,10 @@ use Rattle.rds_audit.specs.AuditAt.{FollowsFrom, HoldsNewestSpans, HoldsSpans, c
 use Rattle.std.proofs.lemmas.Bool.Decides.{nat_tests}
 use Rattle.rds_audit.proofs.SentCells.{cells_long, cells_sent}
 use Rattle.rds_audit.specs.ReignsState.{ContentState, cell_at, changes_in, no_content}
-use Rattle.rds_audit.specs.Lengths.{Gauge, IsExact, IsFormed, all_fit, changes, lengths_of, measured_after}
+use Rattle.rds_audit.specs.Lengths.{Gauge, IsFormed, all_fit, changes, is_past, measured_after}
 use Rattle.rds_audit.specs.Lengths.{sent_cells, sent_last, tags_end}
+use Rattle.rds_audit.proofs.LengthSets.{past_further, past_less}
+use Rattle.rds_audit.proofs.Measures.{measured_again, measured_less, not_past}
 use Rattle.rds_audit.specs.Listing.{Span, added, broken_by, broken_newest, due_after, first_of_span, is_tagged, joined}
 use Rattle.rds_audit.specs.Listing.{none_broken, not_before, reigns_of, span_with, spans, spans_after, spans_tagged}
 use Rattle.rds_audit.specs.Listing.{turned}
@@ -38,15 +40,16 @@ sets_are f g a b c d e = grind (arith, nat_tests)
 not_one : (some each : Bool) → (not each || not some) ≡ not (some && each)
 not_one some each = grind arith
 
--- an end past each length stays past it
-ends_past : (most less n : ℕ) → less ≤ most → (nat_lt most n || nat_lt less n) ≡ nat_lt less n
-ends_past most less n h = grind (arith, nat_tests)
+-- an end past each length stays past those that a fragment leaves
+ends_past : (l less n : ℕ) → less ≤ l → (is_past l n || is_past less n) ≡ is_past less n
+ends_past l less n h = grind (arith, nat_tests, past_less l less n h)
 
 -- the rules that a span breaks with one more fragment
-broken_with : (g : Gauge) → IsExact g → (d now : ℕ) (p : Fragment) (r : Span)
+broken_with : (g : Gauge) (d now : ℕ) (p : Fragment) (r : Span)
     → judged_fragment (measured_after g r.reign.fragments p) (tags_end r.reign.tags) (broken_by g d r)
     ≡ broken_by g d (span_with now p r)
-broken_with g exact d now p r = grind (arith, nat_tests, sets_are, not_one, ends_past)
+broken_with g d now p r = sets_are _ _ refl refl (not_one _ _) refl
+    (ends_past _ _ (tags_end r.reign.tags) (measured_less g r.reign.fragments p))
 
 -- a span without fragments
 abbrev no_fragment : ℕ → ℕ → Bool → Bool → Bool → Span
@@ -56,31 +59,31 @@ no_fragment start now flag is_changed is_early = record {
   is_early = is_early;
 }
 
-empty_broken : (g : Gauge) (d start now : ℕ) (flag is_changed is_early : Bool)
+empty_broken : (g : Gauge) → 0 < g.lengths → (d start now : ℕ) (flag is_changed is_early : Bool)
     → record none_broken { changed = is_changed; early_flag = is_early }
     ≡ broken_by g d (no_fragment start now flag is_changed is_early)
-empty_broken g d start now flag is_changed is_early = grind (arith, nat_tests, sets_are)
-
-both_fit : (some each : Bool) → (each ≡ true → some ≡ true) → (some && each) ≡ each
-both_fit some each h = grind arith
+empty_broken g some d start now flag is_changed is_early =
+    sets_are _ _ refl refl refl refl (sym (not_past g.lengths some))
 
 -- a span breaks the same rules with what was sent last at an address
 broken_again : (g : Gauge) (d now : ℕ) (p : Fragment) (r : Span)
-    → ((measured_after g r.reign.fragments p).lengths ≡ lengths_of g r.reign.fragments)
-    × (all_fit g r.reign.fragments ≡ true → (measured_after g r.reign.fragments p).fits ≡ true)
+    → get_or (sent_cells r.reign.fragments) p.address None ≡ Some p.bytes
     → broken_by g d (span_with now p r) ≡ broken_by g d r
-broken_again g d now p r again = grind (arith, nat_tests, sets_are, both_fit)
+broken_again g d now p r e =
+    let again = measured_again g r.reign.fragments p e in
+    sets_are _ _ refl refl (ap (λ m. not (m.fits && all_fit g r.reign.fragments)) again) refl
+    (ap (λ m. is_past m.lengths (tags_end r.reign.tags)) again)
 
 -- an end past each length is not within by a further end
-further_past : (most end more : ℕ) → end ≤ more → (nat_lt most end || nat_lt most more) ≡ nat_lt most more
-further_past most end more less = grind (arith, nat_tests)
+further_past : (l end more : ℕ) → end ≤ more → (is_past l end || is_past l more) ≡ is_past l more
+further_past l end more less = grind (arith, nat_tests, past_further)
 
 or_swap : (x y : Bool) → (x || y) ≡ (y || x)
 or_swap x y = grind arith
 
 -- ---- the state after a fragment
 
-module _ (g : Gauge) (exact : IsExact g) (few : g.segments ≤ 16) (d : ℕ) (pos : 0 < d) (sent : List Mark) where
+module _ (g : Gauge) (few : g.segments ≤ 16) (some : 0 < g.lengths) (d : ℕ) (pos : 0 < d) (sent : List Mark) where
   abbrev now : ℕ
   now = length sent
 
@@ -144,7 +147,7 @@ module _ (g : Gauge) (exact : IsExact g) (few : g.segments ≤ 16) (d : ℕ) (po
       → began_before d is_changed p.flag s.reigns.ages ≡ min (now - start) d
       → comes_early d is_changed p.flag s.reigns.ages ≡ is_early → s.count ≡ min (length rs) (2 ^ 64 - 1)
       → FollowsFrom g d now (Sends p ∷ sent) (first_of_span now p start is_changed is_early ∷ rs)
-      (put_in g p (opened_in d g.longest is_changed p.flag s))
+      (put_in g p (opened_in d g.lengths is_changed p.flag s))
   begins p rs start is_changed is_early s formed ages began early count =
       grind (arith, nat_tests, put_follows, ages_begun, empty_broken)
 
@@ -154,7 +157,7 @@ module _ (g : Gauge) (exact : IsExact g) (few : g.segments ≤ 16) (d : ℕ) (po
       → is_turned is_changed p.flag s.reigns.ages ≡ true
       → s.count ≡ min (suc (length older)) (2 ^ 64 - 1)
       → FollowsFrom g d now (Sends p ∷ sent) (turned d now p is_changed r older)
-      (put_in g p (opened_in d g.longest is_changed p.flag s))
+      (put_in g p (opened_in d g.lengths is_changed p.flag s))
   turns p r older is_changed s formed order ages is count = search (arith, begins, turned_start, early_same)
 
   -- so does the state after a fragment that changes the newest span
@@ -162,11 +165,11 @@ module _ (g : Gauge) (exact : IsExact g) (few : g.segments ≤ 16) (d : ℕ) (po
       → FollowsFrom g d now sent rs s → Joins d p.flag s.reigns.ages
       → changes_in g p.address p.bytes s.reigns.content ≡ true
       → FollowsFrom g d now (Sends p ∷ sent) (spans_after g d now p rs)
-      (put_in g p (opened_in d g.longest true p.flag s)) × (length (spans_after g d now p rs) ≡ suc (length rs))
+      (put_in g p (opened_in d g.lengths true p.flag s)) × (length (spans_after g d now p rs) ≡ suc (length rs))
   changed_follows p [] s formed order h on other = absurd (none_joins d now p.flag s.reigns.ages h.ages on)
   changed_follows p (r ∷ older) s formed order h on other =
       is_joined (λ (rs : List Span). FollowsFrom g d now (Sends p ∷ sent) rs
-      (put_in g p (opened_in d g.longest true p.flag s)) × (length rs ≡ suc (suc (length older))))
+      (put_in g p (opened_in d g.lengths true p.flag s)) × (length rs ≡ suc (suc (length older))))
       p r older s.reigns.ages h.ages on
       (rw (changed_by p r s.reigns.content formed h.content ∙ other)
       (turns p r older true s formed order h.ages refl h.count, refl))
@@ -175,7 +178,7 @@ module _ (g : Gauge) (exact : IsExact g) (few : g.segments ≤ 16) (d : ℕ) (po
   pub opened_follows : (p : Fragment) (rs : List Span) (s : SpansState) → IsFormed g.segments p → AreInOrder now rs
       → FollowsFrom g d now sent rs s → (Joins d p.flag s.reigns.ages → ⊥)
       → FollowsFrom g d now (Sends p ∷ sent) (spans_after g d now p rs)
-      (put_in g p (opened_in d g.longest false p.flag s)) × (length (spans_after g d now p rs) ≡ suc (length rs))
+      (put_in g p (opened_in d g.lengths false p.flag s)) × (length (spans_after g d now p rs) ≡ suc (length rs))
   opened_follows p [] s formed order h apart = grind (arith, nat_tests, begins)
   opened_follows p (r ∷ older) s formed order h apart = elim (same_or_other r.reign.flag p.flag) [
     | inl e ↦
@@ -199,7 +202,19 @@ module _ (g : Gauge) (exact : IsExact g) (few : g.segments ≤ 16) (d : ℕ) (po
       ≡ length rs)
   repeated_follows p [] s formed h on is = absurd (none_joins d now p.flag s.reigns.ages h.ages on)
   repeated_follows p (r ∷ older) s formed h on is =
-      grind (arith, nat_tests, held, set_held, cells_long, is_joined, bytes_same, ages_renewed, broken_again)
+      let there : get_or (sent_cells r.reign.fragments) p.address None ≡ Some p.bytes = rw h.content at is in
+      grind (
+        arith,
+        nat_tests,
+        measured_again g r.reign.fragments p there,
+        broken_again g d now p r there,
+        held,
+        set_held,
+        cells_long,
+        is_joined,
+        bytes_same,
+        ages_renewed,
+      )
 
   -- so does the state after tags
   pub tags_follow : (pair : PairFields) (rs : List Span) (s : SpansState) → FollowsFrom g d now sent rs s
@@ -276,6 +291,6 @@ silent_tags (suc n) = silent_tags n
 
 -- before the first slot the state follows from no span
 pub silent_follows : (g : Gauge) (start : LogStart) (d : ℕ) (s : SpansState)
-    → s.reigns ≡ record { ages = ages_at start d; content = no_content g.longest } → s.count ≡ 0
+    → s.reigns ≡ record { ages = ages_at start d; content = no_content g.lengths } → s.count ≡ 0
     → s.broken ≡ none_broken → HoldsSpans g d (silent_as start d) s
 silent_follows g start d s e count broken = grind (arith, nat_tests, silent_spans, silent_length, turns, silent_tags)

@@ -10,6 +10,7 @@ use Rattle.rds_audit.specs.declared.audit.AuditFault.TheVariants.{Changed, NotOn
 use Rattle.rds_audit.specs.declared.fault_set.FaultSet.{FaultSet}
 use Rattle.rds_audit.specs.declared.log_start.LogStart.TheVariants.{Running}
 use Rattle.rds_audit.specs.declared.text_form.TextForm.TheVariants.{Plain}
+use Rattle.rds_audit.specs.Lengths.{measure, those}
 use Rattle.rds_audit.specs.Listing.{first_fault, slot_adds}
 use Rattle.rds_audit.specs.Recording.{judged_as}
 
@@ -87,22 +88,27 @@ faults d (newest ∷ before) =
 
 -- an address is sent with other bytes
 changed : faults 4 (off 0 yo ∷ off 0 hi ∷ []) ≡ (1, Changed) ∷ []
+unfolding measure those
 changed = refl
 
 -- a letter comes after the carriage return
 not_one_text : faults 4 (off 0 x_end_y ∷ []) ≡ (0, NotOneText) ∷ []
+unfolding measure those
 not_one_text = refl
 
 -- the first flag again: its text can begin in slot 4
 early_flag : faults 4 (off 0 hi ∷ on 0 yo ∷ off 0 hi ∷ []) ≡ (2, EarlyFlag) ∷ []
+unfolding measure those
 early_flag = refl
 
 -- tags in slot 1, for a text that can have started in slot 0
 early_tag : faults 4 (pair (tag 1 0 1) no_tag ∷ off 0 hi ∷ []) ≡ (1, EarlyTag) ∷ []
+unfolding measure those
 early_tag = refl
 
 -- in slot 4 they do not come too early, and end at 15 in a text of two characters
 tag_outside : faults 4 (pair (tag 4 0 3) (tag 1 7 7) ∷ None ∷ None ∷ None ∷ off 0 hi ∷ []) ≡ (4, TagOutside) ∷ []
+unfolding measure those
 tag_outside = refl
 
 -- a second text can have started in slot 4, so a tag in slot 5 comes too early
@@ -110,6 +116,7 @@ early_tag_again : faults 4 (
     pair (tag 1 0 1) no_tag ∷ off 0 hi ∷ None ∷ None ∷ None ∷ off 0 hi ∷ []
     )
     ≡ (5, EarlyTag) ∷ []
+unfolding measure those
 early_tag_again = refl
 
 -- one wrong segment is two changes, to it and back
@@ -117,10 +124,12 @@ one_wrong_segment : faults 4 (
     off 0 hi ∷ off 0 mn_end ∷ off 0 hi ∷ off 0 hi ∷ on 0 yo ∷ []
     )
     ≡ (3, Changed) ∷ (3, EarlyFlag) ∷ (4, Changed) ∷ (4, EarlyFlag) ∷ []
+unfolding measure those
 one_wrong_segment = refl
 
 -- a flip that comes after the first segment of its text
 flip_too_late : faults 4 (on 0 yo ∷ off 0 yo ∷ off 0 hi ∷ []) ≡ (1, Changed) ∷ (2, EarlyFlag) ∷ []
+unfolding measure those
 flip_too_late = refl
 
 -- a text has each fault once, also if it breaks the rule again
@@ -128,6 +137,7 @@ each_fault_once : faults 4 (
     off 0 x_end_y ∷ pair (tag 1 0 1) no_tag ∷ pair (tag 1 0 1) no_tag ∷ off 0 hi ∷ []
     )
     ≡ (1, EarlyTag) ∷ (3, Changed) ∷ (3, NotOneText) ∷ []
+unfolding measure those
 each_fault_once = refl
 
 -- a text that changed ends in its last slot, 3, and not in slot 0, in which address 0 had its old bytes last: the new
@@ -136,6 +146,7 @@ changed_ends_last : faults 4 (
     pair (tag 1 0 1) no_tag ∷ None ∷ None ∷ off 0 efgh ∷ off 1 efgh ∷ off 1 efgh ∷ off 1 efgh ∷ off 0 abcd ∷ []
     )
     ≡ (4, Changed) ∷ (7, EarlyTag) ∷ []
+unfolding measure those
 changed_ends_last = refl
 
 -- and a tag in slot 8 does not
@@ -144,6 +155,7 @@ changed_lasts : faults 4 (
     ∷ []
     )
     ≡ (4, Changed) ∷ []
+unfolding measure those
 changed_lasts = refl
 
 -- tags before any text are one fault, which is of no text
@@ -151,15 +163,18 @@ tags_of_no_text : faults 4 (
     pair no_tag no_tag ∷ None ∷ None ∷ None ∷ off 0 hi ∷ pair no_tag no_tag ∷ pair no_tag no_tag ∷ []
     )
     ≡ (0, EarlyTag) ∷ []
+unfolding measure those
 tags_of_no_text = refl
 
 -- the example of FORMATS, a recording: its first slot is slot 128 of what is judged
 formats : faults 128 (judged_as Running 128 (off 0 hi ∷ pair (tag 1 0 1) no_tag ∷ on 0 yo ∷ off 0 hi ∷ []))
     ≡ (130, EarlyTag) ∷ (131, EarlyFlag) ∷ []
+unfolding measure those
 formats = refl
 
 -- the fault of a log is the first one
 first_of_a_log : first_fault Plain 4 (off 0 hi ∷ pair (tag 1 0 1) no_tag ∷ on 0 yo ∷ off 0 hi ∷ []) ≡ Some EarlyTag
+unfolding measure those
 first_of_a_log = refl
 
 -- a log by chance
@@ -169,6 +184,7 @@ random_one : faults 3 (
     )
     ≡ (5, EarlyTag) ∷ (5, TagOutside) ∷ (6, NotOneText) ∷ (7, Changed) ∷ (7, EarlyFlag) ∷ (8, EarlyFlag)
     ∷ (10, EarlyTag) ∷ []
+unfolding measure those
 random_one = refl
 
 -- a log by chance
@@ -176,7 +192,8 @@ random_three : faults 5 (
     None ∷ pair (tag 1 2 0) no_tag ∷ None ∷ off 0 e_end ∷ off 1 spaces ∷ None ∷ None ∷ off 1 efgh ∷ None ∷ None
     ∷ on 1 nul_bcd ∷ off 2 mn_end ∷ None ∷ None ∷ []
     )
-    ≡ (3, NotOneText) ∷ (6, EarlyFlag) ∷ (9, Changed) ∷ (10, NotOneText) ∷ (12, EarlyTag) ∷ (12, TagOutside) ∷ []
+    ≡ (3, NotOneText) ∷ (6, EarlyFlag) ∷ (9, Changed) ∷ (10, NotOneText) ∷ (12, EarlyTag) ∷ []
+unfolding measure those
 random_three = refl
 
 -- a log by chance
@@ -185,5 +202,6 @@ random_six : faults 5 (
     ∷ pair no_tag no_tag ∷ pair no_tag no_tag ∷ None ∷ pair (tag 4 3 3) no_tag ∷ off 2 spaces ∷ on 1 mn_end
     ∷ off 1 efgh ∷ []
     )
-    ≡ (2, EarlyFlag) ∷ (3, EarlyTag) ∷ (12, EarlyTag) ∷ (13, NotOneText) ∷ (13, TagOutside) ∷ []
+    ≡ (2, EarlyFlag) ∷ (3, EarlyTag) ∷ (12, EarlyTag) ∷ (13, NotOneText) ∷ []
+unfolding measure those
 random_six = refl

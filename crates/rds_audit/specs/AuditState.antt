@@ -7,7 +7,6 @@ use Rattle.rds_receiver.specs.declared.fragment.Fragment.{Fragment}
 use Rattle.rds_receiver.specs.Run.{is_same}
 use Rattle.rds_audit.specs.declared.audit.AuditFault.{AuditFault}
 use Rattle.rds_audit.specs.declared.audit.AuditFault.TheVariants.{Changed, NotOneText, EarlyFlag, EarlyTag, TagOutside}
-use Rattle.rds_audit.specs.declared.audited.Lengths.{Lengths}
 use Rattle.rds_audit.specs.declared.audited.Measured.{Measured}
 use Rattle.rds_audit.specs.declared.fault_set.FaultSet.{FaultSet}
 use Rattle.rds_audit.specs.declared.log_start.LogStart.{LogStart}
@@ -16,7 +15,7 @@ use Rattle.rds_audit.specs.declared.text_form.TextForm.{TextForm}
 use Rattle.rds_audit.specs.declared.text_form.TextForm.TheVariants.{Plain, Padded}
 use Rattle.rds_audit.specs.Ages.{Ages, aged, restarted}
 use Rattle.rds_audit.specs.ReignsState.{ReignsState, joined_state, measured_in, no_content, reigns_code, tagged_state}
-use Rattle.rds_audit.specs.Lengths.{Gauge, pair_end}
+use Rattle.rds_audit.specs.Lengths.{Gauge, is_past, pair_end}
 use Rattle.rds_audit.specs.Listing.{none_broken}
 
 -- a service: the number of spans, which stops at 2 ^ 64 - 1; the ages of the spans and the content of the current one;
@@ -40,8 +39,8 @@ pub record AuditState : Type 0 where
 
 -- the rules that a span breaks, of these lengths and with tags that end there: it also breaks that of tags, if they end
 -- past each of its lengths
-abbrev pub judged_ends : Lengths → ℕ → FaultSet → FaultSet
-judged_ends l end f = record f { tag_outside = f.tag_outside || nat_lt l.most end }
+abbrev pub judged_ends : ℕ → ℕ → FaultSet → FaultSet
+judged_ends l end f = record f { tag_outside = f.tag_outside || is_past l end }
 
 -- the same after a fragment that leaves this
 abbrev pub judged_fragment : Measured → ℕ → FaultSet → FaultSet
@@ -81,11 +80,11 @@ began_before d is_changed flag a =
 
 -- a span was opened, before its first fragment is put in
 abbrev pub opened_in : ℕ → ℕ → Bool → Bool → SpansState → SpansState
-opened_in d longest is_changed flag s = record {
+opened_in d lengths is_changed flag s = record {
   count = min (s.count + 1) (2 ^ 64 - 1);
   reigns = record {
     ages = restarted (began_before d is_changed flag s.reigns.ages) flag s.reigns.ages;
-    content = no_content longest;
+    content = no_content lengths;
   };
   broken = record none_broken {
     changed = is_changed;

@@ -1,17 +1,17 @@
--- The lengths that the value of a reign can have (this project's own rule). Each fragment allows the lengths from
--- `least` to `most`; of texts with padding only the greatest length that all fragments allow is kept. A reign has a
--- value exactly if no fragment changed it, and some length is allowed by all of its fragments and reaches the ends of
--- its tags. Lists have the newest first.
-use Rattle.std.specs.Prelude.{◌≡◌, ◌<◌, ◌≤◌, ◌+◌, ◌*◌, ◌==◌, ◌&&◌, ◌||◌, [], ◌∷◌, ℕ, zero, suc, Bool, true, false, List}
-use Rattle.std.specs.Prelude.{Option, Some, None, length, max, min, nat_le, nat_lt, not, replicate, slice_index}
+-- The lengths that the value of a reign can have (this project's own rule): the set of the lengths at which all of its
+-- fragments may stand. If an address had other bytes before, the value ends before the first place at which both differ.
+-- A fragment that leaves no length does not fit, and leaves the set as it is. A reign has a value exactly if each of its
+-- fragments fits, and some length of the set reaches the ends of its tags. Lists have the newest first.
+use Rattle.std.specs.Prelude.{◌≡◌, ◌<◌, ◌+◌, ◌-◌, ◌*◌, ◌/◌, ◌^◌, ◌==◌, ◌&&◌, ◌||◌, [], ◌∷◌, ℕ, zero, suc, Bool, true}
+use Rattle.std.specs.Prelude.{false, List, Option, Some, None, bit_and, length, max, nat_lt, not, replicate, slice_index}
 use Rattle.std.specs.Prelude.{slice_index_or, slice_set, if◌then◌else◌}
 use Rattle.std.specs.List.{AllByRecursion}
+use Rattle.std.proofs.Common.{arith}
 use Rattle.rds_fields.specs.Tag.{PairFields, TagFields, end_of}
 use Rattle.rds_assembly.specs.Body.{space}
 use Rattle.rds_assembly.specs.Value.{is_name_byte, is_text_byte}
 use Rattle.rds_assembly.specs.Whole.{carriage_return}
 use Rattle.rds_receiver.specs.declared.fragment.Fragment.{Fragment}
-use Rattle.rds_audit.specs.declared.audited.Lengths.{Lengths}
 use Rattle.rds_audit.specs.declared.audited.Measured.{Measured}
 use Rattle.rds_audit.specs.declared.text_form.TextForm.{TextForm}
 use Rattle.rds_audit.specs.declared.text_form.TextForm.TheVariants.{Plain, Padded}
@@ -20,69 +20,46 @@ use Rattle.rds_audit.specs.Forms.{text_kind}
 use Rattle.rds_audit.specs.Reigns.{SentTags}
 use Rattle.rds_audit.specs.Rules.{HaveOneValue}
 
-abbrev pub are_spaces : List ℕ → Bool
-are_spaces [] = true
-are_spaces (b ∷ bs) = b == space && are_spaces bs
+-- ---- sets of lengths
 
--- the lengths of a text with these bytes from place i on: a carriage return with only spaces after it ends the text;
--- without one, the text has at least these bytes, and at most 64
-abbrev pub lengths_from : ℕ → List ℕ → Option Lengths
-lengths_from i [] = Some record { least = i; most = 64 }
-lengths_from i (b ∷ bs) =
-    if b == carriage_return
-    then (if are_spaces bs then Some record { least = i; most = i } else None)
-    else if is_text_byte b then lengths_from (i + 1) bs else None
+-- the set of the lengths below k that pass a test, as a number: bit n is set if n passes
+unfoldable pub those : (ℕ → Bool) → ℕ → ℕ
+those ok zero = 0
+those ok (suc n) = (if ok n then 1 else 0) * 2 ^ n + those ok n
 
--- the lengths of a text with these bytes at the address; none if no text has them
-abbrev pub text_lengths : ℕ → List ℕ → Option Lengths
-text_lengths address bytes = lengths_from (4 * address) bytes
+-- each length of the set is below this end
+abbrev pub is_past : ℕ → ℕ → Bool
+is_past lengths end = lengths / 2 ^ end == 0
 
-abbrev pub are_name_bytes : List ℕ → Bool
-are_name_bytes [] = true
-are_name_bytes (b ∷ bs) = is_name_byte b && are_name_bytes bs
+-- ---- which byte may stand at place i of a value of n bytes
 
--- the lengths of a name with these bytes: eight, if each byte is allowed
-abbrev pub name_lengths : ℕ → List ℕ → Option Lengths
-name_lengths address bytes = if are_name_bytes bytes then Some record { least = 8; most = 8 } else None
+-- of a text: its bytes, a carriage return behind them, and spaces up to the end of that segment
+abbrev pub in_text : ℕ → ℕ → ℕ → Bool
+in_text n i b =
+    if nat_lt i n then is_text_byte b else if i == n then b == carriage_return else i / 4 == n / 4 && b == space
 
--- the lengths in both ranges
-abbrev pub narrowed : Option Lengths → Lengths → Lengths
-narrowed None l = l
-narrowed (Some k) l = record { least = max l.least k.least; most = min l.most k.most }
+-- of a text with padding: behind the carriage return any byte
+abbrev pub in_padded_text : ℕ → ℕ → ℕ → Bool
+in_padded_text n i b = if nat_lt i n then is_text_byte b else nat_lt n i || b == carriage_return
 
--- the lengths that all fragments allow
-abbrev pub common_lengths : (ℕ → List ℕ → Option Lengths) → ℕ → List Fragment → Lengths
-common_lengths allowed longest [] = record { least = 0; most = longest }
-common_lengths allowed longest (p ∷ older) =
-    narrowed (allowed p.address p.bytes) (common_lengths allowed longest older)
+abbrev pub in_name : ℕ → ℕ → ℕ → Bool
+in_name n i b = nat_lt i n && is_name_byte b
 
--- what a fragment that allows these lengths leaves of others, and whether it leaves any
-abbrev pub measured_by : Option Lengths → Lengths → Measured
-measured_by None l = record { lengths = l; fits = false }
-measured_by (Some k) l = record {
-  lengths = narrowed (Some k) l;
-  fits = nat_le (narrowed (Some k) l).least (narrowed (Some k) l).most;
-}
+-- how a service is audited: its values, the number of its addresses, the set of the lengths of values, which byte may
+-- stand where, and whether a value can have other bytes at one address
+pub record Gauge : Type 1 where
+  pub kind : Kind
+  pub segments : ℕ
+  pub lengths : ℕ
+  pub may : ℕ → ℕ → ℕ → Bool
+  pub bends : Bool
 
--- ---- texts with padding
+-- the bytes may stand from place i on
+abbrev pub may_stand : Gauge → ℕ → ℕ → List ℕ → Bool
+may_stand g n i [] = true
+may_stand g n i (b ∷ bs) = g.may n i b && may_stand g n (i + 1) bs
 
--- a text of n bytes can have these bytes from place i on: before its end bytes of a text, at its end a carriage return,
--- and behind it any
-abbrev pub allows : ℕ → ℕ → List ℕ → Bool
-allows n i [] = true
-allows n i (b ∷ bs) =
-    if nat_lt i n then is_text_byte b && allows n (i + 1) bs else nat_lt n i || b == carriage_return
-
--- it can have all of these segments, the first one from place i on
-abbrev pub all_allow : ℕ → ℕ → List (Option (List ℕ)) → Bool
-all_allow n i [] = true
-all_allow n i (None ∷ cells) = all_allow n (i + 4) cells
-all_allow n i (Some bytes ∷ cells) = allows n i bytes && all_allow n (i + 4) cells
-
--- the greatest number below a limit that passes a test, if there is one
-abbrev pub greatest_below : (ℕ → Bool) → ℕ → Option ℕ
-greatest_below ok zero = None
-greatest_below ok (suc n) = if ok n then Some n else greatest_below ok n
+-- ---- two segments at one address
 
 -- the first place from i on in which these bytes differ; 65 if there is none
 abbrev pub limit_from : ℕ → List ℕ → List ℕ → ℕ
@@ -90,10 +67,11 @@ limit_from i [] cs = 65
 limit_from i (b ∷ bs) [] = 65
 limit_from i (b ∷ bs) (c ∷ cs) = if b == c then limit_from (i + 1) bs cs else i
 
--- if the address has these bytes and others, the text ends before the first place in which they differ
-abbrev pub limit_at : ℕ → Option (List ℕ) → List ℕ → ℕ
-limit_at address None bytes = 65
-limit_at address (Some held) bytes = limit_from (4 * address) held bytes
+-- if the address has these bytes and others, the value ends before the first place in which they differ; there is none
+-- of a service that does not bend
+abbrev pub limit_at : Bool → ℕ → Option (List ℕ) → List ℕ → ℕ
+limit_at bends address None bytes = 65
+limit_at bends address (Some held) bytes = if bends then limit_from (4 * address) held bytes else 0
 
 abbrev pub same_bytes : List ℕ → List ℕ → Bool
 same_bytes [] [] = true
@@ -106,18 +84,27 @@ abbrev pub holds : Option (List ℕ) → List ℕ → Bool
 holds None bytes = false
 holds (Some held) bytes = same_bytes bytes held
 
--- the lengths up to the greatest one; those before if there is none
-abbrev pub measured_up_to : Option ℕ → Lengths → Measured
-measured_up_to None l = record { lengths = l; fits = false }
-measured_up_to (Some n) l = record { lengths = record { least = 0; most = n }; fits = true }
+-- other bytes are held
+abbrev pub is_other : Option (List ℕ) → List ℕ → Bool
+is_other None bytes = false
+is_other (Some held) bytes = not (same_bytes bytes held)
 
--- what a fragment leaves of a text with padding, beside the last bytes at each address and the lengths before: only the
--- greatest length is kept
-abbrev pub padded_measure : List (Option (List ℕ)) → Lengths → ℕ → List ℕ → Measured
-padded_measure cells l address bytes =
+-- ---- what a fragment leaves
+
+-- a value of n bytes may have these bytes at an address that had others, or none
+abbrev pub allows : Gauge → Option (List ℕ) → ℕ → List ℕ → ℕ → Bool
+allows g held address bytes n = may_stand g n (4 * address) bytes && nat_lt n (limit_at g.bends address held bytes)
+
+-- the lengths that are left, or those before if there are none
+abbrev pub left_or : ℕ → ℕ → Measured
+left_or l left =
+    if left == 0 then record { lengths = l; fits = false } else record { lengths = left; fits = true }
+
+-- what a fragment leaves of a set of lengths, beside the last bytes at each address
+unfoldable pub measure : Gauge → List (Option (List ℕ)) → ℕ → ℕ → List ℕ → Measured
+measure g cells l address bytes =
     if holds (slice_index_or cells address None) bytes then record { lengths = l; fits = true }
-    else measured_up_to (greatest_below (λ n. all_allow n 0 (slice_set cells address (Some bytes)))
-    (min (limit_at address (slice_index_or cells address None) bytes) (l.most + 1))) l
+    else left_or l (bit_and l (those (allows g (slice_index_or cells address None) address bytes) 65))
 
 -- the place after the piece of a tag; 0 for the dummy, of class 0
 abbrev pub tag_end : TagFields → ℕ
@@ -147,70 +134,48 @@ pub record IsFormed (segments : ℕ) (p : Fragment) : Type 0 where
   pub four : length p.bytes ≡ 4
   pub fits : (k : ℕ) → slice_index p.bytes k < 256
 
--- how a service is audited: its values, the number of its addresses, the greatest length of a value; what a fragment
--- leaves of the lengths, beside the last bytes at each address; and whether a value can have other bytes at one address
-pub record Gauge : Type 1 where
-  pub kind : Kind
-  pub segments : ℕ
-  pub longest : ℕ
-  pub measure : List (Option (List ℕ)) → Lengths → ℕ → List ℕ → Measured
-  pub bends : Bool
-
 -- the lengths that fragments leave
-abbrev pub lengths_of : Gauge → List Fragment → Lengths
-lengths_of g [] = record { least = 0; most = g.longest }
-lengths_of g (p ∷ older) = (g.measure (sent_cells older) (lengths_of g older) p.address p.bytes).lengths
+abbrev pub lengths_of : Gauge → List Fragment → ℕ
+lengths_of g [] = g.lengths
+lengths_of g (p ∷ older) = (measure g (sent_cells older) (lengths_of g older) p.address p.bytes).lengths
 
 -- what one more fragment leaves
 abbrev pub measured_after : Gauge → List Fragment → Fragment → Measured
-measured_after g older p = g.measure (sent_cells older) (lengths_of g older) p.address p.bytes
+measured_after g older p = measure g (sent_cells older) (lengths_of g older) p.address p.bytes
 
 -- each fragment fits those before it
 abbrev pub all_fit : Gauge → List Fragment → Bool
 all_fit g [] = true
 all_fit g (p ∷ older) = (measured_after g older p).fits && all_fit g older
 
--- other bytes are held
-abbrev pub is_other : Option (List ℕ) → List ℕ → Bool
-is_other None bytes = false
-is_other (Some held) bytes = not (same_bytes bytes held)
-
 -- the fragment changes the value of these: its address was sent with other bytes, and no value has both
 abbrev pub changes : Gauge → List Fragment → Fragment → Bool
-changes g older p =
-    is_other (sent_last p.address older) p.bytes && not (g.bends && (measured_after g older p).fits)
+changes g older p = is_other (sent_last p.address older) p.bytes && not (measured_after g older p).fits
 
--- no fragment changes the value of those before it
-abbrev pub AllJoin : Gauge → List Fragment → Type 0
-AllJoin g [] = Unit {0}
-AllJoin g (p ∷ older) = (changes g older p ≡ false) × AllJoin g older
-
--- no fragment changes the value, each fits, and the tags end within the greatest length
+-- each fragment fits, and the tags end within some length
 pub record AreMeasured (g : Gauge) (fragments : List Fragment) (tags : List SentTags) : Type 0 where
-  pub joins : AllJoin g fragments
   pub fit : all_fit g fragments ≡ true
-  pub ends : tags_end tags ≤ (lengths_of g fragments).most
+  pub ends : is_past (lengths_of g fragments) (tags_end tags) ≡ false
 
--- the gauge is exact: fragments and tags have one value exactly if they are measured so and the fragments are formed;
--- no fragment makes the greatest length greater; and what was sent last at an address changes nothing
+-- the gauge is exact: fragments and tags have one value exactly if they are measured so and the fragments are formed
 pub record IsExact (g : Gauge) : Type 0 where
+  pub some : 0 < g.lengths
   pub measured : (fragments : List Fragment) (tags : List SentTags) → HaveOneValue g.kind fragments tags
       → AreMeasured g fragments tags
   pub formed : (fragments : List Fragment) (tags : List SentTags) → HaveOneValue g.kind fragments tags
       → AllByRecursion (IsFormed g.segments) fragments
   pub one : (fragments : List Fragment) (tags : List SentTags) → AllByRecursion (IsFormed g.segments) fragments
       → AreMeasured g fragments tags → HaveOneValue g.kind fragments tags
-  pub narrower : (cells : List (Option (List ℕ))) (l : Lengths) (address : ℕ) (bytes : List ℕ)
-      → (g.measure cells l address bytes).lengths.most ≤ l.most
-  pub again : (older : List Fragment) (p : Fragment) → IsFormed g.segments p
-      → sent_last p.address older ≡ Some p.bytes
-      → ((measured_after g older p).lengths ≡ lengths_of g older)
-      × (all_fit g older ≡ true → (measured_after g older p).fits ≡ true)
 
--- what a fragment leaves of the lengths of a text of this form
-abbrev pub measure_of : TextForm → List (Option (List ℕ)) → Lengths → ℕ → List ℕ → Measured
-measure_of Plain cells l address bytes = measured_by (text_lengths address bytes) l
-measure_of Padded cells l address bytes = padded_measure cells l address bytes
+pub texts_have_lengths : 0 < 2 ^ 65 - 1
+texts_have_lengths = omega arith
+
+pub names_have_lengths : 0 < 2 ^ 8
+names_have_lengths = omega arith
+
+abbrev pub may_of : TextForm → ℕ → ℕ → ℕ → Bool
+may_of Plain = in_text
+may_of Padded = in_padded_text
 
 abbrev pub may_bend : TextForm → Bool
 may_bend Plain = false
@@ -221,8 +186,8 @@ abbrev pub gauge_of : TextForm → Gauge
 gauge_of form = record {
   kind = text_kind form;
   segments = 16;
-  longest = 64;
-  measure = measure_of form;
+  lengths = 2 ^ 65 - 1;
+  may = may_of form;
   bends = may_bend form;
 }
 
@@ -233,10 +198,4 @@ abbrev pub padded_gauge : Gauge
 padded_gauge = gauge_of Padded
 
 abbrev pub name_gauge : Gauge
-name_gauge = record {
-  kind = names;
-  segments = 2;
-  longest = 8;
-  measure = λ cells l address bytes. measured_by (name_lengths address bytes) l;
-  bends = false;
-}
+name_gauge = record { kind = names; segments = 2; lengths = 2 ^ 8; may = in_name; bends = false }

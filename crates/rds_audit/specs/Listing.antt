@@ -10,9 +10,8 @@ use Rattle.rds_receiver.specs.declared.fragment.Fragment.{Fragment}
 use Rattle.rds_receiver.specs.Run.{is_same}
 use Rattle.rds_audit.specs.declared.audit.AuditFault.{AuditFault}
 use Rattle.rds_audit.specs.declared.audit.AuditFault.TheVariants.{Changed, NotOneText, EarlyFlag, EarlyTag, TagOutside}
-use Rattle.rds_audit.specs.declared.audited.Lengths.{Lengths}
 use Rattle.rds_audit.specs.declared.fault_set.FaultSet.{FaultSet}
-use Rattle.rds_audit.specs.Lengths.{Gauge, all_fit, changes, gauge_of, lengths_of, name_gauge, tags_end}
+use Rattle.rds_audit.specs.Lengths.{Gauge, all_fit, changes, gauge_of, is_past, lengths_of, name_gauge, tags_end}
 use Rattle.rds_audit.specs.declared.text_form.TextForm.{TextForm}
 use Rattle.rds_audit.specs.Reigns.{Reign, SentTags, opened_from, past_newest, with_fragment, with_tags}
 use Rattle.rds_safety.specs.Marks.{Mark, Nothing, Sends, Tagged, marks, name_mark, text_mark}
@@ -81,9 +80,9 @@ spans g d (mark ∷ before) = spans_marked g d (length before) mark (spans g d b
 
 -- ---- what a span breaks
 
--- the lengths that the fragments of a span leave. Of texts without padding, a fragment that fits no text leaves them as
--- they are; of texts with padding, one that fits none beside those before it
-abbrev pub lengths_in : Gauge → Span → Lengths
+-- the lengths that the fragments of a span leave. A fragment that fits no value beside those before it leaves them as
+-- they are
+abbrev pub lengths_in : Gauge → Span → ℕ
 lengths_in g r = lengths_of g r.reign.fragments
 
 -- each fragment fits those before it
@@ -101,7 +100,7 @@ broken_by g d r = record {
   early_flag = r.is_early;
   not_one_text = not (fits g r);
   early_tag = has_early_tags d r;
-  tag_outside = nat_lt (lengths_in g r).most (tags_end r.reign.tags);
+  tag_outside = is_past (lengths_in g r) (tags_end r.reign.tags);
 }
 
 -- this fault is one of these

@@ -1,6 +1,6 @@
 -- The rules of the audit (this project's own): when a log passes. A log passes if each of its reigns can be a
 -- broadcast, from its start to its last slot, and tags come after a segment. Lists have the newest first.
-use Rattle.std.specs.Prelude.{◌≡◌, ◌≤◌, ◌<◌, ◌+◌, ℕ, List, [], ◌∷◌, Option, length}
+use Rattle.std.specs.Prelude.{◌≤◌, ◌<◌, ◌+◌, ℕ, List, Option, length}
 use Rattle.std.specs.List.{AllByRecursion}
 use Rattle.rds_fields.specs.declared.message.Message.{Message}
 use Rattle.rds_fields.specs.Tag.{BothEndIn, PairFields}
@@ -41,9 +41,3 @@ pub record Passes (d : ℕ) (kind : Kind) (sent : List Mark) : Type 0 where
 pub record LogPasses (form : TextForm) (d : ℕ) (log : List (Option Message)) : Type 0 where
   pub text : Passes d (text_kind form) (marks text_mark log)
   pub name : Passes d names (marks name_mark log)
-
--- no address changed: each was sent with the same bytes only
-abbrev pub AreUnchanged : List Fragment → Type 0
-AreUnchanged [] = Unit {0}
-AreUnchanged (newest ∷ older) =
-    AllByRecursion (λ (p : Fragment). p.address ≡ newest.address → p.bytes ≡ newest.bytes) older × AreUnchanged older

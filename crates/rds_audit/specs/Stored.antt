@@ -1,5 +1,5 @@
 -- An audit stored as plain numbers (this project's own form).
-use Rattle.std.specs.Prelude.{ℕ, ◌≤◌, ◌==◌, List, Option, Some, None, map, if◌then◌else◌}
+use Rattle.std.specs.Prelude.{ℕ, ◌+◌, ◌*◌, ◌^◌, ◌≤◌, ◌==◌, List, Option, Some, None, map, slice_index, if◌then◌else◌}
 use Rattle.rds_fields.specs.Stored.{is_set}
 use Rattle.rds_audit.specs.Ages.{Ages}
 use Rattle.rds_audit.specs.ReignsState.{ContentState, ReignsState}
@@ -26,10 +26,14 @@ ages_stored s = record {
   turns = is_set s.turns;
 }
 
+-- the set of lengths: two numbers of 64 bits
+abbrev pub lengths_stored : StoredReigns → ℕ
+lengths_stored s = slice_index s.lengths 1 * 2 ^ 64 + slice_index s.lengths 0
+
 abbrev pub content_stored : StoredReigns → ContentState
 content_stored s = record {
   cells = map cell_stored s.cells;
-  lengths = record { least = s.least; most = s.most };
+  lengths = lengths_stored s;
   tags_end = s.tags_end;
 }
 

@@ -1,23 +1,14 @@
-//! The services that are audited: what a segment leaves of the lengths that a value can have.
-ghost use Rattle.std.specs.Prelude.{◌≡◌, ◌+◌, ◌*◌, ℕ, Bool, ◌<◌, ◌≤◌, ◌↔◌, IsTrue, EachIndex, Option, map, slice_index};
-ghost use Rattle.rds_audit.specs.Lengths.{Gauge, IsExact, allows, all_allow, greatest_below};
-ghost use Rattle.rds_audit.specs.Lengths.{limit_at, measured_by, measured_up_to, name_lengths, text_lengths};
-ghost use Rattle.rds_audit.specs.Stored.{cell_stored, content_stored};
+//! The services that are audited: the lengths at which a byte may stand in a value.
+ghost use Rattle.std.specs.Prelude.{◌≡◌, ◌*◌, ◌<◌, ◌≤◌, ◌^◌, ℕ, Bool, false, nat_le, nat_lt, if◌then◌else◌};
+ghost use Rattle.rds_audit.specs.Lengths.{Gauge, limit_at, limit_from, may_stand, those};
 
-use crate::stored::{StoredCell, StoredReigns};
 use rds_assembly::{CARRIAGE_RETURN, is_text_byte};
 
-/// The lengths from `least` to `most`, in bytes. There is none if `least` is above `most`.
-#[derive(Clone, Copy)]
-pub(crate) struct Lengths {
-    pub(crate) least: u8,
-    pub(crate) most: u8,
-}
-
-/// The lengths that a segment leaves, and whether some value has it beside the segments before it.
+/// The lengths that a segment leaves, a bit for each of 0 to 64, and whether some value has it beside the segments before
+/// it.
 #[derive(Clone, Copy)]
 pub(crate) struct Measured {
-    pub(crate) lengths: Lengths,
+    pub(crate) lengths: u128,
     pub(crate) fits: bool,
 }
 
@@ -25,206 +16,188 @@ pub(crate) struct Measured {
 pub(crate) trait Audited {
     ghost gauge: { Gauge };
 
-    ghost LONGEST: { ℕ };
+    ghost LENGTHS: { ℕ };
 
     ghost BENDS: { Bool };
 
-    /// The greatest length of a value, in bytes.
-    const LONGEST: u8;
+    /// The lengths of values.
+    const LENGTHS: u128;
 
     /// Whether a value can have two segments with other bytes at one address.
     const BENDS: bool;
 
-    /// Returns what a segment leaves of the lengths of a reign.
-    fn measure(reigns: &StoredReigns, address: u8, bytes: [u8; 4]) -> Measured
-        requires { address < gauge.segments }
-        ensures { result ≡ gauge.measure (content_stored reigns.now).cells (content_stored reigns.now).lengths
-            address bytes };
+    /// Returns the lengths of the values in which this byte may stand at this place.
+    fn lengths_with(place: u8, byte: u8) -> u128
+        requires { place < 64 }
+        ensures { result ≡ those (λ n. gauge.may n place byte) 65 };
 
-    /// States that segments and tags are of one value exactly if they are measured so. It does nothing when it runs.
-    fn exact()
-        ensures { IsExact gauge };
-
-    ghost longest: { gauge.longest ≡ LONGEST };
+    ghost lengths: { gauge.lengths ≡ LENGTHS };
 
     ghost bends: { gauge.bends ≡ BENDS };
 
     /// An address has at most four bits.
     ghost few: { gauge.segments ≤ 16 };
+
+    ghost some: { 0 < gauge.lengths };
 }
 
 /// The texts, in groups 2A.
 pub(crate) struct Texts;
 
 impl Audited for Texts {
-    ghost use Rattle.std.specs.Prelude.{false, refl};
+    ghost use Rattle.std.specs.Prelude.{◌-◌, refl};
     ghost use Rattle.rds_assembly.specs.ServiceLaws.{sixteen_are_few};
-    ghost use Rattle.rds_audit.specs.Lengths.{text_gauge};
+    ghost use Rattle.rds_audit.specs.Lengths.{text_gauge, texts_have_lengths};
 
     ghost gauge = { text_gauge };
 
-    ghost LONGEST = { 64 };
+    ghost LENGTHS = { 2 ^ 65 - 1 };
 
     ghost BENDS = { false };
 
-    const LONGEST: u8 = 64;
+    const LENGTHS: u128 = (1 << 65) - 1;
 
     const BENDS: bool = false;
 
-    ghost longest = { refl };
+    ghost lengths = { refl };
 
     ghost bends = { refl };
 
     ghost few = { sixteen_are_few };
 
-    fn measure(reigns: &StoredReigns, address: u8, bytes: [u8; 4]) -> Measured {
-        reigns.narrowed(text_lengths(address, bytes))
-    }
+    ghost some = { texts_have_lengths };
 
-    #[tactic(auto, using(crate::proofs::Gauges::text_gauge_is_exact))]
-    fn exact() {}
+    fn lengths_with(place: u8, byte: u8) -> u128 {
+        let text = if_so(is_text_byte(byte), from(place + 1));
+        let end = if_so(byte == CARRIAGE_RETURN, from(place) & below(place + 1));
+        let rest = if_so(byte == b' ', from(place / 4 * 4) & below(place));
+        text | end | rest
+    }
 }
 
 /// The texts with padding, in groups 2A: behind its carriage return a text may have any bytes.
 pub(crate) struct PaddedTexts;
 
 impl Audited for PaddedTexts {
-    ghost use Rattle.std.specs.Prelude.{refl, true};
+    ghost use Rattle.std.specs.Prelude.{◌-◌, refl, true};
     ghost use Rattle.rds_assembly.specs.ServiceLaws.{sixteen_are_few};
-    ghost use Rattle.rds_audit.specs.Lengths.{padded_gauge};
+    ghost use Rattle.rds_audit.specs.Lengths.{padded_gauge, texts_have_lengths};
 
     ghost gauge = { padded_gauge };
 
-    ghost LONGEST = { 64 };
+    ghost LENGTHS = { 2 ^ 65 - 1 };
 
     ghost BENDS = { true };
 
-    const LONGEST: u8 = 64;
+    const LENGTHS: u128 = (1 << 65) - 1;
 
     const BENDS: bool = true;
 
-    ghost longest = { refl };
+    ghost lengths = { refl };
 
     ghost bends = { refl };
 
     ghost few = { sixteen_are_few };
 
-    fn measure(reigns: &StoredReigns, address: u8, bytes: [u8; 4]) -> Measured {
-        let before = Lengths {
-            least: reigns.least,
-            most: reigns.most,
-        };
-        let held = reigns.sent_at(address);
-        if held == Some(bytes) {
-            return Measured {
-                lengths: before,
-                fits: true,
-            };
-        }
-        let limit = limit_at(address, held, bytes).min(reigns.most.saturating_add(1));
-        let mut cells = reigns.cells;
-        cells[address as usize] = StoredCell { bytes, is_sent: 1 };
-        measured_up_to(greatest_below(limit, &cells), before)
-    }
+    ghost some = { texts_have_lengths };
 
-    #[tactic(auto, using(crate::proofs::Gauges::padded_gauge_is_exact))]
-    fn exact() {}
+    fn lengths_with(place: u8, byte: u8) -> u128 {
+        let text = if_so(is_text_byte(byte), from(place + 1));
+        let end = if_so(byte == CARRIAGE_RETURN, from(place) & below(place + 1));
+        text | end | below(place)
+    }
 }
 
 /// The programme type names, in groups 10A.
 pub(crate) struct Names;
 
 impl Audited for Names {
-    ghost use Rattle.std.specs.Prelude.{false, refl};
+    ghost use Rattle.std.specs.Prelude.{refl};
     ghost use Rattle.rds_assembly.specs.ServiceLaws.{two_are_few};
-    ghost use Rattle.rds_audit.specs.Lengths.{name_gauge};
+    ghost use Rattle.rds_audit.specs.Lengths.{name_gauge, names_have_lengths};
 
     ghost gauge = { name_gauge };
 
-    ghost LONGEST = { 8 };
+    ghost LENGTHS = { 2 ^ 8 };
 
     ghost BENDS = { false };
 
-    const LONGEST: u8 = 8;
+    const LENGTHS: u128 = 1 << 8;
 
     const BENDS: bool = false;
 
-    ghost longest = { refl };
+    ghost lengths = { refl };
 
     ghost bends = { refl };
 
     ghost few = { two_are_few };
 
-    fn measure(reigns: &StoredReigns, _address: u8, bytes: [u8; 4]) -> Measured {
-        reigns.narrowed(name_lengths(bytes))
-    }
+    ghost some = { names_have_lengths };
 
-    #[tactic(auto, using(crate::proofs::Gauges::name_gauge_is_exact))]
-    fn exact() {}
+    #[tactic(auto, using(crate::proofs::LengthSets::name_those))]
+    fn lengths_with(place: u8, byte: u8) -> u128 {
+        if_so(byte >= b' ', from(place + 1))
+    }
 }
 
-/// Returns the lengths up to the greatest one, or those before if there is none: then the segment does not fit.
-fn measured_up_to(greatest: Option<u8>, before: Lengths) -> Measured
-    ensures { result ≡ measured_up_to greatest before }
+/// Returns the lengths if this is so, and otherwise none.
+fn if_so(is_so: bool, lengths: u128) -> u128
+    ensures { result ≡ if is_so then lengths else 0 }
 {
-    match greatest {
-        Some(most) => Measured {
-            lengths: Lengths { least: 0, most },
-            fits: true,
-        },
-        None => Measured {
-            lengths: before,
-            fits: false,
-        },
-    }
+    if is_so { lengths } else { 0 }
 }
 
-/// Returns the lengths of a text that has the segment. `None` if no text has it.
-fn text_lengths(address: u8, bytes: [u8; 4]) -> Option<Lengths>
+/// Returns the lengths below this one.
+#[tactic(auto, using(crate::proofs::LengthSets::below_bits))]
+fn below(length: u8) -> u128
+    requires { length ≤ 65 }
+    ensures { result ≡ those (λ n. nat_lt n length) 65 }
+{
+    (1 << length) - 1
+}
+
+/// Returns the lengths from this one on.
+#[tactic(auto, using(crate::proofs::LengthSets::from_bits, crate::proofs::LengthSets::from_fits))]
+fn from(length: u8) -> u128
+    requires { length ≤ 65 }
+    ensures { result ≡ those (λ n. nat_le length n) 65 }
+{
+    (1 << 65) - (1 << length)
+}
+
+/// Returns the lengths of the values in which these bytes may stand at this address.
+pub(crate) fn lengths_at<S: Audited>(address: u8, bytes: [u8; 4]) -> u128
     requires { address < 16 }
-    ensures { result ≡ text_lengths address bytes }
+    ensures { result ≡ those (λ n. may_stand S.gauge n (4 * address) bytes) 65 }
 {
     let first = 4 * address;
-    for (place, byte) in bytes.iter().enumerate() {
-        let length = first + place as u8;
-        if *byte == CARRIAGE_RETURN {
-            return are_spaces(&bytes[place + 1..]).then_some(Lengths {
-                least: length,
-                most: length,
-            });
-        }
-        if !is_text_byte(*byte) {
-            return None;
-        }
-    }
-    Some(Lengths {
-        least: first + 4,
-        most: 64,
-    })
+    S::lengths_with(first, bytes[0])
+        & S::lengths_with(first + 1, bytes[1])
+        & S::lengths_with(first + 2, bytes[2])
+        & S::lengths_with(first + 3, bytes[3])
 }
 
-/// Returns the lengths of a name that has the segment. `None` if no name has it.
-fn name_lengths(bytes: [u8; 4]) -> Option<Lengths>
-    ensures { result ≡ name_lengths 0 bytes }
-{
-    if are_name_bytes(&bytes) {
-        Some(Lengths { least: 8, most: 8 })
-    } else {
-        None
-    }
-}
-
-/// Returns the number below which a text with padding has its length, if its segment at the address was sent with these
-/// bytes too: the first place in which they differ, or 65.
-fn limit_at(address: u8, held: Option<[u8; 4]>, bytes: [u8; 4]) -> u8
+/// Returns the lengths of a value whose segment at the address was sent with these other bytes too: those below the first
+/// place in which they differ, or none if the service does not bend.
+pub(crate) fn lengths_beside<S: Audited>(address: u8, held: Option<[u8; 4]>, bytes: [u8; 4]) -> u128
     requires { address < 16 }
-    ensures limit { result ≡ limit_at address held bytes }
-    ensures most { result ≤ 65 }
+    ensures { result ≡ those (λ n. nat_lt n (limit_at S.gauge.bends address held bytes)) 65 }
 {
     let Some(held) = held else {
-        return 65;
+        return below(65);
     };
-    let first = 4 * address;
+    if !S::BENDS {
+        return below(0);
+    }
+    below(limit_of(4 * address, held, bytes))
+}
+
+/// Returns the first place in which these bytes differ, which begin at this place. 65 if they are the same.
+fn limit_of(first: u8, held: [u8; 4], bytes: [u8; 4]) -> u8
+    requires { first ≤ 60 }
+    ensures limit { result ≡ limit_from first held bytes }
+    ensures most { result ≤ 65 }
+{
     if held[0] != bytes[0] {
         first
     } else if held[1] != bytes[1] {
@@ -236,70 +209,4 @@ fn limit_at(address: u8, held: Option<[u8; 4]>, bytes: [u8; 4]) -> u8
     } else {
         65
     }
-}
-
-/// Returns the greatest length below the limit that a text with these segments and padding can have, if there is one.
-#[tactic(auto, using(crate::proofs::PaddedSteps::lower))]
-pub(crate) fn greatest_below(limit: u8, cells: &[StoredCell; 16]) -> Option<u8>
-    requires { limit ≤ 65 }
-    ensures { result ≡ greatest_below (λ n. all_allow n 0 (map cell_stored cells.now)) limit }
-{
-    for back in 0..limit {
-        let length = limit - back - 1;
-        if all_allow(length, cells) {
-            return Some(length);
-        }
-    }
-    None
-}
-
-/// Returns whether a text of this length can have all of these segments, with padding.
-fn all_allow(length: u8, cells: &[StoredCell; 16]) -> bool
-    requires { length ≤ 64 }
-    ensures { result ≡ all_allow length 0 (map cell_stored cells.now) }
-{
-    for (address, cell) in cells.iter().enumerate() {
-        if cell.is_sent == 0 {
-            continue;
-        }
-        if !allows(length, 4 * address as u8, cell.bytes) {
-            return false;
-        }
-    }
-    true
-}
-
-/// Returns whether a text of this length can have these bytes at the places from `first` on, with padding.
-#[tactic(auto, using(crate::proofs::PaddedSteps::behind))]
-fn allows(length: u8, first: u8, bytes: [u8; 4]) -> bool
-    requires { first ≤ 60 }
-    ensures { result ≡ allows length first bytes }
-{
-    for (place, byte) in bytes.iter().enumerate() {
-        let at = first + place as u8;
-        if at > length {
-            return true;
-        }
-        if at == length {
-            return *byte == CARRIAGE_RETURN;
-        }
-        if !is_text_byte(*byte) {
-            return false;
-        }
-    }
-    true
-}
-
-/// Returns whether all bytes are spaces.
-fn are_spaces(bytes: &[u8]) -> bool
-    ensures { IsTrue result ↔ EachIndex bytes.now (λ k. slice_index bytes.now k ≡ 32) }
-{
-    bytes.iter().all(|byte| *byte == b' ')
-}
-
-/// Returns whether a name may have each of these bytes.
-fn are_name_bytes(bytes: &[u8]) -> bool
-    ensures { IsTrue result ↔ EachIndex bytes.now (λ k. 32 ≤ slice_index bytes.now k) }
-{
-    bytes.iter().all(|byte| *byte >= b' ')
 }

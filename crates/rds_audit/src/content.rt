@@ -1,10 +1,10 @@
 //! The content of a reign: its segments and tags.
-ghost use Rattle.std.specs.Prelude.{◌≡◌, ◌<◌, ◌≤◌, ◌↔◌, IsTrue, None, Some};
+ghost use Rattle.std.specs.Prelude.{◌≡◌, ◌+◌, ◌*◌, ◌^◌, ◌<◌, ◌≤◌, ◌↔◌, IsTrue, None, Some, slice_index};
 ghost use Rattle.rds_audit.specs.ReignsState.{cell_at, changes_in, measured_in, no_content, tagged, taken};
-ghost use Rattle.rds_audit.specs.Lengths.{measured_by, pair_end, tag_end};
-ghost use Rattle.rds_audit.specs.Stored.{ages_stored, cell_stored, content_stored};
+ghost use Rattle.rds_audit.specs.Lengths.{is_past, pair_end, tag_end};
+ghost use Rattle.rds_audit.specs.Stored.{ages_stored, cell_stored, content_stored, lengths_stored};
 
-use crate::audited::{Audited, Lengths, Measured, greatest_below};
+use crate::audited::{Audited, Measured, PaddedTexts, lengths_at, lengths_beside};
 use crate::stored::{StoredCell, StoredReigns};
 use rds_assembly::CARRIAGE_RETURN;
 use rds_fields::{Tag, TagPair};
@@ -24,13 +24,26 @@ impl StoredCell {
 impl StoredReigns {
     /// Drops the segments and the tags.
     pub(crate) fn clear<S: Audited>(&mut self)
-        ensures content { content_stored self.new ≡ no_content S.LONGEST }
+        ensures content { content_stored self.new ≡ no_content S.LENGTHS }
         ensures ages { ages_stored self.new ≡ ages_stored self.old }
     {
         self.cells = [StoredCell::none(); 16];
-        self.least = 0;
-        self.most = S::LONGEST;
+        self.set_lengths(S::LENGTHS);
         self.tags_end = 0;
+    }
+
+    /// Returns the lengths that the value can have, a bit for each.
+    pub(crate) fn lengths(&self) -> u128
+        ensures { result ≡ lengths_stored self.now }
+    {
+        u128::from(self.lengths[1]) << 64 | u128::from(self.lengths[0])
+    }
+
+    fn set_lengths(&mut self, lengths: u128)
+        ensures set { lengths_stored self.new ≡ lengths }
+        ensures kept { self.new ≡ record self.old { lengths = self.new.lengths } }
+    {
+        self.lengths = halves(lengths);
     }
 
     /// Returns whether the segment of this address has these bytes.
@@ -51,31 +64,36 @@ impl StoredReigns {
             (content_stored self.old) }
         ensures ages { ages_stored self.new ≡ ages_stored self.old }
     {
-        let measured = S::measure(self, address, bytes);
+        let measured = self.measure::<S>(address, bytes);
         self.cells[address as usize] = StoredCell { bytes, is_sent: 1 };
-        self.least = measured.lengths.least;
-        self.most = measured.lengths.most;
+        self.set_lengths(measured.lengths);
         measured.fits
     }
 
-    /// Returns what a segment leaves that allows these lengths.
-    pub(crate) fn narrowed(&self, allowed: Option<Lengths>) -> Measured
-        ensures { result ≡ measured_by allowed (content_stored self.now).lengths }
+    /// Returns what a segment leaves of the lengths. One that leaves none leaves them as they are.
+    fn measure<S: Audited>(&self, address: u8, bytes: [u8; 4]) -> Measured
+        requires { address < S.gauge.segments }
+        ensures { result ≡ measured_in S.gauge address bytes (content_stored self.now) }
     {
-        let Some(allowed) = allowed else {
+        let before = self.lengths();
+        let held = self.sent_at(address);
+        if held == Some(bytes) {
             return Measured {
-                lengths: Lengths {
-                    least: self.least,
-                    most: self.most,
-                },
+                lengths: before,
+                fits: true,
+            };
+        }
+        let left = before
+            & (lengths_at::<S>(address, bytes) & lengths_beside::<S>(address, held, bytes));
+        if left == 0 {
+            return Measured {
+                lengths: before,
                 fits: false,
             };
-        };
-        let least = self.least.max(allowed.least);
-        let most = self.most.min(allowed.most);
+        }
         Measured {
-            lengths: Lengths { least, most },
-            fits: least <= most,
+            lengths: left,
+            fits: true,
         }
     }
 
@@ -98,15 +116,28 @@ impl StoredReigns {
         if held == bytes {
             return false;
         }
-        if !S::BENDS {
-            return true;
-        }
-        !S::measure(self, address, bytes).fits
+        !self.measure::<S>(address, bytes).fits
     }
 
     /// Returns whether some text has all of the segments, with padding. For a person; no contract speaks of it.
     pub(crate) fn fits_padded(&self) -> bool {
-        greatest_below(65, &self.cells).is_some()
+        let mut left = PaddedTexts::LENGTHS;
+        for (address, cell) in self.cells.iter().enumerate() {
+            if cell.is_sent != 0 {
+                left &= lengths_at::<PaddedTexts>(address as u8, cell.bytes);
+            }
+        }
+        left != 0
+    }
+
+    /// Returns the least number of bytes that the value can have, for a person. No contract speaks of it.
+    pub fn least(&self) -> u8 {
+        self.lengths().trailing_zeros() as u8
+    }
+
+    /// Returns the greatest number of bytes that the value can have, for a person. No contract speaks of it.
+    pub fn most(&self) -> u8 {
+        127 - self.lengths().leading_zeros().min(127) as u8
     }
 
     /// Returns the bytes that were sent at the address, if any.
@@ -135,6 +166,21 @@ pub fn is_complete_text(cells: &[StoredCell; 16]) -> bool {
         }
     }
     true
+}
+
+/// Returns the two numbers of a set of lengths, the lower one first.
+pub(crate) fn halves(lengths: u128) -> [u64; 2]
+    ensures { slice_index result 1 * 2 ^ 64 + slice_index result 0 ≡ lengths }
+{
+    [(lengths % (1 << 64)) as u64, (lengths / (1 << 64)) as u64]
+}
+
+/// Returns whether each of these lengths is below this end.
+#[tactic(auto, using(crate::proofs::LengthSets::past_far))]
+pub(crate) fn is_past(lengths: u128, end: u8) -> bool
+    ensures { result ≡ is_past lengths end }
+{
+    end >= 128 || lengths >> end == 0
 }
 
 /// Returns the greater place after the piece of a tag of the pair.

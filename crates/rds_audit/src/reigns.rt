@@ -6,6 +6,7 @@ ghost use Rattle.rds_audit.specs.Stored.{reigns_stored};
 
 use crate::LogStart;
 use crate::audited::Audited;
+use crate::content::halves;
 use crate::stored::{StoredCell, StoredReigns};
 use rds_fields::Distance;
 
@@ -14,18 +15,17 @@ impl StoredReigns {
     pub(crate) fn new<S: Audited>(distance: Distance, start: LogStart) -> StoredReigns
         requires { 0 < distance }
         ensures { reigns_stored result
-            ≡ record { ages = ages_at start distance; content = no_content S.gauge.longest } }
+            ≡ record { ages = ages_at start distance; content = no_content S.gauge.lengths } }
     {
         let age = start.age(distance);
         StoredReigns {
+            lengths: halves(S::LENGTHS),
             since_last: age,
             since_before: age,
             since_start: 0,
             cells: [StoredCell::none(); 16],
             is_open: 0,
             flag: 0,
-            least: 0,
-            most: S::LONGEST,
             tags_end: 0,
             turns: 1,
         }

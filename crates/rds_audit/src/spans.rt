@@ -9,7 +9,7 @@ ghost use Rattle.rds_audit.specs.Recording.{silent_as};
 ghost use Rattle.rds_safety.specs.Marks.{Mark, Sends, Tagged};
 
 use crate::audited::{Audited, PaddedTexts, Texts};
-use crate::content::is_complete_text;
+use crate::content::{is_complete_text, is_past};
 use crate::stored::{StoredFaults, StoredReigns, StoredSpans};
 use crate::{FaultSet, LogStart, TextForm};
 use rds_fields::{Distance, TagPair};
@@ -79,8 +79,6 @@ impl StoredSpans {
             && self.reigns.has(fragment.address, fragment.bytes)
         {
             // what the span has already breaks no further rule
-            // Prover: a call of a law (docs/PROVER.md, "Idioms").
-            S::exact();
             self.reigns.renew();
             return FaultSet::none();
         }
@@ -94,8 +92,6 @@ impl StoredSpans {
         requires { fragment.address < S.gauge.segments }
         ensures { TakesMark S.gauge distance (Sends fragment) (spans_stored self.old) (spans_stored self.new) result }
     {
-        // Prover: a call of a law (docs/PROVER.md, "Idioms").
-        S::exact();
         if !self.reigns.joins(distance, fragment.flag) {
             return self.begin::<S>(distance, fragment, false);
         }
@@ -114,8 +110,6 @@ impl StoredSpans {
     pub(crate) fn take_tags<S: Audited>(&mut self, distance: u32, pair: TagPair) -> FaultSet
         ensures { TakesMark S.gauge distance (Tagged pair) (spans_stored self.old) (spans_stored self.new) result }
     {
-        // Prover: a call of a law (docs/PROVER.md, "Idioms").
-        S::exact();
         let before = self.broken.get();
         self.add_tags(distance, pair);
         self.broken.get().not_in(before)
@@ -132,7 +126,7 @@ impl StoredSpans {
     fn begin<S: Audited>(&mut self, distance: u32, fragment: Fragment, is_changed: bool) -> FaultSet
         requires { fragment.address < S.gauge.segments }
         ensures begun { spans_stored self.new ≡ put_in S.gauge fragment
-            (opened_in distance S.gauge.longest is_changed fragment.flag (spans_stored self.old)) }
+            (opened_in distance S.gauge.lengths is_changed fragment.flag (spans_stored self.old)) }
         ensures faults { result ≡ (spans_stored self.new).broken }
     {
         let complete = u32::from(is_complete_text(&self.reigns.cells));
@@ -146,7 +140,7 @@ impl StoredSpans {
     /// early, it starts right after the span before it.
     fn open<S: Audited>(&mut self, distance: u32, flag: bool, is_changed: bool)
         ensures { spans_stored self.new
-            ≡ opened_in distance S.gauge.longest is_changed flag (spans_stored self.old) }
+            ≡ opened_in distance S.gauge.lengths is_changed flag (spans_stored self.old) }
     {
         let is_turned = is_changed || !self.reigns.has_flag(flag);
         let is_early = is_turned && self.reigns.since_before < distance;
@@ -204,7 +198,7 @@ impl StoredSpans {
               (spans_stored self.old).reigns.content.tags_end (spans_stored self.old).broken;
         } }
     {
-        if self.reigns.tags_end > self.reigns.most {
+        if is_past(self.reigns.lengths(), self.reigns.tags_end) {
             self.broken.tag_outside = 1;
         }
     }

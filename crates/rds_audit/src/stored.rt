@@ -17,15 +17,14 @@ pub struct StoredCell {
 #[repr(C)]
 #[derive(Clone, Copy)]
 pub struct StoredReigns {
+    /// The numbers of bytes that its value can have, from 0 to 127, the first 64 in the first number: bit n for n bytes.
+    pub lengths: [u64; 2],
     pub since_last: u32,
     pub since_before: u32,
     pub since_start: u32,
     pub cells: [StoredCell; 16],
     pub is_open: u8,
     pub flag: u8,
-    /// The least and the greatest number of bytes that its value can have.
-    pub least: u8,
-    pub most: u8,
     /// The greatest end of a tag, in bytes.
     pub tags_end: u8,
     /// Whether the flag turned from each reign to the next one.

@@ -99,7 +99,7 @@ impl NoNote {
             spacing,
             cause: match fault {
                 AuditFault::NotOneText => {
-                    segment_cause(sent, current.reigns.least, current.reigns.most)
+                    segment_cause(sent, current.reigns.least(), current.reigns.most())
                 }
                 _ => None,
             },

@@ -11,6 +11,6 @@ returns-then-has g c pos sent h =
     takes_more g.S.Audited.gauge c.args.distance (Sends c.args.fragment) sent s _ _ c.none.result
     (ap (λ (r : StoredReigns). spans_stored record c.args.self.now { reigns = r }) c.renew.ensures)
     (c.none.ensures ∙ none_new s.broken)
-    (repeated_follows g.S.Audited.gauge c.exact.ensures g.met.S.Audited.few c.args.distance pos sent c.args.fragment
+    (repeated_follows g.S.Audited.gauge g.met.S.Audited.few g.met.S.Audited.some c.args.distance pos sent c.args.fragment
     _ s record { address = c.requires; four = search rules; fits = search rules } h
     (c.joins.ensures.0 c.if-joins.true) (c.has.ensures.0 c.if-has.true)) h

@@ -9,7 +9,7 @@ pub returns-then-not-joins : goal.returns-then-not-joins
 returns-then-not-joins g c pos sent h =
     takes_first g.S.Audited.gauge c.args.distance (Sends c.args.fragment) sent _ _ c.begin.result c.begin.ensures.begun
     c.begin.ensures.faults
-    (opened_follows g.S.Audited.gauge c.exact.ensures g.met.S.Audited.few c.args.distance pos sent c.args.fragment
+    (opened_follows g.S.Audited.gauge g.met.S.Audited.few g.met.S.Audited.some c.args.distance pos sent c.args.fragment
     _ (spans_stored c.args.self.now) record { address = c.requires; four = search rules; fits = search rules }
     (in_order g.S.Audited.gauge c.args.distance sent pos) h (λ on. cc (c.joins.ensures.1 on)))
 
@@ -18,7 +18,7 @@ returns-then-is_changed_by g c pos sent h =
     let begin = c.begin-then-is_changed_by.ensures in
     takes_first g.S.Audited.gauge c.args.distance (Sends c.args.fragment) sent _ _ c.begin-then-is_changed_by.result
     begin.begun begin.faults
-    (changed_follows g.S.Audited.gauge c.exact.ensures g.met.S.Audited.few c.args.distance pos sent c.args.fragment
+    (changed_follows g.S.Audited.gauge g.met.S.Audited.few g.met.S.Audited.some c.args.distance pos sent c.args.fragment
     _ (spans_stored c.args.self.now) record { address = c.requires; four = search rules; fits = search rules }
     (in_order g.S.Audited.gauge c.args.distance sent pos) h (c.joins.ensures.0 c.if-not-joins.false)
     (sym c.is_changed_by.ensures ∙ c.if-is_changed_by.true))
@@ -27,6 +27,6 @@ pub returns : goal.returns
 returns g c pos sent h =
     takes_more g.S.Audited.gauge c.args.distance (Sends c.args.fragment) sent (spans_stored c.args.self.now) _ _
     c.not_in.result c.put.ensures (rw (c.get-before.ensures, c.get.ensures) at c.not_in.ensures)
-    (joined_follows g.S.Audited.gauge c.exact.ensures g.met.S.Audited.few c.args.distance pos sent c.args.fragment
+    (joined_follows g.S.Audited.gauge g.met.S.Audited.few g.met.S.Audited.some c.args.distance pos sent c.args.fragment
     _ (spans_stored c.args.self.now) record { address = c.requires; four = search rules; fits = search rules } h
     (c.joins.ensures.0 c.if-not-joins.false) (sym c.is_changed_by.ensures ∙ c.if-is_changed_by.false)) h
