@@ -107,7 +107,7 @@ extern "C" {
 #endif
 
 /* The number of this interface. It changes with every size, offset, code or call below. */
-#define RDSRT_ABI 8
+#define RDSRT_ABI 9
 
 /* The version of this header. rdsrt_version() returns the version of the linked library. */
 #define RDSRT_VERSION_MAJOR 0
@@ -164,7 +164,7 @@ enum rdsrt_code {
 /* A receiver, an encoder and an audit. Only the library reads and writes the numbers in them. */
 struct rdsrt_receiver { uint32_t own_[66]; };
 struct rdsrt_encoder { uint32_t own_[29]; };
-struct rdsrt_audit { uint64_t own_[35]; };
+struct rdsrt_audit { uint64_t own_[39]; };
 
 /* The faults that a slot adds to the list of all faults: 1 for each of them, else 0 (RDSRT_FAULT_.. has their
  * meaning). */
@@ -402,7 +402,7 @@ RDSRT_IS_(sizeof(struct rdsrt_version) == 16 && offsetof(struct rdsrt_version, m
 RDSRT_IS_(offsetof(struct rdsrt_version, minor) == 8 && offsetof(struct rdsrt_version, patch) == 12);
 RDSRT_IS_(sizeof(struct rdsrt_receiver) == 264);
 RDSRT_IS_(sizeof(struct rdsrt_encoder) == 116);
-RDSRT_IS_(sizeof(struct rdsrt_audit) == 280);
+RDSRT_IS_(sizeof(struct rdsrt_audit) == 312);
 RDSRT_IS_(sizeof(struct rdsrt_faults) == 5 && offsetof(struct rdsrt_faults, early_flag) == 1);
 RDSRT_IS_(offsetof(struct rdsrt_faults, not_one_text) == 2 && offsetof(struct rdsrt_faults, early_tag) == 3);
 RDSRT_IS_(offsetof(struct rdsrt_faults, tag_outside) == 4);

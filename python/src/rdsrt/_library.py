@@ -5,7 +5,7 @@ import functools
 import os
 from typing import Any, Dict, Iterator, List, Tuple
 
-ABI = 8
+ABI = 9
 NAME = f"librdsrt.so.{ABI}"
 DEFAULT_DWELL = 128
 OK, DONE, BAD_ARGUMENT, SILENT, HELD, NO_TEXT, OUT_OF_TEXT_1, OUT_OF_TEXT_2 = 0, 1, 2, 3, 4, 5, 6, 7
@@ -77,8 +77,8 @@ class Version(ctypes.Structure):
     _fields_ = [("abi", u32), ("major", u32), ("minor", u32), ("patch", u32)]
 
 
-Receiver, Encoder, Audit = u32 * 66, u32 * 29, u64 * 35
-SIZES: Dict[Any, int] = {Receiver: 264, Encoder: 116, Audit: 280, Faults: 5, View: 84, OnAir: 75, Tags: 8, Reply: 8,
+Receiver, Encoder, Audit = u32 * 66, u32 * 29, u64 * 39
+SIZES: Dict[Any, int] = {Receiver: 264, Encoder: 116, Audit: 312, Faults: 5, View: 84, OnAir: 75, Tags: 8, Reply: 8,
                          Wait: 12, HeldSegments: 8, Label: 32}
 ANY = ctypes.c_void_p
 CALLS: Dict[str, Tuple[Any, List[Any]]] = {
