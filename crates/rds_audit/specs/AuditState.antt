@@ -1,12 +1,9 @@
--- The state of an audit, and how it changes. Lists have the newest first.
-use Rattle.std.specs.Prelude.{◌≡◌, ◌+◌, ◌-◌, ◌^◌, ◌==◌, ◌&&◌, ◌||◌, ℕ, Bool, true, false, Option}
-use Rattle.std.specs.Prelude.{max, min, nat_le, nat_lt, not, refl, if◌then◌else◌}
-use Rattle.std.specs.Coded.{Coded, code_by, coded×, coded_ℕ, coded_bool, coded_option}
+-- The state of a service that is audited, and how it changes. Lists have the newest first.
+use Rattle.std.specs.Prelude.{◌+◌, ◌-◌, ◌^◌, ◌&&◌, ◌||◌, ℕ, Bool, true, false}
+use Rattle.std.specs.Prelude.{max, min, nat_le, nat_lt, not, if◌then◌else◌}
 use Rattle.rds_fields.specs.Tag.{PairFields}
 use Rattle.rds_receiver.specs.declared.fragment.Fragment.{Fragment}
 use Rattle.rds_receiver.specs.Run.{is_same}
-use Rattle.rds_audit.specs.declared.audit.AuditFault.{AuditFault}
-use Rattle.rds_audit.specs.declared.audit.AuditFault.TheVariants.{Changed, NotOneText, EarlyFlag, EarlyTag, TagOutside}
 use Rattle.rds_audit.specs.declared.audited.Measured.{Measured}
 use Rattle.rds_audit.specs.declared.fault_set.FaultSet.{FaultSet}
 use Rattle.rds_audit.specs.declared.log_start.LogStart.{LogStart}
@@ -14,7 +11,7 @@ use Rattle.rds_audit.specs.declared.log_start.LogStart.TheVariants.{Complete, Ru
 use Rattle.rds_audit.specs.declared.text_form.TextForm.{TextForm}
 use Rattle.rds_audit.specs.declared.text_form.TextForm.TheVariants.{Plain, Padded}
 use Rattle.rds_audit.specs.Ages.{Ages, aged, restarted}
-use Rattle.rds_audit.specs.ReignsState.{ReignsState, joined_state, measured_in, no_content, reigns_code, tagged_state}
+use Rattle.rds_audit.specs.ReignsState.{ReignsState, joined_state, measured_in, no_content, tagged_state}
 use Rattle.rds_audit.specs.Lengths.{Gauge, is_past, pair_end}
 use Rattle.rds_audit.specs.Listing.{none_broken}
 
@@ -24,16 +21,6 @@ pub record SpansState : Type 0 where
   pub count : ℕ
   pub reigns : ReignsState
   pub broken : FaultSet
-
--- an audit: its programme, the spacing, where its log begins, the form of its texts, both services, and the first fault
-pub record AuditState : Type 0 where
-  pub programme : ℕ
-  pub distance : ℕ
-  pub start : LogStart
-  pub form : TextForm
-  pub text : SpansState
-  pub name : SpansState
-  pub fault : Option AuditFault
 
 -- ---- how the state of a service changes
 
@@ -121,98 +108,14 @@ aged_in d s = record {
   broken = s.broken;
 }
 
--- ---- the state as a value
+-- ---- bits of an audit
 
-abbrev pub fault_number : AuditFault → ℕ
-fault_number Changed = 0
-fault_number NotOneText = 1
-fault_number EarlyFlag = 2
-fault_number EarlyTag = 3
-fault_number TagOutside = 4
-
-abbrev pub numbered_fault : ℕ → AuditFault
-numbered_fault n =
-    if n == 0 then Changed
-    else if n == 1 then NotOneText
-    else if n == 2 then EarlyFlag
-    else if n == 3 then EarlyTag
-    else TagOutside
-
-pub fault_back : (f : AuditFault) → numbered_fault (fault_number f) ≡ f
-fault_back Changed = refl
-fault_back NotOneText = refl
-fault_back EarlyFlag = refl
-fault_back EarlyTag = refl
-fault_back TagOutside = refl
-
-abbrev pub fault_code : Coded AuditFault
-fault_code = code_by ℕ coded_ℕ fault_number numbered_fault fault_back
-
-abbrev pub is_running : LogStart → Bool
-is_running Complete = false
-is_running Running = true
-
+-- where a log begins: this bit says whether its station was on air before
 abbrev pub start_if : Bool → LogStart
 start_if false = Complete
 start_if true = Running
 
-pub start_back : (s : LogStart) → start_if (is_running s) ≡ s
-start_back Complete = refl
-start_back Running = refl
-
-abbrev pub start_code : Coded LogStart
-start_code = code_by Bool coded_bool is_running start_if start_back
-
-abbrev pub is_padded : TextForm → Bool
-is_padded Plain = false
-is_padded Padded = true
-
+-- the form of texts: this bit says whether they may have padding
 abbrev pub form_if : Bool → TextForm
 form_if false = Plain
 form_if true = Padded
-
-pub form_back : (f : TextForm) → form_if (is_padded f) ≡ f
-form_back Plain = refl
-form_back Padded = refl
-
-abbrev pub form_code : Coded TextForm
-form_code = code_by Bool coded_bool is_padded form_if form_back
-
-abbrev pub faults_code : Coded FaultSet
-faults_code =
-    code_by ((Bool × Bool) × (Bool × (Bool × Bool)))
-    (coded× (coded× coded_bool coded_bool) (coded× coded_bool (coded× coded_bool coded_bool)))
-    (λ f. ((f.changed, f.early_flag), (f.not_one_text, (f.early_tag, f.tag_outside))))
-    (λ p. record {
-      changed = p.0.0;
-      early_flag = p.0.1;
-      not_one_text = p.1.0;
-      early_tag = p.1.1.0;
-      tag_outside = p.1.1.1;
-    })
-    (λ _. refl)
-
-abbrev pub spans_code : Coded SpansState
-spans_code =
-    code_by (ℕ × (ReignsState × FaultSet))
-    (coded× coded_ℕ (coded× reigns_code faults_code))
-    (λ s. (s.count, (s.reigns, s.broken)))
-    (λ p. record { count = p.0; reigns = p.1.0; broken = p.1.1 })
-    (λ _. refl)
-
-abbrev pub audit_code : Coded AuditState
-audit_code =
-    code_by ((ℕ × (ℕ × (LogStart × TextForm))) × (Option AuditFault × (SpansState × SpansState)))
-    (coded× (coded× coded_ℕ (coded× coded_ℕ (coded× start_code form_code)))
-    (coded× (coded_option fault_code) (coded× spans_code spans_code)))
-    (λ l. ((l.programme, (l.distance, (l.start, l.form))), (l.fault, (l.text, l.name))))
-    (λ p. record {
-      programme = p.0.0;
-      distance = p.0.1.0;
-      start = p.0.1.1.0;
-      form = p.0.1.1.1;
-      text = p.1.1.0;
-      name = p.1.1.1;
-      fault = p.1.0;
-    })
-    (λ _. refl)

@@ -1,7 +1,6 @@
 -- The state of the reigns of a service.
 use Rattle.std.specs.Prelude.{◌&&◌, ℕ, Bool, List, Option, Some, None, max, not}
-use Rattle.std.specs.Prelude.{refl, replicate, slice_index_or, slice_set}
-use Rattle.std.specs.Coded.{Coded, code_by, coded×, coded_ℕ, coded_bool, coded_list, coded_option}
+use Rattle.std.specs.Prelude.{replicate, slice_index_or, slice_set}
 use Rattle.rds_fields.specs.Tag.{PairFields}
 use Rattle.rds_audit.specs.Ages.{Ages}
 use Rattle.rds_audit.specs.declared.audited.Measured.{Measured}
@@ -52,29 +51,3 @@ joined_state lengths address bytes st =
 -- the state after tags were sent
 abbrev pub tagged_state : PairFields → ReignsState → ReignsState
 tagged_state pair st = record { ages = record st.ages { since_last = 0 }; content = tagged pair st.content }
-
-abbrev pub content_code : Coded ContentState
-content_code =
-    code_by (List (Option (List ℕ)) × (ℕ × ℕ))
-    (coded× (coded_list (coded_option (coded_list coded_ℕ))) (coded× coded_ℕ coded_ℕ))
-    (λ c. (c.cells, (c.lengths, c.tags_end))) (λ p. record { cells = p.0; lengths = p.1.0; tags_end = p.1.1 })
-    (λ _. refl)
-
-abbrev pub ages_code : Coded Ages
-ages_code =
-    code_by ((Bool × (Bool × Bool)) × (ℕ × (ℕ × ℕ)))
-    (coded× (coded× coded_bool (coded× coded_bool coded_bool)) (coded× coded_ℕ (coded× coded_ℕ coded_ℕ)))
-    (λ a. ((a.is_open, (a.flag, a.turns)), (a.since_last, (a.since_before, a.since_start))))
-    (λ p. record {
-      is_open = p.0.0;
-      flag = p.0.1.0;
-      turns = p.0.1.1;
-      since_last = p.1.0;
-      since_before = p.1.1.0;
-      since_start = p.1.1.1;
-    })
-    (λ _. refl)
-
-abbrev pub reigns_code : Coded ReignsState
-reigns_code = code_by (Ages × ContentState) (coded× ages_code content_code) (λ r. (r.ages, r.content))
-    (λ p. record { ages = p.0; content = p.1 }) (λ _. refl)

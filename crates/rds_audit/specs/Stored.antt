@@ -1,17 +1,19 @@
--- An audit stored as plain numbers (this project's own form).
+-- What the numbers of an audit mean (this project's own form).
 use Rattle.std.specs.Prelude.{ℕ, ◌+◌, ◌*◌, ◌^◌, ◌≤◌, ◌==◌, List, Option, Some, None, map, slice_index, if◌then◌else◌}
 use Rattle.rds_fields.specs.Stored.{is_set}
 use Rattle.rds_audit.specs.Ages.{Ages}
 use Rattle.rds_audit.specs.ReignsState.{ContentState, ReignsState}
-use Rattle.rds_audit.specs.AuditState.{AuditState, SpansState, form_if, start_if}
+use Rattle.rds_audit.specs.AuditState.{SpansState, form_if, start_if}
+use Rattle.rds_audit.specs.declared.audit.Audit.{Audit}
 use Rattle.rds_audit.specs.declared.audit.AuditFault.{AuditFault}
 use Rattle.rds_audit.specs.declared.audit.AuditFault.TheVariants.{Changed, NotOneText, EarlyFlag, EarlyTag, TagOutside}
 use Rattle.rds_audit.specs.declared.stored.StoredCell.{StoredCell}
 use Rattle.rds_audit.specs.declared.fault_set.FaultSet.{FaultSet}
-use Rattle.rds_audit.specs.declared.stored.StoredAudit.{StoredAudit}
+use Rattle.rds_audit.specs.declared.log_start.LogStart.{LogStart}
 use Rattle.rds_audit.specs.declared.stored.StoredFaults.{StoredFaults}
 use Rattle.rds_audit.specs.declared.stored.StoredReigns.{StoredReigns}
 use Rattle.rds_audit.specs.declared.stored.StoredSpans.{StoredSpans}
+use Rattle.rds_audit.specs.declared.text_form.TextForm.{TextForm}
 
 abbrev pub cell_stored : StoredCell → Option (List ℕ)
 cell_stored c = if is_set c.is_sent then Some c.bytes else None
@@ -71,16 +73,17 @@ spans_stored s = record {
   broken = faults_stored s.broken;
 }
 
-abbrev pub audit_stored : StoredAudit → AuditState
-audit_stored l = record {
-  programme = l.pi;
-  distance = l.distance;
-  start = start_if (is_set l.is_running);
-  form = form_if (is_set l.is_padded);
-  text = spans_stored l.text;
-  name = spans_stored l.name;
-  fault = fault_stored l.fault;
-}
+-- the first fault that the audit found, if it found one
+abbrev pub fault_of : Audit → Option AuditFault
+fault_of a = fault_stored a.fault
+
+-- where the log of the audit begins
+abbrev pub start_of : Audit → LogStart
+start_of a = start_if (is_set a.is_running)
+
+-- the form of its texts
+abbrev pub form_of : Audit → TextForm
+form_of a = form_if (is_set a.is_padded)
 
 -- each number is 0 or 1
 pub record AreBits (f : StoredFaults) : Type 0 where

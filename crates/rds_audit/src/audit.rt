@@ -1,19 +1,18 @@
 //! The audit: it takes a log slot by slot, and finds the rule that the log breaks first, or all faults of the log.
-ghost use Rattle.std.specs.Prelude.{◌≡◌, ◌+◌, ◌-◌, ◌^◌, [], ℕ, None, length, min};
+ghost use Rattle.std.specs.Prelude.{◌≡◌, ◌+◌, ◌-◌, ◌^◌, [], None, length, min};
 ghost use Rattle.rds_audit.specs.declared.log_start.LogStart.TheVariants as LogStart;
 ghost use Rattle.rds_audit.specs.declared.text_form.TextForm.TheVariants as TextForm;
 ghost use Rattle.rds_audit.specs.AuditAt.{AuditAt, FollowsLog, WhereItFollows};
 ghost use Rattle.rds_audit.specs.Lengths.{gauge_of, name_gauge};
 ghost use Rattle.rds_audit.specs.Listing.{spans};
-ghost use Rattle.rds_audit.specs.Stored.{audit_stored};
+ghost use Rattle.rds_audit.specs.Stored.{fault_of, form_of, start_of};
 ghost use Rattle.rds_safety.specs.Marks.{marks, name_mark, text_mark};
 
 use crate::audited::Names;
 use crate::content::is_complete_text;
-use crate::stored::{StoredAudit, StoredSpans};
+use crate::stored::StoredSpans;
 use crate::{LogStart, TextForm};
 use rds_fields::{Distance, Dwell, Late};
-use std::marker::Model;
 use thiserror::Error;
 
 /// The rule that a log breaks first (this project's own rules).
@@ -43,20 +42,24 @@ pub enum AuditFault {
 /// It holds ages that stop at a limit, and no slot numbers, so a log may have any number of slots. `AuditAt`
 /// relates an audit to its log. A new audit stands at the empty log, and each `slot` adds its slot to the log. So does
 /// each `all_faults`, which goes on after a fault: then the audit follows the log (`FollowsLog`).
-#[derive(Drop)]
+///
+/// It is plain numbers, so a program may store it. Contracts describe its answers only if its numbers come from a log.
+#[repr(C)]
+#[derive(Clone, Copy)]
 pub struct Audit {
-    pub(crate) state: StoredAudit,
-}
-
-impl Model for Audit {
-    ghost use Rattle.rds_audit.specs.AuditState.{AuditState, audit_code};
-    ghost use Rattle.rds_audit.specs.Stored.{audit_stored};
-
-    ghost Value = { AuditState };
-
-    ghost coded = { audit_code };
-
-    ghost view = { λ a. audit_stored a.state };
+    /// The number of pairs of tags that were judged so far. It stops at 2^64 - 1.
+    pub tags: u64,
+    pub text: StoredSpans,
+    pub name: StoredSpans,
+    /// The spacing d in slots: the dwell plus the lateness.
+    pub distance: u32,
+    pub pi: u16,
+    /// The number of the first fault that was found, 0 if there is none.
+    pub fault: u8,
+    /// Whether the station was on air before the log began.
+    pub is_running: u8,
+    /// Whether texts may have padding.
+    pub is_padded: u8,
 }
 
 impl Audit {
@@ -65,9 +68,9 @@ impl Audit {
     pub fn new(pi: u16, dwell: Dwell, late: Late) -> Audit
         ensures stands { AuditAt pi (dwell + late) result [] }
         ensures follows { FollowsLog pi (dwell + late) result [] }
-        ensures passed { result.fault ≡ None }
-        ensures start { result.start ≡ LogStart.Complete }
-        ensures form { result.form ≡ TextForm.Plain }
+        ensures passed { fault_of result ≡ None }
+        ensures start { start_of result ≡ LogStart.Complete }
+        ensures form { form_of result ≡ TextForm.Plain }
     {
         Audit::starting(pi, dwell, late, LogStart::Complete, TextForm::Plain)
     }
@@ -76,46 +79,30 @@ impl Audit {
     pub fn starting(pi: u16, dwell: Dwell, late: Late, start: LogStart, form: TextForm) -> Audit
         ensures stands { AuditAt pi (dwell + late) result [] }
         ensures follows { FollowsLog pi (dwell + late) result [] }
-        ensures passed { result.fault ≡ None }
-        ensures start { result.start ≡ start }
-        ensures form { result.form ≡ form }
+        ensures passed { fault_of result ≡ None }
+        ensures start { start_of result ≡ start }
+        ensures form { form_of result ≡ form }
     {
         let distance = Distance::new(dwell, late);
         Audit {
-            state: StoredAudit {
-                tags: 0,
-                text: StoredSpans::of_texts(distance, start, form),
-                name: StoredSpans::new::<Names>(distance, start),
-                distance: distance.get(),
-                pi,
-                fault: AuditFault::code(None),
-                is_running: start.stored(),
-                is_padded: form.stored(),
-            },
+            tags: 0,
+            text: StoredSpans::of_texts(distance, start, form),
+            name: StoredSpans::new::<Names>(distance, start),
+            distance: distance.get(),
+            pi,
+            fault: AuditFault::code(None),
+            is_running: start.stored(),
+            is_padded: form.stored(),
         }
-    }
-
-    /// Rebuilds a stored audit.
-    pub fn restore(stored: &StoredAudit) -> Audit
-        ensures { result ≡ audit_stored stored.now }
-    {
-        Audit { state: *stored }
-    }
-
-    /// Stores the audit as plain numbers.
-    pub fn store(&self) -> StoredAudit
-        ensures { audit_stored result ≡ self.now }
-    {
-        self.state
     }
 
     /// Returns how many texts the log has so far. A text that changed its bytes without the flag counts as two. The
     /// number stops at 2^64 - 1.
     pub fn texts(&self) -> u64
         ensures { WhereItFollows self.now (λ d heard. result
-            ≡ min (length (spans (gauge_of self.now.form) d (marks text_mark heard))) (2 ^ 64 - 1)) }
+            ≡ min (length (spans (gauge_of (form_of self.now)) d (marks text_mark heard))) (2 ^ 64 - 1)) }
     {
-        self.state.text.count
+        self.text.count
     }
 
     /// Returns how many names the log has so far, as for texts.
@@ -123,24 +110,24 @@ impl Audit {
         ensures { WhereItFollows self.now (λ d heard. result
             ≡ min (length (spans name_gauge d (marks name_mark heard))) (2 ^ 64 - 1)) }
     {
-        self.state.name.count
+        self.name.count
     }
 
     /// Returns how many texts were complete so far, for a person: receivers show no other text. The number stops at
     /// 2^32. No contract speaks of it.
     pub fn complete_texts(&self) -> u64 {
-        let text = &self.state.text;
+        let text = &self.text;
         u64::from(text.complete) + u64::from(is_complete_text(&text.reigns.cells))
     }
 
     /// Returns whether some text has all segments of the current text, with padding, for a person: if not, receivers
     /// show a mistake too. No contract speaks of it.
     pub fn fits_padded(&self) -> bool {
-        self.state.text.reigns.fits_padded()
+        self.text.reigns.fits_padded()
     }
 
     /// Returns how many pairs of tags were judged so far, for a person. No contract speaks of it.
     pub fn tags(&self) -> u64 {
-        self.state.tags
+        self.tags
     }
 }

@@ -14,6 +14,7 @@ ghost use Rattle.rds_audit.specs.Dense.{HasPlans};
 ghost use Rattle.rds_audit.specs.FlagLaws.{NamesAreSafeByFlag, TextsAreSafeByFlag};
 ghost use Rattle.rds_audit.specs.Reigns.{AlternateFlags, reigns};
 ghost use Rattle.rds_audit.specs.Rules.{LogPasses};
+ghost use Rattle.rds_audit.specs.Stored.{fault_of, form_of, spans_stored, start_of};
 ghost use Rattle.rds_safety.specs.Marks.{marks, name_mark, text_mark};
 
 use crate::audited::Names;
@@ -42,7 +43,7 @@ impl Audit {
     pub fn slot_blocks(&mut self, group: Option<Blocks>) -> Result<(), AuditFault>
         ensures { AuditTakesSlot self.old self.new group result }
     {
-        if let Some(known) = AuditFault::of_code(self.state.fault) {
+        if let Some(known) = AuditFault::of_code(self.fault) {
             return Err(known);
         }
         match self.all_faults(group).first() {
@@ -72,48 +73,50 @@ impl Audit {
     /// at most K slots late. The log of a running station is safe as it is: its receivers may hear the tags before its
     /// first text segment.
     pub fn passed(&self) -> bool
-        ensures fault { IsTrue result ↔ (self.now.fault ≡ None) }
-        ensures passes { WhereTheAuditStands self.now (λ d heard. IsTrue result ↔ LogPasses self.now.form d heard) }
-        ensures plans { WhereTheAuditStands self.now (λ d heard. IsTrue result ↔ HasPlans self.now.form d heard) }
+        ensures fault { IsTrue result ↔ (fault_of self.now ≡ None) }
+        ensures passes { WhereTheAuditStands self.now (λ d heard.
+            IsTrue result ↔ LogPasses (form_of self.now) d heard) }
+        ensures plans { WhereTheAuditStands self.now (λ d heard.
+            IsTrue result ↔ HasPlans (form_of self.now) d heard) }
         ensures safe { WhereTheAuditStands self.now (λ d heard. (m k : ℕ) → 0 < m → m + k ≡ d
-            → IsTrue result → IsSafeLog self.now.form m k heard) }
+            → IsTrue result → IsSafeLog (form_of self.now) m k heard) }
         ensures recording { (pi m k : ℕ) (log : List (Option Group)) → AuditAt pi (m + k) self.now log
-            → self.now.start ≡ LogStart.Running → 0 < m → IsTrue result
-            → IsSafeRecording self.now.form m k (heard_of pi log) }
+            → start_of self.now ≡ LogStart.Running → 0 < m → IsTrue result
+            → IsSafeRecording (form_of self.now) m k (heard_of pi log) }
     {
         // Prover: calls of laws, which give the clauses `plans`, `safe` and `recording` (docs/PROVER.md, "Idioms").
         passes_by_plans();
         what_passes_is_safe();
         what_passes_as_a_recording_is_safe();
-        self.state.fault == 0
+        self.fault == 0
     }
 
     /// Returns whether the log passes so far and turned the A/B flag with each new text. A receiver of such a log that
     /// has no dwell, and heard a segment of each text, shows no mix.
     pub fn texts_turn_the_flag(&self) -> bool
         ensures turns { WhereTheAuditStands self.now (λ d heard. IsTrue result
-            ↔ (LogPasses self.now.form d heard × AlternateFlags (reigns d (marks text_mark heard)))) }
-        ensures safe { WhereTheAuditStands self.now (λ d heard. self.now.form ≡ TextForm.Plain → IsTrue result
+            ↔ (LogPasses (form_of self.now) d heard × AlternateFlags (reigns d (marks text_mark heard)))) }
+        ensures safe { WhereTheAuditStands self.now (λ d heard. form_of self.now ≡ TextForm.Plain → IsTrue result
             → TextsAreSafeByFlag d heard) }
     {
         // Prover: calls of laws (docs/PROVER.md, "Idioms").
         the_list_judges_the_reigns();
         what_passes_is_safe_by_the_flag();
-        self.passed() && self.state.text.reigns.turns != 0
+        self.passed() && self.text.reigns.turns != 0
     }
 
     /// Returns whether the log passes so far and turned the A/B flag with each new name. A receiver of such a log that
     /// has no dwell, and heard a segment of each name, shows no mix.
     pub fn names_turn_the_flag(&self) -> bool
         ensures turns { WhereTheAuditStands self.now (λ d heard. IsTrue result
-            ↔ (LogPasses self.now.form d heard × AlternateFlags (reigns d (marks name_mark heard)))) }
-        ensures safe { WhereTheAuditStands self.now (λ d heard. self.now.form ≡ TextForm.Plain → IsTrue result
+            ↔ (LogPasses (form_of self.now) d heard × AlternateFlags (reigns d (marks name_mark heard)))) }
+        ensures safe { WhereTheAuditStands self.now (λ d heard. form_of self.now ≡ TextForm.Plain → IsTrue result
             → NamesAreSafeByFlag d heard) }
     {
         // Prover: calls of laws (docs/PROVER.md, "Idioms").
         the_list_judges_the_reigns();
         what_passes_is_safe_by_the_flag();
-        self.passed() && self.state.name.reigns.turns != 0
+        self.passed() && self.name.reigns.turns != 0
     }
 
     /// Takes the group of this slot, if it is one of the programme.
@@ -121,10 +124,10 @@ impl Audit {
     #[tactic(auto, using(crate::proofs::ListingSteps::nothing_listed, crate::proofs::Recordings::nothing_counts))]
     fn hear_group(&mut self, group: Option<Blocks>) -> FaultSet
         ensures keeps { KeepsLog self.old self.new }
-        ensures fault { self.new.fault ≡ self.old.fault }
-        ensures lists { ListsMessage self.old self.new (heard_in self.old.programme group) result }
+        ensures fault { fault_of self.new ≡ fault_of self.old }
+        ensures lists { ListsMessage self.old self.new (heard_in self.old.pi group) result }
     {
-        match heard_blocks(self.state.pi, group) {
+        match heard_blocks(self.pi, group) {
             Some(message) => self.hear(message),
             None => FaultSet::none(),
         }
@@ -135,17 +138,17 @@ impl Audit {
     #[inline(always)]
     fn hear(&mut self, message: Message) -> FaultSet
         ensures keeps { KeepsLog self.old self.new }
-        ensures fault { self.new.fault ≡ self.old.fault }
+        ensures fault { fault_of self.new ≡ fault_of self.old }
         ensures lists { ListsMessage self.old self.new (Some message) result }
     {
-        let distance = self.state.distance;
+        let distance = self.distance;
         match message {
             Message::Text {
                 flag,
                 address,
                 bytes,
-            } => self.state.text.take_text(
-                self.state.is_padded,
+            } => self.text.take_text(
+                self.is_padded,
                 distance,
                 Fragment::new(flag, address, bytes),
             ),
@@ -154,17 +157,14 @@ impl Audit {
                 address,
                 bytes,
             } => self
-                .state
                 .name
                 .take::<Names>(distance, Fragment::new(flag, address, bytes)),
             Message::Tags(pair) => {
                 if self.awaits_text() {
                     FaultSet::none()
                 } else {
-                    self.state.tags = self.state.tags.saturating_add(1);
-                    self.state
-                        .text
-                        .take_text_tags(self.state.is_padded, distance, pair)
+                    self.tags = self.tags.saturating_add(1);
+                    self.text.take_text_tags(self.is_padded, distance, pair)
                 }
             }
             Message::Announce { .. } | Message::Other => FaultSet::none(),
@@ -173,12 +173,12 @@ impl Audit {
 
     /// Returns whether the station was on air before the log began, and no text segment came yet.
     fn awaits_text(&self) -> bool
-        ensures early { result ≡ true → (self.now.start ≡ LogStart.Running)
-            × (self.now.text.reigns.ages.is_open ≡ false) }
-        ensures begun { result ≡ false → (self.now.start ≡ LogStart.Complete)
-            ⊎ (self.now.text.reigns.ages.is_open ≡ true) }
+        ensures early { result ≡ true → (start_of self.now ≡ LogStart.Running)
+            × ((spans_stored self.now.text).reigns.ages.is_open ≡ false) }
+        ensures begun { result ≡ false → (start_of self.now ≡ LogStart.Complete)
+            ⊎ ((spans_stored self.now.text).reigns.ages.is_open ≡ true) }
     {
-        self.state.is_running != 0 && self.state.text.reigns.is_open == 0
+        self.is_running != 0 && self.text.reigns.is_open == 0
     }
 
     /// Ends a slot that adds this fault first. The fault is kept if there was none before.
@@ -186,12 +186,12 @@ impl Audit {
     #[inline(never)]
     fn end_faulty(&mut self, fault: Option<AuditFault>)
         ensures keeps { KeepsLog self.old self.new }
-        ensures first { self.old.fault ≡ None → self.new.fault ≡ fault }
-        ensures again { (known : AuditFault) → self.old.fault ≡ Some known → self.new.fault ≡ Some known }
+        ensures first { fault_of self.old ≡ None → fault_of self.new ≡ fault }
+        ensures again { (known : AuditFault) → fault_of self.old ≡ Some known → fault_of self.new ≡ Some known }
         ensures holds { EndsSlot self.old self.new }
     {
-        if self.state.fault == 0 {
-            self.state.fault = AuditFault::code(fault);
+        if self.fault == 0 {
+            self.fault = AuditFault::code(fault);
         }
         self.end_slot();
     }
@@ -199,11 +199,11 @@ impl Audit {
     /// Ends the slot.
     fn end_slot(&mut self)
         ensures keeps { KeepsLog self.old self.new }
-        ensures fault { self.new.fault ≡ self.old.fault }
+        ensures fault { fault_of self.new ≡ fault_of self.old }
         ensures holds { EndsSlot self.old self.new }
     {
-        let distance = self.state.distance;
-        self.state.text.grow_older(distance);
-        self.state.name.grow_older(distance);
+        let distance = self.distance;
+        self.text.grow_older(distance);
+        self.name.grow_older(distance);
     }
 }

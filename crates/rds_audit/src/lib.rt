@@ -23,5 +23,5 @@ pub use audit_laws::{
 pub use content::is_complete_text;
 pub use fault_set::{FAULTS, FaultSet};
 pub use log_start::LogStart;
-pub use stored::{StoredAudit, StoredCell, StoredFaults, StoredReigns, StoredSpans};
+pub use stored::{StoredCell, StoredFaults, StoredReigns, StoredSpans};
 pub use text_form::TextForm;

@@ -1,5 +1,5 @@
-//! The state of an audit, as plain numbers: a program may store it, and each slot changes it in place. A bit is 0 for
-//! no and any other number for yes.
+//! The parts of an audit, as plain numbers: a program may store them, and each slot changes them in place. A bit is 0
+//! for no and any other number for yes.
 ghost use Rattle.std.specs.Prelude.{◌≡◌};
 ghost use Rattle.rds_audit.specs.Stored.{code_of_fault, fault_stored};
 
@@ -58,26 +58,6 @@ pub struct StoredSpans {
     pub broken: StoredFaults,
     /// The number of complete texts before the current one. It stops at 2^32 - 1. No contract speaks of it.
     pub complete: u32,
-}
-
-/// The plain numbers of an [`Audit`](crate::Audit). Any numbers make an audit. Contracts describe its answers only if
-/// its numbers come from a log.
-#[repr(C)]
-#[derive(Clone, Copy)]
-pub struct StoredAudit {
-    /// The number of pairs of tags that were judged so far. It stops at 2^64 - 1.
-    pub tags: u64,
-    pub text: StoredSpans,
-    pub name: StoredSpans,
-    /// The spacing d in slots: the dwell plus the lateness.
-    pub distance: u32,
-    pub pi: u16,
-    /// The number of the first fault that was found, 0 if there is none.
-    pub fault: u8,
-    /// Whether the station was on air before the log began.
-    pub is_running: u8,
-    /// Whether texts may have padding.
-    pub is_padded: u8,
 }
 
 impl AuditFault {

@@ -56,7 +56,7 @@ fn all_faults_of_a_text(rt: HostRuntime) -> Result<(), Fail> {
     Ok(())
 }
 
-/// A segment or a tag that fits no text is kept, and the stored numbers go on with it.
+/// A segment or a tag that fits no text is kept, and the audit goes on with it.
 #[test]
 fn what_fits_no_text(rt: HostRuntime) -> Result<(), Fail> {
     let mut audit = audit_of(2)?;
@@ -82,7 +82,6 @@ fn what_fits_no_text(rt: HostRuntime) -> Result<(), Fail> {
         (Some(past_the_return), FaultSet::none()),
     ] {
         let group = blocks.map(|words| Blocks::new(words));
-        audit = Audit::restore(&audit.store());
         same(&rt, audit.all_faults(group), faults);
     }
     Ok(())

@@ -1,4 +1,4 @@
-//! Tests that an audit keeps its fault, and continues from its stored numbers.
+//! Tests that an audit keeps its fault, and that a copy continues. An audit is plain numbers, which a program may store.
 
 use crate::same::same;
 use rds_audit::{Audit, AuditFault};
@@ -10,20 +10,19 @@ fn text(flags: u16, bytes: u16) -> Option<Group> {
     Some(Group::from_blocks([0xC201, flags, bytes, 0x0D20]))
 }
 
-/// A restored audit finds the fault of the whole log, and keeps it, whatever is sent. The tests of the built program
-/// have worked logs.
+/// A copy finds the fault of the whole log, and keeps it, whatever is sent. The tests of the built program have worked
+/// logs.
 #[test]
 fn goes_on_from_what_is_stored(rt: HostRuntime) -> Result<(), Fail> {
     let dwell = Dwell::new(8).ok_or("dwell")?;
     let mut audit = Audit::new(0xC201, dwell, Late::new(0).ok_or("late")?);
     same(&rt, audit.slot(text(0x2140, 0x4849)), Ok(()));
-    let mut audit = Audit::restore(&audit.store());
+    let mut audit = audit;
     same(&rt, audit.slot(text(0x2150, 0x594F)), Ok(()));
     assert!(rt; audit.passed());
-    let mut audit = Audit::restore(&audit.store());
     let early = audit.slot(text(0x2140, 0x4849));
     same(&rt, early, Err(AuditFault::EarlyFlag));
-    let mut audit = Audit::restore(&audit.store());
+    let mut audit = audit;
     for sent in [
         None,
         text(0x2140, 0x4849),
@@ -64,7 +63,6 @@ fn flag_that_does_not_turn(rt: HostRuntime) -> Result<(), Fail> {
         (text(0x2150, 0x594F), Err(AuditFault::Changed), false, false),
     ] {
         same(&rt, audit.slot(sent), fault);
-        audit = Audit::restore(&audit.store());
         same(&rt, audit.passed(), fault.is_ok());
         same(&rt, audit.texts_turn_the_flag(), texts);
         same(&rt, audit.names_turn_the_flag(), names);

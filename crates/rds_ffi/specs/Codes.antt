@@ -1,5 +1,8 @@
 -- The codes that the calls return, by their names in C, and the number of this interface (this project's own).
-use Rattle.std.specs.Prelude.{◌≡◌, ◌==◌, ◌||◌, ℕ, Option, Some, None, Ok, Err}
+use Rattle.std.specs.Prelude.{◌≡◌, ◌==◌, ◌||◌, ℕ, List, Option, Some, None, Result, Ok, Err, MatchOption}
+use Rattle.rds_fields.specs.declared.message.Message.{Message}
+use Rattle.rds_audit.specs.Listing.{IsFaultOf}
+use Rattle.rds_audit.specs.Rules.{LogPasses}
 use Rattle.rds_audit.specs.AuditState.{form_if, start_if}
 use Rattle.rds_audit.specs.declared.log_start.LogStart.{LogStart}
 use Rattle.rds_audit.specs.declared.text_form.TextForm.{TextForm}
@@ -132,3 +135,17 @@ code_of (Some NotOneText) = RDSRT_FAULT_NOT_ONE_TEXT
 code_of (Some EarlyFlag) = RDSRT_FAULT_EARLY_FLAG
 code_of (Some EarlyTag) = RDSRT_FAULT_EARLY_TAG
 code_of (Some TagOutside) = RDSRT_FAULT_TAG_OUTSIDE
+
+-- the fault of a result
+abbrev pub fault_in : Result (Unit {0}) AuditFault → Option AuditFault
+fault_in (Ok done) = None
+fault_in (Err fault) = Some fault
+
+-- the code is that of the fault of the log, or says that it passes
+abbrev pub Tells : TextForm → ℕ → ℕ → List (Option Message) → Type 0
+Tells form code d heard = (found : Option AuditFault) × (code ≡ code_of found)
+    × MatchOption found (LogPasses form d heard) (λ fault. IsFaultOf form d heard fault)
+
+-- the code is that of a fault, or the code for no fault
+abbrev pub IsFaultCode : ℕ → Type 0
+IsFaultCode code = (found : Option AuditFault) × (code ≡ code_of found)

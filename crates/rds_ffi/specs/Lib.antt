@@ -9,6 +9,5 @@ pub mod Viewed
 pub mod Tagged
 pub mod Texts
 pub mod Held
--- The objects in the caller's memory.
+-- The encoder in the caller's memory.
 pub mod EncoderInMemory
-pub mod AuditInMemory

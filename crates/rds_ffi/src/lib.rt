@@ -24,7 +24,7 @@ const _: () = prove!(size_of::<rds_receiver::Receiver>() == 264);
 
 const _: () = prove!(size_of::<rds_encoder::StoredEncoder>() == 116);
 
-const _: () = prove!(size_of::<rds_audit::StoredAudit>() == 312);
+const _: () = prove!(size_of::<rds_audit::Audit>() == 312);
 
 const _: () = prove!(size_of::<rds_audit::StoredFaults>() == 5);
 

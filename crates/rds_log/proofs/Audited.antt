@@ -10,16 +10,16 @@ use Rattle.rds_io.specs.declared.told.WriteFault.{WriteFault}
 use Rattle.rds_io.proofs.Waiting.{waits_more, wrote_all}
 use Rattle.rds_audit.specs.Judging.{judged_step}
 use Rattle.rds_fields.specs.TagGroup.{exchanged_in}
-use Rattle.rds_audit.specs.AuditAt.{AuditAt, FollowsLog, HasJudged, TakesAll}
-use Rattle.rds_audit.specs.AuditState.{AuditState}
+use Rattle.rds_audit.specs.AuditAt.{AuditAt, FollowsLog, TakesAll}
+use Rattle.rds_audit.specs.Stored.{fault_of, form_of, start_of}
+use Rattle.rds_audit.specs.declared.audit.Audit.{Audit}
 use Rattle.rds_audit.specs.Recording.{judged_as}
-use Rattle.rds_fields.specs.declared.message.Message.{Message}
 use Rattle.rds_receiver.specs.Receipts.{heard_in, heard_of}
 use Rattle.rds_audit.specs.Listing.{IsFaultOf, first_of, none_broken}
 use Rattle.rds_audit.specs.declared.audit.AuditFault.{AuditFault}
 use Rattle.rds_audit.specs.declared.audit.AuditFault.TheVariants.{Changed, NotOneText, EarlyFlag, EarlyTag, TagOutside}
 use Rattle.rds_audit.specs.declared.fault_set.FaultSet.{FaultSet}
-use Rattle.rds_log.specs.Audit.{SlotsFail, SlotsPass, judged, spacing}
+use Rattle.rds_log.specs.Audit.{SlotsFail, SlotsPass, spacing}
 use Rattle.rds_log.specs.FaultList.{AreFaultsOf, AnswersYes, Audits, BeginsWithNo, FindsFaults, IsNo, LinesAnswer}
 use Rattle.rds_log.specs.FaultList.{LinesGoOn, SaysNo, fault_lines, lines_for, no_line, yes_line}
 use Rattle.rds_log.specs.Inside.Auditor.{HasAudited}
@@ -37,25 +37,21 @@ use Rattle.rds_log.specs.declared.log_line.LogLine.TheVariants.{Skip, Slot}
 -- ---- the slots
 
 -- what an audit without a fault took passes
-pub slots_pass : (a : Auditing) (state : AuditState) (slots : List (Option Group))
-    → AuditAt a.pi (spacing a) state slots → state.start ≡ a.start → state.form ≡ a.form → state.fault ≡ None
+pub slots_pass : (a : Auditing) (state : Audit) (slots : List (Option Group))
+    → AuditAt a.pi (spacing a) state slots → start_of state ≡ a.start → form_of state ≡ a.form → fault_of state ≡ None
     → SlotsPass a slots
 slots_pass a state slots s begins form none = grind arith
 
 -- slots that fail with the newest one
-pub fails_at : (a : Auditing) (state after : AuditState) (number : ℕ) (slots : List (Option Group))
+pub fails_at : (a : Auditing) (state after : Audit) (number : ℕ) (slots : List (Option Group))
     (slot : Option Group) (fault : AuditFault)
-    → AuditAt a.pi (spacing a) state slots → state.start ≡ a.start → state.form ≡ a.form → state.fault ≡ None
+    → AuditAt a.pi (spacing a) state slots → start_of state ≡ a.start → form_of state ≡ a.form → fault_of state ≡ None
     → number ≡ length slots
-    → after.start ≡ a.start → after.form ≡ a.form
-    → IsFaultOf after.form (spacing a) (judged_as after.start (spacing a) (heard_of a.pi (slot ∷ slots))) fault
+    → start_of after ≡ a.start → form_of after ≡ a.form
+    → IsFaultOf (form_of after) (spacing a) (judged_as (start_of after) (spacing a) (heard_of a.pi (slot ∷ slots)))
+    fault
     → SlotsFail a number fault (slot ∷ slots)
 fails_at a state after number slots slot fault s begins form passed count start same is = grind arith
-
--- the fault in the state of an audit is that of its log
-pub fault_of : (d : ℕ) (state : AuditState) (fault : AuditFault) (judged : List (Option Message))
-    → state.fault ≡ Some fault → HasJudged d state judged → IsFaultOf state.form d judged fault
-fault_of d state fault judged some has = grind arith
 
 -- ---- the lines of a slot
 
@@ -123,9 +119,9 @@ adds a LogEnd (Some fault) (Some other) t slots slot all found wants had first a
     }
 
 -- what one more slot adds
-faults_of_more : (a : Auditing) (l after : AuditState) (slots : List (Option Group)) (slot : Option Group)
-    (faults : List FaultSet) (found : FaultSet) → FollowsLog a.pi (spacing a) l slots → l.start ≡ a.start
-    → l.form ≡ a.form → TakesAll l after slot found → AreFaultsOf a slots faults
+faults_of_more : (a : Auditing) (l after : Audit) (slots : List (Option Group)) (slot : Option Group)
+    (faults : List FaultSet) (found : FaultSet) → FollowsLog a.pi (spacing a) l slots → start_of l ≡ a.start
+    → form_of l ≡ a.form → TakesAll l after slot found → AreFaultsOf a slots faults
     → AreFaultsOf a (slot ∷ slots) (found ∷ faults)
 faults_of_more a l after slots slot faults found s begins form takes of =
     let step = judged_step a.start (spacing a) (heard_in a.pi slot) (heard_of a.pi slots) in
@@ -158,11 +154,12 @@ takes_slot a l after w out now lines line said slot found says read rtplus taken
     let each = s.list.are.each in
     let wanted = λ (first : a.stop ≡ FirstFault). s.wants (not_true l.is_done goes_on) first in
     let stands = takes.stands a.pi (spacing a) s.slots s.audit.at in
-    let further : Says a.stop a after.audit.fault (slot ∷ s.slots) (taken.total ++ lines_for a.stop l.slots found) =
-    adds a a.stop l.audit.fault after.audit.fault l.slots s.slots slot taken.total found wanted s.first takes.first
+    let known = fault_of after.audit in
+    let further : Says a.stop a known (slot ∷ s.slots) (taken.total ++ lines_for a.stop l.slots found) =
+    adds a a.stop (fault_of l.audit) known l.slots s.slots slot taken.total found wanted s.first takes.first
     takes.again (slots_pass a after.audit (slot ∷ s.slots) stands begins form)
     (λ fault none some. fails_at a l.audit after.audit l.slots s.slots slot fault s.audit.at s.begins s.form none
-    s.count begins form (fault_of (spacing a) after.audit fault _ some stands.holds)) in
+    s.count begins form (simp some at stands.holds)) in
     record {
       total = taken.total ++ lines_for a.stop l.slots found;
       took = record {
@@ -179,7 +176,7 @@ takes_slot a l after w out now lines line said slot found says read rtplus taken
           are = faults_of_more a l.audit after.audit s.slots slot s.list.faults found s.audit s.begins s.form
               takes s.list.are;
           lines = rw (s.list.lines, count, each) refl;
-          answer = answer_of a after.audit.fault (slot ∷ s.slots) _ further;
+          answer = answer_of a known (slot ∷ s.slots) _ further;
         };
         first = further;
         wants = λ going first. grind (arith, takes.first (wanted first));
@@ -235,8 +232,8 @@ takes_skip a l after w out lines line says audit slots keeps same rtplus taken =
     }
 
 -- before the first line
-pub audited_none : (a : Auditing) (l : Auditor) → FollowsLog a.pi (spacing a) l.audit [] → l.audit.start ≡ a.start
-    → l.audit.form ≡ a.form → l.audit.fault ≡ None → l.slots ≡ 0 → l.stop ≡ a.stop → l.is_done ≡ false
+pub audited_none : (a : Auditing) (l : Auditor) → FollowsLog a.pi (spacing a) l.audit [] → start_of l.audit ≡ a.start
+    → form_of l.audit ≡ a.form → fault_of l.audit ≡ None → l.slots ≡ 0 → l.stop ≡ a.stop → l.is_done ≡ false
     → l.rtplus ≡ a.rtplus
     → HasAudited a l [] []
 audited_none a l follows begins form none slots keeps going rtplus =
@@ -279,11 +276,11 @@ Ended a l r w =
     (RunsAll (HasAudited a l) r w × (l.is_done ≡ true → ⊥)) ⊎ (RunsUpTo (HasAudited a l) r w × (l.is_done ≡ true))
 
 -- the audit found a fault
-pub finds : (a : Auditing) (l : Auditor) (r w : Traffic) → l.audit.fault ≢ None → Ended a l r w
+pub finds : (a : Auditing) (l : Auditor) (r w : Traffic) → fault_of l.audit ≢ None → Ended a l r w
     → FindsFaults a.stop a r w
-finds a l r w some ended = by a.stop refl l.audit.fault refl ended
+finds a l r w some ended = by a.stop refl (fault_of l.audit) refl ended
   where
-    by : (stop : Stop) → a.stop ≡ stop → (known : Option AuditFault) → l.audit.fault ≡ known → Ended a l r w
+    by : (stop : Stop) → a.stop ≡ stop → (known : Option AuditFault) → fault_of l.audit ≡ known → Ended a l r w
         → FindsFaults stop a r w
     by stop is None e ended = absurd (some e)
     by FirstFault is (Some fault) e (inl (all, wants)) =
@@ -326,17 +323,17 @@ finds a l r w some ended = by a.stop refl l.audit.fault refl ended
     by LogEnd is (Some fault) e (inr (run, done)) = absurd (let first = (run.took.done done).0 in cc)
 
 -- the log was read to its end, and its slots pass: nothing was written
-passed_all : (a : Auditing) (l : Auditor) (r w : Traffic) → l.audit.fault ≡ None → Ended a l r w
+passed_all : (a : Auditing) (l : Auditor) (r w : Traffic) → fault_of l.audit ≡ None → Ended a l r w
     → (all : RunsAll (HasAudited a l) r w) × SlotsPass a all.run.took.slots × (all.run.written ≡ [])
 passed_all a l r w none (inl (all, wants)) = (let says = rw none at all.run.took.first in (all, says.0, says.1))
 passed_all a l r w none (inr (run, done)) = absurd ((run.took.done done).1 none)
 
 -- nothing waits before the line of a yes
-pub before_yes : (a : Auditing) (l : Auditor) (r w : Traffic) → l.audit.fault ≡ None → Ended a l r w → Waits w [] []
+pub before_yes : (a : Auditing) (l : Auditor) (r w : Traffic) → fault_of l.audit ≡ None → Ended a l r w → Waits w [] []
 before_yes a l r w none ended = grind arith
 
 -- the line of a yes was written
-pub says_yes : (a : Auditing) (l : Auditor) (r w v : Traffic) → l.audit.fault ≡ None → Ended a l r w
+pub says_yes : (a : Auditing) (l : Auditor) (r w v : Traffic) → fault_of l.audit ≡ None → Ended a l r w
     → Waits v [] (yes_line l.slots) → AnswersYes a r v
 says_yes a l r w v none ended waits =
     let (all, pass, nothing) = passed_all a l r w none ended in
@@ -359,7 +356,7 @@ says_yes a l r w v none ended waits =
     }
 
 -- the writer failed at it
-pub loses_yes : (a : Auditing) (reads : ℕ) (l : Auditor) (r w v : Traffic) → l.audit.fault ≡ None → Ended a l r w
+pub loses_yes : (a : Auditing) (reads : ℕ) (l : Auditor) (r w v : Traffic) → fault_of l.audit ≡ None → Ended a l r w
     → IsLost v (yes_line l.slots) → Audits a reads r v (Err faults.Write)
 loses_yes a reads l r w v none ended lost =
     let (all, pass, nothing) = passed_all a l r w none ended in (

@@ -2,6 +2,7 @@
 ghost use Rattle.std.specs.Prelude.{◌≡◌, ◌≢◌, ◌⊎◌, ◌≤◌, ◌+◌, ◌++◌, ◌↔◌, [], IsTrue, None, false, length, true};
 ghost use Rattle.std.proofs.Common.{rules};
 ghost use Rattle.rds_audit.specs.Listing.{first_of};
+ghost use Rattle.rds_audit.specs.Stored.{fault_of};
 ghost use Rattle.rds_io.specs.Told.{traffic};
 ghost use Rattle.rds_io.specs.Waits.{Waits};
 ghost use Rattle.rds_log.specs.FaultList.{LinesAnswer, LinesGoOn, fault_lines, line_if, lines_for, yes_line};
@@ -179,7 +180,7 @@ impl Auditor {
 
     /// Returns whether no slot has a fault so far.
     pub(crate) fn passed(&self) -> bool
-        ensures { IsTrue result ↔ (self.now.audit.fault ≡ None) }
+        ensures { IsTrue result ↔ (fault_of self.now.audit ≡ None) }
     {
         self.audit.passed()
     }

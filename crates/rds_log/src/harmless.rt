@@ -156,7 +156,7 @@ impl Changes {
             self.end();
             self.number = number;
             self.began = found;
-            self.begin(slot, fragment.flag, audit.store().distance);
+            self.begin(slot, fragment.flag, audit.distance);
         }
         let mut is_bent = false;
         if let Some(cell) = self.segments.get_mut(usize::from(fragment.address)) {

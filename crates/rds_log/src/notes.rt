@@ -66,9 +66,8 @@ impl NoNote {
         let taken = said;
         let harmless = harmless_in(audit, taken);
         let of_name = is_name(said);
-        let stored = audit.store();
-        let current = if of_name { stored.name } else { stored.text };
-        let spacing = stored.distance;
+        let current = if of_name { audit.name } else { audit.text };
+        let spacing = audit.distance;
         // the audit took the slot: its ages are one more than in the slot
         let since_start = current.reigns.since_start.saturating_sub(1);
         let since_before = current.reigns.since_before.saturating_sub(1);
@@ -113,7 +112,7 @@ impl NoNote {
 pub(crate) fn harmless_in(audit: &Audit, said: LogLine) -> FaultSet {
     let sent = said;
     FaultSet {
-        not_one_text: !is_name(said) && audit.store().is_padded == 0 && audit.fits_padded(),
+        not_one_text: !is_name(said) && audit.is_padded == 0 && audit.fits_padded(),
         early_tag: has_empty_tags(sent),
         ..FaultSet::none()
     }

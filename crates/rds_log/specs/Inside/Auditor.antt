@@ -3,6 +3,7 @@ use Rattle.std.specs.Prelude.{◌≡◌, ◌≢◌, [], ℕ, Bool, List, MatchOp
 use Rattle.std.proofs.Common.{subst}
 use Rattle.rds_block.specs.declared.group.Group.{Group}
 use Rattle.rds_audit.specs.AuditAt.{FollowsLog}
+use Rattle.rds_audit.specs.Stored.{fault_of, form_of, start_of}
 use Rattle.rds_log.specs.Audit.{SlotsPass, spacing}
 use Rattle.rds_log.specs.FaultList.{LinesAnswer, LinesGoOn, SaysNo, SlotsList}
 use Rattle.rds_log.specs.LogLines.{Line}
@@ -19,13 +20,13 @@ pub record HasAudited (a : Auditing) (l : Auditor) (lines : List Line) (total : 
   pub count : l.slots ≡ length slots
   pub stop : l.stop ≡ a.stop
   pub audit : FollowsLog a.pi (spacing a) l.audit slots
-  pub begins : l.audit.start ≡ a.start
-  pub form : l.audit.form ≡ a.form
+  pub begins : start_of l.audit ≡ a.start
+  pub form : form_of l.audit ≡ a.form
   pub list : SlotsList a slots total
-  pub first : MatchOption l.audit.fault (SlotsPass a slots × (total ≡ []))
+  pub first : MatchOption (fault_of l.audit) (SlotsPass a slots × (total ≡ []))
       (λ fault. SaysNo a.stop a fault slots total)
-  pub wants : l.is_done ≡ false → a.stop ≡ FirstFault → l.audit.fault ≡ None
-  pub done : l.is_done ≡ true → (a.stop ≡ FirstFault) × (l.audit.fault ≢ None)
+  pub wants : l.is_done ≡ false → a.stop ≡ FirstFault → fault_of l.audit ≡ None
+  pub done : l.is_done ≡ true → (a.stop ≡ FirstFault) × (fault_of l.audit ≢ None)
 
 pub audited_lines : (a : Auditing) (l : Auditor) (lines : List Line) (total : List ℕ) → HasAudited a l lines total
     → (l.is_done ≡ true → ⊥) → LinesGoOn a lines total

@@ -2,7 +2,6 @@ use Rattle.std.proofs.Common.{arith, ◌≡◌, ◌∙◌, Some, ap, inl, inr, r
 use Rattle.std.proofs.lemmas.Bool.Decides.{nat_tests}
 use Rattle.rds_fields.specs.declared.message.Message.TheVariants.{Tags}
 use Rattle.rds_receiver.specs.Receipts.{name_of, text_of}
-use Rattle.rds_audit.specs.Stored.{audit_stored}
 use Rattle.rds_audit.proofs.ListingSteps.{names_listed, nothing_listed, text_open, texts_listed}
 use Rattle.rds_audit.proofs.Recordings.{announcement_counts, name_counts, tags_complete, tags_count}
 use Rattle.rds_audit.proofs.Recordings.{tags_silent, text_counts}
@@ -11,28 +10,28 @@ use Rattle.rds_audit.proofs.audit.Audit.hear.Goals as goal
 pub returns-in-Text-clause-lists : goal.returns-in-Text-clause-lists
 returns-in-Text-clause-lists c =
     let is : c.args.message ≡ text_of c.new.result = c.in-Text.is ∙ sym (ap text_of c.new.ensures.place) in
-    rw (← c.self.view_is, is) (texts_listed (audit_stored c.self.inside.state) _ (Some (text_of c.new.result))
-    c.take_text.result refl refl refl (λ judged h. text_counts _ judged _ _ _) c.take_text.ensures)
+    rw is (texts_listed c.args.self.now _ _ (Some (text_of c.new.result))
+    c.take_text.result refl (λ judged h. text_counts _ judged _ _ _) c.take_text.ensures)
 
 pub returns-in-Name-clause-lists : goal.returns-in-Name-clause-lists
 returns-in-Name-clause-lists c =
     let is : c.args.message ≡ name_of c.new-in-Name.result = search arith in
-    rw (← c.self.view_is, is) (names_listed (audit_stored c.self.inside.state) _ (Some (name_of c.new-in-Name.result))
-    c.take.result refl refl refl (λ judged h. name_counts _ judged _ _ _) c.take.ensures)
+    rw is (names_listed c.args.self.now _ (Some (name_of c.new-in-Name.result))
+    c.take.result refl (λ judged h. name_counts _ judged _ _ _) c.take.ensures)
 
 pub returns-then-awaits_text-clause-lists : goal.returns-then-awaits_text-clause-lists
 returns-then-awaits_text-clause-lists c =
-    let early = rw (← c.self.view_is) at (c.awaits_text.ensures.early c.if-awaits_text.true) in
-    rw (← c.self.view_is, c.in-Tags.is)
-    (nothing_listed (audit_stored c.self.inside.state) _ c.none.result c.none.ensures
+    let early = c.awaits_text.ensures.early c.if-awaits_text.true in
+    rw c.in-Tags.is
+    (nothing_listed _ _ c.none.result c.none.ensures
     (λ judged h. tags_silent _ judged c.in-Tags.pair early.0
     (sym (text_open _ judged _ h) ∙ early.1)))
 
 pub returns-else-awaits_text-clause-lists : goal.returns-else-awaits_text-clause-lists
 returns-else-awaits_text-clause-lists c =
-    rw (← c.self.view_is, c.in-Tags.is) (texts_listed (audit_stored c.self.inside.state) _ (Some (Tags c.in-Tags.pair))
-    c.take_text_tags.result refl refl refl
-    (λ judged h. elim (rw (← c.self.view_is) at (c.awaits_text.ensures.begun c.if-awaits_text.false)) [
+    rw c.in-Tags.is (texts_listed c.args.self.now _ _ (Some (Tags c.in-Tags.pair))
+    c.take_text_tags.result refl
+    (λ judged h. elim (c.awaits_text.ensures.begun c.if-awaits_text.false) [
       | inl complete ↦ tags_complete _ judged c.in-Tags.pair complete
       | inr open_now ↦ tags_count _ judged c.in-Tags.pair (sym (text_open _ judged _ h) ∙ open_now)
     ]) c.take_text_tags.ensures)

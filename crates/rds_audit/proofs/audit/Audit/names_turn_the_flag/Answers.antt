@@ -3,6 +3,7 @@ use Rattle.std.proofs.lemmas.Bool.Decides.{nat_tests}
 use Rattle.rds_receiver.specs.Receipts.{heard_of}
 use Rattle.rds_audit.specs.Recording.{judged_as}
 use Rattle.rds_audit.specs.Rules.{LogPasses}
+use Rattle.rds_audit.specs.Stored.{start_of}
 use Rattle.rds_audit.specs.declared.text_form.TextForm.{TextForm}
 use Rattle.rds_audit.proofs.audit.Audit.names_turn_the_flag.Goals as goal
 
@@ -13,7 +14,7 @@ pub returns-then-passed-clause-safe : goal.returns-then-passed-clause-safe
 returns-then-passed-clause-safe c pi d log s plain turns =
     let both = (returns-then-passed-clause-turns c pi d log s).0 turns in
     let safe = c.what_passes_is_safe_by_the_flag.ensures.safe d _ s.lasts
-    (subst (λ (f : TextForm). LogPasses f d (judged_as c.args.self.now.start d (heard_of pi log))) plain
+    (subst (λ (f : TextForm). LogPasses f d (judged_as (start_of c.args.self.now) d (heard_of pi log))) plain
     both.0) in
     record {
       plans = safe.plans;
