@@ -4,7 +4,7 @@ use crate::same::same;
 use rds_block::Place;
 use rds_fields::{Dwell, Head, Late};
 use rds_io::{LogFault, TellingRead, Told};
-use rds_log::audit;
+use rds_log::{audit, decode};
 use rds_receiver::Window;
 use rds_script::{encode, simulate};
 use rds_world::{Config, ReceiverKind};
@@ -134,16 +134,30 @@ fn no_read_after_a_bad_row(rt: HostRuntime) -> Result<(), Fail> {
     Ok(())
 }
 
-/// The same of a log's slot that does not pass, as tags that come early, and of a bad line.
+/// The same of a log's slot that does not pass, as tags that come early.
 #[test]
 fn no_read_after_the_end_of_an_audit(rt: HostRuntime) -> Result<(), Fail> {
     let early = b"C201 2140 4849 0D20\nC201 B148 2002 0000\n\n\n";
     same(&rt, audited(rt.alloc(), early)?, (Ok(false), 2));
-    let bad = b"C201 2140 4849 0D20\nx\n\n\n";
-    same(
-        &rt,
-        audited(rt.alloc(), bad)?,
-        (Err(LogFault::BadLine(2)), 2),
+    Ok(())
+}
+
+/// The same of a malformed line of a log. The output of the line before it is there.
+#[test]
+fn no_read_after_a_bad_line(rt: HostRuntime) -> Result<(), Fail> {
+    let left = Cell::new(0);
+    let reader = LineByLine {
+        bytes: b"C201 2140 4849 0D20\nx\n\n\n",
+        left: &left,
+    };
+    let mut output = Vec::new(rt.alloc());
+    let done = decode(
+        &mut Told::new(reader),
+        &mut Told::new(&mut output),
+        0xC201,
+        Dwell::longest(),
     );
+    same(&rt, (done, left.get()), (Err(LogFault::BadLine(2)), 2));
+    same(&rt, output.as_slice(), b"0 text \"HI\"\n".as_slice());
     Ok(())
 }

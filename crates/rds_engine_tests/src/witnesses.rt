@@ -1,13 +1,11 @@
 //! A log is kept whole, and a burst of lost slots is found in it.
 
-use crate::logs::{Endless, LINE};
 use crate::same::same;
 use rds_fields::{Dwell, TagGroup};
 use rds_io::{LogFault, Told};
 use rds_log::{LogNotes, MOST_READS, NoNews, gather};
 use rds_witness::{Losing, bursts_of, lose_with_notes, witness};
 use std::alloc::Global;
-use std::cell::Cell;
 use std::io::Read;
 use std::test::Fail;
 
@@ -96,7 +94,7 @@ fn two_bursts_lost(rt: HostRuntime) -> Result<(), Fail> {
     Ok(())
 }
 
-/// The slots of a log, with the missing ones. A bad line ends it, and so does the bound of reads.
+/// The slots of a log, with the missing ones. A bad line ends it.
 #[test]
 fn all_slots_are_kept(rt: HostRuntime) -> Result<(), Fail> {
     let log = b"C201 2140 4849 0D20\n---- ---- ---- ----\n".as_slice();
@@ -127,20 +125,5 @@ fn all_slots_are_kept(rt: HostRuntime) -> Result<(), Fail> {
         &mut NoNews,
     );
     same(&rt, bad.map(|slots| slots.len()), Err(LogFault::BadLine(2)));
-    let reads = Cell::new(0);
-    let endless = Endless {
-        bytes: LINE,
-        reads: &reads,
-    };
-    let long = gather(
-        rt.alloc(),
-        &mut Told::new(endless),
-        0xC201,
-        TagGroup::usual(),
-        3,
-        &mut notes,
-        &mut NoNews,
-    );
-    same(&rt, long.map(|slots| slots.len()), Err(LogFault::TooLong));
     Ok(())
 }

@@ -49,23 +49,6 @@ pub fn decode<R: TellingRead, W: TellingWrite>(
         (traffic W.contents W.failures writer.old writer.new) result }
     ensures reads { MadeReads (2 ^ 32) (R.reads reader.old) (R.reads reader.new) result }
 {
-    decode_within(reader, writer, pi, dwell, MOST_READS)
-}
-
-/// Does what [`decode`] does with at most `reads` reads. A log that has not ended by then is too long.
-pub fn decode_within<R: TellingRead, W: TellingWrite>(
-    reader: &mut R,
-    writer: &mut W,
-    pi: u16,
-    dwell: Dwell,
-    reads: u64,
-) -> Result<(), LogFault>
-    requires { reads ≤ 2 ^ 32 }
-    ensures decodes { Decodes (plain pi dwell) reads
-        (traffic R.remaining R.failures reader.old reader.new)
-        (traffic W.contents W.failures writer.old writer.new) result }
-    ensures reads { MadeReads reads (R.reads reader.old) (R.reads reader.new) result }
-{
     let decoding = Decoding {
         pi,
         rtplus: TagGroup::usual(),
@@ -77,14 +60,14 @@ pub fn decode_within<R: TellingRead, W: TellingWrite>(
         reader,
         writer,
         decoding,
-        reads,
+        MOST_READS,
         &mut LogNotes::new(),
         &mut NoNews,
     )
 }
 
 /// Decodes a log in this way with at most `reads` reads, takes notes for a person, and tells the news. The new notes
-/// replace the old content of `notes`.
+/// replace the old content of `notes`. A log that has not ended by then is too long.
 pub fn decode_with_notes<R: TellingRead, W: TellingWrite, N: News>(
     reader: &mut R,
     writer: &mut W,

@@ -37,9 +37,9 @@ mod slots_log;
 mod source;
 mod verdict;
 
-pub use audit_log::{Auditing, Stop, audit, audit_with_notes, audit_within};
+pub use audit_log::{Auditing, Stop, audit, audit_with_notes};
 pub use breaks::{BreakPlace, Breaks};
-pub use decode_log::{Decoding, MOST_READS, decode, decode_with_notes, decode_within};
+pub use decode_log::{Decoding, MOST_READS, decode, decode_with_notes};
 pub use fault_notes::{FaultCount, FaultCounts, FaultNotes, FaultPlace};
 pub use filler::{Filling, Gap, SlotCounts, Times, comment_of};
 pub use gather_log::gather;

@@ -53,22 +53,6 @@ pub fn simulate<R: TellingRead + Drop, W: TellingWrite>(
     ensures { Plays (with_form (forms.Simulation false 11) config) (2 ^ 32) (reading R.remaining R.failures reader)
         (traffic W.contents W.failures writer.old writer.new) result }
 {
-    simulate_within(alloc, reader, writer, config, MOST_RECORDS)
-}
-
-/// Does what [`simulate`] does with a bound on records: a script with as many is too long, whether or not it ends
-/// there.
-pub fn simulate_within<R: TellingRead + Drop, W: TellingWrite>(
-    alloc: Global,
-    reader: R,
-    writer: &mut W,
-    config: Config,
-    records: u64,
-) -> Result<(), LogFault>
-    requires { records ≤ 2 ^ 32 }
-    ensures { Plays (with_form (forms.Simulation false 11) config) records (reading R.remaining R.failures reader)
-        (traffic W.contents W.failures writer.old writer.new) result }
-{
     let form = Form::Simulation {
         says_why: false,
         rtplus: TagGroup::usual(),
@@ -79,7 +63,7 @@ pub fn simulate_within<R: TellingRead + Drop, W: TellingWrite>(
         alloc,
         reader,
         writer,
-        records,
+        MOST_RECORDS,
         &mut ScriptNotes::new(),
     )
 }
@@ -99,21 +83,6 @@ pub fn encode<R: TellingRead + Drop, W: TellingWrite>(
     ensures { Plays (with_form (forms.Log 11) config) (2 ^ 32) (reading R.remaining R.failures reader)
         (traffic W.contents W.failures writer.old writer.new) result }
 {
-    encode_within(alloc, reader, writer, config, MOST_RECORDS)
-}
-
-/// Does what [`encode`] does with a bound on records: a script with as many is too long, whether or not it ends there.
-pub fn encode_within<R: TellingRead + Drop, W: TellingWrite>(
-    alloc: Global,
-    reader: R,
-    writer: &mut W,
-    config: Config,
-    records: u64,
-) -> Result<(), LogFault>
-    requires { records ≤ 2 ^ 32 }
-    ensures { Plays (with_form (forms.Log 11) config) records (reading R.remaining R.failures reader)
-        (traffic W.contents W.failures writer.old writer.new) result }
-{
     let form = Form::Log {
         rtplus: TagGroup::usual(),
     };
@@ -123,7 +92,7 @@ pub fn encode_within<R: TellingRead + Drop, W: TellingWrite>(
         alloc,
         reader,
         writer,
-        records,
+        MOST_RECORDS,
         &mut ScriptNotes::new(),
     )
 }
