@@ -28,14 +28,3 @@ fn fields_of_a_text_segment(rt: HostRuntime) -> Result<(), Fail> {
     same(&rt, Group::of_slot(Blocks::of_slot(None)), None);
     Ok(())
 }
-
-/// Every field at its greatest, and version B.
-#[test]
-fn greatest_fields(rt: HostRuntime) {
-    let group = Group::from_blocks([0xFFFF, 0xFFFF, 0xFFFF, 0xFFFF]);
-    same(&rt, group.number.get(), 15);
-    assert!(rt; group.version && group.tp);
-    same(&rt, (group.pty.get(), group.low.get()), (31, 31));
-    same(&rt, group.to_blocks(), [0xFFFF, 0xFFFF, 0xFFFF, 0xFFFF]);
-    same(&rt, Place::<16>::new(16), None);
-}

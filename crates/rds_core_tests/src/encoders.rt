@@ -4,7 +4,7 @@ use crate::same::same;
 use rds_assembly::{Name, Text};
 use rds_block::Place;
 use rds_encoder::{Encoder, Refusal, Wait};
-use rds_fields::{Distance, Dwell, Head, Late, Tag, TagPair, Which};
+use rds_fields::{Dwell, Head, Late, Tag, TagPair, Which};
 use std::process::Abort;
 use std::test::Fail;
 
@@ -156,22 +156,5 @@ fn printed_refusals(rt: HostRuntime) -> Result<(), Fail> {
     for (refusal, words) in rows {
         same(&rt, format!(in rt.alloc(); "{refusal}")?.as_str(), words);
     }
-    Ok(())
-}
-
-/// A lateness is 0 to 1024 slots, and an encoder waits for the dwell and the lateness together.
-#[test]
-fn latenesses(rt: HostRuntime) -> Result<(), Fail> {
-    for slots in [0, 1, 1024] {
-        same(&rt, Late::new(slots).map(Late::get), Some(slots));
-    }
-    same(&rt, Late::new(1025), None);
-    same(&rt, Late::new(65535), None);
-    let longest = restarted(65535, 1024)?;
-    same(&rt, longest.wait(), wait(66559, 0, 0));
-    same(&rt, longest.text(), None);
-    let dwell = Dwell::new(65535).ok_or("dwell")?;
-    let late = Late::new(1024).ok_or("late")?;
-    same(&rt, Distance::new(dwell, late).get(), 66559);
     Ok(())
 }

@@ -27,8 +27,6 @@ mod stored_audit;
 #[cfg(test)]
 mod stored_encoder;
 #[cfg(test)]
-mod stored_receiver;
-#[cfg(test)]
 mod worlds;
 #[cfg(test)]
 mod wrong_groups;

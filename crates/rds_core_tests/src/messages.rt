@@ -2,10 +2,7 @@
 
 use crate::same::same;
 use rds_block::{Group, Place};
-use rds_fields::{
-    Dwell, Head, Message, Tag, TagPair, TagRefused, Which, one_group, one_message,
-    rtplus_announcement,
-};
+use rds_fields::{Head, Message, Tag, TagPair, TagRefused, rtplus_announcement};
 use std::process::Abort;
 use std::test::Fail;
 
@@ -34,14 +31,6 @@ fn name(flag: bool, address: u8, bytes: [u8; 4]) -> Result<Message, Fail> {
     })
 }
 
-fn announce(code: u8, bits: u16, aid: u16) -> Result<Message, Fail> {
-    Ok(Message::Announce {
-        code: Place::new(code).ok_or("code")?,
-        bits,
-        aid,
-    })
-}
-
 /// The pair of these bits, its tags given by class, start and length marker.
 fn tags(bits: (bool, bool), one: (u8, u8, u8), two: (u8, u8, u8)) -> Result<Message, Fail> {
     let one = Tag::new(one.0, one.1, one.2)?;
@@ -59,35 +48,13 @@ fn both_ways(rt: &impl Abort, head: &Head, rows: &[(Message, [u16; 4])]) -> Resu
     Ok(())
 }
 
-/// Each field at an end of its range.
-#[test]
-fn extreme_groups(rt: HostRuntime) -> Result<(), Fail> {
-    let rows = [
-        (announce(22, 0, 0x4BD7)?, [0xC201, 0x3156, 0x0000, 0x4BD7]),
-        (announce(31, 0xFFFF, 0)?, [0xC201, 0x315F, 0xFFFF, 0x0000]),
-    ];
-    both_ways(&rt, &head()?, &rows)?;
-    let greatest = Head {
-        pi: 0xFFFF,
-        tp: true,
-        pty: Place::new(31).ok_or("pty")?,
-    };
-    let rows = [
-        (text(true, 15, *b"AAAA")?, [0xFFFF, 0x27FF, 0x4141, 0x4141]),
-        (
-            tags((true, true), (63, 63, 63), (63, 63, 31))?,
-            [0xFFFF, 0xB7FF, 0xFFFF, 0xFFFF],
-        ),
-    ];
-    both_ways(&rt, &greatest, &rows)
-}
-
 /// The artist and the title of a text.
 #[test]
 fn waterloo_tags(rt: HostRuntime) -> Result<(), Fail> {
     let one = Tag::new(4, 0, 3)?;
     let two = Tag::new(1, 7, 7)?;
     same(&rt, (two.class(), two.start(), two.extra()), (1, 7, 7));
+    same(&rt, two.end(), 15);
     let pair = TagPair::new(true, true, one, two)?;
     same(&rt, (pair.toggle(), pair.running()), (true, true));
     same(&rt, (pair.one(), pair.two()), (one, two));
@@ -102,8 +69,6 @@ fn pieces(rt: HostRuntime) -> Result<(), Fail> {
     let rows = [
         ((4, 0, 3), true, Some(b"ABBA".as_slice())),
         ((1, 7, 7), true, Some(b"WATERLOO".as_slice())),
-        ((1, 14, 0), true, Some(b"O".as_slice())),
-        ((1, 7, 8), false, None),
         ((1, 15, 0), false, None),
         ((0, 0, 0), true, None),
     ];
@@ -112,7 +77,6 @@ fn pieces(rt: HostRuntime) -> Result<(), Fail> {
         same(&rt, (start, tag.ends_in(text.len())), (start, ends));
         same(&rt, (start, tag.piece_in(text)), (start, piece));
     }
-    assert!(rt; Tag::new(0, 0, 0)?.ends_in(0));
     Ok(())
 }
 
@@ -140,37 +104,6 @@ fn refused_tags(rt: HostRuntime) -> Result<(), Fail> {
     Ok(())
 }
 
-/// The second tag is shorter than the first may be, a dwell has a least and a most, and a tag ends behind its piece.
-#[test]
-fn bounds(rt: HostRuntime) -> Result<(), Fail> {
-    let dummy = Tag::new(0, 0, 0)?;
-    let long = Tag::new(1, 0, 32)?;
-    same(
-        &rt,
-        TagPair::new(false, true, dummy, long),
-        Err(TagRefused::Extra),
-    );
-    same(&rt, Dwell::new(0), None);
-    same(&rt, Dwell::new(65535).ok_or("dwell")?.get(), 65535);
-    assert_ne!(rt; Which::One, Which::Two);
-    same(&rt, Tag::new(1, 6, 3)?.end(), 10);
-    Ok(())
-}
-
-/// The name `JAZZ FM `, and its first group with the bits between flag and address set.
-#[test]
-fn jazz_name(rt: HostRuntime) -> Result<(), Fail> {
-    let first = name(false, 0, *b"JAZZ")?;
-    let rows = [
-        (first, [0xC201, 0xA140, 0x4A41, 0x5A5A]),
-        (name(false, 1, *b" FM ")?, [0xC201, 0xA141, 0x2046, 0x4D20]),
-    ];
-    both_ways(&rt, &head()?, &rows)?;
-    let loose = Group::from_blocks([0xC201, 0xA14E, 0x4A41, 0x5A5A]);
-    same(&rt, Message::of(&loose), first);
-    Ok(())
-}
-
 /// The groups of the project's table.
 #[test]
 fn vectors(rt: HostRuntime) -> Result<(), Fail> {
@@ -194,18 +127,4 @@ fn vectors(rt: HostRuntime) -> Result<(), Fail> {
         ),
     ];
     both_ways(&rt, &head()?, &rows)
-}
-
-/// A dummy with a length marker, and a group of version B.
-#[test]
-fn lenient_reading(rt: HostRuntime) -> Result<(), Fail> {
-    let pair = Message::of(&Group::from_blocks([0xC201, 0xB148, 0x0002, 0x0000]));
-    same(&rt, pair, tags((false, true), (0, 0, 0), (0, 0, 0))?);
-    both_ways(&rt, &head()?, &[(pair, [0xC201, 0xB148, 0x0000, 0x0000])])?;
-    let other = Message::of(&Group::from_blocks([0xC201, 0x2940, 0x4849, 0x0D20]));
-    same(&rt, other, Message::Other);
-    same(&rt, other.group(head()?), None);
-    one_message();
-    one_group();
-    Ok(())
 }

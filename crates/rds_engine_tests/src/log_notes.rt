@@ -7,9 +7,6 @@ use rds_log::{Auditing, LogNotes, MOST_READS, NoNews, Stop, audit_with_notes, fa
 use rds_witness::witness_with_notes;
 use std::test::Fail;
 
-/// A log of two slots: a group of C201, and a lost one.
-const TWO_SLOTS: &[u8] = b"# note\nC201 2140 4849 0D20\n---- ---- ---- ----\n";
-
 fn dwell(slots: u16) -> Result<Dwell, Fail> {
     Ok(Dwell::new(slots).ok_or("dwell")?)
 }
@@ -91,24 +88,5 @@ C201 2140 4849 0D20 12.5
     assert_eq!(rt; (flags.count, flags.first.slot, flags.last.line), (1, 3, 5));
     assert_eq!(rt; flags.last.time.bytes(), b"12.5".as_slice());
     assert!(rt; notes.faults.names.counts[0].is_none());
-    Ok(())
-}
-
-/// A log without a fault gets the line of a yes.
-#[test]
-fn a_list_without_a_fault(rt: HostRuntime) -> Result<(), Fail> {
-    let mut output = Vec::new(rt.alloc());
-    let mut notes = LogNotes::new();
-    let passed = audit_with_notes(
-        &mut Told::new(TWO_SLOTS),
-        &mut Told::new(&mut output),
-        auditing(Stop::LogEnd)?,
-        MOST_READS,
-        &mut notes,
-        &mut NoNews,
-    );
-    assert_eq!(rt; passed, Ok(true));
-    assert_eq!(rt; output.as_slice(), b"yes 2\n".as_slice());
-    assert_eq!(rt; notes.heard.counts.total(), 1);
     Ok(())
 }

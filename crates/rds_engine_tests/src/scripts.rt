@@ -15,15 +15,15 @@ use std::process::Abort;
 use std::test::Fail;
 
 /// A text that one receiver gets with a dwell of one slot, and the output of `sim`.
-pub(crate) const SIMULATED: &[u8] = b"-,,1,G\ntext,HI,1,G\n-,,0,G\n";
+const SIMULATED: &[u8] = b"-,,1,G\ntext,HI,1,G\n-,,0,G\n";
 
-pub(crate) const SIMULATED_OUTPUT: &[u8] =
+const SIMULATED_OUTPUT: &[u8] =
     b"1 text ok\n1 sent C201 2140 4849 0D20\n1 r0 text \"HI\"\n2 r0 text none\n";
 
 /// The same text set twice, and the log of it with a dwell of one slot.
-pub(crate) const ENCODED: &[u8] = b"text,HI,1,\ntext,HI,1,\n";
+const ENCODED: &[u8] = b"text,HI,1,\ntext,HI,1,\n";
 
-pub(crate) const ENCODED_LOG: &[u8] = b"# 0 text silent 1
+const ENCODED_LOG: &[u8] = b"# 0 text silent 1
 ---- ---- ---- ----
 # 1 text ok
 C201 2140 4849 0D20
