@@ -13,12 +13,12 @@ ghost use Rattle.rds_log.specs.declared.auditor.TheConstants.{FAULTS_ROOM};
 ghost use Rattle.rds_log.specs.declared.verdict.TheConstants.{ANSWER_ROOM};
 
 use crate::audit_log::{Auditing, Stop};
-use crate::fault_notes::{FaultNotes, FaultPlace};
-use crate::harmless::AllChanges;
-use crate::heard::Heard;
 use crate::log_line::LogLine;
-use crate::news::News;
-use crate::notes::{LogNotes, NoNote};
+use crate::person::fault_notes::{FaultNotes, FaultPlace};
+use crate::person::harmless::AllChanges;
+use crate::person::heard::Heard;
+use crate::person::news::News;
+use crate::person::notes::{LogNotes, NoNote};
 use crate::run_log::{OUTPUT_ROOM, TakesLines};
 use crate::source::Source;
 use crate::verdict::{ANSWER_ROOM, push_no, push_yes};

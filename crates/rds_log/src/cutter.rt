@@ -5,9 +5,9 @@ ghost use Rattle.std.specs.Prelude.{IfErr, IfNone, IfSome, IsTrue, MatchResult, 
 ghost use Rattle.rds_log.specs.LineSays.{IsBad, LineSays, deciding};
 ghost use Rattle.rds_log.specs.LogLines.{EndsAt, IsLine, Line};
 
-use crate::line_cause::cause_of;
 use crate::log_line::{DECIDING, LineStart, LogLine, said_by};
-use crate::notes::BadStart;
+use crate::person::line_cause::cause_of;
+use crate::person::notes::BadStart;
 use arrayvec::ArrayVec;
 use memchr::memchr;
 use rds_io::BadLine;

@@ -6,8 +6,8 @@ ghost use Rattle.rds_log.specs.LogWrites.{plain};
 ghost use Rattle.rds_log.specs.Reads.{MadeReads};
 
 use crate::decoder::Decoder;
-use crate::news::{News, NoNews};
-use crate::notes::LogNotes;
+use crate::person::news::{News, NoNews};
+use crate::person::notes::LogNotes;
 use crate::run_log::run;
 use rds_fields::{Dwell, TagGroup};
 use rds_io::{LogFault, TellingRead, TellingWrite};

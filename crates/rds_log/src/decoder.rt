@@ -11,10 +11,10 @@ ghost use Rattle.rds_log.specs.LogWrites.{LinesWrite, SayWhys};
 ghost use Rattle.rds_view_lines.specs.declared.change.TheConstants.{SLOT_ROOM};
 
 use crate::decode_log::Decoding;
-use crate::heard::Heard;
-use crate::incomplete::IncompleteTexts;
 use crate::log_line::LogLine;
-use crate::news::News;
+use crate::person::heard::Heard;
+use crate::person::incomplete::IncompleteTexts;
+use crate::person::news::News;
 use crate::run_log::{OUTPUT_ROOM, TakesLines};
 use crate::source::Source;
 use rds_block::Blocks;

@@ -17,8 +17,8 @@ ghost use Rattle.rds_log.specs.declared.log_line.LogLine.TheVariants as LogLine;
 ghost use Rattle.rds_log.specs.declared.run_log.TheConstants.{OUTPUT_ROOM};
 
 use crate::log_line::{DECIDING, LogLine};
-use crate::news::News;
 use crate::pace::Pace;
+use crate::person::news::News;
 use crate::run_log::{OUTPUT_ROOM, TakesLines};
 use crate::source::Source;
 use rds_arrivals::{Break, Grain, LastMinute, Stamp, lost_between, stamp_after};

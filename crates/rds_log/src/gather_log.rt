@@ -5,8 +5,8 @@ ghost use Rattle.rds_log.specs.Gather.{GathersAll, GathersNone};
 ghost use Rattle.rds_log.specs.Reads.{MadeReads};
 
 use crate::log_line::LogLine;
-use crate::news::News;
-use crate::notes::LogNotes;
+use crate::person::news::News;
+use crate::person::notes::LogNotes;
 use crate::source::Source;
 use rds_block::Blocks;
 use rds_fields::TagGroup;

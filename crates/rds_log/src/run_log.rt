@@ -10,8 +10,8 @@ ghost use Rattle.rds_log.specs.Reads.{MadeReads};
 ghost use Rattle.rds_log.specs.declared.run_log.TheConstants.{OUTPUT_ROOM};
 
 use crate::log_line::LogLine;
-use crate::news::News;
-use crate::notes::ReadNotes;
+use crate::person::news::News;
+use crate::person::notes::ReadNotes;
 use crate::source::Source;
 use rds_io::{Lines, LogFault, TellingRead, TellingWrite, WriteFault};
 

@@ -8,7 +8,7 @@ ghost use Rattle.rds_io.specs.declared.fault.LogFault.TheVariants as faults;
 
 use crate::cutter::{Cutter, Start, line_end};
 use crate::log_line::{DECIDING, LogLine};
-use crate::notes::BadStart;
+use crate::person::notes::BadStart;
 use rds_io::{BadLine, LogFault, TellingRead};
 
 /// The number of bytes of one read.

@@ -1,13 +1,13 @@
 //! Notes on a log, for a person at a terminal. No contract speaks of them.
 
-use crate::fault_notes::{FaultNotes, FaultPlace};
-use crate::heard::Heard;
-use crate::incomplete::IncompleteTexts;
-use crate::line_cause::LineCause;
 use crate::log_line::{DECIDING, LogLine};
-use crate::log_times::{FIRST, LogTimes};
-use crate::news::News;
-use crate::segment_cause::SegmentCause;
+use crate::person::fault_notes::{FaultNotes, FaultPlace};
+use crate::person::heard::Heard;
+use crate::person::incomplete::IncompleteTexts;
+use crate::person::line_cause::LineCause;
+use crate::person::log_times::{FIRST, LogTimes};
+use crate::person::news::News;
+use crate::person::segment_cause::SegmentCause;
 use crate::source::Source;
 use arrayvec::ArrayVec;
 use rds_audit::{Audit, AuditFault, FaultSet};

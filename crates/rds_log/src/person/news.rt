@@ -1,7 +1,7 @@
 //! What a person wants to know while a log is still open.
 
 use crate::breaks::BreakPlace;
-use crate::log_times::Lack;
+use crate::person::log_times::Lack;
 
 /// Takes facts of a log where an engine meets them. No contract speaks of them.
 pub trait News {

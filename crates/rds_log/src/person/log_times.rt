@@ -2,7 +2,7 @@
 ghost use Rattle.std.specs.Prelude.{◌≤◌, length};
 
 use crate::filler::{comment_of, stamp_of};
-use crate::news::News;
+use crate::person::news::News;
 use rds_arrivals::{Break, LastMinute, slots_in};
 
 /// The first lines of a log, in each of which a time is looked for. A log that ends in them is short, and one whose

@@ -1,0 +1,12 @@
+//! What a person wants to know of a log: the facts behind the notes on standard error. No contract speaks of them.
+
+pub(crate) mod fault_notes;
+pub(crate) mod harmless;
+pub(crate) mod heard;
+pub(crate) mod incomplete;
+pub(crate) mod line_cause;
+pub(crate) mod line_time;
+pub(crate) mod log_times;
+pub(crate) mod news;
+pub(crate) mod notes;
+pub(crate) mod segment_cause;
