@@ -9,7 +9,6 @@ ghost use Rattle.rds_audit.specs.Stored.{fault_of, form_of, start_of};
 ghost use Rattle.rds_safety.specs.Marks.{marks, name_mark, text_mark};
 
 use crate::audited::Names;
-use crate::content::is_complete_text;
 use crate::stored::StoredSpans;
 use crate::{LogStart, TextForm};
 use rds_fields::{Distance, Dwell, Late};
@@ -111,23 +110,5 @@ impl Audit {
             ≡ min (length (spans name_gauge d (marks name_mark heard))) (2 ^ 64 - 1)) }
     {
         self.name.count
-    }
-
-    /// Returns how many texts were complete so far, for a person: receivers show no other text. The number stops at
-    /// 2^32. No contract speaks of it.
-    pub fn complete_texts(&self) -> u64 {
-        let text = &self.text;
-        u64::from(text.complete) + u64::from(is_complete_text(&text.reigns.cells))
-    }
-
-    /// Returns whether some text has all segments of the current text, with padding, for a person: if not, receivers
-    /// show a mistake too. No contract speaks of it.
-    pub fn fits_padded(&self) -> bool {
-        self.text.reigns.fits_padded()
-    }
-
-    /// Returns how many pairs of tags were judged so far, for a person. No contract speaks of it.
-    pub fn tags(&self) -> u64 {
-        self.tags
     }
 }

@@ -131,12 +131,12 @@ impl StoredReigns {
     }
 
     /// Returns the least number of bytes that the value can have, for a person. No contract speaks of it.
-    pub fn least(&self) -> u8 {
+    pub(crate) fn least(&self) -> u8 {
         self.lengths().trailing_zeros() as u8
     }
 
     /// Returns the greatest number of bytes that the value can have, for a person. No contract speaks of it.
-    pub fn most(&self) -> u8 {
+    pub(crate) fn most(&self) -> u8 {
         127 - self.lengths().leading_zeros().min(127) as u8
     }
 

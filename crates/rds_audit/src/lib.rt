@@ -2,6 +2,7 @@
 //! of broadcasts that are lawful and dense. Then no receiver of that log that keeps to M and K shows a mix.
 #![tactic(auto)]
 
+mod account;
 mod ages;
 mod audit;
 mod audit_laws;
@@ -15,6 +16,7 @@ mod spans;
 mod stored;
 mod text_form;
 
+pub use account::Account;
 pub use audit::{Audit, AuditFault};
 pub use audit_laws::{
     broadcasts_are_the_reigns, passes_by_plans, passes_without_a_fault, the_list_judges_the_reigns,

@@ -10,7 +10,7 @@ use crate::person::news::News;
 use crate::person::segment_cause::SegmentCause;
 use crate::source::Source;
 use arrayvec::ArrayVec;
-use rds_audit::{Audit, AuditFault, FaultSet};
+use rds_audit::{Account, Audit, AuditFault, FaultSet};
 use rds_fields::Message;
 
 /// A malformed line (this project's own rule).
@@ -66,40 +66,18 @@ impl NoNote {
         let taken = said;
         let harmless = harmless_in(audit, taken);
         let of_name = is_name(said);
-        let current = if of_name { audit.name } else { audit.text };
-        let spacing = audit.distance;
-        // the audit took the slot: its ages are one more than in the slot
-        let since_start = current.reigns.since_start.saturating_sub(1);
-        let since_before = current.reigns.since_before.saturating_sub(1);
-        let is_early_tag = fault == AuditFault::EarlyTag && current.reigns.is_open != 0;
-        let age = match fault {
-            AuditFault::EarlyFlag => Some(current.apart),
-            AuditFault::EarlyTag if is_early_tag => Some(since_start),
-            _ => None,
-        };
-        let first = if is_early_tag {
-            first_of(at.slot, since_start, current.waited)
-        } else {
-            None
-        };
-        // a text with the flag of the one before can start M + K slots after it
-        let resumed = current.count > 1 && since_before == since_start.saturating_add(spacing);
+        let account = audit.account(fault, of_name);
+        let first = first_of(at.slot, account);
         NoNote {
             at,
             fault,
             of_name,
-            earlier: slot_before(at.slot, age),
+            earlier: slot_before(at.slot, account.since),
             first,
-            paused: if resumed {
-                pause_of(at.slot, since_before, first)
-            } else {
-                None
-            },
-            spacing,
+            paused: pause_of(at.slot, account.paused, first),
+            spacing: account.spacing,
             cause: match fault {
-                AuditFault::NotOneText => {
-                    segment_cause(sent, current.reigns.least(), current.reigns.most())
-                }
+                AuditFault::NotOneText => segment_cause(sent, account.least, account.most),
                 _ => None,
             },
             is_harmless: harmless.has(fault),
@@ -112,7 +90,7 @@ impl NoNote {
 pub(crate) fn harmless_in(audit: &Audit, said: LogLine) -> FaultSet {
     let sent = said;
     FaultSet {
-        not_one_text: !is_name(said) && audit.is_padded == 0 && audit.fits_padded(),
+        not_one_text: !is_name(said) && audit.fits_padded(),
         early_tag: has_empty_tags(sent),
         ..FaultSet::none()
     }
@@ -145,18 +123,20 @@ fn segment_cause(said: LogLine, least: u8, most: u8) -> Option<SegmentCause> {
     }
 }
 
-/// Returns the slot of the first segment of the current text, which can have started so many slots before this one. The
-/// segment came so many slots after that start.
-fn first_of(slot: u64, since_start: u32, waited: u32) -> Option<u64> {
-    slot_before(slot, Some(since_start))?.checked_add(u64::from(waited))
+/// Returns the slot of the first segment of a text with early tags in this slot.
+fn first_of(slot: u64, account: Account) -> Option<u64> {
+    let waited = account.waited?;
+    slot_before(slot, account.since)?.checked_add(u64::from(waited))
 }
 
-/// Returns the pause between the text before the current one, whose last slot was so many slots before this one, and
-/// the first segment of the current one.
-fn pause_of(slot: u64, since_before: u32, first: Option<u64>) -> Option<Pause> {
-    let until = first?;
-    let from = slot_before(slot, Some(since_before.saturating_sub(1)));
-    Some(Pause { from, until })
+/// Returns the pause between the text before the current one, which ended so many slots before this one, and the first
+/// segment of the current one.
+fn pause_of(slot: u64, ended: Option<u32>, first: Option<u64>) -> Option<Pause> {
+    let from = slot_before(slot, Some(ended?.saturating_sub(1)));
+    Some(Pause {
+        from,
+        until: first?,
+    })
 }
 
 /// Returns whether a line has a group of a name.
