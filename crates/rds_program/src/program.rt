@@ -69,8 +69,8 @@ pub fn run<R: TellingRead + Drop, W: TellingWrite>(
     run_read(alloc, read, &mut reader, writer, &mut report, &mut NoNews)
 }
 
-/// Does what [`run`] does, given the result of reading its arguments, over a borrowed reader. Reports what the run met,
-/// and tells the news of a log. The new report replaces the old content of `report`.
+/// Does what [`run`] does, given the result of reading its arguments, over a borrowed reader. Reports what the run met
+/// in `report`, a new one, and tells the news of a log.
 ///
 /// The contract says the reader's state after the call: if no command ran, its bytes and its counts of reads and
 /// failures are unchanged. What it says of the request that was read holds for the arguments too (`words`).
@@ -93,28 +93,15 @@ pub fn run_read<R: TellingRead, W: TellingWrite, N: News>(
         (IsUntouched R.remaining R.failures R.reads reader.old reader.new)
         (traffic W.contents W.failures writer.old writer.new) result }
 {
-    *report = Report::new();
-    answer_read(alloc, read, reader, writer, report, news)
-}
-
-/// Runs the command of the arguments, given the result of reading them.
-fn answer_read<R: TellingRead, W: TellingWrite, N: News>(
-    alloc: Global,
-    read: Result<Option<Request<'_>>, Error>,
-    reader: &mut R,
-    writer: &mut W,
-    report: &mut Report,
-    news: &mut N,
-) -> u8
-    ensures { RunsRead read.entry
-        (λ task lose t. TaskRuns task lose t (reader_over R.remaining R.failures R.reads reader.old reader.new)
-        (traffic W.contents W.failures writer.old writer.new) result)
-        (IsUntouched R.remaining R.failures R.reads reader.old reader.new)
-        (traffic W.contents W.failures writer.old writer.new) result }
-{
     match read {
-        // Prover: `answer` borrows the request (docs/PROVER.md, "Workarounds").
-        Ok(Some(request)) => answer(alloc, &request, reader, writer, report, news),
+        Ok(Some(request)) => {
+            let Some(pi) = identification_of(request.pi) else {
+                report.end = End::BadPi;
+                write_fault_text(request.task, b"fault pi", writer);
+                return REFUSED;
+            };
+            run_task(alloc, &request, pi, reader, writer, report, news)
+        }
         Ok(None) => REFUSED,
         Err(error) => write_error(&error, writer),
     }
@@ -133,31 +120,6 @@ fn write_error<W: TellingWrite>(error: &Error, writer: &mut W) -> u8
     }
     let _ = write!(writer, "{}", Refusal::of(error));
     if error.use_stderr() { REFUSED } else { OK }
-}
-
-/// Runs the command of a request.
-fn answer<R: TellingRead, W: TellingWrite, N: News>(
-    alloc: Global,
-    request: &Request<'_>,
-    reader: &mut R,
-    writer: &mut W,
-    report: &mut Report,
-    news: &mut N,
-) -> u8
-    ensures runs { (pi : ℕ) → IsPi request.now.pi.now pi
-        → TaskRuns request.now.task request.now.lose.now (listening request.now.rtplus pi request.now.dwell)
-        (reader_over R.remaining R.failures R.reads reader.old reader.new)
-        (traffic W.contents W.failures writer.old writer.new) result }
-    ensures fault_pi { ((pi : ℕ) → IsPi request.now.pi.now pi → ⊥)
-        → RefusesPi request.now.task (traffic W.contents W.failures writer.old writer.new) result
-        × IsUntouched R.remaining R.failures R.reads reader.old reader.new }
-{
-    let Some(pi) = identification_of(request.pi) else {
-        report.end = End::BadPi;
-        write_fault_text(request.task, b"fault pi", writer);
-        return REFUSED;
-    };
-    run_task(alloc, request, pi, reader, writer, report, news)
 }
 
 /// Runs the engine of a command for its programme, and writes the line of its fault.
