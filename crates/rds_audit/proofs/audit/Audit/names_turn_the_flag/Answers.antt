@@ -1,10 +1,5 @@
-use Rattle.std.proofs.Common.{arith, subst}
+use Rattle.std.proofs.Common.{arith}
 use Rattle.std.proofs.lemmas.Bool.Decides.{nat_tests}
-use Rattle.rds_receiver.specs.Receipts.{heard_of}
-use Rattle.rds_audit.specs.Recording.{judged_as}
-use Rattle.rds_audit.specs.Rules.{LogPasses}
-use Rattle.rds_audit.specs.Stored.{start_of}
-use Rattle.rds_audit.specs.declared.text_form.TextForm.{TextForm}
 use Rattle.rds_audit.proofs.audit.Audit.names_turn_the_flag.Goals as goal
 
 pub returns-then-passed-clause-turns : goal.returns-then-passed-clause-turns
@@ -13,9 +8,7 @@ returns-then-passed-clause-turns c pi d log s = grind (arith, nat_tests)
 pub returns-then-passed-clause-safe : goal.returns-then-passed-clause-safe
 returns-then-passed-clause-safe c pi d log s plain turns =
     let both = (returns-then-passed-clause-turns c pi d log s).0 turns in
-    let safe = c.what_passes_is_safe_by_the_flag.ensures.safe d _ s.lasts
-    (subst (λ (f : TextForm). LogPasses f d (judged_as (start_of c.args.self.now) d (heard_of pi log))) plain
-    both.0) in
+    let safe = c.what_passes_is_safe_by_the_flag.ensures.safe d _ s.lasts (rw plain at both.0) in
     record {
       plans = safe.plans;
       lawful = safe.lawful;
@@ -24,7 +17,5 @@ returns-then-passed-clause-safe c pi d log s plain turns =
     }
 
 pub returns-else-passed-clause-turns : goal.returns-else-passed-clause-turns
-returns-else-passed-clause-turns c pi d log s = (
-  (λ yes. absurd (let no = c.if-passed.false in cc)),
-  (λ both. (c.passed.ensures.passes pi d log s).1 both.0),
-)
+returns-else-passed-clause-turns c pi d log s =
+    (λ yes. absurd (let no = c.if-passed.false in cc), λ both. (c.passed.ensures.passes pi d log s).1 both.0)
