@@ -1,4 +1,4 @@
-//! Tests that an audit keeps its fault, and that a copy continues. An audit is plain numbers, which a program may store.
+//! Tests that an audit keeps its fault, and that a copy goes on. A program may store an audit: it is plain numbers.
 
 use crate::same::same;
 use rds_audit::{Audit, AuditFault};
