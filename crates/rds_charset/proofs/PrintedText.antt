@@ -36,7 +36,7 @@ length-printed (byte ∷ bytes) =
     omega (arith, length-printed bytes, length-append (printed_byte byte) (printed bytes))
 
 -- the digits that are printed are the digits that are read
-upper_digit-value : (n : ℕ) → n < 16 → digit_value (upper_digit n) ≡ n
+pub upper_digit-value : (n : ℕ) → n < 16 → digit_value (upper_digit n) ≡ n
 upper_digit-value n small = grind (arith, nat_tests)
 
 upper_digit-ascii : (n : ℕ) → n < 16 → upper_digit n < 128

@@ -6,7 +6,7 @@ ghost use Rattle.std.specs.Prelude.{IfOk, IfErr, OnErr, IfSome, IfNone};
 ghost use Rattle.rds_charset.specs.Faults.{TextStopsBy};
 ghost use Rattle.rds_charset.specs.ReadAs.{Begins, BeginsDigit, BeginsNoDigit, BeginsNoSymbol};
 ghost use Rattle.rds_charset.specs.ReadAs.{HasBadEscape, HasNoRoom, HasUnknownCharacter};
-ghost use Rattle.rds_charset.specs.ReadAs.{IsReadAs, StopsAt};
+ghost use Rattle.rds_charset.specs.ReadAs.{IsReadAs, IsReadUpTo, StopsAt};
 ghost use Rattle.rds_charset.specs.BadCharacters.{IsBadCharacter};
 ghost use Rattle.std.specs.Str.{chars};
 
@@ -77,17 +77,12 @@ pub fn measure_text(text: &str) -> Result<usize, BadCharacter>
         (λ count. (bytes : List ℕ) × IsReadAs text.now bytes × (length bytes ≡ count)) }
     ensures err { IfErr result (IsBadCharacter text.now) }
 {
-    let mut rest = text;
-    let mut count = 0;
-    while let Some((character, _)) = first_character(rest) {
-        let Some((_, after)) = first_symbol(rest) else {
-            let place = count_characters(text) - count_characters(rest) + 1;
-            return Err(BadCharacter { place, character });
-        };
-        count += 1;
-        rest = after;
-    }
-    Ok(count)
+    let (count, rest) = count_symbols(text);
+    let Some((character, _)) = first_character(rest) else {
+        return Ok(count);
+    };
+    let place = count_characters(text) - count_characters(rest) + 1;
+    Err(BadCharacter { place, character })
 }
 
 /// Counts the characters of a text.
@@ -107,16 +102,25 @@ fn count_bytes(text: &str) -> Result<usize, TextFault>
         (λ count. (bytes : List ℕ) × IsReadAs text.now bytes × (length bytes ≡ count)) }
     ensures err { IfErr result (TextStopsBy text.now) }
 {
+    let (count, rest) = count_symbols(text);
+    if rest.is_empty() {
+        return Ok(count);
+    }
+    Err(fault_at(text, text.len() - rest.len()))
+}
+
+/// Counts the symbols that begin the text, and returns the rest after them, which no symbol begins.
+fn count_symbols(text: &str) -> (usize, &str)
+    ensures read { (bytes : List ℕ) × IsReadUpTo text.now bytes result.1.now × (length bytes ≡ result.0) }
+    ensures none { BeginsNoSymbol result.1.now }
+{
     let mut rest = text;
     let mut count = 0;
-    while !rest.is_empty() {
-        let Some((_, after)) = first_symbol(rest) else {
-            return Err(fault_at(text, text.len() - rest.len()));
-        };
+    while let Some((_, after)) = first_symbol(rest) {
         count += 1;
         rest = after;
     }
-    Ok(count)
+    (count, rest)
 }
 
 /// Returns the fault of a text that cannot be read further at this place.
