@@ -1,9 +1,9 @@
-//! An encoder that is stored and restored.
+//! An encoder is plain numbers, which a program may store.
 
 use crate::same::same;
 use rds_assembly::{Name, Text};
 use rds_block::Place;
-use rds_encoder::{Encoder, Refusal, StoredEncoder};
+use rds_encoder::{Encoder, Refusal};
 use rds_fields::{Dwell, Head, Late};
 use std::test::Fail;
 
@@ -17,39 +17,41 @@ fn station() -> Result<Encoder, Fail> {
     Ok(Encoder::new(head, dwell, Late::new(0).ok_or("late")?))
 }
 
-/// A restored encoder continues where the stored one was.
+/// A copy continues where the encoder was.
 #[test]
 fn goes_on_from_what_is_stored(rt: HostRuntime) -> Result<(), Fail> {
     let mut encoder = station()?;
     same(&rt, encoder.tick(true).is_some(), false);
-    let mut encoder = Encoder::restore(&encoder.store());
     encoder.set_text(Text::new(b"HI").map_err(|_| "text")?)?;
     encoder.set_name(Name::new(b"POP").map_err(|_| "name")?)?;
-    let mut encoder = Encoder::restore(&encoder.store());
-    same(&rt, encoder.text(), Some(b"HI".as_slice()));
-    same(&rt, encoder.name(), Some(b"POP     ".as_slice()));
-    let refused = encoder.set_text(Text::new(b"YO").map_err(|_| "text")?);
+    let mut again = encoder;
+    same(&rt, again.text(), Some(b"HI".as_slice()));
+    same(&rt, again.name(), Some(b"POP     ".as_slice()));
+    let refused = again.set_text(Text::new(b"YO").map_err(|_| "text")?);
     same(&rt, refused, Err(Refusal::Held(2)));
-    let sent = encoder.tick(true).ok_or("a group")?;
+    let sent = again.tick(true).ok_or("a group")?;
     same(&rt, sent.to_blocks(), [0xC201, 0x2540, 0x4849, 0x0D20]);
     Ok(())
 }
 
-/// Numbers that no encoder has give one with nothing on air.
+/// With numbers that no encoder has, each call returns.
 #[test]
-fn restores_any_numbers(rt: HostRuntime) -> Result<(), Fail> {
-    let mut stored: StoredEncoder = station()?.store();
-    stored.pty = 255;
-    stored.round = 255;
-    stored.distance = 0xFFFF_FFFF;
-    stored.text.is_on_air = 2;
-    stored.text.length = 65;
-    stored.name.is_on_air = 2;
-    stored.name.bytes[7] = 1;
-    let encoder = Encoder::restore(&stored);
-    same(&rt, (encoder.text(), encoder.name()), (None, None));
-    let again = encoder.store();
-    let numbers = (again.pty, again.round, again.distance);
-    same(&rt, numbers, (0, 0, 66813));
+fn takes_any_numbers(rt: HostRuntime) -> Result<(), Fail> {
+    let mut encoder = station()?;
+    encoder.pty = 255;
+    encoder.round = 255;
+    encoder.distance = 0xFFFF_FFFF;
+    encoder.silence = 0;
+    encoder.text.is_on_air = 2;
+    encoder.text.length = 65;
+    encoder.text.next = 255;
+    encoder.name.is_on_air = 2;
+    encoder.name.bytes[7] = 1;
+    same(&rt, encoder.text(), Some([0; 64].as_slice()));
+    same(&rt, encoder.name().is_some(), true);
+    same(&rt, encoder.tick(true).is_some(), false);
+    let name = Name::new(b"POP").map_err(|_| "name")?;
+    same(&rt, encoder.set_name(name), Ok(()));
+    same(&rt, (encoder.round, encoder.wait().name), (0, 133626));
     Ok(())
 }

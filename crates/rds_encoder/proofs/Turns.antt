@@ -6,14 +6,19 @@ use Rattle.std.proofs.Math.Nat.{suc-mod}
 use Rattle.rds_encoder.proofs.OnAir.{air_since}
 use Rattle.std.proofs.lemmas.Bool.Decides.{nat_tests}
 use Rattle.rds_fields.specs.declared.head.Head.{Head}
+use Rattle.rds_fields.specs.Stored.{pair_stored}
 use Rattle.rds_assembly.specs.Body.{segment_count, text_body}
 use Rattle.rds_encoder.specs.declared.round.Turn.TheVariants.{Text}
 use Rattle.rds_encoder.specs.Entries.{Entry, Tick, Move, End, name_moves, slot_of, text_moves}
 use Rattle.rds_encoder.specs.Plan.{OnAir, bytes_of, on_air}
 use Rattle.rds_encoder.specs.Round.{turn_in}
 use Rattle.rds_encoder.specs.Sent.{count_from, is_text_turn, is_turn, next_address, turn_of}
-use Rattle.rds_encoder.specs.EncoderAt.{Follows, HoldsBack, EncoderAt, silence_left, with_next}
-use Rattle.rds_encoder.specs.State.{EncoderState, TextState, TrackState, advanced}
+use Rattle.rds_encoder.specs.declared.encoder.Encoder.{Encoder}
+use Rattle.rds_encoder.specs.declared.hold.Hold.{Hold}
+use Rattle.rds_encoder.specs.declared.on_air.TextOnAir.{TextOnAir}
+use Rattle.rds_encoder.specs.EncoderAt.{HoldsBack, EncoderAt, silence_left, with_next}
+use Rattle.rds_encoder.specs.Numbers.{IsValidEncoder, IsValidText, head_in, name_in, text_in}
+use Rattle.rds_encoder.specs.State.{TextState, advanced}
 use Rattle.rds_encoder.specs.Tags.{pair_on_air}
 
 -- no slot so far is as late as slot a
@@ -80,50 +85,37 @@ pub even_is_text : (number : ℕ) → (number % 2 ≡ 0) ↔ (turn_in (number % 
 even_is_text number = grind (arith, nat_tests)
 
 -- the encoder between the end of the turn and the end of the slot
-pub record AfterTurn (station : Head) (m : ℕ) (free : Bool) (entries : List Entry) (e : EncoderState) : Type 0 where
-  pub head : e.head ≡ station
+pub record AfterTurn (station : Head) (m : ℕ) (free : Bool) (entries : List Entry) (e : Encoder) : Type 0 where
+  pub good : IsValidEncoder e
+  pub head : head_in e ≡ station
   pub distance : e.distance ≡ m
   pub silence : e.silence ≡ silence_left m (text_moves entries)
   pub round : e.round ≡ turn_of m (End free ∷ text_moves entries) % 8
-  pub text_hold : HoldsBack m e.text.hold (text_moves entries)
-  pub text : e.text.on_air ≡ option_map (with_next m (End free ∷ text_moves entries)) (on_air m (text_moves entries))
-  pub name : Follows m bytes_of e.name (name_moves entries)
-  pub pair : e.pair ≡ pair_on_air m entries
+  pub text_hold : HoldsBack m e.text_hold (text_moves entries)
+  pub name_hold : HoldsBack m e.name_hold (name_moves entries)
+  pub text : text_in e.text ≡ option_map (with_next m (End free ∷ text_moves entries)) (on_air m (text_moves entries))
+  pub name : name_in e.name ≡ option_map bytes_of (on_air m (name_moves entries))
+  pub pair : pair_stored e.pair ≡ pair_on_air m entries
 
 -- a slot without a turn ends like a slot after its turn, with nothing changed
-pub no_turn : (station : Head) (m : ℕ) (e : EncoderState) (free : Bool) (entries : List Entry)
+pub no_turn : (station : Head) (m : ℕ) (e : Encoder) (free : Bool) (entries : List Entry)
     → EncoderAt station m e entries → is_turn m free (text_moves entries) ≡ false → AfterTurn station m free entries e
 no_turn station m e free entries st absent = grind (arith, nat_tests, round_waits, text_waits)
 
 -- after a turn the next segment or tags are due
-pub turn_over : (station : Head) (m : ℕ) (old new : EncoderState) (free : Bool) (entries : List Entry)
-    → EncoderAt station m old entries → is_turn m free (text_moves entries) ≡ true
-    → (turn_in old.round ≡ Text
-    → new ≡ record old {
-      round = (old.round + 1) % 8;
-      text = record old.text
-          { on_air = option_map advanced old.text.on_air };
-    })
-    → (turn_in old.round ≢ Text → new ≡ record old { round = (old.round + 1) % 8 })
-    → AfterTurn station m free entries new
-turn_over station m old new false entries st taken text other = absurd (cc)
-turn_over station m old new true entries st taken text other =
-    grind (arith, text_or_other old.round, round_goes_on, text_goes_on, text_stays)
+pub turn_over : (station : Head) (m : ℕ) (e : Encoder) (text : TextOnAir) (free : Bool) (entries : List Entry)
+    → EncoderAt station m e entries → is_turn m free (text_moves entries) ≡ true
+    → (turn_in e.round ≡ Text → text_in text ≡ option_map advanced (text_in e.text))
+    → (turn_in e.round ≢ Text → text ≡ e.text) → IsValidText text
+    → AfterTurn station m free entries record e { round = (e.round + 1) % 8; text = text }
+turn_over station m e text false entries st taken next other good = absurd (cc)
+turn_over station m e text true entries st taken next other good =
+    grind (arith, text_or_other e.round, round_goes_on, text_goes_on, text_stays)
 
 -- the slot ended
-pub slot_over : (station : Head) (m : ℕ) (e : EncoderState) (silence : ℕ) (text : TrackState TextState)
-    (name : TrackState (List ℕ)) (free : Bool) (entries : List Entry)
-    → AfterTurn station m free entries e → silence ≡ e.silence - 1
-    → HoldsBack m text.hold (End free ∷ text_moves entries) → text.on_air ≡ e.text.on_air
-    → HoldsBack m name.hold (End free ∷ name_moves entries) → name.on_air ≡ e.name.on_air
-    → EncoderAt station m record {
-      head = e.head;
-      distance = e.distance;
-      silence = silence;
-      round = e.round;
-      text = text;
-      name = name;
-      pair = e.pair;
-    } (Tick free ∷ entries)
-slot_over station m e silence text name free entries at less text_back text_on name_back name_on =
-    grind (arith, nat_tests)
+pub slot_over : (station : Head) (m : ℕ) (e : Encoder) (silence : ℕ) (text_hold name_hold : Hold) (free : Bool)
+    (entries : List Entry) → AfterTurn station m free entries e → silence ≡ e.silence - 1
+    → HoldsBack m text_hold (End free ∷ text_moves entries) → HoldsBack m name_hold (End free ∷ name_moves entries)
+    → EncoderAt station m record e { silence = silence; text_hold = text_hold; name_hold = name_hold }
+    (Tick free ∷ entries)
+slot_over station m e silence text_hold name_hold free entries at less text name = grind (arith, nat_tests)

@@ -10,8 +10,7 @@ pub mod Spaced
 pub mod Laws
 pub mod Delivery
 pub mod Known
--- The state of the code. Callers do not need it.
+-- The numbers of the code. Callers do not need them.
 pub mod State
+pub mod Numbers
 pub mod EncoderAt
-pub mod Stored
-pub mod Codes

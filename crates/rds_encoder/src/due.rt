@@ -4,23 +4,22 @@ ghost use Rattle.rds_fields.specs.declared.message.Message.{Message};
 ghost use Rattle.rds_encoder.specs.Entries.{Tick, name_moves, slot_of, text_moves};
 ghost use Rattle.rds_encoder.specs.Plan.{on_air};
 ghost use Rattle.rds_encoder.specs.Round.{turn_in};
-ghost use Rattle.rds_encoder.specs.Sent.{name_segment, sent_in, tags_due, text_segment};
+ghost use Rattle.rds_encoder.specs.Sent.{is_turn, name_segment, sent_in, tags_due, text_segment};
 ghost use Rattle.rds_encoder.specs.EncoderAt.{Takes, WhereEncoderStands};
 ghost use Rattle.rds_encoder.specs.State.{advanced};
-ghost use Rattle.rds_encoder.specs.Stored.{IsStoredEncoder, encoder_stored, text_stored};
+ghost use Rattle.rds_encoder.specs.Numbers.{IsValidText, text_in};
 ghost use Rattle.rds_encoder.specs.Tags.{pair_on_air};
 
+use crate::Encoder;
 use crate::round::{Turn, place_after, turn_at};
-use crate::stored::StoredEncoder;
 use rds_assembly::{name_segment, text_segment};
 use rds_block::Place;
-use rds_fields::{Message, rtplus_announcement};
+use rds_fields::{Head, Message, rtplus_announcement};
 
-impl StoredEncoder {
+impl Encoder {
     /// Returns the message that is due in this slot. `None` if nothing is sent.
     pub(crate) fn due(&self, free: bool) -> Option<Message>
-        ensures sent { IsStoredEncoder self.now
-            → WhereEncoderStands (encoder_stored self.now) (λ _ m entries. result ≡ sent_in m free entries) }
+        ensures sent { WhereEncoderStands self.now (λ _ m entries. result ≡ sent_in m free entries) }
         ensures said { IfSome result (λ message. message ≢ Message.Other) }
     {
         if !self.has_turn(free) {
@@ -36,8 +35,7 @@ impl StoredEncoder {
 
     /// Returns the next segment of the text on air. `None` if no text is on air.
     fn text_segment(&self) -> Option<Message>
-        ensures sent { IsStoredEncoder self.now → WhereEncoderStands (encoder_stored self.now)
-            (λ _ m entries. result
+        ensures sent { WhereEncoderStands self.now (λ _ m entries. result
             ≡ text_segment m (text_moves entries) (on_air m (text_moves entries))) }
         ensures said { IfSome result (λ message. message ≢ Message.Other) }
     {
@@ -52,8 +50,8 @@ impl StoredEncoder {
     /// Returns a segment of the name on air. `None` if no name is on air.
     fn name_segment(&self, address: u8) -> Option<Message>
         requires { address < 2 }
-        ensures sent { IsStoredEncoder self.now → WhereEncoderStands (encoder_stored self.now)
-            (λ _ m entries. result ≡ name_segment address (on_air m (name_moves entries))) }
+        ensures sent { WhereEncoderStands self.now (λ _ m entries. result
+            ≡ name_segment address (on_air m (name_moves entries))) }
         ensures said { IfSome result (λ message. message ≢ Message.Other) }
     {
         let name = self.name.on_air()?;
@@ -66,9 +64,8 @@ impl StoredEncoder {
 
     /// Returns the tags of the text on air. `None` if it has none, or has been on air for less than M + K slots.
     fn tags_due(&self) -> Option<Message>
-        ensures sent { IsStoredEncoder self.now → WhereEncoderStands (encoder_stored self.now)
-            (λ _ m entries. result ≡ tags_due m (slot_of (text_moves entries))
-            (on_air m (text_moves entries)) (pair_on_air m entries)) }
+        ensures sent { WhereEncoderStands self.now (λ _ m entries. result
+            ≡ tags_due m (slot_of (text_moves entries)) (on_air m (text_moves entries)) (pair_on_air m entries)) }
         ensures said { IfSome result (λ message. message ≢ Message.Other) }
     {
         let pair = self.pair.pair()?;
@@ -80,8 +77,7 @@ impl StoredEncoder {
 
     /// Ends a slot.
     pub(crate) fn end_slot(&mut self, free: bool)
-        ensures stands { Takes (encoder_stored self.old) (encoder_stored self.new) (Tick free) }
-        ensures good { IsStoredEncoder self.old → IsStoredEncoder self.new }
+        ensures { Takes self.old self.new (Tick free) }
     {
         if self.has_turn(free) {
             self.end_turn();
@@ -93,18 +89,33 @@ impl StoredEncoder {
 
     /// Ends a turn.
     fn end_turn(&mut self)
+        ensures kept { self.new ≡ record self.old { round = (self.old.round + 1) % 8; text = self.new.text } }
         ensures text { turn_in self.old.round ≡ Turn.Text
-            → encoder_stored self.new ≡ record (encoder_stored self.old) {
-              round = (self.old.round + 1) % 8;
-              text = record (encoder_stored self.old).text { on_air = option_map advanced (text_stored self.old.text) };
-            } }
-        ensures other { turn_in self.old.round ≢ Turn.Text
-            → encoder_stored self.new ≡ record (encoder_stored self.old) { round = (self.old.round + 1) % 8 } }
-        ensures good { IsStoredEncoder self.old → IsStoredEncoder self.new }
+            → text_in self.new.text ≡ option_map advanced (text_in self.old.text) }
+        ensures other { turn_in self.old.round ≢ Turn.Text → self.new.text ≡ self.old.text }
+        ensures good { IsValidText self.old.text → IsValidText self.new.text }
     {
         if matches!(turn_at(self.round), Turn::Text) {
             self.text.advance();
         }
         self.round = place_after(self.round);
+    }
+
+    /// Returns whether the slot has a turn: it is free, and the silence is over.
+    fn has_turn(&self, free: bool) -> bool
+        ensures { WhereEncoderStands self.now (λ _ m entries. result ≡ is_turn m free (text_moves entries)) }
+    {
+        free && self.silence == 0
+    }
+
+    /// Returns the head of the station's groups.
+    pub(crate) fn head(&self) -> Head
+        ensures { WhereEncoderStands self.now (λ station _ _. result ≡ station) }
+    {
+        Head {
+            pi: self.pi,
+            tp: self.tp != 0,
+            pty: Place::new(self.pty).unwrap_or(Place::new(0).unwrap()),
+        }
     }
 }

@@ -1,5 +1,5 @@
 //! The encoder: it takes sets, and sends a group or nothing in each slot.
-ghost use Rattle.std.specs.Prelude.{◌≡◌, ◌+◌, List, [], ◌∷◌, IfSome, OnErr, option_map};
+ghost use Rattle.std.specs.Prelude.{◌≡◌, ◌+◌, ◌≤◌, List, [], ◌∷◌, IfSome, OnErr, length, option_map};
 ghost use Rattle.std.specs.Option.{option_copied};
 ghost use Rattle.rds_assembly.specs.Value.{IsName, IsText};
 ghost use Rattle.rds_encoder.specs.Entries.{Entry, Restart, SetText, SetName, SetTags, Tick, name_moves, text_moves};
@@ -7,39 +7,39 @@ ghost use Rattle.rds_encoder.specs.Plan.{bytes_of, on_air};
 ghost use Rattle.rds_encoder.specs.Reply.{IsSetReply, IsTagsReply, held_for, reply_to, silent_for};
 ghost use Rattle.rds_encoder.specs.Sent.{IsSent, sent_in};
 ghost use Rattle.rds_encoder.specs.EncoderAt.{EncoderAt, Takes, WhereEncoderStands};
-ghost use Rattle.rds_encoder.specs.Stored.{IsStoredEncoder, encoder_stored};
-ghost use Rattle.rds_encoder.specs.Tags.{pair_on_air, tags_reply};
+ghost use Rattle.rds_encoder.specs.Tags.{fitting_reply, pair_on_air, tags_reply};
 
 use crate::silence::check_silence;
-use crate::stored::{StoredEncoder, StoredHold, StoredName, StoredText};
-use crate::{Refusal, Wait};
+use crate::{Hold, NameOnAir, Refusal, TextOnAir, Wait};
 use rds_assembly::{Name, Text};
-use rds_block::{Group, Place};
-use rds_fields::{Distance, Dwell, Head, Late, StoredPair, TagPair};
-use std::marker::Model;
+use rds_block::Group;
+use rds_fields::{Distance, Dwell, Head, Late, StoredPair, TagPair, Which};
 
 /// Sends the text, the name and the tags of one station. It keeps counters that stop at their limits, and no slot
 /// number.
 ///
 /// `EncoderAt` relates an encoder to the list of its entries: restarts, sets and ends of slots. A new encoder stands at
 /// the empty list, and at each list whose newest entry is a restart. Each call adds its entry to the list.
-#[derive(Drop)]
+///
+/// It is plain numbers, so a program may store it. A bit is 0 for no and any other number for yes. With numbers that no
+/// encoder has, each call returns something arbitrary.
+#[repr(C)]
+#[derive(Clone, Copy)]
 pub struct Encoder {
-    state: StoredEncoder,
-}
-
-impl Model for Encoder {
-    ghost use Rattle.rds_encoder.specs.Codes.{encoder_code};
-    ghost use Rattle.rds_encoder.specs.State.{EncoderState};
-    ghost use Rattle.rds_encoder.specs.Stored.{IsStoredEncoder, encoder_stored};
-
-    ghost Value = { EncoderState };
-
-    ghost coded = { encoder_code };
-
-    ghost view = { λ e. encoder_stored e.state };
-
-    ghost invariant = { λ e. IsStoredEncoder e.state };
+    /// The spacing d in slots: the dwell plus the lateness.
+    pub distance: u32,
+    /// The number of slots left of the silence.
+    pub silence: u32,
+    pub text_hold: Hold,
+    pub name_hold: Hold,
+    pub pi: u16,
+    pub tp: u8,
+    pub pty: u8,
+    /// The place of the next turn in the round of eight.
+    pub round: u8,
+    pub text: TextOnAir,
+    pub name: NameOnAir,
+    pub pair: StoredPair,
 }
 
 impl Encoder {
@@ -61,38 +61,18 @@ impl Encoder {
     {
         let distance = distance.get();
         Encoder {
-            state: StoredEncoder {
-                distance,
-                silence: distance,
-                text_hold: StoredHold::none(),
-                name_hold: StoredHold::none(),
-                pi: head.pi,
-                tp: u8::from(head.tp),
-                pty: head.pty.get(),
-                round: 0,
-                text: StoredText::none(),
-                name: StoredName::none(),
-                pair: StoredPair::none(),
-            },
+            distance,
+            silence: distance,
+            text_hold: Hold::none(),
+            name_hold: Hold::none(),
+            pi: head.pi,
+            tp: u8::from(head.tp),
+            pty: head.pty.get(),
+            round: 0,
+            text: TextOnAir::none(),
+            name: NameOnAir::none(),
+            pair: StoredPair::none(),
         }
-    }
-
-    /// Rebuilds a stored encoder. Invalid numbers give an arbitrary valid encoder.
-    pub fn restore(stored: &StoredEncoder) -> Encoder
-        ensures { IsStoredEncoder stored.now → result ≡ encoder_stored stored.now }
-    {
-        if stored.is_valid() {
-            return Encoder { state: *stored };
-        }
-        Encoder::spaced(stored.head(), Distance::restore(stored.distance))
-    }
-
-    /// Stores the encoder as plain numbers.
-    pub fn store(&self) -> StoredEncoder
-        ensures same { encoder_stored result ≡ self.now }
-        ensures good { IsStoredEncoder result }
-    {
-        self.state
     }
 
     /// Puts the text on air from this slot on, in place of the text before and its tags. It has the other flag, even if
@@ -110,11 +90,11 @@ impl Encoder {
         ensures stands { Takes self.old self.new (SetText text) }
         ensures kept { OnErr result (self.new ≡ self.old) }
     {
-        check_silence(self.state.silence)?;
-        let distance = Distance::restore(self.state.distance);
-        self.state.text_hold.set(distance)?;
-        self.state.text = StoredText::of(text);
-        self.state.pair = StoredPair::none();
+        check_silence(self.silence)?;
+        let distance = Distance::restore(self.distance);
+        self.text_hold.set(distance)?;
+        self.text = TextOnAir::of(text);
+        self.pair = StoredPair::none();
         Ok(())
     }
 
@@ -133,10 +113,10 @@ impl Encoder {
         ensures stands { Takes self.old self.new (SetName name) }
         ensures kept { OnErr result (self.new ≡ self.old) }
     {
-        check_silence(self.state.silence)?;
-        let distance = Distance::restore(self.state.distance);
-        self.state.name_hold.set(distance)?;
-        self.state.name = StoredName::of(name);
+        check_silence(self.silence)?;
+        let distance = Distance::restore(self.distance);
+        self.name_hold.set(distance)?;
+        self.name = NameOnAir::of(name);
         Ok(())
     }
 
@@ -154,9 +134,27 @@ impl Encoder {
         ensures stands { Takes self.old self.new (SetTags pair) }
         ensures kept { OnErr result (self.new ≡ self.old) }
     {
-        check_silence(self.state.silence)?;
-        self.state.check_tags(pair)?;
-        self.state.pair = StoredPair::of(Some(pair));
+        check_silence(self.silence)?;
+        self.check_tags(pair)?;
+        self.pair = StoredPair::of(Some(pair));
+        Ok(())
+    }
+
+    /// Refuses tags if no text is on air, or if one does not end in the text on air.
+    fn check_tags(&self, pair: TagPair) -> Result<(), Refusal>
+        ensures kind { IsTagsReply result }
+        ensures reply { WhereEncoderStands self.now (λ _ m entries. result
+            ≡ fitting_reply pair (on_air m (text_moves entries))) }
+    {
+        let Some(text) = self.text.on_air() else {
+            return Err(Refusal::NoText);
+        };
+        if !pair.one().ends_in(text.len()) {
+            return Err(Refusal::OutOfText(Which::One));
+        }
+        if !pair.two().ends_in(text.len()) {
+            return Err(Refusal::OutOfText(Which::Two));
+        }
         Ok(())
     }
 
@@ -167,9 +165,9 @@ impl Encoder {
             (λ station m entries. IsSent station (sent_in m free entries) result) }
         ensures stands { Takes self.old self.new (Tick free) }
     {
-        let message = self.state.due(free);
-        self.state.end_slot(free);
-        message?.group(self.state.head())
+        let message = self.due(free);
+        self.end_slot(free);
+        message?.group(self.head())
     }
 
     /// Returns the text on air, at most 64 bytes, borrowed from the encoder. `None` if no text is on air.
@@ -177,9 +175,10 @@ impl Encoder {
         ensures on_air { WhereEncoderStands self.now
             (λ _ m entries. option_copied result
             ≡ option_map bytes_of (on_air m (text_moves entries))) }
-        ensures text { IfSome result (λ x. IsText x.now) }
+        ensures text { WhereEncoderStands self.now (λ _ _ _. IfSome result (λ x. IsText x.now)) }
+        ensures short { IfSome result (λ x. length x.now ≤ 64) }
     {
-        self.state.text.on_air()
+        self.text.on_air()
     }
 
     /// Returns the name on air, eight bytes, padded with spaces, borrowed from the encoder. `None` if no name is on
@@ -188,16 +187,17 @@ impl Encoder {
         ensures on_air { WhereEncoderStands self.now
             (λ _ m entries. option_copied result
             ≡ option_map bytes_of (on_air m (name_moves entries))) }
-        ensures name { IfSome result (λ x. IsName x.now) }
+        ensures name { WhereEncoderStands self.now (λ _ _ _. IfSome result (λ x. IsName x.now)) }
+        ensures short { IfSome result (λ x. length x.now ≡ 8) }
     {
-        self.state.name.on_air()
+        self.name.on_air()
     }
 
     /// Returns the tags of the text on air, even if they have not been sent yet. `None` if it has none.
     pub fn tags(&self) -> Option<TagPair>
         ensures { WhereEncoderStands self.now (λ _ m entries. result ≡ pair_on_air m entries) }
     {
-        self.state.pair.pair()
+        self.pair.pair()
     }
 
     /// Returns for how many more slots a set would be refused, this slot included.
@@ -210,9 +210,9 @@ impl Encoder {
             (λ _ m entries. result.name ≡ held_for (reply_to m (name_moves entries))) }
     {
         Wait {
-            silent: self.state.silence,
-            text: self.state.text_hold.left,
-            name: self.state.name_hold.left,
+            silent: self.silence,
+            text: self.text_hold.left,
+            name: self.name_hold.left,
         }
     }
 }

@@ -4,19 +4,25 @@ ghost use Rattle.rds_encoder.specs.Entries.{Move, Begin, Set, End, slot_of};
 ghost use Rattle.rds_encoder.specs.Plan.{OnAir, on_air};
 ghost use Rattle.rds_encoder.specs.Reply.{IsSetReply, held_reply, last_accepted, reply_to};
 ghost use Rattle.rds_encoder.specs.EncoderAt.{HoldsBack};
-ghost use Rattle.rds_encoder.specs.Stored.{hold_stored};
 
 use crate::Refusal;
-use crate::stored::StoredHold;
 use rds_fields::Distance;
 
-impl StoredHold {
+/// For how many more slots a service holds its next set back, and the flag of that set.
+#[repr(C)]
+#[derive(Clone, Copy)]
+pub struct Hold {
+    pub left: u32,
+    pub next_flag: u8,
+}
+
+impl Hold {
     /// Makes the hold of a service with nothing on air.
-    pub(crate) fn none() -> StoredHold
-        ensures first { (m : ℕ) → HoldsBack m (hold_stored result) [] }
-        ensures again { (m : ℕ) (moves : List Move) → HoldsBack m (hold_stored result) (Begin ∷ moves) }
+    pub(crate) fn none() -> Hold
+        ensures first { (m : ℕ) → HoldsBack m result [] }
+        ensures again { (m : ℕ) (moves : List Move) → HoldsBack m result (Begin ∷ moves) }
     {
-        StoredHold {
+        Hold {
             left: 0,
             next_flag: 0,
         }
@@ -29,12 +35,12 @@ impl StoredHold {
     /// `Held` with the number of slots left, if the one before holds it back. Nothing changes.
     pub(crate) fn set(&mut self, distance: Distance) -> Result<(), Refusal>
         ensures kind { IsSetReply result }
-        ensures reply { (m : ℕ) (moves : List Move) → HoldsBack m (hold_stored self.old) moves
+        ensures reply { (m : ℕ) (moves : List Move) → HoldsBack m self.old moves
             → result ≡ held_reply m (slot_of moves) (last_accepted m moves) }
         ensures kept { OnErr result (self.new ≡ self.old) }
         ensures hold { OnOk result ((moves : List Move) (x : List ℕ)
-            → HoldsBack distance (hold_stored self.old) moves → reply_to distance moves ≡ Ok tt
-            → HoldsBack distance (hold_stored self.new) (Set x ∷ moves)) }
+            → HoldsBack distance self.old moves → reply_to distance moves ≡ Ok tt
+            → HoldsBack distance self.new (Set x ∷ moves)) }
     {
         if self.left > 0 {
             return Err(Refusal::Held(self.left));
@@ -46,15 +52,15 @@ impl StoredHold {
 
     /// Ends a slot.
     pub(crate) fn end_slot(&mut self)
-        ensures { (m : ℕ) (free : Bool) (moves : List Move) → HoldsBack m (hold_stored self.old) moves
-            → HoldsBack m (hold_stored self.new) (End free ∷ moves) }
+        ensures { (m : ℕ) (free : Bool) (moves : List Move) → HoldsBack m self.old moves
+            → HoldsBack m self.new (End free ∷ moves) }
     {
         self.left = self.left.saturating_sub(1);
     }
 
     /// Returns the flag of the text or name on air.
     pub(crate) fn flag(&self) -> bool
-        ensures { (m : ℕ) (moves : List Move) (air : OnAir) → HoldsBack m (hold_stored self.now) moves
+        ensures { (m : ℕ) (moves : List Move) (air : OnAir) → HoldsBack m self.now moves
             → on_air m moves ≡ Some air → result ≡ air.flag }
     {
         self.next_flag == 0
@@ -62,7 +68,7 @@ impl StoredHold {
 
     /// Returns whether the text or name on air has been so for M + K slots, the distance.
     pub(crate) fn has_lasted(&self, distance: u32) -> bool
-        ensures { (moves : List Move) (air : OnAir) → HoldsBack distance (hold_stored self.now) moves
+        ensures { (moves : List Move) (air : OnAir) → HoldsBack distance self.now moves
             → on_air distance moves ≡ Some air → result ≡ nat_le (air.start + distance) (slot_of moves) }
     {
         self.left <= distance

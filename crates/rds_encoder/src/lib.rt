@@ -20,14 +20,14 @@ mod on_air;
 mod reply;
 mod round;
 mod silence;
-mod stored;
 
 pub use encoder::Encoder;
+pub use hold::Hold;
 pub use laws::{
     broadcasts_are_spaced, even_turns_are_the_texts, numbers_name_broadcasts,
     on_air_from_its_start_on, on_air_is_sent_whole, on_air_is_what_covers_the_slot,
     planned_is_what_was_on_air, sent_is_of_what_is_on_air,
 };
+pub use on_air::{NameOnAir, TextOnAir};
 pub use rds_fields::Late;
 pub use reply::{Refusal, Wait};
-pub use stored::{StoredEncoder, StoredHold, StoredName, StoredText};

@@ -1,23 +1,40 @@
 //! The text and the name on air.
-ghost use Rattle.std.specs.Prelude.{◌≡◌, ◌≤◌, ◌↔◌, ℕ, IfSome, IsTrue, List, None, Some, length, option_map, take};
+ghost use Rattle.std.specs.Prelude.{◌≡◌, ◌≤◌, ℕ, IfSome, List, None, Some, length, option_map, take};
 ghost use Rattle.std.specs.Option.{option_copied};
 ghost use Rattle.rds_assembly.specs.Value.{IsName, IsText};
 ghost use Rattle.rds_encoder.specs.Entries.{Move};
 ghost use Rattle.rds_encoder.specs.EncoderAt.{with_next};
 ghost use Rattle.rds_encoder.specs.Plan.{bytes_of, on_air};
 ghost use Rattle.rds_encoder.specs.State.{advanced};
-ghost use Rattle.rds_encoder.specs.Stored.{IsStoredName, IsStoredText, name_stored, text_stored};
+ghost use Rattle.rds_encoder.specs.Numbers.{IsValidName, IsValidText, name_in, text_in};
 
-use crate::stored::{StoredName, StoredText};
 use rds_assembly::{LONGEST_TEXT, NAME_LENGTH, Name, Text, text_count};
 
-impl StoredText {
+/// The text on air: its first `length` bytes, and the address of its next segment.
+#[repr(C)]
+#[derive(Clone, Copy)]
+pub struct TextOnAir {
+    pub bytes: [u8; LONGEST_TEXT],
+    pub length: u8,
+    pub next: u8,
+    pub is_on_air: u8,
+}
+
+/// The name on air.
+#[repr(C)]
+#[derive(Clone, Copy)]
+pub struct NameOnAir {
+    pub bytes: [u8; NAME_LENGTH],
+    pub is_on_air: u8,
+}
+
+impl TextOnAir {
     /// Makes it without a text.
-    pub(crate) fn none() -> StoredText
-        ensures same { text_stored result ≡ None }
-        ensures good { IsStoredText result }
+    pub(crate) fn none() -> TextOnAir
+        ensures same { text_in result ≡ None }
+        ensures good { IsValidText result }
     {
-        StoredText {
+        TextOnAir {
             bytes: [0; LONGEST_TEXT],
             length: 0,
             next: 0,
@@ -25,15 +42,15 @@ impl StoredText {
         }
     }
 
-    /// Stores the text, with its first segment as the next one.
-    pub(crate) fn of(text: Text) -> StoredText
-        ensures same { text_stored result ≡ Some record { bytes = text; next = 0 } }
-        ensures good { IsStoredText result }
+    /// Puts the text on air, with its first segment as the next one.
+    pub(crate) fn of(text: Text) -> TextOnAir
+        ensures same { text_in result ≡ Some record { bytes = text; next = 0 } }
+        ensures good { IsValidText result }
     {
         let from = text.bytes();
         let mut bytes = [0; LONGEST_TEXT];
         bytes[..from.len()].copy_from_slice(from);
-        StoredText {
+        TextOnAir {
             bytes,
             length: from.len() as u8,
             next: 0,
@@ -41,12 +58,13 @@ impl StoredText {
         }
     }
 
-    /// Returns the bytes of the text, borrowed from the numbers. `None` if no text is stored.
+    /// Returns the bytes of the text, borrowed from the numbers. `None` if no text is on air.
     pub(crate) fn on_air(&self) -> Option<&[u8]>
         ensures on_air { (m : ℕ) (moves : List Move)
-            → text_stored self.now ≡ option_map (with_next m moves) (on_air m moves)
+            → text_in self.now ≡ option_map (with_next m moves) (on_air m moves)
             → option_copied result ≡ option_map bytes_of (on_air m moves) }
-        ensures text { IsStoredText self.now → IfSome result (λ x. IsText x.now) }
+        ensures text { IsValidText self.now → IfSome result (λ x. IsText x.now) }
+        ensures short { IfSome result (λ x. length x.now ≤ 64) }
     {
         if self.is_on_air == 0 {
             return None;
@@ -64,64 +82,48 @@ impl StoredText {
 
     /// Moves to the next segment. After the last segment comes the first.
     pub(crate) fn advance(&mut self)
-        ensures same { text_stored self.new ≡ option_map advanced (text_stored self.old) }
-        ensures good { IsStoredText self.old → IsStoredText self.new }
+        ensures same { text_in self.new ≡ option_map advanced (text_in self.old) }
+        ensures good { IsValidText self.old → IsValidText self.new }
     {
         let count = text_count(self.text());
         self.next = ((u16::from(self.next) + 1) % u16::from(count)) as u8;
     }
-
-    /// Returns whether the numbers are those of a text on air, or no text is.
-    pub(crate) fn is_valid(&self) -> bool
-        ensures { IsTrue result ↔ IsStoredText self.now }
-    {
-        self.is_on_air == 0
-            || usize::from(self.length) <= LONGEST_TEXT
-                && Text::new(self.text()).is_ok()
-                && self.next < text_count(self.text())
-    }
 }
 
-impl StoredName {
+impl NameOnAir {
     /// Makes it without a name.
-    pub(crate) fn none() -> StoredName
-        ensures same { name_stored result ≡ None }
-        ensures good { IsStoredName result }
+    pub(crate) fn none() -> NameOnAir
+        ensures same { name_in result ≡ None }
+        ensures good { IsValidName result }
     {
-        StoredName {
+        NameOnAir {
             bytes: [0; NAME_LENGTH],
             is_on_air: 0,
         }
     }
 
-    /// Stores the name.
-    pub(crate) fn of(name: Name) -> StoredName
-        ensures same { name_stored result ≡ Some name }
-        ensures good { IsStoredName result }
+    /// Puts the name on air.
+    pub(crate) fn of(name: Name) -> NameOnAir
+        ensures same { name_in result ≡ Some name }
+        ensures good { IsValidName result }
     {
         let mut bytes = [0; NAME_LENGTH];
         bytes.copy_from_slice(name.bytes());
-        StoredName {
+        NameOnAir {
             bytes,
             is_on_air: 1,
         }
     }
 
-    /// Returns the bytes of the name, borrowed from the numbers. `None` if no name is stored.
+    /// Returns the bytes of the name, borrowed from the numbers. `None` if no name is on air.
     pub(crate) fn on_air(&self) -> Option<&[u8]>
-        ensures value { option_copied result ≡ name_stored self.now }
-        ensures name { IsStoredName self.now → IfSome result (λ x. IsName x.now) }
+        ensures value { option_copied result ≡ name_in self.now }
+        ensures name { IsValidName self.now → IfSome result (λ x. IsName x.now) }
+        ensures short { IfSome result (λ x. length x.now ≡ 8) }
     {
         if self.is_on_air == 0 {
             return None;
         }
         Some(self.bytes.as_slice())
-    }
-
-    /// Returns whether the numbers are those of a name on air, or no name is.
-    pub(crate) fn is_valid(&self) -> bool
-        ensures { IsTrue result ↔ IsStoredName self.now }
-    {
-        self.is_on_air == 0 || Name::new(&self.bytes).is_ok()
     }
 }

@@ -1,5 +1,5 @@
 //! The round of eight turns: what each free slot is used for.
-ghost use Rattle.std.specs.Prelude.{◌≡◌, ◌+◌, ◌%◌, ◌<◌};
+ghost use Rattle.std.specs.Prelude.{◌≡◌, ◌+◌, ◌%◌};
 ghost use Rattle.rds_encoder.specs.Round.{IsTurn, turn_in};
 
 /// What a free slot is used for.
@@ -31,8 +31,7 @@ pub(crate) fn turn_at(place: u8) -> Turn
 
 /// Returns the place after this one. After the last place comes the first.
 pub(crate) fn place_after(place: u8) -> u8
-    ensures value { result ≡ (place + 1) % 8 }
-    ensures below { result < 8 }
+    ensures { result ≡ (place + 1) % 8 }
 {
     (place % 8 + 1) % 8
 }

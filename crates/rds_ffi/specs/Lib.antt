@@ -9,5 +9,3 @@ pub mod Viewed
 pub mod Tagged
 pub mod Texts
 pub mod Held
--- The encoder in the caller's memory.
-pub mod EncoderInMemory

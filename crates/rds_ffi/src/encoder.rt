@@ -1,5 +1,5 @@
 //! An encoder in the caller's memory.
-ghost use Rattle.std.specs.Prelude.{◌≡◌, ◌≢◌, ◌+◌, ◌<◌, ◌≤◌, ◌↔◌, ℕ, List, [], ◌∷◌, OnErr, Option, option_map};
+ghost use Rattle.std.specs.Prelude.{◌≡◌, ◌≢◌, ◌+◌, ◌<◌, ◌≤◌, ◌↔◌, ℕ, List, [], ◌∷◌, Option, option_map};
 ghost use Rattle.rds_block.specs.declared.group.Group.{Group};
 ghost use Rattle.rds_fields.specs.declared.head.Head.{Head};
 ghost use Rattle.rds_fields.specs.Stored.{is_set};
@@ -10,11 +10,9 @@ ghost use Rattle.rds_encoder.specs.Entries.{Entry, Restart, SetName, SetTags, Se
 ghost use Rattle.rds_encoder.specs.Plan.{bytes_of, on_air};
 ghost use Rattle.rds_encoder.specs.Reply.{IsSetReply, IsTagsReply, held_for, reply_to, silent_for};
 ghost use Rattle.rds_encoder.specs.Sent.{IsSent, sent_in};
-ghost use Rattle.rds_encoder.specs.EncoderAt.{EncoderAt};
-ghost use Rattle.rds_encoder.specs.Stored.{encoder_stored};
+ghost use Rattle.rds_encoder.specs.EncoderAt.{EncoderAt, Takes, WhereEncoderStands};
 ghost use Rattle.rds_encoder.specs.Tags.{tags_reply};
 ghost use Rattle.rds_ffi.specs.Codes.{RDSRT_BAD_ARGUMENT, RDSRT_BAD_TAGS, RDSRT_OK, IsReplyOf, refusal_of, reply_of};
-ghost use Rattle.rds_ffi.specs.EncoderInMemory.{EncoderInMemory, TakesStored, WhereItIs};
 ghost use Rattle.rds_ffi.specs.Sent.{IsOut};
 ghost use Rattle.rds_ffi.specs.Tagged.{AreGiven, pair_of};
 ghost use Rattle.rds_ffi.specs.Viewed.{IsPlainName, IsPlainText, name_viewed, text_viewed};
@@ -26,7 +24,7 @@ use crate::tags::{RdsrtTags, pair_given};
 use crate::view::{RdsrtName, RdsrtText, plain_name, plain_text};
 use rds_assembly::{Name, Text};
 use rds_block::Place;
-use rds_encoder::{Encoder, Refusal, StoredEncoder};
+use rds_encoder::Encoder;
 use rds_fields::Head;
 
 /// The text and the name on air.
@@ -53,7 +51,7 @@ pub struct RdsrtWait {
 /// `RDSRT_BAD_ARGUMENT` and no change if the programme type is over 31, the dwell 0 or the lateness over 1024.
 #[unsafe(no_mangle)]
 pub extern "C" fn rdsrt_encoder_init(
-    encoder: &mut StoredEncoder,
+    encoder: &mut Encoder,
     pi: u16,
     tp: u8,
     pty: u8,
@@ -61,10 +59,10 @@ pub extern "C" fn rdsrt_encoder_init(
     late: u16,
 ) -> u32
     ensures code { result ≡ RDSRT_OK ↔ ((pty < 32) × (0 < dwell) × (late ≤ 1024)) }
-    ensures first { result ≡ RDSRT_OK → EncoderInMemory record { pi = pi; tp = is_set tp; pty = pty } (dwell + late)
+    ensures first { result ≡ RDSRT_OK → EncoderAt record { pi = pi; tp = is_set tp; pty = pty } (dwell + late)
         encoder.new [] }
     ensures again { result ≡ RDSRT_OK → (entries : List Entry)
-        → EncoderInMemory record { pi = pi; tp = is_set tp; pty = pty } (dwell + late)
+        → EncoderAt record { pi = pi; tp = is_set tp; pty = pty } (dwell + late)
         encoder.new (Restart ∷ entries) }
     ensures bad { result ≢ RDSRT_OK → result ≡ RDSRT_BAD_ARGUMENT }
     ensures kept { result ≢ RDSRT_OK → encoder.new ≡ encoder.old }
@@ -80,7 +78,7 @@ pub extern "C" fn rdsrt_encoder_init(
         tp: tp != 0,
         pty,
     };
-    *encoder = Encoder::new(head, dwell, late).store();
+    *encoder = Encoder::new(head, dwell, late);
     codes::OK
 }
 
@@ -91,10 +89,10 @@ pub extern "C" fn rdsrt_encoder_init(
 /// `RDSRT_TOO_LONG` for over 64 bytes, `RDSRT_BAD_BYTE` with the place of the first byte that a text may not contain,
 /// and then `RDSRT_SILENT` or `RDSRT_HELD` with the slots to wait. Nothing changes.
 #[unsafe(no_mangle)]
-pub extern "C" fn rdsrt_encoder_set_text(encoder: &mut StoredEncoder, text: &[u8]) -> RdsrtReply
-    ensures reply { IsText text.now → WhereItIs encoder.old
+pub extern "C" fn rdsrt_encoder_set_text(encoder: &mut Encoder, text: &[u8]) -> RdsrtReply
+    ensures reply { IsText text.now → WhereEncoderStands encoder.old
         (λ _ m entries. result ≡ reply_of (reply_to m (text_moves entries))) }
-    ensures stands { IsText text.now → TakesStored encoder.old encoder.new (SetText text.now) }
+    ensures stands { IsText text.now → Takes encoder.old encoder.new (SetText text.now) }
     ensures refused { (IsText text.now → ⊥) → (refused : TextRefused)
         × IsRefusedFor 64 is_text_byte text.now refused × (result ≡ refusal_of refused) }
     ensures codes { IsText text.now → IsReplyOf IsSetReply result }
@@ -104,9 +102,7 @@ pub extern "C" fn rdsrt_encoder_set_text(encoder: &mut StoredEncoder, text: &[u8
         Ok(text) => text,
         Err(refused) => return plain_refusal(refused),
     };
-    let mut state = Encoder::restore(encoder);
-    let reply = state.set_text(text);
-    keep(encoder, &state, reply)
+    plain_reply(encoder.set_text(text))
 }
 
 /// Puts the name of these bytes on air from this slot on, padded with spaces to eight.
@@ -116,11 +112,11 @@ pub extern "C" fn rdsrt_encoder_set_text(encoder: &mut StoredEncoder, text: &[u8
 /// `RDSRT_TOO_LONG` for over 8 bytes, `RDSRT_BAD_BYTE` with the place of the first byte that a name may not contain,
 /// and then `RDSRT_SILENT` or `RDSRT_HELD` with the slots to wait. Nothing changes.
 #[unsafe(no_mangle)]
-pub extern "C" fn rdsrt_encoder_set_name(encoder: &mut StoredEncoder, name: &[u8]) -> RdsrtReply
-    ensures reply { IsGivenName name.now → WhereItIs encoder.old
+pub extern "C" fn rdsrt_encoder_set_name(encoder: &mut Encoder, name: &[u8]) -> RdsrtReply
+    ensures reply { IsGivenName name.now → WhereEncoderStands encoder.old
         (λ _ m entries. result ≡ reply_of (reply_to m (name_moves entries))) }
     ensures stands { IsGivenName name.now
-        → TakesStored encoder.old encoder.new (SetName (name_body name.now)) }
+        → Takes encoder.old encoder.new (SetName (name_body name.now)) }
     ensures refused { (IsGivenName name.now → ⊥) → (refused : TextRefused)
         × IsRefusedFor 8 is_name_byte name.now refused × (result ≡ refusal_of refused) }
     ensures codes { IsGivenName name.now → IsReplyOf IsSetReply result }
@@ -130,9 +126,7 @@ pub extern "C" fn rdsrt_encoder_set_name(encoder: &mut StoredEncoder, name: &[u8
         Ok(name) => name,
         Err(refused) => return plain_refusal(refused),
     };
-    let mut state = Encoder::restore(encoder);
-    let reply = state.set_name(name);
-    keep(encoder, &state, reply)
+    plain_reply(encoder.set_name(name))
 }
 
 /// Sets the tags of the text on air.
@@ -142,13 +136,10 @@ pub extern "C" fn rdsrt_encoder_set_name(encoder: &mut StoredEncoder, name: &[u8
 /// `RDSRT_BAD_TAGS` if the numbers are not a valid pair of tags, and then `RDSRT_SILENT` with the slots to wait,
 /// `RDSRT_NO_TEXT`, or `RDSRT_OUT_OF_TEXT_1` or `_2` for the first tag that does not end in the text. Nothing changes.
 #[unsafe(no_mangle)]
-pub extern "C" fn rdsrt_encoder_set_tags(
-    encoder: &mut StoredEncoder,
-    tags: &RdsrtTags,
-) -> RdsrtReply
-    ensures reply { AreGiven tags.now → WhereItIs encoder.old
+pub extern "C" fn rdsrt_encoder_set_tags(encoder: &mut Encoder, tags: &RdsrtTags) -> RdsrtReply
+    ensures reply { AreGiven tags.now → WhereEncoderStands encoder.old
         (λ _ m entries. result ≡ reply_of (tags_reply m (pair_of tags.now) entries)) }
-    ensures stands { AreGiven tags.now → TakesStored encoder.old encoder.new (SetTags (pair_of tags.now)) }
+    ensures stands { AreGiven tags.now → Takes encoder.old encoder.new (SetTags (pair_of tags.now)) }
     ensures refused { (AreGiven tags.now → ⊥) → result ≡ record { code = RDSRT_BAD_TAGS; number = 0 } }
     ensures codes { AreGiven tags.now → IsReplyOf IsTagsReply result }
     ensures kept { result.code ≢ RDSRT_OK → encoder.new ≡ encoder.old }
@@ -159,29 +150,20 @@ pub extern "C" fn rdsrt_encoder_set_tags(
             number: 0,
         };
     };
-    let mut state = Encoder::restore(encoder);
-    let reply = state.set_tags(pair);
-    keep(encoder, &state, reply)
+    plain_reply(encoder.set_tags(pair))
 }
 
 /// Ends the slot, and writes the four blocks of its group. Returns `RDSRT_SENT`, or `RDSRT_OK` and unchanged blocks if
 /// no group is sent. A slot that is not free belongs to other services.
 #[unsafe(no_mangle)]
-pub extern "C" fn rdsrt_encoder_tick(
-    encoder: &mut StoredEncoder,
-    free: u8,
-    blocks: &mut [u16; 4],
-) -> u32
-    ensures sent { WhereItIs encoder.old (λ station m entries. (group : Option Group)
+pub extern "C" fn rdsrt_encoder_tick(encoder: &mut Encoder, free: u8, blocks: &mut [u16; 4]) -> u32
+    ensures sent { WhereEncoderStands encoder.old (λ station m entries. (group : Option Group)
         × IsSent station (sent_in m (is_set free) entries) group × IsOut result blocks.new group) }
-    ensures stands { TakesStored encoder.old encoder.new (Tick (is_set free)) }
+    ensures stands { Takes encoder.old encoder.new (Tick (is_set free)) }
     ensures few { result ≤ 1 }
     ensures kept { result ≡ RDSRT_OK → blocks.new ≡ blocks.old }
 {
-    let mut state = Encoder::restore(encoder);
-    let sent = state.tick(free != 0);
-    *encoder = state.store();
-    let Some(group) = sent else {
+    let Some(group) = encoder.tick(free != 0) else {
         return codes::OK;
     };
     *blocks = group.to_blocks();
@@ -190,49 +172,34 @@ pub extern "C" fn rdsrt_encoder_tick(
 
 /// The text and the name on air.
 #[unsafe(no_mangle)]
-pub extern "C" fn rdsrt_encoder_on_air(encoder: &StoredEncoder, air: &mut RdsrtOnAir)
-    ensures text { WhereItIs encoder.now (λ _ m entries.
+pub extern "C" fn rdsrt_encoder_on_air(encoder: &Encoder, air: &mut RdsrtOnAir)
+    ensures text { WhereEncoderStands encoder.now (λ _ m entries.
         text_viewed air.new.text ≡ option_map bytes_of (on_air m (text_moves entries))) }
-    ensures name { WhereItIs encoder.now (λ _ m entries.
+    ensures name { WhereEncoderStands encoder.now (λ _ m entries.
         name_viewed air.new.name ≡ option_map bytes_of (on_air m (name_moves entries))) }
     ensures plain_text { IsPlainText air.new.text }
     ensures plain_name { IsPlainName air.new.name }
 {
-    let state = Encoder::restore(encoder);
     *air = RdsrtOnAir {
-        text: plain_text(state.text()),
-        name: plain_name(state.name()),
+        text: plain_text(encoder.text()),
+        name: plain_name(encoder.name()),
     };
 }
 
 /// Returns the number of slots for which a set would be refused, including this one.
 #[unsafe(no_mangle)]
-pub extern "C" fn rdsrt_encoder_wait(encoder: &StoredEncoder, wait: &mut RdsrtWait)
-    ensures silent { WhereItIs encoder.now
+pub extern "C" fn rdsrt_encoder_wait(encoder: &Encoder, wait: &mut RdsrtWait)
+    ensures silent { WhereEncoderStands encoder.now
         (λ _ m entries. wait.new.silent ≡ silent_for (reply_to m (text_moves entries))) }
-    ensures text { WhereItIs encoder.now
+    ensures text { WhereEncoderStands encoder.now
         (λ _ m entries. wait.new.text ≡ held_for (reply_to m (text_moves entries))) }
-    ensures name { WhereItIs encoder.now
+    ensures name { WhereEncoderStands encoder.now
         (λ _ m entries. wait.new.name ≡ held_for (reply_to m (name_moves entries))) }
 {
-    let left = Encoder::restore(encoder).wait();
+    let left = encoder.wait();
     *wait = RdsrtWait {
         silent: left.silent,
         text: left.text,
         name: left.name,
     };
-}
-
-/// Stores the encoder after a set that was accepted, and returns the reply.
-fn keep(encoder: &mut StoredEncoder, state: &Encoder, reply: Result<(), Refusal>) -> RdsrtReply
-    ensures reply { result ≡ reply_of reply }
-    ensures stands { (station : Head) (m : ℕ) (entries after : List Entry)
-        → EncoderInMemory station m encoder.old entries → OnErr reply (state.now ≡ encoder_stored encoder.old)
-        → EncoderAt station m state.now after → EncoderInMemory station m encoder.new after }
-    ensures kept { OnErr reply (encoder.new ≡ encoder.old) }
-{
-    if reply.is_ok() {
-        *encoder = state.store();
-    }
-    plain_reply(reply)
 }

@@ -22,7 +22,7 @@ mod view;
 // The sizes that the C header states.
 const _: () = prove!(size_of::<rds_receiver::Receiver>() == 264);
 
-const _: () = prove!(size_of::<rds_encoder::StoredEncoder>() == 116);
+const _: () = prove!(size_of::<rds_encoder::Encoder>() == 116);
 
 const _: () = prove!(size_of::<rds_audit::Audit>() == 312);
 

@@ -1,5 +1,5 @@
 -- How a script is played on by a record, and what is left at each end.
-use Rattle.std.proofs.Common.{◌≡◌, ◌≢◌, ◌<◌, ◌≤◌, ◌+◌, ◌∷◌, [], ℕ, Bool, List, Option, arith, false, length, true}
+use Rattle.std.proofs.Common.{◌≡◌, ◌≢◌, ◌<◌, ◌≤◌, ◌+◌, ◌++◌, ◌∷◌, [], ℕ, Bool, List, Option, arith, false, length, true}
 use Rattle.std.specs.Prelude.{Err, Ok, Result}
 use Rattle.rds_io.specs.Told.{Traffic}
 use Rattle.rds_io.specs.Waits.{IsLost, Waits}
@@ -49,7 +49,17 @@ pub played_on : {R : Type 0} {g h : _} (remaining : R → Option (List ℕ)) (Re
     result → result ≡ Ok true
     → ScriptStandsAt remaining known s (row ∷ records) × PlayedSoFar how now (row ∷ records) w more
 played_on remaining ReadFailed how known s p now row number records w waiting more result played next is =
-    grind (arith, waits_more)
+    let next = rw is at next in
+    let lines = next.1.0 in
+    let plays = next.1.2 in (
+      next.0,
+      record {
+        receivers = plays.0;
+        total = played.total ++ lines;
+        player = plays.1;
+        waits = waits_more w waiting more played.total lines played.waits next.1.1;
+      },
+    )
 
 -- no row was played
 pub not_more : (more : Bool) (result : Result Bool LogFault) → result ≡ Ok more → more ≡ false → result ≢ Ok true

@@ -5,7 +5,7 @@ use Rattle.std.specs.Prelude.{ℕ, ◌+◌, Bool, List, Option}
 use Rattle.circular_buffer.specs.Buffer.{Buffer}
 use Rattle.rds_block.specs.declared.group.Group.{Group}
 use Rattle.rds_fields.specs.declared.message.Message.{Message}
-use Rattle.rds_encoder.specs.State.{EncoderState}
+use Rattle.rds_encoder.specs.declared.encoder.Encoder.{Encoder}
 use Rattle.rds_world.specs.ReceiverKind.{lateness_of}
 use Rattle.rds_receiver.specs.declared.receiver.Receiver.{Receiver}
 use Rattle.rds_world.specs.declared.world.Config.{Config}
@@ -17,7 +17,7 @@ distance config = config.dwell + lateness_of config.kind config.late
 
 pub record WorldState : Type 0 where
   pub config : Config
-  pub encoder : EncoderState
+  pub encoder : Encoder
   pub receivers : List Receiver
   pub stays : List Bool
   pub reaches : List ℕ

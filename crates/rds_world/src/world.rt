@@ -179,8 +179,10 @@ impl World {
             option_copied result.0 ≡ text_on_air config events) }
         ensures name { WhereWorldStands self.now (λ config events.
             option_copied result.1 ≡ name_on_air config events) }
-        ensures is_text { IfSome result.0 (λ x. IsText x.now) }
-        ensures is_name { IfSome result.1 (λ x. IsName x.now) }
+        ensures is_text { WhereWorldStands self.now (λ _ _. IfSome result.0 (λ x. IsText x.now)) }
+        ensures is_name { WhereWorldStands self.now (λ _ _. IfSome result.1 (λ x. IsName x.now)) }
+        ensures short_text { IfSome result.0 (λ x. length x.now ≤ 64) }
+        ensures short_name { IfSome result.1 (λ x. length x.now ≡ 8) }
     {
         (self.encoder.text(), self.encoder.name())
     }

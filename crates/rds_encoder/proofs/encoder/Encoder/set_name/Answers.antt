@@ -19,9 +19,8 @@ pub returns-clause-reply : goal.returns-clause-reply
 returns-clause-reply c station m entries stands = grind (arith, nat_tests, names_after_silence)
 
 pub returns-clause-stands : goal.returns-clause-stands
-returns-clause-stands c station m entries stands =
-    let st = rw (← c.self.view_is) at stands in
-    let ok = sym (returns-clause-reply c station m entries stands) in
-    let back = rw (c.restore-distance.ensures c.self.invariant.some c.self.invariant.distance ∙ st.distance)
+returns-clause-stands c station m entries st =
+    let ok = sym (returns-clause-reply c station m entries st) in
+    let back = rw (c.restore-distance.ensures st.good.some st.good.distance ∙ st.distance)
     at (c.in_ok-set.ensures.hold (name_moves entries) c.args.name) in
-    name_accepted station m _ _ entries c.args.name st ok (back st.name.hold ok) c.of-self-inside.ensures.same
+    name_accepted station m _ _ _ entries c.args.name st ok (back st.name_hold ok) c.of-self.ensures.same c.of-self.ensures.good

@@ -1,6 +1,6 @@
 use Rattle.std.proofs.Common.{arith}
 use Rattle.rds_encoder.specs.Entries.{text_moves}
-use Rattle.rds_encoder.proofs.stored.StoredEncoder.check_tags.Goals as goal
+use Rattle.rds_encoder.proofs.encoder.Encoder.check_tags.Goals as goal
 
 pub returns-then-not-ends_in-clause-reply : goal.returns-then-not-ends_in-clause-reply
 returns-then-not-ends_in-clause-reply c station m entries st =

@@ -1,7 +1,7 @@
 use Rattle.std.proofs.lemmas.Bool.Decides.{nat_tests}
 use Rattle.std.proofs.Common.{arith}
 use Rattle.rds_encoder.proofs.OnAir.{start_on_air}
-use Rattle.rds_encoder.proofs.stored.StoredHold.has_lasted.Goals as goal
+use Rattle.rds_encoder.proofs.hold.Hold.has_lasted.Goals as goal
 
 pub returns : goal.returns
 returns c moves air h on =
