@@ -70,7 +70,7 @@ record HasCut (text : List ℕ) (slots : List (Option Group)) : Type 0 where
   pub lines : All IsLine cut
   pub say : AreSlots 11 cut slots
 
-more_text : (text line : List ℕ) (cut : List Line) → text ≡ text_of cut []
+pub more_text : (text line : List ℕ) (cut : List Line) → text ≡ text_of cut []
     → text ++ (line ++ codes "\n") ≡ text_of (line ∷ cut) []
 more_text text line cut is = grind (arith, codes, append_assoc, text_of-more)
 

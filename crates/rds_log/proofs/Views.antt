@@ -35,7 +35,7 @@ slot_given why t v after slots written before now group display s receiver is sa
   },
 )
 
-newest_view : (why : Bool) (t : Tuning) (slots : List (Option Group)) (displays : List Display)
+pub newest_view : (why : Bool) (t : Tuning) (slots : List (Option Group)) (displays : List Display)
     → AreDisplays why t slots displays → IsView t slots (newest displays)
 newest_view why t [] [] are = view_of_none t
 newest_view why t (slot ∷ before) (display ∷ older) are = are.0.view

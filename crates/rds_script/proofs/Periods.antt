@@ -12,6 +12,7 @@ use Rattle.rds_view_lines.specs.KeptView.{view_kept}
 use Rattle.rds_view_lines.specs.Output.{is_same_item, is_same_tag, is_same_text, nothing_shown}
 use Rattle.rds_view_lines.specs.Part.{same_parts}
 use Rattle.rds_view_lines.specs.declared.parts.Parts.{Parts}
+use Rattle.rds_view_lines.specs.NoChange.{same_tag, same_text}
 use Rattle.rds_script.specs.Inside.Compared.{AirsStand, WereBefore, airs_in, goes_on, newest_of, parts_on_air, reached}
 use Rattle.rds_script.specs.Inside.Compared.{was_on_air}
 use Rattle.rds_world.specs.Event.{Event}
@@ -26,29 +27,19 @@ use Rattle.rds_script.specs.declared.airs.Lookback.{Lookback}
 use Rattle.rds_script.specs.declared.airs.Lookback.TheVariants.{Ever, Lately, Texts}
 use Rattle.rds_script.specs.declared.airs.Period.{Period}
 
--- a text is the same as itself, and as no other
-same_text : (text : Option (List ℕ)) → is_same_text text text ≡ true
-same_text text = grind (arith, bytes_eq-Decides)
-
-one_text : (text other : Option (List ℕ)) → is_same_text text other ≡ true → text ≡ other
+-- a text is the same as no other
+pub one_text : (text other : Option (List ℕ)) → is_same_text text other ≡ true → text ≡ other
 one_text text other same = grind (arith, bytes_eq-Decides)
 
-one_tag : (tag other : Option (ℕ × List ℕ)) → is_same_tag tag other ≡ true → tag ≡ other
+pub one_tag : (tag other : Option (ℕ × List ℕ)) → is_same_tag tag other ≡ true → tag ≡ other
 one_tag tag other same = grind (arith, bytes_eq-Decides)
-
-same_tag : (tag : Option (ℕ × List ℕ)) → is_same_tag tag tag ≡ true
-same_tag tag = grind (arith, bytes_eq-Decides)
-
--- an item is the same as itself
-pub same_item : (item : Option (Bool × Bool)) → is_same_item item item ≡ true
-same_item item = grind arith
 
 -- equal views have all parts the same
 pub parts_same : (view other : ShownView) (parts : Parts) → parts ≡ same_parts view other → view ≡ other
     → parts ≡ record { text = true; name = true; one = true; two = true }
 parts_same view other parts is same = grind (arith, same_text, same_tag)
 
-one_item : (item other : Option (Bool × Bool)) → is_same_item item other ≡ true → item ≡ other
+pub one_item : (item other : Option (Bool × Bool)) → is_same_item item other ≡ true → item ≡ other
 one_item item other same = grind arith
 
 -- views with all parts the same are equal

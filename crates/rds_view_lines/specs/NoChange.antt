@@ -10,18 +10,18 @@ use Rattle.rds_receiver.specs.declared.why.Whys.{Whys}
 use Rattle.rds_view_lines.specs.Output.{change, is_same_item, is_same_tag, is_same_text, nothing_shown}
 
 -- an unchanged part has no line
-same_text : (o : Option (List ℕ)) → is_same_text o o ≡ true
+pub same_text : (o : Option (List ℕ)) → is_same_text o o ≡ true
 same_text None = refl
 same_text (Some x) = (bytes_eq-Decides x x).1 refl
 
-same_item : (o : Option (Bool × Bool)) → is_same_item o o ≡ true
+pub same_item : (o : Option (Bool × Bool)) → is_same_item o o ≡ true
 same_item None = refl
 same_item (Some (true, true)) = refl
 same_item (Some (true, false)) = refl
 same_item (Some (false, true)) = refl
 same_item (Some (false, false)) = refl
 
-same_tag : (o : Option (ℕ × List ℕ)) → is_same_tag o o ≡ true
+pub same_tag : (o : Option (ℕ × List ℕ)) → is_same_tag o o ≡ true
 same_tag None = refl
 same_tag (Some (n, x)) = rw (eq-eqb n n refl, (bytes_eq-Decides x x).1 refl) refl
 

@@ -1,7 +1,7 @@
 -- What `slots` writes of a recording is received, by a clock of the receiver's own.
 use Rattle.std.proofs.lemmas.Bool.Decides.{nat_tests}
 use Rattle.std.proofs.Common.{◌≡◌, ◌<◌, ◌≤◌, ◌+◌, ◌-◌, ◌==◌, ◌∷◌, [], ◌∙◌, ℕ, suc, cond}
-use Rattle.std.proofs.Common.{List, Option, None, Some, ap, arith, inl, inr, length, map, refl, subst, sym}
+use Rattle.std.proofs.Common.{List, Option, None, Some, ap, arith, inr, length, map, refl, subst, sym}
 use Rattle.std.proofs.lemmas.List.{length-map}
 use Rattle.rds_arrivals.specs.Arrivals.{Arrival, and_lost, filled}
 use Rattle.rds_arrivals.specs.Delivered.{arrivals, origins}
@@ -11,9 +11,10 @@ use Rattle.rds_log.specs.FilledLog.{FilledTextsAreLogs, IsLogOf}
 use Rattle.rds_log.specs.OneLog.{same_log}
 use Rattle.rds_safety.specs.Late.{HasEntry, IsOfItsOrigin}
 use Rattle.rds_safety.specs.OwnClock.{IsHeardByOwnClock}
+use Rattle.rds_safety.proofs.Entries.{one_entry}
 use Rattle.rds_wire.specs.FromTimes.{WhatSlotsWritesIsReceived}
 use Rattle.rds_wire.specs.Received.{first_entries, own_group}
-use Rattle.rds_wire.proofs.Firsts.{entry_below, first_all}
+use Rattle.rds_wire.proofs.Firsts.{first_all}
 
 -- ---- without the groups of other programmes
 
@@ -52,13 +53,6 @@ kept pi (slot ∷ before) (o ∷ older) t origin same here =
 was_there : (pi : ℕ) (slot : Option Group) (was : Option ℕ) (s : ℕ) → Some s ≡ kept_origin pi slot was → was ≡ Some s
 was_there pi slot was s is = grind arith
 
-one_entry : {X : Type 0} (xs : List X) (t : ℕ) (x y : X) → HasEntry 0 xs t x → HasEntry 0 xs t y → x ≡ y
-one_entry [] t x y p q = absurd p
-one_entry (z ∷ xs) t x y (inl p) (inl q) = p.1 ∙ sym q.1
-one_entry (z ∷ xs) t x y (inl p) (inr q) = absurd (omega (arith, p.0, entry_below 0 xs t y q))
-one_entry (z ∷ xs) t x y (inr p) (inl q) = absurd (omega (arith, q.0, entry_below 0 xs t x p))
-one_entry (z ∷ xs) t x y (inr p) (inr q) = one_entry xs t x y p q
-
 map_entry : (f : Option Group → Option Group) (xs : List (Option Group)) (t : ℕ) (x : Option Group) → HasEntry 0 xs t x
     → HasEntry 0 (map f xs) t (f x)
 map_entry f [] t x at = absurd at
@@ -73,7 +67,7 @@ module _ (pi d m now : ℕ) (sent got : List (Option Group)) (from : List (Optio
       → HasEntry 0 (map (own_group pi) got) t entry → IsOfItsOrigin sent origin entry
   each t origin entry p q =
       let it = kept pi got from t origin own.order.beside p in
-      let same = one_entry (map (own_group pi) got) t entry (own_group pi it.slot) q
+      let same = one_entry 0 (map (own_group pi) got) t entry (own_group pi it.slot) q
       (map_entry (own_group pi) got t it.slot it.came) in
       grind (arith, nat_tests, own.order.each t it.was it.slot it.from_was it.came)
 

@@ -1,8 +1,9 @@
 -- The first entries of a list over time, and the input of a receiver up to a slot.
-use Rattle.std.proofs.Common.{◌≡◌, ◌+◌, ◌-◌, ◌<◌, ◌≤◌, ℕ, suc, List, [], ◌∷◌, length, refl, sym, ap, ◌∙◌, subst, inl}
+use Rattle.std.proofs.Common.{◌≡◌, ◌-◌, ◌<◌, ◌≤◌, ℕ, suc, List, [], ◌∷◌, length, refl, sym, ap, ◌∙◌, subst, inl}
 use Rattle.std.proofs.Common.{inr, arith}
 use Rattle.std.proofs.lemmas.Bool.{cases_lt}
 use Rattle.rds_safety.specs.Late.{HasEntry}
+use Rattle.rds_safety.proofs.Entries.{before_end}
 use Rattle.rds_wire.specs.Received.{first_entries}
 
 -- no more than n entries are all of them
@@ -22,17 +23,11 @@ first_length n (x ∷ xs) some = elim (cases_lt (length xs) n) [
   | inr more ↦ ap length (first_more n x xs more) ∙ first_length n xs more
 ]
 
--- an entry has a slot below the number of entries
-pub entry_below : {X : Type 0} (first : ℕ) (xs : List X) (t : ℕ) (x : X) → HasEntry first xs t x → t < first + length xs
-entry_below first [] t x has = absurd has
-entry_below first (y ∷ ys) t x (inl has) = omega (arith, has.0)
-entry_below first (y ∷ ys) t x (inr has) = omega (arith, entry_below first ys t x has)
-
 -- an entry of the first ones
 pub entry_in_first : {X : Type 0} (n : ℕ) (xs : List X) (t : ℕ) (x : X) → HasEntry 0 (first_entries n xs) t x
     → HasEntry 0 xs t x × (t < n)
 entry_in_first n [] t x has = absurd (subst (λ l. HasEntry 0 l t x) (first_all n [] (omega arith)) has)
-entry_in_first n (y ∷ ys) t x has = grind (arith, entry_in_first n ys t x, first_all, entry_below, first_more)
+entry_in_first n (y ∷ ys) t x has = grind (arith, entry_in_first n ys t x, first_all, before_end, first_more)
 
 -- an entry of an early slot is one of the first ones
 pub entry_of_first : {X : Type 0} (n : ℕ) (xs : List X) (t : ℕ) (x : X) → HasEntry 0 xs t x → t < n

@@ -2,7 +2,6 @@
 use Rattle.std.proofs.Common.{◌≡◌, ◌≢◌, ◌<◌, ◌+◌, ◌/◌, ◌%◌, ◌==◌, ◌++◌, ◌∷◌, [], ◌∙◌, ℕ, Bool, false}
 use Rattle.std.proofs.Common.{List, Option, None, Some, append_assoc, append-nil, ap, arith, codes, inl}
 use Rattle.std.proofs.Common.{inr, length, refl, subst, sym, slice_index}
-use Rattle.std.specs.Char.{digit_value}
 use Rattle.std.specs.List.{AllByRecursion}
 use Rattle.std.specs.Prelude.{All}
 use Rattle.std.proofs.lemmas.Bool.Decides.{nat_tests}
@@ -26,6 +25,7 @@ use Rattle.rds_log.specs.LogLines.{IsLine, Line, content_length, line_feed, text
 use Rattle.rds_fields.specs.TagGroup.{MayCarryTags, exchanged, exchanged_in}
 use Rattle.rds_fields.proofs.Exchange.{exchanged_in_twice}
 use Rattle.rds_log.specs.LogWrites.{AreSlots}
+use Rattle.rds_log.proofs.FilledText.{more_text}
 use Rattle.rds_receiver.specs.Shown.{ShownView}
 use Rattle.rds_receiver.specs.declared.why.Whys.{Whys}
 use Rattle.rds_script.specs.Outcomes.{AreOutcomes, Outcome, block_digits, lines_of, log_line, receiver_changes}
@@ -39,6 +39,7 @@ use Rattle.rds_world.specs.declared.reply.Reply.TheVariants.{Restarted, Done, Re
 use Rattle.rds_world.specs.declared.reply.Reply.TheVariants as reply
 use Rattle.rds_wire.specs.Wire.{IsHead, station_of}
 use Rattle.rds_wire.proofs.Printed.{decimal_line, empty_line, feedless, join_lines, more_line, prefixes}
+use Rattle.rds_charset.proofs.PrintedText.{upper_digit-value}
 
 -- ---- bytes without a line feed
 
@@ -54,20 +55,9 @@ pub record HasCut (n : ℕ) (text : List ℕ) (slots : List (Option Group)) : Ty
   pub lines : All IsLine cut
   pub say : AreSlots n cut slots
 
--- bytes after a text go on with its last line
-pub text_more : (closed : List Line) (begun bytes : Line) → text_of closed begun ++ bytes ≡ text_of closed
-    (begun ++ bytes)
-text_more [] begun bytes = refl
-text_more (line ∷ before) begun bytes = append_assoc (text_of before line) (line_feed ∷ begun) bytes
-
 -- such a text is a log
 pub is_log_of : (n : ℕ) (text : List ℕ) (slots : List (Option Group)) → HasCut n text slots → IsLogOf n text slots
 is_log_of n text slots had = grind arith
-
--- a line more after a text
-pub more_text : (text line : List ℕ) (cut : List Line) → text ≡ text_of cut []
-    → text ++ (line ++ codes "\n") ≡ text_of (line ∷ cut) []
-more_text text line cut is = grind (arith, text_more)
 
 with_slot : (n : ℕ) (text line : List ℕ) (slot : Option Group) (slots : List (Option Group)) → HasCut n text slots
     → IsLine line
@@ -125,9 +115,6 @@ with_reply n text slot c (Refused refusal) slots had = grind (arith, with_mark, 
 
 -- ---- groups
 
-value : (n : ℕ) → n < 16 → digit_value (upper_digit n) ≡ n
-value n h = grind (arith, nat_tests)
-
 digit : (n : ℕ) → n < 16 → upper_digit n ≢ line_feed
 digit n h = grind (arith, nat_tests)
 
@@ -138,7 +125,7 @@ word_at : (line : List ℕ) (at w : ℕ) → w < 65536 → slice_index line at �
     → slice_index line (at + 1) ≡ upper_digit (w / 256 % 16)
     → slice_index line (at + 2) ≡ upper_digit (w / 16 % 16) → slice_index line (at + 3) ≡ upper_digit (w % 16)
     → HasWord line at w
-word_at line at w fits a b c d = grind (arith, value)
+word_at line at w fits a b c d = grind (arith, upper_digit-value)
 
 -- the words and the fields of a group fit into their bits
 pub record Fits (g : Group) : Type 0 where

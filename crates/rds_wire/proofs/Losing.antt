@@ -7,9 +7,10 @@ use Rattle.rds_fields.specs.declared.message.Message.{Message}
 use Rattle.rds_receiver.specs.Receipts.{heard_of}
 use Rattle.rds_safety.specs.Confirmed.{WasSent}
 use Rattle.rds_safety.specs.Late.{HasEntry, InputOf, IsHeardInOrder, IsHeardLate, own_origins}
+use Rattle.rds_safety.proofs.Entries.{before_end}
 use Rattle.rds_wire.specs.Received.{WhoLosesSlotsReceives, first_entries, own_group}
 use Rattle.rds_wire.specs.Twice.{WhoLosesSlotsReceivesForTwo}
-use Rattle.rds_wire.proofs.Firsts.{entry_below, entry_in_first}
+use Rattle.rds_wire.proofs.Firsts.{entry_in_first}
 use Rattle.rds_wire.proofs.Receiving.{entry_left, late_groups, own_heard}
 use Rattle.rds_wire.proofs.Wired.{entry_at}
 
@@ -24,8 +25,8 @@ beside : {X : Type 0} (got : List (Option X)) (t : ℕ) (origin : Option ℕ) (e
     → HasEntry 0 (own_origins 0 got) t origin → HasEntry 0 got t entry
     → ((origin ≡ None) × (entry ≡ None)) ⊎ ((origin ≡ Some t) × ((x : X) × (entry ≡ Some x)))
 beside [] t origin entry p q = absurd q
-beside (None ∷ before) t origin entry p q = grind (arith, beside before t origin entry, origins_long, entry_below)
-beside (Some x ∷ before) t origin entry p q = grind (arith, beside before t origin entry, origins_long, entry_below)
+beside (None ∷ before) t origin entry p q = grind (arith, beside before t origin entry, origins_long, before_end)
+beside (Some x ∷ before) t origin entry p q = grind (arith, beside before t origin entry, origins_long, before_end)
 
 own : {X : Type 0} (got : List (Option X)) (t s : ℕ) → HasEntry 0 (own_origins 0 got) t (Some s) → s ≡ t
 own [] t s from = absurd from
@@ -86,7 +87,7 @@ heard_was_sent : (log heard : List (Option Message)) (origins : List (Option ℕ
     → WasSent record { first = 0; heard = heard; origins = origins } t
 heard_was_sent log heard origins t message order at =
     let beside = order.beside in
-    let it = entry_at origins t (omega (arith, beside, entry_below 0 heard t (Some message) at)) in
+    let it = entry_at origins t (omega (arith, beside, before_end 0 heard t (Some message) at)) in
     by it.0 it.1
   where
     by : (origin : Option ℕ) → HasEntry 0 origins t origin

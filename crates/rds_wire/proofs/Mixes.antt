@@ -7,18 +7,19 @@ use Rattle.rds_receiver.specs.OneView.{same_view}
 use Rattle.rds_receiver.specs.Receipts.{Tuning}
 use Rattle.rds_receiver.specs.Shown.{IsView, ShownView}
 use Rattle.rds_receiver.specs.declared.why.Whys.{Whys}
-use Rattle.rds_view_lines.specs.NoChange.{view_of_none}
 use Rattle.rds_view_lines.specs.Output.{Display, newest}
 use Rattle.rds_view_lines.specs.ViewParts.{line_in, part_content}
 use Rattle.rds_log.specs.LogWrites.{AreDisplays}
+use Rattle.rds_log.proofs.Views.{newest_view}
 use Rattle.rds_wire.specs.Mixes.{AMixIsShown}
 use Rattle.rds_wire.proofs.Reading.{In, are_lines, contains_from_in, in_older, in_slot, is_same_part, lines_of}
-use Rattle.rds_wire.proofs.Reading.{tag_stays, text_stays}
 use Rattle.rds_wire.proofs.Views.{displays_long}
 use Rattle.rds_witness.specs.Lines.{content_of, part_of}
 use Rattle.rds_witness.specs.Lost.{got}
 use Rattle.rds_witness.specs.Mix.{Has, IsNew, ViewHas, Thing}
 use Rattle.rds_witness.specs.declared.burst.Burst.{Burst}
+use Rattle.rds_witness.proofs.Losses.{got_long}
+use Rattle.rds_script.proofs.Periods.{one_tag, one_text}
 
 -- the part of a view that has the thing has its content
 content_is : (thing : Thing) (whys : Option Whys) (view : ShownView) → Has view thing
@@ -28,18 +29,7 @@ content_is thing whys view has = grind arith
 -- it is not the part of a view that does not show the thing
 is_new : (thing : Thing) (before now : ShownView) → (ViewHas before thing → ⊥) → Has now thing
     → is_same_part (part_of thing) before now ≡ false
-is_new thing before now isnt has = grind (arith, is_same_part, text_stays, tag_stays)
-
-newest_view : (why : Bool) (t : Tuning) (slots : List (Option Group)) (displays : List Display)
-    → AreDisplays why t slots displays → IsView t slots (newest displays)
-newest_view why t [] [] are = view_of_none t
-newest_view why t (slot ∷ before) (display ∷ older) are = are.0.view
-newest_view why t _ _ are = absurd are
-
-got_long : (lost : List Burst) (log : List (Option Group)) (n : ℕ) → length (got lost log n) ≡ n
-unfolding got
-got_long lost log zero = refl
-got_long lost log (suc n) = (let rest = got_long lost log n in omega (arith, rest))
+is_new thing before now isnt has = grind (arith, is_same_part, one_text, one_tag)
 
 -- the line of the thing is one of the lines of the displays
 has_line : (why : Bool) (t : Tuning) (log : List (Option Group)) (lost : List Burst) (slot : ℕ) (thing : Thing) (n : ℕ)

@@ -3,15 +3,15 @@ use Rattle.std.proofs.Common.{◌≡◌, ◌≢◌, ◌⊎◌, ◌<◌, ◌≤�
 use Rattle.std.proofs.Common.{true, false, List, Option, None, Some, append_assoc, ap, arith}
 use Rattle.std.proofs.Common.{codes, decimal, inl, inr, length, refl, subst, sym, get_or}
 use Rattle.std.specs.List.{Contains}
-use Rattle.std.specs.Str.{bytes_eq}
 use Rattle.std.specs.Prelude.{All}
 use Rattle.std.proofs.lemmas.Bool.Decides.{nat_tests}
 use Rattle.std.proofs.lemmas.Fmt.{decimal_injective}
 use Rattle.std.proofs.lemmas.List.Elements.{All-nil, All-head, All-tail}
-use Rattle.std.proofs.lemmas.Slice.Eq.{bytes_eq-Decides}
 use Rattle.rds_log.specs.LogLines.{AreLines, IsLine, Line, text_of}
+use Rattle.rds_log.proofs.Cutting.{text_of-more}
 use Rattle.rds_receiver.specs.Shown.{ShownView}
 use Rattle.rds_safety.specs.Late.{HasEntry}
+use Rattle.rds_safety.proofs.Entries.{before_end}
 use Rattle.rds_receiver.specs.declared.why.WhyNone.{WhyNone}
 use Rattle.rds_receiver.specs.declared.why.Whys.{Whys}
 use Rattle.rds_charset.specs.Printed.{printed}
@@ -20,10 +20,9 @@ use Rattle.rds_view_lines.specs.Output.{is_same_tag, is_same_text, item_content,
 use Rattle.rds_view_lines.specs.Output.{none_content, nothing_shown, quoted, slot_prefix, tag_content, text_content}
 use Rattle.rds_view_lines.specs.Output.{unless_same, why_content, why_name, why_text}
 use Rattle.rds_view_lines.specs.ViewParts.{Item, Name, Part, Tag1, Tag2, Text, line_in, part_content, part_name}
-use Rattle.rds_wire.proofs.Firsts.{entry_below}
-use Rattle.rds_wire.proofs.Logs.{text_more}
 use Rattle.rds_wire.proofs.Printed.{IsNoDigit, Lacks, decimal_lacks, decimal_line, empty_line, feedless, join_lines}
 use Rattle.rds_wire.proofs.Printed.{printed_line, prefixes}
+use Rattle.rds_script.proofs.Periods.{one_item, one_tag, one_text}
 
 -- ---- the prefix of a line
 
@@ -140,7 +139,7 @@ lines_of (d ∷ older) = with_slot (length older) (newest older) d (lines_of old
 
 body_text : (b : Bool) (body : Line) (rest : List Line) → text_of (body_unless b body rest) [] ≡ text_of rest []
     ++ unless_same b (body ++ codes "\n")
-body_text b body rest = grind (arith, text_more)
+body_text b body rest = grind (arith, text_of-more)
 
 line_ends : (prefix part content : List ℕ) → (prefix ++ (part ++ content)) ++ codes "\n" ≡ line_of prefix part content
 line_ends prefix part content = simp append_assoc
@@ -264,29 +263,13 @@ in_slot Tag2 n before now rest changed = search (arith, after_body, changed_body
 
 -- ---- a part that did not change
 
-same_bytes : (x y : List ℕ) → bytes_eq x y ≡ true → x ≡ y
-same_bytes x y e = (bytes_eq-Decides x y).0 e
-
--- texts that are the same
-pub text_stays : (o w : Option (List ℕ)) → is_same_text o w ≡ true → o ≡ w
-text_stays (Some x) (Some y) e = ap Some (same_bytes x y e)
-text_stays o w e = grind arith
-
-item_stays : (o w : Option (Bool × Bool)) → is_same_item o w ≡ true → o ≡ w
-item_stays o w e = grind arith
-
--- tags that are the same
-pub tag_stays : (o w : Option (ℕ × List ℕ)) → is_same_tag o w ≡ true → o ≡ w
-tag_stays (Some (a, b)) (Some (c, d)) e = grind (arith, nat_tests, same_bytes b d)
-tag_stays o w e = grind arith
-
 part_stays : (p : Part) (whys : Option Whys) (v w : ShownView) → is_same_part p v w ≡ true
     → part_content p whys v ≡ part_content p whys w
-part_stays Text whys v w e = ap (text_content (why_text whys)) (text_stays v.text w.text e)
-part_stays Name whys v w e = ap (text_content (why_name whys)) (text_stays v.name w.name e)
-part_stays Item whys v w e = ap item_content (item_stays v.item w.item e)
-part_stays Tag1 whys v w e = ap tag_content (tag_stays v.one w.one e)
-part_stays Tag2 whys v w e = ap tag_content (tag_stays v.two w.two e)
+part_stays Text whys v w e = ap (text_content (why_text whys)) (one_text v.text w.text e)
+part_stays Name whys v w e = ap (text_content (why_name whys)) (one_text v.name w.name e)
+part_stays Item whys v w e = ap item_content (one_item v.item w.item e)
+part_stays Tag1 whys v w e = ap tag_content (one_tag v.one w.one e)
+part_stays Tag2 whys v w e = ap tag_content (one_tag v.two w.two e)
 
 -- a part without a line shows what it showed before
 kept_part : (p : Part) (whys : Option Whys) (n : ℕ) (before : ShownView) (x : Display) (rest : List Line)
@@ -305,14 +288,14 @@ pub stays : (displays : List Display) (p : Part) (whys : Option Whys) (s t : ℕ
 stays [] p whys s t e d order from to none = absurd to
 stays (x ∷ older) p whys s t e d order (inl from) (inl to) none = grind arith
 stays (x ∷ older) p whys s t e d order (inl from) (inr to) none =
-    absurd (omega (arith, from.0, order, entry_below 0 older t d to))
+    absurd (omega (arith, from.0, order, before_end 0 older t d to))
 stays (x ∷ older) p whys s t e d order (inr from) (inr to) none =
     stays older p whys s t e d order from to
     (λ u content after upto is. none u content after upto
     (in_older (line_in u p content) (length older) (newest older) x (lines_of older) is))
 stays (x ∷ []) p whys s t e d order (inr from) (inl to) none = absurd from
 stays (x ∷ y ∷ more) p whys s t e d order (inr from) (inl to) none =
-    let below = entry_below 0 (y ∷ more) s e from in
+    let below = before_end 0 (y ∷ more) s e from in
     let rest = stays (y ∷ more) p whys s (length more) e y (omega (arith, below)) from (inl (omega arith, refl))
     (λ u content after upto is. none u content after (omega (arith, upto, to.0))
     (in_older (line_in u p content) (length (y ∷ more)) y.view x (lines_of (y ∷ more)) is)) in

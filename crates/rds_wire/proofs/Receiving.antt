@@ -12,11 +12,12 @@ use Rattle.rds_receiver.specs.Receipts.{AreHeard, heard_in, heard_of}
 use Rattle.rds_safety.specs.Late.{CameFrom, HasEntry, Input, InputOf, IsHeardInOrder, IsHeardLate, IsOfItsOrigin}
 use Rattle.rds_safety.specs.Laws.{ASlowClockIsAnOwnClock, LateIsBySlowClock}
 use Rattle.rds_safety.specs.OwnClock.{IsHeardByOwnClock}
+use Rattle.rds_safety.proofs.Entries.{before_end}
 use Rattle.rds_wire.specs.Groups.{GroupsByOwnClockAreMessagesByIt, LateGroupsAreLateMessages}
 use Rattle.rds_wire.specs.Groups.{OtherGroupsAreNothing, WhatIsSentIsHeard, with_messages}
 use Rattle.rds_wire.specs.Received.{Came, first_entries, own_group}
 use Rattle.rds_world.proofs.Received.{hears_sent}
-use Rattle.rds_wire.proofs.Firsts.{entry_below, entry_of_first}
+use Rattle.rds_wire.proofs.Firsts.{entry_of_first}
 
 -- ---- two lists side by side
 
@@ -145,7 +146,7 @@ by_own_clock laws a t now sent got messages heard origins are hear reached (inl 
     let long = heard_long a.pi got heard hear in
     let beside = late.order.beside in
     let past : (u s : ℕ) → HasEntry 0 origins u (Some s) → s ≤ now =
-    λ u s p. omega (arith, late.past u s p, entry_below 0 origins u (Some s) p, beside, reached, same) in
+    λ u s p. omega (arith, late.past u s p, before_end 0 origins u (Some s) p, beside, reached, same) in
     let all = late_groups a.pi a.late a.late sent messages heard groups are hear (omega arith) late in
     let order = order_up_to now messages input all.order past in
     let slow = laws.late a.late a.dwell now (first_entries (now + 1) messages) input

@@ -1,7 +1,7 @@
 -- The wire laws for runs of the program.
-use Rattle.std.proofs.Common.{◌≡◌, ◌⊎◌, ◌∙◌, ◌++◌, ◌∷◌, ◌^◌, [], ℕ, List, Option, Some, ap, append_assoc, append-nil}
+use Rattle.std.proofs.Common.{◌≡◌, ◌⊎◌, ◌∙◌, ◌++◌, ◌∷◌, ◌^◌, [], ℕ, List, Option, Some, ap, append_assoc}
 use Rattle.std.proofs.Common.{arith, codes, decimal, get_or, inl, inr, refl, subst, sym}
-use Rattle.std.specs.Io.KnownBytes.{Appends, Consumes, IsAtEnd}
+use Rattle.std.specs.Io.KnownBytes.{Appends}
 use Rattle.std.specs.List.{Contains}
 use Rattle.std.specs.Prelude.{All, Bool, Err, Ok, Result, false, true}
 use Rattle.std.proofs.lemmas.List.Elements.{All-cons}
@@ -23,6 +23,8 @@ use Rattle.rds_log.specs.OneLog.{same_lines, same_log}
 use Rattle.rds_log.specs.Outputs.{StopsBetween, WroteLines}
 use Rattle.rds_log.specs.declared.audit_log.Auditing.{Auditing}
 use Rattle.rds_log.specs.declared.decode_log.Decoding.{Decoding}
+use Rattle.rds_log.proofs.FilledText.{more_text}
+use Rattle.rds_log.proofs.WholeBytes.{read_and_left, read_whole}
 use Rattle.rds_program.specs.Run.{EndsWith, PutsLine, auditing_of, decoding_of}
 use Rattle.rds_program.specs.Run.{done, listening, script_in, verdict_status}
 use Rattle.rds_script.specs.Play.{Plays, WroteRows, with_form}
@@ -37,7 +39,7 @@ use Rattle.rds_wire.specs.Program.{WhatTheProgramPassesIsSafe, over}
 use Rattle.rds_wire.specs.Received.{IsReceived}
 use Rattle.rds_wire.specs.Wire.{Encodes, HasSafePlans, IsHead, WhatIsEncodedIsSafeOnTheWire}
 use Rattle.rds_wire.specs.Wire.{WhatPassesIsSafeOnTheWire, complete_in, station_of}
-use Rattle.rds_wire.proofs.Logs.{HasCut, is_log_of, more_text, with_comment}
+use Rattle.rds_wire.proofs.Logs.{HasCut, is_log_of, with_comment}
 use Rattle.rds_wire.proofs.Printed.{decimal_line, empty_line, feedless, join_lines}
 use Rattle.rds_wire.proofs.Reading.{all_lines, are_lines, changes_text, contains_from_in, in_from_contains, lines_of}
 use Rattle.rds_wire.proofs.Reading.{prefix_lacks}
@@ -176,16 +178,6 @@ encoded_by_the_program law encoder programme n pi m k script output may fits typ
 
 -- ---- bytes read
 
--- the bytes begin with what was read
-all_bytes : (before after : Option (List ℕ)) (received text : List ℕ) → before ≡ Some received
-    → Consumes before after text → (left : List ℕ) × (after ≡ Some left) × (received ≡ text ++ left)
-all_bytes before after received text given read = grind arith
-
--- all bytes were read
-consumed : (before after : Option (List ℕ)) (received text : List ℕ) → before ≡ Some received
-    → Consumes before after text → IsAtEnd after → text ≡ received
-consumed before after received text given read end = grind (arith, append-nil {A = ℕ})
-
 -- ---- lines of faults
 
 -- a line of the output is one of the lines before the fault
@@ -262,7 +254,7 @@ passed_by_the_program law n pi m k running padded all log output some ran zero_i
     by : (outcome : Result Bool LogFault) → Audits a (2 ^ 32) ran.r first outcome
         → EndsWith verdict_status (Audit k running padded all) outcome rest ran.status → HasSafePlans a log
     by (Ok true) answers ended =
-        let whole = consumed ran.r.before ran.r.after log answers.text ran.given answers.read answers.end in
+        let whole = read_whole ran.r.before ran.r.after log answers.text ran.given answers.read answers.end in
         law a answers.number log some (subst (λ
         (text : List ℕ). WholePasses a answers.number text) whole answers.passes)
     by (Ok false) answers ended = absurd (let status = ended.0 in omega (arith, status, zero_is))
@@ -308,7 +300,7 @@ decoded_by_the_program window why n pi m received output ran = by ran.ran.outcom
         → get_or text 0 0 ≡ 102 → ran.status ≡ 1 → PutsLine (text ++ codes "\n") rest
         → Shown window n pi m received output ran.status
     between least stops text single f one told =
-        let read = all_bytes ran.r.before ran.r.after received (text_of stops.closed stops.reads.begun) ran.given
+        let read = read_and_left ran.r.before ran.r.after received (text_of stops.closed stops.reads.begun) ran.given
         stops.reads.read in
         fault stops.closed stops.reads.begun read.0 stops.wrote text read.2 stops.reads.lines_are stops.reads.line_is
         single f one told
@@ -316,7 +308,7 @@ decoded_by_the_program window why n pi m received output ran = by ran.ran.outcom
     by : (outcome : Result (Unit {0}) LogFault) → Decodes how (2 ^ 32) ran.r first outcome
         → EndsWith done (Decode window why) outcome rest ran.status → Shown window n pi m received output ran.status
     by (Ok done) all ended =
-        let text = consumed ran.r.before ran.r.after received all.text ran.given all.read all.end in
+        let text = read_whole ran.r.before ran.r.after received all.text ran.given all.read all.end in
         let same = same_known ran.w.after output all.written ran.wrote
         (ended.1.bytes ∙ fresh_has ran.w.before ran.ran.mid all.written ran.fresh all.wrote) in
         let writes : LogWrites how received all.written = rw text at all.write in (
@@ -326,7 +318,7 @@ decoded_by_the_program window why n pi m received output ran = by ran.ran.outcom
           λ t part content sh. subst (λ (l : List ℕ). Shows l t part content) same sh,
         )
     by (Err (BadLine number)) (text, read, stops, calm) ended =
-        let bytes = all_bytes ran.r.before ran.r.after received text ran.given read in
+        let bytes = read_and_left ran.r.before ran.r.after received text ran.given read in
         fault stops.lines stops.next.line (stops.next.rest ++ bytes.0) stops.wrote (codes "fault line " ++ decimal
         number)
         (bytes.2 ∙ ap (λ (l : List ℕ). l ++ bytes.0) stops.next.cut

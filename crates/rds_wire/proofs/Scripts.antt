@@ -14,6 +14,7 @@ use Rattle.rds_encoder.specs.Tags.{pair_on_air}
 use Rattle.rds_receiver.specs.Receipts.{AreHeard}
 use Rattle.rds_safety.specs.Marks.{IsMarkIn, Tagged, marks, text_mark}
 use Rattle.rds_safety.specs.Plans.{AreLawful}
+use Rattle.rds_safety.proofs.Entries.{marks_long}
 use Rattle.rds_script.specs.Outcomes.{AreOutcomes, Outcome}
 use Rattle.rds_script.specs.Rows.{AreRows, Record, SaysCommand}
 use Rattle.rds_world.specs.Event.{Event}
@@ -26,7 +27,6 @@ use Rattle.rds_wire.specs.Received.{first_entries}
 use Rattle.rds_wire.proofs.Firsts.{first_all, first_more}
 use Rattle.rds_wire.proofs.Logs.{HasNoReceivers, groups_sent}
 use Rattle.rds_world.proofs.Received.{hears_sent}
-use Rattle.rds_wire.proofs.Views.{marks_long}
 
 -- ---- rows
 

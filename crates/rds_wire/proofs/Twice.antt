@@ -13,6 +13,7 @@ use Rattle.rds_safety.specs.Marks.{IsMarkIn, Tagged, marks, text_mark}
 use Rattle.rds_safety.specs.Lawful.{texts}
 use Rattle.rds_safety.specs.Plans.{AreLawful}
 use Rattle.rds_safety.specs.Safe.{Listener}
+use Rattle.rds_safety.proofs.Entries.{before_end}
 use Rattle.rds_world.specs.Slots.{log as log_of}
 use Rattle.rds_audit.specs.AuditLaws.{WhatPassesIsSafe}
 use Rattle.rds_audit.specs.declared.text_form.TextForm.TheVariants.{Plain}
@@ -26,7 +27,7 @@ use Rattle.rds_wire.specs.Safe.{StationPlans}
 use Rattle.rds_wire.specs.Twice.{HasMessages, IsReceivedWithWrong, IsSafeIfHeardTwice, WhatIsEncodedIsSafeIfHeardTwice}
 use Rattle.rds_wire.specs.Twice.{WhatPassesIsSafeIfHeardTwice}
 use Rattle.rds_wire.specs.Wire.{aired}
-use Rattle.rds_wire.proofs.Firsts.{entry_below, entry_of_first, first_length}
+use Rattle.rds_wire.proofs.Firsts.{entry_of_first, first_length}
 use Rattle.rds_wire.proofs.Logs.{is_log_of}
 use Rattle.rds_wire.proofs.Safe.{AreTagsUpTo, IsContentOf, shown_safely}
 use Rattle.rds_wire.proofs.Scripts.{tagged}
@@ -77,7 +78,7 @@ module _ (n pi m w k : ℕ) (log : List ℕ) (sent : List (Option Message)) (is 
         beside = late.beside;
         each = λ u s entry from at.
             let past = late.past u s from in
-            let below = entry_below 0 r.origins u (Some s) from in
+            let below = before_end 0 r.origins u (Some s) from in
             entry_of_first (t + 1) sent s entry
             (subst (λ (l : List (Option Message)). HasEntry 0 l s entry) same (late.each u s entry from at))
             (omega (arith, past, below, beside, long));

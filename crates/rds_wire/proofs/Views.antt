@@ -8,6 +8,7 @@ use Rattle.rds_safety.specs.Late.{HasEntry}
 use Rattle.rds_safety.specs.Lawful.{IsLawful, Kind}
 use Rattle.rds_safety.specs.Marks.{IsMarkIn, Mark, marks}
 use Rattle.rds_safety.specs.Plans.{AreLawfulAs, Plans}
+use Rattle.rds_safety.proofs.Entries.{marks_long}
 use Rattle.rds_encoder.specs.Plan.{Broadcast}
 use Rattle.rds_view_lines.specs.Output.{Display}
 use Rattle.rds_log.specs.LogWrites.{AreDisplays}
@@ -15,11 +16,6 @@ use Rattle.rds_wire.specs.Received.{first_entries}
 use Rattle.rds_wire.proofs.Firsts.{first_all, first_more}
 
 -- ---- marks and plans
-
--- there is a mark for each slot
-pub marks_long : (of : Option Message → Mark) (sent : List (Option Message)) → length (marks of sent) ≡ length sent
-marks_long of [] = refl
-marks_long of (x ∷ before) = ap suc (marks_long of before)
 
 mark_below : (of : Option Message → Mark) (sent : List (Option Message)) (slot : ℕ) (mark : Mark)
     → IsMarkIn (marks of sent) slot mark → slot < length sent

@@ -22,6 +22,7 @@ use Rattle.rds_audit.specs.Forms.{text_kind}
 use Rattle.rds_audit.specs.declared.text_form.TextForm.{TextForm}
 use Rattle.rds_audit.specs.declared.text_form.TextForm.TheVariants.{Plain}
 use Rattle.rds_safety.specs.Safe.{Listener}
+use Rattle.rds_safety.proofs.Entries.{before_end}
 use Rattle.rds_world.specs.Event.{Event}
 use Rattle.rds_world.specs.Slots.{plans_of, log as log_of}
 use Rattle.rds_world.specs.Station.{SlotsOfAWorldAreSlots, TheEncoderIsLawful}
@@ -46,7 +47,7 @@ use Rattle.rds_wire.specs.Safe.{StationPlans}
 use Rattle.rds_wire.specs.Wire.{Encodes, HasSafePlans, IsHead, IsSafeOnTheWire, WhatIsEncodedIsSafeOnTheWire}
 use Rattle.rds_wire.specs.Wire.{WhatPassesIsSafeOnTheWire, aired, station_of}
 use Rattle.rds_wire.proofs.Begun.{preceded_first, settled_first}
-use Rattle.rds_wire.proofs.Firsts.{entry_below, first_length}
+use Rattle.rds_wire.proofs.Firsts.{first_length}
 use Rattle.rds_wire.proofs.Logs.{HasCut, encoded_cut, groups_sent, is_log_of}
 use Rattle.rds_wire.proofs.Reading.{In, are_lines, contains_from_in, in_from_contains, line_shows, lines_of, stays}
 use Rattle.rds_wire.proofs.Reading.{unshown}
@@ -63,7 +64,7 @@ pub shown : (displays : List Display) (printed : List ℕ) (t : ℕ) (part : Par
     → HasEntry 0 displays t d → Shows printed t part content → IsContentOf part d.view content
 shown displays printed t part content d is few at (inl s) =
     let same = same_lines printed s.lines (lines_of displays) s.are (are_lines displays printed is) in
-    let below = entry_below 0 displays t d at in
+    let below = before_end 0 displays t d at in
     let past = s.past in
     let here = line_shows displays s.slot part content (omega (arith, past, below, few)) few
     (subst (λ l. In (line_in s.slot part content) l) same

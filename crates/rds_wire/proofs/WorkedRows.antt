@@ -25,7 +25,7 @@ use Rattle.rds_wire.specs.Received.{Came, IsReceived, LosesSlots, first_entries,
 use Rattle.rds_wire.specs.Safe.{AreSafe, StationPlans, WasOnAir, WentWith}
 use Rattle.rds_wire.specs.Twice.{HasMessages, IsReceivedWithWrong}
 use Rattle.rds_wire.specs.Wire.{IsSafeOnTheWire}
-use Rattle.rds_wire.proofs.Firsts.{entry_below}
+use Rattle.rds_safety.proofs.Entries.{before_end}
 use Rattle.rds_wire.proofs.Logs.{dashes, group_says}
 use Rattle.rds_wire.proofs.Printed.{empty_line, feedless}
 use Rattle.rds_wire.proofs.Wired.{entry_at}
@@ -149,7 +149,7 @@ second_was_sent : (t u : ℕ) (message : Message) → t < u
       origins = Some 0 ∷ None ∷ [];
     } u
 second_was_sent t u message before at =
-    let below : u < 2 = entry_below 0 (heard_of 0xC201 (Some hi ∷ Some wrong ∷ [])) u (Some message) at in
+    let below : u < 2 = before_end 0 (heard_of 0xC201 (Some hi ∷ Some wrong ∷ [])) u (Some message) at in
     record { slot = 0; from = grind arith }
 
 wrong_once : IsReceivedWithWrong 11 0xC201 8 1 three (Some hi ∷ Some wrong ∷ []) 1
@@ -198,7 +198,7 @@ from_zero : (heard : List (Option Group)) (origins : List (Option ℕ)) (t : ℕ
     → HasEntry 0 origins t (Some 0)
 from_zero heard origins t order at =
     let beside = order.beside in
-    let it = entry_at origins t (omega (arith, beside, entry_below 0 heard t (Some hi) at)) in
+    let it = entry_at origins t (omega (arith, beside, before_end 0 heard t (Some hi) at)) in
     grind (arith, order.each t it.0 (Some hi) it.1 at)
 
 -- what came is of the slots of the log

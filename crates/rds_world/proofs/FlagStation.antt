@@ -2,27 +2,16 @@
 -- another one follows lasts for 2d slots. Across a restart comes the empty text, or the newest one with flag 0 again.
 use Rattle.std.proofs.lemmas.Bool.Decides.{nat_tests}
 use Rattle.std.proofs.Common.{◌≡◌, ◌≢◌, ◌⊎◌, ◌+◌, ◌-◌, ◌*◌, ◌≤◌, ℕ, true, false, List, [], ◌∷◌, length, Option}
-use Rattle.std.proofs.Common.{Some, None, refl, sym, ap, ◌∙◌, subst, inl, inr, arith, is_ok, option_map, ◌<◌}
-use Rattle.std.specs.Prelude.{IfSome}
-use Rattle.rds_encoder.specs.Entries.{Move, Begin, Set, End, restart_before, slot_of}
+use Rattle.std.proofs.Common.{Some, None, refl, sym, subst, inl, inr, arith, is_ok, ◌<◌}
+use Rattle.rds_encoder.specs.Entries.{Move, Begin, Set, End, slot_of}
 use Rattle.rds_encoder.specs.Plan.{Broadcast, HasNumber, OnAir, accepted, ending_in, next_flag, on_air, plan_of}
-use Rattle.rds_encoder.specs.Reply.{last_accepted, reply_in, reply_to}
+use Rattle.rds_encoder.specs.Reply.{reply_to}
 use Rattle.rds_encoder.proofs.Numbers.{below}
-use Rattle.rds_encoder.proofs.OnAir.{flag_on_air, start_of, start_on_air}
+use Rattle.rds_encoder.proofs.OnAir.{flag_on_air}
+use Rattle.rds_encoder.proofs.Spacing.{long_on_air}
 use Rattle.rds_safety.specs.FlagAlone.{EachLasts, IsFilled, IsHarmless, IsNews, TurnsTheFlag}
 use Rattle.rds_world.specs.FlagStation.{HasNoRestart, IsEmptyAfter, IsFirstAfterRestart, IsHarmlessAfter}
 use Rattle.rds_world.specs.FlagStation.{IsSafeAfter, TheEmptyTextIsEnough, TheStationKeepsEach, TheStationTurnsTheFlag}
-
--- a set is accepted only if 2d slots have passed since the one before
-not_held_back : (m now start : ℕ) (last : Option ℕ) → is_ok (reply_in m now start last) ≡ true
-    → IfSome last (λ a. a + 2 * m ≤ now)
-not_held_back m now start last ok = grind arith
-
-long_on_air : (m : ℕ) (moves : List Move) (air : OnAir) → is_ok (reply_to m moves) ≡ true → on_air m moves ≡ Some air
-    → air.start + 2 * m ≤ slot_of moves
-long_on_air m moves air ok on =
-    let last : last_accepted m moves ≡ Some air.start = sym (start_on_air m moves) ∙ ap (option_map start_of) on in
-    rw last at (not_held_back m (slot_of moves) (restart_before moves) (last_accepted m moves) ok)
 
 -- the newest of a plan
 abbrev IsNewest : List Broadcast → Broadcast → Type 0

@@ -20,6 +20,7 @@ use Rattle.rds_encoder.specs.Spaced.{IsSpaced, RestartsComeFirst}
 use Rattle.rds_receiver.specs.declared.fragment.Fragment.{Fragment}
 use Rattle.rds_safety.specs.Lawful.{HasOne, HasFragment, HasTags, IsFragmentOf, IsLawful, Kind, names, texts}
 use Rattle.rds_safety.specs.Marks.{IsMarkIn, Mark, Sends, Tagged, marks, name_mark, text_mark}
+use Rattle.rds_safety.proofs.Entries.{marks_long}
 use Rattle.rds_world.specs.Station.{AreEndedSlots, EndsASlot, IsFreeIn, IsValid, TheEncoderIsLawful, slots_in}
 use Rattle.rds_world.specs.Station.{station_plans}
 
@@ -102,10 +103,6 @@ record WasSentIn (of : Option Message → Mark) (moves : List Entry → List Mov
   past : slot + 1 ≤ slot_of (moves entries)
   since : List Move
   told : moves entries ≡ since ++ End free ∷ moves before
-
-marks_long : (of : Option Message → Mark) (log : List (Option Message)) → length (marks of log) ≡ length log
-marks_long of [] = refl
-marks_long of (sent ∷ log) = omega (arith, marks_long of log)
 
 module _ (IsValue : List ℕ → Type 0) (of : Option Message → Mark) (moves : List Entry → List Move)
     (service : IsService IsValue moves) where

@@ -1,10 +1,11 @@
 use Rattle.std.proofs.Common.{arith, ◌∙◌, sym}
 use Rattle.rds_receiver.specs.Borrowed.{view_of}
-use Rattle.rds_script.proofs.Periods.{one_view, parts_same, same_item}
+use Rattle.rds_script.proofs.Periods.{one_view, parts_same}
 use Rattle.rds_script.proofs.airs.is_same.Goals as goal
 use Rattle.rds_script.proofs.airs.is_same.Goals.{else-same-via-then-same+then-same-2+then-same-3+else-same-4}
 use Rattle.rds_script.proofs.airs.is_same.Goals.{else-same-via-then-same+then-same-2+else-same-3}
 use Rattle.rds_script.proofs.airs.is_same.Goals.{else-same-via-then-same+else-same-2, else-same-via-else-same}
+use Rattle.rds_view_lines.specs.NoChange.{same_item}
 
 pub returns-then-same-4 : goal.returns-then-same-4
 returns-then-same-4 c = (
