@@ -1,7 +1,9 @@
 //! The sentences of notes.
 
 use crate::fault_lines::{push_found, push_found_advice, push_no, push_no_advice};
-use crate::note::{CoarseTimes, Elsewhere, Incomplete, Judged, Note, OtherGroups, OtherInTags, Run};
+use crate::note::{
+    CoarseTimes, Elsewhere, Incomplete, Judged, Note, OtherGroups, OtherInTags, Run,
+};
 use crate::spans::push_spans;
 use arrayvec::ArrayVec;
 use rds_cli::{Request, Task};
