@@ -24,8 +24,8 @@ when_accepted : (m now start : ℕ) (last : Option ℕ) → is_ok (reply_in m no
 when_accepted m now start last h = grind (arith, nat_tests, not_held_back m now last)
 
 -- so the text or name on air then began at least 2m slots before
-pub long_on_air : (m : ℕ) (moves : List Move) (air : OnAir) → is_ok (reply_to m moves) ≡ true → on_air m moves ≡ Some air
-    → air.start + 2 * m ≤ slot_of moves
+pub long_on_air : (m : ℕ) (moves : List Move) (air : OnAir) → is_ok (reply_to m moves) ≡ true
+    → on_air m moves ≡ Some air → air.start + 2 * m ≤ slot_of moves
 long_on_air m moves air ok on = grind (arith, start_on_air m moves, when_accepted)
 
 -- the broadcast with number k is on air, and the newest

@@ -90,9 +90,9 @@ pub fn audit<R: TellingRead, W: TellingWrite>(
 /// Audits a log in this way with at most `reads` reads, takes notes for a person, and tells the news. The new notes
 /// replace the old content of `notes`. A log that has not ended by then is too long.
 ///
-/// For a complete log and the first fault, the output and the answer are those of [`audit`]. With all faults, each has a
-/// line, the first one as for the first fault alone; a log without a fault gets the line `yes`; the lines for the slots
-/// of one read are written before the next read.
+/// For a complete log and the first fault, the output and the answer are those of [`audit`]. With all faults, each has
+/// a line, the first one as for the first fault alone; a log without a fault gets the line `yes`; the lines for the
+/// slots of one read are written before the next read.
 ///
 /// For the log of a running station the answer is that of the log with M + K lost slots in front, and without the tags
 /// before its first text segment. Slots count from the first line of the log. A yes speaks of receivers of the log as
