@@ -23,11 +23,12 @@ use Rattle.rds_safety.specs.Marks.{name_mark, text_mark}
 use Rattle.rds_safety.specs.Plans.{AreLawful}
 use Rattle.rds_safety.specs.Safe.{Listener}
 use Rattle.rds_safety.proofs.Bytes.{name_service, names_send_their_body, text_service, texts_send_their_body}
-use Rattle.rds_safety.proofs.Counts.{few_segments, one_segment, two_segments}
+use Rattle.rds_safety.proofs.Counts.{one_segment, two_segments}
 use Rattle.rds_safety.proofs.Entries.{one_origin}
 use Rattle.rds_safety.proofs.FlagSlots.{came_as_sent}
 use Rattle.rds_safety.proofs.HeldWhole.{CameSince, came_in, in_segments, shown_whole}
 use Rattle.rds_safety.proofs.Safety.{name_fragments_marked, text_fragments_marked}
+use Rattle.rds_safety.proofs.Bodies.{text_few}
 use Rattle.rds_world.specs.Delivery.{AStationDeliversAName, AStationDeliversAText, AStationDeliversAnyText}
 use Rattle.rds_world.specs.Delivery.{GotOfStation, LieInBroadcast}
 use Rattle.rds_world.specs.Station.{EndsASlot, IsFreeIn, TheEncoderIsLawful, slots_in, station_plans}
@@ -293,7 +294,7 @@ text_delivered laws k m later earlier r b some gets lies enough =
 pub any_text_delivered : DeliveryLaws → AStationDeliversAnyText
 any_text_delivered laws k m later earlier r b some gets lies enough =
     let value = planned_text laws k m later earlier r b some gets lies in
-    text_delivered laws k m later earlier r b some gets lies (omega (arith, enough, few_segments b.bytes value))
+    text_delivered laws k m later earlier r b some gets lies (omega (arith, enough, text_few b.bytes value))
 
 pub name_delivered : DeliveryLaws → AStationDeliversAName
 name_delivered laws k m later earlier r b some gets lies enough =
