@@ -76,12 +76,12 @@
  *     rdsrt_time_in                    160  128    rdsrt_audit_names                 32   32
  *     rdsrt_lost_slots                  32   32    rdsrt_audit_texts_turn_the_flag   32   32
  *     rdsrt_encoder_init                32   32    rdsrt_audit_names_turn_the_flag   32   32
- *     rdsrt_encoder_set_text           640  640    rdsrt_text_to_display            320  320
- *     rdsrt_encoder_set_name           320  320    rdsrt_text_to_utf8               384  384
- *     rdsrt_encoder_set_tags           352  352    rdsrt_text_from_utf8             160  160
- *     rdsrt_encoder_tick               448  448    rdsrt_type_name                   96   96
- *     rdsrt_encoder_on_air             448  480    rdsrt_code_name                   96   96
- *     rdsrt_encoder_wait               288  288    rdsrt_exchange_tag_group          32   32
+ *     rdsrt_encoder_set_text           256  288    rdsrt_text_to_display            320  320
+ *     rdsrt_encoder_set_name            64   64    rdsrt_text_to_utf8               384  384
+ *     rdsrt_encoder_set_tags            64   32    rdsrt_text_from_utf8             160  160
+ *     rdsrt_encoder_tick                64   32    rdsrt_type_name                   96   96
+ *     rdsrt_encoder_on_air             128  128    rdsrt_code_name                   96   96
+ *     rdsrt_encoder_wait                32   32    rdsrt_exchange_tag_group          32   32
  *
  * YOU PROMISE for every call:
  *  - You call _init first. No call notices that you did not: a struct of zeros has PI 0000, so it shows nothing of your

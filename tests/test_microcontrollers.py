@@ -40,7 +40,7 @@ SECTIONS {
 UNKNOWN = ["@other = global i32 0, align 4", "@static.9 = private constant [1 x ptr] [ptr @static.0], align 8",
            "  %x = alloca [2 x ptr], align 8", "  %x = load { i16, ptr }, ptr %y, align 8",
            "  %x = load { ptr, ptr }, ptr %y, align 8", "  %x = load { i8, ptr }, ptr %y, align 8, !noundef !1",
-           "  %x = load i128, ptr %y, align 16", "  %x = ptrtoint ptr %y to i64",
+           "  %x = load i256, ptr %y, align 16", "  %x = ptrtoint ptr %y to i64",
            "  %x = getelementptr ptr, ptr %y, i64 1", "  %x = nonsense i32 %y"]
 
 

@@ -34,7 +34,7 @@ OF_THE_KIT = ["-O3", "-ffunction-sections", "-fdata-sections", *(word for it in 
 
 # ---- the forms of lines that are known
 
-NAME, LOCAL, INT = r'@(?:[\w.]+|"[^"]*")', r"%[\w.]+", r"i(?:1|8|16|32|64)"
+NAME, LOCAL, INT = r'@(?:[\w.]+|"[^"]*")', r"%[\w.]+", r"i(?:1|8|16|32|64|128)"
 ONE, VECTOR = rf"(?:{INT}|ptr)", r"<\d+ x i(?:1|8|16)>"
 # in a PAIR the second place is the same for pointers of 4 and of 8 bytes; `narrowed` takes loads of { i8, ptr } apart
 PAIR = rf"\{{ (?:{INT}, {INT}|ptr, i64) \}}"
