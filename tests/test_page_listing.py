@@ -44,7 +44,8 @@ class Listing:
         self.check("a yes", of(b, "#log-faults", "hidden"), True)
         call(b, "probe.choose", "log-m", 10)
         settle(b)
-        self.check("M = 10", listed(b), ["1 of 3 texts: EarlyFlag in slot 16 (line 17)."])
+        self.check("M = 10", listed(b), ["1 of 3 texts: EarlyFlag in slot 16 (line 17); in 1 of them no receiver shows a mix: "
+                                         "the texts with this flag agree, or differ in one segment."])
         call(b, "probe.choose", "log-m", 0)
         settle(b)
         self.check("no M", of(b, "#log-faults", "hidden"), True)

@@ -26,7 +26,8 @@ EXPLAINED = [
     ("EarlyFlag", ["C201 A140 504F 5020", "C201 A150 4A41 5A5A", "C201 A140 504F 5020"],
      "Slot 2 (line 3): a name (PTYN) reused the A/B flag", "flip the flag only for a new text"),
     ("Changed", [HI, "C201 2140 594F 0D20"],
-     "Slot 1 (line 2): a text changed without a flip of the A/B flag. This slot",
+     "Slot 1 (line 2): a text changed without a flip of the A/B flag: if it changes in two segments, receivers show a mix. "
+     "This slot",
      "Flip the flag with every change"),
     ("NotOneText", ["C201 2140 4849 0D21"],
      "Slot 0 (line 1): the segments fit no text: byte 0x21 at place 3, after the carriage return. Here it may be harmless: "
