@@ -34,11 +34,11 @@ pub trait Service {
             → is_whole (held_cells mask bytes.now) x → ⊥) };
 
     /// An address has at most four bits.
-    // Prover: without this law `put` could index beyond the cells (docs/PROVER.md, "Workarounds").
+    // Prover: without this law `put` could index beyond the cells (PROVER.md, "Workarounds").
     ghost few: { SEGMENTS ≤ 16 };
 
     /// Without cells no value is whole.
-    // Prover: without this law `new` could show a value (docs/PROVER.md, "Workarounds").
+    // Prover: without this law `new` could show a value (PROVER.md, "Workarounds").
     ghost none: { (x : List ℕ) → is_whole map.empty x → ⊥ };
 
     /// Cells make at most one value whole.

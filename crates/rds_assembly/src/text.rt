@@ -22,7 +22,7 @@ pub enum TextRefused {
 pub const LONGEST_TEXT: usize = 64;
 
 /// A RadioText of at most 64 bytes (IEC 62106, RadioText). Contracts see its bytes.
-// Prover: zeros follow the text, so that each list of bytes has exactly one buffer (docs/PROVER.md, "Workarounds").
+// Prover: zeros follow the text, so that each list of bytes has exactly one buffer (PROVER.md, "Workarounds").
 #[derive(Clone, Copy, Debug, PartialEq, Eq)]
 pub struct Text {
     buffer: [u8; LONGEST_TEXT],

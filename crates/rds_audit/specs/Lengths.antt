@@ -1,10 +1,10 @@
--- The lengths that the value of a reign can have (this project's own rule): the set of the lengths at which all of its
--- fragments may stand. If an address had other bytes before, the value ends before the first place at which both differ.
--- A fragment that leaves no length does not fit, and leaves the set as it is. A reign has a value exactly if each of its
+-- The lengths that the value of a reign can have (this project's own rule): the lengths at which each of its fragments
+-- can stand. If an address had other bytes before, the value ends before the first place at which both differ. A
+-- fragment that leaves no length does not fit: the set stays as it is. A reign has a value exactly if each of its
 -- fragments fits, and some length of the set reaches the ends of its tags. Lists have the newest first.
 use Rattle.std.specs.Prelude.{◌≡◌, ◌<◌, ◌+◌, ◌-◌, ◌*◌, ◌/◌, ◌^◌, ◌==◌, ◌&&◌, ◌||◌, [], ◌∷◌, ℕ, zero, suc, Bool, true}
-use Rattle.std.specs.Prelude.{false, List, Option, Some, None, bit_and, length, max, nat_lt, not, replicate, slice_index}
-use Rattle.std.specs.Prelude.{slice_index_or, slice_set, if◌then◌else◌}
+use Rattle.std.specs.Prelude.{false, List, Option, Some, None, bit_and, length, max, nat_lt, not, replicate}
+use Rattle.std.specs.Prelude.{slice_index, slice_index_or, slice_set, if◌then◌else◌}
 use Rattle.std.specs.List.{AllByRecursion}
 use Rattle.std.proofs.Common.{arith}
 use Rattle.rds_fields.specs.Tag.{PairFields, TagFields, end_of}

@@ -11,7 +11,7 @@ use rds_fields::{Tag, TagPair};
 
 impl StoredCell {
     /// Makes the cell of an address at which nothing was sent.
-    pub(crate) fn none() -> StoredCell
+    pub fn none() -> StoredCell
         ensures { cell_stored result ≡ None }
     {
         StoredCell {

@@ -84,7 +84,7 @@ impl Audit {
             → start_of self.now ≡ LogStart.Running → 0 < m → IsTrue result
             → IsSafeRecording (form_of self.now) m k (heard_of pi log) }
     {
-        // Prover: calls of laws, which give the clauses `plans`, `safe` and `recording` (docs/PROVER.md, "Idioms").
+        // Prover: calls of laws, which give the clauses `plans`, `safe` and `recording` (PROVER.md, "Idioms").
         passes_by_plans();
         what_passes_is_safe();
         what_passes_as_a_recording_is_safe();
@@ -99,7 +99,7 @@ impl Audit {
         ensures safe { WhereTheAuditStands self.now (λ d heard. form_of self.now ≡ TextForm.Plain → IsTrue result
             → TextsAreSafeByFlag d heard) }
     {
-        // Prover: calls of laws (docs/PROVER.md, "Idioms").
+        // Prover: calls of laws (PROVER.md, "Idioms").
         the_list_judges_the_reigns();
         what_passes_is_safe_by_the_flag();
         self.passed() && self.text.reigns.turns != 0
@@ -113,7 +113,7 @@ impl Audit {
         ensures safe { WhereTheAuditStands self.now (λ d heard. form_of self.now ≡ TextForm.Plain → IsTrue result
             → NamesAreSafeByFlag d heard) }
     {
-        // Prover: calls of laws (docs/PROVER.md, "Idioms").
+        // Prover: calls of laws (PROVER.md, "Idioms").
         the_list_judges_the_reigns();
         what_passes_is_safe_by_the_flag();
         self.passed() && self.name.reigns.turns != 0

@@ -28,6 +28,7 @@ impl StoredSpans {
             reigns: StoredReigns::new::<S>(distance, start),
             broken: StoredFaults::none(),
             complete: 0,
+            puts: 0,
         }
     }
 
@@ -169,6 +170,7 @@ impl StoredSpans {
         requires { fragment.address < S.gauge.segments }
         ensures { spans_stored self.new ≡ put_in S.gauge fragment (spans_stored self.old) }
     {
+        self.puts = self.puts.wrapping_add(1);
         self.reigns.renew();
         if !self.reigns.put::<S>(fragment.address, fragment.bytes) {
             self.broken.not_one_text = 1;

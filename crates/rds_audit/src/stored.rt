@@ -58,6 +58,8 @@ pub struct StoredSpans {
     pub broken: StoredFaults,
     /// The number of complete texts before the current one. It stops at 2^32 - 1. No contract speaks of it.
     pub complete: u32,
+    /// The number of segments that were new in their text or name when they came, modulo 2^32. No contract speaks of it.
+    pub puts: u32,
 }
 
 impl AuditFault {

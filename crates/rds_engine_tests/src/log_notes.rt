@@ -3,7 +3,8 @@
 use rds_audit::{LogStart, TextForm};
 use rds_fields::{Dwell, Late, TagGroup};
 use rds_io::{LogFault, Told};
-use rds_log::{Auditing, LogNotes, MOST_READS, NoNews, Stop, audit_with_notes, fault_name, gather};
+use rds_lines::{InputNotes, MOST_READS, NoNews, gather};
+use rds_log::{Auditing, LogNotes, Stop, audit_with_notes, fault_name};
 use rds_witness::witness_with_notes;
 use std::test::Fail;
 
@@ -15,7 +16,7 @@ fn dwell(slots: u16) -> Result<Dwell, Fail> {
 #[test]
 fn bad_lines_of_all_calls(rt: HostRuntime) -> Result<(), Fail> {
     let log = [b'x'; 100];
-    let mut notes = LogNotes::new();
+    let mut notes = InputNotes::new();
     let slots = gather(
         rt.alloc(),
         &mut Told::new(log.as_slice()),
@@ -28,7 +29,7 @@ fn bad_lines_of_all_calls(rt: HostRuntime) -> Result<(), Fail> {
     assert_eq!(rt; slots.err(), Some(LogFault::BadLine(1)));
     let bad = notes.read.bad.ok_or("a bad line is noted")?;
     assert_eq!(rt; bad.start.as_slice(), &log[..60]);
-    let mut notes = LogNotes::new();
+    let mut notes = InputNotes::new();
     let mut output = Vec::new(rt.alloc());
     let found = witness_with_notes(
         rt.alloc(),
@@ -82,7 +83,7 @@ C201 2140 4849 0D20 12.5
         output.as_slice(),
         b"no 1 EarlyTag\nno 3 EarlyFlag\n".as_slice()
     );
-    assert_eq!(rt; (notes.slots, notes.faults.slots), (4, 2));
+    assert_eq!(rt; (notes.input.slots, notes.faults.slots), (4, 2));
     let flags = notes.faults.texts.counts[1].ok_or("no count")?;
     assert_eq!(rt; fault_name(flags.fault), b"EarlyFlag".as_slice());
     assert_eq!(rt; (flags.count, flags.first.slot, flags.last.line), (1, 3, 5));

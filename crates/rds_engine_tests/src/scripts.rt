@@ -38,7 +38,7 @@ pub(crate) fn config(dwell: u16) -> Result<Config, Fail> {
         },
         dwell: Dwell::new(dwell).ok_or("dwell")?,
         late: Late::new(0).ok_or("late")?,
-        kind: ReceiverKind::WithDwell,
+        kind: ReceiverKind::with_dwell(),
     })
 }
 
@@ -67,9 +67,9 @@ impl Read for Failing<'_> {
 /// Each read fails in turn: the output of the rows that were read is there, and nothing more is read.
 #[test]
 fn reader_fails(rt: HostRuntime) -> Result<(), Fail> {
-    // Prover: variables of the types that `Config` holds, for the borrow checker (docs/PROVER.md, "Workarounds").
+    // Prover: variables of the types that `Config` holds, for the borrow checker (PROVER.md, "Workarounds").
     let _dwell = Dwell::longest();
-    let _kind = ReceiverKind::WithDwell;
+    let _kind = ReceiverKind::with_dwell();
     let _window: Option<Window> = None;
     for (error, fault) in [
         (ErrorKind::Other, LogFault::Read),
@@ -176,7 +176,7 @@ impl Write for Counting<'_> {
 fn answered_before_the_next_read(rt: HostRuntime) -> Result<(), Fail> {
     // Prover: as in `reader_fails`.
     let _dwell = Dwell::longest();
-    let _kind = ReceiverKind::WithDwell;
+    let _kind = ReceiverKind::with_dwell();
     let _window: Option<Window> = None;
     for script in QUIET {
         for most in 1..40 {
@@ -248,7 +248,7 @@ fn ends_whole_or_for_memory(
 fn refused_memory_in_a_simulation(rt: HostRuntime) -> Result<(), Fail> {
     // Prover: as in `reader_fails`.
     let _dwell = Dwell::longest();
-    let _kind = ReceiverKind::WithDwell;
+    let _kind = ReceiverKind::with_dwell();
     let _window: Option<Window> = None;
     let mut page = Page::new();
     let reader = Told::new(SIMULATED);
@@ -261,7 +261,7 @@ fn refused_memory_in_a_simulation(rt: HostRuntime) -> Result<(), Fail> {
 fn refused_memory_in_a_log(rt: HostRuntime) -> Result<(), Fail> {
     // Prover: as in `reader_fails`.
     let _dwell = Dwell::longest();
-    let _kind = ReceiverKind::WithDwell;
+    let _kind = ReceiverKind::with_dwell();
     let _window: Option<Window> = None;
     let mut page = Page::new();
     let done = encode(

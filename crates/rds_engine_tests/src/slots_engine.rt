@@ -4,7 +4,8 @@ use crate::same::same;
 use rds_arrivals::Grain;
 use rds_fields::Dwell;
 use rds_io::{LogFault, Told};
-use rds_log::{Filling, Gap, NoNews, SlotNotes, Times, fill_with_notes};
+use rds_lines::NoNews;
+use rds_log::{Filling, Gap, SlotNotes, Times, fill_with_notes};
 use std::test::Fail;
 
 /// Groups of two programmes. The third has no time. The time of the last is before that of the fourth.

@@ -36,9 +36,9 @@ impl Read for LineByLine<'_> {
 /// However many rows stand before the bad one, no row after it is read.
 #[test]
 fn no_read_after_a_bad_row(rt: HostRuntime) -> Result<(), Fail> {
-    // Prover: variables of the types that `Config` holds, for the borrow checker (docs/PROVER.md, "Workarounds").
+    // Prover: variables of the types that `Config` holds, for the borrow checker (PROVER.md, "Workarounds").
     let _dwell = Dwell::longest();
-    let _kind = ReceiverKind::WithDwell;
+    let _kind = ReceiverKind::with_dwell();
     let _window: Option<Window> = None;
     let after = b"-,,1,\n-,,1,\n".len();
     for (script, bad) in [

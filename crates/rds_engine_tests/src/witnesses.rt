@@ -3,7 +3,7 @@
 use crate::same::same;
 use rds_fields::{Dwell, TagGroup};
 use rds_io::Told;
-use rds_log::{LogNotes, MOST_READS, NoNews, gather};
+use rds_lines::{InputNotes, MOST_READS, NoNews, gather};
 use rds_witness::{Losing, bursts_of, lose_with_notes, witness};
 use std::test::Fail;
 
@@ -54,7 +54,7 @@ fn given_slots_lost(rt: HostRuntime) -> Result<(), Fail> {
         &mut Told::new(THREE_TEXTS),
         &mut Told::new(&mut output),
         &losing,
-        &mut LogNotes::new(),
+        &mut InputNotes::new(),
         &mut NoNews,
     );
     same(&rt, found, Ok(true));
@@ -66,7 +66,7 @@ fn given_slots_lost(rt: HostRuntime) -> Result<(), Fail> {
 #[test]
 fn all_slots_are_kept(rt: HostRuntime) -> Result<(), Fail> {
     let log = b"C201 2140 4849 0D20\n---- ---- ---- ----\n".as_slice();
-    let mut notes = LogNotes::new();
+    let mut notes = InputNotes::new();
     match gather(
         rt.alloc(),
         &mut Told::new(log),

@@ -1,5 +1,5 @@
 -- Codes: a station's head, a tag and a pair of tags are each stored as their fields.
--- Prover: a `Result` can hold only a type with a code (docs/PROVER.md, "Workarounds").
+-- Prover: a `Result` can hold only a type with a code (PROVER.md, "Workarounds").
 use Rattle.std.specs.Prelude.{ℕ, Bool, refl}
 use Rattle.std.specs.Coded.{Coded, code_by, coded×, coded_ℕ, coded_bool}
 use Rattle.rds_fields.specs.declared.head.Head.{Head}

@@ -67,7 +67,7 @@ impl Message {
         ensures spelled { Spells result group }
         ensures only { (m : Message) → Spells m group → m ≡ result }
     {
-        // Prover: a call of a law, which gives the clause `only` (docs/PROVER.md, "Idioms").
+        // Prover: a call of a law, which gives the clause `only` (PROVER.md, "Idioms").
         one_message();
         match group.kind() {
             RADIOTEXT_CODE => Message::Text {

@@ -11,7 +11,7 @@ use itoa::Buffer;
 use std::marker::Model;
 
 /// Lines of output, at most `N` bytes. Contracts see the bytes.
-// Prover: an `ArrayVec`, since a part of an array whose length is a const parameter cannot be borrowed (docs/PROVER.md,
+// Prover: an `ArrayVec`, since a part of an array whose length is a const parameter cannot be borrowed (PROVER.md,
 // "Workarounds").
 #[derive(Drop)]
 pub struct Lines<const N: usize> {

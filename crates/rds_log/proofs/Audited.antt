@@ -1,6 +1,6 @@
 -- What the taker of `audit` takes, and what it has written at the end.
-use Rattle.std.proofs.Common.{◌≡◌, ◌≢◌, ◌⊎◌, ◌++◌, ◌+◌, ◌↔◌, ◌∙◌, ℕ, Bool, true, false, List, [], ◌∷◌, length}
-use Rattle.std.proofs.Common.{Option, Some, None, append_assoc, ap, arith, inl, inr, refl, subst, sym}
+use Rattle.std.proofs.Common.{◌≡◌, ◌≢◌, ◌⊎◌, ◌++◌, ◌+◌, ◌↔◌, ◌∙◌, ℕ, Bool, true, false, List, [], ◌∷◌, length, Option}
+use Rattle.std.proofs.Common.{Some, None, append_assoc, ap, arith, inl, inr, refl, subst, sym}
 use Rattle.std.specs.Prelude.{MatchOption, MatchResult, OnOk, Result, Err}
 use Rattle.std.proofs.lemmas.List.{append-nil}
 use Rattle.rds_block.specs.declared.group.Group.{Group}
@@ -23,16 +23,16 @@ use Rattle.rds_log.specs.Audit.{SlotsFail, SlotsPass, spacing}
 use Rattle.rds_log.specs.FaultList.{AreFaultsOf, AnswersYes, Audits, BeginsWithNo, FindsFaults, IsNo, LinesAnswer}
 use Rattle.rds_log.specs.FaultList.{LinesGoOn, SaysNo, fault_lines, lines_for, no_line, yes_line}
 use Rattle.rds_log.specs.Inside.Auditor.{HasAudited}
-use Rattle.rds_log.specs.LineSays.{LineSays}
-use Rattle.rds_log.specs.LogLines.{Line}
-use Rattle.rds_log.specs.Outputs.{HasTaken, Pushed, RunsAll, RunsUpTo, StopsBy}
+use Rattle.rds_lines.specs.LineSays.{LineSays}
+use Rattle.rds_lines.specs.LogLines.{Line}
+use Rattle.rds_lines.specs.Outputs.{HasTaken, Pushed, RunsAll, RunsUpTo, StopsBy}
 use Rattle.rds_io.specs.declared.fault.LogFault.{LogFault}
 use Rattle.rds_io.specs.declared.fault.LogFault.TheVariants as faults
 use Rattle.rds_log.specs.declared.audit_log.Auditing.{Auditing}
 use Rattle.rds_log.specs.declared.audit_log.Stop.{Stop}
 use Rattle.rds_log.specs.declared.audit_log.Stop.TheVariants.{FirstFault, LogEnd}
 use Rattle.rds_log.specs.declared.auditor.Auditor.{Auditor}
-use Rattle.rds_log.specs.declared.log_line.LogLine.TheVariants.{Skip, Slot}
+use Rattle.rds_lines.specs.declared.log_line.LogLine.TheVariants.{Skip, Slot}
 
 -- ---- the slots
 

@@ -6,16 +6,16 @@ use Rattle.rds_fields.specs.TagGroup.{exchanged_in}
 use Rattle.rds_io.specs.Told.{Traffic}
 use Rattle.rds_io.proofs.Waiting.{waits_more}
 use Rattle.rds_log.specs.Decode.{Decodes}
-use Rattle.rds_log.specs.LogLines.{Line}
-use Rattle.rds_log.specs.LineSays.{LineSays}
+use Rattle.rds_lines.specs.LogLines.{Line}
+use Rattle.rds_lines.specs.LineSays.{LineSays}
 use Rattle.rds_log.specs.LogWrites.{LinesWrite, tuning_of}
 use Rattle.rds_log.specs.Inside.ViewLines.{GivesChange}
 use Rattle.rds_log.specs.Inside.Decoder.{HasDecoded}
-use Rattle.rds_log.specs.Outputs.{HasTaken, Runs}
+use Rattle.rds_lines.specs.Outputs.{HasTaken, Runs}
 use Rattle.rds_log.specs.declared.decode_log.Decoding.{Decoding}
 use Rattle.rds_log.specs.declared.decoder.Decoder.{Decoder}
 use Rattle.rds_io.specs.declared.fault.LogFault.{LogFault}
-use Rattle.rds_log.specs.declared.log_line.LogLine.TheVariants.{Skip, Slot}
+use Rattle.rds_lines.specs.declared.log_line.LogLine.TheVariants.{Skip, Slot}
 
 -- a line that is a slot
 pub takes_slot : (how : Decoding) (d after : Decoder) (w : Traffic) (before now : List ℕ) (lines : List Line)

@@ -15,20 +15,21 @@ use Rattle.rds_arrivals.specs.Breaks.{IsBreakOf}
 use Rattle.rds_arrivals.specs.declared.lost.Break.{Break}
 use Rattle.rds_arrivals.specs.declared.lost.Break.TheVariants.{Back, Hour}
 use Rattle.rds_arrivals.specs.declared.stamp.Stamp.{Stamp}
-use Rattle.rds_log.specs.LogLines.{Line}
-use Rattle.rds_log.specs.LineSays.{LineSays, deciding}
-use Rattle.rds_log.specs.Outputs.{HasTaken, Pushed, RunsAll, RunsUpTo, WrotePart}
+use Rattle.rds_lines.specs.LogLines.{Line}
+use Rattle.rds_lines.specs.LineSays.{LineSays, deciding}
+use Rattle.rds_lines.specs.Outputs.{HasTaken, Pushed, RunsAll, RunsUpTo, WrotePart}
 use Rattle.rds_log.specs.Fill.{AddsNothing, AreFilled, FillsAll, HasLeftOut, IsLeftOut, IsOfAnother, LinesFill, SoFar}
-use Rattle.rds_log.specs.Fill.{TimesAre, gap_lines, lost_lines, more_lines, newest_time, shown, time_of}
+use Rattle.rds_log.specs.Fill.{TimesAre, gap_lines, lost_lines, more_lines, newest_time, shown}
+use Rattle.rds_lines.specs.LineTimes.{time_of}
 use Rattle.rds_log.specs.Inside.Filler.{HasFilled, KeepsTimes, last_time, told_after}
 use Rattle.rds_log.specs.Inside.Pace.{PaceStandsAt}
 use Rattle.rds_log.specs.declared.pace.Pace.{Pace}
 use Rattle.rds_log.specs.declared.filler.Filling.{Filling}
 use Rattle.rds_log.specs.declared.filler.Filler.{Filler}
 use Rattle.rds_log.specs.declared.filler.Times.{Times}
-use Rattle.rds_log.specs.declared.log_line.LogLine.{LogLine}
-use Rattle.rds_log.specs.declared.log_line.LogLine.TheVariants.{Skip, Slot}
-use Rattle.rds_log.specs.OneLog.{same_said}
+use Rattle.rds_lines.specs.declared.log_line.LogLine.{LogLine}
+use Rattle.rds_lines.specs.declared.log_line.LogLine.TheVariants.{Skip, Slot}
+use Rattle.rds_lines.specs.OneLog.{same_said}
 
 -- the output of some lost slots begins that of more
 pub lost_split : (i n : ℕ) → i ≤ n → (rest : List ℕ) × (lost_lines n ≡ lost_lines i ++ rest)

@@ -15,16 +15,16 @@ use Rattle.rds_arrivals.specs.Stamps.{stamp_in}
 use Rattle.rds_arrivals.specs.declared.lost.Break.{Break}
 use Rattle.rds_arrivals.specs.declared.lost.Break.TheVariants.{Back, Hour}
 use Rattle.rds_arrivals.specs.declared.stamp.Stamp.{Stamp}
-use Rattle.rds_log.specs.Fill.{AreFilled, SoFar, break_line, ended_within, gap_lines, lost_lines, more_lines}
-use Rattle.rds_log.specs.Fill.{newest_time, time_of}
+use Rattle.rds_log.specs.Fill.{AreFilled, SoFar, gap_lines, lost_lines, more_lines, newest_time}
+use Rattle.rds_lines.specs.LineTimes.{break_line, ended_within, time_of}
 use Rattle.rds_log.specs.FilledLog.{FilledTextsAreLogs}
-use Rattle.rds_log.specs.LineSays.{LineSays}
-use Rattle.rds_log.specs.LogLines.{IsLine, Line, line_feed, text_of}
-use Rattle.rds_log.specs.LogWrites.{AreSlots}
+use Rattle.rds_lines.specs.LineSays.{LineSays}
+use Rattle.rds_lines.specs.LogLines.{IsLine, Line, line_feed, text_of}
+use Rattle.rds_lines.specs.LogSlots.{AreSlots}
 use Rattle.rds_log.specs.declared.filler.Filling.{Filling}
-use Rattle.rds_log.specs.declared.log_line.LogLine.TheVariants.{Skip, Slot}
-use Rattle.rds_log.proofs.Cutting.{text_of-more}
-use Rattle.rds_log.proofs.FirstBytes.{content_near, same_slot_line}
+use Rattle.rds_lines.specs.declared.log_line.LogLine.TheVariants.{Skip, Slot}
+use Rattle.rds_lines.proofs.Cutting.{text_of-more}
+use Rattle.rds_lines.proofs.FirstBytes.{content_near, same_slot_line}
 
 -- ---- a line as far as its time
 

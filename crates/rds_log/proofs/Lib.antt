@@ -1,15 +1,7 @@
-pub mod FirstBytes
-pub mod SaidLemmas
 pub mod Views
-pub mod NearEnd
-pub mod Cutting
-pub mod Reading
-pub mod Runs
 pub mod Decodes
 pub mod Audited
-pub mod KeptSlots
 pub mod WorkedRows
-pub mod WholeBytes
 pub mod OneOutput
 pub mod Meaning
 pub mod OneVerdict

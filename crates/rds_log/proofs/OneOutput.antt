@@ -6,11 +6,11 @@ use Rattle.rds_receiver.specs.OneView.{same_view}
 use Rattle.rds_view_lines.specs.Output.{Display, changes_of}
 use Rattle.rds_io.specs.Told.{Traffic}
 use Rattle.rds_io.specs.Alike.{WriteAlike}
-use Rattle.rds_log.specs.OneLog.{same_lines, same_slots}
+use Rattle.rds_lines.specs.OneLog.{same_lines, same_slots}
 use Rattle.rds_log.specs.LogWrites.{AreDisplays, IsDisplay, LogWrites, tuning_of}
 use Rattle.rds_log.specs.Decode.{DecodesAll}
 use Rattle.rds_log.specs.declared.decode_log.Decoding.{Decoding}
-use Rattle.rds_log.proofs.WholeBytes.{read_whole}
+use Rattle.rds_lines.proofs.WholeBytes.{read_whole}
 
 -- an input has one display
 same_display : (why : Bool) (t : Tuning) (input : List (Option Group)) (d e : Display) → IsDisplay why t input d

@@ -1,6 +1,6 @@
 -- The bytes of a log have one answer of an audit.
-use Rattle.std.proofs.Common.{◌≡◌, ◌≢◌, ◌⊎◌, ◌<◌, ◌∙◌, ◌∷◌, [], ◌++◌, ℕ, List, Bool, true, false, Option, Some}
-use Rattle.std.proofs.Common.{Ok, append_assoc, ap, arith, inl, inr, length, refl, sym}
+use Rattle.std.proofs.Common.{◌≡◌, ◌≢◌, ◌⊎◌, ◌<◌, ◌∙◌, ◌∷◌, [], ◌++◌, ℕ, List, Bool, true, false, Option, Some, Ok}
+use Rattle.std.proofs.Common.{append_assoc, ap, arith, inl, inr, length, refl, sym}
 use Rattle.std.specs.Prelude.{All}
 use Rattle.std.specs.Io.KnownBytes.{Consumes}
 use Rattle.std.proofs.lemmas.Bool.Decides.{eqb_tells}
@@ -20,15 +20,15 @@ use Rattle.rds_audit.specs.declared.fault_set.FaultSet.{FaultSet}
 use Rattle.rds_io.specs.Alike.{WriteAlike}
 use Rattle.rds_log.specs.Audit.{SlotsFail, SlotsPass, StopsAtSlot, WholePasses, judged, spacing}
 use Rattle.rds_log.specs.FaultList.{AnswersYes, AreAdded, Audits, FindsFaults, LinesList, no_line, yes_line}
-use Rattle.rds_log.specs.LogWrites.{AreSlots}
-use Rattle.rds_log.specs.Reads.{BeginsWith}
-use Rattle.rds_log.specs.LogLines.{AreLines, IsLine, Line, line_feed, text_of}
+use Rattle.rds_lines.specs.LogSlots.{AreSlots}
+use Rattle.rds_lines.specs.Reads.{BeginsWith}
+use Rattle.rds_lines.specs.LogLines.{AreLines, IsLine, Line, line_feed, text_of}
 use Rattle.rds_log.specs.declared.audit_log.Auditing.{Auditing}
 use Rattle.rds_log.specs.declared.audit_log.Stop.{Stop}
 use Rattle.rds_log.specs.declared.audit_log.Stop.TheVariants.{FirstFault, LogEnd}
-use Rattle.rds_log.proofs.Cutting.{text_of-more}
-use Rattle.rds_log.specs.OneLog.{same_lines, same_slots}
-use Rattle.rds_log.proofs.WholeBytes.{read_and_left, read_whole}
+use Rattle.rds_lines.proofs.Cutting.{text_of-more}
+use Rattle.rds_lines.specs.OneLog.{same_lines, same_slots}
+use Rattle.rds_lines.proofs.WholeBytes.{read_and_left, read_whole}
 
 -- ---- lines
 

@@ -15,9 +15,9 @@ use Rattle.rds_audit.specs.declared.log_start.LogStart.{LogStart}
 use Rattle.rds_audit.specs.declared.text_form.TextForm.{TextForm}
 use Rattle.rds_audit.specs.declared.text_form.TextForm.TheVariants.{Plain}
 use Rattle.rds_audit.specs.declared.log_start.LogStart.TheVariants.{Complete, Running}
-use Rattle.rds_log.specs.LogLines.{AreLines, Line}
-use Rattle.rds_log.specs.LogWrites.{AreSlots}
-use Rattle.rds_log.specs.Reads.{BeginsWith}
+use Rattle.rds_lines.specs.LogLines.{AreLines, Line}
+use Rattle.rds_lines.specs.LogSlots.{AreSlots}
+use Rattle.rds_lines.specs.Reads.{BeginsWith}
 use Rattle.rds_log.specs.declared.audit_log.Auditing.{Auditing}
 use Rattle.rds_log.specs.declared.audit_log.Stop.TheVariants.{FirstFault}
 

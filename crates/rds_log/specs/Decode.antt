@@ -3,7 +3,7 @@ use Rattle.std.specs.Prelude.{ℕ, List, Ok, Err, Result}
 use Rattle.std.specs.Io.KnownBytes.{Appends, Consumes, IsAtEnd}
 use Rattle.rds_io.specs.Told.{IsCalm, Traffic}
 use Rattle.rds_log.specs.LogWrites.{LinesWrite, LogWrites}
-use Rattle.rds_log.specs.Outputs.{StopsBy}
+use Rattle.rds_lines.specs.Outputs.{StopsBy}
 use Rattle.rds_log.specs.declared.decode_log.Decoding.{Decoding}
 use Rattle.rds_io.specs.declared.fault.LogFault.{LogFault}
 

@@ -1,8 +1,8 @@
 -- What `audit` writes: a line for the first fault of a log, after which it stops, or a line for each fault; or the line
 -- of a yes. Lists of slots, of lines and of the faults of slots have the newest first. a says how the log is judged. r
 -- is the traffic with the reader, w the traffic with the writer.
-use Rattle.std.specs.Prelude.{◌≡◌, ◌≢◌, ◌⊎◌, ◌++◌, [], ◌∷◌, ℕ, Bool, List, Option, None, Some, Ok, Err, Result}
-use Rattle.std.specs.Prelude.{codes, decimal, false, if◌then◌else◌, length, true}
+use Rattle.std.specs.Prelude.{◌≡◌, ◌≢◌, ◌⊎◌, ◌++◌, [], ◌∷◌, ℕ, Bool, List, Option, None, Some, Ok, Err, Result, codes}
+use Rattle.std.specs.Prelude.{decimal, false, if◌then◌else◌, length, true}
 use Rattle.std.specs.Io.KnownBytes.{Appends, Consumes, IsAtEnd}
 use Rattle.rds_block.specs.declared.group.Group.{Group}
 use Rattle.rds_io.specs.Told.{AppendsPrefix, HasFailed, IsCalm, Traffic}
@@ -12,12 +12,12 @@ use Rattle.rds_audit.specs.declared.audit.AuditFault.TheVariants.{Changed, NotOn
 use Rattle.rds_audit.specs.declared.fault_set.FaultSet.{FaultSet}
 use Rattle.rds_audit.specs.Listing.{first_of, slot_adds}
 use Rattle.rds_audit.specs.declared.text_form.TextForm.{TextForm}
-use Rattle.rds_log.specs.Audit.{SlotsAreSafe, SlotsFail, SlotsHaveNoPlans, SlotsPass, StopsAtSlot, WholePasses}
-use Rattle.rds_log.specs.Audit.{judged, spacing}
-use Rattle.rds_log.specs.LogLines.{AreLines, Line}
-use Rattle.rds_log.specs.LogWrites.{AreSlots}
-use Rattle.rds_log.specs.Outputs.{StopsAtWrite, StopsBy}
-use Rattle.rds_log.specs.Reads.{BeginsWith}
+use Rattle.rds_log.specs.Audit.{SlotsAreSafe, SlotsFail, SlotsHaveNoPlans, SlotsPass, StopsAtSlot, WholePasses, judged}
+use Rattle.rds_log.specs.Audit.{spacing}
+use Rattle.rds_lines.specs.LogLines.{AreLines, Line}
+use Rattle.rds_lines.specs.LogSlots.{AreSlots}
+use Rattle.rds_lines.specs.Outputs.{StopsAtWrite, StopsBy}
+use Rattle.rds_lines.specs.Reads.{BeginsWith}
 use Rattle.rds_log.specs.declared.audit_log.Auditing.{Auditing}
 use Rattle.rds_log.specs.declared.audit_log.Stop.{Stop}
 use Rattle.rds_log.specs.declared.audit_log.Stop.TheVariants.{FirstFault, LogEnd}

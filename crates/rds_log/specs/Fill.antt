@@ -1,8 +1,7 @@
 -- What `slots` writes: each group with its time, and before it a line for each slot that the log lacks. Lists of lines
 -- and of arrivals have the newest first. r is the traffic with the reader, w the traffic with the writer.
-use Rattle.std.specs.Prelude.{◌≡◌, ◌≢◌, ◌⊎◌, ◌+◌, ◌-◌, ◌^◌, ◌++◌, [], ◌∷◌, ℕ, zero, suc, Bool, false, true, List}
-use Rattle.std.specs.Prelude.{Ok, Err, Result, Option, Some, None, codes, drop, length, max, nat_lt, option_and_then}
-use Rattle.std.specs.Prelude.{take, if◌then◌else◌}
+use Rattle.std.specs.Prelude.{◌≡◌, ◌≢◌, ◌⊎◌, ◌+◌, ◌-◌, ◌^◌, ◌++◌, [], ◌∷◌, ℕ, zero, suc, Bool, false, true, List, Ok}
+use Rattle.std.specs.Prelude.{Err, Result, Option, Some, None, codes, max, take, if◌then◌else◌}
 use Rattle.std.specs.Io.KnownBytes.{Consumes, IsAtEnd}
 use Rattle.rds_block.specs.declared.group.Group.{Group}
 use Rattle.rds_io.specs.Digits.{HasWord}
@@ -10,28 +9,19 @@ use Rattle.rds_io.specs.Told.{IsCalm, Traffic}
 use Rattle.rds_arrivals.specs.Arrivals.{Arrival, IsBreak, lost_between, lost_until}
 use Rattle.rds_arrivals.specs.Breaks.{break_of}
 use Rattle.rds_arrivals.specs.Coarse.{AreCoarse}
-use Rattle.rds_arrivals.specs.Stamps.{stamp_in}
 use Rattle.rds_arrivals.specs.declared.lost.Break.{Break}
-use Rattle.rds_arrivals.specs.declared.lost.Break.TheVariants.{Back, Hour}
 use Rattle.rds_arrivals.specs.declared.stamp.Stamp.{Stamp}
-use Rattle.rds_log.specs.LogLines.{AreLines, Line}
-use Rattle.rds_log.specs.LineSays.{LineSays, deciding}
-use Rattle.rds_log.specs.Outputs.{StopsBy, WroteLines}
+use Rattle.rds_lines.specs.LineTimes.{break_line, time_of}
+use Rattle.rds_lines.specs.LogLines.{AreLines, Line}
+use Rattle.rds_lines.specs.LineSays.{LineSays, deciding}
+use Rattle.rds_lines.specs.Outputs.{StopsBy, WroteLines}
 use Rattle.rds_io.specs.declared.fault.LogFault.{LogFault}
 use Rattle.rds_log.specs.declared.filler.Filling.{Filling}
-use Rattle.rds_log.specs.declared.log_line.LogLine.TheVariants.{Skip, Slot}
+use Rattle.rds_lines.specs.declared.log_line.LogLine.TheVariants.{Skip, Slot}
 use Rattle.rds_log.specs.declared.filler.Times.{Times}
 use Rattle.rds_log.specs.declared.filler.Times.TheVariants.{AllLeftOut, Broken, Coarse, Fine}
 
 -- ---- a line, by its first bytes
-
--- this time, if it ends before the last of the bytes that are kept of a line, so that the line shows where it ends
-abbrev pub ended_within : Option Stamp → Option Stamp
-ended_within found = option_and_then (λ stamp. if nat_lt (20 + stamp.end) deciding then Some stamp else None) found
-
--- the time of a slot's line: that of its text after the blocks and a space, in the bytes that are kept of a line
-abbrev pub time_of : List ℕ → Option Stamp
-time_of first = if nat_lt (length first) 20 then None else ended_within (stamp_in (drop 20 first))
 
 -- the first block is a word other than the wanted PI; if no PI is wanted, each programme is
 abbrev pub IsOfAnother : Option ℕ → List ℕ → Type 0
@@ -48,12 +38,6 @@ shown first stamp = take (20 + stamp.end) first ++ codes "\n"
 abbrev pub lost_lines : ℕ → List ℕ
 lost_lines zero = []
 lost_lines (suc n) = lost_lines n ++ codes "---- ---- ---- ----\n"
-
--- the comment at a break
-abbrev pub break_line : Option Break → List ℕ
-break_line None = []
-break_line (Some Back) = codes "# time went back\n"
-break_line (Some Hour) = codes "# more than an hour passed\n"
 
 -- the output when `lost` slots are lost since the last group and `told` of them are written: the comment of a break,
 -- and the lost slots that are not written

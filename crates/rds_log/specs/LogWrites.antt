@@ -1,17 +1,15 @@
 -- The output of the lines of a log: the changes of the displays of their slots, with the reasons if the lines say why a
 -- text or a name is not shown any more. All lists have the newest first.
-use Rattle.std.specs.Prelude.{◌≡◌, ◌⊎◌, ℕ, Bool, false, true, List, [], ◌∷◌, None, Option, Some}
+use Rattle.std.specs.Prelude.{◌≡◌, ℕ, Bool, false, true, List, [], ◌∷◌, None, Option, Some}
 use Rattle.rds_block.specs.declared.group.Group.{Group}
-use Rattle.rds_fields.specs.TagGroup.{exchanged_in}
 use Rattle.rds_receiver.specs.Receipts.{Tuning, heard_of}
 use Rattle.rds_receiver.specs.NotShown.{whys_of}
 use Rattle.rds_receiver.specs.Shown.{IsView}
 use Rattle.rds_receiver.specs.declared.why.Whys.{Whys}
-use Rattle.rds_log.specs.LogLines.{AreLines, Line}
-use Rattle.rds_log.specs.LineSays.{LineSays}
+use Rattle.rds_lines.specs.LogSlots.{AreSlots}
+use Rattle.rds_lines.specs.LogLines.{AreLines, Line}
 use Rattle.rds_view_lines.specs.Output.{Display, changes_of}
 use Rattle.rds_log.specs.declared.decode_log.Decoding.{Decoding}
-use Rattle.rds_log.specs.declared.log_line.LogLine.TheVariants.{Skip, Slot}
 
 -- a receiver that decodes so hears a log from its first slot on
 abbrev pub tuning_of : Decoding → Tuning
@@ -20,17 +18,6 @@ tuning_of how = record { programme = how.pi; dwell = how.dwell; window = how.win
 -- the settings without a window and without reasons, for tags in groups 11A
 abbrev pub plain : ℕ → ℕ → Decoding
 plain pi m = record { pi = pi; rtplus = 11; dwell = m; window = None; says_why = false }
-
--- a receiver of this programme and this dwell without a window
-abbrev pub tuned : ℕ → ℕ → Tuning
-tuned pi m = tuning_of (plain pi m)
-
--- the lines are good, and these are their slots, if their tags come in groups nA: these and groups 11A are exchanged
-abbrev pub AreSlots : ℕ → List Line → List (Option Group) → Type 0
-AreSlots n [] slots = slots ≡ []
-AreSlots n (line ∷ before) slots = (LineSays line Skip × AreSlots n before slots)
-    ⊎ ((slot : Option Group) × (older : List (Option Group)) × LineSays line (Slot slot)
-    × (slots ≡ exchanged_in n slot ∷ older) × AreSlots n before older)
 
 -- why a text and a name are not shown at the end of an input, if the lines say why
 abbrev pub SayWhys : Bool → Tuning → List (Option Group) → Option Whys → Type 0

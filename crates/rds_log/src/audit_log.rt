@@ -3,17 +3,15 @@ ghost use Rattle.std.specs.Prelude.{◌≤◌, ◌^◌};
 ghost use Rattle.rds_io.specs.Told.{traffic};
 ghost use Rattle.rds_log.specs.Audit.{complete};
 ghost use Rattle.rds_log.specs.FaultList.{Audits, Means};
-ghost use Rattle.rds_log.specs.Reads.{MadeReads};
+ghost use Rattle.rds_lines.specs.Reads.{MadeReads};
 
 use crate::auditor::Auditor;
-use crate::decode_log::MOST_READS;
 use crate::laws::what_an_answer_means;
-use crate::person::news::{News, NoNews};
 use crate::person::notes::LogNotes;
-use crate::run_log::run;
 use rds_audit::{LogStart, TextForm};
 use rds_fields::{Dwell, Late, TagGroup};
 use rds_io::{LogFault, TellingRead, TellingWrite};
+use rds_lines::{MOST_READS, News, NoNews, run};
 
 /// Where an audit stops (this project's own rule).
 #[derive(Clone, Copy, Debug, PartialEq, Eq)]
@@ -115,7 +113,7 @@ pub fn audit_with_notes<R: TellingRead, W: TellingWrite, N: News>(
     what_an_answer_means();
     *notes = LogNotes::new();
     let mut auditor = Auditor::new(auditing);
-    let read = &mut notes.read;
+    let read = &mut notes.input.read;
     let ended = run(reader, writer, &mut auditor, reads, read, news);
     auditor.note(notes);
     ended?;

@@ -6,25 +6,21 @@ ghost use Rattle.rds_audit.specs.Stored.{fault_of};
 ghost use Rattle.rds_io.specs.Told.{traffic};
 ghost use Rattle.rds_io.specs.Waits.{Waits};
 ghost use Rattle.rds_log.specs.FaultList.{LinesAnswer, LinesGoOn, fault_lines, line_if, lines_for, yes_line};
-ghost use Rattle.rds_log.specs.Outputs.{Pushed};
+ghost use Rattle.rds_lines.specs.Outputs.{Pushed};
 ghost use Rattle.rds_log.specs.declared.audit_log.Auditing.{Auditing};
 ghost use Rattle.rds_log.specs.declared.audit_log.Stop.TheVariants.{FirstFault};
 ghost use Rattle.rds_log.specs.declared.auditor.TheConstants.{FAULTS_ROOM};
 ghost use Rattle.rds_log.specs.declared.verdict.TheConstants.{ANSWER_ROOM};
 
 use crate::audit_log::{Auditing, Stop};
-use crate::log_line::LogLine;
 use crate::person::fault_notes::{FaultNotes, FaultPlace};
 use crate::person::harmless::AllChanges;
-use crate::person::heard::Heard;
-use crate::person::news::News;
 use crate::person::notes::{LogNotes, NoNote};
-use crate::run_log::{OUTPUT_ROOM, TakesLines};
-use crate::source::Source;
 use crate::verdict::{ANSWER_ROOM, push_no, push_yes};
 use rds_audit::{Audit, AuditFault, FaultSet};
 use rds_fields::TagGroup;
 use rds_io::{Lines, TellingWrite, WriteFault};
+use rds_lines::{Heard, LogLine, News, OUTPUT_ROOM, Source, TakesLines};
 
 /// The most bytes of the lines of a slot.
 const FAULTS_ROOM: usize = 5 * ANSWER_ROOM;
@@ -77,17 +73,18 @@ impl TakesLines for Auditor {
             LogLine::Slot(group) => {
                 let slot = self.slots;
                 let read = self.rtplus.exchange_read(group);
-                // Prover: a value is copied by a new name before its second use (docs/PROVER.md, "Workarounds").
+                // Prover: a value is copied by a new name before its second use (PROVER.md, "Workarounds").
                 let heard = read;
-                let sent = read;
                 let failed = read;
                 self.heard.slot(self.pi, heard);
                 let found = self.audit.all_faults(read);
-                self.changes.note(slot, sent, &self.audit, found);
                 self.slots += 1;
+                // in both branches: so a slot without a fault is asked for faults once
                 if found.is_empty() {
+                    self.changes.note(slot, &self.audit, found);
                     return Ok(true);
                 }
+                self.changes.note(slot, &self.audit, found);
                 self.fail(slot, found, LogLine::Slot(failed), source, output);
                 Ok(!self.is_done)
             }
@@ -122,7 +119,7 @@ impl Auditor {
             rtplus: how.rtplus,
             heard: Heard::new(),
             faults: FaultNotes::new(),
-            changes: AllChanges::new(how.stop, how.pi),
+            changes: AllChanges::new(how.stop),
             no: None,
         }
     }
@@ -166,8 +163,8 @@ impl Auditor {
 
     /// Adds to the notes on a log what was noted of its slots.
     pub(crate) fn note(&self, notes: &mut LogNotes) {
-        notes.slots = self.slots;
-        notes.heard = self.heard;
+        notes.input.slots = self.slots;
+        notes.input.heard = self.heard;
         notes.no = self.no;
         notes.texts = self.audit.texts();
         notes.complete = self.audit.complete_texts();

@@ -2,15 +2,7 @@
 ghost use Rattle.std.specs.Prelude.{◌≡◌, IsTrue, None, is_some};
 
 use rds_arrivals::Break;
-
-/// A break in the times of a log: nobody knows how many slots were lost before a group (this project's own rule).
-#[derive(Clone, Copy)]
-pub struct BreakPlace {
-    /// Why nobody knows it.
-    pub why: Break,
-    /// The line of the group, counted from 1.
-    pub line: u64,
-}
+use rds_lines::BreakPlace;
 
 /// The breaks in the times of a log (this project's own rule).
 #[derive(Clone, Copy)]

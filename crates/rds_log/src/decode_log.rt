@@ -3,14 +3,13 @@ ghost use Rattle.std.specs.Prelude.{◌≤◌, ◌^◌};
 ghost use Rattle.rds_io.specs.Told.{traffic};
 ghost use Rattle.rds_log.specs.Decode.{Decodes};
 ghost use Rattle.rds_log.specs.LogWrites.{plain};
-ghost use Rattle.rds_log.specs.Reads.{MadeReads};
+ghost use Rattle.rds_lines.specs.Reads.{MadeReads};
 
 use crate::decoder::Decoder;
-use crate::person::news::{News, NoNews};
 use crate::person::notes::LogNotes;
-use crate::run_log::run;
 use rds_fields::{Dwell, TagGroup};
 use rds_io::{LogFault, TellingRead, TellingWrite};
+use rds_lines::{MOST_READS, News, NoNews, run};
 use rds_receiver::Window;
 
 /// How a log is decoded.
@@ -27,9 +26,6 @@ pub struct Decoding {
     /// Whether the line of a text or a name that is not shown any more says why.
     pub says_why: bool,
 }
-
-/// The most reads of a log. A longer log is too long.
-pub const MOST_READS: u64 = 1 << 32;
 
 /// Writes what a receiver of this programme and this dwell shows while it hears the log, with tags in groups 11A.
 ///
@@ -84,10 +80,10 @@ pub fn decode_with_notes<R: TellingRead, W: TellingWrite, N: News>(
 {
     *notes = LogNotes::new();
     let mut decoder = Decoder::new(decoding);
-    let read = &mut notes.read;
+    let read = &mut notes.input.read;
     let result = run(reader, writer, &mut decoder, reads, read, news);
-    notes.heard = decoder.heard;
+    notes.input.heard = decoder.heard;
     notes.incomplete = Some(decoder.incomplete);
-    notes.slots = decoder.views.slot;
+    notes.input.slots = decoder.views.slot;
     result
 }

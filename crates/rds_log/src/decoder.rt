@@ -11,15 +11,11 @@ ghost use Rattle.rds_log.specs.LogWrites.{LinesWrite, SayWhys};
 ghost use Rattle.rds_view_lines.specs.declared.change.TheConstants.{SLOT_ROOM};
 
 use crate::decode_log::Decoding;
-use crate::log_line::LogLine;
-use crate::person::heard::Heard;
 use crate::person::incomplete::IncompleteTexts;
-use crate::person::news::News;
-use crate::run_log::{OUTPUT_ROOM, TakesLines};
-use crate::source::Source;
 use rds_block::Blocks;
 use rds_fields::TagGroup;
 use rds_io::{Lines, TellingWrite, WriteFault};
+use rds_lines::{Heard, LogLine, News, OUTPUT_ROOM, Source, TakesLines};
 use rds_receiver::{Receiver, Whys};
 use rds_view_lines::{KeptView, Prefix, SLOT_ROOM, show};
 
@@ -163,7 +159,7 @@ impl TakesLines for Decoder {
             LogLine::Skip => Ok(true),
             LogLine::Slot(group) => {
                 let read = self.rtplus.exchange_read(group);
-                // Prover: a value is copied by a new name before its second use (docs/PROVER.md, "Workarounds").
+                // Prover: a value is copied by a new name before its second use (PROVER.md, "Workarounds").
                 let heard = read;
                 let lost = read;
                 let begun = read;

@@ -1,35 +1,28 @@
 //! The lines of a filled log: each group with its time, and a line for each slot that was lost before it.
-ghost use Rattle.std.specs.Prelude.{◌≡◌, ◌⊎◌, ◌<◌, ◌≤◌, ◌+◌, ◌*◌, ◌++◌, ◌∷◌, ◌↔◌, [], ℕ, List, Option};
-ghost use Rattle.std.specs.Prelude.{IfSome, IsTrue, MatchResult, OnOk, Some, codes, is_some, length, max};
-ghost use Rattle.std.specs.Prelude.{take, true};
+ghost use Rattle.std.specs.Prelude.{◌≡◌, ◌⊎◌, ◌<◌, ◌≤◌, ◌+◌, ◌*◌, ◌++◌, ◌∷◌, ◌↔◌, [], ℕ, List, Option, IsTrue};
+ghost use Rattle.std.specs.Prelude.{MatchResult, OnOk, Some, codes, is_some, length, max, take, true};
 ghost use Rattle.std.proofs.Common.{rules};
 ghost use Rattle.rds_block.specs.declared.group.Group.{Group};
 ghost use Rattle.rds_io.specs.Told.{traffic};
 ghost use Rattle.rds_io.specs.Waits.{Waits};
-ghost use Rattle.rds_log.specs.Fill.{IsOfAnother, LinesFill, TimesAre, break_line, ended_within, gap_lines};
-ghost use Rattle.rds_log.specs.Fill.{lost_lines, more_lines, time_of};
-ghost use Rattle.rds_log.specs.Inside.Source.{start_of};
-ghost use Rattle.rds_log.specs.LineSays.{LineSays, deciding};
-ghost use Rattle.rds_log.specs.LogLines.{Line};
-ghost use Rattle.rds_log.specs.Outputs.{HasTaken, Pushed, WrotePart};
+ghost use Rattle.rds_log.specs.Fill.{IsOfAnother, LinesFill, TimesAre, gap_lines, lost_lines, more_lines};
+ghost use Rattle.rds_lines.specs.LineTimes.{break_line};
+ghost use Rattle.rds_lines.specs.Inside.Source.{start_of};
+ghost use Rattle.rds_lines.specs.LineSays.{LineSays, deciding};
+ghost use Rattle.rds_lines.specs.LogLines.{Line};
+ghost use Rattle.rds_lines.specs.Outputs.{HasTaken, Pushed, WrotePart};
 ghost use Rattle.rds_log.specs.declared.filler.TheConstants.{LINE_ROOM};
-ghost use Rattle.rds_log.specs.declared.log_line.LogLine.TheVariants as LogLine;
-ghost use Rattle.rds_log.specs.declared.run_log.TheConstants.{OUTPUT_ROOM};
+ghost use Rattle.rds_lines.specs.declared.log_line.LogLine.TheVariants as LogLine;
+ghost use Rattle.rds_lines.specs.declared.run_log.TheConstants.{OUTPUT_ROOM};
 
-use crate::log_line::{DECIDING, LogLine};
 use crate::pace::Pace;
-use crate::person::news::News;
-use crate::run_log::{OUTPUT_ROOM, TakesLines};
-use crate::source::Source;
-use rds_arrivals::{Break, Grain, LastMinute, Stamp, lost_between, stamp_after};
+use rds_arrivals::{Break, Grain, LastMinute, lost_between};
 use rds_fields::Dwell;
 use rds_io::{Lines, TellingWrite, WriteFault, word_at};
+use rds_lines::{LogLine, News, OUTPUT_ROOM, Source, TIME, TakesLines, comment_of, stamp_of};
 
 /// The most bytes of one line of output.
 const LINE_ROOM: usize = 61;
-
-/// The place of the time in a line: after the blocks and a space.
-pub(crate) const TIME: usize = 20;
 
 /// The line of a lost slot, without its line feed.
 const LOST: &[u8] = b"---- ---- ---- ----";
@@ -393,30 +386,6 @@ fn make_room<W: TellingWrite>(
     output.write(writer)
 }
 
-/// Returns the time of a slot's line, from its first bytes, and keeps its minute.
-pub(crate) fn stamp_of(minute: &mut LastMinute, start: &[u8]) -> Option<Stamp>
-    requires { length start.now ≤ 60 }
-    ensures value { result ≡ time_of start.now }
-    ensures within { IfSome result (λ stamp. 20 + stamp.end ≤ length start.now) }
-{
-    if start.len() < TIME {
-        return None;
-    }
-    ended_within(stamp_after(minute, &start[TIME..]))
-}
-
-/// Returns this time if it ends before the last of the bytes that are kept of a line, so that the line shows where it
-/// ends.
-fn ended_within(found: Option<Stamp>) -> Option<Stamp>
-    ensures value { result ≡ ended_within found }
-    ensures same { IfSome result (λ stamp. found ≡ Some stamp) }
-{
-    match found {
-        Some(stamp) if stamp.end < DECIDING - TIME => Some(stamp),
-        Some(_) | None => None,
-    }
-}
-
 /// Returns whether the first block is a word other than this PI.
 fn is_of_another(pi: Option<u16>, first: &[u8]) -> bool
     requires { 20 ≤ length first.now }
@@ -428,16 +397,5 @@ fn is_of_another(pi: Option<u16>, first: &[u8]) -> bool
     match word_at(first, 0) {
         Some(word) => word != pi,
         None => false,
-    }
-}
-
-/// Returns the comment that `slots` writes at a break, without its line feed.
-pub fn comment_of(why: Break) -> &'static [u8]
-    ensures line { result.now ++ codes "\n" ≡ break_line (Some why) }
-    ensures short { length result.now ≤ 60 }
-{
-    match why {
-        Break::Back => b"# time went back",
-        Break::Hour => b"# more than an hour passed",
     }
 }

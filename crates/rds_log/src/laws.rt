@@ -6,13 +6,13 @@ ghost use Rattle.rds_io.specs.Alike.{WriteAlike};
 ghost use Rattle.rds_log.specs.Audit.{SlotsAreSafe, SlotsFail, SlotsHaveNoPlans, SlotsPass, spacing};
 ghost use Rattle.rds_log.specs.FaultList.{Audits};
 ghost use Rattle.rds_log.specs.FilledLog.{FilledTextsAreLogs};
-ghost use Rattle.rds_log.specs.LogLines.{Line};
-ghost use Rattle.rds_log.specs.LineSays.{LineSays};
+ghost use Rattle.rds_lines.specs.LogLines.{Line};
+ghost use Rattle.rds_lines.specs.LineSays.{LineSays};
 ghost use Rattle.rds_log.specs.LogWrites.{LogWrites};
 ghost use Rattle.rds_log.specs.Decode.{DecodesAll};
 ghost use Rattle.rds_log.specs.declared.audit_log.Auditing.{Auditing};
 ghost use Rattle.rds_log.specs.declared.decode_log.Decoding.{Decoding};
-ghost use Rattle.rds_log.specs.declared.log_line.LogLine.{LogLine};
+ghost use Rattle.rds_lines.specs.declared.log_line.LogLine.{LogLine};
 ghost use Rattle.rds_audit.specs.declared.audit.AuditFault.{AuditFault};
 
 use rds_audit::{

@@ -2,11 +2,6 @@
 
 pub(crate) mod fault_notes;
 pub(crate) mod harmless;
-pub(crate) mod heard;
 pub(crate) mod incomplete;
-pub(crate) mod line_cause;
-pub(crate) mod line_time;
-pub(crate) mod log_times;
-pub(crate) mod news;
 pub(crate) mod notes;
 pub(crate) mod segment_cause;

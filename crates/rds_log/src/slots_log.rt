@@ -2,16 +2,13 @@
 ghost use Rattle.std.specs.Prelude.{◌^◌};
 ghost use Rattle.rds_io.specs.Told.{traffic};
 ghost use Rattle.rds_log.specs.Fill.{Fills};
-ghost use Rattle.rds_log.specs.Reads.{MadeReads};
+ghost use Rattle.rds_lines.specs.Reads.{MadeReads};
 
 use crate::breaks::Breaks;
-use crate::decode_log::MOST_READS;
 use crate::filler::{Filler, Filling, SlotCounts, Times};
-use crate::person::news::News;
-use crate::person::notes::ReadNotes;
-use crate::run_log::run;
 use rds_arrivals::Stretch;
 use rds_io::{LogFault, TellingRead, TellingWrite};
+use rds_lines::{MOST_READS, News, ReadNotes, run};
 
 /// Notes of `slots` for a person (this project's own rule). No contract speaks of them.
 #[derive(Drop)]

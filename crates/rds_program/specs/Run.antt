@@ -9,16 +9,14 @@ use Rattle.clap.specs.declared.error.kind.ErrorKind.TheVariants.{OutOfMemory}
 use Rattle.rds_io.specs.Puts.{Puts}
 use Rattle.rds_io.specs.Told.{HasFailed, IsCalm, PutsNothing, Traffic, traffic}
 use Rattle.rds_io.specs.declared.told.WriteFault.{WriteFault}
-use Rattle.rds_receiver.specs.Receipts.{Tuning}
-use Rattle.rds_world.specs.ReceiverKind.{dwell_of, lateness_of}
+use Rattle.rds_receiver.specs.Receipts.{Tuning, tuned}
+use Rattle.rds_world.specs.ReceiverKind.{dwell_of, lateness_in, with_dwell}
 use Rattle.rds_world.specs.declared.receiver_kind.ReceiverKind.{ReceiverKind}
-use Rattle.rds_world.specs.declared.receiver_kind.ReceiverKind.TheVariants.{Confirming, FlagAlone, WithDwell}
 use Rattle.rds_world.specs.declared.world.Config.{Config}
 use Rattle.rds_audit.specs.AuditState.{form_if, start_if}
 use Rattle.rds_log.specs.Decode.{Decodes}
 use Rattle.rds_log.specs.FaultList.{Audits}
 use Rattle.rds_log.specs.Fill.{Fills}
-use Rattle.rds_log.specs.LogWrites.{tuned}
 use Rattle.rds_log.specs.declared.audit_log.Auditing.{Auditing}
 use Rattle.rds_log.specs.declared.audit_log.Stop.{Stop}
 use Rattle.rds_log.specs.declared.audit_log.Stop.TheVariants.{FirstFault, LogEnd}
@@ -138,12 +136,6 @@ pub record EngineRuns {X : Type 0} (Engine : Traffic → Result X LogFault → T
   pub ran : Engine (record w { after = mid; failures_after = failures }) outcome
   pub ended : EndsWith status_of task outcome (record w { before = mid; failures_before = failures }) status
 
--- the kind of the receivers of a simulation, which confirm within this window or none, or follow the flag bit alone
-abbrev pub kind_for : Option ℕ → Bool → ReceiverKind
-kind_for None false = WithDwell
-kind_for (Some w) false = Confirming w
-kind_for window true = FlagAlone window
-
 -- the station for receivers that are tuned so, for a programme, this lateness, and this kind of receivers
 abbrev pub tuned_station : Tuning → Programme → ℕ → ReceiverKind → Config
 tuned_station t programme late kind = record {
@@ -156,8 +148,8 @@ tuned_station t programme late kind = record {
 -- the station of a simulation; there is none if the lateness of what counts is above 1024 slots
 abbrev pub simulated_station : Tuning → Programme → ℕ → Option ℕ → Bool → Option Config
 simulated_station t programme late window alone =
-    if nat_le (lateness_of (kind_for window alone) late) 1024
-    then Some (tuned_station t programme late (kind_for window alone)) else None
+    if nat_le (lateness_in window late) 1024
+    then Some (tuned_station t programme late (record { window = window; is_flag_alone = alone })) else None
 
 -- how `decode` decodes a log: with this window or none, and with reasons or without
 abbrev pub decoding_of : Listening → Option ℕ → Bool → Decoding
@@ -197,7 +189,7 @@ filling_of t grain only =
 
 -- the receiver that loses given slots has this dwell, or follows the flag bit alone
 abbrev pub lossy : Bool → Tuning → Tuning
-lossy alone t = record t { dwell = dwell_of (kind_for None alone) t.dwell }
+lossy alone t = record t { dwell = dwell_of alone t.dwell }
 
 -- the bytes of the reader of a script, and the fact that one of its reads failed
 abbrev pub script_in : ReaderOver → Reading
@@ -243,7 +235,7 @@ TaskRuns (Decode window why) lose l r w status =
     EngineRuns (Decodes (decoding_of l window why) (2 ^ 32) r.traffic) done (Decode window why) w status
 TaskRuns (Encode programme late) lose l r w status =
     EngineRuns
-    (Plays (with_form (Log l.rtplus) (tuned_station l.tuning programme late WithDwell)) (2 ^ 32) (script_in r)) done
+    (Plays (with_form (Log l.rtplus) (tuned_station l.tuning programme late with_dwell)) (2 ^ 32) (script_in r)) done
     (Encode programme late) w status
 TaskRuns (Simulate programme late window alone why) lose l r w status =
     SimulationRuns why l.rtplus (simulated_station l.tuning programme late window alone)

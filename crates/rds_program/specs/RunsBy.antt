@@ -3,7 +3,6 @@ use Rattle.std.proofs.Common.{◌^◌, arith, inl, inr}
 use Rattle.std.proofs.Math.Logic.{∥∥₁_elim}
 use Rattle.std.specs.Prelude.{ℕ, Bool, List, None, Option, Some, false, true}
 use Rattle.rds_io.specs.Told.{Failed, Traffic}
-use Rattle.rds_world.specs.declared.receiver_kind.ReceiverKind.TheVariants.{WithDwell}
 use Rattle.rds_world.specs.declared.world.Config.{Config}
 use Rattle.rds_io.specs.ReadFailed.{SomeReadFailed}
 use Rattle.rds_script.specs.BorrowedReads.{plays_by}
@@ -14,8 +13,9 @@ use Rattle.rds_witness.specs.Spans.{bursts_in}
 use Rattle.rds_witness.specs.declared.burst.Burst.{Burst}
 use Rattle.rds_cli.specs.declared.request.Task.{Task}
 use Rattle.rds_cli.specs.declared.request.Task.TheVariants.{Audit, Decode, Encode, Lose, Simulate, Slots, Witness}
-use Rattle.rds_program.specs.Run.{EngineRuns, Listening, LossRuns, NoMemory, RunsWords, SimulationRuns, TaskRuns}
-use Rattle.rds_program.specs.Run.{done, listening, simulated_station, tuned_station}
+use Rattle.rds_world.specs.ReceiverKind.{with_dwell}
+use Rattle.rds_program.specs.Run.{EngineRuns, Listening, LossRuns, NoMemory, RunsWords, SimulationRuns, TaskRuns, done}
+use Rattle.rds_program.specs.Run.{listening, simulated_station, tuned_station}
 
 -- a run of engines that do more, with another statement for the case that no engine ran
 pub runs_by : {Rests Rested : Type 0} (words : List (List ℕ)) (Engine Weaker : Task → List ℕ → Listening → Type 0)
@@ -89,7 +89,7 @@ task_by says rests (Lose alone) lose l r w status ran =
     loss_by _ _ rests (bursts_in lose) alone l r w status ran
 task_by says rests (Slots grain only) lose l r w status ran = ran
 task_by says rests (Encode programme late) lose l r w status ran =
-    script_by says (with_form (Log l.rtplus) (tuned_station l.tuning programme late WithDwell)) (Encode programme late)
+    script_by says (with_form (Log l.rtplus) (tuned_station l.tuning programme late with_dwell)) (Encode programme late)
     r.before w status ran
 task_by says rests (Simulate programme late window alone why) lose l r w status ran =
     simulation_by says rests why l.rtplus (simulated_station l.tuning programme late window alone)

@@ -1,21 +1,17 @@
 //! The whole program over its arguments.
-ghost use Rattle.std.specs.Prelude.{◌≡◌, ◌⊎◌, ◌≤◌, ◌+◌, ◌^◌, ◌++◌, ℕ};
-ghost use Rattle.std.specs.Prelude.{List, None, codes, decimal, false, true, if◌then◌else◌, length, map};
-ghost use Rattle.rds_io.specs.Told.{PutsNothing, Traffic, traffic};
-ghost use Rattle.rds_log.specs.LogWrites.{tuned};
+ghost use Rattle.std.specs.Prelude.{◌≡◌, ◌≤◌, ◌+◌, ◌^◌, ◌++◌, ℕ, List, None, codes, decimal, false, true};
+ghost use Rattle.std.specs.Prelude.{if◌then◌else◌, length, map};
+ghost use Rattle.rds_io.specs.Told.{traffic};
+ghost use Rattle.rds_receiver.specs.Receipts.{tuned};
 ghost use Rattle.clap.specs.Words.{kind_of};
 ghost use Rattle.rds_audit.specs.AuditState.{form_if, start_if};
 ghost use Rattle.rds_cli.specs.Asks.{ReadAs};
-ghost use Rattle.rds_cli.specs.CommandLine.{IsPi};
 ghost use Rattle.rds_program.specs.Run as specs;
-ghost use Rattle.rds_program.specs.Run.{EndsWith, IsUntouched, PutsAfter, PutsLine, RefusesPi, RunsFrom, RunsRead};
-ghost use Rattle.rds_program.specs.Run.{LossRuns, RunsWords};
-ghost use Rattle.rds_program.specs.Run.{SimulationRuns, TaskRuns, TellsFault, done, listening, mark_of, reader_before};
-ghost use Rattle.rds_program.specs.Run.{reader_over};
-ghost use Rattle.rds_program.specs.Run.{script_in, status_of, times_status};
+ghost use Rattle.rds_program.specs.Run.{EndsWith, IsUntouched, PutsAfter, PutsLine, RunsFrom, RunsRead, LossRuns};
+ghost use Rattle.rds_program.specs.Run.{RunsWords, SimulationRuns, TaskRuns, TellsFault, done, listening, mark_of};
+ghost use Rattle.rds_program.specs.Run.{reader_before, reader_over, script_in, status_of, times_status};
 ghost use Rattle.rds_script.specs.Play.{Plays};
 ghost use Rattle.rds_witness.specs.Spans.{bursts_in};
-ghost use Rattle.rds_world.specs.ReceiverKind.{dwell_of};
 
 use crate::report::Report;
 use crate::status::{FAULT, NO, OK, REFUSED, write_no_memory};
@@ -26,9 +22,9 @@ use rds_audit::{LogStart, TextForm};
 use rds_cli::{End, Programme, Refusal, Request, Task, identification_of, read_words};
 use rds_fields::{Dwell, Head, Late, TagGroup};
 use rds_io::{Lines, LogFault, TellingRead, TellingWrite, put};
+use rds_lines::{MOST_READS, News, NoNews};
 use rds_log::{
-    Auditing, Decoding, Filling, MOST_READS, News, NoNews, Stop, Times, audit_with_notes,
-    decode_with_notes, fill_with_notes,
+    Auditing, Decoding, Filling, Stop, Times, audit_with_notes, decode_with_notes, fill_with_notes,
 };
 use rds_receiver::Window;
 use rds_script::{Form, MOST_RECORDS, Playing, play_script};
@@ -136,7 +132,7 @@ fn run_task<R: TellingRead, W: TellingWrite, N: News>(
         (reader_over R.remaining R.failures R.reads reader.old reader.new)
         (traffic W.contents W.failures writer.old writer.new) result }
 {
-    // Prover: a matched value is copied by a new name before its second use (docs/PROVER.md, "Workarounds").
+    // Prover: a matched value is copied by a new name before its second use (PROVER.md, "Workarounds").
     let (asked, rtplus, dwell) = (request.task, request.rtplus, request.dwell);
     match request.task {
         Task::Decode { window, says_why } => {
@@ -154,7 +150,7 @@ fn run_task<R: TellingRead, W: TellingWrite, N: News>(
         Task::Encode(programme, late) => {
             let playing = Playing {
                 form: Form::Log { rtplus },
-                config: station_of(pi, dwell, programme, late, ReceiverKind::WithDwell),
+                config: station_of(pi, dwell, programme, late, ReceiverKind::with_dwell()),
             };
             let encoded = run_script(playing, alloc, reader, writer, report);
             end_with(asked, encoded, writer, &mut report.end)
@@ -200,8 +196,8 @@ fn run_task<R: TellingRead, W: TellingWrite, N: News>(
             }
         }
         Task::Witness => {
-            let log = &mut report.log;
-            match witness_with_notes(alloc, reader, writer, pi, rtplus, dwell, log, news) {
+            let input = &mut report.log.input;
+            match witness_with_notes(alloc, reader, writer, pi, rtplus, dwell, input, news) {
                 Ok(found) => answer_by(found, NO, OK, &mut report.end),
                 Err(fault) => fail_with(asked, fault, writer, &mut report.end),
             }
@@ -238,24 +234,21 @@ fn lose<R: TellingRead, W: TellingWrite, N: News>(
         write_fault_text(task, b"fault lose", writer);
         return REFUSED;
     };
+    let kind = ReceiverKind {
+        window: None,
+        is_flag_alone: flag_alone,
+    };
     let losing = Losing {
         pi,
         rtplus: request.rtplus,
-        dwell: dwell_for(flag_alone, request.dwell),
+        dwell: kind.dwell(request.dwell),
         ahead: request.dwell,
         lost: bursts.as_slice(),
     };
-    match lose_with_notes(alloc, reader, writer, &losing, &mut report.log, news) {
+    match lose_with_notes(alloc, reader, writer, &losing, &mut report.log.input, news) {
         Ok(found) => answer_by(found, NO, OK, &mut report.end),
         Err(fault) => fail_with(task, fault, writer, &mut report.end),
     }
-}
-
-/// Returns the dwell of a receiver that loses given slots.
-fn dwell_for(alone: bool, dwell: Dwell) -> Dwell
-    ensures { result ≡ dwell_of (specs.kind_for None alone) dwell }
-{
-    if alone { Dwell::longest() } else { dwell }
 }
 
 /// Simulates a station, with its tags in this group type, and its receivers. Says why texts and names are not shown any
@@ -320,19 +313,6 @@ fn station_of(pi: u16, dwell: Dwell, programme: Programme, late: Late, kind: Rec
     }
 }
 
-/// Returns the kind of the receivers of a simulation.
-fn kind_for(window: Option<Window>, alone: bool) -> ReceiverKind
-    ensures { result ≡ specs.kind_for window alone }
-{
-    if alone {
-        return ReceiverKind::FlagAlone(window);
-    }
-    match window {
-        Some(window) => ReceiverKind::Confirming(window),
-        None => ReceiverKind::WithDwell,
-    }
-}
-
 /// Returns the station of a simulation. `None` if K + W - 1 is above 1024 slots.
 fn simulated_station(
     pi: u16,
@@ -344,7 +324,10 @@ fn simulated_station(
 ) -> Option<Config>
     ensures { result ≡ specs.simulated_station (tuned pi dwell) programme late window alone }
 {
-    let kind = kind_for(window, alone);
+    let kind = ReceiverKind {
+        window,
+        is_flag_alone: alone,
+    };
     if kind.lateness(late) > 1024 {
         return None;
     }

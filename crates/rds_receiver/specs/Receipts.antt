@@ -16,6 +16,10 @@ pub record Tuning : Type 0 where
   pub window : Option ℕ
   pub first : ℕ
 
+-- the tuning of a receiver of this programme and this dwell without a window, whose input begins in slot 0
+abbrev pub tuned : ℕ → ℕ → Tuning
+tuned pi m = record { programme = pi; dwell = m; window = None; first = 0 }
+
 -- what a receiver with this PI hears in a slot: the message of a group with this PI; without a group, or with another
 -- PI, nothing
 abbrev pub heard_in : ℕ → Option Group → Option Message

@@ -69,7 +69,7 @@ impl Receiver {
         let Some(message) = heard_blocks(self.display.pi, group) else {
             return false;
         };
-        // Prover: a new name before the second use (docs/PROVER.md, "Workarounds").
+        // Prover: a new name before the second use (PROVER.md, "Workarounds").
         let confirmed = message;
         if !self.confirm(message) {
             return false;

@@ -19,7 +19,7 @@ impl<'a> View<'a> {
         requires name { IsShortText name }
         ensures { view_of result ≡ view_with (option_copied text.entry) (option_copied name.entry) pair }
     {
-        // Prover: a `Copy` value is copied by a new name before its second use (docs/PROVER.md, "Workarounds").
+        // Prover: a `Copy` value is copied by a new name before its second use (PROVER.md, "Workarounds").
         let (again, third) = (pair, pair);
         View {
             text,

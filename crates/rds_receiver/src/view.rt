@@ -1,6 +1,6 @@
 //! The view of a receiver, borrowed from it.
 // Prover: a struct with a ghost field imports all that the `ghost use` lines of its file name, so it has a file of its
-// own (docs/PROVER.md, "Workarounds").
+// own (PROVER.md, "Workarounds").
 ghost use Rattle.rds_receiver.specs.Shown.{IsShort};
 
 /// All that a receiver shows at the end of a slot, borrowed from it. A part is `None` if it is not shown.

@@ -7,7 +7,7 @@ ghost use Rattle.rds_wasm.specs.Page.{PagePrints, Refuses, words_in};
 use crate::slice_reader::SliceReader;
 use rds_cli::{Request, read_words, request_in};
 use rds_io::TellingWrite;
-use rds_log::NoNews;
+use rds_lines::NoNews;
 use rds_notes::{Run, print_notes};
 use rds_program::{FAULT, REFUSED, Report, run_read, write_no_memory};
 use std::alloc::{AllocError, Global};

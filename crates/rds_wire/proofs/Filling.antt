@@ -7,8 +7,9 @@ use Rattle.rds_arrivals.specs.Arrivals.{Arrival, and_lost, filled}
 use Rattle.rds_arrivals.specs.Delivered.{arrivals, origins}
 use Rattle.rds_arrivals.specs.Laws.{FilledLogsAreOwnClocks}
 use Rattle.rds_block.specs.declared.group.Group.{Group}
-use Rattle.rds_log.specs.FilledLog.{FilledTextsAreLogs, IsLogOf}
-use Rattle.rds_log.specs.OneLog.{same_log}
+use Rattle.rds_log.specs.FilledLog.{FilledTextsAreLogs}
+use Rattle.rds_lines.specs.LogSlots.{IsLogOf}
+use Rattle.rds_lines.specs.OneLog.{same_log}
 use Rattle.rds_safety.specs.Late.{HasEntry, IsOfItsOrigin}
 use Rattle.rds_safety.specs.OwnClock.{IsHeardByOwnClock}
 use Rattle.rds_safety.proofs.Entries.{one_entry}

@@ -18,13 +18,13 @@ use Rattle.rds_encoder.specs.Entries.{Entry}
 use Rattle.rds_encoder.specs.Round.{turn_in}
 use Rattle.rds_encoder.specs.Sent.{IsSent, sent_at_turn, sent_in}
 use Rattle.rds_encoder.specs.declared.reply.Refusal.{Refusal}
-use Rattle.rds_log.specs.FilledLog.{IsLogOf}
-use Rattle.rds_log.specs.LineSays.{IsLaidOut, IsSkipped, SaysSlot}
-use Rattle.rds_log.specs.OneLog.{says_group}
-use Rattle.rds_log.specs.LogLines.{IsLine, Line, content_length, line_feed, text_of}
+use Rattle.rds_lines.specs.LogSlots.{IsLogOf}
+use Rattle.rds_lines.specs.LineSays.{IsLaidOut, IsSkipped, SaysSlot}
+use Rattle.rds_lines.specs.OneLog.{says_group}
+use Rattle.rds_lines.specs.LogLines.{IsLine, Line, content_length, line_feed, text_of}
 use Rattle.rds_fields.specs.TagGroup.{MayCarryTags, exchanged, exchanged_in}
 use Rattle.rds_fields.proofs.Exchange.{exchanged_in_twice}
-use Rattle.rds_log.specs.LogWrites.{AreSlots}
+use Rattle.rds_lines.specs.LogSlots.{AreSlots}
 use Rattle.rds_log.proofs.FilledText.{more_text}
 use Rattle.rds_receiver.specs.Shown.{ShownView}
 use Rattle.rds_receiver.specs.declared.why.Whys.{Whys}

@@ -7,8 +7,8 @@ use Rattle.std.specs.Prelude.{All}
 use Rattle.std.proofs.lemmas.Bool.Decides.{nat_tests}
 use Rattle.std.proofs.lemmas.Fmt.{decimal_injective}
 use Rattle.std.proofs.lemmas.List.Elements.{All-nil, All-head, All-tail}
-use Rattle.rds_log.specs.LogLines.{AreLines, IsLine, Line, text_of}
-use Rattle.rds_log.proofs.Cutting.{text_of-more}
+use Rattle.rds_lines.specs.LogLines.{AreLines, IsLine, Line, text_of}
+use Rattle.rds_lines.proofs.Cutting.{text_of-more}
 use Rattle.rds_receiver.specs.Shown.{ShownView}
 use Rattle.rds_safety.specs.Late.{HasEntry}
 use Rattle.rds_safety.proofs.Entries.{before_end}

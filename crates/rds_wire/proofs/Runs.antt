@@ -15,16 +15,16 @@ use Rattle.rds_log.specs.Audit.{WholePasses}
 use Rattle.rds_fields.specs.declared.head.Head.{Head}
 use Rattle.rds_log.specs.Decode.{Decodes}
 use Rattle.rds_log.specs.FaultList.{Audits}
-use Rattle.rds_log.specs.FilledLog.{IsLogOf}
-use Rattle.rds_log.specs.LineSays.{IsSkipped}
-use Rattle.rds_log.specs.LogLines.{AreLines, IsLine, Line, text_of}
+use Rattle.rds_lines.specs.LogSlots.{IsLogOf}
+use Rattle.rds_lines.specs.LineSays.{IsSkipped}
+use Rattle.rds_lines.specs.LogLines.{AreLines, IsLine, Line, text_of}
 use Rattle.rds_log.specs.LogWrites.{LinesWrite, LogWrites}
-use Rattle.rds_log.specs.OneLog.{same_lines, same_log}
-use Rattle.rds_log.specs.Outputs.{StopsBetween, WroteLines}
+use Rattle.rds_lines.specs.OneLog.{same_lines, same_log}
+use Rattle.rds_lines.specs.Outputs.{StopsBetween, WroteLines}
 use Rattle.rds_log.specs.declared.audit_log.Auditing.{Auditing}
 use Rattle.rds_log.specs.declared.decode_log.Decoding.{Decoding}
 use Rattle.rds_log.proofs.FilledText.{more_text}
-use Rattle.rds_log.proofs.WholeBytes.{read_and_left, read_whole}
+use Rattle.rds_lines.proofs.WholeBytes.{read_and_left, read_whole}
 use Rattle.rds_program.specs.Run.{EndsWith, PutsLine, auditing_of, decoding_of}
 use Rattle.rds_program.specs.Run.{done, listening, script_in, verdict_status}
 use Rattle.rds_script.specs.Play.{Plays, WroteRows, with_form}

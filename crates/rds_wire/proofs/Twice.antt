@@ -19,8 +19,8 @@ use Rattle.rds_audit.specs.AuditLaws.{WhatPassesIsSafe}
 use Rattle.rds_audit.specs.declared.text_form.TextForm.TheVariants.{Plain}
 use Rattle.rds_view_lines.specs.Output.{Display}
 use Rattle.rds_view_lines.specs.ViewParts.{Part}
-use Rattle.rds_log.specs.FilledLog.{IsLogOf}
-use Rattle.rds_log.specs.OneLog.{same_log}
+use Rattle.rds_lines.specs.LogSlots.{IsLogOf}
+use Rattle.rds_lines.specs.OneLog.{same_log}
 use Rattle.rds_wire.specs.Printed.{Prints, Shows}
 use Rattle.rds_wire.specs.Received.{first_entries}
 use Rattle.rds_wire.specs.Safe.{StationPlans}

@@ -33,9 +33,9 @@ use Rattle.rds_audit.specs.declared.log_start.LogStart.TheVariants.{Complete, Ru
 use Rattle.rds_view_lines.specs.Output.{Display, changes_of}
 use Rattle.rds_view_lines.specs.ViewParts.{Part, line_in}
 use Rattle.rds_log.specs.Audit.{WholePasses, spacing}
-use Rattle.rds_log.specs.FilledLog.{IsLogOf}
-use Rattle.rds_log.specs.OneLog.{same_lines, same_log}
-use Rattle.rds_log.specs.LogWrites.{tuned}
+use Rattle.rds_lines.specs.LogSlots.{IsLogOf}
+use Rattle.rds_lines.specs.OneLog.{same_lines, same_log}
+use Rattle.rds_receiver.specs.Receipts.{tuned}
 use Rattle.rds_log.specs.declared.audit_log.Auditing.{Auditing}
 use Rattle.rds_log.specs.declared.audit_log.Stop.{Stop}
 use Rattle.rds_log.specs.declared.audit_log.Stop.TheVariants.{FirstFault}

@@ -12,8 +12,8 @@ use Rattle.rds_encoder.specs.Plan.{Broadcast, HasNumber}
 use Rattle.rds_charset.specs.Printed.{printed_byte}
 use Rattle.rds_charset.specs.Table.{character_of}
 use Rattle.rds_log.specs.Audit.{complete}
-use Rattle.rds_log.specs.FilledLog.{IsLogOf}
-use Rattle.rds_log.specs.OneLog.{same_log}
+use Rattle.rds_lines.specs.LogSlots.{IsLogOf}
+use Rattle.rds_lines.specs.OneLog.{same_log}
 use Rattle.rds_receiver.specs.Receipts.{heard_in, heard_of}
 use Rattle.rds_receiver.specs.Shown.{view_with}
 use Rattle.rds_safety.specs.Confirmed.{IsHeardWithWrong, WasSent}

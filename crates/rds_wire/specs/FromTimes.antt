@@ -5,8 +5,8 @@ use Rattle.rds_block.specs.declared.group.Group.{Group}
 use Rattle.rds_arrivals.specs.Delivered.{AreBelowASlot, Delivery, arrivals}
 use Rattle.rds_arrivals.specs.Laws.{AreDelivered}
 use Rattle.rds_log.specs.Fill.{AreFilled, SoFar}
-use Rattle.rds_log.specs.FilledLog.{IsLogOf}
-use Rattle.rds_log.specs.LogLines.{IsLine, Line}
+use Rattle.rds_lines.specs.LogSlots.{IsLogOf}
+use Rattle.rds_lines.specs.LogLines.{IsLine, Line}
 use Rattle.rds_log.specs.declared.audit_log.Auditing.{Auditing}
 use Rattle.rds_log.specs.declared.filler.Filling.{Filling}
 use Rattle.rds_wire.specs.Received.{IsReceived}

@@ -7,7 +7,7 @@ use Rattle.rds_cli.specs.declared.request.Task.{Task}
 use Rattle.rds_cli.specs.declared.request.Task.TheVariants.{Audit, Decode, Encode}
 use Rattle.rds_io.specs.Told.{Traffic}
 use Rattle.rds_fields.specs.TagGroup.{MayCarryTags}
-use Rattle.rds_log.specs.LogLines.{AreLines}
+use Rattle.rds_lines.specs.LogLines.{AreLines}
 use Rattle.rds_program.specs.Run.{IsUntouched, Listening, NoMemory, ReaderOver, RunsWords, TaskRuns, auditing_of}
 use Rattle.rds_program.specs.Run.{listening, reader_over}
 use Rattle.rds_script.specs.Play.{with_form}

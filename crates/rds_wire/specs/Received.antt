@@ -6,7 +6,7 @@ use Rattle.std.specs.Prelude.{ℕ, List, Option, None, Some, drop, if◌then◌e
 use Rattle.std.specs.List.{AllZip}
 use Rattle.rds_block.specs.declared.group.Group.{Group}
 use Rattle.rds_log.specs.Audit.{spacing}
-use Rattle.rds_log.specs.FilledLog.{IsLogOf}
+use Rattle.rds_lines.specs.LogSlots.{IsLogOf}
 use Rattle.rds_log.specs.declared.audit_log.Auditing.{Auditing}
 use Rattle.rds_safety.specs.Late.{InputOf, IsHeardLate}
 use Rattle.rds_safety.specs.OwnClock.{IsHeardByOwnClock}

@@ -10,7 +10,7 @@ use Rattle.rds_safety.specs.Confirmed.{IsHeardWithWrong, NoWrongConfirmed, laten
 use Rattle.rds_safety.specs.Marks.{IsMarkIn, Tagged, marks, text_mark}
 use Rattle.rds_safety.specs.Plans.{AreLawful, Plans}
 use Rattle.rds_log.specs.Audit.{WholePasses}
-use Rattle.rds_log.specs.FilledLog.{IsLogOf}
+use Rattle.rds_lines.specs.LogSlots.{IsLogOf}
 use Rattle.rds_log.specs.declared.audit_log.Stop.{Stop}
 use Rattle.rds_script.specs.Play.{with_form}
 use Rattle.rds_script.specs.declared.form.Form.TheVariants.{Log}

@@ -12,13 +12,13 @@ use Rattle.rds_safety.specs.Plans.{AreLawfulAs, Plans}
 use Rattle.rds_audit.specs.Forms.{text_kind}
 use Rattle.rds_world.specs.Event.{Event}
 use Rattle.rds_world.specs.Slots.{entries, plans_of}
-use Rattle.rds_world.specs.declared.receiver_kind.ReceiverKind.TheVariants.{WithDwell}
+use Rattle.rds_world.specs.ReceiverKind.{with_dwell}
 use Rattle.rds_world.specs.declared.world.Config.{Config}
 use Rattle.rds_audit.specs.Recording.{preceded}
 use Rattle.rds_audit.specs.declared.log_start.LogStart.{LogStart}
 use Rattle.rds_audit.specs.declared.log_start.LogStart.TheVariants.{Complete, Running}
 use Rattle.rds_log.specs.Audit.{WholePasses, complete, judged, spacing}
-use Rattle.rds_log.specs.FilledLog.{IsLogOf}
+use Rattle.rds_lines.specs.LogSlots.{IsLogOf}
 use Rattle.rds_log.specs.declared.audit_log.Auditing.{Auditing}
 use Rattle.rds_script.specs.Play.{HasRecords, RowsWrite, with_form}
 use Rattle.rds_script.specs.Rows.{Record}
@@ -56,7 +56,7 @@ station_of head m k = record {
   head = head;
   dwell = m;
   late = k;
-  kind = WithDwell;
+  kind = with_dwell;
 }
 
 -- the PI and the programme type fit into their bits

@@ -1,6 +1,6 @@
 -- When what a receiver holds is a part of what another one holds, its runs are parts of the other's.
-use Rattle.std.proofs.Common.{◌≡◌, ◌⊎◌, ◌≤◌, ◌∷◌, [], ◌∙◌, ℕ, true, List, Option, Some, ap, arith, cond, inr}
-use Rattle.std.proofs.Common.{length, nat_eq, refl, sym}
+use Rattle.std.proofs.Common.{◌≡◌, ◌⊎◌, ◌≤◌, ◌∷◌, [], ◌∙◌, ℕ, true, List, Option, Some, ap, arith, cond, inr, length}
+use Rattle.std.proofs.Common.{nat_eq, refl, sym}
 use Rattle.std.specs.FinMap.{empty, get, get-empty, get-insert}
 use Rattle.std.specs.Cmp.{unsigned_tied}
 use Rattle.std.specs.Ordering.{nat_cmp}
@@ -11,8 +11,7 @@ use Rattle.rds_assembly.proofs.HeldLemmas.{nothing_held}
 use Rattle.rds_block.specs.declared.group.Group.{Group}
 use Rattle.rds_fields.specs.Stored.{is_set}
 use Rattle.rds_fields.specs.declared.message.Message.{Message}
-use Rattle.rds_log.specs.LogWrites.{tuned}
-use Rattle.rds_receiver.specs.Receipts.{heard_of, name_fragment, Segment, segments, text_fragment}
+use Rattle.rds_receiver.specs.Receipts.{tuned, heard_of, name_fragment, Segment, segments, text_fragment}
 use Rattle.rds_receiver.specs.declared.fragment.Fragment.{Fragment}
 use Rattle.rds_receiver.specs.Run.{cells_of, run, run_at}
 use Rattle.rds_receiver.specs.Holds.{HoldsRun, newest_slot}

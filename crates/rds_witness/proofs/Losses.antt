@@ -1,6 +1,6 @@
 -- What receivers get that lose different slots.
-use Rattle.std.proofs.Common.{◌≡◌, ◌∙◌, ◌∷◌, [], ◌+◌, ◌<◌, ◌≤◌, ℕ, zero, suc, false, true, List}
-use Rattle.std.proofs.Common.{Option, None, add-one, ap, arith, length, refl, sym}
+use Rattle.std.proofs.Common.{◌≡◌, ◌∙◌, ◌∷◌, [], ◌+◌, ◌<◌, ◌≤◌, ℕ, zero, suc, false, true, List, Option, None, add-one}
+use Rattle.std.proofs.Common.{ap, arith, length, refl, sym}
 use Rattle.std.specs.Prelude.{if◌then◌else◌, slice_index_or, take}
 use Rattle.std.proofs.lemmas.List.Folds.{list_any_more}
 use Rattle.std.proofs.Math.ListN.{get_or}

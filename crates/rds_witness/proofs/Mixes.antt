@@ -1,7 +1,7 @@
 -- How lines of mixes go on by the lines of a kind of things.
 use Rattle.std.proofs.lemmas.Bool.Decides.{nat_tests}
-use Rattle.std.proofs.Common.{◌≡◌, ◌⊎◌, ◌++◌, ◌∷◌, ◌+◌, ◌<◌, [], ◌∙◌, ℕ, List, None, Option, Some, ap}
-use Rattle.std.proofs.Common.{append_assoc, arith, inl, inr, refl, subst, suc}
+use Rattle.std.proofs.Common.{◌≡◌, ◌⊎◌, ◌++◌, ◌∷◌, ◌+◌, ◌<◌, [], ◌∙◌, ℕ, List, None, Option, Some, ap, append_assoc}
+use Rattle.std.proofs.Common.{arith, inl, inr, refl, subst, suc}
 use Rattle.std.specs.List.{Contains}
 use Rattle.std.proofs.lemmas.Bool.{cases_lt}
 use Rattle.std.proofs.lemmas.List.Elements.{All-cons, All-nil}

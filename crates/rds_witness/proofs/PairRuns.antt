@@ -5,8 +5,7 @@ use Rattle.std.proofs.lemmas.Bool.{cases_lt}
 use Rattle.rds_block.specs.declared.group.Group.{Group}
 use Rattle.rds_fields.specs.declared.message.Message.{Message}
 use Rattle.rds_fields.specs.declared.message.Message.TheVariants.{Text}
-use Rattle.rds_log.specs.LogWrites.{tuned}
-use Rattle.rds_receiver.specs.Receipts.{heard_in, heard_of, Segment, segments, text_fragment}
+use Rattle.rds_receiver.specs.Receipts.{tuned, heard_in, heard_of, Segment, segments, text_fragment}
 use Rattle.rds_receiver.specs.Run.{begins_in, run, run_at, run_before}
 use Rattle.rds_receiver.specs.Holds.{HasAge, HasFlag, HoldsRun, newest_slot}
 use Rattle.rds_receiver.specs.ReceiverAt.{ReceiverAt}

@@ -1,8 +1,8 @@
 -- A run that is a part of another one stays a part, whatever both hear next, and makes nothing whole that the other one
 -- does not make whole.
 use Rattle.std.proofs.lemmas.Bool.Decides.{nat_tests}
-use Rattle.std.proofs.Common.{◌≡◌, ◌∙◌, ◌+◌, ◌<◌, ◌∷◌, [], ℕ, Bool, true, false, List, Option}
-use Rattle.std.proofs.Common.{Some, arith, cond, inl, inr, length, refl, sym}
+use Rattle.std.proofs.Common.{◌≡◌, ◌∙◌, ◌+◌, ◌<◌, ◌∷◌, [], ℕ, Bool, true, false, List, Option, Some, arith, cond, inl}
+use Rattle.std.proofs.Common.{inr, length, refl, sym}
 use Rattle.std.proofs.lemmas.Cmp.{nat_cmp_total}
 use Rattle.std.specs.FinMap.{empty, get, get-empty, get-insert, insert}
 use Rattle.std.specs.Ordering.{eq_by_cmp, nat_cmp}

@@ -1,5 +1,5 @@
 -- How receivers of a log go on by a slot.
-use Rattle.std.proofs.Common.{[], ◌≡◌, ◌+◌, ◌∷◌, ℕ, List, Option, arith, inl, inr}
+use Rattle.std.proofs.Common.{[], ◌≡◌, ◌+◌, ◌∷◌, ℕ, List, Option, arith, inl, inr, refl}
 use Rattle.std.proofs.lemmas.Bool.{cases_lt}
 use Rattle.rds_block.specs.declared.group.Group.{Group}
 use Rattle.rds_receiver.specs.OneView.{same_view}
@@ -11,11 +11,16 @@ use Rattle.rds_witness.specs.Lost.{got, got-more, group_left}
 use Rattle.rds_witness.specs.Mix.{NeverShows, ViewHas, Thing}
 use Rattle.rds_witness.specs.declared.burst.Burst.{Burst}
 
+-- what came by one slot more
+pub got_next : (lost : List Burst) (log : List (Option Group)) (n : ℕ) (group : Option Group)
+    → group ≡ group_left lost log n → got lost log (n + 1) ≡ group ∷ got lost log n
+got_next lost log n group same = rw (got-more lost log n, same) refl
+
 -- a receiver stands at one slot more
 pub stands_more : (t : Tuning) (r : Receiver) (lost : List Burst) (log : List (Option Group)) (n : ℕ)
     (group : Option Group) → group ≡ group_left lost log n
     → ReceiverAt t r (group ∷ got lost log n) → ReceiverAt t r (got lost log (n + 1))
-stands_more t r lost log n group same stands = rw (got-more lost log n, ← same) stands
+stands_more t r lost log n group same stands = rw (got_next lost log n group same) stands
 
 -- before slot 0 nothing was shown
 pub never_none : (t : Tuning) (log : List (Option Group)) (thing : Thing) → NeverShows t log 0 thing

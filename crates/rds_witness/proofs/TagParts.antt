@@ -1,7 +1,7 @@
 -- What a receiver holds of tags stays a part of what another one holds, whatever both hear next.
 use Rattle.std.proofs.lemmas.Bool.Decides.{nat_tests}
-use Rattle.std.proofs.Common.{◌≡◌, ◌∙◌, ◌+◌, ◌<◌, ◌∷◌, [], ℕ, Bool, true, false, List, Option, None}
-use Rattle.std.proofs.Common.{Some, ap, arith, inl, inr, length, refl, sym}
+use Rattle.std.proofs.Common.{◌≡◌, ◌∙◌, ◌+◌, ◌<◌, ◌∷◌, [], ℕ, Bool, true, false, List, Option, None, Some, ap, arith}
+use Rattle.std.proofs.Common.{inl, inr, length, refl, sym}
 use Rattle.rds_fields.specs.declared.message.Message.{Message}
 use Rattle.rds_fields.specs.declared.message.Message.TheVariants.{Text, Announce, Tags}
 use Rattle.rds_fields.specs.Tag.{PairFields}

@@ -1,7 +1,7 @@
 -- What the lines of mixes say of a candidate: a log, the tuning of its receivers, how many slots to look ahead, the
 -- lost slots, the words before each line, and a slot.
 use Rattle.std.specs.Prelude.{◌+◌, ℕ, List, length}
-use Rattle.rds_log.specs.LogWrites.{tuned}
+use Rattle.rds_receiver.specs.Receipts.{tuned}
 use Rattle.rds_receiver.specs.Shown.{ShownView}
 use Rattle.rds_receiver.specs.ReceiverAt.{ReceiverAt}
 use Rattle.rds_receiver.specs.declared.receiver.Receiver.{Receiver}

@@ -1,8 +1,8 @@
 -- The input of a receiver that loses some bursts of a log, each of which is a range of slots. A log has its oldest slot
 -- first, and the input of a receiver the newest first.
 use Rattle.std.proofs.Common.{add-one, ap, refl}
-use Rattle.std.specs.Prelude.{◌≡◌, ◌<◌, ◌&&◌, ◌+◌, ◌∷◌, [], ℕ, Bool, List, Option, None, length, nat_le}
-use Rattle.std.specs.Prelude.{slice_index_or, if◌then◌else◌, suc, zero}
+use Rattle.std.specs.Prelude.{◌≡◌, ◌<◌, ◌&&◌, ◌+◌, ◌∷◌, [], ℕ, Bool, List, Option, None, length, nat_le, slice_index_or}
+use Rattle.std.specs.Prelude.{if◌then◌else◌, suc, zero}
 use Rattle.std.specs.List.{list_any}
 use Rattle.rds_block.specs.declared.group.Group.{Group}
 use Rattle.rds_witness.specs.declared.burst.Burst.{Burst}

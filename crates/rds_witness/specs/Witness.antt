@@ -6,7 +6,7 @@ use Rattle.rds_block.specs.declared.group.Group.{Group}
 use Rattle.rds_io.specs.Told.{AppendsPrefix, HasFailed, IsCalm, PutsNothing, Traffic}
 use Rattle.rds_io.specs.declared.told.WriteFault.{WriteFault}
 use Rattle.rds_receiver.specs.Receipts.{Tuning}
-use Rattle.rds_log.specs.Gather.{GathersAll, GathersNone}
+use Rattle.rds_lines.specs.Gather.{GathersAll, GathersNone}
 use Rattle.rds_io.specs.declared.fault.LogFault.{LogFault}
 use Rattle.rds_io.specs.declared.fault.LogFault.TheVariants.{BadLine, BadRow, Read, Write, TooLong, Memory}
 use Rattle.rds_witness.specs.Lines.{IsAnswer}

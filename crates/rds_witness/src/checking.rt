@@ -1,6 +1,6 @@
 //! A receiver before the slot in which it may show a mix, and the slots to look at then.
-ghost use Rattle.std.specs.Prelude.{◌≡◌, ◌<◌, ◌≤◌, ◌+◌, Option, Some, length};
-ghost use Rattle.rds_log.specs.LogWrites.{tuned};
+ghost use Rattle.std.specs.Prelude.{◌≡◌, ◌<◌, ◌≤◌, ◌+◌, Option, length};
+ghost use Rattle.rds_receiver.specs.Receipts.{tuned};
 ghost use Rattle.rds_receiver.specs.ReceiverAt.{ReceiverAt};
 ghost use Rattle.rds_witness.specs.Lost.{got};
 ghost use Rattle.rds_witness.specs.Mix.{until};

@@ -1,16 +1,14 @@
 //! Drops each receiver that holds only a part of what another kept one holds.
-ghost use Rattle.std.specs.Prelude.{◌≡◌, ◌≤◌, ◌<◌, ◌⊎◌, ◌↔◌, ◌∷◌, ◌+◌, All, IsFalse, IsTrue, List, None, OnOk, Option};
-ghost use Rattle.std.specs.Prelude.{Some, length, slice_index_or, true, ℕ};
+ghost use Rattle.std.specs.Prelude.{◌≡◌, ◌≤◌, ◌<◌, ◌⊎◌, ◌∷◌, ◌+◌, All, IsTrue, List, None, OnOk, Option, Some, length};
+ghost use Rattle.std.specs.Prelude.{slice_index_or, true, ℕ};
 ghost use Rattle.std.specs.FinMap.{get};
 ghost use Rattle.rds_assembly.specs.Body.{segment_of};
 ghost use Rattle.rds_assembly.specs.Held.{held_cells};
 ghost use Rattle.rds_fields.specs.Stored.{is_set, pair_stored, tag_stored};
-ghost use Rattle.rds_receiver.specs.Shown.{IsView, ShownView};
 ghost use Rattle.rds_block.specs.declared.group.Group.{Group};
 ghost use Rattle.rds_receiver.specs.ReceiverAt.{ReceiverAt, TakesSlot};
-ghost use Rattle.rds_log.specs.LogWrites.{tuned};
+ghost use Rattle.rds_receiver.specs.Receipts.{tuned, Tuning};
 ghost use Rattle.rds_witness.specs.Covered.{IsAt, IsInputPart, Keeps, KeepsNext};
-ghost use Rattle.rds_receiver.specs.Receipts.{Tuning};
 ghost use Rattle.rds_witness.specs.Search.{IsChecked, ShowOnlySeen, ShowsOnlySeen};
 ghost use Rattle.rds_witness.specs.Part.{HasCells, IsPairPart};
 ghost use Rattle.rds_witness.specs.declared.covering.Lossy.{Lossy};

@@ -1,10 +1,8 @@
 //! The engine of `witness`: finds a receiver that shows a mix because the log breaks a rule.
-ghost use Rattle.std.specs.Prelude.{◌≡◌, ◌≤◌, ◌^◌, [], ℕ, length};
-ghost use Rattle.rds_block.specs.declared.group.Group.{Group};
-ghost use Rattle.rds_io.specs.Puts.{Puts};
+ghost use Rattle.std.specs.Prelude.{◌≡◌, ◌^◌, [], length};
 ghost use Rattle.rds_io.specs.Told.{traffic};
-ghost use Rattle.rds_log.specs.LogWrites.{tuned};
-ghost use Rattle.rds_log.specs.Reads.{MadeReads};
+ghost use Rattle.rds_receiver.specs.Receipts.{tuned};
+ghost use Rattle.rds_lines.specs.Reads.{MadeReads};
 ghost use Rattle.rds_witness.specs.Firsts.{AreFirsts};
 ghost use Rattle.rds_witness.specs.Lines.{IsAnswer, no_witness_up_to};
 ghost use Rattle.rds_witness.specs.Search.{IsSure};
@@ -16,7 +14,7 @@ use crate::search::{Found, find};
 use rds_block::Blocks;
 use rds_fields::{Dwell, TagGroup};
 use rds_io::{Lines, LogFault, TellingRead, TellingWrite, WriteFault, put};
-use rds_log::{LogNotes, MOST_READS, News, NoNews, gather};
+use rds_lines::{InputNotes, MOST_READS, News, NoNews, gather};
 use std::alloc::Global;
 
 /// Reads a log of all groups of a station with tags in groups 11A, one slot a line, and looks for a burst of lost slots
@@ -40,7 +38,7 @@ pub fn witness<R: TellingRead, W: TellingWrite>(
         (traffic W.contents W.failures writer.old writer.new) result }
     ensures reads { MadeReads (2 ^ 32) (R.reads reader.old) (R.reads reader.new) result }
 {
-    let (mut notes, mut news) = (LogNotes::new(), NoNews);
+    let (mut notes, mut news) = (InputNotes::new(), NoNews);
     let rtplus = TagGroup::usual();
     witness_with_notes(
         alloc, reader, writer, pi, rtplus, dwell, &mut notes, &mut news,
@@ -55,7 +53,7 @@ pub fn witness_with_notes<R: TellingRead, W: TellingWrite, N: News>(
     pi: u16,
     rtplus: TagGroup,
     dwell: Dwell,
-    notes: &mut LogNotes,
+    notes: &mut InputNotes,
     news: &mut N,
 ) -> Result<bool, LogFault>
     ensures witnesses { Witnesses rtplus (tuned pi dwell) (traffic R.remaining R.failures reader.old reader.new)

@@ -1,10 +1,9 @@
 //! The engine of `witness --lose`: finds the mixes of a receiver that loses given slots.
-ghost use Rattle.std.specs.Prelude.{◌≡◌, ◌<◌, ◌≤◌, ◌+◌, ◌^◌, [], ℕ, IfOk, List, OnOk, Option, length};
+ghost use Rattle.std.specs.Prelude.{◌≡◌, ◌<◌, ◌+◌, ◌^◌, [], ℕ, IfOk, List, OnOk, Option, length};
 ghost use Rattle.rds_block.specs.declared.group.Group.{Group};
 ghost use Rattle.rds_io.specs.Told.{traffic};
-ghost use Rattle.rds_log.specs.LogWrites.{tuned};
-ghost use Rattle.rds_log.specs.Reads.{MadeReads};
-ghost use Rattle.rds_receiver.specs.Receipts.{Tuning};
+ghost use Rattle.rds_receiver.specs.Receipts.{tuned, Tuning};
+ghost use Rattle.rds_lines.specs.Reads.{MadeReads};
 ghost use Rattle.rds_witness.specs.Candidates.{AddsSlotOfIt, KnowsFirsts, StandsBefore};
 ghost use Rattle.rds_witness.specs.LossLines.{AreLossLines, IsLossAnswer};
 ghost use Rattle.rds_witness.specs.Lost.{group_left};
@@ -18,7 +17,7 @@ use crate::mix_lines::{ROOM, push_mixes_of};
 use rds_block::Blocks;
 use rds_fields::{Dwell, TagGroup};
 use rds_io::{Lines, LogFault, TellingRead, TellingWrite, WriteFault, put};
-use rds_log::{LogNotes, MOST_READS, News, gather};
+use rds_lines::{InputNotes, MOST_READS, News, gather};
 use rds_receiver::Receiver;
 use std::alloc::{AllocError, Global};
 
@@ -47,7 +46,7 @@ pub fn lose_with_notes<R: TellingRead, W: TellingWrite, N: News>(
     reader: &mut R,
     writer: &mut W,
     losing: &Losing<'_>,
-    notes: &mut LogNotes,
+    notes: &mut InputNotes,
     news: &mut N,
 ) -> Result<bool, LogFault>
     ensures loses { Loses losing.now.rtplus (tuned losing.now.pi losing.now.dwell) losing.now.ahead

@@ -1,6 +1,6 @@
 //! The lines of mixes.
 ghost use Rattle.std.specs.Prelude.{◌≡◌, ◌≢◌, ◌⊎◌, ◌≤◌, ◌<◌, ◌+◌, ◌++◌, ◌∷◌, [], IsTrue, false, length};
-ghost use Rattle.rds_log.specs.LogWrites.{tuned};
+ghost use Rattle.rds_receiver.specs.Receipts.{tuned};
 ghost use Rattle.rds_receiver.specs.Borrowed.{view_of};
 ghost use Rattle.rds_witness.specs.Borrowed.{IsShortThing, thing_of};
 ghost use Rattle.rds_witness.specs.Candidates.{AddsKindOfIt, AreAroundIt, AreItsMixLines, IsNeverShown, KnowsFirsts};

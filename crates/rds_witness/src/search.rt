@@ -1,8 +1,7 @@
 //! The search: looks for the first slot in which a receiver that lost a burst shows a mix.
 ghost use Rattle.std.specs.Prelude.{◌≡◌, ℕ, All, IfOk, List, None, Option};
 ghost use Rattle.rds_block.specs.declared.group.Group.{Group};
-ghost use Rattle.rds_log.specs.LogWrites.{tuned};
-ghost use Rattle.rds_receiver.specs.Receipts.{Tuning};
+ghost use Rattle.rds_receiver.specs.Receipts.{tuned, Tuning};
 ghost use Rattle.rds_witness.specs.Covered.{IsAt};
 ghost use Rattle.rds_witness.specs.Search.{AreSeen, IsChecked, IsSure, ShowOnlySeen, StandsAfter};
 

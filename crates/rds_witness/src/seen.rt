@@ -1,20 +1,17 @@
 //! The parts that a receiver without a loss shows, and the first slot of each. For a search, the tags of a pair that the
 //! station replaced count as shown: `firsts` has what is shown.
-ghost use Rattle.std.specs.Prelude.{◌≡◌, ◌+◌, ◌<◌, [], All, Bool, IfOk, IfSome, IsTrue, List, OnOk, Option, Some, ℕ};
-ghost use Rattle.std.specs.Prelude.{length, slice_index_or, true};
+ghost use Rattle.std.specs.Prelude.{◌≡◌, ◌+◌, ◌<◌, [], All, IfOk, IfSome, IsTrue, List, OnOk, Option, Some, ℕ, length};
+ghost use Rattle.std.specs.Prelude.{slice_index_or, true};
 ghost use Rattle.std.specs.List.{Contains};
 ghost use Rattle.std.specs.Option.{option_copied};
 ghost use Rattle.rds_block.specs.declared.group.Group.{Group};
 ghost use Rattle.rds_fields.specs.declared.pair.Which.{Which};
-ghost use Rattle.rds_fields.specs.Tag.{PairFields};
-ghost use Rattle.rds_log.specs.LogWrites.{tuned};
-ghost use Rattle.rds_receiver.specs.Borrowed.{borrowed_tag, view_of};
-ghost use Rattle.rds_receiver.specs.Receipts.{Tuning};
+ghost use Rattle.rds_fields.specs.Tag.{PairFields, tag_in};
+ghost use Rattle.rds_receiver.specs.Receipts.{tuned, Tuning};
 ghost use Rattle.rds_receiver.specs.Shown.{IsView, ShownView};
 ghost use Rattle.rds_receiver.specs.ReceiverAt.{ReceiverAt};
 ghost use Rattle.rds_receiver.specs.Stored.{display_stored};
 ghost use Rattle.rds_fields.specs.Stored.{is_set};
-ghost use Rattle.rds_fields.specs.Tag.{tag_in};
 ghost use Rattle.rds_receiver.specs.Tags.{cut_by};
 ghost use Rattle.rds_witness.specs.Borrowed.{thing_of};
 ghost use Rattle.rds_witness.specs.Lost.{got};

@@ -1,8 +1,7 @@
 //! Reads the slots to lose from a command line.
-ghost use Rattle.std.specs.Prelude.{◌≡◌, [], IfOk, None, option_map};
+ghost use Rattle.std.specs.Prelude.{◌≡◌, IfOk, None, option_map};
 ghost use Rattle.rds_witness.specs.Spans as spans;
-ghost use Rattle.rds_witness.specs.Spans.{ReadsOn, begun, bursts_in, reading_of, with_byte, with_digit};
-ghost use Rattle.rds_witness.specs.Spans.{with_first};
+ghost use Rattle.rds_witness.specs.Spans.{ReadsOn, begun, bursts_in, reading_of, with_byte, with_digit, with_first};
 
 use crate::burst::Burst;
 use std::alloc::{AllocError, Global};

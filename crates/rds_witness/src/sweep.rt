@@ -1,7 +1,7 @@
 //! A search over all bursts at once, by a few receivers that together hold all that any receiver with one burst holds.
 ghost use Rattle.std.specs.Prelude.{◌≡◌, ◌+◌, [], ℕ, All, List, None, OnOk, Option};
 ghost use Rattle.rds_block.specs.declared.group.Group.{Group};
-ghost use Rattle.rds_log.specs.LogWrites.{tuned};
+ghost use Rattle.rds_receiver.specs.Receipts.{tuned};
 ghost use Rattle.rds_witness.specs.Lost.{group_left};
 ghost use Rattle.rds_witness.specs.Search.{IsChecked, ShowOnlySeen, StandsAfter};
 

@@ -12,7 +12,7 @@
 use clap::Error;
 use rds_cli::{Request, Task, identification_of, read_words, request_in};
 use rds_io::{Told, put};
-use rds_log::NoNews;
+use rds_lines::NoNews;
 use rds_notes::{Run, Screen, print_no_group, print_notes, print_refusal};
 use rds_program::{Report, input_of, no_words, run_read, texts, words_of};
 use std::io::{ErrorKind, IsTerminal, Stderr};

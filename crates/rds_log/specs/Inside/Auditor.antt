@@ -6,8 +6,8 @@ use Rattle.rds_audit.specs.AuditAt.{FollowsLog}
 use Rattle.rds_audit.specs.Stored.{fault_of, form_of, start_of}
 use Rattle.rds_log.specs.Audit.{SlotsPass, spacing}
 use Rattle.rds_log.specs.FaultList.{LinesAnswer, LinesGoOn, SaysNo, SlotsList}
-use Rattle.rds_log.specs.LogLines.{Line}
-use Rattle.rds_log.specs.LogWrites.{AreSlots}
+use Rattle.rds_lines.specs.LogLines.{Line}
+use Rattle.rds_lines.specs.LogSlots.{AreSlots}
 use Rattle.rds_log.specs.declared.audit_log.Auditing.{Auditing}
 use Rattle.rds_log.specs.declared.audit_log.Stop.TheVariants.{FirstFault}
 use Rattle.rds_log.specs.declared.auditor.Auditor.{Auditor}

@@ -1,8 +1,9 @@
 -- The state of the taker of `decode` after these lines, the newest first.
 use Rattle.std.specs.Prelude.{◌≡◌, ◌≢◌, [], ℕ, List, Option}
 use Rattle.rds_block.specs.declared.group.Group.{Group}
-use Rattle.rds_log.specs.LogLines.{Line}
-use Rattle.rds_log.specs.LogWrites.{AreSlots, LinesWrite, tuning_of}
+use Rattle.rds_lines.specs.LogLines.{Line}
+use Rattle.rds_lines.specs.LogSlots.{AreSlots}
+use Rattle.rds_log.specs.LogWrites.{LinesWrite, tuning_of}
 use Rattle.rds_log.specs.Inside.ViewLines.{ViewsStandAt}
 use Rattle.rds_log.specs.declared.decode_log.Decoding.{Decoding}
 use Rattle.rds_log.specs.declared.decoder.Decoder.{Decoder}

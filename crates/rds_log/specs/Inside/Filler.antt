@@ -1,7 +1,7 @@
 -- The state of the taker of `slots` after these lines, the newest first.
 use Rattle.std.specs.Prelude.{◌≡◌, ◌≢◌, ◌↔◌, [], ℕ, IsTrue, List, None, Option, Some, max, option_map}
 use Rattle.rds_arrivals.specs.Arrivals.{lost_between}
-use Rattle.rds_log.specs.LogLines.{Line}
+use Rattle.rds_lines.specs.LogLines.{Line}
 use Rattle.rds_log.specs.Fill.{AreFilled, HasLeftOut, LinesFill, SoFar}
 use Rattle.rds_log.specs.Inside.Pace.{PaceStandsAt}
 use Rattle.rds_log.specs.declared.filler.Filler.{Filler}

@@ -1,11 +1,9 @@
 //! How often each fault of a log came, for a person. No contract speaks of it.
 
-use crate::log_line::LogLine;
 use crate::person::harmless::Harmless;
-use crate::person::line_time::LineTime;
 use crate::person::notes::{harmless_in, is_name};
-use crate::source::Source;
 use rds_audit::{Audit, AuditFault, FAULTS, FaultSet};
+use rds_lines::{LineTime, LogLine, Source};
 
 /// Where a fault stands in a log (this project's own rule).
 #[derive(Clone, Copy, Debug, PartialEq, Eq)]

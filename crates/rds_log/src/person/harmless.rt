@@ -2,19 +2,10 @@
 //! show a mix of it. No contract speaks of it.
 
 use crate::audit_log::Stop;
-use rds_audit::{Audit, AuditFault, FaultSet, StoredCell};
-use rds_block::Blocks;
-use rds_fields::Message;
-use rds_receiver::Fragment;
+use rds_audit::{Audit, AuditFault, FaultSet, StoredCell, StoredSpans};
 
 /// The segments of a text or a name, by their addresses.
 type Segments = [StoredCell; 16];
-
-/// Without a segment.
-const NO_SEGMENTS: Segments = [StoredCell {
-    bytes: [0; 4],
-    is_sent: 0,
-}; 16];
 
 /// How many of the faults that begin a text or a name are harmless.
 #[derive(Clone, Copy)]
@@ -24,6 +15,14 @@ pub(crate) struct Harmless {
 }
 
 impl Harmless {
+    /// Starts without one.
+    fn none() -> Harmless {
+        Harmless {
+            changed: 0,
+            early_flag: 0,
+        }
+    }
+
     /// Counts the harmless ones of these faults.
     fn add(&mut self, began: FaultSet) {
         self.changed = self.changed.saturating_add(u64::from(began.changed));
@@ -95,7 +94,7 @@ impl OneFlag {
     /// Starts without a text.
     fn new() -> OneFlag {
         OneFlag {
-            segments: NO_SEGMENTS,
+            segments: [StoredCell::none(); 16],
             varies: None,
             can_mix: false,
             last: 0,
@@ -126,6 +125,8 @@ impl OneFlag {
 struct Changes {
     /// The number of the current text or name, as the audit counts them.
     number: u64,
+    /// The number of new segments, as the audit counts them.
+    puts: u32,
     flag: bool,
     segments: Segments,
     /// The faults of the slot in which it began.
@@ -139,58 +140,49 @@ impl Changes {
     fn new() -> Changes {
         Changes {
             number: 0,
+            puts: 0,
             flag: false,
-            segments: NO_SEGMENTS,
+            segments: [StoredCell::none(); 16],
             began: FaultSet::none(),
             flags: [OneFlag::new(); 2],
-            harmless: Harmless {
-                changed: 0,
-                early_flag: 0,
-            },
+            harmless: Harmless::none(),
         }
     }
 
-    /// Takes a segment of the current text or name of the audit, which has this number, and the faults of its slot.
-    fn take(&mut self, slot: u64, number: u64, fragment: Fragment, audit: &Audit, found: FaultSet) {
-        if number != self.number {
-            self.end();
-            self.number = number;
+    /// Takes a new segment of the current text or name, of which the audit has this, and the faults of its slot. M + K
+    /// slots after a segment no receiver has that any more.
+    fn take(&mut self, slot: u64, spans: StoredSpans, spacing: u32, found: FaultSet) {
+        self.puts = spans.puts;
+        if spans.count != self.number {
+            let since_last = spans.reigns.since_before.saturating_sub(1);
+            self.end(slot.saturating_sub(u64::from(since_last)));
+            self.number = spans.count;
             self.began = found;
-            self.begin(slot, fragment.flag, audit.distance);
+            self.begin(slot, spans.reigns.flag != 0, spacing);
         }
-        let mut is_bent = false;
-        if let Some(cell) = self.segments.get_mut(usize::from(fragment.address)) {
-            // only a text with padding can have two segments of one address
-            is_bent = cell.is_sent != 0 && cell.bytes != fragment.bytes;
-            *cell = StoredCell {
-                bytes: fragment.bytes,
-                is_sent: 1,
-            };
-        }
-        self.renew(slot, is_bent);
-    }
-
-    /// Notes a segment or tags of the current text or name.
-    fn renew(&mut self, slot: u64, is_bent: bool) {
+        let segments = spans.reigns.cells;
+        // only a text with padding can have two segments of one address
+        let is_bent = Difference::of(&segments, &self.segments).at.is_some();
+        self.segments = segments;
         if let Some(texts) = self.flags.get_mut(usize::from(self.flag)) {
-            texts.last = slot;
             texts.can_mix = texts.can_mix || is_bent;
         }
     }
 
-    /// Ends the current text or name.
-    fn end(&mut self) {
-        if let Some(texts) = self.flags.get_mut(usize::from(self.flag))
-            && texts.takes(&self.segments)
-        {
-            self.harmless.add(self.began);
+    /// Ends the current text or name, whose last segment or tags came in this slot.
+    fn end(&mut self, last: u64) {
+        if let Some(texts) = self.flags.get_mut(usize::from(self.flag)) {
+            texts.last = last;
+            if texts.takes(&self.segments) {
+                self.harmless.add(self.began);
+            }
         }
     }
 
     /// Begins a text or a name. That many slots after the last one with its flag, M + K, no receiver has that any more.
     fn begin(&mut self, slot: u64, flag: bool, spacing: u32) {
         self.flag = flag;
-        self.segments = NO_SEGMENTS;
+        self.segments = [StoredCell::none(); 16];
         if let Some(texts) = self.flags.get_mut(usize::from(flag))
             && slot.saturating_sub(texts.last) >= u64::from(spacing)
         {
@@ -202,21 +194,17 @@ impl Changes {
 /// The changes of the texts and names of a log.
 #[derive(Clone, Copy)]
 pub(crate) struct AllChanges {
-    /// The programme, if the log is listed to its end. If not, nobody asks for its changes.
-    pi: Option<u16>,
+    stop: Stop,
     texts: Changes,
     names: Changes,
 }
 
 impl AllChanges {
-    /// Starts before the first slot of an audit of this programme that stops there.
-    pub(crate) fn new(stop: Stop, pi: u16) -> AllChanges {
+    /// Starts before the first slot of an audit that stops there.
+    pub(crate) fn new(stop: Stop) -> AllChanges {
         let changes = Changes::new();
         AllChanges {
-            pi: match stop {
-                Stop::FirstFault => None,
-                Stop::LogEnd => Some(pi),
-            },
+            stop,
             texts: changes,
             names: changes,
         }
@@ -224,51 +212,35 @@ impl AllChanges {
 
     /// Takes a slot, in which the audit found these faults. The audit took the slot.
     #[inline(always)]
-    pub(crate) fn note(
-        &mut self,
-        slot: u64,
-        group: Option<Blocks>,
-        audit: &Audit,
-        found: FaultSet,
-    ) {
-        if let (Some(pi), Some(group)) = (self.pi, group)
-            && group.pi() == pi
-        {
-            self.take(slot, group, audit, found);
+    pub(crate) fn note(&mut self, slot: u64, audit: &Audit, found: FaultSet) {
+        if audit.text.puts != self.texts.puts || audit.name.puts != self.names.puts {
+            self.take(slot, audit, found);
         }
     }
 
-    /// Takes the group of a slot.
+    /// Takes a slot with a new segment.
     // Cold path.
     #[inline(never)]
-    fn take(&mut self, slot: u64, group: Blocks, audit: &Audit, found: FaultSet) {
-        match Message::of_blocks(group) {
-            Message::Text {
-                flag,
-                address,
-                bytes,
-            } => {
-                let fragment = Fragment::new(flag, address, bytes);
-                self.texts.take(slot, audit.texts(), fragment, audit, found);
-            }
-            Message::Name {
-                flag,
-                address,
-                bytes,
-            } => {
-                let fragment = Fragment::new(flag, address, bytes);
-                self.names.take(slot, audit.names(), fragment, audit, found);
-            }
-            Message::Tags(_) => self.texts.renew(slot, false),
-            Message::Announce { .. } | Message::Other => {}
+    fn take(&mut self, slot: u64, audit: &Audit, found: FaultSet) {
+        if audit.text.puts != self.texts.puts {
+            self.texts.take(slot, audit.text, audit.distance, found);
+        } else {
+            self.names.take(slot, audit.name, audit.distance, found);
         }
     }
 
-    /// Ends the log. Returns how many faults of its texts are harmless, and of its names.
+    /// Ends the log. Returns how many faults of its texts are harmless, and of its names. A log that is not listed to its
+    /// end has none: the segments behind its fault decide.
     pub(crate) fn ended(&self) -> (Harmless, Harmless) {
-        let mut all = *self;
-        all.texts.end();
-        all.names.end();
-        (all.texts.harmless, all.names.harmless)
+        match self.stop {
+            Stop::FirstFault => (Harmless::none(), Harmless::none()),
+            Stop::LogEnd => {
+                let mut all = *self;
+                // no text comes behind the end, so nothing asks for the last slot
+                all.texts.end(0);
+                all.names.end(0);
+                (all.texts.harmless, all.names.harmless)
+            }
+        }
     }
 }

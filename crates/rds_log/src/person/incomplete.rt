@@ -19,10 +19,7 @@ impl Begun {
     fn new(flag: bool) -> Begun {
         Begun {
             flag,
-            cells: [StoredCell {
-                bytes: [0; 4],
-                is_sent: 0,
-            }; 16],
+            cells: [StoredCell::none(); 16],
             last: 0,
         }
     }

@@ -1,26 +1,11 @@
 //! Notes on a log, for a person at a terminal. No contract speaks of them.
 
-use crate::log_line::{DECIDING, LogLine};
 use crate::person::fault_notes::{FaultNotes, FaultPlace};
-use crate::person::heard::Heard;
 use crate::person::incomplete::IncompleteTexts;
-use crate::person::line_cause::LineCause;
-use crate::person::log_times::{FIRST, LogTimes};
-use crate::person::news::News;
 use crate::person::segment_cause::SegmentCause;
-use crate::source::Source;
-use arrayvec::ArrayVec;
 use rds_audit::{Account, Audit, AuditFault, FaultSet};
 use rds_fields::Message;
-
-/// A malformed line (this project's own rule).
-#[derive(Drop)]
-pub struct BadStart {
-    /// The first bytes of the line, at most 60.
-    pub start: ArrayVec<u8, DECIDING>,
-    /// Why it is malformed.
-    pub cause: Option<LineCause>,
-}
+use rds_lines::{InputNotes, LogLine};
 
 /// The slot at which an audit stopped (this project's own rule).
 #[derive(Clone, Copy, Debug, PartialEq, Eq)]
@@ -152,65 +137,11 @@ fn slot_before(slot: u64, age: Option<u32>) -> Option<u64> {
     slot.checked_sub(u64::from(age?))
 }
 
-/// Notes on the reading of a log (this project's own rule).
-#[derive(Drop)]
-pub struct ReadNotes {
-    /// The malformed line at which the run stopped.
-    pub bad: Option<BadStart>,
-    /// The times of the log.
-    pub times: LogTimes,
-}
-
-impl ReadNotes {
-    /// Returns the notes before the first line.
-    pub(crate) fn new() -> ReadNotes {
-        ReadNotes {
-            bad: None,
-            times: LogTimes::new(),
-        }
-    }
-
-    /// Takes the line that this source read last. `is_last` says that no more lines are wanted.
-    #[inline(always)]
-    pub(crate) fn line<N: News>(
-        &mut self,
-        said: LogLine,
-        source: &Source,
-        is_last: bool,
-        news: &mut N,
-    ) {
-        let looks = match said {
-            LogLine::Skip => true,
-            LogLine::Slot(_) => is_last || !source.has_line() || source.lines() <= FIRST,
-        };
-        if looks {
-            self.look(said, source, is_last, news);
-        }
-    }
-
-    /// Takes the time of a line, and tells at the end of a read that a short or live log has too few lines.
-    // Cold path.
-    #[inline(never)]
-    fn look<N: News>(&mut self, said: LogLine, source: &Source, is_last: bool, news: &mut N) {
-        match said {
-            LogLine::Slot(_) => self.times.take(source.start(), source.lines()),
-            LogLine::Skip => self.times.skip(source.start()),
-        }
-        if !is_last && !source.has_line() {
-            self.times.tell(news);
-        }
-    }
-}
-
 /// Notes on a log (this project's own rule).
 #[derive(Drop)]
 pub struct LogNotes {
-    /// The number of slots that were read.
-    pub slots: u64,
-    /// The programmes of the groups.
-    pub heard: Heard,
-    /// Notes on the reading of the log.
-    pub read: ReadNotes,
+    /// Notes on the log as the input.
+    pub input: InputNotes,
     /// The slot at which the audit stopped.
     pub no: Option<NoNote>,
     /// The number of texts that the audit judged.
@@ -231,9 +162,7 @@ impl LogNotes {
     /// Returns the notes on a log before its first line.
     pub fn new() -> LogNotes {
         LogNotes {
-            slots: 0,
-            heard: Heard::new(),
-            read: ReadNotes::new(),
+            input: InputNotes::new(),
             no: None,
             texts: 0,
             complete: 0,

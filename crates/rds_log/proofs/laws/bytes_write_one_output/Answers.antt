@@ -1,5 +1,5 @@
 use Rattle.rds_log.proofs.OneOutput.{alike, same_output}
-use Rattle.rds_log.specs.OneLog.{same_said}
+use Rattle.rds_lines.specs.OneLog.{same_said}
 use Rattle.rds_log.proofs.laws.bytes_write_one_output.Goals as goal
 
 pub returns-clause-one_said : goal.returns-clause-one_said

@@ -8,7 +8,7 @@ returns-in-Encode g c =
       outcome = engine.result;
       mid = g.W.Write.contents engine.new.writer;
       failures = g.W.TellingWrite.failures engine.new.writer;
-      ran = rw c.station_of.ensures at engine.ensures;
+      ran = rw (c.station_of.ensures, c.with_dwell.ensures) at engine.ensures;
       ended = rw c.in-Encode.is at c.end_with-in-Encode.ensures;
     }
 

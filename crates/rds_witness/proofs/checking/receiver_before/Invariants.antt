@@ -1,4 +1,4 @@
-use Rattle.rds_log.specs.LogWrites.{tuned}
+use Rattle.rds_receiver.specs.Receipts.{tuned}
 use Rattle.rds_receiver.specs.ReceiverAt.{ReceiverAt}
 use Rattle.rds_witness.specs.Lost.{got}
 use Rattle.rds_witness.proofs.checking.receiver_before.Given as goal

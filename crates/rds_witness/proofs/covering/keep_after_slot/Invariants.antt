@@ -1,6 +1,6 @@
 use Rattle.std.proofs.Common.{◌≡◌, ◌+◌, ◌<◌, ◌∷◌, ℕ, All, List, Option, get_or, length}
 use Rattle.rds_block.specs.declared.group.Group.{Group}
-use Rattle.rds_log.specs.LogWrites.{tuned}
+use Rattle.rds_receiver.specs.Receipts.{tuned}
 use Rattle.rds_witness.specs.Covered.{CoversInput, IsAt, IsCovered}
 use Rattle.rds_witness.specs.Search.{IsChecked, ShowOnlySeen}
 use Rattle.rds_witness.specs.declared.covering.Lossy.{Lossy}

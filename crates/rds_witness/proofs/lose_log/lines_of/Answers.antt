@@ -1,4 +1,4 @@
-use Rattle.rds_log.specs.LogWrites.{tuned}
+use Rattle.rds_receiver.specs.Receipts.{tuned}
 use Rattle.rds_witness.specs.Lost.{got-none}
 use Rattle.rds_witness.proofs.LossSteps.{adds_first}
 use Rattle.rds_witness.proofs.lose_log.lines_of.Goals as goal

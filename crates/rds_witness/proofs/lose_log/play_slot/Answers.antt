@@ -1,6 +1,6 @@
 use Rattle.std.proofs.Common.{◌++◌, ◌∙◌, ℕ, [], List, ap, sym}
 use Rattle.std.proofs.lemmas.List.{append-nil}
-use Rattle.rds_log.specs.LogWrites.{tuned}
+use Rattle.rds_receiver.specs.Receipts.{tuned}
 use Rattle.rds_witness.specs.Lost.{got-more}
 use Rattle.rds_witness.proofs.LossSteps.{adds_slot, stays_none}
 use Rattle.rds_witness.proofs.Mixes.{no_mixes}

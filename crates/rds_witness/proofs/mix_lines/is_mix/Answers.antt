@@ -1,5 +1,5 @@
 use Rattle.std.proofs.Common.{inr, length}
-use Rattle.rds_log.specs.LogWrites.{tuned}
+use Rattle.rds_receiver.specs.Receipts.{tuned}
 use Rattle.rds_witness.proofs.mix_lines.is_mix.Goals as goal
 
 pub returns-clause-never : goal.returns-clause-never

@@ -1,4 +1,4 @@
-use Rattle.rds_log.specs.LogWrites.{tuned}
+use Rattle.rds_receiver.specs.Receipts.{tuned}
 use Rattle.rds_receiver.specs.Borrowed.{view_of}
 use Rattle.rds_witness.specs.Borrowed.{thing_of}
 use Rattle.rds_witness.proofs.Mixes.{adds_mix, adds_no_mix}

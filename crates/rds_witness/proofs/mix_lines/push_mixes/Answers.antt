@@ -1,5 +1,5 @@
 use Rattle.std.proofs.Common.{arith}
-use Rattle.rds_log.specs.LogWrites.{tuned}
+use Rattle.rds_receiver.specs.Receipts.{tuned}
 use Rattle.rds_witness.proofs.mix_lines.push_mixes.Goals as goal
 
 pub push_mixes_of-requires-clause-around : goal.push_mixes_of-requires-clause-around

@@ -1,4 +1,4 @@
-use Rattle.rds_log.specs.LogWrites.{tuned}
+use Rattle.rds_receiver.specs.Receipts.{tuned}
 use Rattle.rds_witness.specs.Mix.{until}
 use Rattle.rds_witness.specs.Search.{NoMixesIn, ShowOnlySeen, StandsAfter}
 use Rattle.rds_witness.proofs.search.find.Given as goal

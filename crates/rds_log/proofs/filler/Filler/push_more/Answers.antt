@@ -1,7 +1,8 @@
 use Rattle.std.proofs.Common.{◌++◌, ◌-◌, ◌∙◌, ℕ, ap, append_assoc}
 use Rattle.std.proofs.lemmas.Result.{err_from_is_err_and}
 use Rattle.rds_io.proofs.Waiting.{lost_longer}
-use Rattle.rds_log.specs.Fill.{break_line, lost_lines}
+use Rattle.rds_lines.specs.LineTimes.{break_line}
+use Rattle.rds_log.specs.Fill.{lost_lines}
 use Rattle.rds_log.proofs.Filled.{same_pushed}
 use Rattle.rds_log.proofs.filler.Filler.push_more.Goals as goal
 

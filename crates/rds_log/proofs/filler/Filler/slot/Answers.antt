@@ -2,7 +2,7 @@ use Rattle.std.proofs.Common.{◌∙◌, ap, inl, inr, refl, sym}
 use Rattle.std.proofs.lemmas.Result.{err_from_is_err_and}
 use Rattle.rds_io.specs.Waits.{Waits}
 use Rattle.rds_log.proofs.Filled.{adds_none, fails_at_slot, group_done, left_out_now, time_done}
-use Rattle.rds_log.specs.Fill.{time_of}
+use Rattle.rds_lines.specs.LineTimes.{time_of}
 use Rattle.rds_log.specs.declared.filler.Filler.{Filler}
 use Rattle.rds_log.specs.declared.pace.Pace.{Pace}
 use Rattle.rds_log.proofs.filler.Filler.slot.Goals as goal

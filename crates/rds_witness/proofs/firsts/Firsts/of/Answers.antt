@@ -1,13 +1,12 @@
-use Rattle.std.proofs.Common.{[], ◌≡◌, ◌∙◌, ◌+◌, ◌∷◌, Option, ap, arith, length, subst, sym, ℕ}
-use Rattle.rds_block.specs.declared.group.Group.{Group}
-use Rattle.rds_log.specs.LogWrites.{tuned}
+use Rattle.std.proofs.Common.{[], ◌≡◌, ◌+◌, arith, length, subst, ℕ}
+use Rattle.rds_receiver.specs.Receipts.{tuned}
 use Rattle.rds_receiver.specs.Borrowed.{view_of}
 use Rattle.rds_receiver.specs.Shown.{IsView}
 use Rattle.rds_view_lines.specs.NoChange.{view_of_none}
 use Rattle.rds_witness.specs.Firsts.{AreFirsts}
-use Rattle.rds_witness.specs.Lost.{got, got-more, got-none}
+use Rattle.rds_witness.specs.Lost.{got, got-none}
 use Rattle.rds_witness.proofs.FirstSlots.{first_none, nothing_new, shows_none}
-use Rattle.rds_witness.proofs.Slots.{stands_more}
+use Rattle.rds_witness.proofs.Slots.{got_next, stands_more}
 use Rattle.rds_witness.proofs.firsts.Firsts.of.Goals.{then-changed+in_ok-note, else-changed}
 use Rattle.rds_witness.proofs.firsts.Firsts.of.Goals as goal
 
@@ -27,8 +26,7 @@ loop-slot-preserved c =
     let log = c.args.log.now in
     let n = c.loop-slot.slot in
     let before = c.loop-slot.invariant in
-    let next : got [] log (n + 1) ≡ c.received.result ∷ got [] log n = got-more [] log n
-    ∙ ap (λ (g : Option Group). g ∷ got [] log n) (sym c.received.ensures) in
+    let next = got_next [] log n _ c.received.ensures in
     let stands = stands_more t _ [] log n _ c.received.ensures (c.slot_blocks-changed.ensures.stands t _ before.stands) in
     elim c.if-changed.branch [
       | then-changed+in_ok-note w ↦ (

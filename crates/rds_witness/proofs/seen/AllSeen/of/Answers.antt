@@ -1,13 +1,12 @@
-use Rattle.std.proofs.Common.{[], ◌≡◌, ◌∙◌, ◌+◌, ◌∷◌, All, Option, ap, arith, inl, inr, subst, sym}
+use Rattle.std.proofs.Common.{[], ◌≡◌, ◌+◌, All, arith, inl, inr, subst, sym}
 use Rattle.std.proofs.lemmas.Bool.{cases_lt}
 use Rattle.std.proofs.lemmas.List.Elements.{All-nil}
-use Rattle.rds_block.specs.declared.group.Group.{Group}
-use Rattle.rds_log.specs.LogWrites.{tuned}
+use Rattle.rds_receiver.specs.Receipts.{tuned}
 use Rattle.rds_receiver.specs.Shown.{IsView, ShownView}
-use Rattle.rds_receiver.specs.ReceiverAt.{ReceiverAt}
 use Rattle.rds_view_lines.specs.NoChange.{view_of_none}
-use Rattle.rds_witness.specs.Lost.{got, got-more, got-none}
+use Rattle.rds_witness.specs.Lost.{got, got-none}
 use Rattle.rds_witness.specs.Search.{HasViews, IsOfRun, IsSeen}
+use Rattle.rds_witness.proofs.Slots.{got_next, stands_more}
 use Rattle.rds_witness.proofs.seen.AllSeen.of.Goals.{then-changed+in_ok-note, else-changed}
 use Rattle.rds_witness.proofs.seen.AllSeen.of.Goals as goal
 
@@ -29,10 +28,8 @@ loop-slot-preserved c =
     let log = c.args.log.now in
     let n = c.loop-slot.slot in
     let before = c.loop-slot.invariant in
-    let is : got [] log (n + 1) ≡ c.received.result ∷ got [] log n = got-more [] log n
-    ∙ ap (λ (g : Option Group). g ∷ got [] log n) (sym c.received.ensures) in
-    let stands : ReceiverAt t c.slot_blocks-changed.new.self (got [] log (n + 1)) =
-    rw is (c.slot_blocks-changed.ensures.stands t (got [] log n) before.stands) in
+    let next = got_next [] log n _ c.received.ensures in
+    let stands = stands_more t _ [] log n _ c.received.ensures (c.slot_blocks-changed.ensures.stands t _ before.stands) in
     let pairs = c.drop_pairs.ensures.pairs c.args.pi c.args.dwell n log before.stands stands before.pairs in
     let seen = subst (λ v. All (IsSeen t log) v.items) (sym c.drop_pairs.ensures.seen) before.seen in
     let views : (view : ShownView) × IsView t (got [] log (n + 1)) view
@@ -53,7 +50,7 @@ loop-slot-preserved c =
       | else-changed w ↦ (
           let same = c.slot_blocks-changed.ensures.same w.if-changed.false before.view.0 t (got [] log n) before.stands
           before.view.1 in
-          let view : (view : ShownView) × IsView t (got [] log (n + 1)) view = (before.view.0, rw is same) in
+          let view : (view : ShownView) × IsView t (got [] log (n + 1)) view = (before.view.0, rw next same) in
           record {
             stands = stands;
             view = view;

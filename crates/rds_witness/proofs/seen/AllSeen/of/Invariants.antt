@@ -1,5 +1,5 @@
 use Rattle.std.proofs.Common.{[], All}
-use Rattle.rds_log.specs.LogWrites.{tuned}
+use Rattle.rds_receiver.specs.Receipts.{tuned}
 use Rattle.rds_receiver.specs.Shown.{IsView, ShownView}
 use Rattle.rds_receiver.specs.ReceiverAt.{ReceiverAt}
 use Rattle.rds_witness.specs.Lost.{got}

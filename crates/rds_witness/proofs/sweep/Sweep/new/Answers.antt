@@ -1,6 +1,6 @@
 use Rattle.std.proofs.Common.{[], arith}
 use Rattle.std.proofs.lemmas.List.Elements.{All-nil}
-use Rattle.rds_log.specs.LogWrites.{tuned}
+use Rattle.rds_receiver.specs.Receipts.{tuned}
 use Rattle.rds_witness.specs.Covered.{IsAt}
 use Rattle.rds_witness.specs.Lost.{got-none}
 use Rattle.rds_witness.proofs.sweep.Sweep.new.Goals as goal

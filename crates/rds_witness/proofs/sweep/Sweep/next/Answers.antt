@@ -4,7 +4,7 @@ use Rattle.std.proofs.Common.{length, refl, suc, sym}
 use Rattle.std.proofs.lemmas.Bool.{cases_lt}
 use Rattle.std.proofs.lemmas.List.Elements.{All-nil}
 use Rattle.rds_block.specs.declared.group.Group.{Group}
-use Rattle.rds_log.specs.LogWrites.{tuned}
+use Rattle.rds_receiver.specs.Receipts.{tuned}
 use Rattle.rds_receiver.specs.ReceiverAt.{ReceiverAt, TakesSlot}
 use Rattle.rds_witness.specs.Covered.{CoversInput, IsAt, IsCovered}
 use Rattle.rds_witness.specs.Lost.{got, got-more}
