@@ -89,7 +89,7 @@ fn play_slot(world: &mut World, slot: &SlotEvent) -> Result<Answer, StepRefused>
 pub(crate) fn refused_slot(world: &mut World, slot: &SlotEvent) -> Option<StepRefused> {
     match play_slot(world, slot) {
         Ok(answer) => {
-            // Prover: a variable of the type in `Answer`, for the borrow checker (docs/PROVER.md, "Workarounds").
+            // Prover: a variable of the type in `Answer`, for the borrow checker (PROVER.md, "Workarounds").
             let _sent = answer.sent;
             None
         }
@@ -182,7 +182,7 @@ pub(crate) fn config() -> Result<Config, Fail> {
         head,
         dwell: Dwell::new(4).ok_or("dwell")?,
         late: Late::new(0).ok_or("late")?,
-        kind: ReceiverKind::WithDwell,
+        kind: ReceiverKind::with_dwell(),
     })
 }
 
@@ -233,7 +233,7 @@ fn refused_memory(rt: HostRuntime) -> Result<(), Fail> {
     let made = not_made(rt.alloc(), late_config(2)?, 1);
     assert!(rt; made.is_none_or(|why| why == WorldRefused::Memory));
     let config = late_config(2)?;
-    // Prover: variables of the types that `Config` holds, for the borrow checker (docs/PROVER.md, "Workarounds").
+    // Prover: variables of the types that `Config` holds, for the borrow checker (PROVER.md, "Workarounds").
     let _late = config.late;
     let _kind = config.kind;
     let played = not_played(rt.alloc(), config, 1, &events);
@@ -241,12 +241,12 @@ fn refused_memory(rt: HostRuntime) -> Result<(), Fail> {
     Ok(())
 }
 
-/// A receiver shows what it showed but where a text becomes whole or is given up; of one that is not there nothing is
-/// known. All stay if each does: here the second receiver loses each slot.
+/// A receiver changes only if a text becomes complete or is dropped; one that is not there counts as changed. The second
+/// receiver loses each slot.
 #[test]
-fn stays(rt: HostRuntime) -> Result<(), Fail> {
+fn changed(rt: HostRuntime) -> Result<(), Fail> {
     let mut world = new_world(rt.alloc(), 2)?;
-    assert!(rt; !world.all_stay());
+    assert!(rt; world.any_changed());
     for slot in 0..9 {
         let command = if slot == 4 {
             set_text(b"HI")?
@@ -255,10 +255,10 @@ fn stays(rt: HostRuntime) -> Result<(), Fail> {
         };
         let free = slot < 5;
         assert!(rt; play_slot(&mut world, &slot_event(command, free, &[GOT, LOST])?).is_ok());
-        let whole = slot != 4 && slot != 8;
-        same(&rt, (slot, world.stays(0)), (slot, whole));
-        same(&rt, (slot, world.all_stay()), (slot, whole));
-        assert!(rt; world.stays(1) && !world.stays(2));
+        let changes = slot == 4 || slot == 8;
+        same(&rt, (slot, world.changed(0)), (slot, changes));
+        same(&rt, (slot, world.any_changed()), (slot, changes));
+        assert!(rt; !world.changed(1) && world.changed(2));
     }
     Ok(())
 }

@@ -12,7 +12,10 @@ use std::test::Fail;
 fn window_config() -> Result<Config, Fail> {
     let window = Window::new(3).ok_or("window")?;
     Ok(Config {
-        kind: ReceiverKind::Confirming(window),
+        kind: ReceiverKind {
+            window: Some(window),
+            is_flag_alone: false,
+        },
         ..config()?
     })
 }

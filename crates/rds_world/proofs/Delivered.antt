@@ -1,8 +1,8 @@
 -- Lemmas: a receiver of a world that got on time each free one of enough slots of a broadcast shows it, as each
 -- receiver of a station does.
 use Rattle.std.proofs.lemmas.Bool.Decides.{nat_tests}
-use Rattle.std.proofs.Common.{◌≡◌, ◌+◌, ◌-◌, ◌*◌, ◌<◌, ◌≤◌, ℕ, List, [], ◌∷◌, ◌++◌, length-append}
-use Rattle.std.proofs.Common.{Option, Some, refl, sym, subst, arith, length}
+use Rattle.std.proofs.Common.{◌≡◌, ◌+◌, ◌-◌, ◌*◌, ◌<◌, ◌≤◌, ℕ, List, [], ◌∷◌, ◌++◌, length-append, Option, Some, refl}
+use Rattle.std.proofs.Common.{sym, subst, arith, length}
 use Rattle.rds_assembly.specs.Body.{segment_count, text_body}
 use Rattle.rds_fields.specs.declared.head.Head.{Head}
 use Rattle.rds_encoder.specs.Delivery.{free_in}
@@ -14,7 +14,7 @@ use Rattle.rds_safety.specs.Late.{CameFrom}
 use Rattle.rds_safety.specs.Plans.{Plans}
 use Rattle.rds_safety.specs.Safe.{Listener, ListensTo}
 use Rattle.rds_safety.proofs.Counts.{one_segment}
-use Rattle.rds_world.specs.declared.receiver_kind.ReceiverKind.TheVariants.{WithDwell}
+use Rattle.rds_world.specs.ReceiverKind.{with_dwell}
 use Rattle.rds_world.specs.Delivery.{ANameIsDelivered, AStationDeliversAName, AStationDeliversAText}
 use Rattle.rds_world.specs.Delivery.{AStationDeliversAnyText, ATextIsDelivered, AnyTextIsDelivered, GetsEachFree}
 use Rattle.rds_world.specs.Delivery.{GotOfStation, GotRecently, LieIn, LieInBroadcast, free_slots}
@@ -69,9 +69,9 @@ came_in_own d i (e ∷ recent) before gets s since earlier =
 
 -- the configuration of a world without a window
 abbrev plain : Head → ℕ → ℕ → Config
-plain head m k = record { head = head; dwell = m; late = k; kind = WithDwell }
+plain head m k = record { head = head; dwell = m; late = k; kind = with_dwell }
 
-is_plain : (config : Config) → config.kind ≡ WithDwell → plain config.head config.dwell config.late ≡ config
+is_plain : (config : Config) → config.kind ≡ with_dwell → plain config.head config.dwell config.late ≡ config
 is_plain config kind = sym (λ i. record { head = config.head; dwell = config.dwell; late = config.late; kind = kind i })
 
 module _ (head : Head) (m k : ℕ) (e : Event) (recent before : List Event) (view : ShownView)

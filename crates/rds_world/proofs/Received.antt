@@ -1,6 +1,6 @@
 -- Lemmas: the input of a receiver after one more slot, and one entry of a list after it was written.
-use Rattle.std.proofs.Common.{◌≡◌, ◌&&◌, ◌<◌, ℕ, zero, suc, Bool, true, false, List, [], ◌∷◌, Option, Some, None}
-use Rattle.std.proofs.Common.{refl, subst, take, arith, sym, ◌∙◌}
+use Rattle.std.proofs.Common.{◌≡◌, ◌<◌, ℕ, zero, suc, Bool, true, false, List, [], ◌∷◌, Option, Some, None, refl, subst}
+use Rattle.std.proofs.Common.{◌||◌, take, arith, sym, ◌∙◌}
 use Rattle.std.specs.List.{AllByRecursion}
 use Rattle.std.specs.Prelude.{slice_get, slice_index_or, slice_set}
 use Rattle.rds_block.specs.declared.group.Group.{Group}
@@ -79,12 +79,12 @@ of_first (suc n) (y ∷ xs) zero x e = (omega arith, e)
 of_first (suc n) (y ∷ xs) (suc i) x e = grind (arith, of_first n xs i x e)
 of_first _ _ i x e = absurd (cc)
 
--- two marks that both hold
-pub both_hold : (a b : Bool) → (a && b) ≡ true → (a ≡ true) × (b ≡ true)
-both_hold a b e = grind arith
+-- two marks that both fail
+pub both_fail : (a b : Bool) → (a || b) ≡ false → (a ≡ false) × (b ≡ false)
+both_fail a b e = grind arith
 
--- a mark that is set is the one that was written
-pub marked : (xs : List Bool) (i : ℕ) (b : Bool) → slice_index_or (slice_set xs i b) i false ≡ true → b ≡ true
+-- a mark that is not set is the one that was written
+pub marked : (xs : List Bool) (i : ℕ) (b : Bool) → slice_index_or (slice_set xs i b) i true ≡ false → b ≡ false
 marked [] i b e = absurd (cc)
 marked (x ∷ xs) zero b e = e
 marked (x ∷ xs) (suc i) b e = marked xs i b e

@@ -8,7 +8,7 @@ use Rattle.rds_fields.specs.declared.message.Message.{Message}
 use Rattle.rds_receiver.specs.Receipts.{Tuning}
 use Rattle.rds_receiver.specs.Shown.{IsView, ShowsView, ShownView}
 use Rattle.rds_receiver.specs.Confirmed.{counted_in}
-use Rattle.rds_world.specs.ReceiverKind.{counted_input, is_flag_alone, lateness_in, window_of}
+use Rattle.rds_world.specs.ReceiverKind.{counted_input, lateness_in}
 use Rattle.rds_receiver.specs.declared.receiver.Receiver.{Receiver}
 use Rattle.rds_world.specs.Due.{AreDue}
 use Rattle.rds_world.specs.Event.{Event}
@@ -31,19 +31,19 @@ use Rattle.rds_world.proofs.WorldSlots.{events_are_lawful}
 use Rattle.rds_world.proofs.InTime.{in_time, input_reaches}
 
 -- receivers with the dwell have that of the station, and its window
-tuned_alike : (config : Config) (input : Input) → is_flag_alone config.kind ≡ false
+tuned_alike : (config : Config) (input : Input) → config.kind.is_flag_alone ≡ false
     → tuned_to config input ≡ record {
       programme = config.head.pi;
       dwell = config.dwell;
-      window = window_of config.kind;
+      window = config.kind.window;
       first = input.first;
     }
 tuned_alike config input has = grind arith
 
 -- the view of a receiver is that of what counts of its input
 pub shows_view : (config : Config) (input : Input) (r : Receiver) (view : ShownView)
-    → is_flag_alone config.kind ≡ false → HasHeard config input r → ReceiverShows r view
-    → ShowsView config.dwell input.first (counted_in (window_of config.kind) config.dwell input.first input.heard) view
+    → config.kind.is_flag_alone ≡ false → HasHeard config input r → ReceiverShows r view
+    → ShowsView config.dwell input.first (counted_in config.kind.window config.dwell input.first input.heard) view
 shows_view config input r view kind has shows =
     let v = subst (λ (t : Tuning). IsView t has.groups view) (tuned_alike config input kind)
     (shows (tuned_to config input) has.groups has.stands) in
@@ -63,24 +63,24 @@ listens_in (Some w) k m t log input view heard keeps now shows = grind arith
 
 -- a receiver of a world listens as the laws of safety want it
 pub listens : (config : Config) (e : Event) (before : List Event) (i : ℕ) (r : Receiver) (view : ShownView)
-    → is_flag_alone config.kind ≡ false → AreDue config.late (e ∷ before) → AreFit (window_of config.kind) (e ∷ before)
+    → config.kind.is_flag_alone ≡ false → AreDue config.late (e ∷ before) → AreFit config.kind.window (e ∷ before)
     → HasHeard config (input_of (distance config) i (e ∷ before)) r → ReceiverShows r view
-    → ListensIn (window_of config.kind) config.late config.dwell (length before)
+    → ListensIn config.kind.window config.late config.dwell (length before)
     (log (distance config) (e ∷ before)) record { input = input_that_counts config i (e ∷ before); view = view }
 listens config e before i r view kind due fit has shows =
     let input = input_of (distance config) i (e ∷ before) in
-    listens_in (window_of config.kind) config.late config.dwell (length before)
+    listens_in config.kind.window config.late config.dwell (length before)
     (log (distance config) (e ∷ before)) input view
     (in_time (distance config) config.late i (e ∷ before) due) (keeps_premise (distance config) i
-    (window_of config.kind) (e ∷ before) fit) (input_reaches (distance config) i (e ∷ before) ∙ omega arith)
+    config.kind.window (e ∷ before) fit) (input_reaches (distance config) i (e ∷ before) ∙ omega arith)
     (shows_view config input r view kind has shows)
 
 all_listen : (config : Config) (e : Event) (before : List Event) (i : ℕ) (receivers : List Receiver)
-    (views : List ShownView) → is_flag_alone config.kind ≡ false → AreDue config.late (e ∷ before)
-    → AreFit (window_of config.kind) (e ∷ before)
+    (views : List ShownView) → config.kind.is_flag_alone ≡ false → AreDue config.late (e ∷ before)
+    → AreFit config.kind.window (e ∷ before)
     → ((n : ℕ) (r : Receiver) → slice_get receivers n ≡ Some r
     → HasHeard config (input_of (distance config) (i + n) (e ∷ before)) r) → AllZip ReceiverShows receivers views
-    → AllByRecursion (ListensIn (window_of config.kind) config.late config.dwell (length before)
+    → AllByRecursion (ListensIn config.kind.window config.late config.dwell (length before)
     (log (distance config) (e ∷ before))) (listeners config (e ∷ before) i views)
 all_listen config e before i [] [] kind due fit has shows = tt
 all_listen config e before i [] (view ∷ views) kind due fit has shows = absurd shows
@@ -113,7 +113,7 @@ safe_world lawful safe twice config w (e ∷ before) st = λ kind views shows.
     let events = e ∷ before in
     let d = distance config in
     let some = st.lasts in
-    let window = window_of config.kind in
+    let window = config.kind.window in
     let all : AllByRecursion (ListensIn window config.late config.dwell (length before) (log d events))
     (listeners config events 0 views) =
     all_listen config e before 0 w.receivers views kind st.due st.fit

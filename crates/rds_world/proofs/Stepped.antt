@@ -1,6 +1,6 @@
 -- Lemmas: a world after one more slot.
-use Rattle.std.proofs.Common.{◌≡◌, ◌≤◌, ◌++◌, take, drop, ℕ, List, ◌∷◌, Option, Some, None, sym, subst, arith}
-use Rattle.std.proofs.Common.{length, is_some, nat_lt, true, false}
+use Rattle.std.proofs.Common.{◌≡◌, ◌≤◌, ◌++◌, take, drop, ℕ, List, ◌∷◌, Option, Some, None, sym, subst, arith, length}
+use Rattle.std.proofs.Common.{is_some, nat_lt, true, false}
 use Rattle.std.specs.Borrow.{Bor}
 use Rattle.std.specs.Prelude.{IfSome, slice_get, slice_index_or}
 use Rattle.std.proofs.lemmas.List.{length-take-le}
@@ -14,7 +14,6 @@ use Rattle.rds_world.specs.Due.{IsDueToAll}
 use Rattle.rds_world.specs.Event.{Event}
 use Rattle.rds_world.specs.Slots.{SetsAValue, entries, input_of, log, received}
 use Rattle.rds_world.specs.WorldAt.{AllHaveHeard, AreLastSent, HavePasts, HaveReaches, IsViewOfInput, ReceiverShows}
-use Rattle.rds_world.specs.ReceiverKind.{window_of}
 use Rattle.rds_world.specs.WorldAt.{ShowsStill, WorldAt}
 use Rattle.rds_world.specs.State.{WorldState, distance}
 use Rattle.rds_world.specs.Wrong.{IsFitToAll}
@@ -33,14 +32,14 @@ by_own config w events st = subst (λ (c : Config). WorldAt c w events) (sym st.
 -- the encoder and the receivers took the slot
 pub stepped : (config : Config) (old new : WorldState) (events : List Event) (e : Event) → WorldAt config old events
     → new.config ≡ old.config
-    → SetsAValue e.command → IsDueToAll old.config.late e events → IsFitToAll (window_of old.config.kind) e events
+    → SetsAValue e.command → IsDueToAll old.config.late e events → IsFitToAll old.config.kind.window e events
     → EncoderAt old.config.head (distance old.config) new.encoder (entries (e ∷ events))
     → AllHaveHeard old.config (λ i. received (slice_index_or e.receptions i Lost) (length events)
     (log (distance old.config) (e ∷ events)) (input_of (distance old.config) i events)) new.receivers
     → HaveReaches old.config.late (e ∷ events) new.reaches
-    → HavePasts (window_of old.config.kind) (e ∷ events) new.pasts
+    → HavePasts old.config.kind.window (e ∷ events) new.pasts
     → AreLastSent old.config (log (distance old.config) (e ∷ events)) new.sent
-    → ((i : ℕ) → slice_index_or new.stays i false ≡ true → ShowsStill old.config i (e ∷ events))
+    → ((i : ℕ) → slice_index_or new.changed i true ≡ false → ShowsStill old.config i (e ∷ events))
     → WorldAt config new (e ∷ events)
 stepped config old new events e st same value due fit told heard reaches pasts sent stay =
     let own = by_own config old events st in

@@ -1,8 +1,8 @@
 -- Delivery: what is on air reaches receivers (this project's own rule). A receiver that got on time each free one of
 -- some slots of a broadcast, enough of them and at most M slots, shows that broadcast. The laws about a world are cases
 -- of those about a station. Lists have the newest first.
-use Rattle.std.specs.Prelude.{◌≡◌, ◌+◌, ◌-◌, ◌*◌, ◌<◌, ◌≤◌, [], ◌∷◌, ◌++◌}
-use Rattle.std.specs.Prelude.{ℕ, Bool, true, false, List, Some, length, slice_get, slice_index_or}
+use Rattle.std.specs.Prelude.{◌≡◌, ◌+◌, ◌-◌, ◌*◌, ◌<◌, ◌≤◌, [], ◌∷◌, ◌++◌, ℕ, Bool, true, false, List, Some, length}
+use Rattle.std.specs.Prelude.{slice_get, slice_index_or}
 use Rattle.std.specs.List.{AllByRecursion}
 use Rattle.rds_assembly.specs.Body.{segment_count, text_body}
 use Rattle.rds_encoder.specs.Delivery.{free_in}
@@ -12,8 +12,8 @@ use Rattle.rds_encoder.specs.Sent.{one_if, sent_log}
 use Rattle.rds_receiver.specs.Shown.{ShownView}
 use Rattle.rds_safety.specs.Late.{CameFrom}
 use Rattle.rds_safety.specs.Safe.{Listener, ListensTo}
-use Rattle.rds_world.specs.declared.receiver_kind.ReceiverKind.TheVariants.{WithDwell}
 use Rattle.rds_receiver.specs.declared.receiver.Receiver.{Receiver}
+use Rattle.rds_world.specs.ReceiverKind.{with_dwell}
 use Rattle.rds_world.specs.declared.event.Reception.{Reception}
 use Rattle.rds_world.specs.declared.event.Reception.TheVariants.{Got, Lost, Wrong, Restart}
 use Rattle.rds_world.specs.Event.{Event}
@@ -54,7 +54,7 @@ pub record LieIn (plan : List Broadcast) (recent before : List Event) (b : Broad
 -- in a world of receivers with the dwell and without a window, which stands at the slots before and the recent ones, a
 -- receiver got on time each free one of the recent slots, at most M, and shows this view
 pub record GotRecently (config : Config) (recent before : List Event) (view : ShownView) : Type 0 where
-  pub kind : config.kind ≡ WithDwell
+  pub kind : config.kind ≡ with_dwell
   pub world : WorldState
   pub stands : WorldAt config world (recent ++ before)
   pub within : length recent ≤ config.dwell

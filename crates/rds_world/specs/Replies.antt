@@ -18,7 +18,6 @@ use Rattle.rds_world.specs.declared.slots.PlayRefused.TheVariants.{TooManyReceiv
 use Rattle.rds_world.specs.declared.slots.PlayRefused.TheVariants.{WrongConfirmed}
 use Rattle.rds_world.specs.Due.{IsDueToAll, IsFirstLate}
 use Rattle.rds_world.specs.Event.{Event}
-use Rattle.rds_world.specs.ReceiverKind.{window_of}
 use Rattle.rds_world.specs.Wrong.{IsFirstWrong, IsFitToAll}
 use Rattle.rds_world.specs.declared.world.Config.{Config}
 
@@ -40,7 +39,7 @@ reply_at d (SetTags pair) before = answered (tags_reply d pair before)
 pub record CanBeTaken (config : Config) (receivers : ℕ) (e : Event) (before : List Event) : Type 0 where
   pub count : length e.receptions ≡ receivers
   pub due : IsDueToAll config.late e before
-  pub fit : IsFitToAll (window_of config.kind) e before
+  pub fit : IsFitToAll config.kind.window e before
 
 -- the slot has one reception for each receiver, and r is the first receiver whose reception is not due
 pub record IsLateTo (k receivers : ℕ) (e : Event) (before : List Event) (r : ℕ) : Type 0 where
@@ -60,7 +59,7 @@ pub record IsWrong (config : Config) (receivers : ℕ) (e : Event) (before : Lis
     : Type 0 where
   pub count : length e.receptions ≡ receivers
   pub due : IsDueToAll config.late e before
-  pub unfit : IsUnfit (window_of config.kind) e before why
+  pub unfit : IsUnfit config.kind.window e before why
 
 -- why a slot is refused after those before
 abbrev pub IsStepRefused : Config → ℕ → Event → List Event → StepRefused → Type 0

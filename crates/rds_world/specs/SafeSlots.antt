@@ -3,7 +3,7 @@ use Rattle.std.specs.Prelude.{◌≡◌, ℕ, ◌+◌, List, [], ◌∷◌, fals
 use Rattle.std.specs.List.{AllZip}
 use Rattle.rds_receiver.specs.Shown.{ShownView}
 use Rattle.rds_world.specs.Event.{Event}
-use Rattle.rds_world.specs.ReceiverKind.{counted_input, is_flag_alone, window_of}
+use Rattle.rds_world.specs.ReceiverKind.{counted_input}
 use Rattle.rds_receiver.specs.declared.receiver.Receiver.{Receiver}
 use Rattle.rds_safety.specs.Late.{Input}
 use Rattle.rds_safety.specs.Safe.{AreSafeViews, Listener}
@@ -15,7 +15,7 @@ use Rattle.rds_world.specs.declared.world.Config.{Config}
 -- what counts of the input of receiver i
 abbrev pub input_that_counts : Config → ℕ → List Event → Input
 input_that_counts config i events =
-    counted_input (window_of config.kind) config.dwell (input_of (distance config) i events)
+    counted_input config.kind.window config.dwell (input_of (distance config) i events)
 
 -- the receivers from number i on, each with what counts of its input, and its view
 abbrev pub listeners : Config → List Event → ℕ → List ShownView → List Listener
@@ -32,7 +32,7 @@ listeners config events i (view ∷ views) =
 abbrev pub OnlyWhatWasOnAirIsShown : Config → List Event → List Receiver → Type 0
 OnlyWhatWasOnAirIsShown config [] receivers = Unit {0}
 OnlyWhatWasOnAirIsShown config (newest ∷ before) receivers =
-    is_flag_alone config.kind ≡ false → (views : List ShownView) → AllZip ReceiverShows receivers views
+    config.kind.is_flag_alone ≡ false → (views : List ShownView) → AllZip ReceiverShows receivers views
     → AreSafeViews (distance config) config.dwell (length before) (plans_of (distance config) (newest ∷ before))
     (log (distance config) (newest ∷ before)) (listeners config (newest ∷ before) 0 views)
 

@@ -1,6 +1,6 @@
 -- The state of a world after a list of slots. Lists have the newest first.
-use Rattle.std.specs.Prelude.{◌≡◌, ◌<◌, ◌≤◌, ◌∷◌, []}
-use Rattle.std.specs.Prelude.{ℕ, List, Option, Some, None, false, length, slice_get, slice_index_or, take, true}
+use Rattle.std.specs.Prelude.{◌≡◌, ◌<◌, ◌≤◌, ◌∷◌, [], ℕ, List, Option, Some, None, false, length, slice_get}
+use Rattle.std.specs.Prelude.{slice_index_or, take, true}
 use Rattle.circular_buffer.specs.Buffer.{Buffer, buffer}
 use Rattle.rds_block.specs.declared.group.Group.{Group}
 use Rattle.rds_fields.specs.declared.message.Message.{Message}
@@ -10,7 +10,7 @@ use Rattle.rds_receiver.specs.Shown.{IsView, ShownView}
 use Rattle.rds_receiver.specs.ReceiverAt.{ReceiverAt, WhereReceiverStands}
 use Rattle.rds_world.specs.declared.event.Reception.{Reception}
 use Rattle.rds_world.specs.declared.event.Reception.TheVariants.{Lost}
-use Rattle.rds_world.specs.ReceiverKind.{dwell_of, own_window, window_of}
+use Rattle.rds_world.specs.ReceiverKind.{dwell_of, own_window}
 use Rattle.rds_receiver.specs.declared.receiver.Receiver.{Receiver}
 use Rattle.rds_world.specs.Due.{AreDue, IsDue, last_named, reach_of}
 use Rattle.rds_world.specs.Event.{Event}
@@ -25,7 +25,7 @@ use Rattle.rds_world.specs.declared.world.Config.{Config}
 abbrev pub tuned_to : Config → Input → Tuning
 tuned_to config input = record {
   programme = config.head.pi;
-  dwell = dwell_of config.kind config.dwell;
+  dwell = dwell_of config.kind.is_flag_alone config.dwell;
   window = own_window config.kind;
   first = input.first;
 }
@@ -98,13 +98,13 @@ pub record WorldAt (config : Config) (w : WorldState) (events : List Event) : Ty
   pub lasts : 0 < config.dwell
   pub values : SetValues events
   pub due : AreDue config.late events
-  pub fit : AreFit (window_of config.kind) events
+  pub fit : AreFit config.kind.window events
   pub encoder : EncoderAt config.head (distance config) w.encoder (entries events)
   pub receivers : AllHaveHeard config (λ i. input_of (distance config) i events) w.receivers
   pub reaches : HaveReaches config.late events w.reaches
-  pub pasts : HavePasts (window_of config.kind) events w.pasts
+  pub pasts : HavePasts config.kind.window events w.pasts
   pub sent : AreLastSent config (log (distance config) events) w.sent
-  pub stay : (i : ℕ) → slice_index_or w.stays i false ≡ true → ShowsStill config i events
+  pub same : (i : ℕ) → slice_index_or w.changed i true ≡ false → ShowsStill config i events
 
 -- this holds of each configuration and list of slots that the world stands at
 abbrev pub WhereWorldStands : WorldState → (Config → List Event → Type 0) → Type 0

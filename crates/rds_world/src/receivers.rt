@@ -1,5 +1,5 @@
-//! The receivers' part of a slot: hands out the groups, and marks the receivers whose view did not change.
-ghost use Rattle.std.specs.Prelude.{◌≡◌, ◌≤◌, ◌<◌, ℕ, List, None, Option, Some, IsTrue, false, length, slice_index_or};
+//! The receivers' part of a slot: hands out the groups, and marks the receivers whose view may have changed.
+ghost use Rattle.std.specs.Prelude.{◌≡◌, ◌≤◌, ◌<◌, ℕ, List, None, Option, Some, IsFalse, false, length, slice_index_or};
 ghost use Rattle.std.specs.Prelude.{take, true};
 ghost use Rattle.std.specs.List.{AllByRecursion};
 ghost use Rattle.rds_fields.specs.declared.message.Message.{Message};
@@ -9,8 +9,8 @@ ghost use Rattle.rds_world.specs.Due.{IsDue};
 ghost use Rattle.rds_safety.specs.Late.{Input};
 ghost use Rattle.rds_receiver.specs.Receipts.{Hears};
 ghost use Rattle.rds_world.specs.Slots.{received};
-ghost use Rattle.rds_world.specs.WorldAt.{AllHaveHeard, AreLastSent, HasHeard, HeardNothing};
-ghost use Rattle.rds_world.specs.WorldAt.{StaysShown, WhereTheyListen, all_received};
+ghost use Rattle.rds_world.specs.WorldAt.{AllHaveHeard, AreLastSent, HasHeard, HeardNothing, StaysShown};
+ghost use Rattle.rds_world.specs.WorldAt.{WhereTheyListen, all_received};
 
 use crate::recent::Recent;
 use crate::{Config, MOST_RECEIVERS, Reception};
@@ -19,7 +19,7 @@ use rds_fields::{Head, Message};
 use rds_receiver::Receiver;
 
 /// Makes eight receivers that have heard nothing yet.
-// Prover: all eight are written out, without `array::from_fn` (docs/PROVER.md, "Workarounds").
+// Prover: all eight are written out, without `array::from_fn` (PROVER.md, "Workarounds").
 pub(crate) fn eight_receivers(config: &Config) -> [Receiver; MOST_RECEIVERS]
     ensures new { AllByRecursion (HeardNothing config.now) result }
     ensures some { 0 < config.now.dwell }
@@ -45,37 +45,37 @@ fn new_receiver(config: &Config) -> Receiver
     Receiver::tuned(config.head.pi, dwell, config.kind.own_window())
 }
 
-/// Which receivers show what they showed before a slot.
+/// Which receivers may show something else than before a slot.
 #[derive(Clone, Copy)]
-pub(crate) struct Stays {
-    /// A mark for each receiver. If it is true, the view of that receiver did not change.
+pub(crate) struct Changes {
+    /// A mark for each receiver. If it is false, the view of that receiver did not change.
     pub(crate) each: [bool; MOST_RECEIVERS],
-    /// Whether all receivers have the mark.
-    pub(crate) all: bool,
+    /// Whether a receiver has the mark.
+    pub(crate) any: bool,
 }
 
-impl Stays {
+impl Changes {
     /// Returns the marks before the first slot.
-    pub(crate) fn none() -> Stays
-        ensures all { result.all ≡ false }
+    pub(crate) fn all() -> Changes
+        ensures any { result.any ≡ true }
     {
-        Stays {
-            each: [false; MOST_RECEIVERS],
-            all: false,
+        Changes {
+            each: [true; MOST_RECEIVERS],
+            any: true,
         }
     }
 }
 
-/// Gives each of the first receivers its reception of a slot from the recent groups. Marks those whose view did not
-/// change.
-// Prover: a part of an array in a struct is lent behind a call (docs/PROVER.md, "Workarounds").
+/// Gives each of the first receivers its reception of a slot from the recent groups. Marks those whose view may have
+/// changed.
+// Prover: a part of an array in a struct is lent behind a call (PROVER.md, "Workarounds").
 pub(crate) fn hand_out_first(
     receivers: &mut [Receiver; MOST_RECEIVERS],
     count: usize,
     config: &Config,
     receptions: &[Reception],
     recent: &Recent,
-) -> Stays
+) -> Changes
     requires same { length receptions.now ≡ count }
     requires few { count ≤ MOST_RECEIVERS }
     requires eight { length receivers.old ≡ MOST_RECEIVERS }
@@ -83,48 +83,48 @@ pub(crate) fn hand_out_first(
     ensures heard { WhereTheyListen config.now receptions.now recent.now.items (take count receivers.old)
         (λ slot sent inputs. AllHaveHeard config.now
         (all_received receptions.now slot sent inputs) (take count receivers.new)) }
-    ensures stays { WhereTheyListen config.now receptions.now recent.now.items (take count receivers.old)
-        (λ slot sent inputs. (i : ℕ) → slice_index_or result.each i false ≡ true
+    ensures same { WhereTheyListen config.now receptions.now recent.now.items (take count receivers.old)
+        (λ slot sent inputs. (i : ℕ) → slice_index_or result.each i true ≡ false
         → StaysShown config.now (inputs i) (all_received receptions.now slot sent inputs i)) }
-    ensures all { result.all ≡ true → (i : ℕ) → i < count → slice_index_or result.each i false ≡ true }
+    ensures any { result.any ≡ false → (i : ℕ) → i < count → slice_index_or result.each i true ≡ false }
 {
     hand_out(&mut receivers[..count], config, receptions, recent)
 }
 
-/// Gives each receiver its reception of a slot from the recent groups. Marks the receivers whose view did not change.
+/// Gives each receiver its reception of a slot from the recent groups. Marks the receivers whose view may have changed.
 fn hand_out(
     receivers: &mut [Receiver],
     config: &Config,
     receptions: &[Reception],
     recent: &Recent,
-) -> Stays
+) -> Changes
     requires same { length receptions.now ≡ length receivers.old }
     requires few { length receivers.old ≤ MOST_RECEIVERS }
     ensures count { length receivers.new ≡ length receivers.old }
     ensures heard { WhereTheyListen config.now receptions.now recent.now.items receivers.old
         (λ slot sent inputs. AllHaveHeard config.now
         (all_received receptions.now slot sent inputs) receivers.new) }
-    ensures stays { WhereTheyListen config.now receptions.now recent.now.items receivers.old
-        (λ slot sent inputs. (i : ℕ) → slice_index_or result.each i false ≡ true
+    ensures same { WhereTheyListen config.now receptions.now recent.now.items receivers.old
+        (λ slot sent inputs. (i : ℕ) → slice_index_or result.each i true ≡ false
         → StaysShown config.now (inputs i) (all_received receptions.now slot sent inputs i)) }
-    ensures all { result.all ≡ true → (i : ℕ) → i < length receivers.old
-        → slice_index_or result.each i false ≡ true }
+    ensures any { result.any ≡ false → (i : ℕ) → i < length receivers.old
+        → slice_index_or result.each i true ≡ false }
 {
-    let mut stays = [false; MOST_RECEIVERS];
-    let mut all = true;
+    let mut each = [true; MOST_RECEIVERS];
+    let mut any = false;
     if receivers.is_empty() {
-        return Stays { each: stays, all };
+        return Changes { each, any };
     }
     let newest = recent.back(0);
     for i in 0..receivers.len() {
-        let same = receive(&mut receivers[i], config, receptions[i], recent, &newest);
-        stays[i] = same;
-        all &= same;
+        let changed = receive(&mut receivers[i], config, receptions[i], recent, &newest);
+        each[i] = changed;
+        any |= changed;
     }
-    Stays { each: stays, all }
+    Changes { each, any }
 }
 
-/// Gives one receiver its reception of a slot. If it returns true, the view did not change.
+/// Gives one receiver its reception of a slot. If it returns false, the view did not change.
 fn receive(
     receiver: &mut Receiver,
     config: &Config,
@@ -138,19 +138,19 @@ fn receive(
         → IsDue config.now.late slot last reception
         → HasHeard config.now input receiver.old
         → HasHeard config.now (received reception slot sent input) receiver.new }
-    ensures stays { (slot : ℕ) (sent : List (Option Message)) (input : Input) (last : Option ℕ)
+    ensures same { (slot : ℕ) (sent : List (Option Message)) (input : Input) (last : Option ℕ)
         → AreLastSent config.now sent recent.now.items
         → IsDue config.now.late slot last reception
-        → HasHeard config.now input receiver.old → IsTrue result
+        → HasHeard config.now input receiver.old → IsFalse result
         → StaysShown config.now input (received reception slot sent input) }
 {
     match reception {
-        Reception::Got(back) => !receiver.slot_blocks(recent.back_from(newest, back)),
-        Reception::Lost => !receiver.slot_blocks(None),
-        Reception::Wrong(message) => !receiver.slot_blocks(Some(blocks_of(message, config.head))),
+        Reception::Got(back) => receiver.slot_blocks(recent.back_from(newest, back)),
+        Reception::Lost => receiver.slot_blocks(None),
+        Reception::Wrong(message) => receiver.slot_blocks(Some(blocks_of(message, config.head))),
         Reception::Restart => {
             *receiver = new_receiver(config);
-            false
+            true
         }
     }
 }

@@ -1,7 +1,6 @@
 //! The world: a station and its receivers, slot by slot.
-ghost use Rattle.std.specs.Prelude.{◌≡◌, ◌≢◌, ◌+◌, ◌<◌, ◌≤◌, ◌↔◌, [], ◌∷◌, ℕ};
-ghost use Rattle.std.specs.Prelude.{IsErrOf, IsOk, IsSome, IsTrue, IfOk, IfSome};
-ghost use Rattle.std.specs.Prelude.{MatchResult, OnErr, OnOk, length, slice_get};
+ghost use Rattle.std.specs.Prelude.{◌≡◌, ◌≢◌, ◌+◌, ◌<◌, ◌≤◌, ◌↔◌, [], ◌∷◌, ℕ, IsErrOf, IsFalse, IsOk, IsSome, IfOk};
+ghost use Rattle.std.specs.Prelude.{IfSome, MatchResult, OnErr, OnOk, length, slice_get};
 ghost use Rattle.std.specs.Option.{option_copied};
 ghost use Rattle.rds_assembly.specs.Value.{IsName, IsText};
 ghost use Rattle.rds_encoder.specs.Sent.{IsSent};
@@ -17,7 +16,7 @@ ghost use Rattle.rds_world.specs.declared.event.TheConstants.{MOST_RECEIVERS};
 
 use crate::past::{Past, check_wrong, new_pasts, note_wrong};
 use crate::reach::{Reach, reaches_after};
-use crate::receivers::{Stays, eight_receivers, hand_out_first};
+use crate::receivers::{Changes, eight_receivers, hand_out_first};
 use crate::recent::Recent;
 use crate::station::{new_encoder, obey};
 use crate::{
@@ -60,7 +59,7 @@ pub struct World {
     config: Config,
     encoder: Encoder,
     receivers: [Receiver; MOST_RECEIVERS],
-    stays: Stays,
+    changes: Changes,
     reaches: [Reach; MOST_RECEIVERS],
     pasts: Vec<Past>,
     count: usize,
@@ -78,7 +77,7 @@ impl Model for World {
       config = w.config;
       encoder = w.encoder;
       receivers = take w.count w.receivers;
-      stays = w.stays.each;
+      changed = w.changes.each;
       reaches = take w.count w.reaches;
       pasts = w.pasts.items;
       sent = w.recent.items;
@@ -87,7 +86,7 @@ impl Model for World {
     ghost invariant = { λ w. (w.count ≤ MOST_RECEIVERS) × (length w.receivers ≡ MOST_RECEIVERS)
         × (length w.reaches ≡ MOST_RECEIVERS) × (w.recent.capacity ≡ w.config.late + 1)
         × (length w.pasts.items ≡ w.count)
-        × (w.stays.all ≡ true → (i : ℕ) → i < w.count → slice_index_or w.stays.each i false ≡ true) };
+        × (w.changes.any ≡ false → (i : ℕ) → i < w.count → slice_index_or w.changes.each i true ≡ false) };
 }
 
 impl World {
@@ -107,14 +106,15 @@ impl World {
         let Ok(recent) = Recent::new(alloc, config.late) else {
             return Err(WorldRefused::Memory);
         };
-        let Ok(pasts) = new_pasts(alloc, config.kind.window(), receivers) else {
+        let kind = config.kind;
+        let Ok(pasts) = new_pasts(alloc, kind.window, receivers) else {
             return Err(WorldRefused::Memory);
         };
         Ok(World {
             config,
             encoder: new_encoder(&config),
             receivers: eight_receivers(&config),
-            stays: Stays::none(),
+            changes: Changes::all(),
             reaches: [Reach::new(); MOST_RECEIVERS],
             pasts,
             count: receivers,
@@ -145,7 +145,7 @@ impl World {
         ensures safe { WhereWorldStands self.old (λ config events.
             OnOk result (OnlyWhatWasOnAirIsShown config (event.now ∷ events) self.new.receivers)) }
     {
-        // Prover: a call of a law, which gives the clause `safe` (docs/PROVER.md, "Idioms").
+        // Prover: a call of a law, which gives the clause `safe` (PROVER.md, "Idioms").
         only_what_was_on_air_is_shown();
         let receptions = event.receptions.as_slice();
         if receptions.len() != self.count {
@@ -155,13 +155,13 @@ impl World {
             Ok(reaches) => reaches,
             Err(receiver) => return Err(StepRefused::Late(receiver)),
         };
-        check_wrong(self.pasts.as_slice(), self.config.kind.window(), event)?;
+        check_wrong(self.pasts.as_slice(), self.config.kind.window, event)?;
         let reply = obey(&mut self.encoder, &self.config, &event.command);
         let sent = self.encoder.tick(event.free);
-        // Prover: a `Copy` value is copied by a new name before its second use (docs/PROVER.md, "Workarounds").
+        // Prover: a `Copy` value is copied by a new name before its second use (PROVER.md, "Workarounds").
         let handed = sent;
         self.recent.push(Blocks::of_slot(handed));
-        self.stays = hand_out_first(
+        self.changes = hand_out_first(
             &mut self.receivers,
             self.count,
             &self.config,
@@ -169,7 +169,7 @@ impl World {
             &self.recent,
         );
         self.reaches = reaches;
-        note_wrong(self.pasts.as_mut_slice(), self.config.kind.window(), event);
+        note_wrong(self.pasts.as_mut_slice(), self.config.kind.window, event);
         Ok(Answer { reply, sent })
     }
 
@@ -207,22 +207,22 @@ impl World {
         self.receivers[..self.count].get(i)
     }
 
-    /// Returns true only if receiver i shows what it showed before the last slot.
-    pub fn stays(&self, i: usize) -> bool
-        ensures { IsTrue result → WhereWorldStands self.now
+    /// Returns false only if receiver i shows what it showed before the last slot.
+    pub fn changed(&self, i: usize) -> bool
+        ensures { IsFalse result → WhereWorldStands self.now
             (λ config events. ShowsStill config i events) }
     {
-        match self.stays.each.get(i) {
-            Some(stays) => *stays,
-            None => false,
+        match self.changes.each.get(i) {
+            Some(changed) => *changed,
+            None => true,
         }
     }
 
-    /// Returns true only if each receiver shows what it showed before the last slot.
-    pub fn all_stay(&self) -> bool
-        ensures { IsTrue result → WhereWorldStands self.now (λ config events.
+    /// Returns false only if each receiver shows what it showed before the last slot.
+    pub fn any_changed(&self) -> bool
+        ensures { IsFalse result → WhereWorldStands self.now (λ config events.
             (i : ℕ) → i < length self.now.receivers → ShowsStill config i events) }
     {
-        self.stays.all
+        self.changes.any
     }
 }

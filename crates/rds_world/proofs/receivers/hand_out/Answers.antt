@@ -1,13 +1,13 @@
 use Rattle.circular_buffer.proofs.Places.{slice_get-set_other}
 use Rattle.std.proofs.lemmas.List.{get_or-set_other, get_or-set_same, get_or_default, length-set}
 use Rattle.std.proofs.lemmas.Bool.Decides.{nat_tests}
-use Rattle.std.proofs.Common.{◌≡◌, ◌∙◌, Some, arith, false, inl, inr, length, sym}
+use Rattle.std.proofs.Common.{◌≡◌, ◌∙◌, Some, arith, true, inl, inr, length, sym}
 use Rattle.std.proofs.lemmas.Bool.{cases_lt}
 use Rattle.std.specs.Prelude.{slice_get, slice_index_or}
 use Rattle.std.proofs.lemmas.Option.{slice_get-get_or, slice_get_within}
 use Rattle.rds_receiver.specs.declared.receiver.Receiver.{Receiver}
 use Rattle.rds_world.specs.declared.event.Reception.TheVariants.{Lost}
-use Rattle.rds_world.proofs.Received.{both_hold, marked, written}
+use Rattle.rds_world.proofs.Received.{both_fail, marked, written}
 use Rattle.rds_world.proofs.receivers.hand_out.Goals as goal
 
 pub loop-i-init : goal.loop-i-init
@@ -17,7 +17,7 @@ pub loop-i-preserved : goal.loop-i-preserved
 loop-i-preserved c =
     let rs = c.loop-i.receivers in
     let i = c.loop-i.i in
-    let new = c.receive-same.new.receiver in
+    let new = c.receive-changed.new.receiver in
     let config = c.args.config.now in
     let long : length rs ≡ length c.args.receivers.now = c.loop-i.invariant.count in
     let given : length c.args.receptions.now ≡ length c.args.receivers.now = c.requires.same in
@@ -30,7 +30,7 @@ loop-i-preserved c =
       rest = λ k h. grind (arith, slice_get-set_other rs i k new, c.loop-i.invariant.rest k);
       done = λ slot sent inputs last kept due all k r h e.
           let old = all.each i _ (sym (c.loop-i.invariant.rest i (omega arith)) ∙ at _) in
-          let has = c.receive-same.ensures.heard slot sent (inputs i) (last i) kept (rw told at (due i)) old in
+          let has = c.receive-changed.ensures.heard slot sent (inputs i) (last i) kept (rw told at (due i)) old in
           elim (cases_lt k i) [
             | inl less ↦ c.loop-i.invariant.done slot sent inputs last kept due all k r less
                 (sym (slice_get-set_other rs i k new (λ e. omega arith)) ∙ e)
@@ -40,23 +40,23 @@ loop-i-preserved c =
                 rw (here, ← same, told) has)
           ];
       later = λ k h.
-          grind (arith, get_or-set_other c.loop-i.stays i k c.receive-same.result false, c.loop-i.invariant.later k);
-      stays = λ slot sent inputs last kept due all k h is.
+          grind (arith, get_or-set_other c.loop-i.each i k c.receive-changed.result true, c.loop-i.invariant.later k);
+      same = λ slot sent inputs last kept due all k h is.
           let old = all.each i _ (sym (c.loop-i.invariant.rest i (omega arith)) ∙ at _) in
-          let stay = c.receive-same.ensures.stays slot sent (inputs i) (last i) kept (rw told at (due i)) old in
+          let stay = c.receive-changed.ensures.same slot sent (inputs i) (last i) kept (rw told at (due i)) old in
           elim (cases_lt k i) [
-            | inl less ↦ c.loop-i.invariant.stays slot sent inputs last kept due all k less
-                (sym (get_or-set_other c.loop-i.stays i k c.receive-same.result false (λ e. omega arith)) ∙ is)
+            | inl less ↦ c.loop-i.invariant.same slot sent inputs last kept due all k less
+                (sym (get_or-set_other c.loop-i.each i k c.receive-changed.result true (λ e. omega arith)) ∙ is)
             | inr more ↦ grind (arith, nat_tests, marked)
           ];
       eight = length-set _ _ _ ∙ c.loop-i.invariant.eight;
-      all = λ every k below.
-          search (arith, get_or-set_same, get_or-set_other, both_hold);
+      any = λ every k below.
+          search (arith, get_or-set_same, get_or-set_other, both_fail);
     }
 
-pub returns-clause-stays : goal.returns-clause-stays
-returns-clause-stays c slot sent inputs last kept due all k is =
-    grind (arith, c.loop-i.invariant.stays slot sent inputs last kept due all k, c.loop-i.invariant.later k)
+pub returns-clause-same : goal.returns-clause-same
+returns-clause-same c slot sent inputs last kept due all k is =
+    grind (arith, c.loop-i.invariant.same slot sent inputs last kept due all k, c.loop-i.invariant.later k)
 
 pub returns-clause-heard : goal.returns-clause-heard
 returns-clause-heard c slot sent inputs last kept due all =

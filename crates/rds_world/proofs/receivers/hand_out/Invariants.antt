@@ -19,13 +19,13 @@ invariant-loop-i l = record {
       → AllHaveHeard l.config inputs l.fn.receivers
       → (k : ℕ) (r : Receiver) → k < l.i → slice_get l.receivers k ≡ Some r
       → HasHeard l.config (received (slice_index_or l.receptions k Lost) slot sent (inputs k)) r;
-  later : (k : ℕ) → l.i ≤ k → slice_index_or l.stays k false ≡ false;
-  stays : (slot : ℕ) (sent : List (Option Message)) (inputs : ℕ → Input) (last : ℕ → Option ℕ)
+  later : (k : ℕ) → l.i ≤ k → slice_index_or l.each k true ≡ true;
+  same : (slot : ℕ) (sent : List (Option Message)) (inputs : ℕ → Input) (last : ℕ → Option ℕ)
       → AreLastSent l.config sent l.recent.items
       → ((k : ℕ) → IsDue l.config.late slot (last k) (slice_index_or l.receptions k Lost))
       → AllHaveHeard l.config inputs l.fn.receivers
-      → (k : ℕ) → k < l.i → slice_index_or l.stays k false ≡ true
+      → (k : ℕ) → k < l.i → slice_index_or l.each k true ≡ false
       → StaysShown l.config (inputs k) (received (slice_index_or l.receptions k Lost) slot sent (inputs k));
-  eight : length l.stays ≡ 8;
-  all : l.all ≡ true → (k : ℕ) → k < l.i → slice_index_or l.stays k false ≡ true;
+  eight : length l.each ≡ 8;
+  any : l.any ≡ false → (k : ℕ) → k < l.i → slice_index_or l.each k true ≡ false;
 }

@@ -1,5 +1,5 @@
 use Rattle.std.proofs.lemmas.Bool.Decides.{nat_tests}
-use Rattle.std.proofs.Common.{arith, ◌≡◌, ◌-◌, None, Some, false, refl, rules, subst}
+use Rattle.std.proofs.Common.{arith, ◌-◌, None, Some, refl, subst}
 use Rattle.rds_receiver.specs.Receipts.{Hears}
 use Rattle.rds_world.specs.Due.{IsDue}
 use Rattle.rds_world.specs.declared.event.Reception.{Reception}
@@ -23,20 +23,18 @@ returns-in-Lost-clause-heard c slot sent input last kept due has = rw c.in-Lost.
 pub returns-in-Restart-clause-heard : goal.returns-in-Restart-clause-heard
 returns-in-Restart-clause-heard c slot sent input last kept due has = grind (arith, heard_nothing)
 
-pub returns-in-Got-clause-stays : goal.returns-in-Got-clause-stays
-returns-in-Got-clause-stays c slot sent input last kept due has stays =
+pub returns-in-Got-clause-same : goal.returns-in-Got-clause-same
+returns-in-Got-clause-same c slot sent input last kept due has same =
     let config = c.args.config.now in
     let back = c.in-Got.back in
     let is_due = subst (λ (r : Reception). IsDue config.late slot last r) c.in-Got.is due in
     let hears : Hears config.head.pi c.back_from.result (sent_back back sent) = search arith in
-    let calm : c.slot_blocks.result ≡ false = search rules in
     rw c.in-Got.is (stays_shown config input _ c.back_from.result (sent_back back sent) (Some (slot - back)) hears
-    (c.slot_blocks.ensures.same calm) has)
+    (c.slot_blocks.ensures.same same) has)
 
-pub returns-in-Lost-clause-stays : goal.returns-in-Lost-clause-stays
-returns-in-Lost-clause-stays c slot sent input last kept due has stays =
-    let calm : c.slot_blocks-in-Lost.result ≡ false = search rules in
-    rw c.in-Lost.is (stays_shown c.args.config.now input _ None None None refl (c.slot_blocks-in-Lost.ensures.same calm)
+pub returns-in-Lost-clause-same : goal.returns-in-Lost-clause-same
+returns-in-Lost-clause-same c slot sent input last kept due has same =
+    rw c.in-Lost.is (stays_shown c.args.config.now input _ None None None refl (c.slot_blocks-in-Lost.ensures.same same)
     has)
 
 pub returns-in-Wrong-clause-heard : goal.returns-in-Wrong-clause-heard
@@ -44,8 +42,7 @@ returns-in-Wrong-clause-heard c slot sent input last kept due has =
     rw c.in-Wrong.is (hears_more c.args.config.now input _ _ (Some c.blocks_of.result) (Some c.in-Wrong.message) None
     c.blocks_of.ensures c.slot_blocks-in-Wrong.ensures.stands has)
 
-pub returns-in-Wrong-clause-stays : goal.returns-in-Wrong-clause-stays
-returns-in-Wrong-clause-stays c slot sent input last kept due has stays =
-    let calm : c.slot_blocks-in-Wrong.result ≡ false = search rules in
+pub returns-in-Wrong-clause-same : goal.returns-in-Wrong-clause-same
+returns-in-Wrong-clause-same c slot sent input last kept due has same =
     rw c.in-Wrong.is (stays_shown c.args.config.now input _ (Some c.blocks_of.result) (Some c.in-Wrong.message) None
-    c.blocks_of.ensures (c.slot_blocks-in-Wrong.ensures.same calm) has)
+    c.blocks_of.ensures (c.slot_blocks-in-Wrong.ensures.same same) has)

@@ -26,7 +26,7 @@ returns-clause-stands c =
             (one, (one, (one, (one, (one, (one, (one, (one, tt)))))))) e ∙ at_first config.late;
       };
       sent = search arith;
-      stay = λ i is. tt;
+      same = λ i is. tt;
     }
 
 pub returns-in_default-clause-refused : goal.returns-in_default-clause-refused

@@ -7,7 +7,6 @@ use Rattle.rds_world.specs.declared.event.Reception.TheVariants.{Lost}
 use Rattle.rds_world.specs.Due.{IsDue, IsDueToAll, last_named}
 use Rattle.rds_world.specs.Event.{Event}
 use Rattle.rds_safety.specs.Late.{Input}
-use Rattle.rds_world.specs.ReceiverKind.{window_of}
 use Rattle.rds_world.specs.Slots.{commanded, entries, input_of, log, received}
 use Rattle.rds_world.specs.WorldAt.{AllHaveHeard, AreLastSent, HavePasts, HaveReaches, WorldAt}
 use Rattle.rds_world.specs.State.{WorldState, distance}
@@ -44,11 +43,10 @@ returns-clause-stands c config events st =
     → IsDue late (length events) (last_named i events) (slice_index_or xs i Lost)) told due_now in
     let heard = c.hand_out_first-self-inside.ensures.heard (length events) all_sent (λ i. input_of apart i events)
     (λ i. last_named i events) kept due_told own.receivers in
-    let window = window_of set.kind in
-    let kept_wrong : HavePasts c.window.result events c.as_slice.result.now = search arith in
+    let window = set.kind.window in
+    let kept_wrong : HavePasts window events c.as_slice.result.now = search arith in
     let fit : IsFitToAll window now events =
-    subst (λ (x : Event). IsFitToAll window x events) (sym same) (subst (λ (w : Option ℕ). IsFitToAll w e events)
-    c.window.ensures (c.in_ok-check_wrong.ensures.fit events kept_wrong)) in
+    subst (λ (x : Event). IsFitToAll window x events) (sym same) (c.in_ok-check_wrong.ensures.fit events kept_wrong) in
     let noted = c.note_wrong.new.pasts in
     let rest = drop (length noted) world.pasts.items in
     let as_many : length noted ≡ world.pasts.len = c.note_wrong.ensures.count ∙ c.as_mut_slice.ensures.len in
@@ -58,7 +56,7 @@ returns-clause-stands c config events st =
       config = set;
       encoder = world.encoder;
       receivers = take world.count world.receivers;
-      stays = world.stays.each;
+      changed = world.changes.each;
       reaches = take world.count world.reaches;
       pasts = world.pasts.items;
       sent = world.recent.items;
@@ -67,7 +65,7 @@ returns-clause-stands c config events st =
       config = set;
       encoder = c.tick-sent.new.self;
       receivers = take world.count c.hand_out_first-self-inside.new.receivers;
-      stays = c.hand_out_first-self-inside.result.each;
+      changed = c.hand_out_first-self-inside.result.each;
       reaches = take world.count c.in-Ok.reaches;
       pasts = take world.pasts.len (noted ++ rest);
       sent = c.push.new.self.items;
@@ -78,12 +76,12 @@ returns-clause-stands c config events st =
     rw c.as_slice-receptions.ensures.value at heard in
     let many : length (take world.count world.reaches) ≡ world.count = grind (arith, nat_tests) in
     let reaches : HaveReaches late (now ∷ events) new.reaches = grind (arith, nat_tests) in
-    let stay =
-    rw c.as_slice-receptions.ensures.value at (c.hand_out_first-self-inside.ensures.stays (length events) all_sent
+    let unchanged =
+    rw c.as_slice-receptions.ensures.value at (c.hand_out_first-self-inside.ensures.same (length events) all_sent
     (λ i. input_of apart i events) (λ i. last_named i events) kept due_told own.receivers) in
     subst (λ (x : Event). WorldAt config new (x ∷ events)) same
     (stepped config old new events now at refl c.obey-reply.ensures.value due_now fit ticked all reaches pasts kept
-    stay)
+    unchanged)
 
 pub returns-clause-safe : goal.returns-clause-safe
 returns-clause-safe c config events st = c.only_what_was_on_air_is_shown.ensures config _ _
