@@ -119,7 +119,7 @@ pub fn request_in<'a>(read: &Result<Option<Request<'a>>, Error>) -> Option<Reque
     ensures as_read { IfOk read.now (λ o. option_map asked_by o ≡ option_map asked_by result) }
 {
     match read {
-        // Prover: a value with a lifetime is not copied from behind a reference (docs/PROVER.md, "Workarounds").
+        // Prover: a value with a lifetime is not copied from behind a reference (PROVER.md, "Workarounds").
         Ok(Some(request)) => Some(Request {
             task: request.task,
             pi: request.pi,

@@ -64,13 +64,20 @@ pub(crate) fn push_found(of: FaultOf, judged: u64, count: FaultCount, line: &mut
     }
 }
 
-/// Appends why a fault may be harmless.
+/// Appends that a fault may be harmless, and why.
 fn push_harmless(fault: AuditFault, line: &mut Line) {
+    if is_cured_by_padding(fault) {
+        let _ = write!(line, "it may be harmless: ");
+    }
+    push_reason(fault, line);
+}
+
+/// Appends why a fault may be harmless.
+pub(crate) fn push_reason(fault: AuditFault, line: &mut Line) {
     let _ = match fault {
-        AuditFault::NotOneText => write!(
-            line,
-            "it may be harmless: receivers show nothing behind the carriage return"
-        ),
+        AuditFault::NotOneText => {
+            write!(line, "receivers show nothing behind the carriage return")
+        }
         AuditFault::EarlyTag => write!(line, "both tags are empty, so no receiver shows them"),
         AuditFault::Changed | AuditFault::EarlyFlag => write!(
             line,
@@ -204,7 +211,7 @@ fn push_running(no: NoNote, task: Task, line: &mut Line) {
 }
 
 /// Appends the broken rule, in a sentence.
-fn push_rule(no: NoNote, line: &mut Line) {
+pub(crate) fn push_rule(no: NoNote, line: &mut Line) {
     let thing = if no.of_name { "name (PTYN)" } else { "text" };
     let spacing = no.spacing;
     let _ = match no.fault {

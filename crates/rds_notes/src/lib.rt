@@ -9,6 +9,7 @@ mod note;
 mod note_lines;
 mod note_objects;
 mod printing;
+mod row_lines;
 mod screen;
 mod spans;
 

@@ -5,9 +5,8 @@ use rds_arrivals::Grain;
 use rds_cli::{End, Request, Task};
 use rds_fields::{ANNOUNCEMENT_CODE, NAME_CODE, RADIOTEXT_CODE, RTPLUS_AID, RTPLUS_CODE, TagGroup};
 use rds_io::LogFault;
-use rds_log::{
-    BreakPlace, Breaks, FaultCount, Gap, GroupCounts, Lack, LogNotes, NoNote, SlotNotes,
-};
+use rds_lines::{BreakPlace, GroupCounts, Lack};
+use rds_log::{Breaks, FaultCount, Gap, LogNotes, NoNote, SlotNotes};
 use rds_script::{EarlySet, ScriptNotes};
 use std::io::{self, ErrorKind};
 
@@ -124,6 +123,17 @@ pub(crate) struct CoarseTimes {
     pub(crate) gap: Option<Gap>,
     /// The line of a group that does not fit a line without a group before it.
     pub(crate) misfit: Option<u64>,
+    /// How many lost slots the times can hide, if they are in whole seconds.
+    pub(crate) hides: Option<u64>,
+}
+
+/// A fault that lost slots would explain, in a log whose times can hide them.
+#[derive(Clone, Copy)]
+pub(crate) struct Hidden {
+    /// The slots that lack to M + K.
+    pub(crate) lacks: u64,
+    /// How many lost slots the times can hide.
+    pub(crate) hides: u64,
 }
 
 /// A note of a run, for a person or for a program: its sentence and its object are made from this value alone (this
@@ -138,6 +148,8 @@ pub(crate) enum Note<'a> {
     Found(FaultOf, u64, FaultCount),
     /// A log has fewer lines than slots by its times.
     Lacking(Lack),
+    /// The times of a log, in whole seconds, hide as many slots as lack.
+    WholeSeconds(Hidden),
     /// So many groups without a time were left out.
     Untimed(u64),
     /// So many lines of other programmes than this one were left out.
@@ -222,6 +234,8 @@ fn note_faults<'a>(run: &'a Run<'a>, notes: &mut Notes<'a>) {
     }
     if let Some(lack) = lack_of(run) {
         add(Note::Lacking(lack), notes);
+    } else if let Some(hidden) = hidden_of(run) {
+        add(Note::WholeSeconds(hidden), notes);
     }
 }
 
@@ -265,6 +279,7 @@ fn coarse_times(run: &Run<'_>) -> Option<CoarseTimes> {
         room: stretch.room(Grain::of_milliseconds(grain)),
         gap: if is_long { Some(gap) } else { None },
         misfit: run.slots.counts.misfit,
+        hides: run.slots.read.times.hides(),
     })
 }
 
@@ -278,13 +293,13 @@ fn note_groups<'a>(run: &'a Run<'a>, notes: &mut Notes<'a>) {
     if !matches!(run.end, End::Done) || run.log.no.is_some() {
         return;
     }
-    let heard = run.log.heard;
+    let heard = run.log.input.heard;
     let short = heard.counts.of(SHORT_TEXT_CODE);
     if !heard.wanted {
         add(
             Note::NoGroup(OtherGroups {
                 request: run.request,
-                slots: run.log.slots,
+                slots: run.log.input.slots,
                 first: heard.first,
                 of_first: heard.of_first,
                 others: heard.groups.saturating_sub(heard.of_first),
@@ -325,7 +340,7 @@ fn note_tags<'a>(run: &'a Run<'a>, notes: &mut Notes<'a>) {
     if !reads_log(run) {
         return;
     }
-    let heard = run.log.heard;
+    let heard = run.log.input.heard;
     let judges = matches!(run.request.task, Task::Audit { .. });
     let rtplus = run.request.rtplus;
     let read = rtplus.exchange_code(RTPLUS_CODE);
@@ -362,7 +377,7 @@ fn is_read(code: u8) -> bool {
 
 /// Notes how many groups `decode` could not use, since one block was lost.
 fn note_damaged<'a>(run: &'a Run<'a>, notes: &mut Notes<'a>) {
-    let heard = run.log.heard;
+    let heard = run.log.input.heard;
     if matches!(run.request.task, Task::Decode { .. }) && reads_log(run) && heard.damaged > 0 {
         add(
             Note::Damaged(heard.damaged, heard.counts.total(), run.request.pi),
@@ -384,9 +399,11 @@ fn reads_log(run: &Run<'_>) -> bool {
 /// recording the first text and the last one may be cut.
 fn note_judged<'a>(run: &'a Run<'a>, short: u64, notes: &mut Notes<'a>) {
     let log = &run.log;
-    let groups = log.heard.counts.total();
-    if log.read.times.has_times() && groups.saturating_mul(10) < log.slots.saturating_mul(9) {
-        add(Note::Few(groups, log.slots, run.request.pi), notes);
+    let groups = log.input.heard.counts.total();
+    if log.input.read.times.has_times()
+        && groups.saturating_mul(10) < log.input.slots.saturating_mul(9)
+    {
+        add(Note::Few(groups, log.input.slots, run.request.pi), notes);
     }
     let (texts, complete) = (log.texts, log.complete);
     if texts > 0 && (complete == 0 || texts.saturating_sub(complete) > CUT_TEXTS) {
@@ -401,8 +418,8 @@ fn note_judged<'a>(run: &'a Run<'a>, short: u64, notes: &mut Notes<'a>) {
     }
     add(
         Note::Judged(Judged {
-            slots: log.slots,
-            empty: log.slots.saturating_sub(groups),
+            slots: log.input.slots,
+            empty: log.input.slots.saturating_sub(groups),
             texts: log.texts,
             names: log.names,
             tags: log.tags,
@@ -420,12 +437,22 @@ fn reads_nothing(counts: &GroupCounts) -> bool {
 /// Returns by how much a log has too few lines for its times. After a no the lines up to it decide, since the log was
 /// not read to its end: also if as many are missing as would have made it no fault.
 fn lack_of(run: &Run<'_>) -> Option<Lack> {
-    let times = run.log.read.times;
+    let times = run.log.input.read.times;
     match (run.end, run.log.no) {
-        (End::Done, None) => times.lack(run.log.slots),
+        (End::Done, None) => times.lack(run.log.input.slots),
         (End::Done, Some(no)) => times.lack_of_some(slots_to_cure(no)),
         _ => None,
     }
+}
+
+/// Returns the slots that lack where the audit stopped, if the times of the log can hide as many.
+fn hidden_of(run: &Run<'_>) -> Option<Hidden> {
+    let lacks = slots_to_cure(run.log.no?);
+    let hides = run.log.input.read.times.hides()?;
+    if lacks > hides {
+        return None;
+    }
+    Some(Hidden { lacks, hides })
 }
 
 /// Returns how many slots more would have made this no fault: those that lack to the spacing.

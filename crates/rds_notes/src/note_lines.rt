@@ -2,14 +2,16 @@
 
 use crate::fault_lines::{push_found, push_found_advice, push_no, push_no_advice};
 use crate::note::{
-    CoarseTimes, Elsewhere, Incomplete, Judged, Note, OtherGroups, OtherInTags, Run,
+    CoarseTimes, Elsewhere, Hidden, Incomplete, Judged, Note, OtherGroups, OtherInTags, Run,
 };
+use crate::row_lines::push_row_cause;
 use crate::spans::push_spans;
 use arrayvec::ArrayVec;
 use rds_cli::{Request, Task};
 use rds_encoder::Refusal;
 use rds_io::LogFault;
-use rds_log::{BadStart, BreakPlace, Breaks, Lack, comment_of};
+use rds_lines::{BadStart, BreakPlace, Lack, comment_of};
+use rds_log::Breaks;
 use rds_script::{EarlySet, SetKind};
 use std::io::Write;
 
@@ -34,6 +36,7 @@ pub(crate) fn push_note(note: Note<'_>, line: &mut Line) {
         Note::BrokenRule(no, _) => push_no(no, line),
         Note::Found(of, judged, count) => push_found(of, judged, count, line),
         Note::Lacking(lack) => push_lack(lack, line),
+        Note::WholeSeconds(hidden) => push_hidden(hidden, line),
         Note::Untimed(groups) => push_untimed(groups, line),
         Note::OthersLeftOut(lines, pi) => push_others(lines, pi, line),
         Note::Coarse(coarse) => push_coarse(coarse, line),
@@ -379,6 +382,17 @@ fn push_coarse(coarse: CoarseTimes, line: &mut Line) {
     }
 }
 
+/// Appends that lost slots may explain a fault.
+fn push_hidden(hidden: Hidden, line: &mut Line) {
+    let _ = write!(line, "this fault may be false: ");
+    push_count(hidden.lacks, "slot lacks", "slots lack", line);
+    let _ = write!(
+        line,
+        " to M + K, and times in whole seconds can hide {} lost slots",
+        hidden.hides
+    );
+}
+
 /// Appends why a PI code was refused.
 fn push_pi(given: &str, line: &mut Line) {
     let _ = write!(line, "fault pi: --pi ");
@@ -417,7 +431,7 @@ fn bad_of<'a>(run: &Run<'a>) -> &'a Option<BadStart> {
     if run.slots.read.bad.is_some() {
         return &run.slots.read.bad;
     }
-    &run.log.read.bad
+    &run.log.input.read.bad
 }
 
 /// Appends that a read failed, of what, and why.
@@ -474,7 +488,8 @@ fn push_bad_line(number: u64, bad: &Option<BadStart>, line: &mut Line) {
 fn push_bad_row(number: u64, run: &Run<'_>, line: &mut Line) {
     let _ = write!(line, "fault row {number}");
     if let Some(bad) = &run.script.bad {
-        let _ = write!(line, " (line {}): {}", bad.line, bad.cause);
+        let _ = write!(line, " (line {}): ", bad.line);
+        push_row_cause(bad.cause, line);
     }
 }
 

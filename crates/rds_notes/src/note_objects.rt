@@ -1,14 +1,16 @@
 //! The objects of notes: one JSON object a note, with its kind, its facts and its sentence. Slots count from 0, lines
 //! and rows from 1.
 
+use crate::fault_lines::{push_reason, push_rule};
 use crate::note::{FaultOf, Note};
 use crate::note_lines::{BEGUN, Line, first_line, group_name, push};
+use arrayvec::ArrayVec;
 use rds_arrivals::Break;
 use rds_audit::AuditFault;
 use rds_encoder::Refusal;
 use rds_io::LogFault;
 use rds_log::{FaultCount, FaultPlace, NoNote, SegmentCause, fault_name};
-use rds_script::{EarlySet, SetKind};
+use rds_script::{ArgumentCause, BadRow, EarlySet, RowCause, SetKind};
 use std::io::Write;
 
 /// Appends the object of a note with this sentence and this advice. Without an advice it is empty.
@@ -23,6 +25,11 @@ pub(crate) fn push_object(note: Note<'_>, sentence: &[u8], advice: &[u8], line: 
             push_number("lines", lack.lines, line);
             push_flag("start", lack.is_of_start, line);
         }
+        Note::WholeSeconds(hidden) => {
+            push_kind("whole_seconds", line);
+            push_number("lacks", hidden.lacks, line);
+            push_number("hides", hidden.hides, line);
+        }
         Note::Untimed(groups) => push_one("untimed", "groups", groups, line),
         Note::OthersLeftOut(lines, _) => push_one("others", "lines", lines, line),
         Note::Coarse(coarse) => {
@@ -34,6 +41,7 @@ pub(crate) fn push_object(note: Note<'_>, sentence: &[u8], advice: &[u8], line: 
                 push_number("gap_line", gap.line, line);
             }
             push_known("misfit", coarse.misfit, line);
+            push_known("hides", coarse.hides, line);
         }
         Note::Breaks(breaks) => {
             push_one("breaks", "count", breaks.count, line);
@@ -94,7 +102,7 @@ pub(crate) fn push_object(note: Note<'_>, sentence: &[u8], advice: &[u8], line: 
         Note::BadPi(_) => push_fault("pi", line),
         Note::BadWindow => push_fault("confirm", line),
         Note::BadSpans(_) => push_fault("lose", line),
-        Note::Fault(fault, _) => push_log_fault(fault, line),
+        Note::Fault(fault, run) => push_log_fault(fault, run.script.bad, line),
     }
     push_text(
         "text",
@@ -151,6 +159,10 @@ fn push_no(no: NoNote, line: &mut Line) {
     push_number("needed", u64::from(no.spacing), line);
     push_cause(no.cause, line);
     push_flag("harmless", no.is_harmless, line);
+    push_rule_alone(no, line);
+    if no.is_harmless {
+        push_because(no.fault, line);
+    }
 }
 
 /// Appends what is wrong with a segment.
@@ -197,6 +209,9 @@ fn push_found(of: FaultOf, judged: u64, count: FaultCount, line: &mut Line) {
     push_number("judged", judged, line);
     push_place("first_", count.first, line);
     push_place("last_", count.last, line);
+    if count.harmless > 0 {
+        push_because(count.fault, line);
+    }
 }
 
 /// Appends a slot, its line and the time in this line, by names with this beginning.
@@ -210,8 +225,8 @@ fn push_place(begin: &str, place: FaultPlace, line: &mut Line) {
     }
 }
 
-/// Appends the facts of a fault of the log or script, of the input or of the output.
-fn push_log_fault(fault: LogFault, line: &mut Line) {
+/// Appends the facts of a fault of the log or script, of the input or of the output. This is the malformed row.
+fn push_log_fault(fault: LogFault, bad: Option<BadRow>, line: &mut Line) {
     match fault {
         LogFault::BadLine(number) => {
             push_fault("line", line);
@@ -220,11 +235,24 @@ fn push_log_fault(fault: LogFault, line: &mut Line) {
         LogFault::BadRow(number) => {
             push_fault("row", line);
             push_number("row", number, line);
+            push_character(bad, line);
         }
         LogFault::Read => push_fault("read", line),
         LogFault::Write => push_fault("write", line),
         LogFault::TooLong => push_fault("too long", line),
         LogFault::Memory => push_fault("memory", line),
+    }
+}
+
+/// Appends the character that the table lacks, and its place.
+fn push_character(bad: Option<BadRow>, line: &mut Line) {
+    if let Some(bad) = bad
+        && let RowCause::Argument(ArgumentCause::NoSuchCharacter(character, place)) = bad.cause
+    {
+        let mut bytes = ArrayVec::<u8, 4>::new();
+        let _ = write!(bytes, "{character}");
+        push_text("character", bytes.as_slice(), line);
+        push_number("place", place as u64, line);
     }
 }
 
@@ -266,6 +294,20 @@ fn push_flag(name: &str, is_so: bool, line: &mut Line) {
 fn push_text(name: &str, text: &[u8], line: &mut Line) {
     let _ = write!(line, ",\"{name}\":");
     push_string(text, line);
+}
+
+/// Appends the sentence of the rule that a log breaks first.
+fn push_rule_alone(no: NoNote, line: &mut Line) {
+    let mut words = Line::new();
+    push_rule(no, &mut words);
+    push_text("rule", words.as_slice(), line);
+}
+
+/// Appends why a fault may be harmless.
+fn push_because(fault: AuditFault, line: &mut Line) {
+    let mut words = Line::new();
+    push_reason(fault, &mut words);
+    push_text("because", words.as_slice(), line);
 }
 
 /// Appends the name of a break.

@@ -5,7 +5,7 @@ use crate::printing::print_note;
 use rds_arrivals::Break;
 use rds_cli::{Request, Task};
 use rds_io::TellingWrite;
-use rds_log::{BreakPlace, Lack, News};
+use rds_lines::{BreakPlace, Lack, News};
 use std::mem;
 
 /// Prints news at once: each kind of break, and that a log has too few lines, once.

@@ -4,7 +4,6 @@ use Rattle.rds_fields.specs.Tag.{TagFields}
 use Rattle.rds_fields.specs.declared.head.Head.{Head}
 use Rattle.rds_receiver.specs.Shown.{ShownView}
 use Rattle.rds_world.specs.Event.{Event}
-use Rattle.rds_world.specs.declared.receiver_kind.ReceiverKind.TheVariants.{FlagAlone}
 use Rattle.rds_world.specs.declared.event.Command.{Command}
 use Rattle.rds_world.specs.declared.event.Command.TheVariants.{Quiet, SetTags, SetText}
 use Rattle.rds_world.specs.declared.world.Config.{Config}
@@ -67,7 +66,7 @@ second_tag = refl
 
 -- a station with a dwell of m slots
 abbrev station : ℕ → Head → Config
-station m head = record { head = head; dwell = m; late = 0; kind = FlagAlone None }
+station m head = record { head = head; dwell = m; late = 0; kind = record { window = None; is_flag_alone = true } }
 
 abbrev slot : Command → Event
 slot command = record { command = command; free = true; receptions = [] }

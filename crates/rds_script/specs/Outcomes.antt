@@ -34,10 +34,9 @@ use Rattle.rds_world.specs.Replies.{reply_at}
 use Rattle.rds_world.specs.Slots.{entries, input_of, sent_at}
 use Rattle.rds_world.specs.WorldAt.{IsViewOfInput, tuned_to}
 use Rattle.rds_io.specs.Digits.{word_digits}
-use Rattle.rds_view_lines.specs.Output.{air_prefix, change, line_of, nothing_shown}
-use Rattle.rds_view_lines.specs.Output.{receiver_prefix, slot_prefix, unless_same}
+use Rattle.rds_view_lines.specs.Output.{air_prefix, change, line_of, nothing_shown, receiver_prefix, slot_prefix}
+use Rattle.rds_view_lines.specs.Output.{unless_same}
 use Rattle.rds_world.specs.OnAir.{air_of}
-use Rattle.rds_world.specs.ReceiverKind.{is_flag_alone}
 use Rattle.rds_script.specs.OnAir.{airings}
 use Rattle.rds_script.specs.declared.airing.Airing.{Airing}
 use Rattle.rds_script.specs.declared.airing.Airing.TheVariants.{Mix, Old, OnAir, Replaced}
@@ -213,7 +212,7 @@ air_lines config slot n e before shown_before shown =
 
 abbrev pub compared_lines : Config → ℕ → ℕ → Event → List Event → List ShownView → List ShownView → List ℕ
 compared_lines config slot n e before shown_before shown =
-    if_alone (is_flag_alone config.kind) (air_lines config slot n e before shown_before shown)
+    if_alone (config.kind.is_flag_alone) (air_lines config slot n e before shown_before shown)
 
 -- the lines of all slots, the oldest first
 abbrev pub lines_of : Form → Config → List Event → List Outcome → List ℕ

@@ -3,7 +3,7 @@
 //! No clause says which. That the record says no event is proved where it is read (`row`), and a table of rows compares
 //! the causes (tests/test_notes.py).
 
-use crate::row_cause::{RowCause, TagNumber};
+use crate::row_cause::{ArgumentCause, ReceiverCause, ReceptionsCause, RowCause, TagNumber};
 use csv::ByteRecord;
 use memchr::memrchr2;
 use rds_assembly::{LONGEST_TEXT, NAME_LENGTH, TextRefused};
@@ -41,12 +41,12 @@ pub(crate) fn row_cause(row: &ByteRecord, cause: RowCause) -> RowCause {
 pub(crate) fn text_cause(argument: &str, bytes: &[u8], why: Option<TextRefused>) -> RowCause {
     if let Some(TextRefused::BadByte(at)) = why {
         let byte = bytes.get(at).copied().unwrap_or(0);
-        return RowCause::BadTextByte(byte, at.saturating_add(1));
+        return RowCause::Argument(ArgumentCause::BadTextByte(byte, at.saturating_add(1)));
     }
-    match measure_text(argument) {
-        Ok(count) => RowCause::TextTooLong(count.saturating_sub(LONGEST_TEXT)),
+    RowCause::Argument(match measure_text(argument) {
+        Ok(count) => ArgumentCause::TextTooLong(count.saturating_sub(LONGEST_TEXT)),
         Err(bad) => character_cause(bad),
-    }
+    })
 }
 
 /// Returns why an argument is no name: `why`, or what stops its reading.
@@ -55,20 +55,20 @@ pub(crate) fn text_cause(argument: &str, bytes: &[u8], why: Option<TextRefused>)
 pub(crate) fn name_cause(argument: &str, bytes: &[u8], why: Option<TextRefused>) -> RowCause {
     if let Some(TextRefused::BadByte(at)) = why {
         let byte = bytes.get(at).copied().unwrap_or(0);
-        return RowCause::BadNameByte(byte, at.saturating_add(1));
+        return RowCause::Argument(ArgumentCause::BadNameByte(byte, at.saturating_add(1)));
     }
-    match measure_text(argument) {
-        Ok(count) => RowCause::NameTooLong(count.saturating_sub(NAME_LENGTH)),
+    RowCause::Argument(match measure_text(argument) {
+        Ok(count) => ArgumentCause::NameTooLong(count.saturating_sub(NAME_LENGTH)),
         Err(bad) => character_cause(bad),
-    }
+    })
 }
 
 /// Returns the cause for a text or a name with this unreadable character.
-fn character_cause(bad: BadCharacter) -> RowCause {
+fn character_cause(bad: BadCharacter) -> ArgumentCause {
     if bad.character == '\\' {
-        RowCause::BadEscape(bad.place)
+        ArgumentCause::BadEscape(bad.place)
     } else {
-        RowCause::NoSuchCharacter(bad.character, bad.place)
+        ArgumentCause::NoSuchCharacter(bad.character, bad.place)
     }
 }
 
@@ -77,10 +77,10 @@ fn character_cause(bad: BadCharacter) -> RowCause {
 #[inline(never)]
 pub(crate) fn number_cause(argument: &str, before: usize) -> RowCause {
     let spaces = argument.bytes().filter(|byte| *byte == b' ').count();
-    match spaces.saturating_add(1) {
-        8 => RowCause::NoTagNumber(before.saturating_add(1)),
-        count => RowCause::TagCount(count),
-    }
+    RowCause::Argument(match spaces.saturating_add(1) {
+        8 => ArgumentCause::NoTagNumber(before.saturating_add(1)),
+        count => ArgumentCause::TagCount(count),
+    })
 }
 
 /// Returns why eight numbers are no pair of tags: the first that exceeds its limit, or else the first tag with class 0
@@ -92,29 +92,30 @@ pub(crate) fn pair_cause(numbers: [u8; 8]) -> RowCause {
         let given = numbers[place];
         let (number, most) = TAG_NUMBERS[place];
         if given > most {
-            return RowCause::TagTooHigh {
+            return RowCause::Argument(ArgumentCause::TagTooHigh {
                 number,
                 given,
                 most,
-            };
+            });
         }
     }
     let [_, _, class, start, extra, _, _, _] = numbers;
-    if class == 0 && (start > 0 || extra > 0) {
-        RowCause::DummyTag(Which::One)
+    let tag = if class == 0 && (start > 0 || extra > 0) {
+        Which::One
     } else {
-        RowCause::DummyTag(Which::Two)
-    }
+        Which::Two
+    };
+    RowCause::Argument(ArgumentCause::DummyTag(tag))
 }
 
 /// Returns why this letter with the digits after it is not a reception. `place` is the place of the letter.
 pub(crate) fn reception_cause(letter: u8, place: usize) -> RowCause {
-    match letter {
-        b'G' => RowCause::LatenessDigits(place),
-        b'L' | b'R' => RowCause::DigitsAfter(place),
-        b'W' => RowCause::GroupDigits(place),
-        _ => RowCause::NoReception(place),
-    }
+    RowCause::Receptions(match letter {
+        b'G' => ReceptionsCause::LatenessDigits(place),
+        b'L' | b'R' => ReceptionsCause::DigitsAfter(place),
+        b'W' => ReceptionsCause::GroupDigits(place),
+        _ => ReceptionsCause::NoReception(place),
+    })
 }
 
 /// Returns why the event of a row was refused. `first` is the number of receivers of the first row.
@@ -129,15 +130,18 @@ pub(crate) fn refused_cause(
 ) -> RowCause {
     let receptions = event.receptions.as_slice();
     match why {
-        StepRefused::ReceiverCount => RowCause::ReceiverCount {
+        StepRefused::ReceiverCount => RowCause::Receptions(ReceptionsCause::ReceiverCount {
             given: receptions.len(),
             first,
-        },
+        }),
         StepRefused::Late(receiver) => {
-            late_cause(receiver, lateness_at(receptions, receiver), most, slot)
+            let late = late_cause(lateness_at(receptions, receiver), most, slot);
+            receiver_cause(receiver, late)
         }
-        StepRefused::Wrong(receiver) => RowCause::Wrong(receiver),
-        StepRefused::WrongConfirmed(receiver) => RowCause::WrongConfirmed(receiver),
+        StepRefused::Wrong(receiver) => receiver_cause(receiver, ReceiverCause::Wrong),
+        StepRefused::WrongConfirmed(receiver) => {
+            receiver_cause(receiver, ReceiverCause::WrongConfirmed)
+        }
     }
 }
 
@@ -149,19 +153,20 @@ fn lateness_at(receptions: &[Reception], receiver: usize) -> u16 {
     }
 }
 
+/// Returns the cause for a receiver that cannot have its reception.
+fn receiver_cause(receiver: usize, cause: ReceiverCause) -> RowCause {
+    RowCause::Receptions(ReceptionsCause::Receiver(receiver, cause))
+}
+
 /// Returns the cause for a receiver that asks for a group, `late` slots late, that is not due to it. Groups may come at
 /// most `most` slots late.
-fn late_cause(receiver: usize, late: u16, most: Late, slot: u64) -> RowCause {
+fn late_cause(late: u16, most: Late, slot: u64) -> ReceiverCause {
     let most = most.get();
     if late > most {
-        RowCause::Late {
-            receiver,
-            late,
-            most,
-        }
+        ReceiverCause::Late { late, most }
     } else if u64::from(late) > slot {
-        RowCause::BeforeFirst { receiver, late }
+        ReceiverCause::BeforeFirst(late)
     } else {
-        RowCause::AlreadyHanded { receiver, late }
+        ReceiverCause::AlreadyHanded(late)
     }
 }

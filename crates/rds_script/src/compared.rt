@@ -2,13 +2,12 @@
 ghost use Rattle.std.specs.Prelude.{◌≡◌, ◌≤◌, ◌<◌, ◌+◌, ◌*◌, ◌++◌, [], ℕ, IfOk, List, OnErr, OnOk, length, map, true};
 ghost use Rattle.rds_receiver.specs.Shown.{ShownView};
 ghost use Rattle.rds_view_lines.specs.KeptView.{view_kept};
-ghost use Rattle.rds_view_lines.specs.Output.{line_of, nothing_shown as none_shown, unless_same};
+ghost use Rattle.rds_view_lines.specs.Output.{nothing_shown as none_shown};
 ghost use Rattle.rds_view_lines.specs.Part.{prefix_of};
 ghost use Rattle.rds_view_lines.specs.declared.change.TheConstants.{SLOT_ROOM};
 ghost use Rattle.rds_world.specs.WorldAt.{WhereWorldStands};
 ghost use Rattle.rds_world.specs.declared.event.TheConstants.{MOST_RECEIVERS};
 ghost use Rattle.rds_world.specs.Event.{Event};
-ghost use Rattle.rds_world.specs.ReceiverKind.{is_flag_alone};
 ghost use Rattle.rds_world.specs.declared.world.Config.{Config};
 ghost use Rattle.rds_script.specs.Inside.Compared.{AirsHaveRoom, AirsStand, Compares, GoesOnCompared, HasRoom};
 ghost use Rattle.rds_script.specs.Inside.Compared.{IsCompared, WereKept, airings_at, all_on_air};
@@ -95,7 +94,7 @@ pub(crate) fn new_compared(
         → IsCompared config.now receivers [] views o) }
     ensures room { IfOk result HasRoom }
 {
-    if config.kind.is_flag_alone() {
+    if config.kind.is_flag_alone {
         Ok(Some(Compared::new(alloc, config, receivers)?))
     } else {
         Ok(None)
@@ -112,7 +111,7 @@ pub(crate) fn make_room(compared: &mut Option<Compared>) -> Result<(), AllocErro
     ensures stands { (config : Config) (n : ℕ) (events : List Event) (views : List ShownView)
         → IsCompared config n events views compared.old → IsCompared config n events views compared.new }
     ensures alone { OnErr result ((config : Config) (n : ℕ) (events : List Event) (views : List ShownView)
-        → IsCompared config n events views compared.old → is_flag_alone config.kind ≡ true) }
+        → IsCompared config n events views compared.old → config.kind.is_flag_alone ≡ true) }
 {
     match compared {
         Some(compared) => compared.airs.make_room(),
@@ -177,7 +176,11 @@ fn push_airings(
         if i >= kept.len() {
             return;
         }
-        let before = if world.stays(i) { Some(kept[i]) } else { None };
+        let before = if world.changed(i) {
+            None
+        } else {
+            Some(kept[i])
+        };
         let now = airs.airings_of(shown[i].view(), before);
         push_changed(Prefix::Receiver(slot, i), kept[i], now, lines);
         kept[i] = now;

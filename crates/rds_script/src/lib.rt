@@ -27,4 +27,4 @@ pub use laws::{rows_write_one_output, script_writes_one_output};
 pub use notes::{BadRow, EarlySet, ScriptNotes, SetKind};
 pub use play::{MOST_RECORDS, Playing, encode, play_script, simulate};
 pub use rds_io::LogFault;
-pub use row_cause::{RowCause, TagNumber};
+pub use row_cause::{ArgumentCause, ReceiverCause, ReceptionsCause, RowCause, TagNumber};

@@ -3,7 +3,7 @@
 //! `csv` counts the line feeds, so these functions count the other line ends: a return that no line feed follows.
 //!
 //! No clause says what they count, because the contract of `csv` says nothing of its positions and of how far it reads
-//! ahead (docs/PROVER.md, "What no contract can state"). Tests compare each line with a plain count.
+//! ahead (PROVER.md, "What no contract can state"). Tests compare each line with a plain count.
 
 use arrayvec::ArrayVec;
 use memchr::{memchr_iter, memrchr2};

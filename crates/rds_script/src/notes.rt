@@ -5,7 +5,7 @@ use rds_encoder::Refusal;
 use rds_world::{Command, Reply};
 
 /// Notes on a script that was played. The output is the same with notes and without (this project's own rule).
-#[derive(Clone, Copy, Debug)]
+#[derive(Clone, Copy)]
 pub struct ScriptNotes {
     /// The malformed record, if the script stopped at one.
     pub bad: Option<BadRow>,
@@ -24,7 +24,7 @@ impl ScriptNotes {
 }
 
 /// A malformed record of a script.
-#[derive(Clone, Copy, Debug)]
+#[derive(Clone, Copy)]
 pub struct BadRow {
     /// The line on which the record starts: 1 + the number of line ends in the bytes before its first byte. LF, CR LF
     /// and a lone CR end a line.

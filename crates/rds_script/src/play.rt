@@ -138,7 +138,7 @@ pub fn play_script<R: TellingRead + Drop, W: TellingWrite>(
 
 /// Plays row by row. Writes the output before a read, and if there may be no room for the output of one more row.
 ///
-/// Prover: the caller owns the values that must be dropped, since it has one end (docs/PROVER.md, "Workarounds").
+/// Prover: the caller owns the values that must be dropped, since it has one end (PROVER.md, "Workarounds").
 fn play_rows<R: TellingRead, W: TellingWrite>(
     script: &mut Records<R>,
     player: &mut Player,

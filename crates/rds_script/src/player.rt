@@ -10,7 +10,7 @@ use crate::causes::refused_cause;
 use crate::form::Form;
 use crate::notes::EarlySet;
 use crate::row::{RowRefused, read_event};
-use crate::row_cause::RowCause;
+use crate::row_cause::{ReceptionsCause, RowCause};
 use crate::watched::{RowLines, Watched};
 use arrayvec::ArrayVec;
 use csv::ByteRecord;
@@ -73,7 +73,8 @@ impl Player {
         }
         let receivers = event.receptions.len();
         if !self.form.allows(receivers) {
-            return Err(RowRefused::NoRow(RowCause::EncodeTakesNone(receivers)));
+            let cause = RowCause::Receptions(ReceptionsCause::EncodeTakesNone);
+            return Err(RowRefused::NoRow(cause));
         }
         self.begin(receivers)?;
         match &mut self.watched {

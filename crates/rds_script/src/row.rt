@@ -20,7 +20,7 @@ ghost use Rattle.rds_script.specs.Rows.{AreNumbers, HasNoSpace, IsCut, IsNameArg
 ghost use Rattle.rds_script.specs.Rows.{SaysCommand, SaysEvent, free_field, numbers_of_pair, numbers_of_tag};
 
 use crate::causes::{name_cause, number_cause, pair_cause, reception_cause, text_cause};
-use crate::row_cause::RowCause;
+use crate::row_cause::{ArgumentCause, ReceptionsCause, RowCause};
 use arrayvec::ArrayVec;
 use csv::ByteRecord;
 use rds_assembly::{LONGEST_TEXT, Name, Text};
@@ -140,7 +140,7 @@ fn command_of(word: &[u8], argument: &[u8]) -> Result<Command, RowCause>
     match verb {
         Verb::Nothing if argument.is_empty() => Ok(Command::Quiet),
         Verb::Restart if argument.is_empty() => Ok(Command::Restart),
-        Verb::Nothing | Verb::Restart => Err(RowCause::ArgumentNotEmpty),
+        Verb::Nothing | Verb::Restart => Err(RowCause::Argument(ArgumentCause::NotEmpty)),
         Verb::Text => Ok(Command::SetText(text_of(characters(argument)?)?)),
         Verb::Name => Ok(Command::SetName(name_of(characters(argument)?)?)),
         Verb::Tags => Ok(Command::SetTags(pair_of(characters(argument)?)?)),
@@ -323,12 +323,12 @@ fn read_receptions(
     ensures none { OnErr result ((others : List Reception) → length others ≤ MOST_RECEIVERS
         → AreReceptions field.now others → ⊥) }
 {
-    // Prover: a variable of the type in `Reception::Wrong`, for the borrow checker (docs/PROVER.md, "Workarounds").
+    // Prover: a variable of the type in `Reception::Wrong`, for the borrow checker (PROVER.md, "Workarounds").
     let _message: Option<Message> = None;
     let mut rest = field;
     while let Some((letter, after)) = rest.split_first() {
         if receptions.len() == MOST_RECEIVERS {
-            return Err(RowCause::TooManyReceivers);
+            return Err(RowCause::Receptions(ReceptionsCause::TooManyReceivers));
         }
         if let Some(reception) = plain_reception(*letter, after) {
             receptions.push(reception);

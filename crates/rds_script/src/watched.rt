@@ -6,10 +6,9 @@ ghost use Rattle.rds_world.specs.declared.event.Reception.TheVariants.{Lost};
 ghost use Rattle.rds_world.specs.declared.event.TheConstants.{MOST_RECEIVERS};
 ghost use Rattle.rds_world.specs.declared.world.Config.{Config};
 ghost use Rattle.rds_world.specs.State.{distance};
-ghost use Rattle.rds_world.specs.Slots.{entries, input_of};
-ghost use Rattle.rds_world.specs.Replies.{CanBeTaken, IsStepRefused, reply_at};
+ghost use Rattle.rds_world.specs.Slots.{input_of};
+ghost use Rattle.rds_world.specs.Replies.{CanBeTaken, IsStepRefused};
 ghost use Rattle.rds_world.specs.WorldAt.{HasHeard, IsViewOfInput, WhereWorldStands, tuned_to};
-ghost use Rattle.rds_world.specs.ReceiverKind.{is_flag_alone};
 ghost use Rattle.rds_view_lines.specs.KeptView.{view_kept};
 ghost use Rattle.rds_script.specs.Inside.Compared.{HasRoom};
 ghost use Rattle.rds_script.specs.Inside.Watched.{AreKept, WereShown};
@@ -91,7 +90,7 @@ impl Watched {
             WatchedStandsAt config receivers self.new events) }
         ensures views { views_kept self.new ≡ views_kept self.old }
         ensures memory { IfErr result (λ why. (why ≡ refused.Memory)
-            × WhereWatchedStands self.old (λ config _ _. is_flag_alone config.kind ≡ true)) }
+            × WhereWatchedStands self.old (λ config _ _. config.kind.is_flag_alone ≡ true)) }
     {
         match make_room(&mut self.compared) {
             Ok(()) => Ok(()),
@@ -192,11 +191,11 @@ fn push_views(
     ensures count { length shown.new ≡ length shown.old }
     ensures room { length lines.new ≤ length lines.old + MOST_RECEIVERS * SLOT_ROOM }
 {
-    if world.all_stay() {
+    if !world.any_changed() {
         return;
     }
     for i in 0..shown.len() {
-        if world.stays(i) {
+        if !world.changed(i) {
             continue;
         }
         let Some(receiver) = world.receiver(i) else {

@@ -10,7 +10,6 @@ use Rattle.rds_world.specs.Event.{Event}
 use Rattle.rds_world.specs.Slots.{input_of}
 use Rattle.rds_world.specs.WorldAt.{IsViewOfInput}
 use Rattle.rds_world.specs.State.{distance}
-use Rattle.rds_world.specs.ReceiverKind.{is_flag_alone}
 use Rattle.rds_world.specs.declared.world.Config.{Config}
 use Rattle.rds_script.specs.OnAir.{airings, airs}
 use Rattle.rds_script.specs.Outcomes.{air_lines, compared_lines, view_at}
@@ -121,8 +120,8 @@ GoesOnCompared at (e ∷ before) old new lines after =
 
 -- something is kept for radios with the flag bit alone
 abbrev pub IsCompared : Config → ℕ → List Event → List ShownView → Option Compared → Type 0
-IsCompared config n events views None = is_flag_alone config.kind ≡ false
-IsCompared config n events views (Some c) = (is_flag_alone config.kind ≡ true) × ComparedStands config n events views c
+IsCompared config n events views None = config.kind.is_flag_alone ≡ false
+IsCompared config n events views (Some c) = (config.kind.is_flag_alone ≡ true) × ComparedStands config n events views c
 
 -- there is memory for one more slot, if something is kept
 abbrev pub HasRoom : Option Compared → Type 0

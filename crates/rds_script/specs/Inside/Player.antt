@@ -6,7 +6,6 @@ use Rattle.csv.specs.Reading.{Ready, default_config, is_flexible, reader_config,
 use Rattle.csv.specs.declared.reader.Trim.TheVariants.{None as untrimmed}
 use Rattle.rds_io.specs.Told.{Traffic}
 use Rattle.rds_io.specs.Waits.{Waits}
-use Rattle.rds_world.specs.ReceiverKind.{is_flag_alone}
 use Rattle.rds_world.specs.declared.world.Config.{Config}
 use Rattle.rds_world.specs.Event.{Event}
 use Rattle.rds_script.specs.Inside.FailureFlag.{asked_bytes}
@@ -107,13 +106,13 @@ IsBegun config receivers (Some before) w =
 -- there was no world, or its receivers are radios with the flag bit alone
 abbrev pub IsFirstOrAlone : Option Watched → Type 0
 IsFirstOrAlone None = Unit {0}
-IsFirstOrAlone (Some before) = WhereWatchedStands before (λ config n events. is_flag_alone config.kind ≡ true)
+IsFirstOrAlone (Some before) = WhereWatchedStands before (λ config n events. config.kind.is_flag_alone ≡ true)
 
 -- the reason why a record is not played after these: they are not all rows; or there is no memory: for a world, if it
 -- is the first, or for what was on air, if the receivers are radios with the flag bit alone
 abbrev pub IsRowRefused : Played → Record → RowRefused → Type 0
 IsRowRefused played row (NoRow cause) = AreNoRows played.config played.form (row ∷ played.records)
-IsRowRefused played row refused.Memory = (length played.records ≡ 0) ⊎ (is_flag_alone played.config.kind ≡ true)
+IsRowRefused played row refused.Memory = (length played.records ≡ 0) ⊎ (played.config.kind.is_flag_alone ≡ true)
 
 -- after the records that were played, this one, which is number n, is not a row
 pub record IsBadRecord (known : Option (List ℕ)) (played : Played) (row : Record) (number n : ℕ) : Type 0 where

@@ -16,7 +16,7 @@ use Rattle.rds_script.specs.Outcomes.{airings_change, view_at}
 use Rattle.rds_script.proofs.Changes.{at_last}
 use Rattle.rds_script.proofs.AiringLines.{next_airings, no_airings, none_before, still_before}
 use Rattle.rds_script.proofs.compared.push_airings.Goals as goal
-use Rattle.rds_script.proofs.compared.push_airings.Goals.{else-stays, then-stays}
+use Rattle.rds_script.proofs.compared.push_airings.Goals.{else-changed, then-changed}
 
 pub loop-i-init : goal.loop-i-init
 loop-i-init c = grind (arith, no_airings)
@@ -36,17 +36,17 @@ loop-i-preserved c =
     let at = get_or_default old i _ all_on_air within ∙ c.loop-i.invariant.later i (omega arith) in
     let kept_before : (config : Config) (events : List Event) → WorldAt config c.args.world.now events
     → WereKept config (length c.args.shown.now) events c.args.kept.now (map view_kept c.args.shown.now)
-    → WereBefore config events (view_of c.view.result) c.if-stays.before =
-    λ config events st were. elim c.if-stays.branch [
-      | then-stays w ↦ (
+    → WereBefore config events (view_of c.view.result) c.if-changed.before =
+    λ config events st were. elim c.if-changed.branch [
+      | then-changed w ↦ subst (λ (o : Option Airings). WereBefore config events (view_of c.view.result) o)
+          (sym w.before-is) (none_before config events (view_of c.view.result))
+      | else-changed w ↦ (
           let before = w.before-is ∙ ap Some at in
           let still = still_before config (length c.args.shown.now) i events (map view_kept c.args.shown.now)
-          c.args.kept.now (c.stays.ensures w.if-stays.true config events st) were (omega (arith, c.loop-i-test.true)) in
+          c.args.kept.now (c.changed.ensures w.if-changed.false config events st) were (omega (arith, c.loop-i-test.true)) in
           subst (λ (o : Option Airings). WereBefore config events (view_of c.view.result) o) (sym before)
           (subst (λ (v : ShownView). WereBefore config events v (Some (airings_at c.args.kept.now i))) (sym view) still)
           )
-      | else-stays w ↦ subst (λ (o : Option Airings). WereBefore config events (view_of c.view.result) o)
-          (sym w.before-is) (none_before config events (view_of c.view.result))
     ] in
     let shown : (config : Config) (events : List Event) → WorldAt config c.args.world.now events
     → AirsStand config events c.args.airs.now

@@ -34,11 +34,11 @@ loop-i-preserved c =
           ∙ c.loop-i.invariant.later i (omega (arith, l));
     }
 
-pub loop-i-preserved-then-stays : goal.loop-i-preserved-then-stays
-loop-i-preserved-then-stays c = grind (arith, stay_changes, at_last, still_shown)
+pub loop-i-preserved-then-not-changed : goal.loop-i-preserved-then-not-changed
+loop-i-preserved-then-not-changed c = grind (arith, stay_changes, at_last, still_shown)
 
-pub returns-then-all_stay-clause-lines : goal.returns-then-all_stay-clause-lines
-returns-then-all_stay-clause-lines c same config events s = search none_changes
+pub returns-then-not-any_changed-clause-lines : goal.returns-then-not-any_changed-clause-lines
+returns-then-not-any_changed-clause-lines c same config events s = search none_changes
 
-pub returns-then-all_stay-clause-views : goal.returns-then-all_stay-clause-views
-returns-then-all_stay-clause-views c same config events s were i below = grind (arith, still_shown)
+pub returns-then-not-any_changed-clause-views : goal.returns-then-not-any_changed-clause-views
+returns-then-not-any_changed-clause-views c same config events s were i below = grind (arith, still_shown)

@@ -1,9 +1,8 @@
-use Rattle.std.proofs.Common.{◌≡◌, ◌⊎◌, ◌<◌, ◌∙◌, ◌+◌, ℕ, List, Option, Some, ap, arith, length, refl}
-use Rattle.std.proofs.Common.{rules, subst, sym, true}
+use Rattle.std.proofs.Common.{◌≡◌, ◌⊎◌, ◌<◌, ◌∙◌, ◌+◌, ℕ, List, Option, Some, ap, arith, length, refl, rules, subst}
+use Rattle.std.proofs.Common.{sym, true}
 use Rattle.std.proofs.lemmas.Result.{err_from_is_err_and}
 use Rattle.csv.specs.Records.{fields_of}
 use Rattle.rds_world.specs.Event.{Event}
-use Rattle.rds_world.specs.ReceiverKind.{is_flag_alone}
 use Rattle.rds_script.specs.Inside.Player.{HasWatched, IsFirstOrAlone, Played}
 use Rattle.rds_script.specs.Inside.Watched.{views_kept}
 use Rattle.rds_script.specs.Outcomes.{Outcome}
@@ -27,7 +26,7 @@ returns-then-not-allows-clause-refused c played s =
 no_memory : (played : Played) (events : List Event) (outcomes : List Outcome) (watched : Option Watched)
     → length played.records ≡ length events
     → HasWatched played.config played.receivers watched events outcomes → IsFirstOrAlone watched
-    → (length played.records ≡ 0) ⊎ (is_flag_alone played.config.kind ≡ true)
+    → (length played.records ≡ 0) ⊎ (played.config.kind.is_flag_alone ≡ true)
 no_memory played events outcomes watched counted none first = grind arith
 
 pub returns-in_err-begin-clause-refused : goal.returns-in_err-begin-clause-refused
