@@ -3,7 +3,7 @@
 const probe = (() => {
   const { logTab } = $log, { scriptTab } = $script, { road } = $road, { Program } = $program;
   const at = (id) => document.getElementById(id);
-  const tabs = { log: logTab, script: scriptTab }, timelineOf = (tab) => tabs[tab].timeline;
+  const tabs = { log: logTab, script: scriptTab }, timelineOf = (tab) => (tabs[tab] ?? road).timeline;
   const laneOf = (timeline, name) => timeline.lanes.find((lane) => lane.name.trim() === name.trim());
 
   // ---- waiting
@@ -175,6 +175,15 @@ const probe = (() => {
     return Object.fromEntries(inks.map((ink) => [ink, count(rgba(colour(ink)))]));
   }
 
+  /* The same of the strip above the lanes. */
+  function stripInks(tab, ...inks) {
+    const timeline = timelineOf(tab);
+    timeline.paint();
+    const data = pixels(timeline.canvas, timeline.gutter, 0, timeline.room, timeline.head);
+    const count = ([r, g, b]) => data.reduce((some, red, i) => some + (i % 4 === 0 && red === r && data[i + 1] === g && data[i + 2] === b), 0);
+    return Object.fromEntries(inks.map((ink) => [ink, count(rgba(colour(ink)))]));
+  }
+
   /* The shapes of the slots of a timeline's first lane: # where the colour is another one. And those of the legend. */
   function column(canvas, x, top) {
     const colours = Array.from({ length: 20 }, (_, y) => String(pixels(canvas, x, top + y + 0.5, 1, 1).slice(0, 4)));
@@ -224,11 +233,18 @@ const probe = (() => {
     const low = [...all, ...drawn].filter(([, a, b]) => ratio(a, b) < least).map(([what, a, b]) => `${what} ${ratio(a, b).toFixed(2)}`);
     return [all.length, low];
   }
+  /* Controls in sight whose border has too low a contrast with what is around them. */
+  function faintBorders(least) {
+    const all = [...document.querySelectorAll("main :is(input, select, textarea, button, .button, .numbers)")];
+    const seen = all.filter((it) => it.checkVisibility() && !["checkbox", "file"].includes(it.type));
+    const bordered = seen.map((it) => [it, getComputedStyle(it)]).filter(([, style]) => parseFloat(style.borderTopWidth) > 0);
+    return bordered.filter(([it, style]) => ratio(style.borderTopColor, ground(it.parentElement)) < least).map(([it]) => it.id || it.textContent);
+  }
   const faint = (least) => GRAPHICS.filter(([a, b]) => ratio(colour(a), colour(b)) < least).map((pair) => pair.join(" on "));
 
   return {
-    bars, choose, colour, contrasts, displays, drop, dropAll, faint, idle, inksOf, keepBack, letGo, longestTask, pass, pick,
-    place, run, runs, stopClock, swatches, textOfLog, ticks, timeOf, yardstick,
+    bars, choose, colour, contrasts, displays, drop, dropAll, faint, faintBorders, idle, inksOf, keepBack, letGo, longestTask, pass, pick,
+    place, run, runs, stopClock, stripInks, swatches, textOfLog, ticks, timeOf, yardstick,
     isReady: () => $app.state.ready || at("no-engine").textContent !== "",
     codes: (tab, name) => [...laneOf(timelineOf(tab), name).codes],
     lanes: (tab) => timelineOf(tab).lanes.map(({ name }) => name),
@@ -237,7 +253,7 @@ const probe = (() => {
     move: (tab, slot) => timelineOf(tab).move(slot),
     open: (tab, text, options) => tabs[tab].open(text, options),
     openFile: (file) => $app.openFile(file),
-    plays: (tab) => (tabs[tab] ?? road).timeline.play.frame !== 0,
+    plays: (tab) => timelineOf(tab).play.frame !== 0,
     roadAsScript: () => road.text,
     moveCar: (slot) => road.timeline.move(slot),
     stopRoad: () => road.work.then(() => road.timeline.play.stop()),

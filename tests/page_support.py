@@ -116,6 +116,14 @@ def move(b, tab, slot):
     call(b, "probe.move", tab, slot)
 
 
+def wheel(tab, across, down, **more):
+    """Returns a script that turns the wheel over the middle of a tab's timeline: whether the timeline took it."""
+    given = json.dumps({"deltaX": across, "deltaY": down, "cancelable": True, "bubbles": True, **more})
+    return (f"(it => {{ const {{ left, top, width, height }} = it.getBoundingClientRect(); const event = new WheelEvent('wheel', {{ ...{given},"
+            " clientX: left + width / 2, clientY: top + height / 2 }); it.dispatchEvent(event); return event.defaultPrevented; })"
+            f"(document.querySelector('#{tab}-time canvas'))")
+
+
 def focus(b, tab):
     """Gives a tab's timeline the focus."""
     b.run(f"document.querySelector('#{tab}-time canvas').focus()")

@@ -52,8 +52,8 @@ ROWS = [
     (ENCODE, "TEXT,HI,1,", "COMMAND is not one of -, restart, text, name, tags (lower case)"),
     (ENCODE, "command,argument,free,receptions", "COMMAND is not one of -, restart, text, name, tags (lower case)"),
     (ENCODE, "-,HI,1,", "ARGUMENT: - and restart take none"),
-    (ENCODE, "text,Straße,1,", "ARGUMENT: 'ß' at character 5 is not in the RDS character table"),
-    (ENCODE, "name,’,1,", "ARGUMENT: '’' at character 1 is not in the RDS character table"),
+    (ENCODE, "text,Straße,1,", "ARGUMENT: rdsrt's character table has no 'ß', at character 5"),
+    (ENCODE, "name,’,1,", "ARGUMENT: rdsrt's character table has no '’', at character 1"),
     (ENCODE, f"text,{'x' * 67},1,", "ARGUMENT: the text is too long by 3 (at most 64 characters)"),
     (ENCODE, "name,POP MUSIC,1,", "ARGUMENT: the name is too long by 1 (at most 8 characters)"),
     (ENCODE, "text,HI,2,", "FREE is not 0 or 1"),
@@ -76,13 +76,13 @@ ROWS = [
     (ENCODE, "sing,HI,2,X", "COMMAND is not one of -, restart, text, name, tags (lower case)"),
     (ENCODE, "restart, ,2,X", "ARGUMENT: - and restart take none"),
     (ENCODE, f"text,{'x' * 64}€,2,X", "ARGUMENT: the text is too long by 1 (at most 64 characters)"),
-    (ENCODE, f"text,{'x' * 70}ß,2,X", "ARGUMENT: 'ß' at character 71 is not in the RDS character table"),
+    (ENCODE, f"text,{'x' * 70}ß,2,X", "ARGUMENT: rdsrt's character table has no 'ß', at character 71"),
     (ENCODE, r"text,ab\x4,2,X", r"ARGUMENT: the backslash at character 3 begins no escape (\x and two hexadecimal digits)"),
     (ENCODE, r"text,é\x0Aa\x0D\x00,2,X", r"ARGUMENT: byte 4 of the text is \x0D, which a text may not contain"),
     (ENCODE, r"name,a\x0Ab,2,X", r"ARGUMENT: byte 2 of the name is \x0A, which a name may not contain"),
     (ENCODE, r"name,\x0Aabcdefgh,2,X", "ARGUMENT: the name is too long by 1 (at most 8 characters)"),
     (ENCODE, f"name,{'x' * 70},2,X", "ARGUMENT: the name is too long by 62 (at most 8 characters)"),
-    (ENCODE, f"name,{'x' * 70}ß,2,X", "ARGUMENT: 'ß' at character 71 is not in the RDS character table"),
+    (ENCODE, f"name,{'x' * 70}ß,2,X", "ARGUMENT: rdsrt's character table has no 'ß', at character 71"),
     (ENCODE, "tags,,2,X", "ARGUMENT: tags takes 8 numbers with one space between them, found 1"),
     (ENCODE, "tags,0 x 1 0 0 0 0 0 0,2,X", "ARGUMENT: tags takes 8 numbers with one space between them, found 9"),
     (ENCODE, "tags,0  1 0 0 0 0 0,2,X", "ARGUMENT: number 2 is not 1 to 3 decimal digits of at most 255"),
@@ -214,6 +214,34 @@ def scripts_with_a_bad_row(rng):
 
 
 class Faults(ProgramCase):
+    def test_times_in_whole_seconds_may_explain_a_no(self):
+        """A no for which at most 12 slots lack may be false if all times are in whole seconds. A log that lacks more, one
+        with a fraction, and one without times get no such note."""
+        flags = worked_rows.FLAG_AFTER_FIVE.splitlines()
+        for m, times, lacks in ((6, "7", 1), (17, "7", 12), (18, "7", None), (6, "7.5", None), (6, "", None)):
+            log = b"".join(line + f" {times}".rstrip().encode() + b"\n" for line in flags)
+            got = noted(f"audit --pi C201 --m {m}", log)[2]
+            says = "" if lacks is None else note(
+                f"this fault may be false: {lacks} {'slot lacks' if lacks == 1 else 'slots lack'} to M + K, and times in whole "
+                "seconds can hide 12 lost slots")
+            self.check(f"M = {m}, time {times!r}: {got}", got.endswith(says) and ("may be false" in got) == bool(says), True)
+            if lacks:
+                notes = [json.loads(it) for it in noted(f"audit --pi C201 --m {m} --json-notes", log)[2].splitlines()]
+                self.check("as an object", [(it["lacks"], it["hides"]) for it in notes if it["kind"] == "whole_seconds"],
+                           [(lacks, 12)])
+
+    def test_a_refused_character_and_a_reason_are_facts(self):
+        """--json-notes has the character that the table lacks, why a fault may be harmless, and its sentence alone."""
+        row = json.loads(noted(f"{ENCODE} --json-notes", "text,Straße,1,\n".encode())[2])
+        self.check("the character and its place", (row["character"], row["place"]), ("ß", 5))
+        log = b"C201 2140 4849 0D58\n"
+        reason = "receivers show nothing behind the carriage return"
+        first = json.loads(noted(f"{AUDIT} --m 4 --json-notes", log)[2])
+        self.check("of a no", (first["rule"], first["because"]),
+                   ("the segments fit no text: byte 0x58 at place 3, after the carriage return", reason))
+        found = json.loads(noted(f"{AUDIT} --m 4 --all --json-notes", log)[2].splitlines()[0])
+        self.check("of a count", found["because"], reason)
+
     def test_a_malformed_line_is_shown_with_its_number_and_its_cause(self):
         for line, why in LINES:
             for words in (DECODE, AUDIT, WITNESS):
@@ -484,13 +512,15 @@ OBJECTS = [
     ("decode --pi X", b"", [{"kind": "fault", "fault": "pi"}]),
     (f"{AUDIT} --m 4", HI + b"C201 2150 594F 0D20 12.5\n" + HI,
      [{"kind": "no", "fault": "EarlyFlag", "of": "text", "slot": 2, "line": 3, "earlier": 0, "needed": 4,
-       "harmless": False}]),
+       "harmless": False, "rule": "a text reused the A/B flag less than M + K = 4 slots after the last group of the text before "
+                                  "the previous one, in slot 0"}]),
     (f"{AUDIT} --m 4", HI + b"C201 B148 2002 0000 @2024/06/01 07:58:12.08\n",
      [{"kind": "no", "fault": "EarlyTag", "of": "tags", "slot": 1, "line": 2, "time": "2024/06/01 07:58:12.08",
-       "earlier": 0, "first": 0, "needed": 4, "harmless": False}]),
+       "earlier": 0, "first": 0, "needed": 4, "harmless": False,
+       "rule": "RT+ tags came less than M + K = 4 slots after their text started, in slot 0"}]),
     (f"{AUDIT} --m 4", b"C201 2140 4802 0D20\n",
      [{"kind": "no", "fault": "NotOneText", "of": "text", "slot": 0, "line": 1, "needed": 4, "cause": "byte", "byte": 2,
-       "place": 1, "harmless": False}]),
+       "place": 1, "harmless": False, "rule": "the segments fit no text: byte 0x02 at place 1"}]),
     (f"{AUDIT} --m 8 --all", HI + b"C201 B148 2002 0000 12.5\n",
      [{"kind": "faults", "fault": "EarlyTag", "of": "text", "count": 1, "harmless": 0, "judged": 1, "first_slot": 1,
        "first_line": 2, "first_time": "12.5", "last_slot": 1, "last_line": 2, "last_time": "12.5"},
@@ -513,7 +543,8 @@ OBJECTS = [
       {"kind": "judged", "slots": 3, "empty": 0, "texts": 1, "names": 0, "tags": 0, "short": 0}]),
     (f"{AUDIT} --m 8 --all", HI + b"C201 2150 594F 0D20\n" + HI + b"C201 2150 4849 0D20\n",
      [{"kind": "faults", "fault": "EarlyFlag", "of": "text", "count": 2, "harmless": 2, "judged": 4, "first_slot": 2,
-       "first_line": 3, "last_slot": 3, "last_line": 4},
+       "first_line": 3, "last_slot": 3, "last_line": 4,
+       "because": "no receiver shows a mix: the texts with this flag agree, or differ in one segment"},
       {"kind": "judged", "slots": 4, "empty": 0, "texts": 4, "names": 0, "tags": 0, "short": 0}]),
     (AUDIT, b"C201 2940 4849 0D20\n", [{"kind": "nothing", "short": 1}]),
     (DECODE, HI + b"C201 2940 4849 0D20\n", [{"kind": "short", "groups": 1}]),

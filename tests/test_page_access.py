@@ -1,7 +1,8 @@
 """The page by key, to be heard and to be read: controls, contrast, colours, motion, and small windows."""
-from tests.page_support import (GROUPS, HI, SCHEMES, TABS, ChromiumCase, FirefoxCase, call, click, example,
-                                first_examples, focus, hidden, of, open_script, settle, settled_verdict, to_tab,
-                                verdict_of)
+from tests.page_support import (FOLDER, GROUPS, HI, SCHEMES, TABS, URL, ChromiumCase, FirefoxCase, call, click, example,
+                                first_examples, focus, hidden, of, open_script, settle, settled_verdict, text_of, to_tab,
+                                verdict_of, visit)
+from tests.test_page_links import served
 
 # of texts, and of shapes without a text
 CONTRAST, GRAPHIC_CONTRAST = 4.5, 3
@@ -21,11 +22,12 @@ class Access:
         b = self.b
         wanted = {
             "log": ["tab-log", "log-example", "log-file", "log-pi", "log-m", "log-k", "log-w", "log-running", "log-padded",
-                    "log-share", "log-lose", "CANVAS", "SUMMARY"],
+                    "log-share", "log-lose", "log-go", "log-spans", "CANVAS", "SUMMARY"],
             "script": ["tab-script", "script-example", "script-file", "script-m", "script-k", "script-w",
                        "script-share", "CANVAS", "SUMMARY"],
         }
         first_examples(b)
+        b.run("document.querySelector('#log-numbers').open = true")
         for name in TABS:
             to_tab(b, name)
             b.run("document.activeElement?.blur(); getSelection().removeAllRanges()")
@@ -39,6 +41,55 @@ class Access:
         b.key("ArrowRight")
         self.check("arrows choose the tab", (b.run("document.activeElement.id"), hidden(b)),
                    ("tab-script", ["log"]))
+
+    def test_a_refused_field_looks_refused_and_says_why(self):
+        b = self.b
+        first_examples(b)
+        edge = lambda field: b.run(f"(it => [it.borderTopStyle, it.borderTopColor])(getComputedStyle(document.querySelector('#{field}')))")
+        bad = call(b, "probe.colour", "bad")
+        for field, value, good, why in (
+                ("log-spans", "12,3-7", "3-4", "Give slots from 0 to 5 in their order, as 3-7,12."),
+                ("log-spans", "x", "", "Give slots from 0 to 5 in their order, as 3-7,12."), ("log-spans", "77", "", "Give slots from 0 to 5"),
+                ("log-go", "abc", "2", "Give a slot below 6, or a time such as 1:30."), ("log-go", "6", "3", "Give a slot below 6")):
+            to_tab(b, "log")
+            for given, is_refused in ((value, True), (good, False)):
+                call(b, "probe.choose", field, given)
+                settle(b)
+                described = of(b, f"#{field}", "getAttribute('aria-describedby')")
+                self.check(f"{field} {given!r}", (edge(field) == ["dashed", bad], text_of(b, f"#{described}").startswith(why)),
+                           (is_refused, is_refused), text_of(b, f"#{described}"))
+        call(b, "probe.choose", "log-m", "0")
+        settle(b)
+        self.check("a number", edge("log-m"), ["dashed", bad])
+        first_examples(b)
+        visit(b, URL)
+        b.run("probe.stopRoad()")
+        b.run("{ const it = document.querySelectorAll('#road-texts input')[1]; it.value = '\u2603'; it.dispatchEvent(new Event('input')); }")
+        settle(b)
+        self.check("a text of the road", edge("road-texts input:nth-child(2)"), ["dashed", bad])
+
+    def test_what_screen_readers_hear_changes_at_most_once_a_second(self):
+        """While the car drives, and while a log and a script play."""
+        b = self.b
+        b.run("""window.changes = []; new MutationObserver((all) => {
+            const live = (it) => (it.target.closest ? it.target : it.target.parentElement)?.closest('[role=status], [role=alert], [aria-live=polite]');
+            for (const it of all) if (live(it)) changes.push(live(it).id);
+        }).observe(document.body, { subtree: true, childList: true, characterData: true })""")
+        call(b, "probe.open", "log", example("flags.log").decode() * 20, {"pi": "C201", "m": 8, "k": 0, "lost": [2, 3]})
+        for tab in ("road", "log", "script"):
+            if tab == "road":
+                b.run("location.hash = ''")
+                b.until("document.querySelector('#road').checkVisibility()")
+            else:
+                to_tab(b, tab)
+            settle(b)
+            call(b, "probe.move", tab, 0)
+            b.run("new Promise(done => setTimeout(done, 1100))")
+            b.run(f"changes.length = 0; document.querySelector('#{tab}-time .play').click()")
+            b.run("new Promise(done => setTimeout(done, 3000))")
+            heard = b.run("[...changes]")
+            b.run(f"if (probe.plays('{tab}')) document.querySelector('#{tab}-time .play').click()")
+            self.check(f"{tab} in 3 s", len(heard) <= 4 or heard, True)
 
     def test_both_tabs_have_the_legend_and_the_keys(self):
         b = self.b
@@ -88,6 +139,64 @@ class Access:
 
 
 class Chromium(Access, ChromiumCase):
+    def test_borders_of_controls_stand_out(self):
+        """WCAG 2.2, 1.4.11: 3 to 1, on what is behind them."""
+        b = self.b
+        for scheme in SCHEMES:
+            b.scheme(scheme)
+            visit(b, URL)
+            self.check(f"the start, {scheme}", call(b, "probe.faintBorders", GRAPHIC_CONTRAST), [])
+            first_examples(b)
+            b.run("document.querySelector('#log-numbers').open = true")
+            for tab in TABS:
+                to_tab(b, tab)
+                settle(b)
+                self.check(f"{tab}, {scheme}", call(b, "probe.faintBorders", GRAPHIC_CONTRAST), [])
+        b.scheme("light")
+
+    def test_a_phone_says_what_rdsrt_is_and_has_room_for_fingers(self):
+        """Its fields are 44 px high. The answer comes before the controls, and a display is as high as its line."""
+        b = self.b
+        b.size(390, 844)
+        b.ask("Emulation.setTouchEmulationEnabled", enabled=True)
+        visit(b, URL)
+        self.check("the sentence", (of(b, "header p", "checkVisibility()"), "proved receiver" in text_of(b, "header p")), (True, True))
+        first_examples(b)
+        height = lambda query: b.run(f"document.querySelector('{query}').getBoundingClientRect().height")
+        self.check("touch", b.run("matchMedia('(pointer: coarse)').matches"), True)
+        for tab in TABS:
+            to_tab(b, tab)
+            settle(b)
+            low = b.run(f"[...document.querySelectorAll('#{tab} .bar :is(input:not([type=checkbox], [type=file]), select, button, .button)')]"
+                        ".filter(it => it.checkVisibility() && it.getBoundingClientRect().height < 44).map(it => it.id)")
+            self.check(f"fields of {tab}", low, [])
+        answer, form = (b.run(f"document.querySelector('{it}').getBoundingClientRect().top") for it in ("#script-count", "#script-form"))
+        self.check("the answer of a script", answer < form, True)
+        self.check("displays", [height(f"#script-{it} .lcd") < 60 for it in ("air", "radio", "alone")], [True] * 3)
+        to_tab(b, "log")
+        settle(b)
+        answer, form = (b.run(f"document.querySelector('{it}').getBoundingClientRect().top") for it in ("#verdict", "#log-form"))
+        self.check("the answer of a log", answer < form, True)
+        names = b.run("(it => it.lanes.map(({ name }) => name).filter(name => { const ctx = it.canvas.getContext('2d'); ctx.font = '12px system-ui';"
+                      " return ctx.measureText(name).width > it.gutter - 10; }))($log.logTab.timeline)")
+        self.check("names of lanes", names, [])
+        b.ask("Emulation.setTouchEmulationEnabled", enabled=False)
+        b.size(1280, 900)
+
+    def test_a_phone_shares_a_link(self):
+        """By its own sheet."""
+        b = self.b
+        b.ask("Emulation.setTouchEmulationEnabled", enabled=True)
+        with served(FOLDER) as url:
+            visit(b, url)
+            b.run("window.shared = []; navigator.share = async (given) => { shared.push(given.url); }; undefined")
+            first_examples(b)
+            click(b, "#log-share")
+            b.until("document.querySelector('#log-saved').textContent !== ''")
+            got = b.run("[shared.length, shared[0] === location.href, document.querySelector('#log-saved').textContent]")
+            self.check("shared", got, [1, True, "The link was shared."])
+        b.ask("Emulation.setTouchEmulationEnabled", enabled=False)
+
     def test_forced_colours_keep_all_differences(self):
         """The canvas takes the colours of the system."""
         b = self.b

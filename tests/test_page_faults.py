@@ -12,7 +12,7 @@ from tests.support import PROGRAM
 
 # the same text of another station
 OTHER = HI.replace("C201", "F000")
-BAD_ROW = re.compile(r"[Ff]ault row (\d+) \(line (\d+)\)")
+BAD_ROW = re.compile(r"fault row (\d+) \(line (\d+)\)")
 SOME_ROWS = ["-,,1,G"] * 6 + ['"-","",1,G', '""', "", "", '-,"a\n,b",1,G', '-,"a""b",1,G', '-,"a"b,1,G', '"a\n\nb"',
                               "restart,,1,G"]
 
@@ -66,20 +66,22 @@ class Faults:
     def test_a_malformed_line_or_row_is_named_and_shown(self):
         b = self.b
         said = verdict_of(b, f"# note\n{HI}\nC201 <b>40 4849\n", 8)
-        self.check("a bad line is named", said,
-                   'Line 3 is malformedFault line 3: "C201 <b>40 4849": block 2 has 5 characters, expected 4; a log '
-                   f"line looks like {HI}. The page does not show the lines after it.")
-        self.check("and its text is no HTML", b.run("document.querySelectorAll('#verdict b').length"), 0)
+        named = f'fault line 3: "C201 <b>40 4849": block 2 has 5 characters, expected 4; a log line looks like {HI}.'
+        self.check("a bad line is named", (said.startswith("✓ Passes up to line 2 with"), f"Left out: this line and all after it: {named}" in said),
+                   (True, True), said)
+        self.check("and its text is no HTML", b.run("[...document.querySelectorAll('#verdict b')].map(it => it.textContent)"), ["Left out:"])
+        said = verdict_of(b, f"# note\nbad\n{HI}\n", 8)
+        self.check("before each slot", said, f'Line 2 is malformedfault line 2: "bad": it has no space; a log line looks like {HI}. No slot comes before it.')
         rows = [
             ("-,,1,G\n\n-,,1\n", "row 2 (line 3): expected 4 fields (COMMAND,ARGUMENT,FREE,RECEPTIONS), found 3"),
             ("-,,1,G\n-,,1,GG\n", "row 2 (line 2): RECEPTIONS: the number of receivers is 2, but the first row has 1"),
             ("text,\u2603,1,G\n",
-             "row 1 (line 1): ARGUMENT: '\u2603' at character 1 is not in the RDS character table"),
+             "row 1 (line 1): ARGUMENT: rdsrt's character table has no '\u2603', at character 1"),
         ]
         for text, why in rows:
             open_script(b, text, m=8, k=0)
             self.check(f"a bad row is named: {why}", text_of(b, "#script-fault"),
-                       f"Fault {why}. The rows after it are not played.")
+                       f"fault {why}. The rows from this one on are not played.")
         open_script(b, "text,HI,1,G\n" * 5 + "text,\u2603,1,G\n" + "-,,1,G\n" * 6, m=1, k=0)
         move(b, "script", 3)
         self.check("a text is shown before a bad row", (shown(b, "script-radio"), shown(b, "script-alone")),
@@ -114,25 +116,25 @@ class Faults:
 
     def test_an_empty_yes_has_a_warning(self):
         b = self.b
-        noted, no_kind = "Nothing to auditThe program answers yes, with a note: ", "No 2A, 10A or 11A group of C201"
+        noted, no_kind = "Nothing to auditThe program answers yes, with a note: ", "no 2A, 10A or 11A group of C201"
         rows = [
-            ("", "empty", f"{noted}No group of C201 in 0 slots: the yes says nothing."),
-            ("# a note\n", "empty", f"{noted}No group of C201 in 0 slots: the yes says nothing."),
-            (f"{NOTHING}\n" * 3, "empty", f"{noted}No group of C201 in 3 slots: the yes says nothing."),
+            ("", "empty", f"{noted}no group of C201 in 0 slots: the yes says nothing."),
+            ("# a note\n", "empty", f"{noted}no group of C201 in 0 slots: the yes says nothing."),
+            (f"{NOTHING}\n" * 3, "empty", f"{noted}no group of C201 in 3 slots: the yes says nothing."),
             ("C201 0000 0000 0000\n", "empty", f"{noted}{no_kind}: the yes says nothing."),
             ("C201 2940 4849 0D20\n" * 2, "empty",
              f"{noted}{no_kind}: the yes says nothing; 2 groups 2B were not judged."),
             (f"{HI}\n", "",
              "✓ Passes with M = 8 (0.70 s)The recorded slot keeps the rules. Take a receiver with this M whose groups arrive "
              "unchanged, in order and at most K slots late. It shows no mix of two texts, whichever groups it loses."
-             "Judged in 1 slot: 1 text, 0 names, 0 pairs of tags."),
+             "The program: judged in 1 slot: 1 text, 0 names, 0 pairs of tags."),
             (f"{HI}\n{NOTHING}\n", "",
              "✓ Passes with M = 8 (0.70 s)The recorded slot keeps the rules. Take a receiver with this M whose groups arrive "
              "unchanged, in order and at most K slots late. It shows no mix of the recorded texts, whichever groups it loses."
-             "Judged in 2 slots, 1 without a group: 1 text, 0 names, 0 pairs of tags."
+             "The program: judged in 2 slots, 1 without a group: 1 text, 0 names, 0 pairs of tags."
              "In a slot without a group none was sent, or it was not recorded. The yes covers the others."),
             (f"{HI}\n" * 1188 + f"{NOTHING}\n" * 1812, "",
-             "Judged in 3,000 slots, 1,812 without a group: 1 text, 0 names, 0 pairs of tags."),
+             "judged in 3000 slots, 1812 without a group: 1 text, 0 names, 0 pairs of tags."),
         ]
         for log, kind, wanted in rows:
             said = verdict_of(b, log, 8)
@@ -144,10 +146,10 @@ class Faults:
     def test_a_yes_over_a_log_that_does_not_show_enough_is_grey(self):
         """The program notes that slots are absent by the times, or that few slots have a group."""
         b = self.b
-        cannot = "Cannot sayThe program answers yes with M = 8 (0.70 s), but the log does not show enough. Judged in "
+        cannot = "Cannot sayThe program answers yes with M = 8 (0.70 s), but the log does not show enough. It says: judged in "
         few = "Lost slots: 1 of 2 slots have a group of C201, less than nine tenths: nothing is known of what was sent in the others."
         rows = [
-            ("absent", f"{HI} 0\n{HI} 3\n", "Lost slots: The log spans 35 slots by its times and has 2 lines. "),
+            ("absent", f"{HI} 0\n{HI} 3\n", "Lost slots: the log spans 35 slots by its times and has 2 lines. "),
             ("few", f"{HI} 0\n{NOTHING}\n", few),
             ("few of this station", f"{HI} 0\n{OTHER} {SLOT:.2f}\n", few),
         ]
@@ -211,9 +213,9 @@ class Faults:
         tags = "C201 B158 8002 0000"
         said = verdict_of(b, f"# noted\n{HI} 0.00\n{tags} 9.40\n{HI} 9.50\n{HI} 99.50\n", 8, fill=False)
         # the second group comes 107 slots after the first; a comment is no line of a slot
-        self.check("up to the no", "Lost slots: The first 3 lines span 108 slots by the times in them. " in said, True, said)
+        self.check("up to the no", "Lost slots: the first 3 lines span 108 slots by the times in them. " in said, True, said)
         said = verdict_of(b, f"{HI} 0.00\n{HI} 9.40\n", 8, fill=False)
-        self.check("after a yes", "Lost slots: The log spans 108 slots by its times and has 2 lines. " in said, True, said)
+        self.check("after a yes", "Lost slots: the log spans 108 slots by its times and has 2 lines. " in said, True, said)
 
     def test_a_malformed_last_line_hides_no_mix(self):
         """A recording that was cut: the search and the displays are over the slots before its last line."""
@@ -255,11 +257,11 @@ class Faults:
         b = self.b
         open_script(b, "text,HI,1,G\n" * 3, m=8, k=0)
         self.check("the first refused set", text_of(b, "#script-note"),
-                   "Slot 0: text refused, the station is silent after a restart for 8 slots more: "
+                   "slot 0: text refused, the station is silent after a restart for 8 slots more: "
                    "set it in slot 8 at the earliest, if the encoder does not restart.")
         open_script(b, "-,,1,G\n" * 8 + "text,HI,1,G\nname,POP,1,G\n-,,1,G\nname,JAZZ,1,G\n", m=8, k=0)
         self.check("one that is held", text_of(b, "#script-note"),
-                   "Slot 11: name refused, the one before is still held for 14 slots more: "
+                   "slot 11: name refused, the one before is still held for 14 slots more: "
                    "set it in slot 25 at the earliest, if the encoder does not restart.")
         open_script(b, "-,,1,G\n" * 8 + "text,HI,1,G\n", m=8, k=0)
         self.check("no refused set", (text_of(b, "#script-note"), of(b, "#script-note", "checkVisibility()")),

@@ -1,4 +1,6 @@
 """Files that the page opens."""
+import gzip
+
 from tests.page_support import (EVERY_100, HI, NOTHING, TABS, URL, ChromiumCase, FirefoxCase, call, click, example,
                                 first_examples, hidden, idle, of, open_script, printed, program, run_program, settle,
                                 text_of, to_tab, verdict_of, visit)
@@ -14,7 +16,7 @@ class Files:
                                    ".map(it => it.textContent.trim())")
         result = "#log-form, #verdict, #log-radio, #log-alone, #log-time"
         names = b.run("RDSRT_EXAMPLES.log.map(it => it.name)")
-        titles = ["A car leaves a tunnel. What does its display say?", "Drop a log of your station"]
+        titles = ["A car leaves a tunnel. What does its display say?", "Open a log of your station"]
         self.check("the road and the field alone", (seen("#log h2"), seen(result)), (titles, []))
         self.check("the examples", (seen("#log-start-examples a"), len(names) > 4), (names, True))
         b.run("document.querySelector('#tab-log').focus()")
@@ -73,9 +75,8 @@ class Files:
             both = "[document.body.textContent, document.body.innerText]"
             sizes = b.run(f"{both}.map(text => text.includes('A'.repeat(500)))")
             note = run_program(["sim", "--pi", "C201"], script.encode())[2][-1]
-            fault = text_of(b, "#script-fault").partition(". The rows after")[0]
-            wanted = note[:1].upper() + note[1:]
-            self.check(f"a field of 3 MB in {script[:8]}", (fault, sizes), (wanted, [False, False]))
+            fault = text_of(b, "#script-fault").partition(". The rows from")[0]
+            self.check(f"a field of 3 MB in {script[:8]}", (fault, sizes), (note, [False, False]))
         call(b, "probe.open", "log", f"{long}\n", {"m": 8})
         settle(b)
         self.check("nor is a line of 3 MB", b.run("document.body.textContent.includes('A'.repeat(100))"), False)
@@ -99,28 +100,34 @@ class Files:
             self.check(f"a file's name {wanted}", got, wanted)
         first_examples(b)
 
-    def test_a_file_is_judged_at_the_defaults(self):
-        """Whatever the fields held. An example keeps its own M."""
+    def test_the_next_file_keeps_m_and_k(self):
+        """The first one has the defaults, whatever an example had. An example keeps its own M."""
         b = self.b
-        heading = f"✗ {program(['audit', '--pi', 'C201'], EVERY_100.encode())[1].split()[2]} with M = 128 (11.2 s)"
-        for way in ("drop", "pick"):
-            for tab in ("log", "script"):
-                for field, value in (("m", "8" if way == "drop" else ""), ("k", "3")):
+        for tab, name, text in (("log", "own.log", EVERY_100), ("script", "tunnel.csv", example("tunnel.csv").decode())):
+            numbers = lambda: [of(b, f"#{tab}-{it}", "value") for it in ("m", "k")]
+            to_tab(b, tab)
+            call(b, "probe.choose", f"{tab}-example", 0)
+            call(b, "probe.choose", f"{tab}-m", "5")
+            settle(b)
+            for way in ("drop", "pick"):
+                call(b, f"probe.{way}", *([f"{tab}-file"] if way == "pick" else []), name, text)
+                settle(b)
+                self.check(f"{tab} by {way}", numbers(), ["128", "0"] if way == "drop" else ["64", "3"])
+                for field, value in (("m", "64"), ("k", "3")):
                     call(b, "probe.choose", f"{tab}-{field}", value)
-            name = ["log-file"] if way == "pick" else []
-            call(b, f"probe.{way}", *name, "own.log", EVERY_100)
+                settle(b)
+            call(b, "probe.choose", f"{tab}-example", 0)
             settle(b)
-            got = [text_of(b, "#verdict h2"), of(b, "#log-m", "value"), of(b, "#log-k", "value")]
-            self.check(f"a log by {way}", got, [heading, "128", "0"])
-            name = ["script-file"] if way == "pick" else []
-            call(b, f"probe.{way}", *name, "tunnel.csv", example("tunnel.csv").decode())
+            self.check(f"an example of {tab}", numbers(), ["8", "0"])
+            call(b, "probe.drop", name, text)
             settle(b)
-            options = ["--pi", "C201", "--pty", "10", "--why"]
-            self.check(f"a script by {way}", printed(b), program(["sim", *options], example("tunnel.csv"))[1])
-        to_tab(b, "log")
-        call(b, "probe.choose", "log-example", 2)
-        settle(b)
-        self.check("an example keeps its M", text_of(b, "#verdict h2"), "✓ Passes with M = 8 (0.70 s)")
+            self.check(f"{tab} after an example", numbers(), ["64", "3"])
+            call(b, "probe.choose", f"{tab}-m", "")
+            settle(b)
+            call(b, "probe.drop", name, text)
+            settle(b)
+            self.check(f"{tab} after an M that is refused", numbers(), ["64", "3"])
+        first_examples(b)
 
     def test_a_dropped_log_is_a_recording(self):
         """Its station was on air before it, unless a switch says that the log is complete."""
@@ -149,21 +156,21 @@ class Files:
                     "rdsrt audit --all --pi C201 --m 128 --k 0 --running --padded"))
 
     def test_a_file_is_read_as_the_program_reads_its_bytes(self):
-        """With a byte-order mark the program refuses a log, so the page does."""
+        """Up to a malformed line, and without a byte-order mark."""
         b = self.b
         mark, log, script = b"\xef\xbb\xbf", example("hi.log"), example("tunnel.csv")
         latin = "text,Édith,1,\n".encode("latin-1")
-        others = [log + b"\xff\xfe\n" + log, "# Édith\n".encode("latin-1") + log, log.replace(b"\n", b"\r\n")]
-        for data in (mark + log, log.decode().encode("utf-16"), *others):
+        others = ["# Édith\n".encode("latin-1") + log, log.replace(b"\n", b"\r\n"), b"\xff\n" + log]
+        for data, read in ((mark + log, log), (log + b"\xff\xfe\n" + log, log), *((it, it) for it in others)):
             call(b, "probe.drop", "own.log", list(data))
             settle(b)
             for name, words in (("log", ["decode", "--pi", "C201", "--why"]), ("audit", ["audit", "--pi", "C201"])):
                 self.check(f"{words[0]} over a file that begins with {data[:12]}", text_of(b, f"#{name}-lines"),
-                           program(words, data)[1])
+                           program(words, read)[1])
             call(b, "probe.lose", 0)
             self.check("and once a slot is lost", text_of(b, "#audit-lines"),
-                       program(["audit", "--pi", "C201"], data)[1])
-        self.check("the last one passes", text_of(b, "#verdict")[:8], "✓ Passes")
+                       program(["audit", "--pi", "C201"], read)[1])
+        self.check("the last one has no slot before its fault", text_of(b, "#verdict h2"), "Line 1 is malformed")
         scripts = [mark + script, latin, script + latin, script.replace(b"\n", b"\r\n\r\n")]
         for data in scripts:
             call(b, "probe.drop", "own.csv", list(data))
@@ -172,6 +179,28 @@ class Files:
                 settle(b)
                 self.check(f"sim over a file that begins with {data[:12]}, M {m}", printed(b),
                            program(["sim", "--pi", "C201", "--pty", "10", "--m", str(m), "--why"], data)[1])
+
+    def test_recordings_come_in_other_forms(self):
+        """Packed by gzip, in UTF-16, or with a byte-order mark. What is no text is said, and so is an empty file."""
+        b = self.b
+        log = EVERY_100.encode()
+        call(b, "probe.drop", "own.log", EVERY_100)
+        settle(b)
+        wanted = text_of(b, "#verdict h2")
+        for name, data, box in (("packed", gzip.compress(log), "unpacked"), ("UTF-16", EVERY_100.encode("utf-16"), ""),
+                                ("a mark", b"\xef\xbb\xbf" + log, "byte-order mark left out"),
+                                ("both", gzip.compress(b"\xef\xbb\xbf" + log), "byte-order mark left out; unpacked")):
+            call(b, "probe.drop", "own.log", list(data))
+            settle(b)
+            self.check(name, (text_of(b, "#verdict h2"), text_of(b, "#log-filled"), text_of(b, "#log-file-name")), (wanted, box, "own.log"))
+        self.check("the command", text_of(b, "#audit-command").startswith("gunzip | tail -c +4 | rdsrt audit"), True)
+        picture = b"\x89PNG\r\n\x1a\n\0\0\0\rIHDR"
+        for name, data, why in (("empty.log", b"", "empty.log is empty."), ("empty.gz", gzip.compress(b""), "empty.gz is empty."),
+                                ("a.png", picture, "a.png is no text, so it is no log and no script."),
+                                ("cut.gz", gzip.compress(log)[:-12], "The page cannot unpack cut.gz: it is damaged, or too long.")):
+            call(b, "probe.drop", name, list(data))
+            settle(b)
+            self.check(name, (text_of(b, "#verdict"), of(b, "#verdict", "className")), (f"{why}No log is open.", "verdict no"))
 
     def test_a_file_that_cannot_be_read_is_said(self):
         """A folder that is dropped, for example. Of two files at once the newer one is opened."""
@@ -189,15 +218,18 @@ class Files:
         self.check("two files", call(b, "probe.textOfLog"), HI)
 
     def test_what_is_pasted_is_opened(self):
-        """Unless it belongs to a field."""
+        """Unless it belongs to a field, or is neither a log nor a script."""
         b = self.b
         paste = ("(text, at) => {{ const data = new DataTransfer(); data.setData('text', text); document.querySelector(at)"
                  ".dispatchEvent(Object.assign(new Event('paste', {{ bubbles: true }}), {{ clipboardData: data }})); }}")
         in_log, in_script = ["script"], ["log"]
         for text, at, wanted in ((EVERY_100, "h1", (in_log, EVERY_100)), (HI, "#log-m", (in_log, EVERY_100)),
+                                 ("a line of a letter, and no log", "h1", (in_log, EVERY_100)),
                                  (example("tunnel.csv").decode(), "h1", (in_script, EVERY_100))):
             call(b, f"({paste.format()})", text, at)
             self.check(f"pasted over {at}: {text[:9]!r}", (hidden(b), call(b, "probe.textOfLog")), wanted)
+            if text.startswith("a line"):
+                self.check("why it is not", text_of(b, "#log-saved"), "The pasted text is no log and no script.")
 
     def test_a_log_that_changes_on_the_disk_stays_as_it_was_opened(self):
         """The answer and the search for a witness are over the same bytes."""

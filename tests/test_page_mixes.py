@@ -53,7 +53,7 @@ class Mixes:
         open_script(b, "".join(f"text,HI,1,{letter}\n" for letter in "GGRGLR"), m=1, k=0)
         self.check("it restarts with its receiver", runs_of(b, "script", "alone", 0),
                    [[1, "HI"], [2, None], [3, "HI"], [5, None]])
-        for slot, word in ((2, "restarted"), (5, "dropped")):
+        for slot, word in ((2, "the receiver restarted"), (5, "no part for M slots")):
             move(b, "script", slot)
             self.check(f"why no text is shown in slot {slot}", shown(b, "script-radio"), f"— {word} —")
         to_tab(b, "log")
@@ -91,7 +91,7 @@ class Mixes:
         rows = [f"-,,1,{'L' if 21 <= slot < 29 else 'G'}" for slot in range(48)]
         rows[8] = "text,HELLO WORLD,1,G"
         lost = "".join(f"{row}\n" for row in rows)
-        for script, wanted in ((both, {24: "incomplete", 46: "incomplete"}), (lost, {28: "dropped"})):
+        for script, wanted in ((both, {24: "waits for all parts", 46: "waits for all parts"}), (lost, {28: "no part for M slots"})):
             open_script(b, script, m=8, k=0)
             for slot, word in wanted.items():
                 move(b, "script", slot)

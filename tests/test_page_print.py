@@ -23,9 +23,30 @@ class Chromium(ChromiumCase):
         settle(b)
         on("print")
         self.check("a log on paper", ({*b.run(SHOWN)}, low()), ({"DIV", "FIGURE", "CANVAS"}, []))
-        self.check("what log it is", text_of(b, "#log-paper")[:-len("2026-11-30")], "own.log · C201, M = 128, K = 0 · ")
+        self.check("what log it is", text_of(b, "#log .what")[:-len("2026-11-30")], "own.log · C201, M = 128, K = 0 · ")
         self.check("one page of A4", b.run("document.documentElement.scrollHeight") < 1100, True)
         to_tab(b, "script")
         self.check("a script on paper", ({*b.run(SHOWN)}, low()), ({"FIGURE", "CANVAS"}, []))
         on("screen")
         first_examples(b)
+
+    def test_paper_is_light_in_a_dark_system(self):
+        """The canvas too: its inks, and what it draws at once, for paper has no frames."""
+        b = self.b
+        dark = [{"name": "prefers-color-scheme", "value": "dark"}, {"name": "prefers-reduced-motion", "value": "reduce"}]
+        call(b, "probe.open", "log", f"{HI}\n" * 40 + f"{YO}\n" * 40, {"pi": "C201", "m": 8})
+        inks = lambda: b.run("(({ ink, canvas }) => [ink.text, ink.card, ink['shade-text-0'], canvas.toDataURL()])($log.logTab.timeline)")
+        b.ask("Emulation.setEmulatedMedia", media="print", features=[{"name": "prefers-color-scheme", "value": "light"}])
+        settle(b)
+        wanted = inks()
+        b.ask("Emulation.setEmulatedMedia", media="screen", features=dark)
+        settle(b)
+        self.check("a dark screen has others", inks()[:3] != wanted[:3], True)
+        # no frame comes
+        b.run("window.requestAnimationFrame = () => 0")
+        b.ask("Emulation.setEmulatedMedia", media="print", features=dark)
+        b.until(f"$log.logTab.timeline.ink.text === {wanted[0]!r}")
+        self.check("paper in a dark system", inks()[:3], wanted[:3])
+        self.check("and what is drawn", inks()[3] == wanted[3], True)
+        b.ask("Emulation.setEmulatedMedia", media="screen", features=[])
+        b.scheme("light")

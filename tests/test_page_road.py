@@ -1,9 +1,15 @@
 """The first screen: a car on a road with tunnels. Its displays are those of the program, whatever is dragged."""
+import json
 import random
 import re
+import sys
 
 from tests.page_support import (EVERY_100, SEED, URL, ChromiumCase, FirefoxCase, call, click, cursor, hidden, move,
-                                of, program, settle, text_of, to_tab, visit)
+                                of, program, settle, text_of, to_tab, visit, wheel)
+from tests.support import path
+
+sys.path.append(path("python/src"))
+from rdsrt.characters import PRINTED, closest
 
 SLOTS, DRAGS = 96, 20
 WORDS = ["sim", "--pi", "C201", "--pty", "10", "--m", "8", "--k", "0"]
@@ -41,6 +47,13 @@ def shown(b):
     return [[[None if text.startswith("— ") else text, is_mixed] for text, is_mixed in slot] for slot in b.run(DISPLAYS)]
 
 
+def typed(b, number, text):
+    """Types a text into a field of the road."""
+    b.run(f"{{ const it = document.querySelectorAll('#road-texts input')[{number}]; it.value = {json.dumps(text)};"
+          " it.dispatchEvent(new Event('input')); }")
+    settle(b)
+
+
 class Road:
     def test_the_displays_follow_each_drag_as_the_program_says(self):
         b, dice, mixes = self.b, random.Random(SEED), 0
@@ -58,6 +71,57 @@ class Road:
             settle(b)
         self.check_all("roads with a mix and without", 0 < mixes <= DRAGS, True)
 
+    def test_all_of_the_road_stays_in_sight(self):
+        """Neither the wheel nor a key zooms its lanes, and no button does. A wheel moves the page."""
+        b = self.b
+        b.run("probe.stopRoad()")
+        b.size(1280, 500)
+        b.run("document.querySelector('#road-time canvas').scrollIntoView({ block: 'center' })")
+        before = b.run("scrollY")
+        turned = b.run(wheel("road", 0, 100))
+        b.run("document.querySelector('#road-time canvas').focus()")
+        for key in "w+s-0":
+            b.key(key)
+        self.check("in sight", (call(b, "probe.sight", "road"), turned), ([0, SLOTS], False))
+        self.check("its buttons", b.run("[...document.querySelectorAll('#road-time button')].map(it => it.className)"), ["play"])
+        self.check("the page was in its middle", before > 0, True)
+        b.size(1280, 900)
+
+    def test_each_end_of_tunnels_that_meet_can_be_taken(self):
+        """In a narrow window, and of a short tunnel."""
+        b = self.b
+        b.run("probe.stopRoad()")
+        for width in (390, 1280):
+            b.size(width, 844)
+            settle(b)
+            for from_, to in (([26, 47], [48, 60]), ([26, 27], [28, 29])):
+                b.run(f"{{ const [one, other] = $road.road.tunnels; [one.from, one.to] = {from_}; [other.from, other.to] = {to};"
+                      " $road.road.placeTunnels(); }")
+                # those of one slot lie over each other in part
+                reach = [0] if from_[1] - from_[0] > 1 else [-10, 0, 10]
+                taken = b.run(f"({HANDLES}).map(([x, y], i) => {reach}.some(by => document.elementFromPoint(x + by, y)"
+                              " === document.querySelectorAll('#road-band .end')[i]))")
+                self.check(f"{width} px, {from_}, {to}", taken, [True] * 4)
+                label = "[...document.querySelectorAll('#road-band .tunnel > span')].filter(it => it.checkVisibility() && it.scrollWidth > it.parentElement.clientWidth).length"
+                self.check(f"{width} px: words beyond their tunnel", b.run(label), 0)
+        b.size(1280, 900)
+
+    def test_a_letter_that_the_table_lacks_has_another_in_its_place(self):
+        """As examples/station sends it."""
+        b = self.b
+        b.run("probe.stopRoad()")
+        for letter, sent in b.run("RDSRT_CLOSEST").items():
+            self.check(f"what is sent for {letter}", (sent, letter in PRINTED.values()), (closest(letter), False))
+        typed(b, 0, "It’s open – now")
+        call(b, "probe.moveCar", 20)
+        self.check("a display", text_of(b, "#road-air .text"), "It's open - now")
+        self.check("the words", [f"rdsrt’s character table has no “{it}”: “{sent}” is sent." in text_of(b, "#road-says")
+                                 for it, sent in (("’", "'"), ("–", "-"))], [True, True], text_of(b, "#road-says"))
+        typed(b, 0, "Straße")
+        self.check("a letter without one", text_of(b, "#road-says"), "Text 1: rdsrt’s character table has no “ß”.")
+        typed(b, 0, "no \\xZZ escape")
+        self.check("another refusal has the program's words", text_of(b, "#road-says").startswith("Text 1 is refused: fault row "), True)
+
     def test_the_first_road_shows_the_mix(self):
         """First both displays have the right text. The car drives up to the mix. Who asks for reduced motion sees it at once."""
         b = self.b
@@ -65,7 +129,7 @@ class Road:
         texts = lambda: [text_of(b, f"#road-{it} .text") for it in ("air", "dwell", "alone")]
         self.check("displays", texts(), ["B7: closed today", "— waits to be sure —", "B7: opened today"])
         self.check("words", text_of(b, "#road-says"), "“B7: opened today” was never on air. The receiver with rdsrt "
-                   "shows no text (dropped). It shows the next one when it is complete: in slot 80.")
+                   "shows no text: no part for M slots. It shows the next one when it is complete: in slot 80.")
         call(b, "probe.moveCar", 20)
         self.check("before the tunnels", texts(), ["A1: open again, slow"] * 3)
         names = [of(b, f"#road-{it}", "ariaLabel") for it in ("air", "dwell", "alone")]
@@ -90,20 +154,17 @@ class Road:
         """A text that is no text is said."""
         b = self.b
         b.run("probe.stopRoad()")
-        typed = lambda number, text: (b.run(f"{{ const it = document.querySelectorAll('#road-texts input')[{number}]; it.value = {text!r};"
-                                            " it.dispatchEvent(new Event('input')); }"), settle(b))
-        typed(0, "Free ice cream today")
-        typed(2, "Heavy ice on the A9")
+        typed(b, 0, "Free ice cream today")
+        typed(b, 2, "Heavy ice on the A9")
         call(b, "probe.moveCar", 60)
         self.check("the mix", text_of(b, "#road-alone .text"), "Heav icee on the A9")
         self.check("the program says so", shown(b), wanted(call(b, "probe.roadAsScript")))
         before = shown(b)
-        typed(1, "\u2603")
-        self.check("a refused text", text_of(b, "#road-says"),
-                   "Text 2: '\u2603' at character 1 is not in the RDS character table.")
+        typed(b, 1, "\u2603")
+        self.check("a refused text", text_of(b, "#road-says"), "Text 2: rdsrt’s character table has no “\u2603”.")
         invalid = lambda: b.run("[...document.querySelectorAll('#road-texts input')].map(it => it.ariaInvalid)")
         self.check("its field is marked, and the road before stays", (invalid(), shown(b)), ([None, "true", None], before))
-        typed(1, "x" * 64)
+        typed(b, 1, "x" * 64)
         self.check("its field takes 64 characters", (b.run("document.querySelectorAll('#road-texts input')[1].maxLength"), invalid()),
                    (64, [None] * 3))
 

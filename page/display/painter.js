@@ -2,7 +2,12 @@
 import { lastAt } from "../model/displays.js";
 import * as lines from "../model/lines.js";
 
+/* The heights of the strip with all slots, and of the axis. */
+export const STRIP = 16;
 export const AXIS = 24;
+/** A lane: ticks of groups by their codes, bars of what a display shows, or marks of faults. Painting gives it its place.
+ *  @typedef {{ name: string, kind: string, strong?: boolean, group?: number, gap?: number, top?: number, height?: number,
+ *    codes?: Uint8Array, lost?: Set<number>, losses?: boolean, runs?: any, marks?: import("../model/displays.js").Marks }} Lane */
 const TICKS = 20;
 const BARS = 22;
 export const FONT = "system-ui, 'Noto Sans', 'DejaVu Sans', sans-serif";
@@ -15,7 +20,7 @@ const INK_OF = {
   [lines.TEXT]: "shade-text-0", [lines.TEXT | lines.FLAG]: "shade-text-2", [lines.NAME]: "shade-name-0",
   [lines.TAGS]: "shade-tags-0", [lines.OTHER]: "other", [lines.NOTHING]: "dim",
 };
-const MODES = ["(prefers-color-scheme: dark)", "(forced-colors: active)"];
+const MODES = ["print", "(prefers-color-scheme: dark)", "(forced-colors: active)"];
 const STEPS = [1, 2, 5, 10, 20, 50, 100, 200, 500, 1000, 2000, 5000, 10000, 20000, 50000, 100000, 200000];
 const APART = 64;
 const NEAR = 12;
@@ -58,8 +63,9 @@ export function sized(canvas, width, height, top = 0) {
   return ctx;
 }
 
-export function place(lanes) {
-  let top = AXIS;
+/* Places the lanes under the strip, if there is one, and the axis. */
+export function place(lanes, head) {
+  let top = head + AXIS;
   for (const lane of lanes) {
     Object.assign(lane, { top: top + (lane.gap ?? 4), height: lane.kind === "ticks" ? TICKS : BARS });
     top = lane.top + lane.height;
@@ -88,11 +94,11 @@ function fillPoints(ctx, ...points) {
   ctx.fill();
 }
 
-/* As much of a text as has room, with … in place of the rest. */
+/* As much of a text as has room, with … in place of the rest. A letter or two would say nothing. */
 function fitted(ctx, text, room) {
   if (ctx.measureText(text).width <= room) return text;
   const count = lastAt(text.length, (i) => ctx.measureText(`${text.slice(0, i + 1)}…`).width, room) + 1;
-  return count ? `${text.slice(0, count).trimEnd()}…` : "";
+  return count > 2 ? `${text.slice(0, count).trimEnd()}…` : "";
 }
 
 function labels(ctx, sight, y, all) {
@@ -112,12 +118,40 @@ export const ends = ({ from, across }) => [Math.floor(from), Math.ceil(from + ac
 
 function axis(ctx, sight, ink) {
   const slots = multiples(STEPS.find((it) => it / sight.across * sight.room > APART) ?? STEPS.at(-1), ...ends(sight));
+  const middle = sight.head + AXIS - 12;
   ctx.font = `11px ${FONT}`;
   ctx.fillStyle = ink.line;
-  for (const slot of slots) ctx.fillRect(Math.round(sight.x(slot)), AXIS - 18, 1, 12);
+  for (const slot of slots) ctx.fillRect(Math.round(sight.x(slot)), middle - 6, 1, 12);
   ctx.fillStyle = ink.dim;
-  ctx.fillText("slot", 4, AXIS - 12);
-  labels(ctx, sight, AXIS - 12, slots.map((slot) => [slot, slot.toLocaleString("en")]));
+  ctx.fillText("slot", 4, middle);
+  labels(ctx, sight, middle, slots.map((slot) => [slot, slot.toLocaleString("en")]));
+}
+
+/* Strokes at these slots, one a pixel. */
+function strokes(ctx, starts, at) {
+  let last = -1;
+  for (let i = 0; i < starts.length; i++) {
+    const x = Math.floor(at(starts[i]));
+    if (x > last) ctx.fillRect(x, 3, 2, STRIP - 6);
+    last = Math.max(x, last);
+  }
+}
+
+/* All slots in a strip, with the faults and the mixes, and a frame around those in sight. */
+function strip(ctx, lanes, sight, ink) {
+  const { gutter, room, count, from, across } = sight;
+  const at = (slot) => gutter + slot / count * room;
+  rect(ctx, ink.lane, [gutter, 2, room, STRIP - 4]);
+  Object.assign(ctx, { font: `11px ${FONT}`, fillStyle: ink.dim });
+  ctx.fillText("all slots", 4, STRIP / 2 + 1);
+  const frame = [at(from), 2, Math.max(4, at(from + across) - at(from)), STRIP - 4];
+  if (across < count) rect(ctx, ink.cursor, frame, 0.25);
+  for (const { marks: faults, runs } of lanes) {
+    ctx.fillStyle = faults && !faults.isSure ? ink.dim : ink.bad;
+    strokes(ctx, faults?.starts ?? runs?.mixes().map((i) => runs.from(i)) ?? [], at);
+  }
+  Object.assign(ctx, { strokeStyle: ink.cursor, lineWidth: 1.5 });
+  if (across < count) ctx.strokeRect(...frame);
 }
 
 /* A lane of groups that were sent has no shape for a slot without one. */
@@ -244,13 +278,15 @@ function cursor(ctx, sight, ink, height) {
   const end = Math.max(sight.x(sight.cursor + 1), start + 2);
   const x = Math.max(sight.gutter, start);
   if (end < sight.gutter || x > sight.gutter + sight.room) return;
-  rect(ctx, ink.cursor, [x, AXIS - 4, end - x, height - AXIS - 2], 0.16);
-  rect(ctx, ink.cursor, [x - 0.75, AXIS - 4, 1.5, height - AXIS - 2]);
-  fillPoints(ctx, [x - 5, AXIS - 9], [x + 5, AXIS - 9], [x, AXIS - 2]);
+  const top = sight.head + AXIS;
+  rect(ctx, ink.cursor, [x, top - 4, end - x, height - top - 2], 0.16);
+  rect(ctx, ink.cursor, [x - 0.75, top - 4, 1.5, height - top - 2]);
+  fillPoints(ctx, [x - 5, top - 9], [x + 5, top - 9], [x, top - 2]);
 }
 
 export function paint(ctx, lanes, sight, ink, height) {
   ctx.textBaseline = "middle";
+  if (sight.head) strip(ctx, lanes, sight, ink);
   axis(ctx, sight, ink);
   for (const lane of lanes) laneOf(ctx, lane, sight, ink);
   cursor(ctx, sight, ink, height);

@@ -67,6 +67,17 @@ def tunnel(folder, receiver=1):
     return {"name": "A long tunnel", "text": text.getvalue(), "from": ENCODE, "pi": "C201", "m": 8, "lost": lost}
 
 
+def closest_letters():
+    """What examples/station sends for letters of Europe that rdsrt's character table lacks, if the table has it: the nearest ones
+    of the Python package."""
+    sys.path.append(os.path.join(os.path.dirname(PAGE_FOLDER), "python/src"))
+    from rdsrt.characters import PRINTED, closest
+    table = "".join(PRINTED.values())
+    nearest = {it: closest(it) for it in map(chr, (*range(0xA0, 0x250), *range(0x2010, 0x2045)))}
+    sent = {it: other for it, other in nearest.items() if it not in table and other not in ("", "?")}
+    return {it: other for it, other in sent.items() if all(letter in table for letter in other)}
+
+
 def constant(name, value):
     """A script with one constant. No end of an element is in it."""
     return f'"use strict";\nconst {name} = {json.dumps(value, ensure_ascii=False, indent=1)};\n'.replace("</", "<\\/")
@@ -143,7 +154,7 @@ def main():
     logs, scripts = [*shown(examples, LOGS), tunnel(examples)], [*shown(examples, SCRIPTS), restarts()]
     html = one_file({
         "engine.js": constant("RDSRT_ENGINE", base64.b64encode(packed).decode()),
-        "examples.js": constant("RDSRT_EXAMPLES", {"log": logs, "script": scripts}),
+        "examples.js": constant("RDSRT_EXAMPLES", {"log": logs, "script": scripts}) + constant("RDSRT_CLOSEST", closest_letters()),
         "page.js": page_script(),
     })
     with open(os.path.join(out, "index.html"), "w", encoding="utf-8", newline="\n") as file:

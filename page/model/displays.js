@@ -165,6 +165,8 @@ class List {
 
 /* The runs [from, to) of a part of a display. */
 class Runs extends List {
+  /** @type {number[] | undefined} */ mixed;
+
   /** @param {typeof NO_RUNS} packed @param {Texts} values @param {string} kind */
   constructor({ starts, numbers, states, end }, values, kind) {
     super(starts);
@@ -179,7 +181,14 @@ class Runs extends List {
   value(i) { return this.isShown(i) ? this.values.at(this.numbers[i]) : null; }
   state(i) { return this.isShown(i) ? STATES[this.states[i]] : ""; }
   isMix(i) { return this.state(i) === "mix"; }
-  mixes() { return [...this.starts.keys()].filter((i) => this.isMix(i)); }
+  /* The entries that are mixes. A strip asks for them in each frame. */
+  mixes() { return this.mixed ??= this.findMixes(); }
+
+  findMixes() {
+    const found = [];
+    for (let i = 0; i < this.length; i++) if (this.isMix(i)) found.push(i);
+    return found;
+  }
 
   at(i) {
     const value = this.value(i);
@@ -202,6 +211,8 @@ export class Marks extends List {
     this.numbers = numbers;
     this.labels = labels;
   }
+
+  get isSure() { return this.labels.every(({ isSure }) => isSure); }
 
   to(i) { return this.starts[i] + 1; }
   piece(i) { return { from: this.starts[i], ...this.labels[this.numbers[i]] }; }
@@ -227,14 +238,13 @@ export class View {
     [...numbers].filter((number) => number !== NOTHING).forEach((number, i) => { values.shades[number] = i % SHADES; });
   }
 
-  /* The shade of each four letters of a mix: that of the newest text up to a slot that has them at their place. */
-  shadesOf(fours, slot) {
+  /* The shade of the newest text up to a slot, or up to so many texts later, that has these four letters at this place. */
+  shadeOf(letters, i, slot, later = 0) {
     const { text } = this.parts;
-    return fours.map((letters, i) => {
-      let at = text.indexAt(slot);
-      while (at >= 0 && foursOf(text.value(at))[i] !== letters) at--;
-      return at < 0 ? "" : text.piece(at).shade;
-    });
+    const has = (at) => !text.isMix(at) && foursOf(text.value(at))[i] === letters;
+    let at = Math.min(text.indexAt(slot) + later, text.length - 1);
+    while (at >= 0 && !has(at)) at--;
+    return at < 0 ? null : text.piece(at).shade;
   }
 
   lanes(text, more, first) {

@@ -18,13 +18,14 @@ function letters(receptions) {
   return receptions.match(/G\d*|L|R|W[0-9A-Fa-f]{12}/g) ?? [];
 }
 
-/** @type {(fields: string[]) => any} */
+/** @typedef {{ command: string, argument: string, free: string, receptions: string[] }} Row */
+/** @type {(fields: string[]) => Row} */
 const rowOf = ([command = "", argument = "", free = "", receptions = ""]) =>
   ({ command, argument, free, receptions: letters(receptions) });
 
 /* Reads the rows of a script. Empty lines make no row. */
 export function read(text) {
-  const rows = [];
+  /** @type {Row[]} */ const rows = [];
   for (let at = text.charCodeAt(0) === 0xFEFF ? 1 : 0, record; at < text.length; at = record.end) {
     record = recordAt(text, at);
     if (text[at] !== "\n" && text[at] !== "\r") rows.push(rowOf(record.fields));

@@ -57,31 +57,22 @@ export function read(bytes, malformed = Infinity, tell = () => {}) {
   return { starts: starts.slice(0, count), count, end: Math.min(start, bytes.length), malformed, programmes };
 }
 
-/* The number of slots, the lines of those with a group, and whether each line of a slot has more than its blocks. */
+/* The number of slots; and of those with a group the first byte, the line and the slot. */
 export function groupsOf(bytes) {
-  const numbers = new Uint32Array(Math.floor((bytes.length + 1) / (BLOCKS + 1)) + 1);
-  let [count, groups, isTimed] = [0, 0, true];
+  const most = Math.floor((bytes.length + 1) / (BLOCKS + 1)) + 1;
+  const [starts, numbers, slots] = [0, 1, 2].map(() => new Uint32Array(most));
+  let [count, groups] = [0, 0];
   for (let [start, number] = [0, 1]; start < bytes.length; number++) {
-    const end = endOf(bytes, start);
     const isSlot = !SKIPPED[bytes[start]];
+    if (isSlot && isWhole(bytes, start)) {
+      starts[groups] = start;
+      numbers[groups] = number;
+      slots[groups++] = count;
+    }
     count += Number(isSlot);
-    if (isSlot && isWhole(bytes, start)) numbers[groups++] = number;
-    // a carriage return is no time
-    isTimed &&= !isSlot || end - start >= BLOCKS + 3;
-    start = end + 1;
+    start = endOf(bytes, start) + 1;
   }
-  return { count, lines: numbers.slice(0, groups), isTimed: count > 0 && isTimed };
-}
-
-/* The first slot with this text behind its blocks, or -1. */
-export function slotWith(bytes, { starts, count }, text) {
-  const wanted = new TextEncoder().encode(text);
-  const isAt = (place) => wanted.every((byte, i) => bytes[place + i] === byte);
-  for (let slot = 0; slot < count; slot++) {
-    const end = endOf(bytes, starts[slot] + BLOCKS) - wanted.length;
-    for (let place = starts[slot] + BLOCKS; place <= end; place++) if (isAt(place)) return slot;
-  }
-  return -1;
+  return { count, starts: starts.subarray(0, groups), lines: numbers.subarray(0, groups), slots: slots.subarray(0, groups) };
 }
 
 /* Returns the group of a slot; null if a block is missing. */

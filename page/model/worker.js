@@ -2,19 +2,21 @@
 import * as rdsrt from "../program/rdsrt.js";
 import * as answers from "./answers.js";
 import * as displays from "./displays.js";
-import * as filled from "./filled.js";
 import * as lines from "./lines.js";
 import * as logs from "./slots.js";
 import * as player from "./player.js";
+import * as recording from "./recording.js";
 
-/** @type {any} */
+/** The log that is open, and what was shown of it last.
+ *  @type {{ bytes: Uint8Array, log?: LogPlaces, pi?: string, tags?: number, values?: displays.Values, codes?: Uint8Array,
+ *    alone?: Shown, whole?: Shown }} */
 const state = { bytes: new Uint8Array(0) };
 /* A receiver with this dwell is one with the flag bit alone (the_flag_alone_is_a_long_dwell of rds_safety). */
 const LONGEST_DWELL = "65535";
 
-function arraysIn(value) {
-  if (ArrayBuffer.isView(value)) return [value];
-  return value !== null && typeof value === "object" ? Object.values(value).flatMap(arraysIn) : [];
+function buffersIn(value) {
+  if (ArrayBuffer.isView(value)) return [value.buffer];
+  return value !== null && typeof value === "object" ? Object.values(value).flatMap(buffersIn) : [];
 }
 
 const run = (words, bytes = state.bytes) => rdsrt.ask(words, bytes);
@@ -22,6 +24,7 @@ const run = (words, bytes = state.bytes) => rdsrt.ask(words, bytes);
 const decoding = ({ pi, tags, m, w }) =>
   ["decode", "--pi", pi, "--m", m, ...rdsrt.tagWords(tags), ...rdsrt.windowWords(w), "--why"];
 
+/** @typedef {{ words: (string | number)[], output: string, view: object }} Shown */
 /* What a receiver shows of the log as it is now. The slots end at a line that the program finds malformed. */
 function shownBy(words, values, before = null) {
   const { output, notes } = run(words);
@@ -41,7 +44,7 @@ function wholeOf({ pi, tags, m, w }) {
     Object.assign(state, { pi, tags, values, alone, codes, whole: null });
   }
   if (`${state.whole?.words}` !== `${words}`) state.whole = shownBy(words, state.values);
-  return { whole: state.whole, alone: state.alone, codes: state.codes.slice() };
+  return { whole: state.whole, alone: state.alone, codes: state.codes.slice(), sent: null };
 }
 
 /* What receivers show that lose these slots, with the mixes that `witness` names: it knows no window. No receiver with
@@ -61,31 +64,24 @@ function lossyOf({ pi, tags, m, w, lost, passes }) {
   if (!w && !passes) mark("whole");
   mark("alone", "--flag-alone");
   for (const slot of lost) if (slot < codes.length) codes[slot] = lines.NOTHING;
-  return { ...shown, codes };
+  return { ...shown, codes, sent: kept.whole };
 }
 
 const auditing = ({ pi, tags, m, k, running, padded }, ...more) =>
   ["audit", ...more, "--pi", pi, "--m", m, "--k", k, ...rdsrt.tagWords(tags), ...running ? ["--running"] : [],
     ...padded ? ["--padded"] : []];
 
-function head(count) {
-  let end = 0;
-  for (let i = 0; i < count && end < state.bytes.length; i++) end = logs.endOf(state.bytes, end) + 1;
-  return state.bytes.subarray(0, end);
-}
-
-/* `first` has the notes of the audit up to the first fault: its rule, and whether the lines up to it lack slots. */
+/* `first` has the notes of the audit that stops at the first fault: its rule, and whether the lines up to it lack slots. */
 function audit(asked) {
   const words = auditing(asked, "--all");
   const { output, notes } = run(words);
   const list = answers.read(output);
-  const places = notes.filter(({ kind }) => kind === "faults").map((fault) => fault.first_line);
-  const first = places.length ? run(auditing(asked), head(Math.min(...places))).notes : notes;
+  const first = list.slots.length ? run(auditing(asked)).notes : notes;
   return { list, notes, first, command: rdsrt.command(words), output: displays.beginOf(output) };
 }
 
 const REQUESTS = {
-  fill: filled.filledOf,
+  fill: recording.recordingOf,
 
   keep({ bytes }) { Object.assign(state, { bytes, log: null, pi: "" }); },
 
@@ -94,15 +90,16 @@ const REQUESTS = {
     return structuredClone(state.log);
   },
 
-  /* What receivers show. `log` has the slots if they are others than before. */
+  /* What receivers show. If slots are lost, `sent` is what one shows that loses nothing. `log` has the slots if they are
+     others than before. */
   decode(asked) {
     const before = state.log;
     state.log ??= logs.read(state.bytes);
-    const { whole, alone, codes } = asked.lost.length ? lossyOf(asked) : wholeOf(asked);
+    const { whole, alone, codes, sent } = asked.lost.length ? lossyOf(asked) : wholeOf(asked);
     const { words, output, view } = whole;
     return {
       command: rdsrt.command(words), output: displays.beginOf(output), values: state.values.packed(), codes,
-      ...structuredClone({ view, alone: alone.view, log: state.log === before ? null : state.log }),
+      ...structuredClone({ view, alone: alone.view, sent: sent && sent.view, log: state.log === before ? null : state.log }),
     };
   },
 
@@ -122,6 +119,6 @@ const REQUESTS = {
 onmessage = async ({ data: { call, given } }) => {
   try {
     const answer = await REQUESTS[call](given, (done) => postMessage({ done }));
-    postMessage({ answer }, arraysIn(answer).map((array) => array.buffer));
+    postMessage({ answer }, { transfer: [...new Set(buffersIn(answer))] });
   } catch ({ message }) { postMessage({ error: message }); }
 };

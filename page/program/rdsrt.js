@@ -7,8 +7,10 @@ const FAULT = "fault memory\n";
 const NO_MEMORY = "no memory for this input: the page takes up to about 180 MB";
 const encoder = new TextEncoder();
 const decoder = new TextDecoder();
-/** @type {any} */
-let module = null;
+/** The exports of the module.
+ *  @typedef {{ memory: WebAssembly.Memory, __heap_base: WebAssembly.Global, rdsrt_heap: Function, rdsrt_run: Function }} Exports
+ *  @type {Exports} */
+let module;
 
 /* Compiles the module, which the page has packed in it: one that was opened from a disk may fetch nothing. */
 export async function load() {
@@ -21,9 +23,8 @@ export async function load() {
 
 /** @param {WebAssembly.Module} compiled */
 export async function begin(compiled) {
-  /** @type {any} */
-  const instance = await WebAssembly.instantiate(compiled, {});
-  module = instance.exports;
+  const { exports } = await WebAssembly.instantiate(compiled, {});
+  module = /** @type {any} */ (exports);
 }
 
 function layout(words, input, room, heap) {
@@ -62,7 +63,7 @@ function call(words, input, room, heap) {
 
 const textAt = (at, length) => decoder.decode(new Uint8Array(module.memory.buffer, at, length));
 
-/* A last note without room is left out. */
+/* A last note without room is left out. A line that is no object is a sentence. */
 const notesOf = (text) => text.split("\n").slice(0, -1).map((line) => line.startsWith("{") ? JSON.parse(line) : line);
 
 /* Runs the program, and again with more memory or room if it lacked them. The output stands in the module's memory. */

@@ -13,7 +13,8 @@ export const state = { ready: false, files: 0 };
 const DEFAULTS = { m: 128, k: 0 };
 const decoder = new TextDecoder("utf-8", { ignoreBOM: true });
 const BEGIN = 10_000;
-const PHONE = "(max-width: 600px)";
+const MOST_UNPACKED = 180_000_000;
+const [GZIP, UTF16] = [[0x1F, 0x8B], [0xFF, 0xFE]];
 
 export function tab(it, { focus = false } = {}) {
   for (const other of TABS) {
@@ -46,35 +47,57 @@ const SCRIPT = /^\uFEFF?(?:\r?\n)*(?:-|text|name|tags|restart|"[a-z-]+"),/;
 const LOG = /^\uFEFF?(?:(?:[<#%].*|[ \t]*)\r?\n)*(?:[\dA-Fa-f]{4}|----) (?:[\dA-Fa-f]{4}|----) /;
 const isScript = (name, text) => SCRIPT.test(text) || (/\.csv$/i.test(name) && !LOG.test(text));
 
+async function refuse(it, why) {
+  tab(it);
+  await it.refuse(why, DEFAULTS);
+}
+
+const begins = (bytes, mark) => mark.every((byte, i) => bytes[i] === byte);
+
+/* The bytes of a file: unpacked if they are packed, and in UTF-8 if they are in UTF-16. Or why there are none. */
+/** @returns {Promise<{ bytes?: Uint8Array, isPacked?: boolean, why?: string }>} */
+async function bytesOf(file) {
+  const buffer = await file.arrayBuffer().catch(() => null);
+  if (!buffer) return { why: `The page cannot read ${file.name}.` };
+  let bytes = new Uint8Array(buffer);
+  const isPacked = begins(bytes, GZIP);
+  if (isPacked) bytes = await links.squeezed(bytes, new DecompressionStream("gzip"), MOST_UNPACKED).catch(() => null);
+  if (!bytes) return { why: `The page cannot unpack ${file.name}: it is damaged, or too long.` };
+  if (begins(bytes, UTF16)) bytes = new TextEncoder().encode(new TextDecoder("utf-16le").decode(bytes));
+  if (!bytes.length) return { why: `${file.name} is empty.` };
+  if (bytes.subarray(0, BEGIN).includes(0)) return { why: `${file.name} is no text, so it is no log and no script.` };
+  return { bytes, isPacked };
+}
+
 /* The program gets the bytes of a file as they are. The text that the page shows keeps a byte-order mark. */
 export async function openFile(file) {
   const number = ++state.files;
-  const buffer = await file.arrayBuffer().catch(() => null);
+  const { bytes, isPacked, why } = await bytesOf(file);
   if (state.files !== number) return;
-  if (!buffer) {
-    tab(logTab);
-    await logTab.refuse(`The page cannot read ${file.name}.`, DEFAULTS);
-    return;
-  }
-  const bytes = new Uint8Array(buffer);
+  if (!bytes) { await refuse(logTab, why); return; }
   const it = isScript(file.name, decoder.decode(bytes.subarray(0, BEGIN))) ? scriptTab : logTab;
-  const options = { ...DEFAULTS, file: file.name };
+  const options = { ...DEFAULTS, ...it.numbers, file: file.name };
   const opened = it === scriptTab ? scriptTab.open(decoder.decode(bytes), { ...options, input: bytes })
-    : logTab.open(bytes, { ...options, running: true });
+    : logTab.open(bytes, { ...options, running: true, isPacked });
   tab(it);
   // the last answer may be below the fold, with the focus in it
-  /** @type {any} */ (document.activeElement)?.blur();
+  /** @type {HTMLElement | null} */ (document.activeElement)?.blur();
   scrollTo({ top: 0 });
   await opened;
 }
 
 function openFirst(files) { if (files.length) openFile(files[0]); }
 
+/* Text that is neither a log nor a script may be meant for another window. */
 function paste({ target, clipboardData }) {
   if (target.closest("input, textarea, dialog")) return;
   const text = clipboardData.getData("text");
   if (clipboardData.files.length) openFirst(clipboardData.files);
-  else if (text.trim()) openFile(new File([text], "pasted text"));
+  else if (SCRIPT.test(text) || LOG.test(text)) openFile(new File([text], "pasted text"));
+  else if (text.trim()) {
+    const open = TABS.find(({ id }) => !$(id).hidden);
+    links.tell(open.isStart ? road : open, "The pasted text is no log and no script.");
+  }
 }
 
 function drops() {
@@ -134,8 +157,23 @@ async function openIn(it, hash, example) {
   }
 }
 
+/* Opens what was open at this step of the history. Returns whether it is kept. */
+async function openKept() {
+  const kept = links.keptBy(history.state);
+  /** @type {import("./tab.js").Tab | undefined} */
+  const it = TABS.find(({ id }) => id === kept?.id);
+  if (!it) return false;
+  const { settings, content } = kept;
+  if (it.ownKey === settings.ownKey && !it.isStart) { tab(it); return true; }
+  const opened = it.open(content, settings);
+  tab(it);
+  await opened;
+  return true;
+}
+
 /* Opens what the address names: the start, a link, an example, or a tab alone. Shows its tab. */
 async function openAddress() {
+  if (await openKept()) return;
   const hash = location.hash.slice(1);
   const given = new URLSearchParams(hash);
   const linked = [road, ...TABS].find(({ id }) => given.get(id));
@@ -154,7 +192,7 @@ async function openAddress() {
   if (wasStart && !logTab.isStart && it === logTab) $("log-example").focus({ preventScroll: true });
 }
 
-/** @type {(query: string) => Iterable<any>} */
+/** @type {(query: string) => Iterable<HTMLInputElement & HTMLFormElement>} */
 const all = (query) => document.querySelectorAll(query);
 
 async function begin() {
@@ -172,12 +210,13 @@ async function begin() {
     beginExamples(it);
   }
   beginStart();
-  $("log-numbers").open = !matchMedia(PHONE).matches;
   for (const field of all("[type=file]")) field.onchange = takeFile;
   $("skip").onclick = skip;
   road.begin(compiled, (text, options) => {
+    const opened = scriptTab.open(text, options);
+    // one step of the history
     tab(scriptTab, { focus: true });
-    return scriptTab.open(text, options);
+    return opened;
   });
   const { text, options } = exampleOf(scriptTab, 0);
   await scriptTab.open(text, options);
@@ -185,7 +224,7 @@ async function begin() {
   drops();
   await openAddress();
   road.greet();
-  window.onhashchange = openAddress;
+  window.onpopstate = openAddress;
   state.ready = true;
 }
 begin();

@@ -7,6 +7,7 @@ const MOST = 8000;
 export const MOST_PLAIN = 4_000_000;
 /* No text of a link has more lines with a group. */
 const MOST_SLOTS = MOST_PLAIN / 20;
+/** @typedef {{ text: string | null, options: string, hash: string, isNow: boolean }} Link */
 class Refusal extends Error {}
 export const damaged = () => new Refusal("The link is damaged: an option of it is wrong.");
 export const tooLong = (most) => new Refusal(`The link holds a road of more than ${most} slots. The page does not open it.`);
@@ -14,8 +15,9 @@ export const tooLong = (most) => new Refusal(`The link holds a road of more than
 const END = "&end";
 const FROM_DISK = "This page was opened from a disk, so its links are of no use to others.";
 
-/* Reads no further than the bound. Returns null beyond it. */
-async function squeezed(bytes, by, most) {
+/* Packs or unpacks, and reads no further than the bound. Returns null beyond it. */
+/** @param {BlobPart} bytes @param {Packing} by @param {number} most */
+export async function squeezed(bytes, by, most) {
   const pieces = [];
   let length = 0;
   // Safari has no iterator of a stream
@@ -47,6 +49,22 @@ async function unpack(id, packed) {
 const nameOf = (hash) => /^\w*(?:&example=\d+)?/.exec(hash)[0];
 const now = () => location.hash.slice(1);
 
+/* What a visitor opened, which no address holds: a log or a script of the last steps, by their keys in the history. */
+const MOST_KEPT = 6;
+const MOST_BYTES = 100_000_000;
+let newest = 0;
+/** @type {Map<number, { id: string, content: string | Uint8Array, settings: any }>} */
+const opened = new Map();
+export const newKey = () => ++newest;
+export const keptBy = (state) => opened.get(state?.own);
+
+function keepContent(tab) {
+  opened.delete(tab.ownKey);
+  opened.set(tab.ownKey, { id: tab.id, ...tab.whatIsOpen() });
+  const bytes = () => [...opened.values()].reduce((sum, { content }) => sum + content.length, 0);
+  while (opened.size > MOST_KEPT || (opened.size > 1 && bytes() > MOST_BYTES)) opened.delete(opened.keys().next().value);
+}
+
 /* The hash of what a tab holds: its link, its example, or its name if it holds another input. */
 export function hashOf(tab) {
   const { id, link } = tab;
@@ -59,10 +77,13 @@ export function hashOf(tab) {
 export function putAddress(tab) {
   const { link } = tab.isStart ? tab.road : tab;
   const hash = tab.isStart ? link?.isNow && link.hash || "" : hashOf(tab);
-  if ($(tab.id).hidden || now() === hash) return;
-  const isSame = nameOf(now()) === nameOf(hash) || (now() !== "" && hash.startsWith(now()));
+  const own = !tab.isStart && nameOf(hash) === tab.id ? tab.ownKey : undefined;
+  const before = history.state?.own;
+  if ($(tab.id).hidden || (now() === hash && before === own)) return;
+  const isSame = nameOf(now()) === nameOf(hash) ? before === own || before === undefined && now() !== tab.id
+    : now() !== "" && hash.startsWith(now());
   // some browsers refuse it to a file
-  try { history[isSame ? "replaceState" : "pushState"](null, "", `#${hash}`); } catch { /* the address stays */ }
+  try { history[isSame ? "replaceState" : "pushState"](own && { own }, "", `#${hash}`); } catch { /* the address stays */ }
 }
 
 function hold(tab, link) {
@@ -75,6 +96,7 @@ export function keep(tab) {
   const { link } = tab;
   const isNow = link?.text === tab.text && link.options === tab.options();
   if (link) link.isNow = isNow;
+  if (tab.ownKey && hashOf(tab) === tab.id) keepContent(tab);
   putAddress(tab);
   if (isNow) return;
   tab.field("link").hidden = true;
@@ -91,12 +113,18 @@ export async function give(tab) {
   tab.field("link").hidden = !isShown;
   if (packed === null) { tell(tab, `This ${id} is too long for a link.`); return; }
   hold(tab, { text, options, hash: `${id}=${packed}&${options}&slot=${tab.timeline.cursor}${tab.moreSight()}${END}` });
-  if (isShown) await copy(tab); else tell(tab, FROM_DISK);
+  if (isShown) await hand(tab); else tell(tab, FROM_DISK);
 }
 
-async function copy(tab) {
+/* Hands the link on: a phone has a sheet for that, and a desk the clipboard. */
+async function hand(tab) {
   const field = tab.field("link");
   field.value = `${location.href.split("#")[0]}#${tab.link.hash}`;
+  if (navigator.share && matchMedia("(pointer: coarse)").matches) {
+    const isShared = await navigator.share({ url: field.value }).then(() => true, () => false);
+    tell(tab, isShared ? "The link was shared." : "This is the link: copy it.");
+    return;
+  }
   field.focus();
   field.select();
   try {
@@ -141,20 +169,27 @@ export async function open(tab, hash, text, defaults) {
   if (isLink) hold(tab, { text, options: tab.options(), hash });
 }
 
-/* Slots as a link has them: 2-4.9 is 2, 3, 4 and 9. Those from `most` on are left out. */
+/* Slots as a link has them: 2-4.9 is 2, 3, 4 and 9. Those from `most` on are left out. Null for other letters. */
 export const inLetters = (slots) => lines.spansOf(slots).join(".");
 
-export function slotsOf(letters, most = MOST_SLOTS) {
+/** @returns {Set<number> | null} */
+export function slotsIn(letters, most) {
   const all = new Set();
   let next = 0;
   if (!letters) return all;
-  if (!/^\d{1,7}(-\d{1,7})?(\.\d{1,7}(-\d{1,7})?)*$/.test(letters)) throw damaged();
+  if (!/^\d{1,7}(-\d{1,7})?(\.\d{1,7}(-\d{1,7})?)*$/.test(letters)) return null;
   for (const span of letters.split(".")) {
     const [first, last = first] = span.split("-").map(Number);
-    if (first < next || last < first) throw damaged();
+    if (first < next || last < first) return null;
     next = last + 1;
     for (let slot = first; slot <= last && slot < most; slot++) all.add(slot);
   }
+  return all;
+}
+
+export function slotsOf(letters) {
+  const all = slotsIn(letters, MOST_SLOTS);
+  if (!all) throw damaged();
   return all;
 }
 

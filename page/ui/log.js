@@ -1,13 +1,13 @@
 /* The tab of a log. One worker shows what receivers show, another one judges. */
-import { Marks, Texts, View } from "../model/displays.js";
-import { lineInFile } from "../model/filled.js";
+import * as clock from "../model/clock.js";
+import { Marks, Texts, View, lastAt } from "../model/displays.js";
 import * as lines from "../model/lines.js";
 import * as logs from "../model/slots.js";
 import { Program } from "../program/program.js";
 import * as faults from "./faults.js";
 import * as groups from "./groups.js";
 import * as links from "./links.js";
-import { $, counted, latest, number, radio, whyNoMix } from "./parts.js";
+import { $, counted, latest, number, radio, refuse, whyNoMix } from "./parts.js";
 import { Tab } from "./tab.js";
 import * as verdict from "./verdict.js";
 
@@ -24,15 +24,22 @@ const LONGEST_LINE = 96;
 const MOST_PROGRAMMES = 50;
 const encoder = new TextEncoder();
 const decoder = new TextDecoder("utf-8", { ignoreBOM: true });
-/** @type {any} */
-const NO_LOG = { count: 0, end: 0, starts: [] };
-const empty = () => ({ view: new View(), alone: new View(), codes: new Uint8Array(0), answer: null, witness: null });
+/** @type {LogPlaces} */
+const NO_LOG = { count: 0, end: 0, starts: new Uint32Array(0), malformed: Infinity, programmes: [] };
+/** @type {Recording} */
+const NO_RECORDING = {
+  bytes: new Uint8Array(0), m: 0, isFilled: false, hasTimes: false, hasMark: false, added: 0, untimed: 0, cut: null, notes: [],
+  rows: new Uint32Array(0), places: new Uint32Array(0), slots: new Uint32Array(0),
+};
+/** @type {FaultList} */
+const NO_FAULTS = { slots: new Int32Array(0), numbers: new Uint8Array(0), kinds: [] };
+const empty = () =>
+  ({ view: new View(), alone: new View(), sent: new View(), codes: new Uint8Array(0), answer: null, witness: null });
 
 class LogTab extends Tab {
-  /* the bytes of the file, and those that are judged and shown */
   file = new Uint8Array(0);
-  bytes = this.file;
-  /** @type {any} */ filled = null;
+  isPacked = false;
+  recording = NO_RECORDING;
   log = NO_LOG;
   /** @type {Set<number>} */ lost = new Set();
   hadLost = false;
@@ -41,17 +48,22 @@ class LogTab extends Tab {
   w = 0;
   view = new View();
   alone = new View();
+  /* what a receiver shows that loses nothing */
+  sent = new View();
   codes = new Uint8Array(0);
-  /** @type {any} */ answer = null;
-  /** @type {any} */ witness = null;
-  /** @type {any} */ display;
-  /** @type {any} */ judge;
-  /** @type {any} */ filler;
+  /** @type {{ no: Note | null, isSure: boolean, audit: Audit, of: string } | null} */ answer = null;
+  /** @type {Witness | null} */ witness = null;
+  /** @type {Program} */ display;
+  /** @type {Program} */ judge;
+  /** @type {Program} */ filler;
 
   constructor() {
-    super("log");
+    super("log", { zooms: true, texts: true, faults: true });
     this.home(true);
   }
+
+  /* what is judged and shown */
+  get bytes() { return this.recording.bytes; }
 
   home(isStart) {
     this.isStart = isStart;
@@ -60,8 +72,14 @@ class LogTab extends Tab {
 
   get no() { return this.answer?.no ?? null; }
 
+  /* A fault and what it is about are in sight. */
+  get near() {
+    const { m, k } = this.asking();
+    return m + k;
+  }
+
   goTo(slot) {
-    this.timeline.move(slot);
+    this.timeline.lead(slot);
     this.timeline.canvas.focus();
   }
 
@@ -82,23 +100,21 @@ class LogTab extends Tab {
   /* The spans of lost slots, as they are typed. */
   typed() {
     const letters = this.value("spans").replaceAll(/\s/g, "").replaceAll(",", ".");
-    try {
-      this.lost = links.slotsOf(letters, this.log.count);
-      this.field("spans").ariaInvalid = null;
-      this.look();
-    } catch { this.field("spans").ariaInvalid = "true"; }
+    const lost = links.slotsIn(letters, this.log.count);
+    const isRefused = !lost || (letters !== "" && !lost.size);
+    refuse(this.field("spans"), isRefused ? `Give slots from 0 to ${number(this.log.count - 1)} in their order, as 3-7,12.` : "");
+    if (isRefused) return;
+    this.lost = lost;
+    this.look();
   }
 
-  /* A slot, a time in the lines of the log, or minutes and seconds since its first slot. */
+  /* A slot, or a time. It says how the time was read. */
   go() {
-    const text = this.value("go").trim();
-    const [, hours = 0, minutes, seconds] = /^(?:(\d+):)?(\d+):(\d+(?:\.\d+)?)$/.exec(text) ?? [];
-    const since = () => Math.floor((3600 * Number(hours) + 60 * Number(minutes) + Number(seconds)) / lines.SLOT);
-    const found = /^\d+$/.test(text) || !text ? Number(text) : logs.slotWith(this.bytes, this.log, text);
-    const slot = found < 0 && minutes !== undefined ? since() : found;
-    const isThere = slot >= 0 && slot < this.log.count;
-    this.field("go").ariaInvalid = isThere ? null : "true";
-    if (isThere) this.goTo(slot);
+    const found = clock.find(this.value("go").trim(), this);
+    refuse(this.field("go"), found.why ?? "");
+    if (found.slot === undefined) return;
+    $("log-refused").textContent = found.says ?? "";
+    this.goTo(found.slot);
   }
 
   key(key, event) {
@@ -114,7 +130,8 @@ class LogTab extends Tab {
     const bytes = typeof content === "string" ? encoder.encode(content) : content;
     // a link holds no longer text
     const text = bytes.length > links.MOST_PLAIN ? null : decoder.decode(bytes);
-    Object.assign(this, empty(), { log: NO_LOG, file: bytes, bytes, filled: null, text, lost: new Set(lost) });
+    const opened = { log: NO_LOG, file: bytes, isPacked: settings.isPacked ?? false, recording: NO_RECORDING, text };
+    Object.assign(this, empty(), opened, { lost: new Set(lost), ownKey: settings.ownKey ?? links.newKey() });
     this.hadLost = example !== "" && this.lost.size > 0;
     this.home(false);
     this.nameFile(file);
@@ -125,18 +142,45 @@ class LogTab extends Tab {
     return this.look({ opens: true, pi });
   }
 
-  /* Puts the lost slots of a log with times in, by a worker of its own: two keep what comes of it. */
-  async fill(signal) {
-    const given = { bytes: this.file, m: Number(this.value("m")) };
-    const wants = $("log-fill").checked;
-    const filled = wants ? await latest(signal, this.filler.ask("fill", given, { signal })) : null;
+  /* Makes of the file what is judged and shown, by a worker of its own: two keep what comes of it. The lost slots stay those
+     of the same groups. */
+  async record(signal) {
+    const { m, k } = this.asking();
+    const before = this.recording;
+    const given = { bytes: this.file, m: m + k, wants: $("log-fill").checked };
+    const recording = await latest(signal, this.filler.ask("fill", given, { signal }));
     this.filler.stop();
-    Object.assign(this, { filled, bytes: filled?.bytes ?? this.file });
+    this.recording = recording;
     for (const program of [this.display, this.judge]) program.keep(this.bytes);
-    $("log-fills").hidden = wants && !filled;
-    const breaks = filled?.breaks ? `, at ${counted(filled.breaks, "break")} of the times at least M each` : "";
-    const added = filled && `${counted(filled.added, "lost slot")} added by the times${breaks}`;
-    $("log-filled").textContent = added ?? "Add the lost slots by the times";
+    this.carry(before);
+    this.showBox();
+  }
+
+  /* Lost slots and the cursor, from the slots before to those of the same groups now. */
+  carry({ slots: before }) {
+    const { slots: now } = this.recording;
+    if (!before.length) return;
+    const group = (slot) => lastAt(before.length, (i) => before[i], slot);
+    const lost = [...this.lost].filter((slot) => before[group(slot)] === slot);
+    this.lost = new Set(lost.map((slot) => now[group(slot)]));
+    this.timeline.cursor = now[group(this.timeline.cursor)] ?? 0;
+  }
+
+  /* The box says what was added and left out. */
+  showBox() {
+    const { isFilled, hasTimes, hasMark, added, untimed, cut, notes } = this.recording;
+    const [breaks, coarse] = ["breaks", "coarse"].map((kind) => lines.noteOf(notes, kind));
+    const atBreaks = breaks ? `, at ${counted(breaks.count, "break")} of the times at least M + K each` : "";
+    const said = [
+      isFilled && `${counted(Math.abs(added), "lost slot")} ${added < 0 ? "left out" : "added"} by the times${atBreaks}`,
+      !isFilled && hasTimes && !coarse && "Add the lost slots by the times",
+      coarse && "No lost slot added: the times are too coarse",
+      isFilled && untimed && `${counted(untimed, "group")} without a time left out`,
+      cut && `line ${number(cut)} and all after it left out`, hasMark && "byte-order mark left out", this.isPacked && "unpacked",
+    ].filter(Boolean);
+    $("log-fills").hidden = said.length === 0;
+    $("log-fill").hidden = !hasTimes || Boolean(coarse);
+    $("log-filled").textContent = said.join("; ");
   }
 
   async read(pi, signal) {
@@ -144,15 +188,19 @@ class LogTab extends Tab {
     this.take(await latest(signal, this.display.ask("open", {}, { signal, tell })), pi);
   }
 
-  /* The notes with the lines of the file. */
-  inFile(notes) {
-    const { filled } = this;
-    if (!filled) return notes;
-    const inText = (text) => text.replace(/\(line (\d+)/g, (_, line) => `(line ${lineInFile(filled, Number(line))}`);
-    return notes.map(({ text, ...more }) => ({ ...more, text: inText(text) }));
+  /* The line in the file of a line of what is judged. */
+  lineOf(line) {
+    const { rows, places, isFilled } = this.recording;
+    const group = lastAt(places.length, (i) => places[i], line);
+    return isFilled && places[group] === line ? rows[group] : line;
   }
 
-  commandOf(command) { return this.filled ? `rdsrt slots --m ${this.filled.m} | ${command}` : command; }
+  /* A command over the file, with what the page did before it. */
+  commandOf(command) {
+    const { hasMark, isFilled, cut, m } = this.recording;
+    const shortened = isFilled ? `rdsrt slots --m ${m}` : cut && `head -n ${cut - 1}`;
+    return [this.isPacked && "gunzip", hasMark && "tail -c +4", shortened, command].filter(Boolean).join(" | ");
+  }
 
   take(log, pi) {
     const optionOf = (code, count) => new Option(`${code} (${counted(count, "group")})`, code);
@@ -198,16 +246,20 @@ class LogTab extends Tab {
     const options = words.filter(Boolean).join(", ");
     $("log-options").textContent = options;
     const [file, added] = ["file-name", "filled"].map((name) => $(`log-${name}`).textContent);
-    const known = [file, options, this.filled && added, new Date().toISOString().slice(0, 10)];
-    $("log-paper").textContent = known.filter(Boolean).join(" · ");
+    const example = $("log-example").selectedOptions[0]?.text;
+    $("log-what").textContent = [file || example, options].filter(Boolean).join(" · ");
+    const printed = [this.recording.isFilled && added, new Date().toISOString().slice(0, 10)];
+    $("log-paper").textContent = printed.filter(Boolean).map((it) => ` · ${it}`).join("");
   }
 
   async show(signal, { opens = false, pi }) {
     const asked = this.asking();
+    const { isFilled, m } = this.recording;
     // at a break of the times `slots` adds M slots
-    if (this.filled?.breaks && this.filled.m !== asked.m) Object.assign(this, { log: NO_LOG, answer: null, witness: null });
+    const isOther = isFilled && m !== asked.m + asked.k && lines.noteOf(this.recording.notes, "breaks");
+    if (isOther) Object.assign(this, { log: NO_LOG, answer: null, witness: null });
     if (this.log === NO_LOG) {
-      await this.fill(signal);
+      await this.record(signal);
       await this.read(pi ?? asked.pi, signal);
       asked.pi = this.value("pi");
     }
@@ -219,8 +271,14 @@ class LogTab extends Tab {
     const passes = isAnswered && answer.isSure && !answer.no;
     const shown = this.showDisplay({ ...asked, lost: [...this.lost], passes }, opens, signal);
     await Promise.all([shown, isAnswered || this.showAnswer(asked, signal)]);
-    if (opens) this.timeline.move(this.firstSlot(), { keep: true });
+    if (opens) this.begins();
     if (!this.witness) this.working(this.search(asked, signal));
+  }
+
+  /* A log is opened at its fault, if no slot is lost. */
+  begins() {
+    if (this.no && !this.lost.size) this.timeline.lead(this.no.slot);
+    else this.timeline.move(this.firstSlot(), { keep: true });
   }
 
   async showDisplay(asked, fit, signal) {
@@ -230,25 +288,27 @@ class LogTab extends Tab {
     if (this.value("pi") !== asked.pi) this.look({ opens: fit });
     signal.throwIfAborted();
     const values = new Texts(shown.values);
-    const [view, alone] = [shown.view, shown.alone].map((packed) => new View(packed, values));
-    Object.assign(this, { view, alone, codes: shown.codes, pi: parseInt(asked.pi, 16), tags: asked.tags, w: asked.w });
+    const [view, alone, sent] = [shown.view, shown.alone, shown.sent ?? shown.view].map((packed) => new View(packed, values));
+    Object.assign(this, { view, alone, sent, codes: shown.codes, pi: parseInt(asked.pi, 16), tags: asked.tags, w: asked.w });
     this.timeline.show(this.lanes(), this.log.count, { fit });
     this.tellLines("log", this.commandOf(shown.command), shown.output);
   }
 
   async showAnswer(asked, signal) {
-    const told = await latest(signal, this.judge.ask("audit", asked, { signal }));
-    const audit = { ...told, notes: this.inFile(told.notes), first: this.inFile(told.first) };
-    this.answer = { ...verdict.show({ ...asked, audit, broken: this.filled?.broken }, this.actions), audit, of: JSON.stringify(asked) };
+    /** @type {Audit} */
+    const audit = await latest(signal, this.judge.ask("audit", asked, { signal }));
+    const given = { ...asked, audit, recording: this.recording };
+    this.answer = { ...verdict.show(given, this.actions), audit, of: JSON.stringify(asked) };
+    const notes = audit.notes.map(({ text }) => `rdsrt: ${text}\n`).join("");
     this.tellLines("audit", this.commandOf(audit.command), audit.output);
-    faults.show({ ...audit, isSure: this.answer.isSure });
+    $("audit-notes").textContent = notes;
+    faults.show({ ...audit, isSure: this.answer.isSure }, this.actions);
     // the faults have marks
     if (this.no && this.timeline.lanes.length) this.timeline.show(this.lanes(), this.log.count);
   }
 
-  /* The slot to look at first: that of a no if no slot is lost, or else the first mix, or else the last text. */
+  /* The slot to look at first without a no: the first mix, or else the last text. */
   firstSlot() {
-    if (this.no && !this.lost.size) return this.no.slot;
     const { text } = this.view.parts;
     for (const runs of [text, this.alone.parts.text]) {
       const mix = runs.find((i) => runs.isMix(i));
@@ -265,6 +325,7 @@ class LogTab extends Tab {
     faults.hide();
     if (isRefused) verdict.showNone(problem, "No log is open.", "no"); else verdict.showNone("No verdict", problem);
     for (const name of ["log", "audit"]) this.tellLines(name, "", "");
+    $("audit-notes").textContent = "";
   }
 
   /* Looks for a witness after a no, which takes longer. */
@@ -283,6 +344,7 @@ class LogTab extends Tab {
 
   actions = {
     goTo: (slot) => this.goTo(slot),
+    lineOf: (line) => this.lineOf(line),
     lose: async (slot, first, last) => {
       this.lost = new Set(Array.from({ length: last - first + 1 }, (_, i) => first + i));
       await this.look();
@@ -291,7 +353,7 @@ class LogTab extends Tab {
   };
 
   marks() {
-    const { slots, numbers, kinds } = this.answer?.audit.list ?? { slots: [], numbers: [], kinds: [] };
+    const { slots, numbers, kinds } = this.answer?.audit.list ?? NO_FAULTS;
     return new Marks(slots, numbers, kinds.map((label) => ({ label, isSure: this.answer.isSure })));
   }
 
@@ -300,7 +362,7 @@ class LogTab extends Tab {
     return [
       // a slot without a group may have been silent: it is not drawn as lost
       { name: "received", kind: "ticks", codes, lost }, { name: "faults", kind: "marks", marks: this.marks() },
-      ...view.lanes("text", {}, { strong: true, gap: 10 }), ...alone.lanes("ordinary radio", {}, { gap: 12 }),
+      ...view.lanes("with rdsrt", {}, { strong: true, gap: 10 }), ...alone.lanes("ordinary radio", {}, { gap: 12 }),
     ];
   }
 
@@ -313,24 +375,35 @@ class LogTab extends Tab {
   /* Empty if slots may be missing before this one: at a break of the times, or if more than blocks is in a line. */
   elapsed(slot) {
     const { starts, count } = this.log;
-    if (this.filled?.breaks === 0) return super.elapsed(slot);
+    const { isFilled, notes } = this.recording;
+    if (isFilled && !lines.noteOf(notes, "breaks")) return super.elapsed(slot);
     const isBare = !count || this.lineAt(starts[Math.min(slot, count - 1)]).length <= logs.BLOCKS;
     return isBare ? super.elapsed(slot) : "";
   }
 
   showSlot(slot) {
-    const { bytes, log, view, alone } = this;
+    const { bytes, log, view, alone, sent: air } = this;
     const group = logs.groupAt(bytes, log, slot);
     const sent = group ? `${KINDS[lines.codeOf(group, this.pi, this.tags)]} group` : "nothing received";
     const what = this.lost.has(slot) ? "lost" : sent;
     const led = this.answer ? what : "";
-    const shown = radio($("log-radio"), `A receiver with rdsrt${this.w ? `, W = ${this.w}` : ""}`, view, slot, { led });
-    const other = radio($("log-alone"), "An ordinary radio", alone, slot);
-    $("log-why").textContent = whyNoMix(view, alone, slot);
+    const caption = `A receiver with rdsrt${this.w ? `, W = ${this.w}` : ""}`;
+    const shown = radio($("log-radio"), caption, view, slot, { led, air, later: 2 });
+    const other = radio($("log-alone"), "An ordinary radio", alone, slot, { air, later: 2 });
+    this.why(whyNoMix(view, alone, slot));
     const rest = slot < log.count ? this.lineAt(log.starts[slot]).slice(logs.BLOCKS) : "";
     $("log-group").replaceChildren(...groups.ofSlot(bytes, log, slot, this), rest);
     this.putAddressSoon();
     return `${what}. A receiver with rdsrt: ${shown}. An ordinary radio: ${other}.`;
+  }
+
+  whatIsOpen() {
+    const { pi, tags, running, padded } = this.asking();
+    const [m, k, w] = ["m", "k", "w"].map((name) => this.value(name));
+    const { ownKey, isPacked, lost } = this;
+    const file = $("log-file-name").textContent;
+    const settings = { pi, tags, running, padded, m, k, w, ownKey, isPacked, lost: [...lost], fill: $("log-fill").checked, file };
+    return { content: this.file, settings };
   }
 
   options() {

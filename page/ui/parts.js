@@ -3,11 +3,6 @@ import { foursOf, kindOf, wordsOfTag } from "../model/displays.js";
 import { hex } from "../model/lines.js";
 
 export const number = (n) => n.toLocaleString("en");
-/* A note with commas in its long numbers. Those of a time stay as they are. */
-export const grouped = (note) =>
-  note.replace(/(?<![\d/:.])\d{4,}(?![\d/:]|\.\d)/g, (digits) => number(Number(digits)));
-/* A sentence of the program, with a capital letter. */
-export const told = (text) => `${text.slice(0, 1).toUpperCase()}${text.slice(1)}.`;
 /** @type {(id: string) => any} */
 export const $ = (id) => document.getElementById(id);
 /** @type {(tag: string, props?: object, ...inside: (string | Node)[]) => any} */
@@ -22,8 +17,9 @@ export function filled(id, given) {
   const copy = $(id).content.cloneNode(true);
   const named = (name) => copy.querySelectorAll(`[data-${name}]`);
   for (const it of named("if")) if (!given[it.dataset.if]) it.remove();
-  for (const it of named("value")) it.append(...[given[it.dataset.value]].flat());
   for (const it of named("act")) it.onclick = given[it.dataset.act];
+  // these may be copies of other templates, which have their own
+  for (const it of named("value")) it.append(...[given[it.dataset.value]].flat());
   return [...copy.children];
 }
 
@@ -60,9 +56,40 @@ const escaped = (text) => text.replace(CONTROLS, (c) => `\\u${hex(c.charCodeAt(0
 export const isolated = (text) => make("bdi", { textContent: escaped(text) });
 
 export function nodesOf(note) {
-  const [, before, quoted, after] = /^([^"']*)(".*"|'.*')?(.*)$/s.exec(note);
-  return quoted ? [before, isolated(quoted), escaped(after)] : [escaped(note)];
+  // an apostrophe within a word quotes nothing
+  const [, before, quoted, after] = /^(.*?)(?<!\w)(".*"|'.*')(.*)$/s.exec(note) ?? [];
+  return quoted ? [escaped(before), isolated(quoted), escaped(after)] : [escaped(note)];
 }
+
+/* A sentence of the program, as it is. */
+export const quoted = (text) => make("q", {}, ...nodesOf(text));
+
+/* What screen readers hear of a cursor that moves: the newest words, at most once a second. */
+const EACH = 1000;
+let heard = "";
+let timer = 0;
+export function hear(words) {
+  heard = words;
+  if (timer || $("heard").textContent === words) return;
+  $("heard").textContent = words;
+  timer = setTimeout(() => {
+    timer = 0;
+    hear(heard);
+  }, EACH);
+}
+
+/* Says beside a field why it is refused, or that it is not. */
+export function refuse(field, why) {
+  const place = $(field.getAttribute("aria-describedby"));
+  field.ariaInvalid = why ? "true" : null;
+  place.textContent = why;
+  place.classList.toggle("no", Boolean(why));
+}
+
+/* Why a display is empty: by the word of the program. */
+const EMPTY = {
+  incomplete: "waits for all parts", dropped: "no part for M slots", restarted: "the receiver restarted",
+};
 
 const WORDS = {
   text: (text) => `“${text}”`, name: (name) => `name ${name.trim()}`, tag1: wordsOfTag, tag2: wordsOfTag,
@@ -74,28 +101,34 @@ const partsAt = (view, slot) => Object.entries(WORDS).map(([part, words]) => {
 const namesOf = (all) => [...new Set(all.map(({ name }) => name))];
 const isStale = ({ state }) => state === "old" || state === "replaced";
 
-/* The letters of a text in its hue; those of a mix, each four of them, in the hue of the text on air that has them there. */
-function lettersOf(view, slot, air) {
+/** @typedef {{ led?: string, none?: string, mixed?: string, air?: import("../model/displays.js").View, later?: number }} How */
+
+/* The letters of a text in its hue; those of a mix, each four of them, in the hue of the text that has them there: one that this
+   display showed, or else one on air. */
+/** @param {How} how */
+function lettersOf(view, slot, how) {
+  const { air, later } = how;
   const { label, mix, shade } = view.parts.text.piece(view.parts.text.indexAt(slot));
-  const pieces = mix ? foursOf(label) : [label];
-  const hues = mix && air ? air.shadesOf(pieces, slot) : [];
-  return pieces.map((textContent, i) => make("span", { className: `hue-${mix ? hues[i] ?? "" : shade}`, textContent }));
+  const hueOf = (letters, i) => view.shadeOf(letters, i, slot) ?? air?.shadeOf(letters, i, slot, later) ?? "";
+  return (mix ? foursOf(label) : [label]).map((textContent, i) =>
+    make("span", { className: `hue-${mix ? hueOf(textContent, i) : shade}`, textContent }));
 }
 
-/* Shows a display as a car has it, and returns it in words. `air` has the texts of the station. */
-/** @param {{ led?: string, none?: string, mixed?: string, air?: any }} how */
+/* Shows a display as a car has it, and returns it in words. `air` has the texts of the station, each so many texts later than it
+   began. */
+/** @param {How} how */
 export function radio(root, caption, view, slot, how = {}) {
-  const { led: calm = "", none: other, mixed: bad = "mix", air } = how;
+  const { led: calm = "", none: other, mixed: bad = "mix" } = how;
   const all = partsAt(view, slot);
   const [text, name, ...tags] = all;
-  const none = other ?? (view?.at("text", slot)?.why || "no text");
+  const none = other ?? EMPTY[view?.at("text", slot)?.why] ?? "no text";
   const mixes = namesOf(all.filter(({ state }) => state === "mix"));
   const pieces = tags.map(({ value }) => value).filter(Boolean).map((tag) =>
     make("span", {}, make("b", { textContent: kindOf(tag) }), tag.text));
   const mixed = mixes.includes("text") ? bad : `${mixes.join(" and ")}: ${bad}`;
   const led = mixes.length ? mixed : calm;
-  const letters = text.value === null ? `— ${none} —` : lettersOf(view, slot, air);
-  root.replaceChildren(...filled("display", { caption, led, name: name.value ?? " ", text: letters, tags: pieces }));
+  const letters = text.value === null ? `— ${none} —` : lettersOf(view, slot, how);
+  root.replaceChildren(...filled("display", { caption, led, name: name.value ?? "", text: letters, tags: pieces }));
   root.querySelector(".text").classList.toggle("none", text.value === null);
   root.classList.toggle("mixed", mixes.length > 0);
   root.ariaLabel = caption;
@@ -115,6 +148,6 @@ export function whyNoMix(view, alone, slot) {
   if (alone?.at("text", slot)?.state !== "mix" || (run && run.value !== null)) return "";
   const { text: runs } = view.parts;
   const next = runs.find((i) => runs.isShown(i), runs.indexAt(slot) + 1);
-  const none = `The receiver with rdsrt shows no text${run?.why ? ` (${run.why})` : ""}.`;
+  const none = `The receiver with rdsrt shows no text${run?.why ? `: ${EMPTY[run.why]}` : ""}.`;
   return next < 0 ? none : `${none} It shows the next one when it is complete: in slot ${number(runs.from(next))}.`;
 }

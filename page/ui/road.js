@@ -5,7 +5,7 @@ import * as lines from "../model/lines.js";
 import * as records from "../model/records.js";
 import { Program } from "../program/program.js";
 import * as links from "./links.js";
-import { $, filled, make, nodesOf, radio, soon, told, whyNoMix } from "./parts.js";
+import { $, filled, hear, isolated, make, quoted, radio, soon, whyNoMix } from "./parts.js";
 import { Timeline } from "./timeline.js";
 
 /* The first tunnels [from, to), and the slot in which the first text is there: the drive begins in it. */
@@ -17,17 +17,19 @@ const UNSURE = "waits to be sure";
 const STEPS = { ArrowRight: 1, ArrowLeft: -1, ArrowUp: 1, ArrowDown: -1, Home: -Infinity, End: Infinity };
 const within = (low, slot, high) => Math.max(low, Math.min(slot, high));
 
+/** @typedef {{ from: number, to: number, place: HTMLElement, exit: HTMLElement }} Tunnel */
+
 class Road {
   id = "road";
-  /** @type {any[]} */ rows = [];
-  /** @type {any[]} */ tunnels = [];
+  /** @type {import("../model/records.js").Row[]} */ rows = [];
+  /** @type {Tunnel[]} */ tunnels = [];
   text = "";
-  /** @type {Promise<any>} */ work = Promise.resolve();
-  /** @type {any} */ link = null;
-  /** @type {any} */ held = null;
-  /** @type {any} */ played = null;
-  /** @type {any} */ fault = null;
-  /** @type {Map<any, any>} */ fields = new Map();
+  /** @type {Promise<void>} */ work = Promise.resolve();
+  /** @type {links.Link | null} */ link = null;
+  /** @type {Tunnel | null} */ held = null;
+  hasPlayed = false;
+  /** @type {Note | null} */ fault = null;
+  /** @type {Map<import("../model/records.js").Row, HTMLInputElement>} */ fields = new Map();
   air = new View();
   dwell = new View();
   alone = new View();
@@ -35,9 +37,9 @@ class Road {
   most = 0;
   isMoved = false;
   isPlaying = false;
-  /** @type {any} */ program;
-  /** @type {any} */ timeline;
-  /** @type {any} */ car;
+  /** @type {Program} */ program;
+  /** @type {Timeline} */ timeline;
+  /** @type {HTMLElement} */ car;
   /* The start has the address of its link. */
   isStart = true;
   road = this;
@@ -65,7 +67,7 @@ class Road {
     const props = { className: `hue-${i % 3}`, maxLength: LONGEST, ariaLabel: `Text ${i + 1}` };
     const field = make("input", { ...props, value: row.argument });
     field.oninput = soon(() => {
-      row.argument = field.value;
+      row.argument = [...field.value].map((letter) => RDSRT_CLOSEST[letter] ?? letter).join("");
       this.play();
     });
     return field;
@@ -163,11 +165,11 @@ class Road {
     const wrong = this.fault && this.rows[this.fault.row - 1];
     for (const [row, field] of this.fields) field.ariaInvalid = row === wrong ? "true" : null;
     // the road before stays
-    if (this.fault && this.played) { this.tell(this.timeline.cursor); return; }
+    if (this.fault && this.hasPlayed) { this.tell(this.timeline.cursor); return; }
     const values = new Texts(played.values);
     const [air, dwell, alone] = [played.air, played.views[0], played.alone[0]].map((packed) => new View(packed, values));
     air.shadeTexts();
-    Object.assign(this, { played, air, dwell, alone });
+    Object.assign(this, { hasPlayed: true, air, dwell, alone });
     this.timeline.show(this.lanes(), this.count);
     this.timeline.move(this.longestMix()?.from ?? this.held?.to ?? this.timeline.cursor);
   }
@@ -194,26 +196,38 @@ class Road {
   }
 
   tell(slot) {
-    const { dwell, alone, played } = this;
-    if (!played) return;
+    const { dwell, alone } = this;
+    if (!this.hasPlayed) return;
     const mix = this.longestMix();
     const run = alone.at("text", slot);
     const later = mix && `The ordinary radio shows a text that was never sent from ${lines.time(mix.from)} on.`;
     const now = run?.state === "mix" && `“${run.value}” was never on air. ${whyNoMix(dwell, alone, slot)}`;
     const calm = "Each display shows texts that were sent. Drag the ends of the tunnels.";
-    const words = this.fault ? this.whyRefused() : [now || later || calm];
+    const words = this.fault ? this.refusal() : [now || later || calm, ...this.replaced()];
     $("road-says").replaceChildren(...words);
+    if ($("road").checkVisibility()) hear($("road-says").textContent);
   }
 
   /* What is wrong with a text, by its field: a visitor has no rows. */
-  whyRefused() {
-    const number = [...this.fields.keys()].indexOf(this.rows[this.fault.row - 1]) + 1;
-    const { text } = this.fault;
-    return nodesOf(number ? `Text ${number}: ${told(text.split("ARGUMENT: ")[1] ?? text)}` : told(text));
+  refusal() {
+    const row = this.rows[this.fault.row - 1];
+    const { character: letter } = this.fault;
+    const number = [...this.fields.keys()].indexOf(row) + 1;
+    if (number && letter) return [`Text ${number}: rdsrt’s character table has no “`, isolated(letter), "”."];
+    return [number ? `Text ${number} is refused: ` : "", quoted(this.fault.text), "."];
+  }
+
+  /* What is sent for letters of the fields that the table lacks. */
+  replaced() {
+    const all = [...this.fields.values()].flatMap(({ value }) => [...value]);
+    const strange = [...new Set(all)].filter((letter) => RDSRT_CLOSEST[letter] !== undefined);
+    const sent = (letter) => `”: “${RDSRT_CLOSEST[letter]}” is sent.`;
+    return strange.flatMap((letter) => [" rdsrt’s character table has no “", isolated(letter), sent(letter)]);
   }
 
   choose() {}
   key() { return false; }
+  get near() { return this.count; }
   elapsed(slot) { return lines.time(slot); }
 
   field(name) { return $(`road-${name}`); }
@@ -231,7 +245,7 @@ class Road {
     this.most = records.read(text).length;
     this.program = new Program(compiled);
     this.car = $("road-car");
-    this.timeline = new Timeline(this, AXIS);
+    this.timeline = new Timeline(this, { top: AXIS });
     this.slider($("road-band"), null, (slot) => this.timeline.move(slot), this.timeline.canvas);
     $("road-script").onclick = () => open(this.text, { m, k, pty });
     $("road-share").onclick = () => links.give(this);
@@ -240,7 +254,7 @@ class Road {
 
   async greet() {
     await this.work;
-    const mix = this.played && this.longestMix();
+    const mix = this.hasPlayed && this.longestMix();
     if (!mix || !$("road").checkVisibility()) return;
     this.timeline.move(mix.from);
     this.timeline.play.greet(BEGIN, mix.from);

@@ -4,7 +4,7 @@ import * as lines from "../model/lines.js";
 import * as records from "../model/records.js";
 import { Program } from "../program/program.js";
 import * as links from "./links.js";
-import { $, counted, nodesOf, number, radio, soon, staleAt, told, whyNoMix } from "./parts.js";
+import { $, counted, number, quoted, radio, soon, staleAt, whyNoMix } from "./parts.js";
 import { Tab } from "./tab.js";
 
 const UNPLAYED = "not played";
@@ -15,14 +15,15 @@ const unplayed = () => ({
 });
 
 class ScriptTab extends Tab {
-  /** @type {any[]} */ rows = [];
-  /** @type {any} */ opened = { text: "", input: "", file: "", example: "" };
+  /** @type {records.Row[]} */ rows = [];
+  /** @type {{ text: string, input: string | Uint8Array, file: string, example: string }} */
+  opened = { text: "", input: "", file: "", example: "" };
   /** @type {View[]} */ views = [];
   /** @type {View[]} */ alone = [];
   /** @type {Uint8Array[]} */ heard = [];
-  /** @type {any} */ fault = null;
-  /** @type {any} */ firstMix;
-  /** @type {any} */ program;
+  /** @type {Note | null} */ fault = null;
+  /** @type {{ receiver: number, slot: number } | undefined} */ firstMix;
+  /** @type {Program} */ program;
   air = new View();
   words = new Uint16Array(0);
   codes = new Uint8Array(0);
@@ -31,7 +32,7 @@ class ScriptTab extends Tab {
   chosen = 0;
   pty = "10";
 
-  constructor() { super("script"); }
+  constructor() { super("script", { zooms: true, texts: true }); }
 
   get waitsFor() { return "Playing the script"; }
   get receivers() { return this.rows[0]?.receptions.length ?? 0; }
@@ -53,7 +54,7 @@ class ScriptTab extends Tab {
   /** @param {string} text @param {any} [settings] */
   async open(text, settings = {}) {
     const { m, k, w = "", pty = "10", example = "", file = "", input = text } = settings;
-    Object.assign(this, { pty, text, opened: { text, input, file, example } });
+    Object.assign(this, { pty, text, opened: { text, input, file, example }, ownKey: settings.ownKey ?? links.newKey() });
     this.setFields({ m, k, w });
     if (!await this.look({ fit: true })) return;
     const { text: onAir } = this.air.parts;
@@ -87,7 +88,7 @@ class ScriptTab extends Tab {
     this.timeline.show(this.lanes(), this.rows.length, { fit });
     this.tellLines("script", played.command, played.output);
     const wait = lines.noteOf(played.notes, "refused");
-    this.tell(this.mixesInWords(), wait ? told(wait.text) : "", this.faultInNodes());
+    this.tell(this.mixesInWords(), wait ? [quoted(wait.text), "."] : [], this.faultInNodes());
   }
 
   problem() {
@@ -102,12 +103,12 @@ class ScriptTab extends Tab {
     Object.assign(this, unplayed());
     this.timeline.show([], this.rows.length);
     this.tellLines("script", "", "");
-    this.tell("", "", [problem], isRefused);
+    this.tell("", [], [problem], isRefused);
   }
 
   tell(count, note, fault, isRefused = false) {
     $("script-count").textContent = count;
-    $("script-note").textContent = note;
+    $("script-note").replaceChildren(...note);
     $("script-fault").replaceChildren(...fault);
     $("script-fault").classList.toggle("no", isRefused);
   }
@@ -139,7 +140,7 @@ class ScriptTab extends Tab {
 
   faultInNodes() {
     if (!this.fault) return [];
-    return [...nodesOf(told(this.fault.text)), " The rows after it are not played."];
+    return [quoted(this.fault.text), ". The rows from this one on are not played."];
   }
 
   receptionInWords(letter, slot) {
@@ -162,7 +163,7 @@ class ScriptTab extends Tab {
     const onAir = radio($("script-air"), "On air", air, slot, { led: sent, none: orUnplayed("silence") });
     const shown = radio($("script-radio"), named("with rdsrt"), view, slot, { led: got, none });
     const other = radio($("script-alone"), named("ordinary radio"), alone, slot, stale);
-    $("script-why").textContent = whyNoMix(view, alone, slot);
+    this.why(whyNoMix(view, alone, slot));
     this.putAddressSoon();
     if (!isPlayed) return `${UNPLAYED}.`;
     const received = receivers ? ` Receiver ${chosen} ${got}: ${shown}. An ordinary radio: ${other}.` : "";
@@ -170,6 +171,12 @@ class ScriptTab extends Tab {
   }
 
   stop() { this.turn.abort(new Error("Playing was stopped")); }
+
+  whatIsOpen() {
+    const { text, pty, ownKey, opened: { input, file } } = this;
+    const [m, k, w] = ["m", "k", "w"].map((name) => this.value(name));
+    return { content: text, settings: { m, k, w, pty, ownKey, file, input: text === this.opened.text ? input : text } };
+  }
 
   options() { return `${super.options()}&pty=${this.pty}`; }
   moreSight() { return `&receiver=${this.chosen}`; }

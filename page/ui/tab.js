@@ -1,7 +1,7 @@
 /* What the tabs of a log and of a script share. */
 import * as lines from "../model/lines.js";
 import * as links from "./links.js";
-import { $, isolated, problemOf, soon } from "./parts.js";
+import { $, hear, isolated, problemOf, soon } from "./parts.js";
 import { Timeline } from "./timeline.js";
 
 const PATIENCE = 150;
@@ -11,13 +11,19 @@ export class Tab {
   turn = new AbortController();
   isStart = false;
   text = "";
-  /** @type {any} */ link = null;
+  /** @type {import("./links.js").Link | null} */ link = null;
   timer = 0;
+  /* what names its content in the history, and whether it came as a file */
+  ownKey = 0;
+  isFile = false;
+  /* the M and the K of the last file */
+  numbers = {};
 
-  constructor(id) {
+  /** @param {string} id @param {import("./timeline.js").Behaviours} behaviours */
+  constructor(id, behaviours) {
     this.id = id;
     this.putAddressSoon = soon(() => links.putAddress(this));
-    this.timeline = new Timeline(this);
+    this.timeline = new Timeline(this, behaviours);
   }
 
   field(name) { return $(`${this.id}-${name}`); }
@@ -27,8 +33,23 @@ export class Tab {
     for (const [name, value] of Object.entries(values)) if (value !== undefined) this.field(name).value = value;
   }
 
+  /* The next file gets the M and the K of this one. */
+  keepNumbers() {
+    const [m, k] = ["m", "k"].map((name) => this.value(name));
+    if (this.isFile && !problemOf(this.field("form"))) this.numbers = { m, k };
+  }
+
+  /** @returns {{ content: string | Uint8Array, settings: object }} */
+  whatIsOpen() { return { content: this.text, settings: {} }; }
+
   nameFile(name, isEdited = false) {
+    this.isFile = name !== "";
     this.field("file-name").replaceChildren(...name ? [isolated(name), isEdited ? ", edited" : ""] : []);
+  }
+
+  why(words) {
+    this.field("why").textContent = words;
+    if (!$(this.id).hidden) hear(words);
   }
 
   tellLines(name, command, text) {
@@ -49,6 +70,7 @@ export class Tab {
     this.timer = timer;
     try {
       this.prepare();
+      this.keepNumbers();
       const problem = this.problem();
       if (problem) throw new Error(problem);
       await this.show(signal, how);
@@ -81,6 +103,7 @@ export class Tab {
   problem() { return problemOf(this.field("form")); }
 
   choose() {}
+  get near() { return 0; }
   choosesSpans = false;
   /** @param {...number} _ */ chooseSpan(..._) {}
   elapsed(slot) { return lines.time(slot); }
